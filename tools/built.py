@@ -14,7 +14,7 @@ ROOT = pathlib.Path(__file__).resolve().parent.parent
 PLAY = pathlib.Path(os.environ.get("MTP2_PLAY", ROOT / "crates" / "mtp2_play" / "out" / "mtp2_play"))
 TRIALS = pathlib.Path(os.environ.get("TRIALS", ROOT / "crates" / "trials" / "out" / "trials"))
 # The tests that want a loaded text, each run by its name.
-TESTS = pathlib.Path(os.environ.get("TEXT_TESTS", ROOT / "crates" / "text_tests" / "out" / "text_tests_tests"))
+TESTS = pathlib.Path(os.environ.get("TEXT_TESTS", ROOT / "crates" / "trials_texts" / "out" / "text_tests_tests"))
 # Seconds that one run may take: few take more than one, and this is for a machine that has much else to do.
 LIMIT = 600
 

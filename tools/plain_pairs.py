@@ -1,5 +1,5 @@
 #!/usr/bin/env python3
-"""Two plain link sets (plain_group.py) back to back: makes the runs of examples/links/pairs.txt by the rules of crates/group_trials/src/schedule.rt, and prints the
+"""Two plain link sets (plain_group.py) back to back: makes the runs of examples/links/pairs.txt by the rules of crates/trials_groups/src/schedule.rt, and prints the
 lines that the program `trials` has to print for them. What was sent and what came stands in lists, from which all is counted at the end.
 
 usage: tools/plain_pairs.py                                    the runs of examples/links/pairs.txt

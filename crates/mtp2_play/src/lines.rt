@@ -1,18 +1,18 @@
 //! The command `line`.
 ghost use Rattle.std.specs.Prelude.{◌≡◌, ◌⊎◌, None};
-ghost use Rattle.text_check.specs.Checked.{given};
+ghost use Rattle.script_check.specs.Checked.{given};
 ghost use Rattle.mtp2_play.specs.Sets.{own_text_of};
 ghost use Rattle.mtp2_play.specs.Printed.{IsSpoken};
 
 use crate::sets::own_set;
-use command_words::{LineEnd, Named};
-use line_command::{SetWord, run_line as run_on};
+use mtp2_line::{SetWord, run_line as run_on};
+use mtp2_words::{LineEnd, Named};
+use script_check::FAILED;
 use std::fs::{self, File};
 use std::io::{Read, Write};
 use std::rt::Files;
 use std::thread::Threads;
 use std::time::Clock;
-use text_check::FAILED;
 
 /// Has a terminal over a set speak on a line.
 fn line_on<

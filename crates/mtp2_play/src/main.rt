@@ -5,7 +5,7 @@
 ghost use Rattle.std.specs.Prelude.{◌≡◌, ◌≢◌, ◌⊎◌, None, IfOk, map, string_bytes};
 ghost use Rattle.clap.specs.Words.{kind_of};
 ghost use Rattle.clap.specs.declared.error.kind.ErrorKind.TheVariants.{OutOfMemory};
-ghost use Rattle.text_check.specs.Checked.{given, IsGiven, PrintsCosts, PrintsRefusal};
+ghost use Rattle.script_check.specs.Checked.{given, IsGiven, PrintsCosts, PrintsRefusal};
 ghost use Rattle.script_play.specs.Played.{IsOnSet, IsPlayed, IsPlayedInPart, IsRefused};
 ghost use Rattle.mtp2_play.specs.Printed.{IsAnswered, IsChecked, IsFault, IsPlayedOn, IsServed, IsStatus};
 ghost use Rattle.mtp2_play.specs.Served.{ComesTo};
@@ -15,8 +15,10 @@ mod sets;
 
 use crate::lines::run_line;
 use crate::sets::own_set;
-use command_words::{Error, ErrorKind, Named, Request, Source, read};
+use mtp2_frame::frame;
+use mtp2_words::{Error, ErrorKind, Named, Request, Source, read};
 use pool_soak::soak;
+use script_check::{FAILED, HELD, SetWord, USAGE, check};
 use script_play::play;
 use std::alloc::Global;
 use std::fs::File;
@@ -27,8 +29,6 @@ use std::sync::Wait;
 use std::thread::Threads;
 use std::time::Clock;
 use std::{env, fs};
-use text_check::{FAILED, HELD, SetWord, USAGE, check};
-use unit_frame::frame;
 
 /// Runs one command, and gives the exit status. What it prints goes to the writer; the octets of a line come from the reader.
 fn run<

@@ -1,3 +1,4 @@
 pub mod Books
+pub mod FindingLines
 pub mod Findings
 pub mod Scripts

@@ -2,6 +2,7 @@
 #![tactic(auto)]
 
 mod client;
+mod finding_lines;
 mod findings;
 mod script;
 mod soaking;

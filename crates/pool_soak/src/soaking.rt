@@ -3,27 +3,27 @@
 ghost use Rattle.std.specs.Prelude.{◌≡◌, ◌↔◌, ◌⊎◌, ◌+◌, ◌≤◌, IsTrue, List, ℕ, Some, true, false, IfOk, IfSome, OnOk, sum, sum_by, vec_len};
 ghost use Rattle.std.specs.Io.KnownBytes.{Appends};
 ghost use Rattle.script_lines.specs.declared.script.ScriptFault.TheVariants.{BadLine};
-ghost use Rattle.text_reader.specs.Reading.{Keeps};
-ghost use Rattle.text_check.specs.Checked.{IsGiven};
-ghost use Rattle.link_machine.specs.Kept.{opened_book};
-ghost use Rattle.link_machine.specs.Ledger.{next};
+ghost use Rattle.plain_text.specs.Reading.{Keeps};
+ghost use Rattle.script_check.specs.Checked.{IsGiven};
+ghost use Rattle.actor_machine.specs.Kept.{opened_book};
+ghost use Rattle.actor_machine.specs.Ledger.{next};
 ghost use Rattle.pool_soak.specs.Books.{AreOpened, AreBegun, AreKept, PORT, ENVIRONMENT, JOURNAL};
 ghost use Rattle.pool_soak.specs.Findings.{IsEnd, IsSoaked, IsSoakedInVain, IsTurnedDown, PrintsFault, lines_with};
-ghost use Rattle.profile_limits.specs.Limits.{LEAST_WORKERS, MOST_WORKERS};
+ghost use Rattle.plain_limits.specs.Limits.{LEAST_WORKERS, MOST_WORKERS};
 
 use crate::client::{Open, Script};
+use crate::finding_lines::{audit_of, seats_of, status_of};
 use crate::findings::agree;
 use crate::script::{Soak, soak_script};
 use actor_book::{Book, Limits};
+use plain_text::{TextRead, line_at_limit, read_text};
+use script_check::{FAILED, refuse, standard, write_line};
 use script_lines::ScriptFault;
-use soak_findings::{audit_of, seats_of, status_of};
 use std::alloc::{AllocError, Global};
 use std::io::{self, Read, Write};
 use std::str;
 use std::sync::Wait;
 use std::thread::Threads;
-use text_check::{FAILED, refuse, standard, write_line};
-use text_reader::{TextRead, line_at_limit, read_text};
 use turn_check::Verified;
 use turn_pool::{Closed, Receipt, serve};
 

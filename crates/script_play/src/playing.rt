@@ -1,20 +1,19 @@
 //! The command `play`.
 ghost use Rattle.std.specs.Prelude.{◌≡◌, ◌⊎◌, List, ℕ, IfSome};
-ghost use Rattle.text_reader.specs.Reading.{Keeps};
-ghost use Rattle.text_check.specs.Checked.{given, IsAccepted};
-ghost use Rattle.term_lines.specs.TermScripts.{plain_any_script, IsInRange};
-ghost use Rattle.group_lines.specs.GroupScripts.{plain_play_script, IsFit};
+ghost use Rattle.plain_text.specs.Reading.{Keeps};
+ghost use Rattle.script_check.specs.Checked.{given, IsAccepted};
+ghost use Rattle.script_links.specs.TermScripts.{plain_any_script, IsInRange};
+ghost use Rattle.script_links.specs.GroupScripts.{plain_play_script, IsFit};
 ghost use Rattle.script_play.specs.Played.{IsOtherObeyed, IsObeyed, IsPlayed, IsOtherMissed, IsMissedIn, IsPlayedInPart, HasNoOther, HasNoTerminal, IsNotRun, PrintsFault, IsOnSet, IsRefused};
 
-use group_lines::{PlayScript, play_script_in};
-use group_play::{FAILED, play_book, play_group, play_terminal, refuse};
+use plain_text::{TextRead, line_at_limit, read_text};
+use script_check::{SetWord, load_set, write_refusal};
+use script_group::{FAILED, play_book, play_group, play_terminal, refuse};
 use script_lines::ScriptFault;
+use script_links::{AnyScript, PlayScript, play_script_in};
 use std::alloc::Global;
 use std::io::{Read, Write};
 use std::str;
-use term_lines::AnyScript;
-use text_check::{SetWord, load_set, write_refusal};
-use text_reader::{TextRead, line_at_limit, read_text};
 use turn_check::Verified;
 
 /// Runs a script on a set of processes, or, where its first line is `terminal basic` or `terminal cyclic`, on a signalling link terminal over

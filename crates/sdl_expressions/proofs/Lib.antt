@@ -1,4 +1,10 @@
-pub mod MachineLemmas
-pub mod SoundLemmas
+pub mod Decides
+pub mod KeptLemmas
 pub mod Lowering
+pub mod MachineLemmas
+pub mod MarkLemmas
 pub mod Rests
+pub mod RowLemmas
+pub mod Rows
+pub mod SoundLemmas
+pub mod TokenRests

@@ -10,7 +10,7 @@ use Rattle.sdl_lex.specs.declared.lexemes.Symbol.TheVariants as symbols
 use Rattle.sdl_lex.specs.declared.lexemes.Symbol.{Symbol}
 use Rattle.sdl_lex.specs.declared.lexemes.Lexeme.{Lexeme}
 use Rattle.sdl_lex.specs.declared.lexemes.Lexeme.TheVariants as lexemes
-use Rattle.sdl_tokens.specs.Tokens.{begins, a_symbol}
+use Rattle.sdl_expressions.specs.Tokens.{begins, a_symbol}
 use Rattle.sdl_ast.specs.declared.expression.UnaryOperator.{UnaryOperator}
 use Rattle.sdl_ast.specs.declared.expression.UnaryOperator.TheVariants.{Negate, Not}
 use Rattle.sdl_ast.specs.declared.expression.BinaryOperator.{BinaryOperator}
@@ -22,7 +22,7 @@ use Rattle.sdl_ast.specs.Plain.{Tree, number, truth, variable, unary, binary}
 use Rattle.sdl_expressions.specs.Expressions.{Sign, leaf, joins, minus, denies, opens, closes, other, sign, symbol_sign, word_sign, lexeme_sign}
 use Rattle.sdl_ast.specs.Places.{place_of, placed}
 use Rattle.sdl_ast.specs.Heights.{tree_height}
-use Rattle.sdl_tokens.specs.Readings.{Reading, read, fails, At, then_read, either, choice, many_for, many, give, token, ◌>>=◌, separated, list_in_parentheses, behind_comma}
+use Rattle.sdl_expressions.specs.Readings.{Reading, read, fails, At, then_read, either, choice, many_for, many, give, token, ◌>>=◌, separated, list_in_parentheses, behind_comma}
 use Rattle.sdl_expressions.specs.Machine.{whole_trees, low_trees, low_binary, lowered, Terms, Tests, Frame, no_terms, empty_frame, led_by, joined_to, closed_product, closed_terms, closed_relation, closed_conjunction, closed_tests, closed, with_operator, with_lead, bars, State, wants, has, Turn, goes, done, stuck, unless, lead_turn, join_turn, want_turn, close_turn, end_turn, have_turn, turn, after_turn, run, expression_at}
 
 -- the machine

@@ -8,9 +8,9 @@ use Rattle.sdl_expressions.specs.declared.level.Level.TheVariants.{Disjunctions,
 use Rattle.sdl_ast.specs.Plain.{Tree, binary}
 use Rattle.sdl_expressions.specs.Expressions.{Sign, leaf, joins, minus, denies, opens, closes, other, sign, between, in_front, Disjunction, one_conjunction, disjoined, Conjunction, one_relation, conjoined, Relation, one_sum, related, Sum, one_product, summed, Product, one_factor, multiplied, Factor, bare, led, Primary, operand, in_parentheses, goes_on, Expressed}
 use Rattle.sdl_ast.specs.Places.{place_of, placed}
-use Rattle.sdl_tokens.specs.Readings.{read, fails}
+use Rattle.sdl_expressions.specs.Readings.{read, fails}
 use Rattle.sdl_expressions.specs.Machine.{Build, whole_trees, Terms, Tests, Frame, no_terms, no_tests, empty_frame, led_by, joined_to, closed_terms, closed_tests, closed, with_operator, with_lead, bars, State, wants, has, Turn, goes, done, stuck, unless, lead_turn, join_turn, want_turn, have_turn, turn, after_turn, run, expression_at}
-use Rattle.sdl_tokens.proofs.Decides.{first, rest_of, with_rest, Seen}
+use Rattle.sdl_expressions.proofs.Decides.{first, rest_of, with_rest, Seen}
 
 pub run_goes : (b : Build) (s s' : State) (t : Token) (ts : List Token) → turn b s (sign t) ≡ goes s' → run b s (t ∷ ts) ≡ run b s' ts
 unfolding run

@@ -6,8 +6,8 @@ use Rattle.sdl_lex.specs.declared.lexemes.Token.{Token}
 use Rattle.sdl_ast.specs.Plain.{Tree}
 use Rattle.sdl_expressions.specs.Expressions.{other, sign}
 use Rattle.sdl_expressions.specs.Machine.{Build, low_trees, State, wants, Turn, goes, done, stuck, turn, after_turn, run, empty_frame, expression_at}
-use Rattle.sdl_tokens.specs.Readings.{Reading, read, fails, NeverLonger}
-use Rattle.sdl_tokens.proofs.Rests.{not_read, same_rest}
+use Rattle.sdl_expressions.specs.Readings.{Reading, read, fails, NeverLonger}
+use Rattle.sdl_expressions.proofs.TokenRests.{not_read, same_rest}
 
 -- an expression
 keeps_after : (a : Turn) (go_on : State → Reading Tree) (ts rest : List Token) → length rest ≤ length ts

@@ -10,9 +10,9 @@ use Rattle.sdl_expressions.specs.declared.level.Level.TheVariants.{Disjunctions,
 use Rattle.sdl_ast.specs.Plain.{Tree, unary, binary}
 use Rattle.sdl_expressions.specs.Expressions.{Sign, leaf, joins, minus, denies, opens, closes, other, sign, between, in_front, Disjunction, one_conjunction, disjoined, Conjunction, one_relation, conjoined, Relation, one_sum, related, Sum, one_product, summed, Product, one_factor, multiplied, Factor, bare, led, Primary, operand, in_parentheses, goes_on, Expressed, expression_syntax}
 use Rattle.sdl_ast.specs.Places.{place_of}
-use Rattle.sdl_tokens.specs.Readings.{Reading, read, fails}
+use Rattle.sdl_expressions.specs.Readings.{Reading, read, fails}
 use Rattle.sdl_expressions.specs.Machine.{whole_trees, Terms, Tests, Frame, no_terms, no_tests, empty_frame, led_by, joined_to, closed_product, closed_terms, closed_relation, closed_conjunction, closed_tests, closed, with_operator, with_lead, State, wants, has, Turn, goes, done, stuck, unless, join_turn, want_turn, close_turn, end_turn, have_turn, turn, after_turn, run, expression_at}
-use Rattle.sdl_tokens.proofs.Decides.{Decides}
+use Rattle.sdl_expressions.proofs.Decides.{Decides}
 use Rattle.sdl_expressions.proofs.MachineLemmas.{run_seen, tests, terms, expression_complete}
 
 -- what is read is in the grammar: what the stack stands for

@@ -1,5 +1,6 @@
 -- Expressions (Z.100, expressions): which tokens read as which tree.
-use Rattle.std.specs.Prelude.{◌≡◌, ℕ, Bool, true, false, List, [], ◌∷◌, Option, Some, None, is_some, nat_le, if◌then◌else◌}
+use Rattle.std.specs.Prelude.{◌≡◌, ℕ, Bool, true, false, List, [], ◌∷◌, Option, Some, None, is_some}
+use Rattle.std.specs.Prelude.{nat_le, if◌then◌else◌}
 use Rattle.sdl_lex.specs.Limits.{GREATEST_NUMBER}
 use Rattle.sdl_lex.specs.declared.lexemes.Token.{Token}
 use Rattle.sdl_lex.specs.declared.lexemes.Lexeme.{Lexeme}
@@ -11,11 +12,16 @@ use Rattle.sdl_lex.specs.declared.lexemes.Word.TheVariants as words
 use Rattle.sdl_ast.specs.declared.expression.UnaryOperator.{UnaryOperator}
 use Rattle.sdl_ast.specs.declared.expression.UnaryOperator.TheVariants.{Negate, Not}
 use Rattle.sdl_ast.specs.declared.expression.BinaryOperator.{BinaryOperator}
-use Rattle.sdl_ast.specs.declared.expression.BinaryOperator.TheVariants.{Or, Xor, And, Equal, NotEqual, Less, LessEqual, Greater, GreaterEqual, Add, Subtract, Multiply, Divide, Modulo, Remainder}
+use Rattle.sdl_ast.specs.declared.expression.BinaryOperator.TheVariants.{Or, Xor, And, Equal}
+use Rattle.sdl_ast.specs.declared.expression.BinaryOperator.TheVariants.{NotEqual, Less, LessEqual}
+use Rattle.sdl_ast.specs.declared.expression.BinaryOperator.TheVariants.{Greater, GreaterEqual, Add}
+use Rattle.sdl_ast.specs.declared.expression.BinaryOperator.TheVariants.{Subtract, Multiply, Divide}
+use Rattle.sdl_ast.specs.declared.expression.BinaryOperator.TheVariants.{Modulo, Remainder}
 use Rattle.sdl_expressions.specs.declared.level.Level.{Level}
-use Rattle.sdl_expressions.specs.declared.level.Level.TheVariants.{Disjunctions, Conjunctions, Relations, Sums, Products}
+use Rattle.sdl_expressions.specs.declared.level.Level.TheVariants.{Disjunctions, Conjunctions}
+use Rattle.sdl_expressions.specs.declared.level.Level.TheVariants.{Relations, Sums, Products}
 use Rattle.sdl_ast.specs.Plain.{Tree, number, truth, variable, unary, binary}
-use Rattle.sdl_tokens.specs.Grammar.{Grammar}
+use Rattle.sdl_expressions.specs.Grammar.{Grammar}
 use Rattle.sdl_ast.specs.Places.{place_of, placed}
 
 -- What a token is in an expression, some at a place.
@@ -97,7 +103,8 @@ mutual
   pub data Disjunction : List Token → Tree → List Token → Type 0 where
     one_conjunction : (ts us : List Token) (x : Tree) → Conjunction ts x us → Disjunction ts x us
     disjoined : (ts us vs : List Token) (x y : Tree) (t : Token) (o : BinaryOperator)
-        → Disjunction ts x (t ∷ us) → between (sign t) ≡ Some (Disjunctions, o) → Conjunction us y vs
+        → Disjunction ts x (t ∷ us) → between (sign t) ≡ Some (Disjunctions, o)
+        → Conjunction us y vs
         → Disjunction ts (binary (place_of x) o x y) vs
 
   pub data Conjunction : List Token → Tree → List Token → Type 0 where

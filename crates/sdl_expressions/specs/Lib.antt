@@ -1,4 +1,11 @@
+pub mod Bodies
+pub mod BodyViews
 pub mod Expressions
+pub mod Grammar
 pub mod Machine
+pub mod Marks
+pub mod Mirrors
 pub mod Parts
+pub mod Readings
 pub mod Stacks
+pub mod Tokens

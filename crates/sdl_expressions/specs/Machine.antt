@@ -1,19 +1,22 @@
 -- Expressions token by token, on a stack: each open parenthesis keeps what stands before it, with a
 -- place for each level of precedence.
-use Rattle.std.specs.Prelude.{ℕ, Bool, true, false, List, [], ◌∷◌, Option, Some, None, is_some, nat_lt, if◌then◌else◌}
+use Rattle.std.specs.Prelude.{ℕ, Bool, true, false, List, [], ◌∷◌, Option, Some, None, is_some}
+use Rattle.std.specs.Prelude.{nat_lt, if◌then◌else◌}
 use Rattle.sdl_lex.specs.declared.lexemes.Token.{Token}
 use Rattle.sdl_ast.specs.declared.expression.UnaryOperator.{UnaryOperator}
 use Rattle.sdl_ast.specs.declared.expression.UnaryOperator.TheVariants.{Negate, Not}
 use Rattle.sdl_ast.specs.declared.expression.BinaryOperator.{BinaryOperator}
 use Rattle.sdl_ast.specs.declared.expression.BinaryOperator.TheVariants.{Subtract}
 use Rattle.sdl_expressions.specs.declared.level.Level.{Level}
-use Rattle.sdl_expressions.specs.declared.level.Level.TheVariants.{Disjunctions, Conjunctions, Relations, Sums, Products}
+use Rattle.sdl_expressions.specs.declared.level.Level.TheVariants.{Disjunctions, Conjunctions}
+use Rattle.sdl_expressions.specs.declared.level.Level.TheVariants.{Relations, Sums, Products}
 use Rattle.sdl_ast.specs.Limits.{GREATEST_HEIGHT}
 use Rattle.sdl_ast.specs.Plain.{Tree, number, truth, variable, unary, binary}
-use Rattle.sdl_expressions.specs.Expressions.{Sign, leaf, joins, minus, denies, opens, closes, other, sign}
+use Rattle.sdl_expressions.specs.Expressions.{Sign, leaf, joins, minus, denies, opens, closes}
+use Rattle.sdl_expressions.specs.Expressions.{other, sign}
 use Rattle.sdl_ast.specs.Places.{place_of, placed}
 use Rattle.sdl_ast.specs.Heights.{tree_height}
-use Rattle.sdl_tokens.specs.Readings.{Reading, read, fails, At}
+use Rattle.sdl_expressions.specs.Readings.{Reading, read, fails, At}
 
 -- how an operator is put on operands
 pub record Build : Type 0 where
@@ -34,7 +37,8 @@ low_binary at o x y =
     else binary at o x y
 
 abbrev pub low_trees : Build
-low_trees = record { lead = λ at o x. low_unary at o x; join = λ o x y. low_binary (place_of x) o x y }
+low_trees =
+    record { lead = λ at o x. low_unary at o x; join = λ o x y. low_binary (place_of x) o x y }
 
 -- what is left of a tree when no tree above one that is too high is built
 abbrev pub lowered : Tree → Tree
@@ -107,23 +111,56 @@ abbrev pub with_sum : Build → BinaryOperator → Terms → Tree → Terms
 with_sum b o t x = record { sum = Some (closed_terms b t x, o); product = None; lead = None }
 
 abbrev pub with_relation : Build → BinaryOperator → Tests → Tree → Tests
-with_relation b o k y = record { disjunction = k.disjunction; conjunction = k.conjunction; relation = Some (closed_relation b k y, o) }
+with_relation b o k y =
+    record {
+      disjunction = k.disjunction;
+      conjunction = k.conjunction;
+      relation = Some (closed_relation b k y, o);
+    }
 
 abbrev pub with_conjunction : Build → BinaryOperator → Tests → Tree → Tests
-with_conjunction b o k y = record { disjunction = k.disjunction; conjunction = Some (closed_conjunction b k y, o); relation = None }
+with_conjunction b o k y =
+    record {
+      disjunction = k.disjunction;
+      conjunction = Some (closed_conjunction b k y, o);
+      relation = None;
+    }
 
 abbrev pub with_disjunction : Build → BinaryOperator → Tests → Tree → Tests
-with_disjunction b o k y = record { disjunction = Some (closed_tests b k y, o); conjunction = None; relation = None }
+with_disjunction b o k y =
+    record { disjunction = Some (closed_tests b k y, o); conjunction = None; relation = None }
 
 abbrev pub with_operator : Build → Level → BinaryOperator → Frame → Tree → Frame
-with_operator b Disjunctions o l x = record { opened = l.opened; tests = with_disjunction b o l.tests (closed_terms b l.terms x); terms = no_terms }
-with_operator b Conjunctions o l x = record { opened = l.opened; tests = with_conjunction b o l.tests (closed_terms b l.terms x); terms = no_terms }
-with_operator b Relations o l x = record { opened = l.opened; tests = with_relation b o l.tests (closed_terms b l.terms x); terms = no_terms }
-with_operator b Sums o l x = record { opened = l.opened; tests = l.tests; terms = with_sum b o l.terms x }
-with_operator b Products o l x = record { opened = l.opened; tests = l.tests; terms = with_product b o l.terms x }
+with_operator b Disjunctions o l x =
+    record {
+      opened = l.opened;
+      tests = with_disjunction b o l.tests (closed_terms b l.terms x);
+      terms = no_terms;
+    }
+with_operator b Conjunctions o l x =
+    record {
+      opened = l.opened;
+      tests = with_conjunction b o l.tests (closed_terms b l.terms x);
+      terms = no_terms;
+    }
+with_operator b Relations o l x =
+    record {
+      opened = l.opened;
+      tests = with_relation b o l.tests (closed_terms b l.terms x);
+      terms = no_terms;
+    }
+with_operator b Sums o l x =
+    record { opened = l.opened; tests = l.tests; terms = with_sum b o l.terms x }
+with_operator b Products o l x =
+    record { opened = l.opened; tests = l.tests; terms = with_product b o l.terms x }
 
 abbrev pub with_lead : ℕ → UnaryOperator → Frame → Frame
-with_lead at o l = record { opened = l.opened; tests = l.tests; terms = record { sum = l.terms.sum; product = l.terms.product; lead = Some (at, o) } }
+with_lead at o l =
+    record {
+      opened = l.opened;
+      tests = l.tests;
+      terms = record { sum = l.terms.sum; product = l.terms.product; lead = Some (at, o) };
+    }
 
 -- whether an operator of a level can't stand there: a relation is no operand of another one
 abbrev pub bars : Level → Frame → Bool

@@ -1,5 +1,6 @@
 -- What the code's stack of operands stands for.
 use Rattle.std.specs.Prelude.{◌≡◌, ◌<◌, Option, None, Some, List, [], ◌∷◌, map, reverse, length}
+use Rattle.std.specs.Prelude.{Result, Ok, Err}
 use Rattle.sdl_lex.specs.declared.lexemes.Token.{Token}
 use Rattle.sdl_expressions.specs.declared.signs.Sign as the_sign
 use Rattle.sdl_expressions.specs.declared.signs.Sign.TheVariants as signs
@@ -11,14 +12,15 @@ use Rattle.sdl_expressions.specs.declared.operands.Turn as the_turn
 use Rattle.sdl_expressions.specs.declared.operands.Turn.TheVariants as turns
 use Rattle.sdl_expressions.specs.declared.part.Part.{Part}
 use Rattle.sdl_ast.specs.Plain.{number, truth, variable}
-use Rattle.sdl_expressions.specs.Expressions.{Sign, leaf, joins, minus, denies, opens, closes, other, sign}
-use Rattle.std.specs.Prelude.{Result, Ok, Err}
+use Rattle.sdl_expressions.specs.Expressions.{Sign, leaf, joins, minus, denies, opens, closes}
+use Rattle.sdl_expressions.specs.Expressions.{other, sign}
 use Rattle.sdl_expressions.specs.declared.operands.Step as the_step
 use Rattle.sdl_expressions.specs.declared.operands.Step.TheVariants as steps
-use Rattle.sdl_tokens.specs.declared.stop.Stop.{Stop}
-use Rattle.sdl_tokens.specs.Readings.{read}
-use Rattle.sdl_tokens.specs.Mirrors.{Stops}
-use Rattle.sdl_expressions.specs.Machine.{run, low_trees, Terms, Tests, Frame, State, wants, has, Turn, goes, done, stuck}
+use Rattle.sdl_expressions.specs.declared.stop.Stop.{Stop}
+use Rattle.sdl_expressions.specs.Readings.{read}
+use Rattle.sdl_expressions.specs.Mirrors.{Stops}
+use Rattle.sdl_expressions.specs.Machine.{run, low_trees, Terms, Tests, Frame, State, wants, has}
+use Rattle.sdl_expressions.specs.Machine.{Turn, goes, done, stuck}
 use Rattle.sdl_expressions.specs.Parts.{slot_view}
 use Rattle.sdl_ast.specs.Views.{tree_of}
 
@@ -41,7 +43,12 @@ abbrev pub terms_view : the_terms.Terms → Terms
 terms_view t = record { sum = slot_view t.sum; product = slot_view t.product; lead = t.lead }
 
 abbrev pub tests_view : the_tests.Tests → Tests
-tests_view k = record { disjunction = slot_view k.disjunction; conjunction = slot_view k.conjunction; relation = slot_view k.relation }
+tests_view k =
+    record {
+      disjunction = slot_view k.disjunction;
+      conjunction = slot_view k.conjunction;
+      relation = slot_view k.relation;
+    }
 
 abbrev pub frame_view : the_frame.Frame → Frame
 frame_view f = record { opened = f.opened; tests = tests_view f.tests; terms = terms_view f.terms }
@@ -63,6 +70,8 @@ turn_view turns.Stuck = stuck
 
 -- what one token makes of a state in front of some tokens
 abbrev pub Advances : Result the_step.Step Stop → State → List Token → Type 0
-Advances (Ok (steps.Goes s after)) before ts = (run low_trees before ts ≡ run low_trees (state_view s) after.now) × (length after.now < length ts)
+Advances (Ok (steps.Goes s after)) before ts =
+    (run low_trees before ts ≡ run low_trees (state_view s) after.now)
+    × (length after.now < length ts)
 Advances (Ok (steps.Done e)) before ts = run low_trees before ts ≡ read (tree_of e) ts
 Advances (Err stop) before ts = Stops stop (run low_trees before ts)

@@ -1,12 +1,31 @@
-//! Expressions: from the tokens of one to its tree, by levels of precedence.
+//! Tokens of a kind, grammars and readings and how they are put together; expressions by levels of precedence; and what is kept of a
+//! transition while it is read.
 #![tactic(auto)]
 
+mod bodies;
+mod comparison;
 mod frames;
+mod kinds;
 mod level;
+mod marked;
 mod operands;
 mod operators;
 mod part;
 mod signs;
+mod starts;
+mod stop;
+mod tokens;
 
+pub use bodies::{
+    Body, Branching, Head, Move, Question, Reached, closed, ended, limited_action, with_answer,
+    with_else,
+};
+pub use kinds::{
+    AnyConstant, AnyCount, AnyDestination, AnyName, AnyNumber, AnyParty, AnyQuoted, AnyRelation,
+    AnySort, Closing, ThatNumber,
+};
+pub use marked::{Marked, gathered, more};
 pub use operands::expression;
-pub use sdl_tokens::{Stop, push};
+pub use starts::{AnyAction, AnyChoice, AnyClause, AnyDeclaration, AnyEnd, AnyEntity, AnySection};
+pub use stop::{Stop, push};
+pub use tokens::{stands_next, take};

@@ -2,7 +2,7 @@
 //! than room on the heap.
 ghost use Rattle.std.specs.Prelude.{◌≡◌, ◌<◌, IfOk, length, map, reverse, List, [], ◌∷◌};
 ghost use Rattle.sdl_expressions.specs.Machine.{wants, empty_frame, low_trees, turn, want_turn, lead_turn, join_turn, have_turn, close_turn, end_turn, run, expression_at};
-ghost use Rattle.sdl_tokens.specs.Mirrors.{Mirrors};
+ghost use Rattle.sdl_expressions.specs.Mirrors.{Mirrors};
 ghost use Rattle.sdl_expressions.specs.Stacks.{frame_view, stack_view, state_view, turn_view, sign_view, Advances};
 ghost use Rattle.sdl_ast.specs.Views.{tree_of};
 
@@ -11,9 +11,9 @@ use crate::level::Level;
 use crate::operators::{moved, number_part, truth_part, variable_part};
 use crate::part::Part;
 use crate::signs::{Sign, sign_of};
+use crate::stop::Stop;
 use sdl_ast::{BinaryOperator, Expression, UnaryOperator};
 use sdl_lex::Token;
-use sdl_tokens::Stop;
 use std::alloc::{AllocError, Global};
 
 /// The frames of the open parentheses, the innermost apart, and the operand if one was read.

@@ -1,2 +1,4 @@
 pub mod Lengths
 pub mod MarkedLengths
+pub mod StepLemmas
+pub mod StepTurns

@@ -1,3 +1,4 @@
-pub mod Productions
 pub mod DeclarationProductions
 pub mod MarkedParts
+pub mod Productions
+pub mod SectionViews

@@ -1,9 +1,9 @@
 //! Process texts and scripts, as `check` and `play` take them.
 
+use script_check::{FAILED, SetWord, check};
 use script_play::play;
 use std::io::{self, ErrorKind};
 use std::rt::Runtime;
-use text_check::{FAILED, SetWord, check};
 
 /// Checks a text.
 pub fn check_text<R: Runtime + AllocGlobal>(rt: &R, text: &str) -> io::Result<()> {

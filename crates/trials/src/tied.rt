@@ -4,7 +4,7 @@
 //! be damaged on its way, that octet's number. Behind it stand the orders of the first end, a line `..`, and those of the second.
 
 use crate::calls::{Stopped, terminal};
-use line_orders::LineOrders;
+use line_filter::LineOrders;
 use line_play::{Bits, Desk, LinkEnd, Mode, link_desk, mode_named, run_link};
 use std::alloc::{AllocError, Global};
 use std::io::{self, ErrorKind, Read, Write};

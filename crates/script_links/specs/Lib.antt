@@ -1,0 +1,7 @@
+pub mod GroupCommands
+pub mod GroupScripts
+pub mod Heads
+pub mod Octets
+pub mod Orders
+pub mod TermCommands
+pub mod TermScripts
