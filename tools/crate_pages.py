@@ -1,7 +1,8 @@
 """What the crates' README.md say that isn't there, and what they leave out. `tools/ready` asks it.
 
 - Each crate has one.
-- Each contract that 'What a caller may rest on' cites, as (`function`: clause, clause; `Type::function`), is one of the crate's.
+- Each contract that 'What a caller may rest on' cites, as (`function`: clause, clause; `Type::function`), is one of the crate's; and it is
+  one of a public call, unless its point begins with 'Inside'.
 - Each definition of the table in 'Definitions' stands in the file of specs that its row names, and each such file, but Lib, is named there.
 - Each path is there, and no line is longer than 120 columns."""
 import re
@@ -55,15 +56,18 @@ def tabled(text):
 
 
 def cited(folder, text):
-    """The contracts that a README cites and the crate lacks."""
+    """The contracts that a README cites and the crate lacks, or doesn't hand on though no 'Inside' says so. (A program hands nothing on.)"""
     known = contracts(folder)
-    rests = dict(sections(text)).get("What a caller may rest on", "")
-    for group in CITED.findall(re.sub(r"\s+", " ", rests)):
-        for one in group.split("; "):
+    public = {it for name, _, _, open_ in list(functions(folder)) if open_ for it in (name, name.split("::")[-1])}
+    for point in re.split(r"\n(?=- )", dict(sections(text)).get("What a caller may rest on", "")):
+        point = re.sub(r"\s+", " ", point).strip()
+        for one in [it for group in CITED.findall(point) for it in group.split("; ")]:
             function, _, clauses = one.replace("`", "").partition(": ")
             lacks = [it for it in clauses.split(", ") if it not in known.get(function, ())] if clauses else []
             if function not in known or lacks:
                 yield f"no contract `{function}`" + (f": {', '.join(lacks)}" if lacks else "")
+            elif function not in public and not point.startswith("- Inside") and (folder / "src" / "lib.rt").exists():
+                yield f"`{function}` isn't handed on"
 
 
 def defines(text, name):
