@@ -29,7 +29,7 @@ use Rattle.turn_code.specs.declared.draft.DraftState.{DraftState}
 use Rattle.turn_code.specs.declared.draft.DraftInput.{DraftInput}
 use Rattle.actor_machine.specs.Names.{actors_of, number_for}
 use Rattle.actor_machine.specs.declared.name.ActorName.{ActorName}
-use Rattle.actor_machine.proofs.Standing.{right_process}
+use Rattle.actor_machine.proofs.NameStanding.{right_process}
 use Rattle.actor_machine.specs.Core.{Core, Ring, change, names_in}
 use Rattle.actor_machine.specs.Effects.{arrival_of, emitted_of, has_room, delivered, receives, drops, laid, laid_all, delay, without, settled, moved, timers_after, ended, started, finished}
 use Rattle.actor_machine.specs.Fits.{Arrived, IsReadyAt, GivenFits, IsCalled, EmittedFits, CoreFits}

@@ -17,5 +17,5 @@ pub mod Opened
 pub mod Places
 pub mod Replays
 pub mod Silence
-pub mod Standing
+pub mod NameStanding
 pub mod Texts

@@ -10,7 +10,7 @@ use Rattle.turn_code.specs.declared.draft.DraftProcess.{DraftProcess}
 use Rattle.actor_machine.specs.Names.{named, instances_from, names_from, counts_of, actors_of, same_actor, place_of}
 use Rattle.actor_machine.specs.NameLaws.{instances_in, IsInstance, ActorsLaw}
 use Rattle.actor_machine.specs.declared.name.ActorName.{ActorName}
-use Rattle.actor_machine.proofs.Standing.{stands_there}
+use Rattle.actor_machine.proofs.NameStanding.{stands_there}
 
 -- ---- lists
 

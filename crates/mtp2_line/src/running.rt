@@ -10,9 +10,9 @@ ghost use Rattle.mtp2_line.specs.Spoken.{AreOrdered, Spoke, SpokeOver, Begun, Be
 
 use line_filter::{LineOrders, Orders};
 use line_play::{Desk, LinkEnd, MOST_AHEAD, SetWord, Terminal, link_desk, new_terminal, run_link};
-use line_streams::{Errors, OrderStream, ReportStream, open_orders, open_reports};
+use line_streams::{OrderStream, ReportStream, open_orders, open_reports};
 use mtp2_words::LineEnd;
-use plain_text::FAILED;
+use plain_text::{Errors, FAILED, Teller};
 use std::alloc::Global;
 use std::fs::File;
 use std::io::{self, Read, Write};
@@ -27,16 +27,36 @@ struct Streams<'a, H: Eprint> {
     reports: ReportStream<Errors<'a, H>>,
 }
 
-/// Opens what orders come from, and where reports go.
+/// What was opened. Where it wasn't, that is told by its name.
+fn told<T, H: Eprint>(
+    teller: &Teller<'_, H>,
+    path: Option<&str>,
+    opened: io::Result<T>,
+) -> io::Result<T>
+    ensures { result ≡ opened.entry }
+{
+    if let (Some(path), Err(error)) = (path, &opened) {
+        teller.tell(path, error);
+    }
+    opened
+}
+
+/// Opens what orders come from, and where reports go. What can't be opened is told by its name.
 fn open_streams<'a, H: Files<File = File> + Threads + Eprint + AllocGlobal>(
     host: &'a H,
+    teller: &Teller<'_, H>,
     end: &LineEnd<'_>,
 ) -> io::Result<Streams<'a, H>>
     ensures { IfOk result (λ s. AreOrdered end.now.orders (left_of known_of s.orders)) }
 {
     let alloc = host.alloc();
-    let orders = open_orders(host, alloc, end.orders)?;
-    let reports = open_reports(host, alloc, end.reports, Errors { rt: host })?;
+    let orders = told(teller, end.orders, open_orders(host, alloc, end.orders))?;
+    let errors = Errors { rt: host };
+    let reports = told(
+        teller,
+        end.reports,
+        open_reports(host, alloc, end.reports, errors),
+    )?;
     Ok(Streams {
         orders: LineOrders::new(alloc, orders),
         reports,
@@ -69,6 +89,7 @@ fn serve<O: Orders, P: Write, R: Read, W: Write>(
 /// Has a terminal speak on its line.
 fn speak<H: Files<File = File> + Threads + Eprint + Clock + AllocGlobal, R: Read, W: Write>(
     host: &H,
+    teller: &Teller<'_, H>,
     end: &LineEnd<'_>,
     terminal: Terminal,
     reader: &mut R,
@@ -84,7 +105,7 @@ fn speak<H: Files<File = File> + Threads + Eprint + Clock + AllocGlobal, R: Read
         (record { read = R.remaining reader.new; written = W.contents writer.new }) }
     ensures status { (result ≡ 0) ⊎ (result ≡ 4) }
 {
-    let Ok(Streams { orders, reports }) = open_streams(host, end) else {
+    let Ok(Streams { orders, reports }) = open_streams(host, teller, end) else {
         return FAILED;
     };
     let mut desk = link_desk(terminal, orders, reports);
@@ -97,7 +118,7 @@ fn speak<H: Files<File = File> + Threads + Eprint + Clock + AllocGlobal, R: Read
 }
 
 /// Puts one end of a link on a line: line octets come from a reader, and one goes to a writer for each, behind those that go ahead (of which
-/// 8,000 are the most).
+/// 8,000 are the most). Orders and reports that can't be opened are told by their names.
 ///
 /// Gives the exit status: 0 at the end of what there is to read, or at the order `quit`; 2 where the text is refused or lacks a name that a
 /// terminal wants; 4 where memory, a file, a read or a write fails, of reports too. However it ends, what is written on the line is a beginning
@@ -108,7 +129,14 @@ pub fn run_line<
     S: Read + Drop,
     R: Read,
     W: Write,
->(host: &H, end: &LineEnd<'_>, set: SetWord<S>, reader: &mut R, writer: &mut W) -> u8
+>(
+    host: &H,
+    teller: &Teller<'_, H>,
+    end: &LineEnd<'_>,
+    set: SetWord<S>,
+    reader: &mut R,
+    writer: &mut W,
+) -> u8
     ensures spoke { result ≡ 0 → IsGiven (given S.remaining set) (SpokeOver end.now
         (record { read = R.remaining reader.old; written = W.contents writer.old })
         (record { read = R.remaining reader.new; written = W.contents writer.new })) }
@@ -123,7 +151,7 @@ pub fn run_line<
     ensures status { (result ≡ 0) ⊎ (result ≡ 2) ⊎ (result ≡ 4) }
 {
     match new_terminal(host.alloc(), end.mode, set, &mut Errors { rt: host }) {
-        Ok(terminal) => speak(host, end, terminal, reader, writer),
+        Ok(terminal) => speak(host, teller, end, terminal, reader, writer),
         Err(status) => status,
     }
 }

@@ -52,13 +52,11 @@ line_command = with_line_options line_begun
 abbrev pub frame_command : App
 frame_command = with_rule (new_app (codes "frame")) (plain_word (codes "HEX"))
 
--- the program without its commands, of which one has to be named
+-- the program without its commands, of which one has to be named; it has a version
 abbrev pub program_begun : App
-program_begun =
-    record (new_app (codes "mtp2_play")) {
-      top = record
-          (new_shape (codes "mtp2_play")) { subcommand_required = true };
-    }
+program_begun = record (new_app (codes "mtp2_play")) {
+  top = record (new_shape (codes "mtp2_play")) { subcommand_required = true; has_version = true };
+}
 
 -- the program with its commands
 abbrev pub all_commands : App

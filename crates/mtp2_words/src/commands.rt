@@ -28,6 +28,7 @@ fn program_begun<'a>(alloc: Global) -> Command<'a>
         "Checks and plays SDL process texts of signalling links, and reads signal units",
         "Exit statuses: 0 done, 1 an expectation of a script failed or something differs, 2 refused, 3 usage, 4 memory or a file failed.",
     )
+    .version("1.0")
     .subcommand_required(true)
 }
 

@@ -4,6 +4,8 @@
 mod check;
 mod lines;
 mod reading;
+mod told;
 
 pub use lines::{FAILED, HELD, REFUSED, USAGE, refuse, write_line};
 pub use reading::{MOST_BYTES, MOST_READS, TextRead, line_at_limit, read_text};
+pub use told::{Errors, NamedReader, Teller};

@@ -41,7 +41,7 @@ fn links_at(word: &str, number: u32) -> Option<u32>
 }
 
 /// The number of links that a first line sets, where it is one.
-fn links_in(words: &[&str]) -> Option<u32>
+pub fn links_in(words: &[&str]) -> Option<u32>
     ensures { result ≡ links_of (texts words.now) }
 {
     match words {

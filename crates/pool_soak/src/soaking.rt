@@ -15,6 +15,7 @@ use crate::client::{Open, Script};
 use crate::finding_lines::{audit_of, seats_of, status_of};
 use crate::findings::agree;
 use crate::script::{Soak, soak_script};
+use crate::soak_faults::{explain, explain_length};
 use actor_book::{Book, Limits};
 use plain_text::{TextRead, line_at_limit, read_text};
 use script_check::{FAILED, refuse, standard, write_line};
@@ -37,13 +38,15 @@ use turn_pool::{Closed, Receipt, serve};
 ///
 /// Gives the exit status: 0 where all agrees and was written; 1 where the second line is `audit no`; 2 after a line `refused F1 NotText`
 /// alone where the script is no text, or `refused X1 BadLine line N` of its first bad line; 4 where memory, a read or a write fails, for
-/// other than 1 to 16 workers, or where no thread can be made. Nothing is written after a write that failed.
-pub fn soak<R: Threads + Wait + Sync, S: Read + Drop, W: Write>(
+/// other than 1 to 16 workers, or where no thread can be made. Nothing is written after a write that failed. Why a line may not stand where it does
+/// is told on `errors` (tests alone show that).
+pub fn soak<R: Threads + Wait + Sync, S: Read + Drop, W: Write, E: Write>(
     rt: &R,
     alloc: Global,
     mut script: S,
     workers: usize,
     writer: &mut W,
+    errors: &mut E,
 ) -> u8
     ensures held { result ≡ 0 → IsGiven (S.remaining script) (IsSoaked (W.contents writer.old) (W.contents writer.new)) }
     ensures differs { result ≡ 1 → IsGiven (S.remaining script) (IsSoakedInVain (W.contents writer.old) (W.contents writer.new)) }
@@ -52,7 +55,7 @@ pub fn soak<R: Threads + Wait + Sync, S: Read + Drop, W: Write>(
     ensures status { (result ≡ 0) ⊎ (result ≡ 1) ⊎ (result ≡ 2) ⊎ (result ≡ 4) }
 {
     match read_text(alloc, &mut script) {
-        Ok(read) => soak_text(rt, alloc, &read, workers, writer),
+        Ok(read) => soak_text(rt, alloc, &read, workers, writer, errors),
         Err(_) => FAILED,
     }
 }
@@ -69,12 +72,13 @@ fn refuse_script<W: Write>(alloc: Global, writer: &mut W, fault: ScriptFault) ->
 }
 
 /// Runs the script of a text that was read.
-fn soak_text<R: Threads + Wait + Sync, W: Write>(
+fn soak_text<R: Threads + Wait + Sync, W: Write, E: Write>(
     rt: &R,
     alloc: Global,
     read: &TextRead,
     workers: usize,
     writer: &mut W,
+    errors: &mut E,
 ) -> u8
     ensures ends { (bytes : List ℕ) → Keeps bytes read.now → IsEnd result (W.contents writer.old) (W.contents writer.new) bytes }
     ensures served { (result ≡ 0) ⊎ (result ≡ 1) → (LEAST_WORKERS ≤ workers) × (workers ≤ MOST_WORKERS) }
@@ -85,12 +89,16 @@ fn soak_text<R: Threads + Wait + Sync, W: Write>(
     }
     if read.is_too_long() {
         let line = line_at_limit(&read.kept);
+        explain_length(alloc, line, errors);
         return refuse_script(alloc, writer, ScriptFault::BadLine(line));
     }
     match str::from_utf8(&read.kept) {
         Ok(text) => match soak_script(alloc, text) {
             Ok(script) => run_script(rt, alloc, &script, workers, writer),
-            Err(fault) => refuse_script(alloc, writer, fault),
+            Err(fault) => {
+                explain(alloc, text, fault, errors);
+                refuse_script(alloc, writer, fault)
+            }
         },
         Err(_) => refuse(alloc, writer, &"refused F1 NotText"),
     }

@@ -6,6 +6,7 @@ ghost use Rattle.script_book.specs.Played.{last_of, IsRun, IsMissed, IsMissedBy}
 
 use crate::answers::answer;
 use crate::printer::Printer;
+use crate::route_faults::route_fault;
 use actor_book::Book;
 use plain_text::{HELD, write_line};
 use script_lines::{Command, Said};
@@ -47,16 +48,36 @@ impl Player {
         }
     }
 
-    /// Does what the commands say, in order, up to an expectation that fails. Gives the exit status, 0 or 1 where one failed.
+    /// Tells why the command that was obeyed last was refused by B3, where it was.
+    fn explain<E: Write>(&self, alloc: Global, said: &Said<'_>, errors: &mut E) {
+        let (Command::Offer(given) | Command::Flood(_, given)) = &said.command else {
+            return;
+        };
+        if !self.printer.has_printed(b"refused B3 NoRoute") {
+            return;
+        }
+        let line = said.line;
+        if let Some(fault) = route_fault(&self.book, given) {
+            let _told = write_line(
+                alloc,
+                errors,
+                &format_args!("mtp2_play: line {line}: {fault}"),
+            );
+        }
+    }
+
+    /// Does what the commands say, in order, up to an expectation that fails. Gives the exit status, 0 or 1 where one failed. Why a signal is
+    /// refused by B3 is told on `errors`.
     ///
     /// # Errors
     ///
     /// Where a write fails, or memory is wanting.
-    pub fn run<W: Write>(
+    pub fn run<W: Write, E: Write>(
         &mut self,
         alloc: Global,
         commands: &[Said<'_>],
         writer: &mut W,
+        errors: &mut E,
     ) -> io::Result<u8>
         ensures held { IfOk result (λ status. status ≡ 0 → (b : Ledger) (before : List PlainSaid) (first : Option (List ℕ))
             → IsRun b before first (W.contents writer.old) self.old.book (last_of self.old)
@@ -70,6 +91,7 @@ impl Player {
             if !self.obey(alloc, said, writer)? {
                 return Ok(MISSED);
             }
+            self.explain(alloc, said, errors);
         }
         Ok(HELD)
     }

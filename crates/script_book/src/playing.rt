@@ -30,11 +30,12 @@ fn limits_of(settings: Settings) -> Limits
 }
 
 /// Does what commands say, in order, up to an expectation that fails. Gives the exit status, 4 where memory or a write fails.
-fn run_all<W: Write>(
+fn run_all<W: Write, E: Write>(
     alloc: Global,
     player: &mut Player,
     commands: &[Said<'_>],
     writer: &mut W,
+    errors: &mut E,
 ) -> u8
     ensures held { result ≡ 0 → (b : Ledger) (before : List PlainSaid) (first : Option (List ℕ))
         → IsRun b before first (W.contents writer.old) player.old.book (last_of player.old)
@@ -44,7 +45,7 @@ fn run_all<W: Write>(
         → IsMissed b (before ++ map plain_said commands.now) first (W.contents writer.new) }
     ensures status { (result ≡ 0) ⊎ (result ≡ 1) ⊎ (result ≡ 4) }
 {
-    match player.run(alloc, commands, writer) {
+    match player.run(alloc, commands, writer, errors) {
         Ok(status) => status,
         Err(_) => FAILED,
     }
@@ -53,8 +54,14 @@ fn run_all<W: Write>(
 /// Runs a book script on the processes of a set, and prints a line for each command but `expect`.
 ///
 /// Gives the exit status: 0 where each command ran and its line was written, 1 after `failed line N` where an expectation failed, 4 where
-/// memory or a write fails. Nothing is written after a write that failed.
-pub fn play_book<W: Write>(alloc: Global, set: &Verified, script: &Script<'_>, writer: &mut W) -> u8
+/// memory or a write fails. Nothing is written after a write that failed. Why a signal is refused by B3 is told on `errors` (tests alone show that).
+pub fn play_book<W: Write, E: Write>(
+    alloc: Global,
+    set: &Verified,
+    script: &Script<'_>,
+    writer: &mut W,
+    errors: &mut E,
+) -> u8
     requires { AreInRange script.now.settings }
     ensures held { result ≡ 0
         → IsWritten (first_book set.now script.now.settings) (plain_script script.now).commands (W.contents writer.old) (W.contents writer.new) }
@@ -68,5 +75,5 @@ pub fn play_book<W: Write>(alloc: Global, set: &Verified, script: &Script<'_>, w
     };
     let printer = Printer { last: None };
     let mut player = Player { book, printer };
-    run_all(alloc, &mut player, &script.commands, writer)
+    run_all(alloc, &mut player, &script.commands, writer, errors)
 }

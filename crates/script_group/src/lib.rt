@@ -13,4 +13,4 @@ mod saying;
 mod shown;
 
 pub use playing::play_group;
-pub use script_terminal::{FAILED, play_book, play_terminal, refuse};
+pub use script_terminal::{FAILED, play_book, play_terminal, refuse, write_line};

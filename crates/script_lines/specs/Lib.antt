@@ -1,5 +1,6 @@
 pub mod ActorWords
 pub mod Commands
+pub mod LineFaults
 pub mod Lines
 pub mod Numbers
 pub mod Printed

@@ -2,6 +2,7 @@
 #![tactic(auto)]
 
 mod commands;
+mod line_faults;
 mod lines;
 mod names;
 mod numbers;
@@ -15,6 +16,7 @@ mod word;
 mod words;
 
 pub use commands::{Command, Offer, command_in};
+pub use line_faults::{LineFault, MANY, book_line_fault, number_fault, verb_fault, words_fault};
 pub use lines::{Line, lines_in};
 pub use numbers::{count, value};
 pub use refusals::refused_line;
@@ -22,6 +24,6 @@ pub use reply_lines::{begun_line, finished_line, skipped_line, standing_line, ta
 pub use script::{Said, Script, ScriptFault, book_script};
 pub use settings::{Setting, Settings};
 pub use shown::shown_line;
-pub use verbs::{Call, Verb};
+pub use verbs::{Call, Verb, verb_in};
 pub use word::{Called, actor_called};
 pub use words::words_in;

@@ -9,10 +9,10 @@ use Rattle.sdl_ast.specs.declared.tree.Constant.{Constant}
 use Rattle.sdl_ast.specs.declared.tree.Literal.TheVariants as literals
 use Rattle.sdl_ast.specs.Plain.{PlainGroup, PlainDeclaration, variables, timers, PlainPath}
 use Rattle.sdl_ast.specs.Plain.{PlainSignal, PlainEntity, signals, route, connect}
-use Rattle.sdl_expressions.specs.Tokens.{a_word, a_symbol, a_number, a_name, a_sort, a_party}
-use Rattle.sdl_expressions.specs.Tokens.{a_constant, a_quoted}
-use Rattle.sdl_expressions.specs.Readings.{At, give, token, ◌>>=◌, choice, optional, separated}
-use Rattle.sdl_expressions.specs.Readings.{list_in_parentheses}
+use Rattle.sdl_productions.specs.Tokens.{a_word, a_symbol, a_number, a_name, a_sort, a_party}
+use Rattle.sdl_productions.specs.Tokens.{a_constant, a_quoted}
+use Rattle.sdl_productions.specs.Readings.{At, give, token, ◌>>=◌, choice, optional, separated}
+use Rattle.sdl_productions.specs.Readings.{list_in_parentheses}
 
 abbrev pub names_at : At (List Identifier)
 names_at = separated (token a_name)

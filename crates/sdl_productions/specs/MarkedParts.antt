@@ -6,12 +6,12 @@ use Rattle.sdl_lex.specs.declared.lexemes.Word.TheVariants as words
 use Rattle.sdl_lex.specs.declared.lexemes.Symbol.TheVariants.{Colon}
 use Rattle.sdl_ast.specs.Plain.{PlainClause, input, PlainState, PlainConnection, PlainStart}
 use Rattle.sdl_ast.specs.Plain.{PlainEntity, process, PlainBlock}
-use Rattle.sdl_expressions.specs.Tokens.{a_word, a_symbol, a_name, an_entity, a_declaration}
-use Rattle.sdl_expressions.specs.Tokens.{a_clause, a_section}
-use Rattle.sdl_expressions.specs.Readings.{At, give, token, ◌>>=◌, many, choice, optional}
-use Rattle.sdl_expressions.specs.Readings.{separated_from, separated}
-use Rattle.sdl_expressions.specs.Bodies.{marked_texts}
-use Rattle.sdl_expressions.specs.Marks.{Marked, kept, map_marked, gathered, process_marked}
+use Rattle.sdl_productions.specs.Tokens.{a_word, a_symbol, a_name, an_entity, a_declaration}
+use Rattle.sdl_productions.specs.Tokens.{a_clause, a_section}
+use Rattle.sdl_productions.specs.Readings.{At, give, token, ◌>>=◌, many, choice, optional}
+use Rattle.sdl_productions.specs.Readings.{separated_from, separated}
+use Rattle.sdl_productions.specs.Bodies.{marked_texts}
+use Rattle.sdl_productions.specs.Marks.{Marked, kept, map_marked, gathered, process_marked}
 use Rattle.sdl_productions.specs.Productions.{stimulus_at, text_at, save_at, closing_at}
 use Rattle.sdl_productions.specs.Productions.{end_state_at, end_connection_at, process_head_at}
 use Rattle.sdl_productions.specs.DeclarationProductions.{terminator_at, signals_at, route_at}

@@ -18,15 +18,15 @@ use Rattle.sdl_ast.specs.Plain.{PlainClause, input, save, PlainState, PlainStart
 use Rattle.sdl_ast.specs.Plain.{process, PlainBlock, PlainConnection, PlainSection, in_state}
 use Rattle.sdl_ast.specs.Plain.{in_connection, PlainProcessHead, process_head, process_from}
 use Rattle.sdl_ast.specs.Plain.{from_to}
-use Rattle.sdl_expressions.specs.Tokens.{a_word, a_symbol, a_number, a_name, a_count, the_number}
-use Rattle.sdl_expressions.specs.Tokens.{a_closing, a_quoted, a_destination, an_entity}
-use Rattle.sdl_expressions.specs.Tokens.{a_declaration, a_clause, an_action, an_end, a_choice}
-use Rattle.sdl_expressions.specs.Tokens.{a_relation, a_section}
-use Rattle.sdl_expressions.specs.Machine.{expression_at}
-use Rattle.sdl_expressions.specs.Bodies.{Keeping, whole_texts, Branching, Body, Reached, Move}
-use Rattle.sdl_expressions.specs.Bodies.{reaches, closes, with_answer}
-use Rattle.sdl_expressions.specs.Readings.{At, fails, give, token, ◌>>=◌, many, choice, optional}
-use Rattle.sdl_expressions.specs.Readings.{separated_from, separated, list_in_parentheses}
+use Rattle.sdl_productions.specs.Tokens.{a_word, a_symbol, a_number, a_name, a_count, the_number}
+use Rattle.sdl_productions.specs.Tokens.{a_closing, a_quoted, a_destination, an_entity}
+use Rattle.sdl_productions.specs.Tokens.{a_declaration, a_clause, an_action, an_end, a_choice}
+use Rattle.sdl_productions.specs.Tokens.{a_relation, a_section}
+use Rattle.sdl_productions.specs.Machine.{expression_at}
+use Rattle.sdl_productions.specs.Bodies.{Keeping, whole_texts, Branching, Body, Reached, Move}
+use Rattle.sdl_productions.specs.Bodies.{reaches, closes, with_answer}
+use Rattle.sdl_productions.specs.Readings.{At, fails, give, token, ◌>>=◌, many, choice, optional}
+use Rattle.sdl_productions.specs.Readings.{separated_from, separated, list_in_parentheses}
 use Rattle.sdl_productions.specs.DeclarationProductions.{names_at, terminator_at, signals_at}
 use Rattle.sdl_productions.specs.DeclarationProductions.{route_at, connect_at, constant_at}
 use Rattle.sdl_productions.specs.DeclarationProductions.{declaration_at}

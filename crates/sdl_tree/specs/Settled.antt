@@ -5,8 +5,8 @@ use Rattle.sdl_tree.specs.declared.fault.ParseFault.{ParseFault}
 use Rattle.sdl_tree.specs.declared.fault.ParseFault.TheVariants.{Unexpected, TooDeep, NoMemory}
 use Rattle.sdl_ast.specs.declared.tree.Block.{Block}
 use Rattle.sdl_ast.specs.Views.{block_of}
-use Rattle.sdl_expressions.specs.Readings.{Reading, read, fails}
-use Rattle.sdl_expressions.specs.Marks.{kept, too_high}
+use Rattle.sdl_productions.specs.Readings.{Reading, read, fails}
+use Rattle.sdl_productions.specs.Marks.{kept, too_high}
 use Rattle.sdl_productions.specs.MarkedParts.{marked_block}
 
 -- where a reading that doesn't take all tokens stops

@@ -20,13 +20,13 @@ use Rattle.sdl_ast.specs.Plain.{PlainClause, input, save, PlainState, PlainStart
 use Rattle.sdl_ast.specs.Plain.{process, PlainBlock, PlainConnection, PlainSection, in_state}
 use Rattle.sdl_ast.specs.Plain.{in_connection, PlainProcessHead, process_head, process_from}
 use Rattle.sdl_ast.specs.Plain.{from_to}
-use Rattle.sdl_expressions.specs.Tokens.{begins, a_word, a_symbol, a_number, a_name, a_count}
-use Rattle.sdl_expressions.specs.Tokens.{the_number, a_closing, a_quoted, a_destination, an_entity}
-use Rattle.sdl_expressions.specs.Tokens.{a_declaration, a_clause, an_action, an_end, a_choice}
-use Rattle.sdl_expressions.specs.Tokens.{a_relation, a_section}
-use Rattle.sdl_expressions.specs.Grammar.{Grammar, give, token, ◌>>=◌, many, choice, optional}
-use Rattle.sdl_expressions.specs.Grammar.{separated_from, separated, list_in_parentheses}
-use Rattle.sdl_expressions.specs.Expressions.{expression_syntax}
+use Rattle.sdl_productions.specs.Tokens.{begins, a_word, a_symbol, a_number, a_name, a_count}
+use Rattle.sdl_productions.specs.Tokens.{the_number, a_closing, a_quoted, a_destination, an_entity}
+use Rattle.sdl_productions.specs.Tokens.{a_declaration, a_clause, an_action, an_end, a_choice}
+use Rattle.sdl_productions.specs.Tokens.{a_relation, a_section}
+use Rattle.sdl_productions.specs.Grammar.{Grammar, give, token, ◌>>=◌, many, choice, optional}
+use Rattle.sdl_productions.specs.Grammar.{separated_from, separated, list_in_parentheses}
+use Rattle.sdl_productions.specs.Expressions.{expression_syntax}
 use Rattle.sdl_tree.specs.DeclarationSyntax.{names_syntax, terminator_syntax, signals_syntax}
 use Rattle.sdl_tree.specs.DeclarationSyntax.{route_syntax, connect_syntax, constant_syntax}
 use Rattle.sdl_tree.specs.DeclarationSyntax.{declaration_syntax}

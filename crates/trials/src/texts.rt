@@ -45,6 +45,7 @@ pub fn play_script<'a, R: Runtime + AllocGlobal>(
         set_of(set),
         script.as_bytes(),
         &mut io::writer(rt),
+        &mut io::sink(),
     );
     if status == FAILED {
         return Err(io::Error::from(ErrorKind::Other));
