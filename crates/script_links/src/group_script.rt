@@ -7,8 +7,8 @@ ghost use Rattle.script_links.specs.Heads.{MOST_LINKS};
 ghost use Rattle.script_links.specs.GroupScripts.{plain_group_said, plain_play_script, is_bad_group, group_said_of, as_other, group_by, play_in, play_script_of, IsFit, Tells, IsBadGroupLine};
 
 use crate::group_commands::{GroupCommand, group_command_in};
-use crate::script::{AnyScript, any_script};
 use crate::heads::{GroupHead, head_in};
+use crate::script::{AnyScript, any_script};
 use plain_text::{MOST_BYTES, line_at_limit};
 use script_lines::{Line, ScriptFault, lines_in};
 use std::alloc::{AllocError, Global};

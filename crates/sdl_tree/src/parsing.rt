@@ -8,8 +8,8 @@ ghost use Rattle.sdl_ast.specs.Views.{block_of};
 
 use crate::fault::ParseFault;
 use sdl_ast::Block;
-use sdl_productions::{Marked, Stop};
 use sdl_lex::Token;
+use sdl_productions::{Marked, Stop};
 use sdl_readers::read_block;
 use std::alloc::Global;
 
