@@ -40,20 +40,6 @@ class Look:
         self.say(document, f"no file {module} in the specs of {', '.join(crates)}")
         return []
 
-    def code(self, crates, cell, document):
-        """Files of code with functions or types, `file.rt: a, b; crate/file.rt: c`."""
-        for part in cell.replace("`", "").split(";"):
-            files, _, names = part.partition(": ")
-            for file in re.findall(r"[\w/]+\.rt", files):
-                crate, _, name = file.replace("/src/", "/").rpartition("/")
-                texts = [text_of(self.crates / it / "src" / name) for it in ([crate] if crate else crates)]
-                texts = [it for it in texts if it is not None]
-                if not texts:
-                    self.say(document, f"no file {file}")
-                for word in re.findall(r"\w+", re.sub(r"\(.*?\)", "", names)) if texts else []:
-                    if not any(re.search(rf"\b(fn|struct|enum|trait|type|const|impl) ([\w<>' ]+ for )?{word}\b", it) for it in texts):
-                        self.say(document, f"no {word} in {file}")
-
 
 def architecture(look, text):
     """Each crate has its row in the table of the rooms, and each row its crate."""
