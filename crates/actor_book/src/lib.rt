@@ -25,6 +25,6 @@ pub use actor_state::LinkActors;
 pub use book::Book;
 pub use calls::{Passed, Taken};
 pub use event_runs::run_events;
-pub use laws::{failed_tries_change_nothing, rests_are_runs, turns_are_of_the_least};
+pub use laws::{failed_tries_change_nothing, turns_are_of_the_least};
 pub use limits::Limits;
 pub use turn::{REST, Turn, one_turn, rest};
