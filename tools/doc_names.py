@@ -1,6 +1,7 @@
 """What the documents name and the repository lacks: files, definitions, functions and clauses; and what they leave out. `tools/ready` asks it.
 
 - docs/architecture.md: each crate has its row in the table of the rooms, and each row its crate.
+- docs/standards.md: each definition, function, edit, quoted word of examples/ and heading of docs/ is there.
 - README.md and docs/*.md: each path that they write is there."""
 import functools
 import re
@@ -51,6 +52,36 @@ def architecture(look, text):
         look.say("architecture", f"no crate {name}")
 
 
+def standards(look, text):
+    root = look.crates.parent
+    for cells in rows(text):
+        if not cells[0].startswith("**") and (len(cells) != 4 or not all(cells)):
+            look.say("standards", f"not four cells: {cells[0]}")
+    for rule, defined, decided, tested in [it for it in rows(text) if len(it) == 4]:
+        for crate, module, names in re.findall(r"`(\w+)/specs/(\w+)`: ([\w, ]+)", defined):
+            for name in look.spec([crate], module, re.findall(r"\w+", names), "standards"):
+                look.say("standards", f"no {name} in {crate}/specs/{module}")
+        for crate, file, names in re.findall(r"`(\w+)/src/([\w/]+\.rt)(?:: ([\w, ]+))?`", f"{decided} {tested}"):
+            code = text_of(look.crates / crate / "src" / file)
+            if code is None:
+                look.say("standards", f"no file {crate}/src/{file}")
+            for name in re.findall(r"\w+", names) if code else []:
+                if not re.search(rf"\b(fn|struct|enum|trait|type|const|impl) {name}\b", code):
+                    look.say("standards", f"no {name} in {crate}/src/{file}")
+        for path, quoted in re.findall(r"`(examples/[\w./]+)`: ((?:\"[^\"]+\"(?:, )?)+)", f"{defined}; {tested}"):
+            held = text_of(root / path) or ""
+            entries = re.findall(r"^== .*$", held, re.M) or [held]
+            for words in re.findall(r"\"([^\"]+)\"", quoted):
+                if not any(words in it for it in entries):
+                    look.say("standards", f"no \"{words}\" in {path}")
+        for name in re.findall(r"`(\w+)`", " ".join(re.findall(r"\bedits? ((?:`\w+`(?:, )?)+)", tested))):
+            if not any(root.glob(f"crates/*/must-fail/{name}.edit")) and not any(root.glob(f"edits/*/{name}.edit")):
+                look.say("standards", f"no edit {name}")
+        for document, heading in re.findall(r"\(([\w-]+\.md)#([\w-]+)\)", rule):
+            if heading not in [re.sub(r"[^\w -]", "", it).lower().replace(" ", "-") for it, _ in sections(text_of(root / "docs" / document) or "")]:
+                look.say("standards", f"no heading {heading} in docs/{document}")
+
+
 def paths(root):
     found = []
     for document in [root / "README.md", *sorted((root / "docs").glob("*.md"))]:
@@ -64,4 +95,5 @@ def lacking(root):
     """What is to be mended, a line each."""
     look = Look(root)
     architecture(look, (root / "docs" / "architecture.md").read_text())
+    standards(look, (root / "docs" / "standards.md").read_text())
     return look.found + paths(root)
