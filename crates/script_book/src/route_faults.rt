@@ -1,9 +1,10 @@
 //! Why no route brings a signal from the environment (B3), for a person to read.
-ghost use Rattle.std.specs.Prelude.{◌≡◌, IfSome};
+ghost use Rattle.std.specs.Prelude.{◌≡◌, ◌==◌, IfSome};
 ghost use Rattle.std.specs.List.{list_any};
 ghost use Rattle.actor_machine.specs.Refusals.{is_environment, is_process, offers};
 ghost use Rattle.turn_code.specs.declared.numbers.SignalNumber.{SignalNumber as PlainSignal};
-ghost use Rattle.script_lines.specs.Commands.{plain_offer};
+ghost use Rattle.actor_machine.specs.Ledger.{Ledger};
+ghost use Rattle.script_lines.specs.Commands.{PlainOffer, plain_offer};
 ghost use Rattle.script_book.specs.RouteFaults.{IsRouteFault};
 
 use crate::names::{actor_named, signal_named};
@@ -112,7 +113,9 @@ fn some_route_offers(routes: &[DraftRoute], number: u8, signal: SignalNumber) ->
 }
 
 /// Why values aren't those of a signal with parameters of these sorts.
-fn values_fault<'a>(signal: &'a str, sorts: &[Sort], values: &[Value]) -> Option<RouteFault<'a>> {
+fn values_fault<'a>(signal: &'a str, sorts: &[Sort], values: &[Value]) -> Option<RouteFault<'a>>
+    ensures { (b : Ledger) → (o : PlainOffer) → IfSome result (IsRouteFault b o) }
+{
     if values.len() != sorts.len() {
         return Some(RouteFault::Count {
             signal,

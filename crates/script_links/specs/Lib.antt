@@ -3,6 +3,5 @@ pub mod GroupScripts
 pub mod Heads
 pub mod Octets
 pub mod Orders
-pub mod PlayFaults
 pub mod TermCommands
 pub mod TermScripts

@@ -1,8 +1,4 @@
 //! Why a line is none of a script that `play` runs, for a person to read.
-ghost use Rattle.std.specs.Prelude.{◌∷◌, ℕ, Bool, List, IfOk, IfSome};
-ghost use Rattle.script_lines.specs.Lines.{texts};
-ghost use Rattle.script_lines.specs.LineFaults.{is_no_verb, IsSo};
-ghost use Rattle.script_links.specs.PlayFaults.{shared_verb, is_no_shared_word, is_no_term_word, IsPlaySo, IsFaultIn, IsFaultAt};
 
 use crate::heads::head_in;
 use crate::octets::octets_in;
@@ -80,9 +76,7 @@ impl fmt::Display for PlayFault<'_> {
 }
 
 /// A reason that scripts of all kinds have.
-fn of_line<'a>(fault: Option<LineFault<'a>>) -> Option<PlayFault<'a>>
-    ensures { (p : List ℕ → Bool) → (words : List (List ℕ)) → IfSome fault.entry (IsSo p words) → IfSome result (IsPlaySo p words) }
-{
+fn of_line<'a>(fault: Option<LineFault<'a>>) -> Option<PlayFault<'a>> {
     match fault {
         Some(fault) => Some(PlayFault::Line(fault)),
         None => None,
@@ -96,9 +90,7 @@ fn octets_fault<'a>(
     hex: &'a str,
     least: usize,
     most: usize,
-) -> Result<Option<PlayFault<'a>>, AllocError>
-    ensures { (p : List ℕ → Bool) → (words : List (List ℕ)) → IfOk result (λ r. IfSome r (IsPlaySo p words)) }
-{
+) -> Result<Option<PlayFault<'a>>, AllocError> {
     let Some(octets) = octets_in(alloc, hex)? else {
         return Ok(Some(PlayFault::NoOctets { word: hex }));
     };
@@ -115,9 +107,7 @@ fn octets_fault<'a>(
 }
 
 /// Why the length indicator of a unit without its check octets is wrong.
-fn indicator_fault<'a>(octets: &[u8]) -> Option<PlayFault<'a>>
-    ensures { (p : List ℕ → Bool) → (words : List (List ℕ)) → IfSome result (IsPlaySo p words) }
-{
+fn indicator_fault<'a>(octets: &[u8]) -> Option<PlayFault<'a>> {
     match octets {
         [_, _, third, more @ ..] => {
             let says = third % 64;
@@ -136,9 +126,7 @@ fn unit_fault<'a>(
     alloc: Global,
     word: &'a str,
     hex: &'a str,
-) -> Result<Option<PlayFault<'a>>, AllocError>
-    ensures { (p : List ℕ → Bool) → (words : List (List ℕ)) → IfOk result (λ r. IfSome r (IsPlaySo p words)) }
-{
+) -> Result<Option<PlayFault<'a>>, AllocError> {
     if let Some(fault) = octets_fault(alloc, word, hex, 3, 276)? {
         return Ok(Some(fault));
     }
@@ -149,9 +137,7 @@ fn unit_fault<'a>(
 }
 
 /// Why a word is no order.
-fn order_fault<'a>(word: &'a str) -> Option<PlayFault<'a>>
-    ensures { (p : List ℕ → Bool) → (words : List (List ℕ)) → IfSome result (IsPlaySo p words) }
-{
+fn order_fault<'a>(word: &'a str) -> Option<PlayFault<'a>> {
     match order_in(word) {
         Some(_) => None,
         None => Some(PlayFault::NoOrder { word }),
@@ -159,9 +145,7 @@ fn order_fault<'a>(word: &'a str) -> Option<PlayFault<'a>>
 }
 
 /// Why a word is no kind of error correction.
-fn mode_fault<'a>(word: &'a str) -> Option<PlayFault<'a>>
-    ensures { (p : List ℕ → Bool) → (words : List (List ℕ)) → IfSome result (IsPlaySo p words) }
-{
+fn mode_fault<'a>(word: &'a str) -> Option<PlayFault<'a>> {
     match mode_named(word) {
         Some(_) => None,
         None => Some(PlayFault::NoMode { word }),
@@ -174,9 +158,7 @@ fn behind_term_verb<'a>(
     verb: TermVerb,
     word: &'a str,
     next: &'a str,
-) -> Result<Option<PlayFault<'a>>, AllocError>
-    ensures { (p : List ℕ → Bool) → (words : List (List ℕ)) → IfOk result (λ r. IfSome r (IsPlaySo p words)) }
-{
+) -> Result<Option<PlayFault<'a>>, AllocError> {
     match verb {
         TermVerb::Order => Ok(order_fault(next)),
         TermVerb::Unit => unit_fault(alloc, word, next),
@@ -192,9 +174,7 @@ fn behind_group_verb<'a>(
     verb: GroupVerb,
     word: &'a str,
     next: &'a str,
-) -> Result<Option<PlayFault<'a>>, AllocError>
-    ensures { (p : List ℕ → Bool) → (words : List (List ℕ)) → IfOk result (λ r. IfSome r (IsPlaySo p words)) }
-{
+) -> Result<Option<PlayFault<'a>>, AllocError> {
     match verb {
         GroupVerb::On => Ok(of_line(number_fault(next, 0, MOST))),
         GroupVerb::Send => octets_fault(alloc, word, next, 5, 273),
@@ -203,9 +183,7 @@ fn behind_group_verb<'a>(
 }
 
 /// The verb of a book script that a word is, where a terminal's script has it too.
-fn shared_verb(word: &str) -> Option<Verb>
-    ensures { result ≡ shared_verb word.now }
-{
+fn shared_verb(word: &str) -> Option<Verb> {
     match verb_in(word) {
         Some(Verb::Tick) => Some(Verb::Tick),
         Some(Verb::Call(Call::State)) => Some(Verb::Call(Call::State)),
@@ -221,9 +199,7 @@ fn term_fault<'a>(
     word: &'a str,
     more: &[&'a str],
     script: &'static str,
-) -> Result<Option<PlayFault<'a>>, AllocError>
-    ensures { IfOk result (λ r. IfSome r (IsPlaySo is_no_term_word (word.now ∷ texts more.now))) }
-{
+) -> Result<Option<PlayFault<'a>>, AllocError> {
     if let Some(verb) = shared_verb(word) {
         return Ok(of_line(verb_fault(verb, word, more)));
     }
@@ -240,9 +216,7 @@ fn term_fault<'a>(
 pub fn term_line_fault<'a>(
     alloc: Global,
     words: &[&'a str],
-) -> Result<Option<PlayFault<'a>>, AllocError>
-    ensures { IfOk result (λ r. IfSome r (IsPlaySo is_no_term_word (texts words.now))) }
-{
+) -> Result<Option<PlayFault<'a>>, AllocError> {
     match words {
         [word, more @ ..] => {
             if mode_in(words).is_some() {
@@ -259,9 +233,7 @@ fn shared_fault<'a>(
     alloc: Global,
     word: &'a str,
     more: &[&'a str],
-) -> Result<Option<PlayFault<'a>>, AllocError>
-    ensures { IfOk result (λ r. IfSome r (IsPlaySo is_no_shared_word (word.now ∷ texts more.now))) }
-{
+) -> Result<Option<PlayFault<'a>>, AllocError> {
     let script = "a link set's script";
     if word == "msu" {
         return Ok(Some(PlayFault::Line(LineFault::NoCommand { word, script })));
@@ -273,9 +245,7 @@ fn shared_fault<'a>(
 pub fn group_line_fault<'a>(
     alloc: Global,
     words: &[&'a str],
-) -> Result<Option<PlayFault<'a>>, AllocError>
-    ensures { IfOk result (λ r. IfSome r (IsPlaySo is_no_shared_word (texts words.now))) }
-{
+) -> Result<Option<PlayFault<'a>>, AllocError> {
     let [word, more @ ..] = words else {
         return Ok(None);
     };
@@ -295,9 +265,7 @@ pub fn group_line_fault<'a>(
 }
 
 /// Why words that begin with `terminal` or `group` are no first line.
-fn head_fault<'a>(word: &'a str, more: &[&'a str]) -> Option<PlayFault<'a>>
-    ensures { (p : List ℕ → Bool) → IfSome result (IsPlaySo p (word.now ∷ texts more.now)) }
-{
+fn head_fault<'a>(word: &'a str, more: &[&'a str]) -> Option<PlayFault<'a>> {
     match more {
         [mode] if word == "terminal" => mode_fault(mode),
         [mode, links] if word == "group" => match mode_fault(mode) {
@@ -312,9 +280,7 @@ fn head_fault<'a>(word: &'a str, more: &[&'a str]) -> Option<PlayFault<'a>>
 }
 
 /// Why the words of a line are none of a book script; a line that should have been the first of another kind counts as one.
-pub fn other_line_fault<'a>(words: &[&'a str]) -> Option<PlayFault<'a>>
-    ensures { IfSome result (IsPlaySo is_no_verb (texts words.now)) }
-{
+pub fn other_line_fault<'a>(words: &[&'a str]) -> Option<PlayFault<'a>> {
     match words {
         [word, more @ ..] if *word == "terminal" || *word == "group" => {
             if mode_in(words).is_some() || head_in(words).is_some() {
@@ -331,9 +297,7 @@ fn line_fault<'a>(
     alloc: Global,
     first: &[&'a str],
     words: &[&'a str],
-) -> Result<Option<PlayFault<'a>>, AllocError>
-    ensures { IfOk result (λ r. IfSome r (IsFaultIn (texts first.now) (texts words.now))) }
-{
+) -> Result<Option<PlayFault<'a>>, AllocError> {
     if head_in(first).is_some() {
         group_line_fault(alloc, words)
     } else if mode_in(first).is_some() {
@@ -352,9 +316,7 @@ pub fn play_fault<'a>(
     alloc: Global,
     text: &'a str,
     number: usize,
-) -> Result<Option<PlayFault<'a>>, AllocError>
-    ensures { IfOk result (λ r. IfSome r (IsFaultAt text.now number)) }
-{
+) -> Result<Option<PlayFault<'a>>, AllocError> {
     let lines = lines_in(alloc, text)?;
     let Some(first) = lines.first() else {
         return Ok(None);
