@@ -1,9 +1,6 @@
 //! `trials`: many trials of what no clause says, one after another, with a line `== NAME` before each in standard input. Behind it comes a
 //! line that says its kind, and then the trial. For each the name is printed, what it has to show, and an empty line.
 //!
-//! - `text`: a process text. Shows what `check` prints.
-//! - `script`: the text of a set, or `standard` or `monitors`, a line `--`, and a script; where the line `--` comes first the set is that
-//!   of the script before. Shows what `play` prints, and a line `exit N` with its status.
 //! - `heard`: line octets, with the units that another receiver found in them ([`heard`]). Shows how many of them `bit_line` doesn't find.
 //! - `runs`: a run in each line. Two terminals, whose lines are tied together, carry messages: what goes out at one end comes in at the
 //!   other, octet by octet, over a line that flips, drops and doubles bits, by a seeded generator. Shows how many messages were sent and
@@ -23,8 +20,6 @@
 //! - `wheels`: in each line a seed and a number of calls. A wheel and a table of deadlines that is walked get the same calls, drawn by a
 //!   generator: timers set and reset, ticks that pass, one, few, a turn of the wheel, more than may. Shows how many timers were due, how many
 //!   the wheel looked at, and whether the two always said the same.
-//! - `tied`: two ends on a line, octet by octet, by their orders ([`tied`]). Shows what each sent and told, and whether the first sends the
-//!   same where it reads octet by octet, and where its reports are its orders.
 //! - `rounds`: what is measured, in each line a thing ([`rounds`]). Shows what its smallest round has; where a number of rounds is given
 //!   also how fast it went.
 #![tactic(auto)]
@@ -45,8 +40,6 @@ mod run;
 mod sets;
 mod shown;
 mod steps;
-mod texts;
-mod tied;
 mod wheels;
 
 use crate::calls::Stopped;
@@ -56,8 +49,6 @@ use crate::ports::hold_ports;
 use crate::reports::report_all;
 use crate::rounds::make_rounds;
 use crate::sets::{call_each, make_sets};
-use crate::texts::{check_text, play_script};
-use crate::tied::live_all;
 use crate::wheels::make_wheels;
 use std::io::{self, BufReader, ErrorKind, Read};
 use std::rt::Runtime;
@@ -74,7 +65,7 @@ fn failure(why: Stopped) -> io::Error {
     }
 }
 
-/// Makes a trial of the line or of terminals, or rounds of what is measured, and writes what it has to show.
+/// Makes a trial, or rounds of what is measured, and writes what there is to show.
 fn make<R: Runtime + AllocGlobal + Threads + Wait + Sync>(
     rt: &R,
     text: &mut String,
@@ -85,7 +76,6 @@ fn make<R: Runtime + AllocGlobal + Threads + Wait + Sync>(
         "heard" => compare(rt.alloc(), text, trial),
         "runs" => make_runs(rt.alloc(), text, trial),
         "ports" => hold_ports(rt.alloc(), text, trial),
-        "tied" => live_all(rt.alloc(), text, trial),
         "reports" => report_all(rt.alloc(), text, trial),
         "rounds" => make_rounds(rt, text, trial),
         "sets" => make_sets(rt.alloc(), text, trial),
@@ -95,7 +85,7 @@ fn make<R: Runtime + AllocGlobal + Threads + Wait + Sync>(
     }
 }
 
-/// Makes such a trial, and prints what it has to show, as far as it goes.
+/// Makes a trial, and prints what there is to show, as far as it goes.
 fn show<R: Runtime + AllocGlobal + Threads + Wait + Sync>(
     rt: &R,
     kind: &str,
@@ -110,42 +100,20 @@ fn show<R: Runtime + AllocGlobal + Threads + Wait + Sync>(
     }
 }
 
-/// Makes a trial of a kind. Gives the set of the last script.
-fn try_kind<'a, R: Runtime + AllocGlobal + Threads + Wait + Sync>(
+/// Makes the trial of an entry: a line with its name, one with its kind, and the trial.
+fn try_entry<R: Runtime + AllocGlobal + Threads + Wait + Sync>(
     rt: &R,
-    kind: &str,
-    trial: &'a str,
-    before: &'a str,
-) -> io::Result<&'a str> {
-    match kind {
-        "text" => {
-            check_text(rt, trial)?;
-            Ok(before)
-        }
-        "script" => play_script(rt, trial, before),
-        _ => {
-            show(rt, kind, trial)?;
-            Ok(before)
-        }
-    }
-}
-
-/// Makes the trial of an entry: a line with its name, one with its kind, and the trial. Gives the set of the last script.
-fn try_entry<'a, R: Runtime + AllocGlobal + Threads + Wait + Sync>(
-    rt: &R,
-    entry: &'a str,
-    before: &'a str,
-) -> io::Result<&'a str> {
+    entry: &str,
+) -> io::Result<()> {
     let Some((name, rest)) = entry.split_once('\n') else {
-        return Ok(before);
+        return Ok(());
     };
     let Some((kind, trial)) = rest.split_once('\n') else {
         return Err(io::Error::from(ErrorKind::InvalidData));
     };
     println!(rt; "{name}")?;
-    let set = try_kind(rt, kind, trial, before)?;
-    println!(rt; "")?;
-    Ok(set)
+    show(rt, kind, trial)?;
+    println!(rt; "")
 }
 
 fn main(rt: HostRuntime) -> io::Result<()> {
@@ -154,9 +122,8 @@ fn main(rt: HostRuntime) -> io::Result<()> {
     let Ok(table) = str::from_utf8(&bytes) else {
         return Err(io::Error::from(ErrorKind::InvalidData));
     };
-    let mut set = "";
     for entry in table.split("\n== ") {
-        set = try_entry(&rt, entry, set)?;
+        try_entry(&rt, entry)?;
     }
     Ok(())
 }
