@@ -163,8 +163,7 @@ def tied():
     """The table of lives, with the lines that are to be shown for each."""
     yield TIED.read_text().split("\n== ")[0]
     for name, text, words, _ in entries():
-        again = ["octet by octet: the same", "by its reports: the same", "up to a third write: the same"]
-        yield "\n".join([f"\n== {name}", text, "--", *two(*words), *again, ""])
+        yield "\n".join([f"\n== {name}", text, "--", *two(*words), ""])
 
 
 def main(words):
