@@ -1,7 +1,7 @@
 """What the documents name and the repository lacks: files, definitions, functions and clauses; and what they leave out. `tools/ready` asks it.
 
 - docs/definitions.md: each file, definition and function of its tables is there, and each file of specs of each crate has its place.
-- docs/architecture.md: so for 'House words' and 'Where is ..', and each crate has its row.
+- docs/architecture.md: each crate has its row in the table of the rooms, and each row its crate.
 - docs/claims.md: each contract that a claim cites, as (`function`: clause; `Type::function`), stands in a crate of its heading.
 - README.md and docs/*.md: each path that they write is there."""
 import functools
@@ -85,24 +85,13 @@ def definitions(look, text):
 
 
 def architecture(look, text):
-    for cells in rows(text):
-        if len(cells) == 3 and "/specs/" in cells[1]:
-            for crate, module, names in re.findall(r"`(\w+)/specs/(\w+)`: ([\w, ]+)", cells[1]):
-                for name in look.spec([crate], module, re.findall(r"\w+", names), "architecture"):
-                    look.say("architecture", f"no {name} in {crate}/specs/{module}")
-            crate = None
-            for part in re.findall(r"`([^`]+\.rt[^`]*)`", cells[2]):
-                crate = part.split("/")[0] if "/" in part else crate
-                look.code([crate], part, "architecture")
-        elif len(cells) == 4 and "/" in cells[3]:
-            for crate, module in re.findall(r"(\w+)/specs/(\w+)", cells[3]):
-                look.spec([crate], module, [], "architecture")
-            look.code([], cells[3], "architecture")
-    crates = text.partition("\n## Crates\n")[2].partition("\n## ")[0]
-    listed = {name for cells in rows(crates) for name in cells[0].removesuffix(" (planned)").split(", ")}
-    for folder in sorted(look.crates.iterdir()):
-        if folder.is_dir() and folder.name not in listed:
-            look.say("architecture", f"no row for the crate {folder.name}")
+    """Each crate has its row in the table of the rooms, and each row its crate."""
+    listed = {cells[0] for cells in rows(text.partition("\n## The rooms\n")[2].partition("\n## ")[0])}
+    folders = {folder.name for folder in look.crates.iterdir() if folder.is_dir()}
+    for name in sorted(folders - listed):
+        look.say("architecture", f"no row for the crate {name}")
+    for name in sorted(it for it in listed - folders if re.fullmatch("[a-z0-9_]+", it)):
+        look.say("architecture", f"no crate {name}")
 
 
 def contracts(folder):

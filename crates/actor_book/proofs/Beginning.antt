@@ -6,20 +6,20 @@ use Rattle.turn_code.specs.declared.input.Place.{Place}
 use Rattle.turn_code.specs.declared.draft.Draft.{Draft}
 use Rattle.turn_machine.specs.Turn.{Turn}
 use Rattle.turn_code.specs.declared.numbers.ProcessNumber.{ProcessNumber}
-use Rattle.link_machine.specs.Core.{Core, set_at, change}
-use Rattle.link_machine.specs.Fits.{CoreFits, ActorFits, GivenFits}
-use Rattle.link_machine.specs.Kept.{IsKept}
-use Rattle.link_machine.specs.Laws.{FitsLaw, StateLaw, SetLaw}
-use Rattle.link_machine.specs.Ledger.{Ledger, runs, state_of, ask, turn_with, turn_given, turn_at, turn_out}
-use Rattle.link_machine.specs.Looking.{looks, number_in, begun, given_now}
-use Rattle.link_machine.specs.Step.{Says, step, place_of, begin_reply, begun_now}
-use Rattle.link_machine.specs.declared.actor.Actor.{Actor}
-use Rattle.link_machine.specs.declared.actor.Given.{Given}
-use Rattle.link_machine.specs.declared.actor.Standing.{Standing}
-use Rattle.link_machine.specs.declared.actor.Standing.TheVariants.{At, Stopped}
-use Rattle.link_machine.specs.declared.event.Event.TheVariants.{Begin}
-use Rattle.link_machine.specs.declared.reply.Begun.{Begun}
-use Rattle.link_machine.specs.declared.reply.Reply.TheVariants as reply
+use Rattle.actor_machine.specs.Core.{Core, set_at, change}
+use Rattle.actor_machine.specs.Fits.{CoreFits, ActorFits, GivenFits}
+use Rattle.actor_machine.specs.Kept.{IsKept}
+use Rattle.actor_machine.specs.Laws.{FitsLaw, StateLaw, SetLaw}
+use Rattle.actor_machine.specs.Ledger.{Ledger, runs, state_of, ask, turn_with, turn_given, turn_at, turn_out}
+use Rattle.actor_machine.specs.Looking.{looks, number_in, begun, given_now}
+use Rattle.actor_machine.specs.Step.{Says, step, place_of, begin_reply, begun_now}
+use Rattle.actor_machine.specs.declared.actor.Actor.{Actor}
+use Rattle.actor_machine.specs.declared.actor.Given.{Given}
+use Rattle.actor_machine.specs.declared.actor.Standing.{Standing}
+use Rattle.actor_machine.specs.declared.actor.Standing.TheVariants.{At, Stopped}
+use Rattle.actor_machine.specs.declared.event.Event.TheVariants.{Begin}
+use Rattle.actor_machine.specs.declared.reply.Begun.{Begun}
+use Rattle.actor_machine.specs.declared.reply.Reply.TheVariants as reply
 use Rattle.actor_book.specs.Accepted.{Takes}
 use Rattle.actor_book.specs.Answered.{begun_of, begun_by}
 use Rattle.actor_book.proofs.Ending.{AreOut, out_given}

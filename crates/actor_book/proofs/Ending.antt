@@ -27,25 +27,25 @@ use Rattle.turn_code.specs.declared.draft.DraftProcess.{DraftProcess}
 use Rattle.turn_code.specs.declared.draft.DraftState.{DraftState}
 use Rattle.turn_code.specs.declared.draft.DraftInput.{DraftInput}
 use Rattle.turn_machine.specs.Turn.{Turn, IsRunnable, turn_of, outcome_of}
-use Rattle.link_state.specs.Outcomes.{outcome_with, HasTimer, HaveTimers}
-use Rattle.link_machine.specs.Names.{actors_of}
-use Rattle.link_machine.specs.actor_names_types.name.ActorName.{ActorName}
-use Rattle.link_machine.specs.Core.{Core, is_out, names_in, outs}
-use Rattle.link_machine.specs.Effects.{finished}
-use Rattle.link_machine.specs.Fits.{CoreFits, GivenFits}
-use Rattle.link_machine.specs.Kept.{IsKept}
-use Rattle.link_machine.specs.Laws.{OutLaw, FitsLaw}
+use Rattle.actor_state.specs.Outcomes.{outcome_with, HasTimer, HaveTimers}
+use Rattle.actor_machine.specs.Names.{actors_of}
+use Rattle.actor_machine.specs.declared.name.ActorName.{ActorName}
+use Rattle.actor_machine.specs.Core.{Core, is_out, names_in, outs}
+use Rattle.actor_machine.specs.Effects.{finished}
+use Rattle.actor_machine.specs.Fits.{CoreFits, GivenFits}
+use Rattle.actor_machine.specs.Kept.{IsKept}
+use Rattle.actor_machine.specs.Laws.{OutLaw, FitsLaw}
 use Rattle.actor_book.specs.Accepted.{Takes}
 use Rattle.actor_book.specs.Inside.{IsBook}
 use Rattle.actor_book.proofs.Taking.{after_step}
-use Rattle.link_machine.specs.Ledger.{Ledger, runs, run_of, state_of, turn_with, turn_given, turn_at, turn_out}
-use Rattle.link_machine.specs.Step.{Stepped, Says, step, finish_by, finish_at, result_given, report_of}
-use Rattle.link_machine.specs.declared.actor.Actor.{Actor}
-use Rattle.link_machine.specs.declared.actor.Given.{Given}
-use Rattle.link_machine.specs.declared.actor.Standing.{Standing}
-use Rattle.link_machine.specs.declared.actor.Standing.TheVariants.{At, Stopped}
-use Rattle.link_machine.specs.declared.event.Event.TheVariants.{Finish}
-use Rattle.link_machine.specs.declared.reply.Reply.TheVariants as reply
+use Rattle.actor_machine.specs.Ledger.{Ledger, runs, run_of, state_of, turn_with, turn_given, turn_at, turn_out}
+use Rattle.actor_machine.specs.Step.{Stepped, Says, step, finish_by, finish_at, result_given, report_of}
+use Rattle.actor_machine.specs.declared.actor.Actor.{Actor}
+use Rattle.actor_machine.specs.declared.actor.Given.{Given}
+use Rattle.actor_machine.specs.declared.actor.Standing.{Standing}
+use Rattle.actor_machine.specs.declared.actor.Standing.TheVariants.{At, Stopped}
+use Rattle.actor_machine.specs.declared.event.Event.TheVariants.{Finish}
+use Rattle.actor_machine.specs.declared.reply.Reply.TheVariants as reply
 use Rattle.turn_check.proofs.Whole.{process_small as process_limits}
 
 -- ---- the outcome of a job's run, from its parts

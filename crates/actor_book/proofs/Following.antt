@@ -3,11 +3,11 @@ use Rattle.std.proofs.Common.{◌≡◌, ℕ, List, [], ◌∷◌, ◌++◌, map
 use Rattle.std.proofs.lemmas.List.{map-append}
 use Rattle.turn_code.specs.declared.draft.Draft.{Draft}
 use Rattle.actor_book.specs.Running.{IsUnderWay}
-use Rattle.link_machine.specs.Laws.{SetLaw}
-use Rattle.link_machine.specs.Ledger.{Ledger, runs, ask, ask_by, answers_by, after_by}
-use Rattle.link_machine.specs.Step.{Answer, Says}
-use Rattle.link_machine.specs.declared.event.Event.{Event}
-use Rattle.link_machine.specs.declared.reply.Reply.{Reply}
+use Rattle.actor_machine.specs.Laws.{SetLaw}
+use Rattle.actor_machine.specs.Ledger.{Ledger, runs, ask, ask_by, answers_by, after_by}
+use Rattle.actor_machine.specs.Step.{Answer, Says}
+use Rattle.actor_machine.specs.declared.event.Event.{Event}
+use Rattle.actor_machine.specs.declared.reply.Reply.{Reply}
 
 module _ (d : Draft) (b : Ledger) (same : b.set ≡ d) (e : Event) (es : List Event) where
   -- the book afterwards

@@ -1,8 +1,11 @@
 pub mod Beginning
 pub mod Ending
 pub mod Following
+pub mod Leasts
 pub mod Meant
 pub mod Offering
+pub mod Owned
 pub mod Passing
 pub mod Taking
 pub mod Turning
+pub mod Wholes

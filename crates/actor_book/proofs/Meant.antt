@@ -2,15 +2,15 @@
 use Rattle.std.proofs.Common.{◌≡◌, ℕ, List, [], ◌∷◌, sym, ap, ◌∙◌, subst}
 use Rattle.turn_code.specs.Outcome.{Meaning, Means}
 use Rattle.turn_code.specs.declared.draft.Draft.{Draft}
-use Rattle.link_machine.specs.Kept.{IsKept}
-use Rattle.link_machine.specs.Laws.{KeepsLaw, SetLaw, TextLaw, SameByText}
-use Rattle.link_machine.specs.Ledger.{Ledger, ask, ask_by, state_by, state_of}
-use Rattle.link_machine.specs.Step.{Answer, Says}
-use Rattle.link_machine.specs.declared.event.Event.{Event}
-use Rattle.link_machine.specs.declared.event.Event.TheVariants.{Begin, Finish}
-use Rattle.link_machine.specs.declared.reply.Refusal.{Refusal}
-use Rattle.link_machine.specs.declared.reply.Report.{Report}
-use Rattle.link_machine.specs.declared.reply.Reply.TheVariants as reply
+use Rattle.actor_machine.specs.Kept.{IsKept}
+use Rattle.actor_machine.specs.Laws.{KeepsLaw, SetLaw, TextLaw, SameByText}
+use Rattle.actor_machine.specs.Ledger.{Ledger, ask, ask_by, state_by, state_of}
+use Rattle.actor_machine.specs.Step.{Answer, Says}
+use Rattle.actor_machine.specs.declared.event.Event.{Event}
+use Rattle.actor_machine.specs.declared.event.Event.TheVariants.{Begin, Finish}
+use Rattle.actor_machine.specs.declared.reply.Refusal.{Refusal}
+use Rattle.actor_machine.specs.declared.reply.Report.{Report}
+use Rattle.actor_machine.specs.declared.reply.Reply.TheVariants as reply
 use Rattle.actor_book.specs.Meant.{ComesTo, FinishesByText, TurnsByText, RefusesByText}
 use Rattle.actor_book.specs.Whole.{begun_book, turned}
 

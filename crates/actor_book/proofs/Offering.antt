@@ -11,16 +11,16 @@ use Rattle.turn_code.specs.declared.value.Value.{Value}
 use Rattle.turn_code.specs.declared.draft.Draft.{Draft}
 use Rattle.turn_code.specs.declared.draft.DraftSignal.{DraftSignal}
 use Rattle.turn_code.specs.declared.numbers.SignalNumber.{SignalNumber}
-use Rattle.link_machine.specs.Core.{Core}
-use Rattle.link_machine.specs.Effects.{is_full}
-use Rattle.link_machine.specs.Kept.{IsKept}
-use Rattle.link_machine.specs.Ledger.{Ledger, state_of}
-use Rattle.link_machine.specs.Refusals.{refuses, first_of, is_offered, offers, same_sort, same_sorts, has_stopped, offer_rows}
-use Rattle.link_machine.specs.declared.actor.Actor.{Actor}
-use Rattle.link_machine.specs.declared.event.Event.TheVariants.{Offer}
-use Rattle.link_machine.specs.declared.event.Offer.{Offer as Offered}
-use Rattle.link_machine.specs.declared.reply.Refusal.{Refusal}
-use Rattle.link_machine.specs.declared.reply.Refusal.TheVariants as refusal
+use Rattle.actor_machine.specs.Core.{Core}
+use Rattle.actor_machine.specs.Effects.{is_full}
+use Rattle.actor_machine.specs.Kept.{IsKept}
+use Rattle.actor_machine.specs.Ledger.{Ledger, state_of}
+use Rattle.actor_machine.specs.Refusals.{refuses, first_of, is_offered, offers, same_sort, same_sorts, has_stopped, offer_rows}
+use Rattle.actor_machine.specs.declared.actor.Actor.{Actor}
+use Rattle.actor_machine.specs.declared.event.Event.TheVariants.{Offer}
+use Rattle.actor_machine.specs.declared.event.Offer.{Offer as Offered}
+use Rattle.actor_machine.specs.declared.reply.Refusal.{Refusal}
+use Rattle.actor_machine.specs.declared.reply.Refusal.TheVariants as refusal
 use Rattle.actor_book.specs.Accepted.{Takes}
 use Rattle.actor_book.proofs.Passing.{is_there}
 use Rattle.actor_book.proofs.Taking.{link_takes}

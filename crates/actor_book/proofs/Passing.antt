@@ -7,19 +7,19 @@ use Rattle.turn_code.specs.declared.draft.Trigger.{Trigger}
 use Rattle.turn_code.specs.declared.input.Place.TheVariants.{Start, State}
 use Rattle.input_port.specs.Queue.{first_unsaved}
 use Rattle.input_port.specs.declared.queue.Item.{Item}
-use Rattle.link_state.specs.Saving.{skipped_by}
-use Rattle.link_machine.specs.Core.{Core, is_out}
-use Rattle.link_machine.specs.Looking.{looks, is_saved, trigger_of, found_at, found_item, item_at}
-use Rattle.link_machine.specs.Refusals.{refuses, of_actor, first_of, begin_rows, skip_rows, advance_rows, is_nothing, is_ignored, is_counted_out}
-use Rattle.link_machine.specs.Step.{skip_reply, skip_reply_of, take_reply}
-use Rattle.link_machine.specs.declared.actor.Actor.{Actor}
-use Rattle.link_machine.specs.declared.actor.Standing.{Standing}
-use Rattle.link_machine.specs.declared.actor.Standing.TheVariants.{At, Stopped as HasStopped}
-use Rattle.link_machine.specs.declared.event.Event.TheVariants.{Begin, Skip, Advance, TakeEnv}
-use Rattle.link_machine.specs.declared.reply.Emitted.{Emitted}
-use Rattle.link_machine.specs.declared.reply.Refusal.{Refusal}
-use Rattle.link_machine.specs.declared.reply.Refusal.TheVariants as refusal
-use Rattle.link_machine.specs.declared.reply.Reply.TheVariants as reply
+use Rattle.actor_state.specs.Saving.{skipped_by}
+use Rattle.actor_machine.specs.Core.{Core, is_out}
+use Rattle.actor_machine.specs.Looking.{looks, is_saved, trigger_of, found_at, found_item, item_at}
+use Rattle.actor_machine.specs.Refusals.{refuses, of_actor, first_of, begin_rows, skip_rows, advance_rows, is_nothing, is_ignored, is_counted_out}
+use Rattle.actor_machine.specs.Step.{skip_reply, skip_reply_of, take_reply}
+use Rattle.actor_machine.specs.declared.actor.Actor.{Actor}
+use Rattle.actor_machine.specs.declared.actor.Standing.{Standing}
+use Rattle.actor_machine.specs.declared.actor.Standing.TheVariants.{At, Stopped as HasStopped}
+use Rattle.actor_machine.specs.declared.event.Event.TheVariants.{Begin, Skip, Advance, TakeEnv}
+use Rattle.actor_machine.specs.declared.reply.Emitted.{Emitted}
+use Rattle.actor_machine.specs.declared.reply.Refusal.{Refusal}
+use Rattle.actor_machine.specs.declared.reply.Refusal.TheVariants as refusal
+use Rattle.actor_machine.specs.declared.reply.Reply.TheVariants as reply
 use Rattle.std.proofs.lemmas.Bool.{ltb-false as at_most, not-false as not_true}
 use Rattle.plain_laws.proofs.Options.{row_passes}
 

@@ -3,21 +3,21 @@ use Rattle.std.proofs.Common.{◌≡◌, ℕ, ◌+◌, ◌≤◌, ◌<◌, List,
 use Rattle.std.specs.Prelude.{◌-◌, ◌^◌, Bool, false, nat_le, slice_get, if◌then◌else◌}
 use Rattle.turn_code.specs.Valid.{IsValid}
 use Rattle.turn_code.specs.declared.draft.Draft.{Draft}
-use Rattle.link_machine.specs.Core.{Core, outs}
-use Rattle.link_machine.specs.Step.{Says, Stepped, step}
-use Rattle.link_machine.specs.Refusals.{refuses}
-use Rattle.link_machine.specs.Ledger.{Ledger, runs, state_of, asked, ask, ask_by, room, next, rebased}
-use Rattle.link_machine.specs.Kept.{IsKept, opened, opened_book}
-use Rattle.link_machine.specs.Laws.{KeepsLaw, StateLaw, FitsLaw}
-use Rattle.link_machine.specs.Fits.{GivenFits}
-use Rattle.link_machine.specs.declared.actor.Actor.{Actor}
-use Rattle.link_machine.specs.declared.event.Event.{Event}
-use Rattle.link_machine.specs.declared.reply.Refusal.{Refusal}
-use Rattle.link_machine.specs.declared.reply.Reply.TheVariants as reply
+use Rattle.actor_machine.specs.Core.{Core, outs}
+use Rattle.actor_machine.specs.Step.{Says, Stepped, step}
+use Rattle.actor_machine.specs.Refusals.{refuses}
+use Rattle.actor_machine.specs.Ledger.{Ledger, runs, state_of, asked, ask, ask_by, room, next, rebased}
+use Rattle.actor_machine.specs.Kept.{IsKept, opened, opened_book}
+use Rattle.actor_machine.specs.Laws.{KeepsLaw, StateLaw, FitsLaw}
+use Rattle.actor_machine.specs.Fits.{GivenFits}
+use Rattle.actor_machine.specs.declared.actor.Actor.{Actor}
+use Rattle.actor_machine.specs.declared.event.Event.{Event}
+use Rattle.actor_machine.specs.declared.reply.Refusal.{Refusal}
+use Rattle.actor_machine.specs.declared.reply.Reply.TheVariants as reply
 use Rattle.actor_book.specs.Accepted.{refusal_of, Takes}
 use Rattle.actor_book.specs.Inside.{IsBook}
-use Rattle.link_machine.proofs.Ends.{asked_answer as taken_answer, passes_otherwise as none_first}
-use Rattle.link_machine.proofs.Replays.{asked_book as taken_book, with_event as noted}
+use Rattle.actor_machine.proofs.Ends.{asked_answer as taken_answer, passes_otherwise as none_first}
+use Rattle.actor_machine.proofs.Replays.{asked_book as taken_book, with_event as noted}
 use Rattle.std.proofs.lemmas.Bool.{le-leb as at_least}
 
 refused_book : (b : Ledger) (e : Event) (s : Stepped) (r : Refusal) (o : Option Refusal) → o ≡ Some r → (asked b e s o).book ≡ b

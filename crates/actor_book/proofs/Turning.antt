@@ -12,12 +12,12 @@ use Rattle.turn_code.specs.declared.machine.Machine.{Machine}
 use Rattle.turn_code.specs.declared.draft.Draft.{Draft}
 use Rattle.turn_machine.specs.Ends.{EndsSo}
 use Rattle.turn_machine.specs.Turn.{Turn, turn_of}
-use Rattle.link_machine.specs.Core.{Core}
-use Rattle.link_machine.specs.Laws.{StateLaw, SetLaw}
-use Rattle.link_machine.specs.Ledger.{Ledger, state_of, turn_with, turn_at, turn_out}
-use Rattle.link_machine.specs.declared.actor.Actor.{Actor}
-use Rattle.link_machine.specs.declared.actor.Given.{Given}
-use Rattle.link_machine.specs.declared.event.Event.TheVariants.{Begin}
+use Rattle.actor_machine.specs.Core.{Core}
+use Rattle.actor_machine.specs.Laws.{StateLaw, SetLaw}
+use Rattle.actor_machine.specs.Ledger.{Ledger, state_of, turn_with, turn_at, turn_out}
+use Rattle.actor_machine.specs.declared.actor.Actor.{Actor}
+use Rattle.actor_machine.specs.declared.actor.Given.{Given}
+use Rattle.actor_machine.specs.declared.event.Event.TheVariants.{Begin}
 use Rattle.actor_book.specs.Accepted.{Takes}
 use Rattle.actor_book.specs.Inside.{IsBook}
 use Rattle.actor_book.specs.Whole.{begun_book, HasTurned, EndsBy, IsEnding, TookWithin}

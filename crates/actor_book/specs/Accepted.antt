@@ -1,8 +1,8 @@
 -- Events that a book refuses or takes.
 use Rattle.std.specs.Prelude.{◌≡◌, Option, None}
-use Rattle.link_machine.specs.Ledger.{Ledger, runs, refusal_by}
-use Rattle.link_machine.specs.declared.event.Event.{Event}
-use Rattle.link_machine.specs.declared.reply.Refusal.{Refusal}
+use Rattle.actor_machine.specs.Ledger.{Ledger, runs, refusal_by}
+use Rattle.actor_machine.specs.declared.event.Event.{Event}
+use Rattle.actor_machine.specs.declared.reply.Refusal.{Refusal}
 
 -- why a book refuses an event
 abbrev pub refusal_of : Ledger → Event → Option Refusal

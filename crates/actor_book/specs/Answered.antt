@@ -1,11 +1,11 @@
 -- What the calls of a book answer, as the machine says it.
 use Rattle.std.specs.Prelude.{Result, Ok, Err}
 use Rattle.turn_machine.specs.Turn.{Turn}
-use Rattle.link_machine.specs.Step.{Answer, Says}
-use Rattle.link_machine.specs.declared.reply.Begun.{Begun as BeginsTurn}
-use Rattle.link_machine.specs.declared.reply.Refusal.{Refusal}
-use Rattle.link_machine.specs.declared.reply.Reply.{Reply}
-use Rattle.link_machine.specs.declared.reply.Reply.TheVariants.{Begun, Refused}
+use Rattle.actor_machine.specs.Step.{Answer, Says}
+use Rattle.actor_machine.specs.declared.reply.Begun.{Begun as BeginsTurn}
+use Rattle.actor_machine.specs.declared.reply.Refusal.{Refusal}
+use Rattle.actor_machine.specs.declared.reply.Reply.{Reply}
+use Rattle.actor_machine.specs.declared.reply.Reply.TheVariants.{Begun, Refused}
 
 -- what a call that may be refused answers, by what its answer means otherwise
 abbrev pub answer_by : {A : Type 0} → (A → Reply) → Result A Refusal → Answer

@@ -5,17 +5,18 @@ use Rattle.turn_code.specs.declared.effect.Effect.{Effect}
 use Rattle.turn_code.specs.declared.machine.End.{End}
 use Rattle.turn_code.specs.declared.machine.Machine.{Machine}
 use Rattle.turn_machine.specs.Turn.{Turn, outcome_of}
-use Rattle.link_state.specs.Outcomes.{outcome_with}
-use Rattle.link_machine.specs.Ledger.{Ledger, Asked, ask, turn_out}
-use Rattle.link_machine.specs.Step.{Says}
-use Rattle.link_machine.specs.declared.event.Event.TheVariants.{Begin, Finish}
+use Rattle.actor_state.specs.Outcomes.{outcome_with}
+use Rattle.actor_machine.specs.Ledger.{Ledger, Asked, ask, turn_out}
+use Rattle.actor_machine.specs.Step.{Says}
+use Rattle.actor_machine.specs.declared.event.Event.TheVariants.{Begin, Finish}
 use Rattle.actor_book.specs.Answered.{begun_by}
 
 -- the book as actor n has begun a turn
 abbrev pub begun_book : Ledger → ℕ → Ledger
 begun_book b n = (ask b (Begin n)).book
 
--- actor n begins a turn, which then ends by what the set's own code does: the book after both events, and what is answered to the end
+-- actor n begins a turn, which then ends by what the set's own code does: the book after both
+-- events, and what is answered to the end
 abbrev pub turned : Ledger → ℕ → Asked
 turned b n = ask (begun_book b n) (Finish n)
 
@@ -26,8 +27,10 @@ pub record HasTurned (b : Ledger) (n count : ℕ) : Type 0 where
   pub began : (ask b (Begin n)).answer ≡ Says (begun_by turn)
   pub within : count ≤ turn.certificate.budget
 
--- there is a turn, whose own code runs on its own input to this end, with these variables and effects, within its certificate
-pub record EndsBy (o : Option Turn) (e : End) (vs : List (Option Value)) (es : List Effect) (count : ℕ) : Type 0 where
+-- there is a turn, whose own code runs on its own input to this end, with these variables and
+-- effects, within its certificate
+pub record EndsBy (o : Option Turn) (e : End) (vs : List (Option Value)) (es : List Effect)
+    (count : ℕ) : Type 0 where
   pub turn : Turn
   pub is : o ≡ Some turn
   pub ran : outcome_of turn ≡ Some (outcome_with e vs es count)

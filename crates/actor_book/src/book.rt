@@ -1,17 +1,17 @@
 //! The book.
 
 ghost use Rattle.std.specs.Prelude.{◌≡◌, ◌≤◌, ◌<◌, ◌+◌, ◌^◌, [], length, IfOk, OnOk, OnErr, Some, None, Option};
-ghost use Rattle.link_machine.specs.Core.{outs};
-ghost use Rattle.link_machine.specs.Ledger.{rebased, next, room, state_of};
-ghost use Rattle.link_machine.specs.Kept.{IsKept, opened_book};
-ghost use Rattle.link_machine.specs.Refusals.{with_room, needs};
-ghost use Rattle.link_machine.specs.declared.event.Event.{Event as PlainEvent};
-ghost use Rattle.profile_limits.specs.Limits.{PAST_PLACES};
+ghost use Rattle.actor_machine.specs.Core.{outs};
+ghost use Rattle.actor_machine.specs.Ledger.{rebased, next, room, state_of};
+ghost use Rattle.actor_machine.specs.Kept.{IsKept, opened_book};
+ghost use Rattle.actor_machine.specs.Refusals.{with_room, needs};
+ghost use Rattle.actor_machine.specs.declared.event.Event.{Event as PlainEvent};
+ghost use Rattle.plain_limits.specs.Limits.{PAST_PLACES};
 
 use crate::limits::Limits;
-use link_machine::laws::keeps_law;
-use link_machine::{Event, Refusal};
-use link_state::{Link, with_room};
+use actor_machine::laws::keeps_law;
+use actor_machine::{Event, Refusal};
+use actor_state::{LinkActors, with_room};
 use std::alloc::{AllocError, Global};
 use std::marker::Model;
 use turn_check::Verified;
@@ -24,11 +24,11 @@ use turn_machine::new_machine;
 #[derive(Drop)]
 pub struct Book {
     pub(crate) set: Verified,
-    pub(crate) base: Link,
+    pub(crate) base: LinkActors,
     pub(crate) first: u64,
     pub(crate) journal: Vec<Event>,
     pub(crate) limit: usize,
-    pub(crate) link: Link,
+    pub(crate) link: LinkActors,
     /// What turns that begin and end at once run on.
     pub(crate) machine: Machine,
 }
@@ -37,7 +37,7 @@ impl Model for Book {
     ghost use Rattle.std.specs.Prelude.{vec_capacity};
     ghost use Rattle.std.specs.Coded.{codes};
     ghost use Rattle.tick_wheel.specs.Timers.{timers_code};
-    ghost use Rattle.link_machine.specs.Ledger.{Ledger};
+    ghost use Rattle.actor_machine.specs.Ledger.{Ledger};
     ghost use Rattle.actor_book.specs.Inside.{IsBook};
 
     ghost Value = { Ledger };
@@ -58,8 +58,8 @@ impl Book {
         keeps_law();
         let _valid = set.draft();
         let journal = Vec::with_capacity(alloc, limits.journal())?;
-        let base = Link::open(alloc, set, limits.port(), limits.env())?;
-        let link = Link::open(alloc, set, limits.port(), limits.env())?;
+        let base = LinkActors::open(alloc, set, limits.port(), limits.env())?;
+        let link = LinkActors::open(alloc, set, limits.port(), limits.env())?;
         let kept = set.copy()?;
         Ok(Book {
             set: kept,
@@ -120,7 +120,7 @@ impl Book {
     /// What holds of every book, wherever it comes from, as from a lock: its set is valid, all fits in each state from its base on (signals
     /// came along routes that bring them, timers are their receivers' own, a turn that is out has an input that fits it), its numbers stay
     /// within their bounds, each turn that is out has a number of its own, and no timer that has a deadline has a signal waiting. That is what
-    /// the laws of [`link_machine`] ask. It does nothing and costs nothing.
+    /// the laws of [`actor_machine`] ask. It does nothing and costs nothing.
     pub fn keeps(&self)
         ensures { IsKept self.now }
     {

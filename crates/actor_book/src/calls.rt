@@ -1,16 +1,16 @@
 //! What the environment and the clock do to a link.
 
 ghost use Rattle.std.specs.Prelude.{◌≡◌, ◌≤◌, ◌<◌, ◌+◌, ◌^◌, [], length, IfOk, IfErr, OnOk, OnErr, Some, None, Option};
-ghost use Rattle.link_machine.specs.Ledger.{ask, next};
-ghost use Rattle.link_machine.specs.declared.event.Event.TheVariants.{Offer as Offered, Skip, Advance, TakeEnv};
-ghost use Rattle.link_machine.specs.declared.reply.Reply.TheVariants as reply;
+ghost use Rattle.actor_machine.specs.Ledger.{ask, next};
+ghost use Rattle.actor_machine.specs.declared.event.Event.TheVariants.{Offer as Offered, Skip, Advance, TakeEnv};
+ghost use Rattle.actor_machine.specs.declared.reply.Reply.TheVariants as reply;
 ghost use Rattle.actor_book.specs.Accepted.{Takes, refusal_of};
 ghost use Rattle.actor_book.specs.Answered.{answer_by};
-ghost use Rattle.profile_limits.specs.Limits.{MOST_PARAMETERS};
+ghost use Rattle.plain_limits.specs.Limits.{MOST_PARAMETERS};
 
 use crate::book::Book;
+use actor_machine::{Emitted, Event, Offer, Refusal};
 use arrayvec::ArrayVec;
-use link_machine::{Emitted, Event, Offer, Refusal};
 use turn_code::{SignalNumber, Trigger, Value};
 
 /// Ticks that passed.

@@ -1,15 +1,15 @@
 //! Lists of events.
 
 ghost use Rattle.std.specs.Prelude.{◌≡◌, ◌≤◌, ◌<◌, ◌+◌, ◌++◌, ◌∷◌, [], length, vec_capacity, map, IfOk, OnOk, OnErr, Some, None, Option};
-ghost use Rattle.link_machine.specs.Laws.{AllWithin};
+ghost use Rattle.actor_machine.specs.Laws.{AllWithin};
 ghost use Rattle.turn_code.specs.Outcome.{Meaning, Means};
-ghost use Rattle.link_machine.specs.Step.{Says};
-ghost use Rattle.link_machine.specs.Ledger.{runs, answers_by, after_by, state_by, state_of};
+ghost use Rattle.actor_machine.specs.Step.{Says};
+ghost use Rattle.actor_machine.specs.Ledger.{runs, answers_by, after_by, state_by, state_of};
 
 use crate::book::Book;
 use crate::replies::reply_to;
-use link_machine::laws::{set_law, text_law, within_law};
-use link_machine::{Event, Reply};
+use actor_machine::laws::{set_law, text_law, within_law};
+use actor_machine::{Event, Reply};
 use std::alloc::{AllocError, Global};
 
 /// Lets events happen to a link, one after another: an accepted one goes into the journal, a refused one changes nothing. The answers

@@ -3,15 +3,14 @@
 ghost use Rattle.std.specs.Prelude.{◌≡◌, ◌↔◌, ◌≤◌, IsTrue, Option, Some, None, length, slice_get};
 ghost use Rattle.turn_code.specs.Fits.{Fits};
 ghost use Rattle.turn_code.specs.Transitions.{transition_at};
-ghost use Rattle.link_machine.specs.Fits.{GivenFits};
-ghost use Rattle.link_machine.specs.Ledger.{turn_at, turn_given, turn_with};
-ghost use Rattle.link_machine.specs.declared.actor.Actor.{Actor as PlainActor};
+ghost use Rattle.actor_machine.specs.Fits.{GivenFits};
+ghost use Rattle.actor_machine.specs.Ledger.{turn_at, turn_given, turn_with};
+ghost use Rattle.actor_machine.specs.declared.actor.Actor.{Actor as PlainActor};
 
-use link_machine::{Actor, Given, Standing};
-use same_job::{is_turn, runs_piece};
+use actor_machine::{Actor, Given, Standing};
 use turn_check::Verified;
 use turn_code::{Place, ProcessNumber};
-use turn_machine::{Job, Received};
+use turn_machine::{Job, Received, is_turn, runs_piece};
 
 /// The job of a turn.
 fn job_with(set: &Verified, number: u16, process: ProcessNumber, place: Place, given: &Given) -> Job

@@ -7,20 +7,24 @@ mod book;
 mod calls;
 mod event_runs;
 mod jobs;
+mod laws;
 mod limits;
 mod readers;
 mod refused;
 mod replies;
 mod steps;
+mod turn;
 mod turns;
 mod whole;
 
-pub use book::Book;
-pub use calls::{Passed, Taken};
-pub use event_runs::run_events;
-pub use limits::Limits;
-pub use link_machine::{
+pub use actor_machine::{
     Actor, ActorName, Begun, Cause, Emitted, Event, Lost, Offer, Refusal, Reply, Report, Standing,
     number_of,
 };
-pub use link_state::Link;
+pub use actor_state::LinkActors;
+pub use book::Book;
+pub use calls::{Passed, Taken};
+pub use event_runs::run_events;
+pub use laws::{failed_tries_change_nothing, turns_are_of_the_least};
+pub use limits::Limits;
+pub use turn::{REST, Turn, one_turn, rest};

@@ -2,15 +2,15 @@
 
 ghost use Rattle.std.specs.Prelude.{◌≡◌, ◌≤◌, ◌+◌, length, count_by, Option, Some, None, option_map, option_and_then, slice_get};
 ghost use Rattle.std.specs.Option.{option_copied};
-ghost use Rattle.link_machine.specs.Core.{names_in};
-ghost use Rattle.link_machine.specs.Ledger.{state_of};
-ghost use Rattle.link_machine.specs.Kept.{is_finish};
-ghost use Rattle.link_machine.specs.declared.actor.Actor.{Actor as PlainActor};
+ghost use Rattle.actor_machine.specs.Core.{names_in};
+ghost use Rattle.actor_machine.specs.Ledger.{state_of};
+ghost use Rattle.actor_machine.specs.Kept.{is_finish};
+ghost use Rattle.actor_machine.specs.declared.actor.Actor.{Actor as PlainActor};
 ghost use Rattle.actor_book.specs.Shown.{variable_of};
 
 use crate::book::Book;
-use link_machine::{Actor, ActorName, Emitted, Event, Standing};
-use link_state::Link;
+use actor_machine::{Actor, ActorName, Emitted, Event, Standing};
+use actor_state::LinkActors;
 use turn_check::Verified;
 use turn_code::{Value, VariableNumber};
 
@@ -33,14 +33,14 @@ impl Book {
     }
 
     /// The present state, which is the replay of the journal on the base.
-    pub fn state(&self) -> &Link
+    pub fn state(&self) -> &LinkActors
         ensures { result.now ≡ state_of self.now }
     {
         &self.link
     }
 
     /// The state where the journal begins.
-    pub fn base(&self) -> &Link
+    pub fn base(&self) -> &LinkActors
         ensures { result.now ≡ self.now.base }
     {
         &self.base

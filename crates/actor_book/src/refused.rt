@@ -1,15 +1,15 @@
 //! Why a book refuses an event.
 
 ghost use Rattle.std.specs.Prelude.{◌≡◌, ◌<◌, None, Option, length, slice_get};
-ghost use Rattle.link_machine.specs.Ledger.{runs, state_of};
-ghost use Rattle.link_machine.specs.Refusals.{refuses, needs};
-ghost use Rattle.link_machine.specs.declared.event.Event.{Event as PlainEvent};
-ghost use Rattle.link_machine.specs.declared.event.Event.TheVariants.{Offer as Offered, Begin, Skip, Advance, TakeEnv};
+ghost use Rattle.actor_machine.specs.Ledger.{runs, state_of};
+ghost use Rattle.actor_machine.specs.Refusals.{refuses, needs};
+ghost use Rattle.actor_machine.specs.declared.event.Event.{Event as PlainEvent};
+ghost use Rattle.actor_machine.specs.declared.event.Event.TheVariants.{Offer as Offered, Begin, Skip, Advance, TakeEnv};
 ghost use Rattle.actor_book.specs.Accepted.{refusal_of};
 
 use crate::book::Book;
-use link_machine::Refusal;
-use link_state::{Link, with_room};
+use actor_machine::Refusal;
+use actor_state::{LinkActors, with_room};
 use turn_code::{SignalNumber, Value};
 
 impl Book {

@@ -1,14 +1,14 @@
 //! The answer to one event.
 
 ghost use Rattle.std.specs.Prelude.{◌≡◌, Some, None, Option};
-ghost use Rattle.link_machine.specs.Ledger.{ask};
-ghost use Rattle.link_machine.specs.Step.{Says};
-ghost use Rattle.link_machine.specs.declared.event.Event.TheVariants.{Offer as Offered, Begin, Skip, Finish, Advance, TakeEnv};
+ghost use Rattle.actor_machine.specs.Ledger.{ask};
+ghost use Rattle.actor_machine.specs.Step.{Says};
+ghost use Rattle.actor_machine.specs.declared.event.Event.TheVariants.{Offer as Offered, Begin, Skip, Finish, Advance, TakeEnv};
 ghost use Rattle.actor_book.specs.Answered.{begun_of};
 
 use crate::book::Book;
-use link_machine::laws::out_law;
-use link_machine::{Begun, Event, Offer, Refusal, Reply};
+use actor_machine::laws::out_law;
+use actor_machine::{Begun, Event, Offer, Refusal, Reply};
 use turn_machine::{Job, run};
 
 /// The answer to a signal of the environment.

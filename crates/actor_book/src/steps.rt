@@ -3,18 +3,18 @@
 ghost use Rattle.std.specs.Prelude.{◌≡◌, ◌≤◌, ◌<◌, ◌+◌, ◌++◌, ◌∷◌, [], None, Some, Option, length, option_map, slice_get, vec_capacity};
 ghost use Rattle.turn_code.specs.Outcome.{Outcome};
 ghost use Rattle.turn_machine.specs.Turn.{IsRunnable, outcome_of};
-ghost use Rattle.link_machine.specs.Ledger.{ask, next, turn_out};
-ghost use Rattle.link_machine.specs.Core.{names_in};
-ghost use Rattle.link_machine.specs.Step.{Says};
-ghost use Rattle.link_machine.specs.declared.event.Event.TheVariants.{Offer as Offered, Begin, Skip, Finish, Advance, TakeEnv};
-ghost use Rattle.link_machine.specs.declared.reply.Reply.TheVariants as reply;
+ghost use Rattle.actor_machine.specs.Ledger.{ask, next, turn_out};
+ghost use Rattle.actor_machine.specs.Core.{names_in};
+ghost use Rattle.actor_machine.specs.Step.{Says};
+ghost use Rattle.actor_machine.specs.declared.event.Event.TheVariants.{Offer as Offered, Begin, Skip, Finish, Advance, TakeEnv};
+ghost use Rattle.actor_machine.specs.declared.reply.Reply.TheVariants as reply;
 ghost use Rattle.actor_book.specs.Accepted.{Takes};
-ghost use Rattle.profile_limits.specs.Limits.{MOST_ACTORS, MOST_EFFECTS, MOST_VARIABLES};
+ghost use Rattle.plain_limits.specs.Limits.{MOST_ACTORS, MOST_EFFECTS, MOST_VARIABLES};
 
 use crate::book::Book;
-use link_machine::laws::{fits_law, keeps_law, out_law, state_law};
-use link_machine::{ActorName, Emitted, Event, Offer, Report};
-use link_state::Link;
+use actor_machine::laws::{fits_law, keeps_law, out_law, state_law};
+use actor_machine::{ActorName, Emitted, Event, Offer, Report};
+use actor_state::LinkActors;
 use turn_code::laws::{effects_law, run_law};
 use turn_code::{SignalNumber, Trigger, Value};
 use turn_machine::{Done, Job};
@@ -29,7 +29,7 @@ pub(crate) fn note(journal: &mut Vec<Event>, event: Event)
 }
 
 /// The number of an actor that is there, of which a link has 128 at most.
-pub(crate) fn number_in(link: &Link, actor: u16) -> u8
+pub(crate) fn number_in(link: &LinkActors, actor: u16) -> u8
     requires { actor < length link.now.actors }
     ensures value { result ≡ actor }
     ensures few { result < MOST_ACTORS }
@@ -39,7 +39,7 @@ pub(crate) fn number_in(link: &Link, actor: u16) -> u8
 }
 
 /// What an actor that is there is called.
-pub(crate) fn name_in(link: &Link, actor: u16) -> ActorName
+pub(crate) fn name_in(link: &LinkActors, actor: u16) -> ActorName
     requires { actor < length link.now.actors }
     ensures { slice_get (names_in link.now.actors) actor ≡ Some result }
 {

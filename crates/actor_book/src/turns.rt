@@ -1,17 +1,17 @@
 //! Turns of a link's actors.
 
 ghost use Rattle.std.specs.Prelude.{◌≡◌, ◌↔◌, ◌≤◌, ◌<◌, ◌+◌, ◌^◌, [], length, IsTrue, IsOk, IfOk, IfErr, OnOk, OnErr, Some, None, Option};
-ghost use Rattle.link_machine.specs.Ledger.{ask, next, turn_out};
-ghost use Rattle.link_machine.specs.Step.{Says};
-ghost use Rattle.link_machine.specs.declared.event.Event.TheVariants.{Begin, Finish};
-ghost use Rattle.link_machine.specs.declared.reply.Reply.TheVariants as reply;
+ghost use Rattle.actor_machine.specs.Ledger.{ask, next, turn_out};
+ghost use Rattle.actor_machine.specs.Step.{Says};
+ghost use Rattle.actor_machine.specs.declared.event.Event.TheVariants.{Begin, Finish};
+ghost use Rattle.actor_machine.specs.declared.reply.Reply.TheVariants as reply;
 ghost use Rattle.actor_book.specs.Answered.{answer_by, begun_by};
 ghost use Rattle.actor_book.specs.Meant.{FinishesByText};
 
 use crate::book::Book;
 use crate::jobs::{is_job_out, job_at};
-use link_machine::laws::{fits_law, keeps_law, set_law, state_law, text_law};
-use link_machine::{Event, Refusal, Report};
+use actor_machine::laws::{fits_law, keeps_law, set_law, state_law, text_law};
+use actor_machine::{Event, Refusal, Report};
 use turn_machine::{Done, Job};
 
 impl Book {
@@ -78,7 +78,7 @@ impl Book {
     }
 
     /// Whether the job that ran is the one that its actor has out.
-    #[tactic(auto, unfolding(link_machine::specs::Ledger::turn_out))]
+    #[tactic(auto, unfolding(actor_machine::specs::Ledger::turn_out))]
     fn has_out(&self, done: &Done) -> bool
         ensures { IsTrue result ↔ (turn_out self.now done.now.actor ≡ Some done.now) }
     {

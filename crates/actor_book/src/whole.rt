@@ -3,20 +3,20 @@
 ghost use Rattle.std.specs.Prelude.{◌≡◌, ℕ, ◌≤◌, ◌+◌, IsSome, IfOk, IfErr, OnOk, OnErr, Option, Some, None, length, slice_get};
 ghost use Rattle.turn_code.specs.Fits.{Fits};
 ghost use Rattle.turn_code.specs.Transitions.{transition_at};
-ghost use Rattle.link_machine.specs.Fits.{GivenFits};
-ghost use Rattle.link_machine.specs.Ledger.{ask, next, turn_at, turn_given, turn_out, turn_with};
-ghost use Rattle.link_machine.specs.Step.{Says};
-ghost use Rattle.link_machine.specs.declared.actor.Actor.{Actor as PlainActor};
-ghost use Rattle.link_machine.specs.declared.event.Event.TheVariants.{Begin, Finish};
-ghost use Rattle.link_machine.specs.declared.reply.Reply.TheVariants as reply;
+ghost use Rattle.actor_machine.specs.Fits.{GivenFits};
+ghost use Rattle.actor_machine.specs.Ledger.{ask, next, turn_at, turn_given, turn_out, turn_with};
+ghost use Rattle.actor_machine.specs.Step.{Says};
+ghost use Rattle.actor_machine.specs.declared.actor.Actor.{Actor as PlainActor};
+ghost use Rattle.actor_machine.specs.declared.event.Event.TheVariants.{Begin, Finish};
+ghost use Rattle.actor_machine.specs.declared.reply.Reply.TheVariants as reply;
 ghost use Rattle.actor_book.specs.Accepted.{Takes};
 ghost use Rattle.actor_book.specs.Meant.{TurnsByText, RefusesByText};
 ghost use Rattle.actor_book.specs.Whole.{IsEnding, HasTurned, TookWithin, turned};
 
 use crate::book::Book;
 use crate::steps::{name_in, note, number_in};
-use link_machine::laws::{fits_law, keeps_law, out_law, set_law, state_law, text_law};
-use link_machine::{Actor, Event, Given, Refusal, Report, Standing};
+use actor_machine::laws::{fits_law, keeps_law, out_law, set_law, state_law, text_law};
+use actor_machine::{Actor, Event, Given, Refusal, Report, Standing};
 use turn_check::Verified;
 use turn_code::laws::effects_law;
 use turn_code::{End, Machine, Place, ProcessNumber};

@@ -1,5 +1,6 @@
 -- What the fields of a deframer say of the line bits so far.
-use Rattle.std.specs.Prelude.{◌≡◌, ℕ, ◌-◌, zero, suc, min, nat_lt, nat_le, Bool, true, false, ◌||◌, Option, unwrap_or, is_some, List, [], ◌∷◌, ◌++◌, length, reverse}
+use Rattle.std.specs.Prelude.{◌≡◌, ℕ, ◌-◌, zero, suc, min, nat_lt, nat_le, Bool, true, false, ◌||◌}
+use Rattle.std.specs.Prelude.{Option, unwrap_or, is_some, List, [], ◌∷◌, ◌++◌, length, reverse}
 use Rattle.su_octets.specs.Bits.{low_bits}
 use Rattle.bit_line.specs.Parts.{Packed}
 use Rattle.bit_line.specs.Counting.{Counts}
@@ -15,7 +16,8 @@ use Rattle.bit_line.specs.declared.events.LineEvent.{LineEvent}
 -- data has these bits, or only the fact that they are more than a unit has
 pub record Gathers (h : List Bool) (data_bits : Data) : Type 0 where
   pub over : data_bits.over ≡ nat_lt MOST_BITS (length h)
-  pub bits : data_bits.over ≡ false → Packed data_bits.octets.items data_bits.part.bits data_bits.part.len h
+  pub bits : data_bits.over ≡ false
+      → Packed data_bits.octets.items data_bits.part.bits data_bits.part.len h
 
 -- somewhere in the history there are six 1s in a row
 unfoldable pub has_six : List Bool → Bool

@@ -1,6 +1,7 @@
--- What a receiver of line bits reports (Q.703, 4.1): signal units, errored ones, and sixteen octets at a
--- time while it counts octets.
-use Rattle.std.specs.Prelude.{◌≡◌, ◌≢◌, ℕ, ◌+◌, ◌%◌, ◌==◌, Bool, if◌then◌else◌, Option, Some, None, List, [], ◌∷◌, ◌++◌, reverse}
+-- What a receiver of line bits reports (Q.703, 4.1): signal units, errored ones, and sixteen octets
+-- at a time while it counts octets.
+use Rattle.std.specs.Prelude.{◌≡◌, ◌≢◌, ℕ, ◌+◌, ◌%◌, ◌==◌, Bool, if◌then◌else◌, Option, Some, None}
+use Rattle.std.specs.Prelude.{List, [], ◌∷◌, ◌++◌, reverse}
 use Rattle.std.specs.List.{All}
 use Rattle.std.specs.Bool.{MatchBool}
 use Rattle.su_octets.specs.Bits.{bits_of, AreOctets}
@@ -15,7 +16,8 @@ use Rattle.bit_line.specs.declared.events.LineEvent.TheVariants as events
 abbrev pub AreUnit : List ℕ → Type 0
 AreUnit octets = (unit : units.Unit) × Frame octets unit
 
--- the content between two flags, as a history, is the stuffing of the bits of a signal unit's octets
+-- the content between two flags, as a history, is the stuffing of the bits of a signal unit's
+-- octets
 pub record IsCorrect (content : List Bool) (octets : List ℕ) : Type 0 where
   pub unit : AreUnit octets
   pub octets_fit : AreOctets octets
@@ -32,8 +34,8 @@ IsJudged content (Correct octets) = IsCorrect content octets
 IsJudged content Wrong = (content ≢ []) × ((octets : List ℕ) → IsCorrect content octets → ⊥)
 IsJudged content Nothing = content ≡ []
 
--- The bit that comes after the history ends a flag, and what lies before that flag is judged so; or it
--- ends none, and there is nothing to judge.
+-- The bit that comes after the history ends a flag, and what lies before that flag is judged so; or
+-- it ends none, and there is nothing to judge.
 abbrev pub Closes : Bool → List Bool → Verdict → Type 0
 Closes b h verdict = MatchBool (ends_flag (b ∷ h)) (IsJudged (inside h) verdict) (verdict ≡ Nothing)
 
@@ -59,16 +61,19 @@ reports Nothing (Some n) = sixteens (n + 1)
 reports Nothing None = []
 
 -- one more bit: from the mode before it and the reports before it to those after it
-pub record Goes (b : Bool) (h : List Bool) (old : Option ℕ) (before : List LineEvent) (new : Option ℕ) (after : List LineEvent) : Type 0 where
+pub record Goes (b : Bool) (h : List Bool) (old : Option ℕ) (before : List LineEvent)
+    (new : Option ℕ) (after : List LineEvent) : Type 0 where
   pub verdict : Verdict
   pub closes : Closes b h verdict
   pub mode : new ≡ mode_after verdict (begins (b ∷ h)) old
   pub all : after ≡ before ++ reports verdict old
 
--- The mode after a history and all that was reported up to it. Counting mode is on before the first bit.
+-- The mode after a history and all that was reported up to it. Counting mode is on before the first
+-- bit.
 unfoldable pub Runs : List Bool → Option ℕ → List LineEvent → Type 0
 Runs [] mode all = (mode ≡ Some 0) × (all ≡ [])
-Runs (b ∷ h) mode all = (old : Option ℕ) × (before : List LineEvent) × Runs h old before × Goes b h old before mode all
+Runs (b ∷ h) mode all =
+    (old : Option ℕ) × (before : List LineEvent) × Runs h old before × Goes b h old before mode all
 
 -- all that is reported for these line bits, given in order of coming
 abbrev pub AreEvents : List Bool → List LineEvent → Type 0

@@ -18,7 +18,8 @@ verdict_of closed.Nothing content = Nothing
 
 -- the report of what a flag closed
 abbrev pub report_of : Closed → Content → List LineEvent
-report_of closed.Correct content = events.Unit (record { items = content.data_bits.octets.items }) ∷ []
+report_of closed.Correct content =
+    events.Unit (record { items = content.data_bits.octets.items }) ∷ []
 report_of closed.Wrong content = events.Errored ∷ []
 report_of closed.Nothing content = []
 

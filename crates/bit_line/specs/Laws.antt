@@ -1,5 +1,6 @@
 -- Laws over the definitions of this crate, each the contract of a public function.
-use Rattle.std.specs.Prelude.{◌≡◌, ◌≢◌, ℕ, ◌+◌, ◌*◌, ◌<◌, ◌≤◌, Bool, true, None, List, [], ◌∷◌, ◌++◌, reverse, length}
+use Rattle.std.specs.Prelude.{◌≡◌, ◌≢◌, ℕ, ◌+◌, ◌*◌, ◌<◌, ◌≤◌, Bool, true, None, List, [], ◌∷◌}
+use Rattle.std.specs.Prelude.{◌++◌, reverse, length}
 use Rattle.su_octets.specs.Bits.{bits_of, AreOctets}
 use Rattle.bit_line.specs.Events.{AreEvents, AreUnit, Runs, UnitsDecode, closings}
 use Rattle.bit_line.specs.Flags.{ends_flag}
@@ -11,20 +12,26 @@ use Rattle.bit_line.specs.declared.events.LineEvent.TheVariants as events
 
 -- line bits have one list of events
 abbrev pub OneEvents : Type 0
-OneEvents = (bits : List Bool) (es fs : List LineEvent) → AreEvents bits es → AreEvents bits fs → es ≡ fs
+OneEvents =
+    (bits : List Bool) (es fs : List LineEvent) → AreEvents bits es → AreEvents bits fs → es ≡ fs
 
 -- line bits for which a deframer stands have events
 abbrev pub StandsHaveEvents : Type 0
-StandsHaveEvents = (bits : List Bool) (deframer : Deframer) → Stands bits deframer → (events : List LineEvent) × AreEvents bits events
+StandsHaveEvents =
+    (bits : List Bool) (deframer : Deframer) → Stands bits deframer
+    → (events : List LineEvent) × AreEvents bits events
 
 -- each unit that is reported for line bits decodes
 abbrev pub EventsDecode : Type 0
-EventsDecode = (bits : List Bool) (events : List LineEvent) → AreEvents bits events → UnitsDecode events
+EventsDecode =
+    (bits : List Bool) (events : List LineEvent) → AreEvents bits events → UnitsDecode events
 
--- So many more bits close at most one content for each eight of them, and one for up to seven that are left: so eight
--- bits close at most one.
+-- So many more bits close at most one content for each eight of them, and one for up to seven that
+-- are left: so eight bits close at most one.
 abbrev pub ClosingsArePaced : Type 0
-ClosingsArePaced = (bits more : List Bool) (before given : List LineEvent) → AreEvents bits before → AreEvents (bits ++ more) (before ++ given)
+ClosingsArePaced =
+    (bits more : List Bool) (before given : List LineEvent) → AreEvents bits before
+    → AreEvents (bits ++ more) (before ++ given)
     → 8 * closings given ≤ length more + 7
 
 -- the octets of signal units
@@ -48,10 +55,14 @@ arrived [] units = units
 arrived (b ∷ rest) units = without_last units
 
 -- Line bits are in normal mode and end with a flag. Behind them comes what a fresh stuffer gave for
--- these units, at least one, and fewer than eight bits of it stay with the stuffer. Then exactly the
--- units are reported, in order; where bits stay, the last unit is still missing.
+-- these units, at least one, and fewer than eight bits of it stay with the stuffer. Then exactly
+-- the units are reported, in order; where bits stay, the last unit is still missing.
 abbrev pub PassesThrough : Type 0
-PassesThrough = (bits : List Bool) (before after : List LineEvent) (given : List ℕ) (rest : List Bool) (units : List (List ℕ))
-    → Runs (reverse bits) None before → ends_flag (reverse bits) ≡ true → AreUnits units → units ≢ []
-    → bits_of given ++ rest ≡ line_of units → length rest < 8 → AreEvents (bits ++ bits_of given) after
+PassesThrough =
+    (bits : List Bool) (before after : List LineEvent) (given : List ℕ) (rest : List Bool)
+    (units : List (List ℕ))
+    → Runs (reverse bits) None before → ends_flag (reverse bits) ≡ true → AreUnits units
+    → units ≢ []
+    → bits_of given ++ rest ≡ line_of units → length rest < 8
+    → AreEvents (bits ++ bits_of given) after
     → after ≡ before ++ unit_events (arrived rest units)

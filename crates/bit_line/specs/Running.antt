@@ -1,5 +1,6 @@
 -- What plain octets change of a deframer.
-use Rattle.std.specs.Prelude.{◌≡◌, ◌≢◌, ℕ, ◌+◌, ◌*◌, ◌/◌, ◌%◌, ◌^◌, ◌<◌, ◌≤◌, Bool, true, false, None, List, ◌++◌, reverse, length}
+use Rattle.std.specs.Prelude.{◌≡◌, ◌≢◌, ℕ, ◌+◌, ◌*◌, ◌/◌, ◌%◌, ◌^◌, ◌<◌, ◌≤◌, Bool, true, false}
+use Rattle.std.specs.Prelude.{None, List, ◌++◌, reverse, length}
 use Rattle.su_octets.specs.Bits.{low_bits}
 use Rattle.bit_line.specs.Parts.{Packed}
 use Rattle.bit_line.specs.Stuffing.{trailing, taken_out}
@@ -17,7 +18,12 @@ with_run base run octets = record {
     content = record {
       ones = run.ones;
       six = base.gate.content.six;
-      data_bits = record { octets = record { items = octets }; part = run.part; over = base.gate.content.data_bits.over };
+      data_bits =
+          record {
+            octets = record { items = octets };
+            part = run.part;
+            over = base.gate.content.data_bits.over;
+          };
     };
     wait_fits = base.gate.wait_fits;
   };
@@ -32,14 +38,21 @@ pub record IsCalm (base : Deframer) : Type 0 where
   pub wait : base.gate.wait ≡ 0
   pub over : base.gate.content.data_bits.over ≡ false
 
--- An octet whose bits come behind no six 1s: what is left of them without inserted zeros, and the octet that the content has
--- more, if it was filled.
+-- An octet whose bits come behind no six 1s: what is left of them without inserted zeros, and the
+-- octet that the content has more, if it was filled.
 pub record IsPlainStep (run : Run) (octet : ℕ) (next : Run) (whole : List ℕ) : Type 0 where
   pub plain : (m : ℕ) → m < 8 → (run.recent + octet * 128) / 2 ^ m % 128 ≢ 126
   pub recent : next.recent ≡ (run.recent + octet * 128) / 2 ^ 8 % 128
   pub left : List Bool
   pub few : length left ≤ 8
-  pub data_bits : (h : List Bool) → run.ones ≡ trailing h → taken_out (reverse (low_bits 8 ((run.recent + octet * 128) % 2 ^ 8)) ++ h) ≡ left ++ taken_out h
-  pub ones : (h : List Bool) → run.ones ≡ trailing h → next.ones ≡ trailing (reverse (low_bits 8 ((run.recent + octet * 128) % 2 ^ 8)) ++ h)
-  pub six : (h : List Bool) → run.ones ≡ trailing h → has_six (reverse (low_bits 8 ((run.recent + octet * 128) % 2 ^ 8)) ++ h) ≡ has_six h
-  pub packed : (octets : List ℕ) (h : List Bool) → Packed octets run.part.bits run.part.len h → Packed (octets ++ whole) next.part.bits next.part.len (left ++ h)
+  pub data_bits :
+      (h : List Bool) → run.ones ≡ trailing h
+      → taken_out (reverse (low_bits 8 ((run.recent + octet * 128) % 2 ^ 8)) ++ h)
+      ≡ left ++ taken_out h
+  pub ones : (h : List Bool) → run.ones ≡ trailing h
+      → next.ones ≡ trailing (reverse (low_bits 8 ((run.recent + octet * 128) % 2 ^ 8)) ++ h)
+  pub six : (h : List Bool) → run.ones ≡ trailing h
+      → has_six (reverse (low_bits 8 ((run.recent + octet * 128) % 2 ^ 8)) ++ h) ≡ has_six h
+  pub packed :
+      (octets : List ℕ) (h : List Bool) → Packed octets run.part.bits run.part.len h
+      → Packed (octets ++ whole) next.part.bits next.part.len (left ++ h)

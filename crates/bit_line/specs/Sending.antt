@@ -17,7 +17,8 @@ unfoldable pub line_of : List (List ℕ) → List Bool
 line_of [] = []
 line_of (octets ∷ units) = flag ++ framed (octets ∷ units)
 
--- No unit fills more octets: 7 bits that stayed, a flag, a content of the most bits with a 0 for each five of them, and a flag. (None
--- fills as many: where a flag goes out in front, no bit stayed.)
+-- No unit fills more octets: 7 bits that stayed, a flag, a content of the most bits with a 0 for
+-- each five of them, and a flag. (None fills as many: where a flag goes out in front, no bit
+-- stayed.)
 abbrev pub MOST_OCTETS : ℕ
 MOST_OCTETS = (7 + 8 + (MOST_BITS + MOST_BITS / 5) + 8) / 8

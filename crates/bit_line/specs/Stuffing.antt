@@ -1,5 +1,6 @@
 -- Zero insertion (Q.703, 3.2). A history is a list of bits with the newest one first.
-use Rattle.std.specs.Prelude.{ℕ, suc, ◌==◌, Bool, true, false, if◌then◌else◌, List, [], ◌∷◌, reverse}
+use Rattle.std.specs.Prelude.{ℕ, suc, ◌==◌, Bool, true, false, if◌then◌else◌, List, [], ◌∷◌}
+use Rattle.std.specs.Prelude.{reverse}
 
 -- how many 1s in a row the newest bits are
 unfoldable pub trailing : List Bool → ℕ

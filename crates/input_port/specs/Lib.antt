@@ -1,3 +1,3 @@
-pub mod Saves
-pub mod Queue
 pub mod Printed
+pub mod Queue
+pub mod Saves

@@ -1,7 +1,8 @@
 -- What waits in a port, and what a process takes from there (Z.100, input port and save).
-use Rattle.std.specs.Prelude.{◌≡◌, ℕ, ◌<◌, ◌≤◌, Bool, true, false, not, List, [], ◌∷◌, ◌++◌, Option, Some, None, if◌then◌else◌, ◌==◌, nat_eq, filter, count_by}
+use Rattle.std.specs.Prelude.{◌≡◌, ℕ, ◌<◌, ◌≤◌, Bool, true, false, not, List, [], ◌∷◌, ◌++◌, Option}
+use Rattle.std.specs.Prelude.{Some, None, if◌then◌else◌, ◌==◌, nat_eq, filter, count_by}
 use Rattle.std.specs.List.{list_any, IsDistinct, AllByRecursion}
-use Rattle.profile_limits.specs.Limits.{LEAST_PORT, MOST_PORT, MOST_TIMERS_EACH}
+use Rattle.plain_limits.specs.Limits.{LEAST_PORT, MOST_PORT, MOST_TIMERS_EACH}
 use Rattle.input_port.specs.declared.queue.Item.{Item}
 use Rattle.input_port.specs.declared.queue.Item.TheVariants.{Signal, Timer}
 
@@ -41,8 +42,10 @@ abbrev pub without_first : (Item → Bool) → List Item → List Item
 without_first saved [] = []
 without_first saved (item ∷ items) = if saved item then item ∷ without_first saved items else items
 
--- an item that isn't saved stood in the list, and only saved ones before it. The others are left, in their order
-pub record Takes (saved : Item → Bool) (items : List Item) (item : Item) (left : List Item) : Type 0 where
+-- an item that isn't saved stood in the list, and only saved ones before it. The others are left,
+-- in their order
+pub record Takes (saved : Item → Bool) (items : List Item) (item : Item) (left : List Item) :
+    Type 0 where
   pub before : List Item
   pub after : List Item
   pub stood : items ≡ before ++ item ∷ after
@@ -56,7 +59,8 @@ timers_in [] = []
 timers_in (Signal arrival ∷ items) = timers_in items
 timers_in (Timer timer ∷ items) = timer.0 ∷ timers_in items
 
--- what holds of every port: a capacity in its range, signals within it, and one item at most for each timer that there may be
+-- what holds of every port: a capacity in its range, signals within it, and one item at most for
+-- each timer that there may be
 pub record IsQueue (capacity : ℕ) (items : List Item) : Type 0 where
   pub least : LEAST_PORT ≤ capacity
   pub most : capacity ≤ MOST_PORT

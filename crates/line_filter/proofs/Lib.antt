@@ -1,5 +1,8 @@
+mod Beginning
+mod Digits
 mod Filling
-mod Telling
+mod Leaving
+mod Looking
 mod Passing
 mod Saying
-mod Beginning
+mod Telling

@@ -1,4 +1,5 @@
--- What a terminal does on a line. How it changes is a relation of its own: from one state by an act to another.
+-- What a terminal does on a line. How it changes is a relation of its own: from one state by an act
+-- to another.
 use Rattle.std.specs.Prelude.{ℕ, List, Option}
 use Rattle.su_octets.specs.declared.units.Unit as units
 use Rattle.line_filter.specs.declared.terminal.Answer.{Answer}

@@ -1,5 +1,6 @@
 -- What a filter reads, writes and tells.
-use Rattle.std.specs.Prelude.{◌≡◌, ℕ, ◌+◌, Bool, true, List, [], ◌++◌, length, map, replicate, Option}
+use Rattle.std.specs.Prelude.{◌≡◌, ℕ, ◌+◌, Bool, true, List, [], ◌++◌, length, map, replicate}
+use Rattle.std.specs.Prelude.{Option}
 use Rattle.std.specs.Io.KnownBytes.{Appends, Consumes, IsAtEnd}
 use Rattle.std.specs.Int.{w8, reverse_bits}
 use Rattle.line_filter.specs.Acts.{Act}
@@ -7,7 +8,8 @@ use Rattle.line_filter.specs.Runs.{State, Runs}
 use Rattle.line_filter.specs.declared.filter.Bits.{Bits}
 use Rattle.line_filter.specs.declared.filter.Bits.TheVariants.{Low, High}
 
--- an octet of the line as a byte, whose lowest bit or whose highest is the first; and the other way round
+-- an octet of the line as a byte, whose lowest bit or whose highest is the first; and the other way
+-- round
 abbrev pub turned : Bits → ℕ → ℕ
 turned Low octet = octet
 turned High octet = reverse_bits w8 octet
@@ -21,7 +23,10 @@ abbrev pub MOST_AHEAD : ℕ
 MOST_AHEAD = 8000
 
 -- of octets that came in, these went each way; the others are dropped, where an order ended the run
-pub record Goes {T : Type 0} (acts : T → Act → T → Type 0) (count : ℕ) (s : State T) (octets out bytes : List ℕ) (goes_on : Bool) (next : ℕ) (t : State T) : Type 0 where
+pub record Goes {T : Type 0} (acts : T → Act → T
+    → Type 0) (count :
+    ℕ) (s : State T) (octets out bytes :
+    List ℕ) (goes_on : Bool) (next : ℕ) (t : State T) : Type 0 where
   pub come : List ℕ
   pub dropped : List ℕ
   pub runs : Runs acts count s come out bytes goes_on t
@@ -30,7 +35,9 @@ pub record Goes {T : Type 0} (acts : T → Act → T → Type 0) (count : ℕ) (
   pub counted : next ≡ count + length come
 
 -- the octets as bytes, read and written
-pub record Serves {T : Type 0} (acts : T → Act → T → Type 0) (bits : Bits) (count : ℕ) (s : State T) (read written bytes : List ℕ) (goes_on : Bool) (next : ℕ)
+pub record Serves {T : Type 0} (acts : T → Act → T
+    → Type 0) (bits :
+    Bits) (count : ℕ) (s : State T) (read written bytes : List ℕ) (goes_on : Bool) (next : ℕ)
     (t : State T) : Type 0 where
   pub out : List ℕ
   pub goes : Goes acts count s (map (turned bits) read) out bytes goes_on next t
@@ -43,7 +50,10 @@ pub record Streams : Type 0 where
   pub told : Option (List ℕ)
 
 -- some bytes were read, and what they lead to was written and told behind octets of silence
-pub record Served {T : Type 0} (acts : T → Act → T → Type 0) (bits : Bits) (ahead count : ℕ) (s : State T) (goes_on : Bool) (next : ℕ) (t : State T) (old new : Streams)
+pub record Served {T : Type 0} (acts : T → Act → T
+    → Type 0) (bits :
+    Bits) (ahead count :
+    ℕ) (s : State T) (goes_on : Bool) (next : ℕ) (t : State T) (old new : Streams)
     : Type 0 where
   pub read : List ℕ
   pub written : List ℕ
@@ -54,7 +64,10 @@ pub record Served {T : Type 0} (acts : T → Act → T → Type 0) (bits : Bits)
   pub tells : Appends old.told new.told bytes
 
 -- The run is over: all octets went each way, or an order ended it.
-pub record IsOver {T : Type 0} (acts : T → Act → T → Type 0) (bits : Bits) (ahead count : ℕ) (s : State T) (next : ℕ) (t : State T) (old new : Streams) : Type 0 where
+pub record IsOver {T : Type 0} (acts : T → Act → T
+    → Type 0) (bits :
+    Bits) (ahead count :
+    ℕ) (s : State T) (next : ℕ) (t : State T) (old new : Streams) : Type 0 where
   pub goes_on : Bool
   pub served : Served acts bits ahead count s goes_on next t old new
   pub end_met : goes_on ≡ true → IsAtEnd new.read
@@ -66,8 +79,11 @@ pub record WritesPart (old new : Option (List ℕ)) (bytes : List ℕ) : Type 0 
   pub parts : bytes ≡ part ++ rest
   pub appends : Appends old new part
 
--- of bytes that were read the first went each way, and what goes out for them behind octets of silence is written, or a beginning of that
-pub record ServesPart {T : Type 0} (acts : T → Act → T → Type 0) (bits : Bits) (ahead count : ℕ) (s : State T) (read : List ℕ) (old new : Option (List ℕ)) : Type 0 where
+-- of bytes that were read the first went each way, and what goes out for them behind octets of
+-- silence is written, or a beginning of that
+pub record ServesPart {T : Type 0} (acts : T → Act → T
+    → Type 0) (bits :
+    Bits) (ahead count : ℕ) (s : State T) (read : List ℕ) (old new : Option (List ℕ)) : Type 0 where
   pub come : List ℕ
   pub not_come : List ℕ
   pub all : map (turned bits) read ≡ come ++ not_come
@@ -83,8 +99,10 @@ pub record Line : Type 0 where
   pub read : Option (List ℕ)
   pub written : Option (List ℕ)
 
--- A run is begun: what is written is a beginning of what a run writes for octets that were read. However it ends, also where something fails.
-pub record IsBegun {T : Type 0} (acts : T → Act → T → Type 0) (bits : Bits) (ahead count : ℕ) (s : State T) (old new : Line) : Type 0 where
+-- A run is begun: what is written is a beginning of what a run writes for octets that were read.
+-- However it ends, also where something fails.
+pub record IsBegun {T : Type 0} (acts : T → Act → T
+    → Type 0) (bits : Bits) (ahead count : ℕ) (s : State T) (old new : Line) : Type 0 where
   pub read : List ℕ
   pub consumes : Consumes old.read new.read read
   pub serves : ServesPart acts bits ahead count s read old.written new.written

@@ -1,8 +1,11 @@
 pub mod Acts
-pub mod Speaking
-pub mod Orders
-pub mod Runs
-pub mod Laws
-pub mod Inside
 pub mod Desks
 pub mod Filters
+pub mod Inside
+pub mod Laws
+pub mod Orders
+pub mod Reading
+pub mod Runs
+pub mod Says
+pub mod Speaking
+pub mod Streams

@@ -1,5 +1,6 @@
 -- Orders, with the milliseconds before which they aren't obeyed.
-use Rattle.std.specs.Prelude.{◌≡◌, ℕ, ◌<◌, ◌≤◌, List, [], ◌∷◌, ◌++◌, Option, None, Some, codes, string_bytes}
+use Rattle.std.specs.Prelude.{◌≡◌, ℕ, ◌<◌, ◌≤◌, List, [], ◌∷◌, ◌++◌, Option, None, Some, codes}
+use Rattle.std.specs.Prelude.{string_bytes}
 use Rattle.std.specs.Fmt.{decimal}
 use Rattle.line_filter.specs.Acts.{Act, reported, obeyed}
 use Rattle.line_filter.specs.declared.terminal.Answer.{Answer}
@@ -38,19 +39,23 @@ abbrev pub QUIT : List ℕ
 QUIT = codes "quit"
 
 -- what a terminal has to tell, told in order
-pub data Tells {T : Type 0} (acts : T → Act → T → Type 0) (now : ℕ) (t : T) : List ℕ → T → Type 0 where
+pub data Tells {T : Type 0} (acts : T → Act → T → Type 0) (now : ℕ) (t : T) :
+    List ℕ → T → Type 0 where
   nothing : Tells acts now t [] t
-  says : {bytes : List ℕ} {u : T} (text : List ℕ) (w : T) → Tells acts now t bytes u → acts u (reported (Some text)) w
+  says : {bytes : List ℕ} {u : T} (text : List ℕ) (w : T) → Tells acts now t bytes u
+      → acts u (reported (Some text)) w
       → Tells acts now t (bytes ++ told now text) w
 
 -- all of it
-pub record TellsAll {T : Type 0} (acts : T → Act → T → Type 0) (now : ℕ) (t : T) (bytes : List ℕ) (u : T) : Type 0 where
+pub record TellsAll {T : Type 0} (acts : T → Act → T
+    → Type 0) (now : ℕ) (t : T) (bytes : List ℕ) (u : T) : Type 0 where
   pub last : T
   pub tells : Tells acts now t bytes last
   pub none_left : acts last (reported None) u
 
 -- an order is obeyed, and behind it all that the terminal has to tell is told
-pub record Obeys {T : Type 0} (acts : T → Act → T → Type 0) (now : ℕ) (t : T) (order : List ℕ) (bytes : List ℕ) (u : T) : Type 0 where
+pub record Obeys {T : Type 0} (acts : T → Act → T
+    → Type 0) (now : ℕ) (t : T) (order : List ℕ) (bytes : List ℕ) (u : T) : Type 0 where
   pub answer : Answer
   pub middle : T
   pub act : acts t (obeyed order answer) middle

@@ -1,5 +1,6 @@
 -- A run: what goes out and what is told for the octets that come in and the orders.
-use Rattle.std.specs.Prelude.{◌≡◌, ℕ, ◌+◌, ◌/◌, ◌%◌, Bool, true, false, List, [], ◌∷◌, ◌++◌, length, Option, codes}
+use Rattle.std.specs.Prelude.{◌≡◌, ℕ, ◌+◌, ◌/◌, ◌%◌, Bool, true, false, List, [], ◌∷◌, ◌++◌, length}
+use Rattle.std.specs.Prelude.{Option, codes}
 use Rattle.line_filter.specs.Acts.{Act, heard, passed}
 use Rattle.line_filter.specs.Speaking.{Voice, Gives}
 use Rattle.line_filter.specs.Orders.{Timed, NextIs, NoneIsDue, QUIT, told, TellsAll, Obeys}
@@ -13,8 +14,11 @@ pub record State (T : Type 0) : Type 0 where
   pub voice : Voice
   pub left : Option (List Timed)
 
--- One octet goes out, one comes in, and what there is to tell is told. That one goes out doesn't depend on the one that comes in.
-pub record Exchanges {T : Type 0} (acts : T → Act → T → Type 0) (now : ℕ) (s : State T) (comes gives : ℕ) (bytes : List ℕ) (t : State T) : Type 0 where
+-- One octet goes out, one comes in, and what there is to tell is told. That one goes out doesn't
+-- depend on the one that comes in.
+pub record Exchanges {T : Type 0} (acts : T → Act → T
+    → Type 0) (now :
+    ℕ) (s : State T) (comes gives : ℕ) (bytes : List ℕ) (t : State T) : Type 0 where
   pub asked : T
   pub heard_it : T
   pub out : Gives acts s.term s.voice gives asked t.voice
@@ -23,10 +27,15 @@ pub record Exchanges {T : Type 0} (acts : T → Act → T → Type 0) (now : ℕ
   pub orders : t.left ≡ s.left
 
 -- orders that are due are obeyed in their order, up to one that ends the run
-pub data ObeysDue {T : Type 0} (acts : T → Act → T → Type 0) (now : ℕ) (t : T) (left : Option (List Timed)) : List ℕ → T → Option (List Timed) → Type 0 where
+pub data ObeysDue {T : Type 0} (acts : T → Act → T
+    → Type 0) (now : ℕ) (t : T) (left : Option (List Timed)) : List ℕ → T → Option (List Timed)
+    → Type 0 where
   no_order : ObeysDue acts now t left [] t left
-  one_order : {bytes : List ℕ} {u : T} {fewer : Option (List Timed)} (text more : List ℕ) (w : T) (last : Option (List Timed))
-      → ObeysDue acts now t left bytes u fewer → NextIs now fewer text last → (text ≡ QUIT → ⊥) → Obeys acts now u text more w
+  one_order :
+      {bytes : List ℕ} {u : T} {fewer : Option (List Timed)} (text more : List ℕ) (w : T)
+      (last : Option (List Timed))
+      → ObeysDue acts now t left bytes u fewer → NextIs now fewer text last → (text ≡ QUIT → ⊥)
+      → Obeys acts now u text more w
       → ObeysDue acts now t left (bytes ++ more) w last
 
 -- either none is left that is due, or one ends the run
@@ -34,7 +43,9 @@ abbrev pub Ends : ℕ → Option (List Timed) → List ℕ → Bool → Option (
 Ends now left bytes true last = (bytes ≡ []) × NoneIsDue now left last
 Ends now left bytes false last = (bytes ≡ told now (codes "ok quit")) × NextIs now left QUIT last
 
-pub record ObeysAll {T : Type 0} (acts : T → Act → T → Type 0) (now : ℕ) (s : State T) (bytes : List ℕ) (goes_on : Bool) (t : State T) : Type 0 where
+pub record ObeysAll {T : Type 0} (acts : T → Act → T
+    → Type 0) (now :
+    ℕ) (s : State T) (bytes : List ℕ) (goes_on : Bool) (t : State T) : Type 0 where
   pub first : List ℕ
   pub fewer : Option (List Timed)
   pub obeys : ObeysDue acts now s.term s.left first t.term fewer
@@ -44,7 +55,9 @@ pub record ObeysAll {T : Type 0} (acts : T → Act → T → Type 0) (now : ℕ)
   pub are : bytes ≡ first ++ second
 
 -- a millisecond passes: what there is to tell is told, and orders are obeyed
-pub record Minds {T : Type 0} (acts : T → Act → T → Type 0) (now : ℕ) (s : State T) (bytes : List ℕ) (goes_on : Bool) (t : State T) : Type 0 where
+pub record Minds {T : Type 0} (acts : T → Act → T
+    → Type 0) (now :
+    ℕ) (s : State T) (bytes : List ℕ) (goes_on : Bool) (t : State T) : Type 0 where
   pub ticked : T
   pub tick : acts s.term passed ticked
   pub first : List ℕ
@@ -57,13 +70,18 @@ pub record Minds {T : Type 0} (acts : T → Act → T → Type 0) (now : ℕ) (s
   pub are : bytes ≡ first ++ second
 
 -- behind so many octets: each eighth is a millisecond
-pub data Behind {T : Type 0} (acts : T → Act → T → Type 0) (count : ℕ) (s : State T) : List ℕ → Bool → State T → Type 0 where
+pub data Behind {T : Type 0} (acts : T → Act → T → Type 0) (count : ℕ) (s : State T) :
+    List ℕ → Bool → State T → Type 0 where
   between : (count % OCTETS ≡ 0 → ⊥) → Behind acts count s [] true s
-  eighth : {bytes : List ℕ} {goes_on : Bool} {t : State T} → count % OCTETS ≡ 0 → Minds acts (count / OCTETS) s bytes goes_on t
+  eighth : {bytes : List ℕ} {goes_on : Bool} {t : State T} → count % OCTETS ≡ 0
+      → Minds acts (count / OCTETS) s bytes goes_on t
       → Behind acts count s bytes goes_on t
 
 -- an octet each way, behind so many
-pub record Steps {T : Type 0} (acts : T → Act → T → Type 0) (count : ℕ) (s : State T) (comes gives : ℕ) (bytes : List ℕ) (goes_on : Bool) (t : State T) : Type 0 where
+pub record Steps {T : Type 0} (acts : T → Act → T
+    → Type 0) (count :
+    ℕ) (s : State T) (comes gives :
+    ℕ) (bytes : List ℕ) (goes_on : Bool) (t : State T) : Type 0 where
   pub middle : State T
   pub first : List ℕ
   pub exchanges : Exchanges acts (count / OCTETS) s comes gives first middle
@@ -72,8 +90,11 @@ pub record Steps {T : Type 0} (acts : T → Act → T → Type 0) (count : ℕ) 
   pub are : bytes ≡ first ++ second
 
 -- Octets each way, behind so many, and the bytes that are told. It goes on until an order ends it.
-pub data Runs {T : Type 0} (acts : T → Act → T → Type 0) (count : ℕ) (s : State T) : List ℕ → List ℕ → List ℕ → Bool → State T → Type 0 where
+pub data Runs {T : Type 0} (acts : T → Act → T → Type 0) (count : ℕ) (s : State T) :
+    List ℕ → List ℕ → List ℕ → Bool → State T → Type 0 where
   begins : Runs acts count s [] [] [] true s
-  octet : {come out bytes : List ℕ} {t : State T} (comes gives : ℕ) (more : List ℕ) (goes_on : Bool) (u : State T)
-      → Runs acts count s come out bytes true t → Steps acts (count + length come) t comes gives more goes_on u
+  octet : {come out bytes : List ℕ} {t : State T} (comes gives : ℕ) (more : List ℕ) (goes_on : Bool)
+      (u : State T)
+      → Runs acts count s come out bytes true t
+      → Steps acts (count + length come) t comes gives more goes_on u
       → Runs acts count s (come ++ comes ∷ []) (out ++ gives ∷ []) (bytes ++ more) goes_on u

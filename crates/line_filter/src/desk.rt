@@ -8,7 +8,7 @@ ghost use Rattle.line_filter.specs.Desks.{state_of, Told};
 use crate::orders::Orders;
 use crate::terminal::{Answer, LineTerminal};
 use crate::voice::Voice;
-use printed_lines::write_line;
+use plain_text::write_line;
 use std::alloc::Global;
 use std::io::{self, ErrorKind, Write};
 

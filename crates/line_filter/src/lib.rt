@@ -6,8 +6,12 @@
 mod desk;
 mod filter;
 mod laws;
+mod lines;
 mod orders;
+mod says;
+mod stream;
 mod terminal;
+mod times;
 mod voice;
 mod writing;
 
@@ -15,5 +19,6 @@ pub use desk::Desk;
 pub use filter::{Bits, MOST_AHEAD, run_line};
 pub use laws::what_goes_out_was_said;
 pub use orders::{NoOrders, Orders};
+pub use stream::LineOrders;
 pub use terminal::{Answer, LineTerminal};
 pub use voice::Voice;

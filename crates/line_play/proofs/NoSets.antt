@@ -4,8 +4,8 @@ use Rattle.turn_code.specs.declared.draft.Draft.{Draft}
 use Rattle.link_term.specs.Opening.{IsRefusedOver}
 use Rattle.link_term.specs.declared.opening.OpenError.{OpenError}
 use Rattle.link_term.specs.declared.opening.OpenError.TheVariants.{NoName, NoMemory}
-use Rattle.text_check.specs.Checked.{IsGiven, IsSetOf, PrintsRefusal}
-use Rattle.term_play.specs.TermRuns.{PrintsLacking, LacksName}
+use Rattle.script_check.specs.Checked.{IsGiven, IsSetOf, PrintsRefusal}
+use Rattle.script_terminal.specs.TermRuns.{PrintsLacking, LacksName}
 use Rattle.line_play.specs.Opening.{IsNoSet, by_fault, by_name}
 
 pub no_text : (known old new : Option (List ℕ)) → IsGiven known (PrintsRefusal old new) → IsGiven known (IsNoSet old new)

@@ -1,7 +1,9 @@
 -- What an order on a line says.
-use Rattle.std.specs.Prelude.{ℕ, Bool, true, false, if◌then◌else◌, List, [], ◌∷◌, Option, None, Some, option_map, option_and_then}
-use Rattle.term_lines.specs.Orders.{order_of}
-use Rattle.term_lines.specs.TermCommands.{PlainTermCommand, order, unit, line, msu, out, ticks, state, shown, expected, term_command_of}
+use Rattle.std.specs.Prelude.{ℕ, Bool, true, false, if◌then◌else◌, List, [], ◌∷◌, Option, None}
+use Rattle.std.specs.Prelude.{Some, option_map, option_and_then}
+use Rattle.script_links.specs.Orders.{order_of}
+use Rattle.script_links.specs.TermCommands.{PlainTermCommand, order, unit, line, msu, out, ticks}
+use Rattle.script_links.specs.TermCommands.{state, shown, expected, term_command_of}
 
 -- of a script's commands those that leave the line and its time alone
 abbrev pub is_on_line : PlainTermCommand → Bool
@@ -34,4 +36,5 @@ where_on_line command = if is_on_line command then Some command else None
 unfoldable pub line_command_of : List (List ℕ) → Option PlainTermCommand
 line_command_of [] = None
 line_command_of (word ∷ []) = option_map order (order_of word)
-line_command_of (first ∷ word ∷ words) = option_and_then where_on_line (term_command_of (first ∷ word ∷ words))
+line_command_of (first ∷ word ∷ words) =
+    option_and_then where_on_line (term_command_of (first ∷ word ∷ words))

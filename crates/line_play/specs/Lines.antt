@@ -12,7 +12,8 @@ abbrev pub end_acts : LinkEnd → Act → LinkEnd → Type 0
 end_acts old act new = link_acts old.terminal act new.terminal
 
 -- a terminal on a line, with these orders and reports: no octet came, none went
-pub record IsNewDesk {O P : Type 0} (terminal : Term) (orders : O) (reports : P) (desk : Desk LinkEnd O P) : Type 0 where
+pub record IsNewDesk {O P : Type 0} (terminal : Term) (orders : O) (reports : P)
+    (desk : Desk LinkEnd O P) : Type 0 where
   pub terminal_is : desk.terminal.terminal ≡ terminal
   pub voice : IsSilent desk.voice
   pub orders_are : desk.orders ≡ orders

@@ -2,13 +2,13 @@
 use Rattle.std.specs.Prelude.{◌≡◌, ℕ, List, [], ◌∷◌, Option, None, Some, option_map}
 use Rattle.su_octets.specs.declared.units.Unit as units
 use Rattle.script_lines.specs.Words.{words_of}
-use Rattle.link_machine.specs.declared.event.Event.TheVariants.{Advance}
-use Rattle.link_side.specs.Reporting.{reported}
+use Rattle.actor_machine.specs.declared.event.Event.TheVariants.{Advance}
+use Rattle.link_transceiver.specs.Reporting.{reported}
 use Rattle.link_term.specs.Machine.{offered, tidied, tick_refusal}
-use Rattle.link_term.specs.Term.{Term, with_heart, with_half}
+use Rattle.link_term.specs.Term.{Term, with_processes, term_with_transceiver}
 use Rattle.link_term.specs.Hearing.{Heard}
-use Rattle.term_lines.specs.TermCommands.{PlainTermCommand}
-use Rattle.term_play.specs.TermAnswers.{next_of, behind_next, Answers}
+use Rattle.script_links.specs.TermCommands.{PlainTermCommand}
+use Rattle.script_terminal.specs.TermAnswers.{next_of, behind_next, Answers}
 use Rattle.line_filter.specs.Acts.{Act, asked, heard, passed, reported as told, obeyed}
 use Rattle.line_filter.specs.declared.terminal.Answer.{Answer}
 use Rattle.line_play.specs.Commands.{is_question, line_command_of}
@@ -21,20 +21,21 @@ pub record Gives (t : Term) (unit : Option units.Unit) (u : Term) : Type 0 where
 
 -- a millisecond passed, which its processes took as a tick
 unfoldable pub after_tick : Term → Term
-after_tick t = with_heart t (offered (Advance 1) (tidied t.heart))
+after_tick t = with_processes t (offered (Advance 1) (tidied t.processes))
 
 -- a millisecond passes, and isn't refused
 pub record Passes (t u : Term) : Type 0 where
   pub after : u ≡ after_tick t
-  pub passes : tick_refusal 1 (tidied t.heart) ≡ None
+  pub passes : tick_refusal 1 (tidied t.processes) ≡ None
 
 -- what is told next is handed out
 pub record Tells (t : Term) (text : Option (List ℕ)) (u : Term) : Type 0 where
-  pub text_is : text ≡ option_map report_text (reported t.heart.side).report
-  pub after : u ≡ with_half t (reported t.heart.side).half
+  pub text_is : text ≡ option_map report_text (reported t.processes.transceiver).report
+  pub after : u ≡ term_with_transceiver t (reported t.processes.transceiver).transceiver
 
 -- an order is obeyed as a script's command is, of which it would print this line
-pub record ObeysOne (command : PlainTermCommand) (t : Term) (order : List ℕ) (answer : Answer) (u : Term) : Type 0 where
+pub record ObeysOne (command : PlainTermCommand) (t : Term) (order : List ℕ) (answer : Answer)
+    (u : Term) : Type 0 where
   pub line : List ℕ
   pub answers : Answers command t line u
   pub answer_is : IsAnswerOf (is_question command) order line answer

@@ -4,16 +4,18 @@ use Rattle.turn_code.specs.declared.draft.Draft.{Draft}
 use Rattle.resend_store.specs.declared.messages.Mode.{Mode}
 use Rattle.link_term.specs.Opening.{IsOver}
 use Rattle.link_term.specs.Term.{Term}
-use Rattle.text_check.specs.Checked.{IsSetOf, PrintsRefusal}
-use Rattle.term_play.specs.TermRuns.{LacksName}
+use Rattle.script_check.specs.Checked.{IsSetOf, PrintsRefusal}
+use Rattle.script_terminal.specs.TermRuns.{LacksName}
 
--- the bytes are a text whose set has all that a terminal wants, and the terminal is a new one over it
+-- the bytes are a text whose set has all that a terminal wants, and the terminal is a new one over
+-- it
 pub record IsNewOver (mode : Mode) (t : Term) (bytes : List ℕ) : Type 0 where
   pub draft : Draft
   pub is_set : IsSetOf bytes draft
   pub over : IsOver draft mode t
 
--- there is no such terminal: the bytes are refused, or their set lacks a name, and the line of that is all that was written
+-- there is no such terminal: the bytes are refused, or their set lacks a name, and the line of that
+-- is all that was written
 pub data IsNoSet (old new : Option (List ℕ)) (bytes : List ℕ) : Type 0 where
   by_fault : PrintsRefusal old new bytes → IsNoSet old new bytes
   by_name : (draft : Draft) → IsSetOf bytes draft → LacksName draft old new → IsNoSet old new bytes

@@ -3,10 +3,11 @@ use Rattle.std.specs.Prelude.{◌≡◌, ℕ, Bool, true, false, List, ◌∷◌
 use Rattle.std.specs.Fmt.{signed_decimal}
 use Rattle.hex.specs.Hex.{encode_upper}
 use Rattle.resend_store.specs.declared.messages.Msu.{Msu}
-use Rattle.link_side.specs.declared.signals.Report.{Report}
-use Rattle.link_side.specs.declared.signals.Report.TheVariants.{Message, Status}
-use Rattle.link_side.specs.declared.signals.LinkStatus.{LinkStatus}
-use Rattle.link_side.specs.declared.signals.LinkStatus.TheVariants.{InService, Down, RemoteOut, RemoteBack}
+use Rattle.link_transceiver.specs.declared.signals.Report.{Report}
+use Rattle.link_transceiver.specs.declared.signals.Report.TheVariants.{Message, Status}
+use Rattle.link_transceiver.specs.declared.signals.LinkStatus.{LinkStatus}
+use Rattle.link_transceiver.specs.declared.signals.LinkStatus.TheVariants.{InService, Down}
+use Rattle.link_transceiver.specs.declared.signals.LinkStatus.TheVariants.{RemoteOut, RemoteBack}
 use Rattle.line_filter.specs.declared.terminal.Answer.{Answer}
 use Rattle.line_filter.specs.declared.terminal.Answer.TheVariants as answer
 
@@ -24,12 +25,14 @@ unfoldable pub report_text : Report → List ℕ
 report_text (Message m) = message_text m
 report_text (Status status) = status_text status
 
--- The answer that the line which a script prints for an order stands for: a refusal, or what a question asked for, or that it was obeyed.
+-- The answer that the line which a script prints for an order stands for: a refusal, or what a
+-- question asked for, or that it was obeyed.
 abbrev pub IsAnswerOf : Bool → List ℕ → List ℕ → Answer → Type 0
 IsAnswerOf question order line (answer.Refused why) = line ≡ codes "refused " ++ string_bytes why
 IsAnswerOf false order line answer.Done = line ≡ codes "ok"
 IsAnswerOf true order line answer.Done = ⊥
-IsAnswerOf true order line (answer.Said text) = (string_bytes text ≡ order ++ 32 ∷ line) × ((why : List ℕ) → line ≡ codes "refused " ++ why → ⊥)
+IsAnswerOf true order line (answer.Said text) =
+    (string_bytes text ≡ order ++ 32 ∷ line) × ((why : List ℕ) → line ≡ codes "refused " ++ why → ⊥)
 IsAnswerOf false order line (answer.Said text) = ⊥
 
 -- what reads as no order

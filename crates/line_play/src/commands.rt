@@ -1,12 +1,12 @@
 //! What an order on a line says.
 ghost use Rattle.std.specs.Prelude.{◌≡◌, IfOk, option_map};
 ghost use Rattle.script_lines.specs.Lines.{texts};
-ghost use Rattle.term_lines.specs.Orders.{order_of};
-ghost use Rattle.term_lines.specs.TermCommands.{order, plain_term_command};
+ghost use Rattle.script_links.specs.Orders.{order_of};
+ghost use Rattle.script_links.specs.TermCommands.{order, plain_term_command};
 ghost use Rattle.line_play.specs.Commands.{is_on_line, is_question, line_command_of};
 
+use script_links::{TermCommand, order_in, term_command_in};
 use std::alloc::{AllocError, Global};
-use term_lines::{TermCommand, order_in, term_command_in};
 
 /// Whether a command leaves the line and its time alone.
 fn is_on_line(command: &TermCommand<'_>) -> bool

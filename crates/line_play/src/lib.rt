@@ -13,5 +13,5 @@ pub use link_end::LinkEnd;
 pub use link_term::{Mode, Terminal};
 pub use opening::new_terminal;
 pub use running::{link_desk, run_link};
-pub use term_lines::mode_named;
-pub use text_check::SetWord;
+pub use script_check::SetWord;
+pub use script_links::mode_named;

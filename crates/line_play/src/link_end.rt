@@ -1,7 +1,7 @@
 //! A signalling link terminal at the end of a line.
 ghost use Rattle.std.specs.Prelude.{◌∷◌, [], IfOk, OnOk, option_map, string_bytes};
 ghost use Rattle.script_lines.specs.Lines.{texts};
-ghost use Rattle.term_lines.specs.TermCommands.{plain_term_command};
+ghost use Rattle.script_links.specs.TermCommands.{plain_term_command};
 ghost use Rattle.link_term.specs.Hearing.{Heard};
 ghost use Rattle.line_play.specs.Commands.{line_command_of};
 ghost use Rattle.line_play.specs.LinkActs.{link_acts, Passes, Tells, ObeysOne, ObeysBy};
@@ -11,11 +11,11 @@ use crate::texts::{answer_of, bad_line, report_text};
 use line_filter::{Answer, LineTerminal};
 use link_term::Terminal;
 use script_lines::words_in;
+use script_links::TermCommand;
+use script_terminal::answer;
 use std::alloc::Global;
 use std::io::{self, ErrorKind};
 use su_octets::Unit;
-use term_lines::TermCommand;
-use term_play::answer;
 
 /// A signalling link terminal at the end of a line.
 #[derive(Drop)]

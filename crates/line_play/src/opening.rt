@@ -1,14 +1,14 @@
 //! A terminal over the set that a command line names.
 ghost use Rattle.std.specs.Prelude.{◌≡◌, ◌⊎◌, IfOk, IfErr};
-ghost use Rattle.text_check.specs.Checked.{given, IsGiven};
-ghost use Rattle.term_play.specs.TermRuns.{PrintsLacking};
+ghost use Rattle.script_check.specs.Checked.{given, IsGiven};
+ghost use Rattle.script_terminal.specs.TermRuns.{PrintsLacking};
 ghost use Rattle.line_play.specs.Opening.{IsNewOver, IsNoSet};
 
 use link_term::{Mode, OpenError, Terminal};
-use printed_lines::{FAILED, refuse};
+use plain_text::{FAILED, refuse};
+use script_check::{SetWord, load_set, write_refusal};
 use std::alloc::Global;
 use std::io::{Read, Write};
-use text_check::{SetWord, load_set, write_refusal};
 
 /// Writes why there is no terminal over a set. Gives the exit status.
 fn refuse_name<E: Write>(alloc: Global, errors: &mut E, error: OpenError) -> u8

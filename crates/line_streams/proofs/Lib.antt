@@ -1,2 +1,2 @@
-mod Times
 mod Ends
+mod Times

@@ -15,7 +15,8 @@ pub record Begins (line time : List ℕ) : Type 0 where
 abbrev pub loss_line : List ℕ → ℕ → List ℕ
 loss_line time lost = ((time ++ codes " lost ") ++ decimal lost) ++ 10 ∷ []
 
--- the line that tells how many lines before this one are lost, with this one's millisecond, and this one
+-- the line that tells how many lines before this one are lost, with this one's millisecond, and
+-- this one
 pub record IsLossTold (lost : ℕ) (line text : List ℕ) : Type 0 where
   pub time : List ℕ
   pub begins : Begins line time
@@ -28,13 +29,19 @@ pub data IsToGo (lost : ℕ) (line : List ℕ) : List ℕ → Type 0 where
 
 -- A line was told. It goes on whole, or there was no room, and it is counted.
 pub data TellsOn (line : List ℕ) (old new : Outlet) : Type 0 where
-  goes : (text : List ℕ) → IsToGo old.lost line text → sent new.ring ≡ sent old.ring ++ text → new.lost ≡ 0 → TellsOn line old new
-  is_lost : (text : List ℕ) → IsToGo old.lost line text → known_free new.ring < length text → sent new.ring ≡ sent old.ring → new.lost ≡ old.lost + 1
+  goes : (text : List ℕ) → IsToGo old.lost line text → sent new.ring ≡ sent old.ring ++ text
+      → new.lost ≡ 0 → TellsOn line old new
+  is_lost : (text : List ℕ) → IsToGo old.lost line text → known_free new.ring < length text
+      → sent new.ring ≡ sent old.ring → new.lost ≡ old.lost + 1
       → TellsOn line old new
 
--- At the end it was told how many lines were lost behind the last that went on, or there was no room for that.
+-- At the end it was told how many lines were lost behind the last that went on, or there was no
+-- room for that.
 pub data TellsLost (now : ℕ) (old new : Outlet) : Type 0 where
   none_lost : old.lost ≡ 0 → sent new.ring ≡ sent old.ring → new.lost ≡ 0 → TellsLost now old new
-  some_lost : 0 < old.lost → sent new.ring ≡ sent old.ring ++ loss_line (decimal now) old.lost → new.lost ≡ 0 → TellsLost now old new
-  no_room : 0 < old.lost → known_free new.ring < length (loss_line (decimal now) old.lost) → sent new.ring ≡ sent old.ring → new.lost ≡ old.lost
+  some_lost :
+      0 < old.lost → sent new.ring ≡ sent old.ring ++ loss_line (decimal now) old.lost
+      → new.lost ≡ 0 → TellsLost now old new
+  no_room : 0 < old.lost → known_free new.ring < length (loss_line (decimal now) old.lost)
+      → sent new.ring ≡ sent old.ring → new.lost ≡ old.lost
       → TellsLost now old new

@@ -2,9 +2,11 @@
 use Rattle.std.specs.Prelude.{◌≡◌, ⊤, ℕ, List, [], Option, None, Some}
 use Rattle.line_streams.specs.Departing.{TellsLost}
 use Rattle.line_streams.specs.declared.opening.OrderStream.{OrderStream}
-use Rattle.line_streams.specs.declared.opening.OrderStream.TheVariants.{Nothing, File as from_file, Fifo as from_fifo}
+use Rattle.line_streams.specs.declared.opening.OrderStream.TheVariants.{Nothing, File as from_file}
+use Rattle.line_streams.specs.declared.opening.OrderStream.TheVariants.{Fifo as from_fifo}
 use Rattle.line_streams.specs.declared.opening.ReportStream.{ReportStream}
-use Rattle.line_streams.specs.declared.opening.ReportStream.TheVariants.{Errors, File as to_file, Fifo as to_fifo}
+use Rattle.line_streams.specs.declared.opening.ReportStream.TheVariants.{Errors, File as to_file}
+use Rattle.line_streams.specs.declared.opening.ReportStream.TheVariants.{Fifo as to_fifo}
 
 -- what there is to read: what a file or a FIFO holds isn't known
 abbrev pub known_of : OrderStream → Option (List ℕ)
@@ -26,7 +28,8 @@ GoTo (Some path) errors (Errors others) = ⊥
 GoTo (Some path) errors (to_file file) = ⊤
 GoTo (Some path) errors (to_fifo departures) = ⊤
 
--- Reports are at their end: where nothing may wait for their other side it is told how many are lost, and else there is nothing to do.
+-- Reports are at their end: where nothing may wait for their other side it is told how many are
+-- lost, and else there is nothing to do.
 abbrev pub EndsTold : {E : Type 0} → ℕ → ReportStream E → ReportStream E → Type 0
 EndsTold now (Errors errors) new = new ≡ Errors errors
 EndsTold now (to_file file) new = new ≡ to_file file

@@ -8,5 +8,5 @@ mod outlet;
 
 pub use arrivals::Arrivals;
 pub use departures::Departures;
-pub use opening::{Errors, OrderStream, ReportStream, open_orders, open_reports};
+pub use opening::{OrderStream, ReportStream, open_orders, open_reports};
 pub use outlet::Outlet;

@@ -6,9 +6,8 @@ use crate::arrivals::Arrivals;
 use crate::departures::Departures;
 use std::alloc::Global;
 use std::fs::{self, File, OpenOptions};
-use std::io::{self, ErrorKind, Read, Write};
+use std::io::{self, Read, Write};
 use std::rt::Files;
-use std::str;
 use std::thread::Threads;
 use std::time::Clock;
 
@@ -62,29 +61,6 @@ pub fn open_orders<R: Files<File = File> + Threads>(
     }
     let file = open_both(rt, path)?;
     Ok(OrderStream::Fifo(Arrivals::start(rt, alloc, file)?))
-}
-
-/// Standard error.
-#[derive(Drop)]
-pub struct Errors<'a, R: Eprint> {
-    /// What prints there.
-    pub rt: &'a R,
-}
-
-impl<R: Eprint> Write for Errors<'_, R> {
-    fn write(&mut self, line: &[u8]) -> io::Result<usize> {
-        match str::from_utf8(line) {
-            Ok(text) => {
-                self.rt.eprint(text)?;
-                Ok(line.len())
-            }
-            Err(_) => Err(io::Error::from(ErrorKind::InvalidData)),
-        }
-    }
-
-    fn flush(&mut self) -> io::Result<()> {
-        Ok(())
-    }
 }
 
 /// Where reports go.

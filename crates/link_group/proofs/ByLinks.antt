@@ -1,8 +1,8 @@
 -- A call of one link's terminal.
 use Rattle.std.proofs.Common.{◌≡◌, ℕ, zero, suc, Option, List, [], ◌∷◌, ◌++◌, length, take, drop, refl, sym, ap, subst, arith}
-use Rattle.group_links.specs.declared.link.Link.{Link}
+use Rattle.group_members.specs.declared.link.Link.{Link}
 use Rattle.link_group.specs.Set.{LinkSet}
-use Rattle.group_links.specs.Doing.{AtLink}
+use Rattle.group_members.specs.Doing.{AtLink}
 use Rattle.link_group.specs.Lines.{ByLink, seen}
 
 pub by_link : (did : Link → Link → Type 0) (l : ℕ) (c d : LinkSet) (ks new mid : List Link) (own peer unsure : ℕ) (table : List (Option ℕ))

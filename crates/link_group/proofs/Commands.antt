@@ -1,12 +1,12 @@
 -- Commands that were refused.
 use Rattle.std.proofs.Common.{◌≡◌, ℕ, zero, suc, List, [], ◌∷◌, Option, Some, None, slice_set, refl, sym, ap, ◌∙◌, subst}
 use Rattle.std.specs.Prelude.{slice_get}
-use Rattle.link_heart.specs.declared.commands.Command.{Command}
-use Rattle.link_refusals.specs.declared.errors.CommandError.{CommandError}
-use Rattle.link_refusals.specs.declared.errors.CommandError.TheVariants as error
-use Rattle.group_links.specs.declared.link.Link.{Link}
-use Rattle.group_links.specs.Doing.{AtLink}
-use Rattle.group_links.specs.Commanding.{Commands, Commanded, Barred, Refused, Lacks}
+use Rattle.link_processes.specs.declared.commands.Command.{Command}
+use Rattle.group_changeover.specs.declared.errors.CommandError.{CommandError}
+use Rattle.group_changeover.specs.declared.errors.CommandError.TheVariants as error
+use Rattle.group_members.specs.declared.link.Link.{Link}
+use Rattle.group_members.specs.Doing.{AtLink}
+use Rattle.group_members.specs.Commanding.{Commands, Commanded, Barred, Refused, Lacks}
 use Rattle.link_group.specs.Set.{LinkSet}
 use Rattle.link_group.specs.Lines.{Alone, IsCommandError}
 

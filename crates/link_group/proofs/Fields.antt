@@ -2,16 +2,16 @@
 use Rattle.std.proofs.Common.{◌≡◌, ℕ, ◌≤◌, List, [], ◌∷◌, Option, Some, None, length, arith, refl, sym, ap, subst}
 use Rattle.std.specs.Prelude.{◌↔◌, slice_get}
 use Rattle.plain_laws.proofs.Options.{none_some, some_none}
-use Rattle.link_labels.specs.declared.labels.Label.{Label}
-use Rattle.link_labels.specs.declared.changeover.Changeover.{Changeover}
-use Rattle.link_labels.specs.declared.changeover.Kind.{Kind}
-use Rattle.link_labels.specs.Labels.{label_in}
-use Rattle.link_labels.specs.Changeovers.{Says}
-use Rattle.group_links.specs.declared.link.Link.{Link}
+use Rattle.group_changeover.specs.declared.labels.Label.{Label}
+use Rattle.group_changeover.specs.declared.changeover.Changeover.{Changeover}
+use Rattle.group_changeover.specs.declared.changeover.Kind.{Kind}
+use Rattle.group_changeover.specs.Labels.{label_in}
+use Rattle.group_changeover.specs.Changeovers.{Says}
+use Rattle.group_members.specs.declared.link.Link.{Link}
 use Rattle.link_group.specs.Set.{LinkSet}
-use Rattle.group_links.specs.Links.{read_at}
+use Rattle.group_members.specs.Links.{read_at}
 use Rattle.link_group.specs.Changing.{message, order_by, order_at, IsRead}
-use Rattle.group_links.specs.Failing.{order_of}
+use Rattle.group_members.specs.Failing.{order_of}
 
 pub long_enough : (octets : List ℕ) (l : Label) → label_in octets ≡ Some l → 2 ≤ length octets
 long_enough [] l e = absurd (none_some e)

@@ -1,4 +1,4 @@
--- Hands that are kept, one taken out.
+-- Retrievals that are kept, one taken out.
 use Rattle.std.proofs.Common.{◌≡◌, ◌≢◌, ℕ, ◌+◌, ◌<◌, ◌==◌, zero, suc, Bool, true, false, Some, List, [], ◌∷◌, ◌++◌, length, take, drop, get_or, refl, sym, ap, ◌∙◌, subst, arith, inl, inr}
 use Rattle.std.specs.Prelude.{◌⊎◌, All, ◌||◌, slice_get, option_map}
 use Rattle.std.specs.List.{list_any}
@@ -25,7 +25,7 @@ get_at (k ∷ ks) (suc n) d h = get_at ks n d (omega (arith, h))
 parts : (ks : List Kept) (n : ℕ) (d : Kept) → n < length ks → ks ≡ take n ks ++ get_or ks n d ∷ drop (n + 1) ks
 parts ks n d h = sym (take-append-drop n ks) ∙ ap (λ (xs : List Kept). take n ks ++ xs) (drop_more ks n d h)
 
--- ---- the place of a hand
+-- ---- the place of a retrieval
 
 pub place_here : (l : ℕ) (ks : List Kept) (n : ℕ) (k : Kept) → n < length ks → k ≡ get_or ks n k → (k.link == l) ≡ true → list_any (is_of l) (take n ks) ≡ false → IsPlace (is_of l) ks (Some n)
 place_here l ks n k h here is none =
@@ -45,16 +45,16 @@ none_more l ks n k h here is none =
 some_same : (a b : Bool) → Some a ≡ Some b → a ≡ b
 some_same a b e = cc
 
-same_kept : (k : Kept) (hand : Retrieved) → hand.link ≡ k.link → hand.messages ≡ k.messages → kept hand ≡ k
-same_kept k hand l m = rw (l, m) refl
+same_kept : (k : Kept) (retrieval : Retrieved) → retrieval.link ≡ k.link → retrieval.messages ≡ k.messages → kept retrieval ≡ k
+same_kept k retrieval l m = rw (l, m) refl
 
-pub taken_out : (l : ℕ) (old new : List Kept) (n : ℕ) (k : Kept) (hand : Retrieved) → hand.link ≡ k.link → hand.messages ≡ k.messages → IsPlace (is_of l) old (Some n) → k ≡ get_or old n k
-    → new ≡ take n old ++ drop (n + 1) old → TakenOut l old hand new
-taken_out l old new n k hand link messages place here left = record {
+pub taken_out : (l : ℕ) (old new : List Kept) (n : ℕ) (k : Kept) (retrieval : Retrieved) → retrieval.link ≡ k.link → retrieval.messages ≡ k.messages → IsPlace (is_of l) old (Some n) → k ≡ get_or old n k
+    → new ≡ take n old ++ drop (n + 1) old → TakenOut l old retrieval new
+taken_out l old new n k retrieval link messages place here left = record {
   front = take n old;
   back = drop (n + 1) old;
   stood = parts old n k place.0 ∙ ap (λ (x : Kept). take n old ++ x ∷ drop (n + 1) old) (sym here)
-      ∙ ap (λ (x : Kept). take n old ++ x ∷ drop (n + 1) old) (sym (same_kept k hand link messages));
+      ∙ ap (λ (x : Kept). take n old ++ x ∷ drop (n + 1) old) (sym (same_kept k retrieval link messages));
   link = link ∙ equal k.link l (ap (is_of l) here
       ∙ some_same (is_of l (get_or old n k)) true (sym (ap (option_map (is_of l)) (get_at old n k place.0)) ∙ place.2));
   first = place.1;

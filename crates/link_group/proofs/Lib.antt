@@ -1,5 +1,15 @@
-pub mod Fields
 pub mod ByLinks
+mod Calling
 pub mod Commands
-pub mod Room
+mod Counting
+mod Diverting
+mod Each
+mod EndingLaws
+pub mod Fields
+mod Fitting
+mod Getting
 pub mod Keeping
+mod PlacingLaws
+pub mod Room
+mod Staying
+mod Working

@@ -1,22 +1,26 @@
--- Changeover of a link that failed (Q.704): how it begins, what is said of it, and which messages are handed out.
-use Rattle.std.specs.Prelude.{ℕ, ◌+◌, ◌^◌, ◌-◌, ◌==◌, ◌&&◌, min, Bool, if◌then◌else◌, List, Option, Some, None, slice_get}
+-- Changeover of a link that failed (Q.704): how it begins, what is said of it, and which messages
+-- are handed out.
+use Rattle.std.specs.Prelude.{ℕ, ◌+◌, ◌^◌, ◌-◌, ◌==◌, ◌&&◌, min, Bool, if◌then◌else◌, List, Option}
+use Rattle.std.specs.Prelude.{Some, None, slice_get}
 use Rattle.arrayvec.specs.ArrayVec.{ArrayVec}
 use Rattle.resend_store.specs.declared.messages.Msu.{Msu}
-use Rattle.link_labels.specs.declared.changeover.Changeover.{Changeover}
-use Rattle.link_labels.specs.declared.changeover.Kind.{Kind}
-use Rattle.link_labels.specs.declared.changeover.Kind.TheVariants as kind
-use Rattle.link_labels.specs.Changeovers.{Says}
-use Rattle.group_links.specs.declared.link.Link.{Link}
-use Rattle.link_refusals.specs.declared.errors.FailError.{FailError}
-use Rattle.link_refusals.specs.declared.errors.FailError.TheVariants as fail
-use Rattle.link_refusals.specs.declared.errors.RetrieveError.{RetrieveError}
-use Rattle.link_refusals.specs.declared.errors.RetrieveError.TheVariants as retrieve
-use Rattle.link_refusals.specs.declared.errors.AbandonError.{AbandonError}
-use Rattle.link_refusals.specs.declared.errors.AbandonError.TheVariants as abandon
-use Rattle.group_links.specs.OneLink.{retrieve_fault, number_of, abandon_fault}
+use Rattle.group_changeover.specs.declared.changeover.Changeover.{Changeover}
+use Rattle.group_changeover.specs.declared.changeover.Kind.{Kind}
+use Rattle.group_changeover.specs.declared.changeover.Kind.TheVariants as kind
+use Rattle.group_changeover.specs.Changeovers.{Says}
+use Rattle.group_members.specs.declared.link.Link.{Link}
+use Rattle.group_changeover.specs.declared.errors.FailError.{FailError}
+use Rattle.group_changeover.specs.declared.errors.FailError.TheVariants as fail
+use Rattle.group_changeover.specs.declared.errors.RetrieveError.{RetrieveError}
+use Rattle.group_changeover.specs.declared.errors.RetrieveError.TheVariants as retrieve
+use Rattle.group_changeover.specs.declared.errors.AbandonError.{AbandonError}
+use Rattle.group_changeover.specs.declared.errors.AbandonError.TheVariants as abandon
+use Rattle.group_members.specs.OneLink.{retrieve_fault, number_of, abandon_fault}
 use Rattle.link_group.specs.Set.{LinkSet}
-use Rattle.group_links.specs.Links.{change, fault_at}
-use Rattle.group_links.specs.Failing.{fail_fault_of, begins_at, order_of, hears, replies_at, handed, messages_by, given_up, sent_by, none_known}
+use Rattle.group_members.specs.Links.{change, fault_at}
+use Rattle.group_members.specs.Failing.{fail_fault_of, changeover_begins_at, order_of, hears}
+use Rattle.group_members.specs.Failing.{replies_at, handed, messages_by, given_up, sent_by}
+use Rattle.group_members.specs.Failing.{none_known}
 
 -- ---- a link fails
 
@@ -24,8 +28,8 @@ use Rattle.group_links.specs.Failing.{fail_fault_of, begins_at, order_of, hears,
 unfoldable pub fail_fault : LinkSet → ℕ → Option FailError
 fail_fault c l = fault_at fail.NoLink fail_fault_of (slice_get c.links l)
 
-unfoldable pub failed : LinkSet → ℕ → LinkSet
-failed c l = record c { links = change c.links l begins_at }
+unfoldable pub after_failure : LinkSet → ℕ → LinkSet
+after_failure c l = record c { links = change c.links l changeover_begins_at }
 
 -- a message from one point to another about a link
 abbrev pub message : ℕ → ℕ → ℕ → Kind → Changeover
@@ -51,7 +55,8 @@ is_for c m = (m.label.dpc == c.own) && (m.label.opc == c.peer)
 -- All others, those of a link that isn't there, and octets that are no message change nothing.
 abbrev pub after_message : LinkSet → Option Changeover → LinkSet
 after_message c None = c
-after_message c (Some m) = if is_for c m then record c { links = change c.links m.label.sls (hears m.kind) } else c
+after_message c (Some m) =
+    if is_for c m then record c { links = change c.links m.label.sls (hears m.kind) } else c
 
 abbrev pub reply_by : LinkSet → ℕ → Option Kind → Option Changeover
 reply_by c l None = None
@@ -59,7 +64,9 @@ reply_by c l (Some what) = Some (to_peer c l what)
 
 abbrev pub reply_to : LinkSet → Option Changeover → Option Changeover
 reply_to c None = None
-reply_to c (Some m) = if is_for c m then reply_by c m.label.sls (replies_at m.kind (slice_get c.links m.label.sls)) else None
+reply_to c (Some m) =
+    if is_for c m then reply_by c m.label.sls (replies_at m.kind (slice_get c.links m.label.sls))
+    else None
 
 -- octets as the message that they are, or none
 abbrev pub IsRead : List ℕ → Option Changeover → Type 0
@@ -80,7 +87,8 @@ retrieve_fault_at c l = fault_at retrieve.NoLink retrieve_fault (slice_get c.lin
 unfoldable pub after_retrieve : LinkSet → ℕ → LinkSet
 after_retrieve c l = record c { links = change c.links l handed }
 
--- exactly those behind the one of which the number was told, and without one those that were never sent
+-- exactly those behind the one of which the number was told, and without one those that were never
+-- sent
 unfoldable pub messages_for : LinkSet → ℕ → List Msu
 messages_for c l = messages_by number_of (slice_get c.links l)
 

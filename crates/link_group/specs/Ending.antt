@@ -1,6 +1,6 @@
--- Why a hand was not wholly diverted.
+-- Why a retrieval was not wholly diverted.
 use Rattle.std.specs.Prelude.{Option, Some, None, Result, Ok, Err}
-use Rattle.link_refusals.specs.declared.errors.DivertFault.{DivertFault}
+use Rattle.group_changeover.specs.declared.errors.DivertFault.{DivertFault}
 use Rattle.link_group.specs.declared.ending.DivertError.{DivertError}
 
 abbrev pub fault_in : {A : Type 0} → Result A DivertError → Option DivertFault

@@ -1,22 +1,24 @@
-pub mod Set
 pub mod Changing
 pub mod Diverting
-pub mod Placing
 pub mod Ending
-pub mod New
-pub mod Lines
-pub mod Ticks
-pub mod Reading
 pub mod Holding
-pub use Rattle.group_links.specs.Limits
-pub use Rattle.group_links.specs.OneLink
-pub use Rattle.group_links.specs.Links
-pub use Rattle.group_links.specs.Failing
-pub use Rattle.group_links.specs.Moving
-pub use Rattle.group_links.specs.Tables
-pub use Rattle.group_links.specs.Doing
-pub use Rattle.group_links.specs.Commanding
-pub use Rattle.group_links.specs.Ticking
-pub use Rattle.group_links.specs.declared as group_links_types
-pub use Rattle.link_refusals.specs.Printed
-pub use Rattle.link_refusals.specs.declared as link_refusals_types
+pub mod Laws
+pub mod Lines
+pub mod New
+pub mod Placing
+pub mod Reached
+pub mod Reading
+pub mod Set
+pub mod Ticks
+pub use Rattle.group_changeover.specs.Printed
+pub use Rattle.group_changeover.specs.declared as group_changeover_types
+pub use Rattle.group_members.specs.Commanding
+pub use Rattle.group_members.specs.Doing
+pub use Rattle.group_members.specs.Failing
+pub use Rattle.group_members.specs.Limits
+pub use Rattle.group_members.specs.Links
+pub use Rattle.group_members.specs.Moving
+pub use Rattle.group_members.specs.OneLink
+pub use Rattle.group_members.specs.Tables
+pub use Rattle.group_members.specs.Ticking
+pub use Rattle.group_members.specs.declared as group_members_types

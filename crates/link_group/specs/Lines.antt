@@ -1,15 +1,15 @@
 -- What a set does by one of its terminals, and what it makes of a link that comes into service.
 use Rattle.std.specs.Prelude.{◌≡◌, ℕ, ◌≤◌, if◌then◌else◌, List, length, map, slice_get}
 use Rattle.std.specs.List.{list_any}
-use Rattle.group_links.specs.declared.link.Link.{Link}
+use Rattle.group_members.specs.declared.link.Link.{Link}
 use Rattle.link_group.specs.Set.{LinkSet}
-use Rattle.group_links.specs.Links.{change}
-use Rattle.link_heart.specs.declared.commands.Command.{Command}
-use Rattle.link_refusals.specs.declared.errors.CommandError.{CommandError}
-use Rattle.link_refusals.specs.declared.errors.CommandError.TheVariants as error
-use Rattle.group_links.specs.Commanding.{Barred, Refused, Lacks}
+use Rattle.group_members.specs.Links.{change}
+use Rattle.link_processes.specs.declared.commands.Command.{Command}
+use Rattle.group_changeover.specs.declared.errors.CommandError.{CommandError}
+use Rattle.group_changeover.specs.declared.errors.CommandError.TheVariants as error
+use Rattle.group_members.specs.Commanding.{Barred, Refused, Lacks}
 use Rattle.link_group.specs.Placing.{placed_anew}
-use Rattle.group_links.specs.Doing.{AtLink, asked, came_first, came_by}
+use Rattle.group_members.specs.Doing.{AtLink, asked, came_first, came_by}
 
 -- ---- a link comes into service
 
@@ -26,7 +26,8 @@ all_seen c =
 
 -- ---- a call of one terminal
 
--- a call of the terminal of the link at a place, and what is made of a link that comes into service by it
+-- a call of the terminal of the link at a place, and what is made of a link that comes into service
+-- by it
 pub record ByLink (did : Link → Link → Type 0) (l : ℕ) (c d : LinkSet) : Type 0 where
   pub links : List Link
   pub at : AtLink did l c.links links
@@ -40,7 +41,8 @@ pub record Alone (did : Link → Link → Type 0) (l : ℕ) (c d : LinkSet) : Ty
 
 -- ---- commands
 
--- Why a command was refused, and what came of it. Nothing changed, but that the journal of a terminal that refused it may have room now.
+-- Why a command was refused, and what came of it. Nothing changed, but that the journal of a
+-- terminal that refused it may have room now.
 abbrev pub IsCommandError : Command → ℕ → LinkSet → LinkSet → CommandError → Type 0
 IsCommandError command l c d error.NoLink = (length c.links ≤ l) × (d ≡ c)
 IsCommandError command l c d error.Waiting = Alone (Barred command) l c d × (d ≡ c)

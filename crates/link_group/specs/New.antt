@@ -1,10 +1,10 @@
 -- A new set.
 use Rattle.std.specs.Prelude.{ℕ, false, List, map}
-use Rattle.group_links.specs.Term.{Term}
-use Rattle.link_places.specs.Sharing.{selections, pick}
+use Rattle.group_members.specs.Term.{Term}
+use Rattle.group_changeover.specs.Sharing.{selections, pick}
 use Rattle.link_group.specs.Set.{LinkSet}
-use Rattle.group_links.specs.Moving.{open_links}
-use Rattle.group_links.specs.New.{fresh}
+use Rattle.group_members.specs.Moving.{open_links}
+use Rattle.group_members.specs.New.{fresh}
 
 -- Links that are in service have the selections from the beginning.
 unfoldable pub new_set : ℕ → ℕ → List Term → LinkSet

@@ -1,18 +1,19 @@
 -- Selections get links: as a link first comes into service, and as a set is rebalanced.
 use Rattle.std.specs.Prelude.{true, false, if◌then◌else◌, map, Option, Some, None}
 use Rattle.std.specs.List.{list_any}
-use Rattle.link_places.specs.Limits.{SELECTIONS}
-use Rattle.link_places.specs.Sharing.{selections, pick}
-use Rattle.link_refusals.specs.declared.errors.RebalanceError.{RebalanceError}
-use Rattle.link_refusals.specs.declared.errors.RebalanceError.TheVariants as rebalance
-use Rattle.group_links.specs.OneLink.{is_changing}
+use Rattle.group_changeover.specs.Limits.{SELECTIONS}
+use Rattle.group_changeover.specs.Sharing.{selections, pick}
+use Rattle.group_changeover.specs.declared.errors.RebalanceError.{RebalanceError}
+use Rattle.group_changeover.specs.declared.errors.RebalanceError.TheVariants as rebalance
+use Rattle.group_members.specs.OneLink.{is_changing}
 use Rattle.link_group.specs.Set.{LinkSet}
-use Rattle.group_links.specs.Moving.{open_links}
-use Rattle.group_links.specs.Tables.{anew_on, in_way, any_below, forgiven}
+use Rattle.group_members.specs.Moving.{open_links}
+use Rattle.group_members.specs.Tables.{anew_on, in_way, any_below, forgiven}
 
 -- the table made anew
 unfoldable pub placed_anew : LinkSet → LinkSet
-placed_anew c = record c { table = map (anew_on c.links c.table (open_links false c.links)) selections }
+placed_anew c =
+    record c { table = map (anew_on c.links c.table (open_links false c.links)) selections }
 
 -- ---- rebalancing
 
@@ -20,9 +21,11 @@ placed_anew c = record c { table = map (anew_on c.links c.table (open_links fals
 unfoldable pub rebalance_fault : LinkSet → Option RebalanceError
 rebalance_fault c =
     if list_any is_changing c.links then Some rebalance.Waiting
-    else (if any_below (in_way c.links c.table (open_links true c.links)) SELECTIONS then Some rebalance.NotEmpty else None)
+    else (if any_below (in_way c.links c.table (open_links true c.links)) SELECTIONS
+    then Some rebalance.NotEmpty else None)
 
--- Each selection gets its link among all that are in service, and no link counts as one that failed.
+-- Each selection gets its link among all that are in service, and no link counts as one that
+-- failed.
 unfoldable pub rebalanced : LinkSet → LinkSet
 rebalanced c = record c {
   links = map forgiven c.links;

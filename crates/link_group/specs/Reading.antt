@@ -1,10 +1,10 @@
 -- What a set tells of one link.
 use Rattle.std.specs.Prelude.{ℕ, length, Option, Some, None, slice_get}
-use Rattle.link_machine.specs.Ledger.{Ledger}
-use Rattle.group_links.specs.Term.{Term}
+use Rattle.actor_machine.specs.Ledger.{Ledger}
+use Rattle.group_members.specs.Term.{Term}
 use Rattle.resend_store.specs.declared.messages.Msu.{Msu}
-use Rattle.group_links.specs.declared.link.Link.{Link}
-use Rattle.group_links.specs.OneLink.{held, window}
+use Rattle.group_members.specs.declared.link.Link.{Link}
+use Rattle.group_members.specs.OneLink.{held, window}
 
 abbrev pub held_count : Link → ℕ
 held_count k = length (held k)
@@ -20,4 +20,4 @@ abbrev pub terminal_of : Link → Term
 terminal_of k = k.terminal
 
 abbrev pub book_of : Link → Ledger
-book_of k = k.terminal.heart.book
+book_of k = k.terminal.processes.book

@@ -1,12 +1,12 @@
 -- A set of links between two signalling points.
 use Rattle.std.specs.Prelude.{ℕ, List, Option, Some, None, slice_get}
 use Rattle.resend_store.specs.declared.messages.Msu.{Msu}
-use Rattle.link_places.specs.Sharing.{selection_of, link_of}
-use Rattle.group_links.specs.declared.link.Link.{Link}
-use Rattle.link_refusals.specs.declared.errors.SendError.{SendError}
-use Rattle.link_refusals.specs.declared.errors.SendError.TheVariants as send
-use Rattle.group_links.specs.OneLink.{put_fault, puts}
-use Rattle.group_links.specs.Links.{change, fault_at}
+use Rattle.group_changeover.specs.Sharing.{selection_of, link_of}
+use Rattle.group_members.specs.declared.link.Link.{Link}
+use Rattle.group_changeover.specs.declared.errors.SendError.{SendError}
+use Rattle.group_changeover.specs.declared.errors.SendError.TheVariants as send
+use Rattle.group_members.specs.OneLink.{put_fault, puts}
+use Rattle.group_members.specs.Links.{change, fault_at}
 
 pub record LinkSet : Type 0 where
   -- the codes of this point and of the other

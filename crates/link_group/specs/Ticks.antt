@@ -1,10 +1,10 @@
 -- Ticks pass on all links of a set, or on none.
 use Rattle.std.specs.Prelude.{◌≡◌, ℕ, List, map, Option, Some}
-use Rattle.link_machine.specs.declared.reply.Refusal.{Refusal}
-use Rattle.group_links.specs.link_term_types.answers.CallError.{CallError}
-use Rattle.group_links.specs.link_term_types.answers.CallError.TheVariants as call
-use Rattle.group_links.specs.declared.link.Link.{Link}
-use Rattle.group_links.specs.Ticking.{roomy, LacksRoom, first_refusal, passed}
+use Rattle.actor_machine.specs.declared.reply.Refusal.{Refusal}
+use Rattle.group_members.specs.link_term_types.answers.CallError.{CallError}
+use Rattle.group_members.specs.link_term_types.answers.CallError.TheVariants as call
+use Rattle.group_members.specs.declared.link.Link.{Link}
+use Rattle.group_members.specs.Ticking.{roomy, LacksRoom, first_refusal, passed}
 use Rattle.link_group.specs.Set.{LinkSet}
 use Rattle.link_group.specs.Lines.{all_seen}
 
@@ -15,17 +15,21 @@ with_room ks = map roomy ks
 abbrev pub tick_fault : ℕ → LinkSet → Option Refusal
 tick_fault n c = first_refusal n (with_room c.links)
 
--- They pass on all links; as one comes into service for the first time by them, the table is made anew.
+-- They pass on all links; as one comes into service for the first time by them, the table is made
+-- anew.
 unfoldable pub after_ticks : ℕ → LinkSet → LinkSet
 after_ticks n c = all_seen (record c { links = map (passed n) (with_room c.links) })
 
--- There was no memory to make room on a link: those before it have room now, and nothing else changed.
+-- There was no memory to make room on a link: those before it have room now, and nothing else
+-- changed.
 pub record NoRoom (c d : LinkSet) : Type 0 where
   pub links : List Link
   pub lacks : LacksRoom c.links links
   pub set : d ≡ record c { links = links }
 
--- Why they didn't pass. Room was made on all links, or on those before one that lacks it; nothing else changed.
+-- Why they didn't pass. Room was made on all links, or on those before one that lacks it; nothing
+-- else changed.
 abbrev pub IsTickError : ℕ → LinkSet → LinkSet → CallError → Type 0
-IsTickError n c d (call.Refused refusal) = (tick_fault n c ≡ Some refusal) × (d ≡ record c { links = with_room c.links })
+IsTickError n c d (call.Refused refusal) =
+    (tick_fault n c ≡ Some refusal) × (d ≡ record c { links = with_room c.links })
 IsTickError n c d call.NoMemory = NoRoom c d

@@ -1,18 +1,20 @@
-//! Diversion of a hand.
+//! Diversion of a retrieval.
 ghost use Rattle.std.specs.Prelude.{◌≡◌, ◌↔◌, ◌<◌, IsTrue, All, IfErr, Some, None};
 ghost use Rattle.resend_store.specs.Messages.{IsMessage};
-ghost use Rattle.group_links.specs.OneLink.{fault_of};
-ghost use Rattle.group_links.specs.Moving.{hand_of, open_links};
+ghost use Rattle.group_members.specs.OneLink.{fault_of};
+ghost use Rattle.group_members.specs.Moving.{retrieval_of, open_links};
 ghost use Rattle.link_group.specs.Diverting.{Owns, diverted, after_divert};
 ghost use Rattle.link_group.specs.Ending.{fault_in};
 
 use crate::group::Group;
 use crate::retrieved::Retrieved;
-use group_links::{DivertFault, Msu, end_at, end_table, hand_of, hand_over, keep_at, open_links};
-use link_places::counts_of;
+use group_changeover::counts_of;
+use group_members::{
+    DivertFault, Msu, divert_all, end_at, end_table, keep_at, open_links, retrieval_of,
+};
 use std::collections::VecDeque;
 
-/// Why messages in hand weren't all diverted, and those that are still in hand.
+/// Why retrieved messages weren't all diverted, and those that are not diverted yet.
 pub struct DivertError {
     /// Why the first selection that is left doesn't go.
     pub fault: DivertFault,
@@ -21,18 +23,18 @@ pub struct DivertError {
 }
 
 impl Group {
-    /// Whether it gave these messages: their link, and how many there are of each selection, are those of a hand that is out.
+    /// Whether it gave these messages: their link, and how many there are of each selection, are those of a retrieval that is out.
     #[tactic(auto, unfolding(crate::specs::Diverting::Owns))]
     pub fn owns(&self, retrieved: &Retrieved) -> bool
         ensures { IsTrue result ↔ Owns self.now retrieved.now.link retrieved.now.messages.items }
     {
-        match hand_of(self.links.as_slice(), retrieved.link) {
+        match retrieval_of(self.links.as_slice(), retrieved.link) {
             Some(counts) => counts == counts_of(&retrieved.messages),
             None => false,
         }
     }
 
-    /// Diverts a hand, and ends the changeover where all of it went.
+    /// Diverts a retrieval, and ends the changeover where all of it went.
     #[tactic(auto, unfolding(crate::specs::Diverting::diverted, crate::specs::Diverting::after_divert))]
     fn divert_all(&mut self, at: usize, messages: &mut VecDeque<Msu>) -> Result<(), DivertFault>
         requires { All IsMessage messages.old.items }
@@ -42,7 +44,7 @@ impl Group {
         ensures whole { All IsMessage messages.new.items }
     {
         let able = open_links(self.links.as_slice(), false);
-        match hand_over(
+        match divert_all(
             self.links.as_mut_slice(),
             &mut self.table,
             able.as_slice(),
@@ -61,14 +63,14 @@ impl Group {
         }
     }
 
-    /// Diverts messages in hand (Q.704, diversion of traffic): of one selection after another, from 0 up, all go in order to the link that the
+    /// Diverts retrieved messages (Q.704, diversion of traffic): of one selection after another, from 0 up, all go in order to the link that the
     /// selection has among the other links in service that didn't fail; `send` takes the selection's messages there from then on. Where all have
     /// gone, the changeover ends. Where no such link is left and their own link is in service, all go back to that. It takes no memory.
     ///
     /// # Errors
     ///
     /// `K1 NoLink` where no link may take them, their own neither; `E1 Full` where the link of a selection would hold more than 1,151: none of that
-    /// selection went, nor of those behind it (of a hand that is to go back, none at all). With the fault comes what is still in hand.
+    /// selection went, nor of those behind it (of a retrieval that is to go back, none at all). With the fault comes what is not diverted yet.
     pub fn divert(&mut self, retrieved: Retrieved) -> Result<(), DivertError>
         requires { Owns self.old retrieved.link retrieved.messages.items }
         ensures fault { fault_in result ≡ (diverted self.old retrieved.link retrieved.messages.items).fault }

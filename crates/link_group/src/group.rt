@@ -1,14 +1,13 @@
 //! The set.
 ghost use Rattle.std.specs.Prelude.{◌≡◌, ◌<◌, length};
-ghost use Rattle.link_places.specs.Sharing.{link_of};
-ghost use Rattle.group_links.specs.Limits.{MOST_LINKS, POINT_CODES};
-ghost use Rattle.link_labels.specs.Changeovers.{IsKind, Says};
+ghost use Rattle.group_changeover.specs.Sharing.{link_of};
+ghost use Rattle.group_members.specs.Limits.{MOST_LINKS, POINT_CODES};
+ghost use Rattle.group_changeover.specs.Changeovers.{IsKind, Says};
 ghost use Rattle.link_group.specs.Changing.{message};
 
 use arrayvec::ArrayVec;
-use group_links::Link;
-use link_labels::{Changeover, Kind, Label};
-use link_places::Table;
+use group_changeover::{Changeover, Kind, Label, Table};
+use group_members::Link;
 use std::marker::Model;
 
 /// The octets of a message of changeover, as a signalling information field.
@@ -28,7 +27,7 @@ impl Model for Group {
     ghost use Rattle.std.specs.Prelude.{◌<◌, ◌≤◌, length};
     ghost use Rattle.std.specs.Coded.{codes};
     ghost use Rattle.tick_wheel.specs.Timers.{timers_code};
-    ghost use Rattle.group_links.specs.Limits.{MOST_LINKS, POINT_CODES};
+    ghost use Rattle.group_members.specs.Limits.{MOST_LINKS, POINT_CODES};
     ghost use Rattle.link_group.specs.Set.{LinkSet};
 
     ghost Value = { LinkSet };

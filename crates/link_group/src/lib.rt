@@ -4,21 +4,22 @@
 
 mod ending;
 mod group;
-mod hands;
+mod laws;
 mod lines;
 mod new;
 mod placing;
 mod reading;
+mod retrievals;
 mod retrieved;
 mod sending;
 mod ticks;
 
 pub use ending::DivertError;
 pub use group::{Group, Sif};
-pub use group_links::{
+pub use group_changeover::Label;
+pub use group_members::{
     AbandonError, CallError, Command, CommandError, DivertFault, FailError, LineError, LinkError,
     LinkStatus, Mode, Msu, RebalanceError, Report, RetrieveError, SendError, Terminal,
 };
-pub use hands::{Ended, Hands};
-pub use link_labels::Label;
+pub use retrievals::{Ended, Retrievals};
 pub use retrieved::Retrieved;

@@ -1,11 +1,11 @@
 //! What a set does by one of its terminals.
 ghost use Rattle.std.specs.Prelude.{◌≡◌, ◌↔◌, ◌≤◌, ◌<◌, length, true, slice_get, IfOk, IfErr, OnOk, OnErr, Err};
 ghost use Rattle.link_group.specs.Lines.{ByLink, seen, IsCommandError};
-ghost use Rattle.group_links.specs.Doing.{Listened, Spoken, Sent, Reported, low_at};
-ghost use Rattle.group_links.specs.Commanding.{Commanded};
+ghost use Rattle.group_members.specs.Doing.{Listened, Spoken, Sent, Reported, low_at};
+ghost use Rattle.group_members.specs.Commanding.{Commanded};
 
 use crate::group::Group;
-use group_links::{
+use group_members::{
     Command, CommandError, LineError, LinkError, Report, command_at, listen_at, see_at, send_at,
     speak_at, tell_at,
 };

@@ -1,11 +1,11 @@
 //! New sets.
 ghost use Rattle.std.specs.Prelude.{◌≡◌, ◌<◌, ◌≤◌, All, vec_len, IfOk, IfErr};
-ghost use Rattle.group_links.specs.Limits.{MOST_LINKS, POINT_CODES};
-ghost use Rattle.group_links.specs.New.{IsUnused};
+ghost use Rattle.group_members.specs.Limits.{MOST_LINKS, POINT_CODES};
+ghost use Rattle.group_members.specs.New.{IsUnused};
 ghost use Rattle.link_group.specs.New.{new_set};
 
 use crate::group::Group;
-use group_links::{Terminal, all_fresh, open_links, table_of};
+use group_members::{Terminal, all_fresh, open_links, table_of};
 use std::alloc::Global;
 
 impl Group {

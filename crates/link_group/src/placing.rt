@@ -1,12 +1,12 @@
 //! Selections get links.
 ghost use Rattle.std.specs.Prelude.{◌≡◌, ◌<◌, false, OnOk, OnErr};
-ghost use Rattle.link_places.specs.Sharing.{selections};
-ghost use Rattle.group_links.specs.OneLink.{fault_of};
-ghost use Rattle.group_links.specs.Moving.{open_links};
+ghost use Rattle.group_changeover.specs.Sharing.{selections};
+ghost use Rattle.group_members.specs.OneLink.{fault_of};
+ghost use Rattle.group_members.specs.Moving.{open_links};
 ghost use Rattle.link_group.specs.Placing.{placed_anew, rebalance_fault, rebalanced};
 
 use crate::group::Group;
-use group_links::{
+use group_members::{
     RebalanceError, any_changing, any_in_way, forgive_all, open_links, table_anew, table_of,
 };
 

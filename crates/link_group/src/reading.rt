@@ -1,15 +1,15 @@
 //! What a set tells of its links.
 ghost use Rattle.std.specs.Prelude.{◌≡◌, is_some, slice_get};
 ghost use Rattle.std.specs.Option.{option_copied};
-ghost use Rattle.group_links.specs.OneLink.{held};
-ghost use Rattle.group_links.specs.Links.{read_at};
+ghost use Rattle.group_members.specs.OneLink.{held};
+ghost use Rattle.group_members.specs.Links.{read_at};
 ghost use Rattle.link_group.specs.Reading.{held_count, sent_count, message_at, terminal_of, book_of};
-ghost use Rattle.group_links.specs.Tables.{changing_by};
-ghost use Rattle.group_links.specs.Moving.{hand_of};
+ghost use Rattle.group_members.specs.Tables.{changing_by};
+ghost use Rattle.group_members.specs.Moving.{retrieval_of};
 
 use crate::group::Group;
-use group_links::{Msu, Terminal, hand_of};
-use link_heart::Book;
+use group_members::{Msu, Terminal, retrieval_of};
+use link_processes::Book;
 
 impl Group {
     /// How many messages a link holds, if it is there.
@@ -47,16 +47,16 @@ impl Group {
         ensures { result ≡ changing_by (slice_get self.now.links link) }
     {
         match self.links.get(link) {
-            Some(link) => link.marks.changing.is_some(),
+            Some(link) => link.availability.changing.is_some(),
             None => false,
         }
     }
 
-    /// Whether a link's hand is out: its messages are handed out, and not all diverted yet. One without messages counts too.
-    pub fn in_hand(&self, link: usize) -> bool
-        ensures { result ≡ is_some (hand_of (slice_get self.now.links link)) }
+    /// Whether a link's retrieval is out: its messages are handed out, and not all diverted yet. One without messages counts too.
+    pub fn has_retrieval(&self, link: usize) -> bool
+        ensures { result ≡ is_some (retrieval_of (slice_get self.now.links link)) }
     {
-        hand_of(self.links.as_slice(), link).is_some()
+        retrieval_of(self.links.as_slice(), link).is_some()
     }
 
     /// The terminal of a link, if it is there.

@@ -1,8 +1,8 @@
-//! Messages in hand.
+//! Retrieved messages.
 ghost use Rattle.std.specs.Prelude.{◌≡◌, All, length};
 ghost use Rattle.resend_store.specs.Messages.{IsMessage};
 
-use group_links::Msu;
+use group_members::Msu;
 use std::collections::VecDeque;
 
 /// The messages that a link which failed handed out. It can't be dropped: a set takes it, to divert them, or as it ends.
@@ -28,7 +28,7 @@ impl Retrieved {
     }
 }
 
-/// A hand that is kept.
+/// A retrieval that is kept.
 #[derive(Drop)]
 pub(crate) struct Kept {
     pub(crate) link: usize,

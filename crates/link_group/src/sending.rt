@@ -1,22 +1,21 @@
 //! Messages to send, and messages of a changeover.
 ghost use Rattle.std.specs.Prelude.{◌≡◌, Option, Some, OnOk, OnErr, IfOk, ◌<◌};
-ghost use Rattle.link_places.specs.Limits.{SELECTIONS};
-ghost use Rattle.link_places.specs.Sharing.{selection_of};
-ghost use Rattle.link_labels.specs.Labels.{label_in, IsLabel};
-ghost use Rattle.link_labels.specs.Changeovers.{Says};
-ghost use Rattle.link_labels.specs.declared.changeover.Changeover.{Changeover as PlainChangeover};
-ghost use Rattle.group_links.specs.OneLink.{fault_of, retrieve_refusal, abandon_refusal};
+ghost use Rattle.group_changeover.specs.Limits.{SELECTIONS};
+ghost use Rattle.group_changeover.specs.Sharing.{selection_of};
+ghost use Rattle.group_changeover.specs.Labels.{label_in, IsLabel};
+ghost use Rattle.group_changeover.specs.Changeovers.{Says};
+ghost use Rattle.group_changeover.specs.declared.changeover.Changeover.{Changeover as PlainChangeover};
+ghost use Rattle.group_members.specs.OneLink.{fault_of, retrieve_refusal, abandon_refusal};
 ghost use Rattle.link_group.specs.Set.{send_fault, sent};
-ghost use Rattle.link_group.specs.Changing.{fail_fault, failed, order_at, IsReply, IsRead, after_message, reply_to, retrieve_fault_at, after_retrieve, messages_for, abandon_fault_at, after_abandon, unsent_at};
+ghost use Rattle.link_group.specs.Changing.{fail_fault, after_failure, order_at, IsReply, IsRead, after_message, reply_to, retrieve_fault_at, after_retrieve, messages_for, abandon_fault_at, after_abandon, unsent_at};
 
 use crate::group::{Group, Sif, sif_of};
 use crate::retrieved::Retrieved;
-use group_links::{
+use group_changeover::{Changeover, Label, read_changeover, selection_of};
+use group_members::{
     AbandonError, FailError, Msu, RetrieveError, SendError, abandon_at, fail_at, hear_at, put_at,
     retrieve_at,
 };
-use link_labels::{Changeover, Label, read_changeover};
-use link_places::selection_of;
 
 impl Group {
     /// Takes a message to send, whose field begins with this label. It waits behind all others with the link of its selection.
@@ -44,11 +43,11 @@ impl Group {
     /// # Errors
     ///
     /// `K1 NoLink` where it isn't there, `K2 Waiting` where its changeover goes on. Nothing changes then.
-    #[tactic(auto, unfolding(crate::specs::Changing::fail_fault, crate::specs::Changing::failed))]
+    #[tactic(auto, unfolding(crate::specs::Changing::fail_fault, crate::specs::Changing::after_failure))]
     pub fn fail(&mut self, link: usize) -> Result<Sif, FailError>
         ensures fault { fault_of result ≡ fail_fault self.old link }
         ensures order { IfOk result (λ sif. Says sif.items (order_at self.old link)) }
-        ensures ok { OnOk result (self.new ≡ failed self.old link) }
+        ensures ok { OnOk result (self.new ≡ after_failure self.old link) }
         ensures err { OnErr result (self.new ≡ self.old) }
     {
         let kind = fail_at(self.links.as_mut_slice(), link)?;
@@ -97,8 +96,8 @@ impl Group {
     #[tactic(auto, unfolding(crate::specs::Changing::retrieve_fault_at, crate::specs::Changing::after_retrieve, crate::specs::Changing::messages_for))]
     pub fn retrieve(&mut self, link: usize) -> Result<Retrieved, RetrieveError>
         ensures fault { retrieve_refusal result ≡ retrieve_fault_at self.old link }
-        ensures link { IfOk result (λ hand. hand.link ≡ link) }
-        ensures messages { IfOk result (λ hand. hand.messages.items ≡ messages_for self.old link) }
+        ensures link { IfOk result (λ retrieval. retrieval.link ≡ link) }
+        ensures messages { IfOk result (λ retrieval. retrieval.messages.items ≡ messages_for self.old link) }
         ensures ok { OnOk result (self.new ≡ after_retrieve self.old link) }
         ensures err { OnErr result (self.new ≡ self.old) }
     {
@@ -116,8 +115,8 @@ impl Group {
     #[tactic(auto, unfolding(crate::specs::Changing::abandon_fault_at, crate::specs::Changing::after_abandon, crate::specs::Changing::unsent_at))]
     pub fn abandon(&mut self, link: usize) -> Result<Retrieved, AbandonError>
         ensures fault { abandon_refusal result ≡ abandon_fault_at self.old link }
-        ensures link { IfOk result (λ hand. hand.link ≡ link) }
-        ensures messages { IfOk result (λ hand. hand.messages.items ≡ unsent_at self.old link) }
+        ensures link { IfOk result (λ retrieval. retrieval.link ≡ link) }
+        ensures messages { IfOk result (λ retrieval. retrieval.messages.items ≡ unsent_at self.old link) }
         ensures ok { OnOk result (self.new ≡ after_abandon self.old link) }
         ensures err { OnErr result (self.new ≡ self.old) }
     {

@@ -1,11 +1,11 @@
 //! Ticks.
 ghost use Rattle.std.specs.Prelude.{◌≡◌, None, IfOk, IfErr, OnOk};
-ghost use Rattle.group_links.specs.Ticking.{all_due};
+ghost use Rattle.group_members.specs.Ticking.{all_due};
 ghost use Rattle.link_group.specs.Lines.{all_seen};
 ghost use Rattle.link_group.specs.Ticks.{with_room, tick_fault, after_ticks, IsTickError};
 
 use crate::group::Group;
-use group_links::{CallError, make_room_all, pass_all, see_all, tick_refusal};
+use group_members::{CallError, make_room_all, pass_all, see_all, tick_refusal};
 
 impl Group {
     /// Looks which links came into service: as one does so for the first time, the table is made anew.

@@ -7,8 +7,8 @@ use Rattle.su_octets.proofs.BitLists.{bits_of-append}
 use Rattle.bit_line.specs.Deframing.{Stands}
 use Rattle.bit_line.specs.Events.{AreEvents}
 use Rattle.bit_line.specs.declared.events.LineEvent.{LineEvent}
-use Rattle.link_heart.specs.declared.heart.Heart.{Heart}
-use Rattle.link_term.specs.Term.{Term, with_heart}
+use Rattle.link_processes.specs.declared.processes.Processes.{Processes}
+use Rattle.link_term.specs.Term.{Term, with_processes}
 use Rattle.link_term.specs.Hearing.{Hears, silent, octet, Heard}
 use Rattle.link_term.specs.Laws.{CuttingsAgree}
 
@@ -24,7 +24,7 @@ pub next_bits : (bits : List Bool) (x : ℕ) (xs : List ℕ) → bits ++ bits_of
 unfolding bits_of
 next_bits bits x xs = sym (append_assoc bits (low_bits 8 x) (bits_of xs))
 
-hears_joined : (bits : List Bool) (all mid now : List LineEvent) (t m u : Heart) (xs ys : List ℕ) → Hears bits all t xs mid m
+hears_joined : (bits : List Bool) (all mid now : List LineEvent) (t m u : Processes) (xs ys : List ℕ) → Hears bits all t xs mid m
     → Hears (bits ++ bits_of xs) mid m ys now u → Hears bits all t (xs ++ ys) now u
 hears_joined _ _ _ now _ _ u _ ys (silent bits all t) h =
     let P : List Bool → Type 0 = λ b. Hears b all t ys now u in subst P (no_bits bits) h
@@ -42,7 +42,7 @@ heard_joined t m u xs ys first second = record {
       let one = first.hears bits all stands are in
       let two = second.hears (bits ++ bits_of xs) one.0 (first.stands bits stands) one.1 in
       let P : List Bool → Type 0 = λ b. AreEvents b two.0 in
-      (two.0, subst P (bits_behind bits xs ys) two.1, hears_joined bits all one.0 two.0 t.heart m.heart u.heart xs ys one.2 two.2);
+      (two.0, subst P (bits_behind bits xs ys) two.1, hears_joined bits all one.0 two.0 t.processes m.processes u.processes xs ys one.2 two.2);
   sending = second.sending ∙ first.sending;
 }
 
@@ -51,7 +51,7 @@ heard_nothing t = record {
   stands = λ bits stands. let P : List Bool → Type 0 = λ b. Stands b t.line in subst P (sym (no_bits bits)) stands;
   hears = λ bits all stands are.
       let P : List Bool → Type 0 = λ b. AreEvents b all in
-      (all, subst P (sym (no_bits bits)) are, silent bits all t.heart);
+      (all, subst P (sym (no_bits bits)) are, silent bits all t.processes);
   sending = refl;
 }
 
@@ -78,7 +78,7 @@ pub heard_from : (old inside new : Term) (xs : List ℕ) → inside ≡ old → 
 heard_from old inside new xs h heard = let P : Term → Type 0 = λ t. Heard t xs new in subst P h heard
 
 -- nothing was taken, and nothing changed
-pub heard_none : (old t : Term) (h : Heart) → t ≡ old → h ≡ t.heart → Heard old [] (with_heart t h)
+pub heard_none : (old t : Term) (h : Processes) → t ≡ old → h ≡ t.processes → Heard old [] (with_processes t h)
 heard_none old t h is same =
-    let P : Heart → Type 0 = λ x. Heard old [] (with_heart t x) in
+    let P : Processes → Type 0 = λ x. Heard old [] (with_processes t x) in
     subst P (sym same) (heard_from old t t [] is (heard_nothing t))

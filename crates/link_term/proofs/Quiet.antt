@@ -9,15 +9,15 @@ use Rattle.bit_line.specs.Events.{AreEvents, Runs, reports}
 use Rattle.bit_line.specs.declared.events.LineEvent.{LineEvent}
 use Rattle.bit_line.specs.declared.deframer.Deframer.{Deframer}
 use Rattle.bit_line.proofs.EventLaws.{one_events, stands_events}
-use Rattle.link_machine.specs.Ledger.{Ledger, rebased, next}
-use Rattle.link_side.specs.Half.{Half}
-use Rattle.link_side.specs.Limits.{KEPT_MESSAGES}
-use Rattle.link_heart.specs.declared.heart.Heart.{Heart}
-use Rattle.link_heart.specs.Machine.{with_book, tidied, is_low}
+use Rattle.actor_machine.specs.Ledger.{Ledger, rebased, next}
+use Rattle.link_transceiver.specs.TransceiverState.{TransceiverState}
+use Rattle.link_transceiver.specs.Limits.{KEPT_MESSAGES}
+use Rattle.link_processes.specs.declared.processes.Processes.{Processes}
+use Rattle.link_processes.specs.Machine.{with_book, tidied, is_low}
 use Rattle.link_term.specs.Term.{Term}
 use Rattle.link_term.specs.Hearing.{AreTaken, nothing, Hears, silent, octet, Heard}
 use Rattle.link_term.proofs.Cutting.{no_bits, next_bits, one_bits}
-use Rattle.link_term.proofs.Delivering.{tidied_side}
+use Rattle.link_term.proofs.Delivering.{tidied_transceiver}
 
 -- ---- room that was made is there
 
@@ -28,26 +28,26 @@ rebased_twice : (b : Ledger) → rebased (rebased b) ≡ rebased b
 unfolding rebased
 rebased_twice b = let e : next (rebased b) ≡ next b = omega arith in ap (λ (n : ℕ). ledger_from b n) e
 
-either_way : (c : Bool) (x y : Heart) → x ≡ y → (if c then x else y) ≡ y
+either_way : (c : Bool) (x y : Processes) → x ≡ y → (if c then x else y) ≡ y
 either_way true x y h = h
 either_way false x y h = refl
 
--- a heart whose book was rebased is as it was rebased once more
-rebased_stays : (t : Heart) → tidied (with_book t (rebased t.book)) ≡ with_book t (rebased t.book)
+-- the processes whose book was rebased is as it was rebased once more
+rebased_stays : (t : Processes) → tidied (with_book t (rebased t.book)) ≡ with_book t (rebased t.book)
 unfolding tidied
 rebased_stays t =
-    let u : Heart = with_book t (rebased t.book) in
+    let u : Processes = with_book t (rebased t.book) in
     either_way (is_low u) (with_book u (rebased u.book)) u (ap (λ (b : Ledger). with_book t b) (rebased_twice t.book))
 
-abbrev tidied_by : Bool → Heart → Heart
+abbrev tidied_by : Bool → Processes → Processes
 tidied_by c t = if c then with_book t (rebased t.book) else t
 
-made_twice : (c : Bool) (t : Heart) → c ≡ is_low t → tidied (tidied_by c t) ≡ tidied_by c t
+made_twice : (c : Bool) (t : Processes) → c ≡ is_low t → tidied (tidied_by c t) ≡ tidied_by c t
 unfolding tidied
 made_twice true t h = rebased_stays t
 made_twice false t h = ap (λ (c : Bool). tidied_by c t) (sym h)
 
-pub tidied_twice : (t : Heart) → tidied (tidied t) ≡ tidied t
+pub tidied_twice : (t : Processes) → tidied (tidied t) ≡ tidied t
 unfolding tidied
 tidied_twice t = made_twice (is_low t) t refl
 
@@ -85,7 +85,7 @@ quiet_first bits x y all before after =
 -- ---- octets in turn
 
 -- room is made before the first of them, and is there before each of the others
-hears_run : (bits : List Bool) (all given : List LineEvent) (t u : Heart) (xs : List ℕ) (x : ℕ) → length t.side.messages < KEPT_MESSAGES
+hears_run : (bits : List Bool) (all given : List LineEvent) (t u : Processes) (xs : List ℕ) (x : ℕ) → length t.transceiver.messages < KEPT_MESSAGES
     → AreEvents bits all → AreEvents (bits ++ bits_of xs) all → AreEvents ((bits ++ bits_of xs) ++ low_bits 8 x) (all ++ given)
     → AreTaken given (tidied t) u → Hears bits all t (xs ++ x ∷ []) (all ++ given) u
 hears_run bits all given t u [] x room quiet before after taken =
@@ -97,13 +97,13 @@ hears_run bits all given t u (y ∷ ys) x room quiet before after taken =
     let Q : List Bool → Type 0 = λ b. AreEvents (b ++ low_bits 8 x) (all ++ given) in
     let R : List LineEvent → Type 0 = λ l. AreEvents next l in
     let S : List LineEvent → Type 0 = λ l. Hears next l (tidied t) (ys ++ x ∷ []) (all ++ given) u in
-    let T : Heart → Type 0 = λ h. AreTaken given h u in
-    let M : Half → Type 0 = λ h. length h.messages < KEPT_MESSAGES in
+    let T : Processes → Type 0 = λ h. AreTaken given h u in
+    let M : TransceiverState → Type 0 = λ h. length h.messages < KEPT_MESSAGES in
     let behind : AreEvents (next ++ bits_of ys) all = subst P (next_bits bits y ys) before in
     let still : AreEvents next all = quiet_first bits (low_bits 8 y) (bits_of ys) all quiet behind in
     octet bits all [] t (tidied t) u y (ys ++ x ∷ []) (all ++ given) room (subst R (sym (append-nil all)) still) (nothing (tidied t))
     (subst S (sym (append-nil all))
-    (hears_run next all given (tidied t) u ys x (subst M (sym (tidied_side t)) room) still behind (subst Q (next_bits bits y ys) after)
+    (hears_run next all given (tidied t) u ys x (subst M (sym (tidied_transceiver t)) room) still behind (subst Q (next_bits bits y ys) after)
     (subst T (sym (tidied_twice t)) taken)))
 
 last_bits : (bits : List Bool) (xs : List ℕ) (x : ℕ) → bits ++ bits_of (xs ++ x ∷ []) ≡ (bits ++ bits_of xs) ++ low_bits 8 x
@@ -129,8 +129,8 @@ before_last bits all [] octets n some whole quiet after before =
     let behind = subst P (ap (λ (xs : List ℕ). bits ++ bits_of xs) is ∙ last_bits bits (take (n - 1) octets) (get_or octets (n - 1) 0)) after in
     (least, quiet_first bits (bits_of (take (n - 1) octets)) (low_bits 8 (get_or octets (n - 1) 0)) all quiet (subst Q (append-nil all) behind))
 
-hears_part : (bits : List Bool) (all given : List LineEvent) (t u : Heart) (octets : List ℕ) (n : ℕ) → n ≤ length octets
-    → length t.side.messages < KEPT_MESSAGES → AreEvents bits all → AreEvents (bits ++ bits_of (take n octets)) (all ++ given)
+hears_part : (bits : List Bool) (all given : List LineEvent) (t u : Processes) (octets : List ℕ) (n : ℕ) → n ≤ length octets
+    → length t.transceiver.messages < KEPT_MESSAGES → AreEvents bits all → AreEvents (bits ++ bits_of (take n octets)) (all ++ given)
     → (0 < n) × AreEvents (bits ++ bits_of (take (n - 1) octets)) all → AreTaken given (tidied t) u
     → Hears bits all t (take n octets) (all ++ given) u
 hears_part bits all given t u octets n within room quiet after before taken =
@@ -149,14 +149,14 @@ pub heard_part : (t u : Term) (octets : List ℕ) (n : ℕ) (given : List LineEv
     → ((bits : List Bool) (all : List LineEvent) → Stands bits t.line → AreEvents bits all → AreEvents (bits ++ bits_of (take n octets)) (all ++ given))
     → (given ≢ [] → (bits : List Bool) (all : List LineEvent) → Stands bits t.line → AreEvents bits all
     → (0 < n) × AreEvents (bits ++ bits_of (take (n - 1) octets)) all)
-    → length t.heart.side.messages < KEPT_MESSAGES → AreTaken given (tidied t.heart) u.heart → u.sending ≡ t.sending → Heard t (take n octets) u
+    → length t.processes.transceiver.messages < KEPT_MESSAGES → AreTaken given (tidied t.processes) u.processes → u.sending ≡ t.sending → Heard t (take n octets) u
 heard_part t u octets n given some within whole stands events before room taken sending = record {
   stands = stands;
   hears = λ bits all s are.
       let after : AreEvents (bits ++ bits_of (take n octets)) (all ++ given) = events bits all s are in
       let near : (0 < n) × AreEvents (bits ++ bits_of (take (n - 1) octets)) all =
       before_last bits all given octets n some whole are after (λ more. before more bits all s are) in
-      (all ++ given, after, hears_part bits all given t.heart u.heart octets n within room are after near taken);
+      (all ++ given, after, hears_part bits all given t.processes u.processes octets n within room are after near taken);
   sending = sending;
 }
 

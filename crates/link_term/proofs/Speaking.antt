@@ -5,8 +5,8 @@ use Rattle.su_octets.specs.Frame.{Frame, SpareBitsAreZero}
 use Rattle.su_octets.specs.declared.units.Unit as units
 use Rattle.bit_line.specs.Stuffers.{Gave}
 use Rattle.bit_line.specs.declared.stuffer.Stuffer.{Stuffer}
-use Rattle.link_heart.specs.declared.heart.Heart.{Heart}
-use Rattle.link_heart.specs.Machine.{sent, tidied, is_low}
+use Rattle.link_processes.specs.declared.processes.Processes.{Processes}
+use Rattle.link_processes.specs.Machine.{sent, tidied, is_low}
 use Rattle.link_term.specs.Term.{Term}
 use Rattle.link_term.specs.Speaking.{AreFrames, Speaks, given, left, Spoke, IsSpoken}
 
@@ -51,56 +51,56 @@ speaks_one s t before after more octets u frame spare behind gave =
 suc_more : (k : ℕ) → suc k + 1 ≡ suc (k + 1)
 suc_more k = omega arith
 
-left_next : (k : ℕ) (t : Heart) → left (k + 1) t ≡ left 1 (left k t)
+left_next : (k : ℕ) (t : Processes) → left (k + 1) t ≡ left 1 (left k t)
 left_next zero t = refl
-left_next (suc k) t = ap (λ (j : ℕ). left j t) (suc_more k) ∙ left_next k (sent (tidied t)).heart
+left_next (suc k) t = ap (λ (j : ℕ). left j t) (suc_more k) ∙ left_next k (sent (tidied t)).processes
 
-given_next : (k : ℕ) (t : Heart) → given (k + 1) t ≡ given k t ++ given 1 (left k t)
+given_next : (k : ℕ) (t : Processes) → given (k + 1) t ≡ given k t ++ given 1 (left k t)
 given_next zero t = refl
 given_next (suc k) t =
     ap (λ (j : ℕ). given j t) (suc_more k)
-    ∙ ap (λ (us : List units.Unit). option_to_list (sent (tidied t)).unit ++ us) (given_next k (sent (tidied t)).heart)
-    ∙ sym (append_assoc (option_to_list (sent (tidied t)).unit) (given k (sent (tidied t)).heart) (given 1 (left k (sent (tidied t)).heart)))
+    ∙ ap (λ (us : List units.Unit). option_to_list (sent (tidied t)).unit ++ us) (given_next k (sent (tidied t)).processes)
+    ∙ sym (append_assoc (option_to_list (sent (tidied t)).unit) (given k (sent (tidied t)).processes) (given 1 (left k (sent (tidied t)).processes)))
 
 pub spoke_nothing : (t : Term) (before : List ℕ) → Spoke t before 0 t before
-spoke_nothing t before = record { heart = refl; line = refl; speaks = speaks_nothing t.sending before }
+spoke_nothing t before = record { processes = refl; line = refl; speaks = speaks_nothing t.sending before }
 
 pub spoke_more : (t m u : Term) (a b c : List ℕ) (n : ℕ) → Spoke t a n m b → Spoke m b 1 u c → Spoke t a (n + 1) u c
 spoke_more t m u a b c n first second =
     let P : List units.Unit → Type 0 = λ us. Speaks t.sending a us u.sending c in
-    let next : Speaks m.sending b (given 1 (left n t.heart)) u.sending c =
-    subst (λ (h : Heart). Speaks m.sending b (given 1 h) u.sending c) first.heart second.speaks in
+    let next : Speaks m.sending b (given 1 (left n t.processes)) u.sending c =
+    subst (λ (h : Processes). Speaks m.sending b (given 1 h) u.sending c) first.processes second.speaks in
     record {
-      heart = second.heart ∙ ap (left 1) first.heart ∙ sym (left_next n t.heart);
+      processes = second.processes ∙ ap (left 1) first.processes ∙ sym (left_next n t.processes);
       line = second.line ∙ first.line;
-      speaks = subst P (sym (given_next n t.heart))
-          (speaks_joined t.sending m.sending u.sending a b c (given n t.heart) (given 1 (left n t.heart)) first.speaks next);
+      speaks = subst P (sym (given_next n t.processes))
+          (speaks_joined t.sending m.sending u.sending a b c (given n t.processes) (given 1 (left n t.processes)) first.speaks next);
     }
 
 list_of_some : (o : Option units.Unit) (u : units.Unit) → o ≡ Some u → u ∷ [] ≡ option_to_list o ++ []
 list_of_some o u h = sym (ap (λ (x : Option units.Unit). option_to_list x ++ []) h)
 
 -- a unit went out
-pub spoke_unit : (t m u : Term) (a b : List ℕ) (x : units.Unit) → Some x ≡ (sent (tidied t.heart)).unit → m.heart ≡ (sent (tidied t.heart)).heart
-    → u.heart ≡ m.heart → u.line ≡ t.line → Speaks t.sending a (x ∷ []) u.sending b → Spoke t a 1 u b
-spoke_unit t m u a b x unit heart same line speaks =
+pub spoke_unit : (t m u : Term) (a b : List ℕ) (x : units.Unit) → Some x ≡ (sent (tidied t.processes)).unit → m.processes ≡ (sent (tidied t.processes)).processes
+    → u.processes ≡ m.processes → u.line ≡ t.line → Speaks t.sending a (x ∷ []) u.sending b → Spoke t a 1 u b
+spoke_unit t m u a b x unit processes same line speaks =
     let P : List units.Unit → Type 0 = λ us. Speaks t.sending a us u.sending b in
-    record { heart = same ∙ heart; line = line; speaks = subst P (list_of_some (sent (tidied t.heart)).unit x (sym unit)) speaks }
+    record { processes = same ∙ processes; line = line; speaks = subst P (list_of_some (sent (tidied t.processes)).unit x (sym unit)) speaks }
 
 none_given : (o : Option units.Unit) → o ≡ None → [] ≡ option_to_list o ++ []
 none_given o h = sym (ap (λ (x : Option units.Unit). option_to_list x ++ []) h)
 
 -- nothing was said of the line
-pub spoke_none : (t u : Term) (a b : List ℕ) → None ≡ (sent (tidied t.heart)).unit → u.heart ≡ (sent (tidied t.heart)).heart → u.line ≡ t.line
+pub spoke_none : (t u : Term) (a b : List ℕ) → None ≡ (sent (tidied t.processes)).unit → u.processes ≡ (sent (tidied t.processes)).processes → u.line ≡ t.line
     → u.sending ≡ t.sending → b ≡ a → Spoke t a 1 u b
-spoke_none t u a b unit heart line sending same =
+spoke_none t u a b unit processes line sending same =
     let P : List units.Unit → Type 0 = λ us. Speaks t.sending a us u.sending b in
     let Q : Stuffer → Type 0 = λ s. Speaks t.sending a [] s b in
     let R : List ℕ → Type 0 = λ xs. Speaks t.sending a [] t.sending xs in
     record {
-      heart = heart;
+      processes = processes;
       line = line;
-      speaks = subst P (none_given (sent (tidied t.heart)).unit (sym unit))
+      speaks = subst P (none_given (sent (tidied t.processes)).unit (sym unit))
           (subst Q (sym sending) (subst R (sym same) (speaks_nothing t.sending a)));
     }
 
@@ -120,12 +120,12 @@ speaks_from r s t a b c us h k speaks =
     subst P h (subst Q k speaks)
 
 -- the same where the terminal is taken apart for the stuffer
-pub spoke_apart : (t m inside u : Term) (a before b : List ℕ) (x : units.Unit) → Some x ≡ (sent (tidied t.heart)).unit
-    → m ≡ record t { heart = (sent (tidied t.heart)).heart } → inside ≡ m → u.heart ≡ inside.heart → u.line ≡ inside.line → before ≡ a
+pub spoke_apart : (t m inside u : Term) (a before b : List ℕ) (x : units.Unit) → Some x ≡ (sent (tidied t.processes)).unit
+    → m ≡ record t { processes = (sent (tidied t.processes)).processes } → inside ≡ m → u.processes ≡ inside.processes → u.line ≡ inside.line → before ≡ a
     → Speaks inside.sending before (x ∷ []) u.sending b → Spoke t a 1 u b
-spoke_apart t m inside u a before b x unit h view heart line same speaks =
-    let whole : inside ≡ record t { heart = (sent (tidied t.heart)).heart } = view ∙ h in
-    spoke_unit t inside u a b x unit (ap (λ (y : Term). y.heart) whole) heart (line ∙ ap (λ (y : Term). y.line) whole)
+spoke_apart t m inside u a before b x unit h view processes line same speaks =
+    let whole : inside ≡ record t { processes = (sent (tidied t.processes)).processes } = view ∙ h in
+    spoke_unit t inside u a b x unit (ap (λ (y : Term). y.processes) whole) processes (line ∙ ap (λ (y : Term). y.line) whole)
     (speaks_from inside.sending t.sending u.sending before a b (x ∷ []) (ap (λ (y : Term). y.sending) whole) same speaks)
 
 not_below : (n : ℕ) → n < n → ⊥
@@ -144,12 +144,12 @@ at_least_one : (n : ℕ) → 1 ≤ n → 0 < n
 at_least_one n h = omega (arith, h)
 
 pub spoken_less : (t m u : Term) (n asked : ℕ) (b octets : List ℕ) → 1 ≤ n → n < asked → Spoke t [] n m b → u ≡ m → octets ≡ b
-    → is_low m.heart ≡ true → IsSpoken t asked u octets
+    → is_low m.processes ≡ true → IsSpoken t asked u octets
 spoken_less t m u n asked b octets one less spoke h k low = record {
   count = n;
   most = omega (arith, less);
   first = λ some. at_least_one n one;
-  fewer = λ fewer. let P : Term → Type 0 = λ x. is_low x.heart ≡ true in subst P (sym h) low;
+  fewer = λ fewer. let P : Term → Type 0 = λ x. is_low x.processes ≡ true in subst P (sym h) low;
   spoke = spoke_same t m u [] b octets n h k spoke;
 }
 

@@ -7,30 +7,38 @@ use Rattle.bit_line.specs.Deframing.{Stands}
 use Rattle.bit_line.specs.Events.{AreEvents}
 use Rattle.bit_line.specs.declared.events.LineEvent.{LineEvent}
 use Rattle.bit_line.specs.declared.events.LineEvent.TheVariants as event
-use Rattle.link_heart.specs.declared.heart.Heart.{Heart}
-use Rattle.link_heart.specs.Machine.{unit_taken, error_taken, tidied}
-use Rattle.link_side.specs.Limits.{KEPT_MESSAGES}
+use Rattle.link_processes.specs.declared.processes.Processes.{Processes}
+use Rattle.link_processes.specs.Machine.{unit_taken, error_taken, tidied}
+use Rattle.link_transceiver.specs.Limits.{KEPT_MESSAGES}
 use Rattle.link_term.specs.Term.{Term}
 
 -- octets between two flags: those of a unit are taken as that unit, others as an error
-pub data Reads : List ℕ → Heart → Heart → Type 0 where
-  as_unit : (octets : List ℕ) (u : units.Unit) (t : Heart) → Frame octets u → Reads octets t (unit_taken u t)
-  as_error : (octets : List ℕ) (t : Heart) → ((u : units.Unit) → Frame octets u → ⊥) → Reads octets t (error_taken t)
+pub data Reads : List ℕ → Processes → Processes → Type 0 where
+  as_unit : (octets : List ℕ) (u : units.Unit) (t : Processes) → Frame octets u
+      → Reads octets t (unit_taken u t)
+  as_error : (octets : List ℕ) (t : Processes) → ((u : units.Unit) → Frame octets u → ⊥)
+      → Reads octets t (error_taken t)
 
 -- what the events of the line lead to, in their order
-pub data AreTaken : List LineEvent → Heart → Heart → Type 0 where
-  nothing : (t : Heart) → AreTaken [] t t
-  unit : (octets : List ℕ) (left : List LineEvent) (t u v : Heart) → Reads octets t u → AreTaken left u v
+pub data AreTaken : List LineEvent → Processes → Processes → Type 0 where
+  nothing : (t : Processes) → AreTaken [] t t
+  unit : (octets : List ℕ) (left : List LineEvent) (t u v : Processes) → Reads octets t u
+      → AreTaken left u v
       → AreTaken (event.Unit (record { items = octets }) ∷ left) t v
-  errored : (left : List LineEvent) (t v : Heart) → AreTaken left (error_taken t) v → AreTaken (event.Errored ∷ left) t v
-  sixteen : (left : List LineEvent) (t v : Heart) → AreTaken left (error_taken t) v → AreTaken (event.SixteenOctets ∷ left) t v
+  errored : (left : List LineEvent) (t v : Processes) → AreTaken left (error_taken t) v
+      → AreTaken (event.Errored ∷ left) t v
+  sixteen : (left : List LineEvent) (t v : Processes) → AreTaken left (error_taken t) v
+      → AreTaken (event.SixteenOctets ∷ left) t v
 
--- Octets, each of which finds room for a message: room is made in the journal where it is needed, and then come the events that the octet
--- brings behind the bits before it, of which `all` were told. `now` are those after the last octet.
-pub data Hears : List Bool → List LineEvent → Heart → List ℕ → List LineEvent → Heart → Type 0 where
-  silent : (bits : List Bool) (all : List LineEvent) (t : Heart) → Hears bits all t [] all t
-  octet : (bits : List Bool) (all given : List LineEvent) (t u v : Heart) (first : ℕ) (octets : List ℕ) (now : List LineEvent)
-      → length t.side.messages < KEPT_MESSAGES
+-- Octets, each of which finds room for a message: room is made in the journal where it is needed,
+-- and then come the events that the octet brings behind the bits before it, of which `all` were
+-- told. `now` are those after the last octet.
+pub data Hears :
+    List Bool → List LineEvent → Processes → List ℕ → List LineEvent → Processes → Type 0 where
+  silent : (bits : List Bool) (all : List LineEvent) (t : Processes) → Hears bits all t [] all t
+  octet : (bits : List Bool) (all given : List LineEvent) (t u v : Processes) (first : ℕ)
+      (octets : List ℕ) (now : List LineEvent)
+      → length t.transceiver.messages < KEPT_MESSAGES
       → AreEvents (bits ++ low_bits 8 first) (all ++ given)
       → AreTaken given (tidied t) u
       → Hears (bits ++ low_bits 8 first) (all ++ given) u octets now v
@@ -40,5 +48,6 @@ pub data Hears : List Bool → List LineEvent → Heart → List ℕ → List Li
 pub record Heard (old : Term) (octets : List ℕ) (new : Term) : Type 0 where
   pub stands : (bits : List Bool) → Stands bits old.line → Stands (bits ++ bits_of octets) new.line
   pub hears : (bits : List Bool) (all : List LineEvent) → Stands bits old.line → AreEvents bits all
-      → (now : List LineEvent) × AreEvents (bits ++ bits_of octets) now × Hears bits all old.heart octets now new.heart
+      → (now : List LineEvent) × AreEvents (bits ++ bits_of octets) now
+      × Hears bits all old.processes octets now new.processes
   pub sending : new.sending ≡ old.sending

@@ -2,14 +2,14 @@
 use Rattle.std.specs.Prelude.{◌≡◌, ℕ, ◌+◌, ◌≤◌, List, []}
 use Rattle.resend_store.specs.declared.messages.Msu.{Msu}
 use Rattle.resend_store.specs.Window.{Window}
-use Rattle.link_side.specs.Laws.{Loses}
+use Rattle.link_transceiver.specs.Laws.{Loses}
 use Rattle.link_term.specs.Term.{Term}
 
 abbrev pub window_of : Term → Window
-window_of t = t.heart.side.sender
+window_of t = t.processes.transceiver.sender
 
--- Some left, from the front: they were sent, and the far side acknowledged them. All others stand as they stood, and none of them counts as
--- sent that didn't.
+-- Some left, from the front: they were sent, and the far side acknowledged them. All others stand
+-- as they stood, and none of them counts as sent that didn't.
 pub record Took (old new : Term) : Type 0 where
   pub gone : List Msu
   pub loses : Loses gone (window_of old) (window_of new)

@@ -1,13 +1,13 @@
-pub mod Term
+pub mod Hearing
 pub mod Inside
 pub mod Kept
-pub mod Hearing
-pub mod Speaking
 pub mod Laws
 pub mod Opening
 pub mod Printed
-pub use Rattle.link_heart.specs.Machine
-pub use Rattle.link_heart.specs.Offering
-pub use Rattle.link_heart.specs.Wanted
-pub use Rattle.link_heart.specs.Printed as WantedText
-pub use Rattle.link_heart.specs.declared as link_heart_types
+pub mod Speaking
+pub mod Term
+pub use Rattle.link_processes.specs.Machine
+pub use Rattle.link_processes.specs.Offering
+pub use Rattle.link_processes.specs.Printed as WantedText
+pub use Rattle.link_processes.specs.Wanted
+pub use Rattle.link_processes.specs.declared as link_processes_types

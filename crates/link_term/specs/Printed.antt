@@ -1,7 +1,7 @@
 -- How it is printed that a terminal's call did not happen, or that there is no new terminal.
 use Rattle.std.specs.Prelude.{ℕ, List, ◌++◌, codes}
-use Rattle.link_machine.specs.Printed.{refusal_text}
-use Rattle.link_heart.specs.Printed.{wanted_text}
+use Rattle.actor_machine.specs.Printed.{refusal_text}
+use Rattle.link_processes.specs.Printed.{wanted_text}
 use Rattle.link_term.specs.declared.answers.CallError.{CallError}
 use Rattle.link_term.specs.declared.answers.CallError.TheVariants as call
 use Rattle.link_term.specs.declared.opening.OpenError.{OpenError}

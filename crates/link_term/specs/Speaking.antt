@@ -5,8 +5,8 @@ use Rattle.su_octets.specs.Frame.{Frame, SpareBitsAreZero}
 use Rattle.su_octets.specs.declared.units.Unit as units
 use Rattle.bit_line.specs.Stuffers.{Gave}
 use Rattle.bit_line.specs.declared.stuffer.Stuffer.{Stuffer}
-use Rattle.link_heart.specs.declared.heart.Heart.{Heart}
-use Rattle.link_heart.specs.Machine.{sent, tidied, is_low}
+use Rattle.link_processes.specs.declared.processes.Processes.{Processes}
+use Rattle.link_processes.specs.Machine.{sent, tidied, is_low}
 use Rattle.link_term.specs.Term.{Term}
 
 -- the octets of units, with spare bits 0
@@ -14,35 +14,39 @@ abbrev pub AreFrames : List (List ℕ) → List units.Unit → Type 0
 AreFrames [] [] = Unit {0}
 AreFrames [] (u ∷ us) = ⊥
 AreFrames (octets ∷ frames) [] = ⊥
-AreFrames (octets ∷ frames) (u ∷ us) = (Frame octets u × SpareBitsAreZero octets) × AreFrames frames us
+AreFrames (octets ∷ frames) (u ∷ us) =
+    (Frame octets u × SpareBitsAreZero octets) × AreFrames frames us
 
 -- line octets grew by the stuffing of these units
-pub record Speaks (old : Stuffer) (before : List ℕ) (us : List units.Unit) (new : Stuffer) (after : List ℕ) : Type 0 where
+pub record Speaks (old : Stuffer) (before : List ℕ) (us : List units.Unit) (new : Stuffer)
+    (after : List ℕ) : Type 0 where
   pub frames : List (List ℕ)
   pub are : AreFrames frames us
   pub more : List ℕ
   pub behind : after ≡ before ++ more
-  pub gave : (given : List ℕ) (sent : List (List ℕ)) → Gave given sent old → Gave (given ++ more) (sent ++ frames) new
+  pub gave : (given : List ℕ) (sent : List (List ℕ)) → Gave given sent old
+      → Gave (given ++ more) (sent ++ frames) new
 
 -- the units that a terminal gives, asked so often one after another
-abbrev pub given : ℕ → Heart → List units.Unit
+abbrev pub given : ℕ → Processes → List units.Unit
 given zero t = []
-given (suc k) t = option_to_list (sent (tidied t)).unit ++ given k (sent (tidied t)).heart
+given (suc k) t = option_to_list (sent (tidied t)).unit ++ given k (sent (tidied t)).processes
 
-abbrev pub left : ℕ → Heart → Heart
+abbrev pub left : ℕ → Processes → Processes
 left zero t = t
-left (suc k) t = left k (sent (tidied t)).heart
+left (suc k) t = left k (sent (tidied t)).processes
 
 -- so many units went out
 pub record Spoke (old : Term) (before : List ℕ) (n : ℕ) (new : Term) (after : List ℕ) : Type 0 where
-  pub heart : new.heart ≡ left n old.heart
+  pub processes : new.processes ≡ left n old.processes
   pub line : new.line ≡ old.line
-  pub speaks : Speaks old.sending before (given n old.heart) new.sending after
+  pub speaks : Speaks old.sending before (given n old.processes) new.sending after
 
--- So many units were asked for, and went out. They may be fewer where the journal lacks room, but the first isn't missing.
+-- So many units were asked for, and went out. They may be fewer where the journal lacks room, but
+-- the first isn't missing.
 pub record IsSpoken (old : Term) (asked : ℕ) (new : Term) (octets : List ℕ) : Type 0 where
   pub count : ℕ
   pub most : count ≤ asked
   pub first : 0 < asked → 0 < count
-  pub fewer : count < asked → is_low new.heart ≡ true
+  pub fewer : count < asked → is_low new.processes ≡ true
   pub spoke : Spoke old [] count new octets

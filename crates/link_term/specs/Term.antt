@@ -2,25 +2,25 @@
 use Rattle.std.specs.Prelude.{◌≡◌, ℕ, true, Some, Result, Ok, Err}
 use Rattle.bit_line.specs.declared.deframer.Deframer.{Deframer}
 use Rattle.bit_line.specs.declared.stuffer.Stuffer.{Stuffer}
-use Rattle.link_machine.specs.Step.{Answer, Says}
-use Rattle.link_machine.specs.declared.reply.Reply.{Reply}
-use Rattle.link_machine.specs.declared.reply.Reply.TheVariants as reply
-use Rattle.link_side.specs.Half.{Half}
-use Rattle.link_heart.specs.declared.heart.Heart.{Heart}
-use Rattle.link_heart.specs.Machine.{with_side, tidied, is_low, tick_refusal}
+use Rattle.actor_machine.specs.Step.{Answer, Says}
+use Rattle.actor_machine.specs.declared.reply.Reply.{Reply}
+use Rattle.actor_machine.specs.declared.reply.Reply.TheVariants as reply
+use Rattle.link_transceiver.specs.TransceiverState.{TransceiverState}
+use Rattle.link_processes.specs.declared.processes.Processes.{Processes}
+use Rattle.link_processes.specs.Machine.{with_transceiver, tidied, is_low, tick_refusal}
 use Rattle.link_term.specs.declared.answers.CallError.{CallError}
 use Rattle.link_term.specs.declared.answers.CallError.TheVariants.{Refused, NoMemory}
 
 pub record Term : Type 0 where
-  pub heart : Heart
+  pub processes : Processes
   pub line : Deframer
   pub sending : Stuffer
 
-abbrev pub with_heart : Term → Heart → Term
-with_heart t h = record t { heart = h }
+abbrev pub with_processes : Term → Processes → Term
+with_processes t h = record t { processes = h }
 
-abbrev pub with_half : Term → Half → Term
-with_half t h = with_heart t (with_side t.heart h)
+abbrev pub term_with_transceiver : Term → TransceiverState → Term
+term_with_transceiver t h = with_processes t (with_transceiver t.processes h)
 
 -- a call that is one event of the book answers what the book does, unless there is no memory
 abbrev pub IsAnswer : {A : Type 0} → (A → Reply) → Result A CallError → Answer → Type 0
@@ -28,12 +28,14 @@ IsAnswer f (Ok x) a = Says (f x) ≡ a
 IsAnswer f (Err (Refused r)) a = Says (reply.Refused r) ≡ a
 IsAnswer f (Err NoMemory) a = Unit {0}
 
--- Why a tick does not happen: the ticks can't pass once room was made in the journal, or there was no memory for that where it was needed.
-abbrev pub IsTickError : ℕ → Heart → CallError → Type 0
+-- Why a tick does not happen: the ticks can't pass once room was made in the journal, or there was
+-- no memory for that where it was needed.
+abbrev pub IsTickError : ℕ → Processes → CallError → Type 0
 IsTickError n t (Refused r) = tick_refusal n (tidied t) ≡ Some r
 IsTickError n t NoMemory = is_low t ≡ true
 
--- A call that is refused leaves the state. Room may have been made in the journal, if there was memory for that where it was needed.
+-- A call that is refused leaves the state. Room may have been made in the journal, if there was
+-- memory for that where it was needed.
 abbrev pub Leaves : Term → Term → CallError → Type 0
-Leaves old new (Refused r) = new ≡ with_heart old (tidied old.heart)
-Leaves old new NoMemory = (new ≡ old) × (is_low old.heart ≡ true)
+Leaves old new (Refused r) = new ≡ with_processes old (tidied old.processes)
+Leaves old new NoMemory = (new ≡ old) × (is_low old.processes ≡ true)

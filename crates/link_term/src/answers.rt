@@ -1,6 +1,6 @@
 //! Why a call of a terminal is refused.
 
-use link_machine::Refusal;
+use actor_machine::Refusal;
 use std::fmt;
 use thiserror::Error;
 

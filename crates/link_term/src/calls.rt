@@ -1,18 +1,18 @@
 //! Commands, ticks, and units out.
 ghost use Rattle.std.specs.Prelude.{◌≡◌, true, false, None, IsOk, OnOk, OnErr, IfOk, IfErr, IfSome};
 ghost use Rattle.su_octets.specs.Whole.{IsWhole};
-ghost use Rattle.link_machine.specs.Ledger.{ask};
-ghost use Rattle.link_machine.specs.declared.event.Event.TheVariants.{Advance};
-ghost use Rattle.link_machine.specs.declared.reply.Reply.TheVariants as reply;
-ghost use Rattle.link_heart.specs.Offering.{command_event};
-ghost use Rattle.link_heart.specs.Machine.{offered, sent, tidied, is_low, tick_refusal};
+ghost use Rattle.actor_machine.specs.Ledger.{ask};
+ghost use Rattle.actor_machine.specs.declared.event.Event.TheVariants.{Advance};
+ghost use Rattle.actor_machine.specs.declared.reply.Reply.TheVariants as reply;
+ghost use Rattle.link_processes.specs.Offering.{command_event};
+ghost use Rattle.link_processes.specs.Machine.{offered, sent, tidied, is_low, tick_refusal};
 ghost use Rattle.link_term.specs.Kept.{Keeps, Sends};
-ghost use Rattle.link_term.specs.Term.{with_heart, IsAnswer, IsTickError, Leaves};
+ghost use Rattle.link_term.specs.Term.{with_processes, IsAnswer, IsTickError, Leaves};
 
 use crate::answers::CallError;
 use crate::terminal::Terminal;
-use link_heart::Command;
-use link_machine::Refusal;
+use actor_machine::Refusal;
+use link_processes::Command;
 use std::alloc::AllocError;
 use su_octets::Unit;
 
@@ -24,15 +24,15 @@ impl Terminal {
     ///
     /// `NoMemory` where that needs memory and there is none: nothing changed. Else the refusals of `Book::offer`: the state is as it was.
     pub fn command(&mut self, command: Command) -> Result<(), CallError>
-        ensures answer { let t = tidied self.old.heart in IsAnswer (λ _. reply.Offered) result (ask t.book (command_event t.names command)).answer }
-        ensures ok { let t = tidied self.old.heart in OnOk result (self.new ≡ with_heart self.old (offered (command_event t.names command) t)) }
+        ensures answer { let t = tidied self.old.processes in IsAnswer (λ _. reply.Offered) result (ask t.book (command_event t.names command)).answer }
+        ensures ok { let t = tidied self.old.processes in OnOk result (self.new ≡ with_processes self.old (offered (command_event t.names command) t)) }
         ensures keeps { Keeps self.old self.new }
         ensures err { IfErr result (Leaves self.old self.new) }
     {
-        if self.heart.tidy().is_err() {
+        if self.processes.tidy().is_err() {
             return Err(CallError::NoMemory);
         }
-        self.heart.command(command).map_err(CallError::Refused)
+        self.processes.command(command).map_err(CallError::Refused)
     }
 
     /// Lets so many ticks pass, one a millisecond, and the actors come to rest. How many timers were due. Room in the journal as before a
@@ -42,18 +42,18 @@ impl Terminal {
     ///
     /// `NoMemory` as for a command, which doesn't come right behind `make_room`. Else what `advance_refusal` tells: the state is as it was.
     pub fn tick(&mut self, ticks: u64) -> Result<usize, CallError>
-        ensures answer { IsAnswer reply.Passed result (ask (tidied self.old.heart).book (Advance ticks)).answer }
-        ensures ok { OnOk result (self.new ≡ with_heart self.old (offered (Advance ticks) (tidied self.old.heart))) }
-        ensures passes { OnOk result (tick_refusal ticks (tidied self.old.heart) ≡ None) }
-        ensures refuses { IfErr result (IsTickError ticks self.old.heart) }
-        ensures sure { is_low self.old.heart ≡ false → tick_refusal ticks self.old.heart ≡ None → IsOk result }
+        ensures answer { IsAnswer reply.Passed result (ask (tidied self.old.processes).book (Advance ticks)).answer }
+        ensures ok { OnOk result (self.new ≡ with_processes self.old (offered (Advance ticks) (tidied self.old.processes))) }
+        ensures passes { OnOk result (tick_refusal ticks (tidied self.old.processes) ≡ None) }
+        ensures refuses { IfErr result (IsTickError ticks self.old.processes) }
+        ensures sure { is_low self.old.processes ≡ false → tick_refusal ticks self.old.processes ≡ None → IsOk result }
         ensures keeps { Keeps self.old self.new }
         ensures err { IfErr result (Leaves self.old self.new) }
     {
-        if self.heart.tidy().is_err() {
+        if self.processes.tidy().is_err() {
             return Err(CallError::NoMemory);
         }
-        self.heart.tick(ticks).map_err(CallError::Refused)
+        self.processes.tick(ticks).map_err(CallError::Refused)
     }
 
     /// The unit that goes out next, none before anything was said of the line (Q.703, sections 5, 6, 9 and 11). The actors learn of each
@@ -63,15 +63,15 @@ impl Terminal {
     ///
     /// Where that needs memory and there is none: nothing changed.
     pub fn unit_out(&mut self) -> Result<Option<Unit>, AllocError>
-        ensures unit { IfOk result (λ unit. unit ≡ (sent (tidied self.old.heart)).unit) }
-        ensures ok { OnOk result (self.new ≡ with_heart self.old (sent (tidied self.old.heart)).heart) }
+        ensures unit { IfOk result (λ unit. unit ≡ (sent (tidied self.old.processes)).unit) }
+        ensures ok { OnOk result (self.new ≡ with_processes self.old (sent (tidied self.old.processes)).processes) }
         ensures whole { IfOk result (λ unit. IfSome unit IsWhole) }
         ensures sends { Sends 1 self.old self.new }
         ensures err { OnErr result (self.new ≡ self.old) }
-        ensures low { OnErr result (is_low self.old.heart ≡ true) }
+        ensures low { OnErr result (is_low self.old.processes ≡ true) }
     {
-        self.heart.tidy()?;
-        Ok(self.heart.send_unit())
+        self.processes.tidy()?;
+        Ok(self.processes.send_unit())
     }
 
     /// Makes room in the journal, where fewer than half of its places are free, as a command, a tick or a unit would. There is enough then,
@@ -81,20 +81,20 @@ impl Terminal {
     ///
     /// Where that needs memory and there is none: nothing changed.
     pub fn make_room(&mut self) -> Result<(), AllocError>
-        ensures ok { OnOk result (self.new ≡ with_heart self.old (tidied self.old.heart)) }
-        ensures room { OnOk result (is_low self.new.heart ≡ false) }
-        ensures side { self.new.heart.side ≡ self.old.heart.side }
+        ensures ok { OnOk result (self.new ≡ with_processes self.old (tidied self.old.processes)) }
+        ensures room { OnOk result (is_low self.new.processes ≡ false) }
+        ensures transceiver { self.new.processes.transceiver ≡ self.old.processes.transceiver }
         ensures err { OnErr result (self.new ≡ self.old) }
-        ensures low { OnErr result (is_low self.old.heart ≡ true) }
+        ensures low { OnErr result (is_low self.old.processes ≡ true) }
     {
-        self.heart.tidy()
+        self.processes.tidy()
     }
 
     /// Why `tick` would refuse so many ticks now, if it would: `W1 TooFar` for more than 65,535 of them, `W2 ClockFull` where the clock would
     /// pass 2^62, `B8 JournalFull`, in this order. Where it is none right behind `make_room`, the tick happens.
     pub fn advance_refusal(&self, ticks: u64) -> Option<Refusal>
-        ensures { result ≡ tick_refusal ticks self.now.heart }
+        ensures { result ≡ tick_refusal ticks self.now.processes }
     {
-        self.heart.tick_refusal(ticks)
+        self.processes.tick_refusal(ticks)
     }
 }

@@ -10,7 +10,7 @@ pub fn cuttings_agree()
 pub fn accepted_messages_are_delivered()
     ensures { Delivers }
 {
-    link_heart::accepted_messages_wait_in_order();
+    link_processes::accepted_messages_wait_in_order();
 }
 
 /// Of what is kept to send, octets that are taken take away the messages that the units in them acknowledge, the oldest first of those
@@ -18,5 +18,5 @@ pub fn accepted_messages_are_delivered()
 pub fn unacknowledged_messages_stay()
     ensures { StaysKept }
 {
-    link_heart::unacknowledged_messages_stay();
+    link_processes::unacknowledged_messages_stay();
 }

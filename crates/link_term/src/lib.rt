@@ -11,8 +11,8 @@ mod terminal;
 
 pub use answers::CallError;
 pub use laws::{accepted_messages_are_delivered, cuttings_agree, unacknowledged_messages_stay};
-pub use link_heart::{Command, Names, Wanted};
-pub use link_side::{LinkStatus, Report};
+pub use link_processes::{Command, Names, Wanted};
+pub use link_transceiver::{LinkStatus, Report};
 pub use opening::OpenError;
 pub use resend_store::{Mode, Msu, PutError, RetrieveError};
 pub use terminal::Terminal;

@@ -1,12 +1,12 @@
 //! New terminals.
 ghost use Rattle.std.specs.Prelude.{◌≡◌, All, IfOk, IfErr};
-ghost use Rattle.link_machine.specs.Kept.{opened_book};
-ghost use Rattle.link_heart.specs.Known.{AreNames};
-ghost use Rattle.link_heart.specs.Wanted.{wanted, Has};
+ghost use Rattle.actor_machine.specs.Kept.{opened_book};
+ghost use Rattle.link_processes.specs.Known.{AreNames};
+ghost use Rattle.link_processes.specs.Wanted.{wanted, Has};
 ghost use Rattle.link_term.specs.Opening.{PORT, ENVIRONMENT, JOURNAL, IsOver, IsRefusedOver};
 
 use crate::terminal::Terminal;
-use link_heart::{Book, Limits, Names, Wanted};
+use link_processes::{Book, Limits, Names, Wanted};
 use resend_store::Mode;
 use std::alloc::{AllocError, Global};
 use std::fmt;

@@ -1,65 +1,65 @@
 //! The line in.
 ghost use Rattle.std.specs.Prelude.{◌≡◌, ◌⊎◌, ◌+◌, ◌<◌, ◌≤◌, ◌∷◌, [], true, false, length, take};
 ghost use Rattle.bit_line.specs.Events.{closings};
-ghost use Rattle.link_heart.specs.Machine.{tidied, is_low};
-ghost use Rattle.link_heart.specs.declared.heart.Heart.{Heart as PlainHeart};
-ghost use Rattle.link_side.specs.Limits.{KEPT_MESSAGES};
+ghost use Rattle.link_processes.specs.Machine.{tidied, is_low};
+ghost use Rattle.link_processes.specs.declared.processes.Processes.{Processes as PlainProcesses};
+ghost use Rattle.link_transceiver.specs.Limits.{KEPT_MESSAGES};
 ghost use Rattle.link_term.specs.Hearing.{Reads, AreTaken, Heard};
 ghost use Rattle.link_term.specs.Kept.{Took};
 
 use crate::laws::unacknowledged_messages_stay;
 use crate::terminal::Terminal;
 use bit_line::LineEvent;
-use link_heart::Heart;
+use link_processes::Processes;
 use su_octets::decode;
 
 /// What the octets of a unit from the line lead to.
-fn take_octets(heart: &mut Heart, octets: &[u8])
-    requires { length heart.old.side.messages < KEPT_MESSAGES }
-    ensures reads { Reads octets.now heart.old heart.new }
-    ensures few { length heart.new.side.messages ≤ length heart.old.side.messages + 1 }
+fn take_octets(processes: &mut Processes, octets: &[u8])
+    requires { length processes.old.transceiver.messages < KEPT_MESSAGES }
+    ensures reads { Reads octets.now processes.old processes.new }
+    ensures few { length processes.new.transceiver.messages ≤ length processes.old.transceiver.messages + 1 }
 {
     match decode(octets) {
-        Ok(unit) => heart.take_unit(unit),
-        Err(_) => heart.take_error(),
+        Ok(unit) => processes.take_unit(unit),
+        Err(_) => processes.take_error(),
     }
 }
 
 /// What an event of the line leads to.
-fn take_event(heart: &mut Heart, event: &LineEvent)
-    requires { length heart.old.side.messages + closings (event.now ∷ []) ≤ KEPT_MESSAGES }
-    ensures taken { (v : PlainHeart) (left : _) → AreTaken left heart.new v → AreTaken (event.now ∷ left) heart.old v }
-    ensures few { length heart.new.side.messages ≤ length heart.old.side.messages + closings (event.now ∷ []) }
+fn take_event(processes: &mut Processes, event: &LineEvent)
+    requires { length processes.old.transceiver.messages + closings (event.now ∷ []) ≤ KEPT_MESSAGES }
+    ensures taken { (v : PlainProcesses) (left : _) → AreTaken left processes.new v → AreTaken (event.now ∷ left) processes.old v }
+    ensures few { length processes.new.transceiver.messages ≤ length processes.old.transceiver.messages + closings (event.now ∷ []) }
 {
     match event {
-        LineEvent::Unit(octets) => take_octets(heart, octets.as_slice()),
-        LineEvent::Errored => heart.take_error(),
-        LineEvent::SixteenOctets => heart.take_error(),
+        LineEvent::Unit(octets) => take_octets(processes, octets.as_slice()),
+        LineEvent::Errored => processes.take_error(),
+        LineEvent::SixteenOctets => processes.take_error(),
     }
 }
 
 /// What events of the line lead to, in their order.
-fn take_events(heart: &mut Heart, events: &[LineEvent])
-    requires { length heart.old.side.messages + closings events.now ≤ KEPT_MESSAGES }
-    ensures { AreTaken events.now heart.old heart.new }
+fn take_events(processes: &mut Processes, events: &[LineEvent])
+    requires { length processes.old.transceiver.messages + closings events.now ≤ KEPT_MESSAGES }
+    ensures { AreTaken events.now processes.old processes.new }
 {
     for event in events {
-        take_event(heart, event);
+        take_event(processes, event);
     }
 }
 
 /// Makes room in the journal where it is needed, if a message more can be accepted. Whether an octet can be taken then; else nothing
 /// changed.
-fn make_room(heart: &mut Heart) -> bool
-    ensures room { result ≡ true → length heart.old.side.messages < KEPT_MESSAGES }
-    ensures tidied { result ≡ true → heart.new ≡ tidied heart.old }
-    ensures left { result ≡ false → heart.new ≡ heart.old }
-    ensures stops { result ≡ false → (KEPT_MESSAGES ≤ length heart.old.side.messages) ⊎ (is_low heart.old ≡ true) }
+fn make_room(processes: &mut Processes) -> bool
+    ensures room { result ≡ true → length processes.old.transceiver.messages < KEPT_MESSAGES }
+    ensures tidied { result ≡ true → processes.new ≡ tidied processes.old }
+    ensures left { result ≡ false → processes.new ≡ processes.old }
+    ensures stops { result ≡ false → (KEPT_MESSAGES ≤ length processes.old.transceiver.messages) ⊎ (is_low processes.old ≡ true) }
 {
-    if !heart.side.has_room() {
+    if !processes.transceiver.has_room() {
         return false;
     }
-    match heart.tidy() {
+    match processes.tidy() {
         Ok(()) => true,
         Err(_) => false,
     }
@@ -76,14 +76,14 @@ impl Terminal {
         ensures heard { Heard self.old (take result octets.now) self.new }
         ensures took { Took self.old self.new }
         ensures left { result ≡ 0 → self.new ≡ self.old }
-        ensures stops { result ≡ 0 → (KEPT_MESSAGES ≤ length self.old.heart.side.messages) ⊎ (is_low self.old.heart ≡ true) }
+        ensures stops { result ≡ 0 → (KEPT_MESSAGES ≤ length self.old.processes.transceiver.messages) ⊎ (is_low self.old.processes ≡ true) }
     {
         unacknowledged_messages_stay();
-        if !make_room(&mut self.heart) {
+        if !make_room(&mut self.processes) {
             return 0;
         }
         let (taken, events) = self.line.feed_until(octets);
-        take_events(&mut self.heart, events.as_slice());
+        take_events(&mut self.processes, events.as_slice());
         taken
     }
 
@@ -97,7 +97,7 @@ impl Terminal {
         ensures heard { Heard self.old (take result octets.now) self.new }
         ensures took { Took self.old self.new }
         ensures stops { result < length octets.now
-            → (KEPT_MESSAGES ≤ length self.new.heart.side.messages) ⊎ (is_low self.new.heart ≡ true) }
+            → (KEPT_MESSAGES ≤ length self.new.processes.transceiver.messages) ⊎ (is_low self.new.processes ≡ true) }
     {
         let mut taken = 0;
         while taken < octets.len() {

@@ -1,13 +1,13 @@
 //! The line out.
 ghost use Rattle.std.specs.Prelude.{◌≡◌, ◌+◌, ◌≤◌, ◌∷◌, [], true, vec_len, vec_capacity, OnOk, OnErr, IfOk};
 ghost use Rattle.su_octets.specs.Whole.{IsWhole};
-ghost use Rattle.link_heart.specs.Machine.{is_low};
+ghost use Rattle.link_processes.specs.Machine.{is_low};
 ghost use Rattle.link_term.specs.Kept.{Sends};
 ghost use Rattle.link_term.specs.Speaking.{Speaks, Spoke, IsSpoken};
 
 use crate::terminal::Terminal;
 use bit_line::Stuffer;
-use link_heart::unacknowledged_messages_stay;
+use link_processes::unacknowledged_messages_stay;
 use std::alloc::AllocError;
 use su_octets::Unit;
 
@@ -35,7 +35,7 @@ impl Terminal {
         requires { vec_len octets.old + LONGEST ≤ vec_capacity octets.old }
         ensures ok { OnOk result (Spoke self.old octets.old.items 1 self.new octets.new.items) }
         ensures err { OnErr result (self.new ≡ self.old) }
-        ensures low { OnErr result (is_low self.old.heart ≡ true) }
+        ensures low { OnErr result (is_low self.old.processes ≡ true) }
         ensures same { OnErr result (octets.new.items ≡ octets.old.items) }
         ensures len { vec_len octets.new ≤ vec_len octets.old + LONGEST }
         ensures capacity { vec_capacity octets.old ≤ vec_capacity octets.new }

@@ -5,16 +5,16 @@ ghost use Rattle.resend_store.specs.Messages.{IsMessage};
 ghost use Rattle.resend_store.specs.Window.{IsWindow, waiting, with_put, retrieved, emptied, count_by, count_known};
 ghost use Rattle.bit_line.specs.Deframing.{Stands};
 ghost use Rattle.bit_line.specs.Stuffers.{Gave};
-ghost use Rattle.link_side.specs.Half.{first_half};
-ghost use Rattle.link_side.specs.Reporting.{reported};
+ghost use Rattle.link_transceiver.specs.TransceiverState.{first_transceiver};
+ghost use Rattle.link_transceiver.specs.Reporting.{reported};
 ghost use Rattle.resend_store.specs.Limits.{MOST_WAITING, MOST_KEPT};
-ghost use Rattle.link_side.specs.Limits.{KEPT_MESSAGES};
+ghost use Rattle.link_transceiver.specs.Limits.{KEPT_MESSAGES};
 ghost use Rattle.link_term.specs.Kept.{window_of};
-ghost use Rattle.link_term.specs.Term.{with_half};
+ghost use Rattle.link_term.specs.Term.{term_with_transceiver};
 
 use bit_line::{Deframer, Stuffer};
-use link_heart::{Book, Heart, Names};
-use link_side::{Report, Side};
+use link_processes::{Book, Names, Processes};
+use link_transceiver::{Report, Transceiver};
 use resend_store::{Mode, Msu, PutError, RetrieveError};
 use std::alloc::{AllocError, Global};
 use std::collections::VecDeque;
@@ -27,7 +27,7 @@ use std::marker::Model;
 #[derive(Drop)]
 pub struct Terminal {
     pub(crate) alloc: Global,
-    pub(crate) heart: Heart,
+    pub(crate) processes: Processes,
     pub(crate) line: Deframer,
     pub(crate) sending: Stuffer,
 }
@@ -42,7 +42,7 @@ impl Model for Terminal {
 
     ghost coded = { Prim.hlevel (codes, timers_code) };
 
-    ghost view = { λ t. record { heart = t.heart; line = t.line; sending = t.sending } };
+    ghost view = { λ t. record { processes = t.processes; line = t.line; sending = t.sending } };
 
     ghost invariant = { λ t. IsTerminal t.line };
 }
@@ -55,14 +55,18 @@ impl Terminal {
         names: Names,
         mode: Mode,
     ) -> Result<Terminal, AllocError>
-        ensures heart { IfOk result (λ t. t.heart ≡ record { book = book; side = first_half mode; names = names }) }
+        ensures processes { IfOk result (λ t. t.processes ≡ record { book = book; transceiver = first_transceiver mode; names = names }) }
         ensures line { IfOk result (λ t. Stands [] t.line) }
         ensures sending { IfOk result (λ t. Gave [] [] t.sending) }
     {
-        let side = Side::new(alloc, mode)?;
+        let transceiver = Transceiver::new(alloc, mode)?;
         Ok(Terminal {
             alloc,
-            heart: Heart { book, side, names },
+            processes: Processes {
+                book,
+                transceiver,
+                names,
+            },
             line: Deframer::new(),
             sending: Stuffer::new(),
         })
@@ -75,11 +79,11 @@ impl Terminal {
     /// `E1 Full` where `resend_store::MAX_WAITING` or more wait. Nothing changes then, and the message is dropped.
     pub fn put(&mut self, msu: Msu) -> Result<(), PutError>
         requires { 2 ≤ length msu.sif.items }
-        ensures full { (result ≡ Err PutError.Full) ↔ (MOST_WAITING ≤ length (waiting self.old.heart.side.sender)) }
-        ensures ok { OnOk result (self.new ≡ with_half self.old (record self.old.heart.side { sender = with_put self.old.heart.side.sender msu })) }
+        ensures full { (result ≡ Err PutError.Full) ↔ (MOST_WAITING ≤ length (waiting self.old.processes.transceiver.sender)) }
+        ensures ok { OnOk result (self.new ≡ term_with_transceiver self.old (record self.old.processes.transceiver { sender = with_put self.old.processes.transceiver.sender msu })) }
         ensures err { OnErr result (self.new ≡ self.old) }
     {
-        self.heart.side.put(msu)
+        self.processes.transceiver.put(msu)
     }
 
     /// Takes a message that another link left behind (Q.704, changeover), with a field of 2 octets or more.
@@ -89,11 +93,11 @@ impl Terminal {
     /// `E1 Full` where `resend_store::MAX_KEPT` are unacknowledged or wait. Nothing changes then.
     pub fn put_diverted(&mut self, msu: Msu) -> Result<(), PutError>
         requires { 2 ≤ length msu.sif.items }
-        ensures full { (result ≡ Err PutError.Full) ↔ (MOST_KEPT ≤ length self.old.heart.side.sender.kept) }
-        ensures ok { OnOk result (self.new ≡ with_half self.old (record self.old.heart.side { sender = with_put self.old.heart.side.sender msu })) }
+        ensures full { (result ≡ Err PutError.Full) ↔ (MOST_KEPT ≤ length self.old.processes.transceiver.sender.kept) }
+        ensures ok { OnOk result (self.new ≡ term_with_transceiver self.old (record self.old.processes.transceiver { sender = with_put self.old.processes.transceiver.sender msu })) }
         ensures err { OnErr result (self.new ≡ self.old) }
     {
-        self.heart.side.put_diverted(msu)
+        self.processes.transceiver.put_diverted(msu)
     }
 
     /// Hands out, in order, what the far side may lack (Q.704, retrieval): what comes after the number, 0 to 127, that it
@@ -104,88 +108,88 @@ impl Terminal {
     /// `E2 BadAck` where the number acknowledges more than is sent, and then `NoMemory`. Nothing changes in either case.
     pub fn retrieve(&mut self, accepted: Option<u8>) -> Result<VecDeque<Msu>, RetrieveError>
         requires { IfSome accepted (λ fsn. fsn < 128) }
-        ensures bad { (result ≡ Err RetrieveError.BadAck) ↔ (self.old.heart.side.sender.sent < count_known self.old.heart.side.sender accepted) }
-        ensures messages { IfOk result (λ messages. messages.items ≡ retrieved self.old.heart.side.sender accepted) }
+        ensures bad { (result ≡ Err RetrieveError.BadAck) ↔ (self.old.processes.transceiver.sender.sent < count_known self.old.processes.transceiver.sender accepted) }
+        ensures messages { IfOk result (λ messages. messages.items ≡ retrieved self.old.processes.transceiver.sender accepted) }
         ensures whole { IfOk result (λ messages. All IsMessage messages.items) }
-        ensures ok { OnOk result (self.new ≡ with_half self.old (record self.old.heart.side { sender = emptied self.old.heart.side.sender accepted })) }
+        ensures ok { OnOk result (self.new ≡ term_with_transceiver self.old (record self.old.processes.transceiver { sender = emptied self.old.processes.transceiver.sender accepted })) }
         ensures err { OnErr result (self.new ≡ self.old) }
     {
-        self.heart.side.retrieve(accepted)
+        self.processes.transceiver.retrieve(accepted)
     }
 
     /// What is to be handed out next: messages first, then what was told of the link, each in order.
     pub fn report(&mut self) -> Option<Report>
-        ensures report { result ≡ (reported self.old.heart.side).report }
+        ensures report { result ≡ (reported self.old.processes.transceiver).report }
         ensures same { window_of self.new ≡ window_of self.old }
-        ensures half { self.new ≡ with_half self.old (reported self.old.heart.side).half }
+        ensures transceiver { self.new ≡ term_with_transceiver self.old (reported self.old.processes.transceiver).transceiver }
     {
-        self.heart.side.report()
+        self.processes.transceiver.report()
     }
 
     /// Whether the link came into service since this was last asked.
     pub fn came_into_service(&mut self) -> bool
-        ensures value { result ≡ self.old.heart.side.came }
-        ensures asked { self.new ≡ with_half self.old (record self.old.heart.side { came = false }) }
+        ensures value { result ≡ self.old.processes.transceiver.came }
+        ensures asked { self.new ≡ term_with_transceiver self.old (record self.old.processes.transceiver { came = false }) }
     {
-        self.heart.side.came_into_service()
+        self.processes.transceiver.came_into_service()
     }
 
     /// Whether the link is in service, by what was told last.
     pub fn in_service(&self) -> bool
-        ensures { result ≡ self.now.heart.side.in_service }
+        ensures { result ≡ self.now.processes.transceiver.in_service }
     {
-        self.heart.side.in_service()
+        self.processes.transceiver.in_service()
     }
 
     /// How many messages are kept to send: unacknowledged and waiting ones.
     pub fn held(&self) -> usize
-        ensures value { result ≡ length self.now.heart.side.sender.kept }
-        ensures window { IsWindow self.now.heart.side.sender }
+        ensures value { result ≡ length self.now.processes.transceiver.sender.kept }
+        ensures window { IsWindow self.now.processes.transceiver.sender }
     {
-        self.heart.side.held()
+        self.processes.transceiver.held()
     }
 
     /// The kept message at a place, the oldest at 0.
     pub fn held_at(&self, place: usize) -> Option<&Msu>
-        ensures { option_copied result ≡ slice_get self.now.heart.side.sender.kept place }
+        ensures { option_copied result ≡ slice_get self.now.processes.transceiver.sender.kept place }
     {
-        self.heart.side.held_at(place)
+        self.processes.transceiver.held_at(place)
     }
 
     /// How many messages are sent and not acknowledged.
     pub fn sent(&self) -> usize
-        ensures { result ≡ self.now.heart.side.sender.sent }
+        ensures { result ≡ self.now.processes.transceiver.sender.sent }
     {
-        self.heart.side.sent()
+        self.processes.transceiver.sent()
     }
 
     /// The forward sequence number, 0 to 127, of the message that was accepted last; 127 where there is none.
     pub fn accepted(&self) -> u8
-        ensures value { result ≡ self.now.heart.side.receiver.last }
+        ensures value { result ≡ self.now.processes.transceiver.receiver.last }
         ensures within { result < 128 }
     {
-        self.heart.side.accepted()
+        self.processes.transceiver.accepted()
     }
 
     /// Whether a number, below 128, can be that of the message that the far side accepted last: `retrieve` doesn't answer E2 to it.
     pub fn knows(&self, fsn: u8) -> bool
         requires { fsn < 128 }
-        ensures { IsTrue result ↔ (count_by self.now.heart.side.sender fsn ≤ self.now.heart.side.sender.sent) }
+        ensures { IsTrue result ↔ (count_by self.now.processes.transceiver.sender fsn ≤ self.now.processes.transceiver.sender.sent) }
     {
-        self.heart.side.knows(fsn)
+        self.processes.transceiver.knows(fsn)
     }
 
     /// Whether a further message can be accepted. `line_in` takes no octet where none can: reports make room.
     pub fn has_room(&self) -> bool
-        ensures { IsTrue result ↔ (length self.now.heart.side.messages < KEPT_MESSAGES) }
+        ensures { IsTrue result ↔ (length self.now.processes.transceiver.messages < KEPT_MESSAGES) }
     {
-        self.heart.side.has_room()
+        self.processes.transceiver.has_room()
     }
 
     /// The actors, with their journal.
     pub fn book(&self) -> &Book
-        ensures { result.now ≡ self.now.heart.book }
+        ensures { result.now ≡ self.now.processes.book }
     {
-        &self.heart.book
+        &self.processes.book
     }
 }

@@ -1,18 +1,18 @@
 -- What holds of bytes of which something may be known holds of some bytes.
 use Rattle.std.proofs.Common.{◌≡◌, ℕ, inl, inr, List, Option, None, Some, rules}
-use Rattle.text_check.specs.Checked.{given, IsGiven, PrintsCosts, PrintsRefusal}
-use Rattle.text_check.specs.declared.sets.SetWord.{SetWord}
-use Rattle.text_check.specs.declared.sets.SetWord.TheVariants.{Standard as standard_set, Monitors as monitors_set, Text}
+use Rattle.script_check.specs.Checked.{given, IsGiven, PrintsCosts, PrintsRefusal}
+use Rattle.script_check.specs.declared.sets.SetWord.{SetWord}
+use Rattle.script_check.specs.declared.sets.SetWord.TheVariants.{Standard as standard_set, Monitors as monitors_set, Text}
 use Rattle.script_play.specs.Played.{IsOnSet, IsPlayed, IsPlayedInPart, IsNotRun, IsRefused, set_refused, script_refused}
 use Rattle.pool_soak.specs.Findings.{IsSoaked, IsSoakedInVain, IsTurnedDown}
-use Rattle.line_command.specs.Filters.{Line}
-use Rattle.line_command.specs.Opening.{IsNoSet}
-use Rattle.line_command.specs.Spoken.{SpokeOver, BegunOver}
-use Rattle.command_words.specs.declared.ends.LineEnd.{LineEnd}
+use Rattle.mtp2_line.specs.Filters.{Line}
+use Rattle.mtp2_line.specs.Opening.{IsNoSet}
+use Rattle.mtp2_line.specs.Spoken.{SpokeOver, BegunOver}
+use Rattle.mtp2_words.specs.declared.ends.LineEnd.{LineEnd}
 use Rattle.mtp2_play.specs.Printed.{IsSpoken}
 use Rattle.mtp2_play.specs.Sets.{own_set_of, own_text_of}
-use Rattle.command_words.specs.declared.words.Named.{Named}
-use Rattle.command_words.specs.declared.words.Named.TheVariants.{Standard, Monitors, Stdin, File}
+use Rattle.mtp2_words.specs.declared.words.Named.{Named}
+use Rattle.mtp2_words.specs.declared.words.Named.TheVariants.{Standard, Monitors, Stdin, File}
 
 some_bytes : (known : Option (List ℕ)) (P : List ℕ → Type 0) → IsGiven known P → IsGiven None P
 some_bytes known P g = record { bytes = g.bytes; are_known = tt; holds = g.holds }

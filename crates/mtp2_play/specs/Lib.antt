@@ -1,3 +1,3 @@
-pub mod Sets
 pub mod Printed
 pub mod Served
+pub mod Sets

@@ -1,21 +1,21 @@
--- What each command prints, by the exit status that it gives. Of a text that isn't the program's own it is said of some bytes, since none are known of a file
--- or of standard input.
+-- What each command prints, by the exit status that it gives. Of a text that isn't the program's
+-- own it is said of some bytes, since none are known of a file or of standard input.
 use Rattle.std.specs.Prelude.{◌≡◌, ◌≢◌, ◌⊎◌, ◌≤◌, ℕ, List, Option, None}
 use Rattle.clap.specs.declared.error.kind.ErrorKind.{ErrorKind}
 use Rattle.clap.specs.declared.error.kind.ErrorKind.TheVariants.{DisplayHelp, DisplayVersion}
-use Rattle.profile_limits.specs.Limits.{LEAST_WORKERS, MOST_WORKERS}
-use Rattle.text_check.specs.Checked.{IsGiven, PrintsCosts, PrintsRefusal}
+use Rattle.plain_limits.specs.Limits.{LEAST_WORKERS, MOST_WORKERS}
+use Rattle.script_check.specs.Checked.{IsGiven, PrintsCosts, PrintsRefusal}
 use Rattle.script_play.specs.Played.{IsOnSet, IsPlayed, IsPlayedInPart, IsRefused}
 use Rattle.pool_soak.specs.Findings.{IsSoaked, IsSoakedInVain, IsTurnedDown}
-use Rattle.unit_frame.specs.Printed.{PrintsUnit, PrintsFault}
-use Rattle.line_command.specs.Filters.{Line as Octets}
-use Rattle.line_command.specs.Opening.{IsNoSet}
-use Rattle.line_command.specs.Spoken.{SpokeOver, BegunOver, IsUntouched}
-use Rattle.command_words.specs.declared.ends.LineEnd.{LineEnd}
+use Rattle.mtp2_frame.specs.Printed.{PrintsUnit, PrintsFault}
+use Rattle.mtp2_line.specs.Filters.{Line as Octets}
+use Rattle.mtp2_line.specs.Opening.{IsNoSet}
+use Rattle.mtp2_line.specs.Spoken.{SpokeOver, BegunOver, IsUntouched}
+use Rattle.mtp2_words.specs.declared.ends.LineEnd.{LineEnd}
 use Rattle.mtp2_play.specs.Sets.{own_text_of}
-use Rattle.command_words.specs.declared.words.Named.{Named}
-use Rattle.command_words.specs.declared.words.Request.{Request}
-use Rattle.command_words.specs.declared.words.Request.TheVariants.{Check, Play, Soak, Line, Frame}
+use Rattle.mtp2_words.specs.declared.words.Named.{Named}
+use Rattle.mtp2_words.specs.declared.words.Request.{Request}
+use Rattle.mtp2_words.specs.declared.words.Request.TheVariants.{Check, Play, Soak, Line, Frame}
 
 -- the exit statuses: done, an expectation failed or something differs, refused, usage, failed
 abbrev pub IsStatus : ℕ → Type 0
@@ -35,13 +35,15 @@ pub record IsChecked (set : Named) (status : ℕ) (old new : Option (List ℕ)) 
   pub refusal : status ≡ 2 → IsGiven (own_text_of set) (PrintsRefusal old new)
   pub ends : IsDone status
 
--- what `play` prints of a script on a set: what came of its commands, of those before one whose expectation failed, or why nothing ran
+-- what `play` prints of a script on a set: what came of its commands, of those before one whose
+-- expectation failed, or why nothing ran
 pub record IsPlayedOn (set : Named) (status : ℕ) (old new : Option (List ℕ)) : Type 0 where
   pub held : status ≡ 0 → IsOnSet (own_text_of set) None (IsPlayed old new)
   pub missed : status ≡ 1 → IsOnSet (own_text_of set) None (IsPlayedInPart old new)
   pub refused : status ≡ 2 → IsRefused (own_text_of set) None old new
 
--- what `soak` prints of a script: its two lines, where so many workers can work, or why it is refused
+-- what `soak` prints of a script: its two lines, where so many workers can work, or why it is
+-- refused
 pub record IsServed (workers status : ℕ) (old new : Option (List ℕ)) : Type 0 where
   pub held : status ≡ 0 → IsGiven None (IsSoaked old new)
   pub differs : status ≡ 1 → IsGiven None (IsSoakedInVain old new)
@@ -54,16 +56,19 @@ pub record IsFramed (word : List ℕ) (status : ℕ) (old new : Option (List ℕ
   pub refused : status ≡ 2 → PrintsFault old new word
   pub ends : IsDone status
 
--- What `line` makes of its line, over the set of these bytes: where it is done a new terminal over the set spoke there as it was told, and however it ends
--- what was written is a beginning of that. A set is refused for its text, or for a name that it lacks, before anything is read or written.
-pub record IsSpoken (known : Option (List ℕ)) (end : LineEnd) (status : ℕ) (old new : Octets) : Type 0 where
+-- What `line` makes of its line, over the set of these bytes: where it is done a new terminal over
+-- the set spoke there as it was told, and however it ends what was written is a beginning of that.
+-- A set is refused for its text, or for a name that it lacks, before anything is read or written.
+pub record IsSpoken (known : Option (List ℕ)) (end : LineEnd) (status : ℕ) (old new : Octets) :
+    Type 0 where
   pub spoke : status ≡ 0 → IsGiven known (SpokeOver end old new)
   pub begun : IsUntouched old new ⊎ IsGiven known (BegunOver end old new)
   pub refused : status ≡ 2 → IsGiven known (IsNoSet None None)
   pub untouched : status ≡ 2 → IsUntouched old new
   pub ends : IsDone status
 
--- what a request has printed, and with which exit status; only `line` reads what is handed to it here
+-- what a request has printed, and with which exit status; only `line` reads what is handed to it
+-- here
 abbrev pub IsAnswered : Request → ℕ → Octets → Octets → Type 0
 IsAnswered (Check set) status old new = IsChecked set status old.written new.written
 IsAnswered (Play set script) status old new = IsPlayedOn set status old.written new.written

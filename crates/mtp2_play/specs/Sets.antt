@@ -1,11 +1,12 @@
 -- The sets of the program's own, by the words that name them.
 use Rattle.std.specs.Prelude.{ℕ, List, Option, Some, None}
-use Rattle.text_check.specs.mtp2_text_types.standard_text.TheConstants.{STANDARD}
-use Rattle.text_check.specs.mtp2_text_types.monitors_text.TheConstants.{MONITORS}
-use Rattle.text_check.specs.declared.sets.SetWord.{SetWord}
-use Rattle.text_check.specs.declared.sets.SetWord.TheVariants.{Standard as standard_set, Monitors as monitors_set}
-use Rattle.command_words.specs.declared.words.Named.{Named}
-use Rattle.command_words.specs.declared.words.Named.TheVariants.{Standard, Monitors, Stdin, File}
+use Rattle.script_check.specs.mtp2_text_types.standard_text.TheConstants.{STANDARD}
+use Rattle.script_check.specs.mtp2_text_types.monitors_text.TheConstants.{MONITORS}
+use Rattle.script_check.specs.declared.sets.SetWord.{SetWord}
+use Rattle.script_check.specs.declared.sets.SetWord.TheVariants.{Standard as standard_set}
+use Rattle.script_check.specs.declared.sets.SetWord.TheVariants.{Monitors as monitors_set}
+use Rattle.mtp2_words.specs.declared.words.Named.{Named}
+use Rattle.mtp2_words.specs.declared.words.Named.TheVariants.{Standard, Monitors, Stdin, File}
 
 -- the set of the program's own that is named, if it is one
 abbrev pub own_set_of : {R : Type 0} → Named → Option (SetWord R)

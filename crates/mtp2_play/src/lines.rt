@@ -1,18 +1,19 @@
 //! The command `line`.
 ghost use Rattle.std.specs.Prelude.{◌≡◌, ◌⊎◌, None};
-ghost use Rattle.text_check.specs.Checked.{given};
+ghost use Rattle.script_check.specs.Checked.{given};
 ghost use Rattle.mtp2_play.specs.Sets.{own_text_of};
 ghost use Rattle.mtp2_play.specs.Printed.{IsSpoken};
 
 use crate::sets::own_set;
-use command_words::{LineEnd, Named};
-use line_command::{SetWord, run_line as run_on};
+use mtp2_line::{SetWord, run_line as run_on};
+use mtp2_words::{LineEnd, Named};
+use plain_text::{NamedReader, Teller};
+use script_check::FAILED;
 use std::fs::{self, File};
 use std::io::{Read, Write};
 use std::rt::Files;
 use std::thread::Threads;
 use std::time::Clock;
-use text_check::FAILED;
 
 /// Has a terminal over a set speak on a line.
 fn line_on<
@@ -20,12 +21,19 @@ fn line_on<
     S: Read + Drop,
     R: Read,
     W: Write,
->(host: &H, end: &LineEnd<'_>, set: SetWord<S>, reader: &mut R, writer: &mut W) -> u8
+>(
+    host: &H,
+    teller: &Teller<'_, H>,
+    end: &LineEnd<'_>,
+    set: SetWord<S>,
+    reader: &mut R,
+    writer: &mut W,
+) -> u8
     ensures { IsSpoken (given S.remaining set) end.now result
         (record { read = R.remaining reader.old; written = W.contents writer.old })
         (record { read = R.remaining reader.new; written = W.contents writer.new }) }
 {
-    run_on(host, end, set, reader, writer)
+    run_on(host, teller, end, set, reader, writer)
 }
 
 /// Has a terminal over a set whose text comes from a reader speak on a line.
@@ -35,17 +43,25 @@ fn line_text<
     S: Read + Drop,
     R: Read,
     W: Write,
->(host: &H, end: &LineEnd<'_>, text: S, reader: &mut R, writer: &mut W) -> u8
+>(
+    host: &H,
+    teller: &Teller<'_, H>,
+    end: &LineEnd<'_>,
+    text: S,
+    reader: &mut R,
+    writer: &mut W,
+) -> u8
     ensures { IsSpoken None end.now result
         (record { read = R.remaining reader.old; written = W.contents writer.old })
         (record { read = R.remaining reader.new; written = W.contents writer.new }) }
 {
-    line_on(host, end, SetWord::Text(text), reader, writer)
+    line_on(host, teller, end, SetWord::Text(text), reader, writer)
 }
 
 /// Has a terminal over a set of the program's own speak on a line.
 fn line_own<H: Files<File = File> + Threads + Eprint + Clock + AllocGlobal, R: Read, W: Write>(
     host: &H,
+    teller: &Teller<'_, H>,
     set: &Named<'_>,
     end: &LineEnd<'_>,
     reader: &mut R,
@@ -56,7 +72,7 @@ fn line_own<H: Files<File = File> + Threads + Eprint + Clock + AllocGlobal, R: R
         (record { read = R.remaining reader.new; written = W.contents writer.new }) }
 {
     match own_set(set) {
-        Some(own) => line_on(host, end, own, reader, writer),
+        Some(own) => line_on(host, teller, end, own, reader, writer),
         None => FAILED,
     }
 }
@@ -66,6 +82,7 @@ fn line_own<H: Files<File = File> + Threads + Eprint + Clock + AllocGlobal, R: R
 /// no command line makes, is 4 too.
 pub fn run_line<H: Files<File = File> + Threads + Eprint + Clock + AllocGlobal, R: Read, W: Write>(
     host: &H,
+    teller: &Teller<'_, H>,
     set: &Named<'_>,
     end: &LineEnd<'_>,
     reader: &mut R,
@@ -77,10 +94,13 @@ pub fn run_line<H: Files<File = File> + Threads + Eprint + Clock + AllocGlobal, 
 {
     match set {
         Named::File(path) => match fs::open(host, path) {
-            Ok(file) => line_text(host, end, file, reader, writer),
-            Err(_) => FAILED,
+            Ok(file) => {
+                let text = NamedReader::new(teller, path, file);
+                line_text(host, teller, end, text, reader, writer)
+            }
+            Err(error) => teller.fail(path, &error),
         },
-        Named::Standard | Named::Monitors => line_own(host, set, end, reader, writer),
+        Named::Standard | Named::Monitors => line_own(host, teller, set, end, reader, writer),
         Named::Stdin => FAILED,
     }
 }

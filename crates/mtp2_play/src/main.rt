@@ -5,7 +5,7 @@
 ghost use Rattle.std.specs.Prelude.{◌≡◌, ◌≢◌, ◌⊎◌, None, IfOk, map, string_bytes};
 ghost use Rattle.clap.specs.Words.{kind_of};
 ghost use Rattle.clap.specs.declared.error.kind.ErrorKind.TheVariants.{OutOfMemory};
-ghost use Rattle.text_check.specs.Checked.{given, IsGiven, PrintsCosts, PrintsRefusal};
+ghost use Rattle.script_check.specs.Checked.{given, IsGiven, PrintsCosts, PrintsRefusal};
 ghost use Rattle.script_play.specs.Played.{IsOnSet, IsPlayed, IsPlayedInPart, IsRefused};
 ghost use Rattle.mtp2_play.specs.Printed.{IsAnswered, IsChecked, IsFault, IsPlayedOn, IsServed, IsStatus};
 ghost use Rattle.mtp2_play.specs.Served.{ComesTo};
@@ -15,8 +15,11 @@ mod sets;
 
 use crate::lines::run_line;
 use crate::sets::own_set;
-use command_words::{Error, ErrorKind, Named, Request, Source, read};
+use mtp2_frame::frame;
+use mtp2_words::{Error, ErrorKind, Named, Request, Source, read};
+use plain_text::{NamedReader, Teller};
 use pool_soak::soak;
+use script_check::{FAILED, HELD, SetWord, USAGE, check};
 use script_play::play;
 use std::alloc::Global;
 use std::fs::File;
@@ -27,26 +30,35 @@ use std::sync::Wait;
 use std::thread::Threads;
 use std::time::Clock;
 use std::{env, fs};
-use text_check::{FAILED, HELD, SetWord, USAGE, check};
-use unit_frame::frame;
 
-/// Runs one command, and gives the exit status. What it prints goes to the writer; the octets of a line come from the reader.
+/// What standard input is called where a read of it fails.
+const STDIN: &str = "standard input";
+
+/// Runs one command, and gives the exit status. What it prints goes to the writer; the octets of a line come from the reader. A file that can't be
+/// opened or read is told by its name.
 fn run<
     R: Runtime + AllocGlobal + Threads + Wait + Sync,
     H: Files<File = File> + Threads + Eprint + Clock + AllocGlobal,
     I: Read,
     W: Write,
->(rt: &R, host: &H, request: &Request<'_>, reader: &mut I, writer: &mut W) -> u8
+>(
+    rt: &R,
+    host: &H,
+    teller: &Teller<'_, H>,
+    request: &Request<'_>,
+    reader: &mut I,
+    writer: &mut W,
+) -> u8
     ensures printed { IsAnswered request.now result
         (record { read = I.remaining reader.old; written = W.contents writer.old })
         (record { read = I.remaining reader.new; written = W.contents writer.new }) }
     ensures status { (result ≡ 0) ⊎ (result ≡ 1) ⊎ (result ≡ 2) ⊎ (result ≡ 4) }
 {
     match request {
-        Request::Check { set } => run_check(rt, *set, writer),
-        Request::Play { set, script } => run_play(rt, *set, *script, writer),
-        Request::Soak { script, workers } => run_soak(rt, *script, *workers, writer),
-        Request::Line { set, end } => run_line(host, set, end, reader, writer),
+        Request::Check { set } => run_check(rt, teller, *set, writer),
+        Request::Play { set, script } => run_play(rt, teller, *set, *script, writer),
+        Request::Soak { script, workers } => run_soak(rt, teller, *script, *workers, writer),
+        Request::Line { set, end } => run_line(host, teller, set, end, reader, writer),
         Request::Frame { octets } => frame(rt.alloc(), octets, writer),
     }
 }
@@ -73,24 +85,33 @@ fn check_text<S: Read + Drop, W: Write>(alloc: Global, text: S, writer: &mut W) 
 }
 
 /// Runs `check` on the set that the command line names.
-fn run_check<R: Runtime + AllocGlobal, W: Write>(rt: &R, set: Named<'_>, writer: &mut W) -> u8
+fn run_check<R: Runtime + AllocGlobal, H: Eprint, W: Write>(
+    rt: &R,
+    teller: &Teller<'_, H>,
+    set: Named<'_>,
+    writer: &mut W,
+) -> u8
     ensures printed { IsChecked set.entry result (W.contents writer.old) (W.contents writer.new) }
     ensures status { (result ≡ 0) ⊎ (result ≡ 2) ⊎ (result ≡ 4) }
 {
     match set {
         Named::Standard | Named::Monitors => check_own(rt.alloc(), &set, writer),
-        Named::Stdin => check_text(rt.alloc(), rt.reader(), writer),
+        Named::Stdin => {
+            let text = NamedReader::new(teller, STDIN, rt.reader());
+            check_text(rt.alloc(), text, writer)
+        }
         Named::File(path) => match fs::open(rt, path) {
-            Ok(file) => check_text(rt.alloc(), file, writer),
-            Err(_) => FAILED,
+            Ok(file) => check_text(rt.alloc(), NamedReader::new(teller, path, file), writer),
+            Err(error) => teller.fail(path, &error),
         },
     }
 }
 
 /// Runs a script that comes from a reader on a set.
 #[tactic(auto, using(crate::proofs::Known::played, crate::proofs::Known::in_part, crate::proofs::Known::not_run))]
-fn play_on<S: Read + Drop, T: Read + Drop, W: Write>(
+fn play_on<H: Eprint, S: Read + Drop, T: Read + Drop, W: Write>(
     alloc: Global,
+    teller: &Teller<'_, H>,
     set: SetWord<S>,
     script: T,
     writer: &mut W,
@@ -100,12 +121,13 @@ fn play_on<S: Read + Drop, T: Read + Drop, W: Write>(
     ensures refused { result ≡ 2 → IsRefused (given S.remaining set) None (W.contents writer.old) (W.contents writer.new) }
     ensures status { (result ≡ 0) ⊎ (result ≡ 1) ⊎ (result ≡ 2) ⊎ (result ≡ 4) }
 {
-    play(alloc, set, script, writer)
+    play(alloc, set, script, writer, &mut teller.errors())
 }
 
 /// Runs a script of a file, or of standard input, on a set.
-fn play_source<R: Runtime + AllocGlobal, S: Read + Drop, W: Write>(
+fn play_source<R: Runtime + AllocGlobal, H: Eprint, S: Read + Drop, W: Write>(
     rt: &R,
+    teller: &Teller<'_, H>,
     set: SetWord<S>,
     script: Source<'_>,
     writer: &mut W,
@@ -116,17 +138,27 @@ fn play_source<R: Runtime + AllocGlobal, S: Read + Drop, W: Write>(
     ensures status { (result ≡ 0) ⊎ (result ≡ 1) ⊎ (result ≡ 2) ⊎ (result ≡ 4) }
 {
     match script {
-        Source::Stdin => play_on(rt.alloc(), set, rt.reader(), writer),
+        Source::Stdin => {
+            let script = NamedReader::new(teller, STDIN, rt.reader());
+            play_on(rt.alloc(), teller, set, script, writer)
+        }
         Source::File(path) => match fs::open(rt, path) {
-            Ok(file) => play_on(rt.alloc(), set, file, writer),
-            Err(_) => FAILED,
+            Ok(file) => play_on(
+                rt.alloc(),
+                teller,
+                set,
+                NamedReader::new(teller, path, file),
+                writer,
+            ),
+            Err(error) => teller.fail(path, &error),
         },
     }
 }
 
 /// Runs a script on a set of the program's own.
-fn play_own<R: Runtime + AllocGlobal, W: Write>(
+fn play_own<R: Runtime + AllocGlobal, H: Eprint, W: Write>(
     rt: &R,
+    teller: &Teller<'_, H>,
     set: Named<'_>,
     script: Source<'_>,
     writer: &mut W,
@@ -135,15 +167,16 @@ fn play_own<R: Runtime + AllocGlobal, W: Write>(
     ensures status { (result ≡ 0) ⊎ (result ≡ 1) ⊎ (result ≡ 2) ⊎ (result ≡ 4) }
 {
     match own_set(&set) {
-        Some(own) => play_source(rt, own, script, writer),
+        Some(own) => play_source(rt, teller, own, script, writer),
         None => FAILED,
     }
 }
 
 /// Runs a script on a set whose text comes from a reader.
 #[tactic(auto, using(crate::proofs::Known::played_on_some, crate::proofs::Known::in_part_on_some, crate::proofs::Known::not_run_on_some))]
-fn play_text<R: Runtime + AllocGlobal, S: Read + Drop, W: Write>(
+fn play_text<R: Runtime + AllocGlobal, H: Eprint, S: Read + Drop, W: Write>(
     rt: &R,
+    teller: &Teller<'_, H>,
     text: S,
     script: Source<'_>,
     writer: &mut W,
@@ -153,13 +186,14 @@ fn play_text<R: Runtime + AllocGlobal, S: Read + Drop, W: Write>(
     ensures refused { result ≡ 2 → IsRefused None None (W.contents writer.old) (W.contents writer.new) }
     ensures status { (result ≡ 0) ⊎ (result ≡ 1) ⊎ (result ≡ 2) ⊎ (result ≡ 4) }
 {
-    play_source(rt, SetWord::Text(text), script, writer)
+    play_source(rt, teller, SetWord::Text(text), script, writer)
 }
 
 /// Runs `play` on the set and the script that the command line names. A file that can't be opened is a failure, whatever there is to say
 /// of the other text.
-fn run_play<R: Runtime + AllocGlobal, W: Write>(
+fn run_play<R: Runtime + AllocGlobal, H: Eprint, W: Write>(
     rt: &R,
+    teller: &Teller<'_, H>,
     set: Named<'_>,
     script: Source<'_>,
     writer: &mut W,
@@ -168,19 +202,26 @@ fn run_play<R: Runtime + AllocGlobal, W: Write>(
     ensures status { (result ≡ 0) ⊎ (result ≡ 1) ⊎ (result ≡ 2) ⊎ (result ≡ 4) }
 {
     match set {
-        Named::Standard | Named::Monitors => play_own(rt, set, script, writer),
-        Named::Stdin => play_text(rt, rt.reader(), script, writer),
+        Named::Standard | Named::Monitors => play_own(rt, teller, set, script, writer),
+        Named::Stdin => {
+            let text = NamedReader::new(teller, STDIN, rt.reader());
+            play_text(rt, teller, text, script, writer)
+        }
         Named::File(path) => match fs::open(rt, path) {
-            Ok(file) => play_text(rt, file, script, writer),
-            Err(_) => FAILED,
+            Ok(file) => {
+                let text = NamedReader::new(teller, path, file);
+                play_text(rt, teller, text, script, writer)
+            }
+            Err(error) => teller.fail(path, &error),
         },
     }
 }
 
 /// Runs `soak` on a script that comes from a reader.
 #[tactic(auto, using(crate::proofs::Known::soaked, crate::proofs::Known::in_vain, crate::proofs::Known::turned_down))]
-fn soak_on<R: Runtime + AllocGlobal + Threads + Wait + Sync, S: Read + Drop, W: Write>(
+fn soak_on<R: Runtime + AllocGlobal + Threads + Wait + Sync, H: Eprint, S: Read + Drop, W: Write>(
     rt: &R,
+    teller: &Teller<'_, H>,
     script: S,
     workers: usize,
     writer: &mut W,
@@ -188,12 +229,20 @@ fn soak_on<R: Runtime + AllocGlobal + Threads + Wait + Sync, S: Read + Drop, W: 
     ensures printed { IsServed workers result (W.contents writer.old) (W.contents writer.new) }
     ensures status { (result ≡ 0) ⊎ (result ≡ 1) ⊎ (result ≡ 2) ⊎ (result ≡ 4) }
 {
-    soak(rt, rt.alloc(), script, workers, writer)
+    soak(
+        rt,
+        rt.alloc(),
+        script,
+        workers,
+        writer,
+        &mut teller.errors(),
+    )
 }
 
 /// Runs `soak` on the script that the command line names.
-fn run_soak<R: Runtime + AllocGlobal + Threads + Wait + Sync, W: Write>(
+fn run_soak<R: Runtime + AllocGlobal + Threads + Wait + Sync, H: Eprint, W: Write>(
     rt: &R,
+    teller: &Teller<'_, H>,
     script: Source<'_>,
     workers: usize,
     writer: &mut W,
@@ -202,10 +251,19 @@ fn run_soak<R: Runtime + AllocGlobal + Threads + Wait + Sync, W: Write>(
     ensures status { (result ≡ 0) ⊎ (result ≡ 1) ⊎ (result ≡ 2) ⊎ (result ≡ 4) }
 {
     match script {
-        Source::Stdin => soak_on(rt, rt.reader(), workers, writer),
+        Source::Stdin => {
+            let script = NamedReader::new(teller, STDIN, rt.reader());
+            soak_on(rt, teller, script, workers, writer)
+        }
         Source::File(path) => match fs::open(rt, path) {
-            Ok(file) => soak_on(rt, file, workers, writer),
-            Err(_) => FAILED,
+            Ok(file) => soak_on(
+                rt,
+                teller,
+                NamedReader::new(teller, path, file),
+                workers,
+                writer,
+            ),
+            Err(error) => teller.fail(path, &error),
         },
     }
 }
@@ -227,12 +285,19 @@ fn answer<R: Runtime + AllocGlobal>(rt: &R, error: &Error) -> u8
 fn serve<
     R: Runtime + AllocGlobal + Threads + Wait + Sync,
     H: Files<File = File> + Threads + Eprint + Clock + AllocGlobal,
->(rt: &R, host: &H, given: &[String]) -> u8
+>(rt: &R, host: &H, teller: &Teller<'_, H>, given: &[String]) -> u8
     ensures served { ComesTo (map string_bytes given.now) result }
     ensures status { IsStatus result }
 {
     match read(rt.alloc(), given) {
-        Ok(request) => run(rt, host, &request, &mut rt.reader(), &mut io::writer(rt)),
+        Ok(request) => run(
+            rt,
+            host,
+            teller,
+            &request,
+            &mut rt.reader(),
+            &mut io::writer(rt),
+        ),
         Err(error) => answer(rt, &error),
     }
 }
@@ -241,16 +306,17 @@ fn serve<
 fn start<
     R: Runtime + AllocGlobal + Threads + Wait + Sync,
     H: Files<File = File> + Threads + Eprint + Clock + AllocGlobal,
->(rt: &R, host: &H) -> io::Result<u8>
+>(rt: &R, host: &H, teller: &Teller<'_, H>) -> io::Result<u8>
     ensures { IfOk result IsStatus }
 {
     let given: Vec<String> = env::args(rt)?.collect(rt.alloc())?;
-    Ok(serve(rt, host, given.as_slice()))
+    Ok(serve(rt, host, teller, given.as_slice()))
 }
 
 fn main(rt: HostRuntime) -> ExitCode {
-    let status = start(&rt, &rt).unwrap_or(FAILED);
-    if status == FAILED {
+    let teller = Teller::new(&rt);
+    let status = start(&rt, &rt, &teller).unwrap_or(FAILED);
+    if status == FAILED && !teller.has_named() {
         let _ = rt.eprintln("mtp2_play: failed");
     }
     ExitCode::from(status)

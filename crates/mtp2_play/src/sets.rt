@@ -2,8 +2,8 @@
 ghost use Rattle.std.specs.Prelude.{◌≡◌};
 ghost use Rattle.mtp2_play.specs.Sets.{own_set_of};
 
-use command_words::Named;
-use text_check::SetWord;
+use mtp2_words::Named;
+use script_check::SetWord;
 
 /// The set of the program's own that is named; none for a text.
 pub fn own_set<'a>(set: &Named<'_>) -> Option<SetWord<&'a [u8]>>

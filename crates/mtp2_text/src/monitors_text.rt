@@ -10,7 +10,7 @@ SIGNALROUTE EnvSuerm FROM ENV TO SUERM WITH SuStart, SuStop, Errored, Good;
 SIGNALROUTE AermEnv FROM AERM TO ENV WITH Abort;
 SIGNALROUTE SuermEnv FROM SUERM TO ENV WITH Fail;
 
-/* The alignment error rate monitor: ti errors in one proving period break it off. */
+/* The alignment error rate monitor: ti errors (Tin, or Tie in an emergency) abort a proving period. */
 PROCESS AERM (1, 1);
 DCL ti, n Integer := 0;
 START;
@@ -37,7 +37,7 @@ INPUT AeStop;
 ENDSTATE Watching;
 ENDPROCESS AERM;
 
-/* The signal unit error rate monitor: a leaky bucket c, which an error fills and each 256th unit empties by one; at 64 the link fails. */
+/* The signal unit error rate monitor: a leaky bucket c, which an error fills and each 256th unit (D) empties by one; at 64 (T) the link fails. */
 PROCESS SUERM (1, 1);
 DCL c, n Integer := 0;
 START;

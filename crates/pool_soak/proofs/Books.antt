@@ -3,8 +3,8 @@ use Rattle.std.proofs.Common.{◌≡◌, ℕ, ◌+◌, ◌≤◌, List, [], ◌�
 use Rattle.std.proofs.lemmas.List.Elements.{All-append, All-cons, All-nil, All-weaker}
 use Rattle.std.proofs.lemmas.List.Sums.{sum_by-le}
 use Rattle.turn_code.specs.declared.draft.Draft.{Draft}
-use Rattle.link_machine.specs.Ledger.{Ledger, next}
-use Rattle.link_machine.specs.Kept.{opened_book}
+use Rattle.actor_machine.specs.Ledger.{Ledger, next}
+use Rattle.actor_machine.specs.Kept.{opened_book}
 use Rattle.pool_soak.specs.Books.{AreOpened, AreBegun, PORT, ENVIRONMENT, JOURNAL}
 
 pub none_more : (d : Draft) → AreOpened d 0 []

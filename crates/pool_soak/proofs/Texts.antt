@@ -5,8 +5,8 @@ use borrow.Author.Tests.{ltb-true}
 use Rattle.std.specs.Io.KnownBytes.{Appends}
 use Rattle.std.proofs.KnownBytes.{Appends-trans}
 use Rattle.std.proofs.lemmas.Bool.{false≢true}
-use Rattle.text_reader.specs.Reading.{LONGEST, Keeps}
-use Rattle.text_reader.specs.declared.reading.TextRead.{TextRead}
+use Rattle.plain_text.specs.Reading.{LONGEST, Keeps}
+use Rattle.plain_text.specs.declared.reading.TextRead.{TextRead}
 use Rattle.script_lines.specs.declared.script.ScriptFault.{ScriptFault}
 use Rattle.script_lines.specs.declared.script.ScriptFault.TheVariants.{BadLine, NoMemory}
 use Rattle.pool_soak.specs.Scripts.{soak_of, IsFaultOf}

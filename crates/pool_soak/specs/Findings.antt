@@ -1,16 +1,18 @@
 -- What `soak` prints.
-use Rattle.std.specs.Prelude.{◌≡◌, ◌⊎◌, ℕ, Bool, true, false, List, ◌++◌, Option, Ok, Err, IsUtf8, codes}
+use Rattle.std.specs.Prelude.{◌≡◌, ◌⊎◌, ℕ, Bool, true, false, List, ◌++◌, Option, Ok, Err, IsUtf8}
+use Rattle.std.specs.Prelude.{codes}
 use Rattle.std.specs.Io.KnownBytes.{Appends}
 use Rattle.script_lines.specs.Printed.{script_fault_text}
 use Rattle.script_lines.specs.declared.script.ScriptFault.{ScriptFault}
 use Rattle.script_lines.specs.declared.script.ScriptFault.TheVariants.{BadLine, NoMemory}
-use Rattle.text_check.specs.Printed.{line_of}
+use Rattle.script_check.specs.Printed.{line_of}
 use Rattle.pool_soak.specs.Scripts.{PlainSoak, soak_of}
-use Rattle.soak_findings.specs.Findings.{finding_text, seats_finding, audit_finding}
+use Rattle.pool_soak.specs.FindingLines.{finding_text, seats_finding, audit_finding}
 
 -- two lines: whether the seats agree, and whether the receipts stand
 abbrev pub lines_with : Bool → Bool → List ℕ
-lines_with agree stand = line_of (finding_text (seats_finding agree)) ++ line_of (finding_text (audit_finding stand))
+lines_with agree stand =
+    line_of (finding_text (seats_finding agree)) ++ line_of (finding_text (audit_finding stand))
 
 -- ---- a script that ran
 
@@ -21,7 +23,8 @@ pub record IsSoaked (old new : Option (List ℕ)) (bytes : List ℕ) : Type 0 wh
   pub reads : soak_of bytes ≡ Ok script
   pub printed : Appends old new (lines_with true true)
 
--- The bytes are a script, and the second line says no. The first never does: what was counted is what happened.
+-- The bytes are a script, and the second line says no. The first never does: what was counted is
+-- what happened.
 pub record IsSoakedInVain (old new : Option (List ℕ)) (bytes : List ℕ) : Type 0 where
   pub utf8 : IsUtf8 bytes
   pub script : PlainSoak
@@ -32,7 +35,8 @@ pub record IsSoakedInVain (old new : Option (List ℕ)) (bytes : List ℕ) : Typ
 
 -- the line of a fault is written; want of memory has none
 abbrev pub PrintsFault : Option (List ℕ) → Option (List ℕ) → ScriptFault → Type 0
-PrintsFault old new (BadLine line) = Appends old new (line_of (codes "refused " ++ script_fault_text (BadLine line)))
+PrintsFault old new (BadLine line) =
+    Appends old new (line_of (codes "refused " ++ script_fault_text (BadLine line)))
 PrintsFault old new NoMemory = ⊥
 
 -- the bytes are no text, and what is written grows by the line that says so
@@ -40,7 +44,8 @@ pub record IsNoText (old new : Option (List ℕ)) (bytes : List ℕ) : Type 0 wh
   pub no_text : IsUtf8 bytes → ⊥
   pub printed : Appends old new (line_of (codes "refused F1 NotText"))
 
--- they are a text, and what is written grows by the line of the first of its lines that may not stand where it does
+-- they are a text, and what is written grows by the line of the first of its lines that may not
+-- stand where it does
 pub record HasBadLine (old new : Option (List ℕ)) (bytes : List ℕ) : Type 0 where
   pub utf8 : IsUtf8 bytes
   pub line : ℕ

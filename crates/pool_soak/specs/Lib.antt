@@ -1,3 +1,5 @@
 pub mod Books
+pub mod Faults
+pub mod FindingLines
 pub mod Findings
 pub mod Scripts

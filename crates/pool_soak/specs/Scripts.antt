@@ -1,9 +1,10 @@
 -- What a script of `soak` reads as: how many links there are, and then what happens to them.
-use Rattle.std.specs.Prelude.{ℕ, ◌≡◌, nat_lt, ◌&&◌, if◌then◌else◌, List, [], ◌∷◌, ◌++◌, length, map, Option, None, Some, option_and_then, Result, Ok, Err, codes}
+use Rattle.std.specs.Prelude.{ℕ, ◌≡◌, nat_lt, ◌&&◌, if◌then◌else◌, List, [], ◌∷◌, ◌++◌, length, map}
+use Rattle.std.specs.Prelude.{Option, None, Some, option_and_then, Result, Ok, Err, codes}
 use Rattle.std.specs.Int.{is_in_range}
 use Rattle.std.specs.Str.{bytes_eq}
-use Rattle.profile_limits.specs.Limits.{MOST_LINKS}
-use Rattle.text_reader.specs.Reading.{LONGEST}
+use Rattle.plain_limits.specs.Limits.{MOST_LINKS}
+use Rattle.plain_text.specs.Reading.{LONGEST}
 use Rattle.script_lines.specs.Numbers.{count_of}
 use Rattle.script_lines.specs.Lines.{PlainLine, lines_of, line_at}
 use Rattle.script_lines.specs.Commands.{PlainOffer, PlainCommand, plain_offer, command_of}
@@ -40,7 +41,8 @@ empty = record { links = None; steps = [] }
 
 -- `links N`, as many as a pool may serve
 abbrev pub links_at : List ℕ → ℕ → Option ℕ
-links_at word n = if bytes_eq word (codes "links") && is_in_range 1 MOST_LINKS n then Some n else None
+links_at word n =
+    if bytes_eq word (codes "links") && is_in_range 1 MOST_LINKS n then Some n else None
 
 abbrev pub links_of : List (List ℕ) → Option ℕ
 links_of (word ∷ number ∷ []) = option_and_then (links_at word) (count_of number)
@@ -113,9 +115,12 @@ abbrev pub known : Result PlainSoak ℕ → Result PlainSoak ℕ
 known (Ok s) = known_by s s.links
 known (Err n) = Err n
 
--- what a text reads as, or the number of its first bad line; of a text that is too long that of the first byte too many
+-- what a text reads as, or the number of its first bad line; of a text that is too long that of the
+-- first byte too many
 unfoldable pub soak_of : List ℕ → Result PlainSoak ℕ
-soak_of text = if nat_lt LONGEST (length text) then Err (line_at text LONGEST) else known (read empty (lines_of text))
+soak_of text =
+    if nat_lt LONGEST (length text) then Err (line_at text LONGEST)
+    else known (read empty (lines_of text))
 
 -- what a refusal says of a text; want of memory says nothing
 abbrev pub IsFaultOf : List ℕ → ScriptFault → Type 0

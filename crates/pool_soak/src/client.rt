@@ -1,8 +1,7 @@
 //! The client that does what a script says.
 
 use crate::script::Step;
-use actor_words::actor_called;
-use script_lines::Offer;
+use script_lines::{Offer, actor_called};
 use std::sync::Wait;
 use std::sync::ledger::Ledger;
 use turn_check::Verified;

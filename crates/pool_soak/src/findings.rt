@@ -1,7 +1,7 @@
 //! What seats and journals have, held against each other.
 
 ghost use Rattle.std.specs.Prelude.{◌≡◌, ◌↔◌, ◌+◌, IsTrue, sum, sum_by};
-ghost use Rattle.link_machine.specs.Ledger.{next};
+ghost use Rattle.actor_machine.specs.Ledger.{next};
 
 use actor_book::Book;
 use turn_pool::Closed;

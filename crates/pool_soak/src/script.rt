@@ -1,14 +1,14 @@
 //! Scripts of `soak`.
 
 ghost use Rattle.std.specs.Prelude.{◌≡◌, ◌≤◌, IfOk, IfErr, IfSome, Ok, Some, map, length, option_map};
-ghost use Rattle.text_reader.specs.Reading.{LONGEST};
+ghost use Rattle.plain_text.specs.Reading.{LONGEST};
 ghost use Rattle.script_lines.specs.Lines.{texts, plain_line};
 ghost use Rattle.script_lines.specs.Commands.{plain_command};
 ghost use Rattle.pool_soak.specs.Scripts.{plain_step, plain_soak, empty, links_at, links_of, on_at, on_of, step_by, step_of, with_step, with_links, added, read, soak_of, IsFaultOf, IsBadAt};
 
+use plain_text::{MOST_BYTES, line_at_limit};
 use script_lines::{Command, Line, Offer, ScriptFault, command_in, count, lines_in};
 use std::alloc::{AllocError, Global};
-use text_reader::{MOST_BYTES, line_at_limit};
 
 /// What a line of a script does.
 #[derive(Drop)]
@@ -41,7 +41,7 @@ fn links_at(word: &str, number: u32) -> Option<u32>
 }
 
 /// The number of links that a first line sets, where it is one.
-fn links_in(words: &[&str]) -> Option<u32>
+pub fn links_in(words: &[&str]) -> Option<u32>
     ensures { result ≡ links_of (texts words.now) }
 {
     match words {
@@ -193,7 +193,7 @@ fn script_in<'a>(alloc: Global, text: &'a str) -> Result<Soak<'a>, ScriptFault>
 ///
 /// [`ScriptFault::BadLine`] (X1) with the number of the first line that may not stand where it does, or 1 where no line says
 /// something; of a text of more than 262,144 bytes with that of the first byte too many, before any line is looked at.
-/// [`ScriptFault::NoMemory`] may stand in place of any answer.
+/// Any call may answer [`ScriptFault::NoMemory`] instead.
 pub fn soak_script<'a>(alloc: Global, text: &'a str) -> Result<Soak<'a>, ScriptFault>
     ensures script { IfOk result (λ s. soak_of text.now ≡ Ok (plain_soak s)) }
     ensures fault { IfErr result (IsFaultOf text.now) }

@@ -3,27 +3,28 @@
 ghost use Rattle.std.specs.Prelude.{◌≡◌, ◌↔◌, ◌⊎◌, ◌+◌, ◌≤◌, IsTrue, List, ℕ, Some, true, false, IfOk, IfSome, OnOk, sum, sum_by, vec_len};
 ghost use Rattle.std.specs.Io.KnownBytes.{Appends};
 ghost use Rattle.script_lines.specs.declared.script.ScriptFault.TheVariants.{BadLine};
-ghost use Rattle.text_reader.specs.Reading.{Keeps};
-ghost use Rattle.text_check.specs.Checked.{IsGiven};
-ghost use Rattle.link_machine.specs.Kept.{opened_book};
-ghost use Rattle.link_machine.specs.Ledger.{next};
+ghost use Rattle.plain_text.specs.Reading.{Keeps};
+ghost use Rattle.script_check.specs.Checked.{IsGiven};
+ghost use Rattle.actor_machine.specs.Kept.{opened_book};
+ghost use Rattle.actor_machine.specs.Ledger.{next};
 ghost use Rattle.pool_soak.specs.Books.{AreOpened, AreBegun, AreKept, PORT, ENVIRONMENT, JOURNAL};
 ghost use Rattle.pool_soak.specs.Findings.{IsEnd, IsSoaked, IsSoakedInVain, IsTurnedDown, PrintsFault, lines_with};
-ghost use Rattle.profile_limits.specs.Limits.{LEAST_WORKERS, MOST_WORKERS};
+ghost use Rattle.plain_limits.specs.Limits.{LEAST_WORKERS, MOST_WORKERS};
 
 use crate::client::{Open, Script};
+use crate::finding_lines::{audit_of, seats_of, status_of};
 use crate::findings::agree;
 use crate::script::{Soak, soak_script};
+use crate::soak_faults::{explain, explain_length};
 use actor_book::{Book, Limits};
+use plain_text::{TextRead, line_at_limit, read_text};
+use script_check::{FAILED, refuse, standard, write_line};
 use script_lines::ScriptFault;
-use soak_findings::{audit_of, seats_of, status_of};
 use std::alloc::{AllocError, Global};
 use std::io::{self, Read, Write};
 use std::str;
 use std::sync::Wait;
 use std::thread::Threads;
-use text_check::{FAILED, refuse, standard, write_line};
-use text_reader::{TextRead, line_at_limit, read_text};
 use turn_check::Verified;
 use turn_pool::{Closed, Receipt, serve};
 
@@ -37,13 +38,15 @@ use turn_pool::{Closed, Receipt, serve};
 ///
 /// Gives the exit status: 0 where all agrees and was written; 1 where the second line is `audit no`; 2 after a line `refused F1 NotText`
 /// alone where the script is no text, or `refused X1 BadLine line N` of its first bad line; 4 where memory, a read or a write fails, for
-/// other than 1 to 16 workers, or where no thread can be made. Nothing is written after a write that failed.
-pub fn soak<R: Threads + Wait + Sync, S: Read + Drop, W: Write>(
+/// other than 1 to 16 workers, or where no thread can be made. Nothing is written after a write that failed. Why a line may not stand where it does
+/// is told on `errors` (tests alone show that).
+pub fn soak<R: Threads + Wait + Sync, S: Read + Drop, W: Write, E: Write>(
     rt: &R,
     alloc: Global,
     mut script: S,
     workers: usize,
     writer: &mut W,
+    errors: &mut E,
 ) -> u8
     ensures held { result ≡ 0 → IsGiven (S.remaining script) (IsSoaked (W.contents writer.old) (W.contents writer.new)) }
     ensures differs { result ≡ 1 → IsGiven (S.remaining script) (IsSoakedInVain (W.contents writer.old) (W.contents writer.new)) }
@@ -52,7 +55,7 @@ pub fn soak<R: Threads + Wait + Sync, S: Read + Drop, W: Write>(
     ensures status { (result ≡ 0) ⊎ (result ≡ 1) ⊎ (result ≡ 2) ⊎ (result ≡ 4) }
 {
     match read_text(alloc, &mut script) {
-        Ok(read) => soak_text(rt, alloc, &read, workers, writer),
+        Ok(read) => soak_text(rt, alloc, &read, workers, writer, errors),
         Err(_) => FAILED,
     }
 }
@@ -69,12 +72,13 @@ fn refuse_script<W: Write>(alloc: Global, writer: &mut W, fault: ScriptFault) ->
 }
 
 /// Runs the script of a text that was read.
-fn soak_text<R: Threads + Wait + Sync, W: Write>(
+fn soak_text<R: Threads + Wait + Sync, W: Write, E: Write>(
     rt: &R,
     alloc: Global,
     read: &TextRead,
     workers: usize,
     writer: &mut W,
+    errors: &mut E,
 ) -> u8
     ensures ends { (bytes : List ℕ) → Keeps bytes read.now → IsEnd result (W.contents writer.old) (W.contents writer.new) bytes }
     ensures served { (result ≡ 0) ⊎ (result ≡ 1) → (LEAST_WORKERS ≤ workers) × (workers ≤ MOST_WORKERS) }
@@ -85,12 +89,16 @@ fn soak_text<R: Threads + Wait + Sync, W: Write>(
     }
     if read.is_too_long() {
         let line = line_at_limit(&read.kept);
+        explain_length(alloc, line, errors);
         return refuse_script(alloc, writer, ScriptFault::BadLine(line));
     }
     match str::from_utf8(&read.kept) {
         Ok(text) => match soak_script(alloc, text) {
             Ok(script) => run_script(rt, alloc, &script, workers, writer),
-            Err(fault) => refuse_script(alloc, writer, fault),
+            Err(fault) => {
+                explain(alloc, text, fault, errors);
+                refuse_script(alloc, writer, fault)
+            }
         },
         Err(_) => refuse(alloc, writer, &"refused F1 NotText"),
     }

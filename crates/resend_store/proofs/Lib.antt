@@ -1,9 +1,9 @@
-pub mod WindowTests
-pub mod Weights
-pub mod Nexts
+pub mod Delivery
 pub mod Given
 pub mod InOrder
-pub mod Stands
 pub mod InTurn
+pub mod Nexts
 pub mod Sent
-pub mod Delivery
+pub mod Stands
+pub mod Weights
+pub mod WindowTests

@@ -1,5 +1,5 @@
--- One direction of a link: a sender, a receiver, and a line each way, which may lose units and delay them, and never
--- changes their order.
+-- One direction of a link: a sender, a receiver, and a line each way, which may lose units and
+-- delay them, and never changes their order.
 use Rattle.std.specs.Prelude.{◌≡◌, ℕ, if◌then◌else◌, List, [], ◌∷◌, ◌++◌, is_some}
 use Rattle.std.specs.Option.{option_to_list}
 use Rattle.resend_store.specs.declared.messages.Msu.{Msu}
@@ -39,7 +39,15 @@ pub data Event : Type 0 where
   is_lost_back : Event
 
 abbrev pub exchange_start : Mode → Exchange
-exchange_start mode = record { sender = start mode; receiver = first_intake mode; forth = []; back = []; taken = []; delivered = [] }
+exchange_start mode =
+    record {
+      sender = start mode;
+      receiver = first_intake mode;
+      forth = [];
+      back = [];
+      taken = [];
+      delivered = [];
+    }
 
 -- a unit arrives at the receiver
 abbrev pub hears : Exchange → Outgoing → Exchange
@@ -67,9 +75,12 @@ first_is_lost_back x [] = x
 first_is_lost_back x (b ∷ bs) = record x { back = bs }
 
 abbrev pub exchange_step : Exchange → Event → Exchange
-exchange_step x (gets m) = record x { sender = step x.sender (put m); taken = x.taken ++ brought x.sender (put m) }
-exchange_step x sends = record x { sender = (next x.sender).left; forth = x.forth ++ (next x.sender).unit ∷ [] }
-exchange_step x answers = record x { back = x.back ++ record { bsn = x.receiver.last; bib = x.receiver.bib } ∷ [] }
+exchange_step x (gets m) =
+    record x { sender = step x.sender (put m); taken = x.taken ++ brought x.sender (put m) }
+exchange_step x sends =
+    record x { sender = (next x.sender).left; forth = x.forth ++ (next x.sender).unit ∷ [] }
+exchange_step x answers =
+    record x { back = x.back ++ record { bsn = x.receiver.last; bib = x.receiver.bib } ∷ [] }
 exchange_step x arrives = first_arrives x x.forth
 exchange_step x is_lost = first_is_lost x x.forth
 exchange_step x comes_back = first_comes_back x x.back
@@ -79,8 +90,8 @@ abbrev pub exchange_after : Exchange → List Event → Exchange
 exchange_after x [] = x
 exchange_after x (e ∷ es) = exchange_after (exchange_step x e) es
 
--- Whatever happens, what was accepted is a beginning of what the sender took: nothing is lost between, nothing comes
--- twice, and the order stays.
+-- Whatever happens, what was accepted is a beginning of what the sender took: nothing is lost
+-- between, nothing comes twice, and the order stays.
 abbrev pub DeliversInOrder : Type 0
 DeliversInOrder = (mode : Mode) (events : List Event) →
     let x = exchange_after (exchange_start mode) events in

@@ -1,5 +1,6 @@
 -- Whole runs of a receiver: which units it accepts over a list of them.
-use Rattle.std.specs.Prelude.{◌≡◌, ℕ, Bool, true, false, if◌then◌else◌, List, [], ◌∷◌, ◌++◌, length, map, Result, Ok, Err}
+use Rattle.std.specs.Prelude.{◌≡◌, ℕ, Bool, true, false, if◌then◌else◌, List, [], ◌∷◌, ◌++◌, length}
+use Rattle.std.specs.Prelude.{map, Result, Ok, Err}
 use Rattle.resend_store.specs.declared.messages.Mode.{Mode}
 use Rattle.resend_store.specs.declared.messages.Verdict.{Verdict}
 use Rattle.resend_store.specs.declared.messages.Verdict.TheVariants.{Accept, Discard, Nack}
@@ -27,11 +28,22 @@ is_accept (Err fault) = false
 abbrev pub accepted_units : Intake → List Heard → List Heard
 accepted_units r [] = []
 accepted_units r (u ∷ us) =
-    (if is_accept (hear_unit r u).verdict then u ∷ [] else []) ++ accepted_units (hear_unit r u).known us
+    (if is_accept (hear_unit r u).verdict then u ∷ []
+    else []) ++ accepted_units (hear_unit r u).known us
 
--- Over every list of units, with whatever numbers and bits: those that are accepted carry messages, and their numbers
--- rise by one modulo 128, from one after the last accepted, which is 0 after `new` and `fresh`.
+-- Over every list of units, with whatever numbers and bits: those that are accepted carry messages,
+-- and their numbers rise by one modulo 128, from one after the last accepted, which is 0 after
+-- `new` and `fresh`.
 pub record AcceptsInTurn : Type 0 where
-  pub numbers : (r : Intake) (us : List Heard) → map (λ (u : Heard). u.fsn) (accepted_units r us) ≡ counted (plus r.last 1) (length (accepted_units r us))
-  pub messages : (r : Intake) (us : List Heard) → map (λ (u : Heard). u.has_msu) (accepted_units r us) ≡ map (λ (u : Heard). true) (accepted_units r us)
-  pub from_start : (mode : Mode) (us : List Heard) → map (λ (u : Heard). u.fsn) (accepted_units (first_intake mode) us) ≡ counted 0 (length (accepted_units (first_intake mode) us))
+  pub numbers :
+      (r : Intake) (us : List Heard)
+      → map (λ (u : Heard). u.fsn) (accepted_units r us)
+      ≡ counted (plus r.last 1) (length (accepted_units r us))
+  pub messages :
+      (r : Intake) (us : List Heard)
+      → map (λ (u : Heard). u.has_msu) (accepted_units r us)
+      ≡ map (λ (u : Heard). true) (accepted_units r us)
+  pub from_start :
+      (mode : Mode) (us : List Heard)
+      → map (λ (u : Heard). u.fsn) (accepted_units (first_intake mode) us)
+      ≡ counted 0 (length (accepted_units (first_intake mode) us))

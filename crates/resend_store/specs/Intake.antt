@@ -1,6 +1,7 @@
--- What a receiver knows of the far side's messages, and what a further unit makes of it (Q.703: acceptance of message
--- signal units, positive and negative acknowledgement).
-use Rattle.std.specs.Prelude.{ℕ, ◌-◌, ◌<◌, ◌==◌, ◌&&◌, Bool, true, false, if◌then◌else◌, Result, Ok, Err}
+-- What a receiver knows of the far side's messages, and what a further unit makes of it (Q.703:
+-- acceptance of message signal units, positive and negative acknowledgement).
+use Rattle.std.specs.Prelude.{ℕ, ◌-◌, ◌<◌, ◌==◌, ◌&&◌, Bool, true, false, if◌then◌else◌, Result, Ok}
+use Rattle.std.specs.Prelude.{Err}
 use Rattle.resend_store.specs.declared.messages.Mode.{Mode}
 use Rattle.resend_store.specs.declared.messages.Mode.TheVariants.{Basic, Cyclic}
 use Rattle.resend_store.specs.declared.messages.Verdict.{Verdict}
@@ -51,16 +52,19 @@ is_in_turn r fsn has_msu = has_msu && (fsn == plus r.last 1)
 -- A unit whose forward indicator agrees with the backward one that goes out.
 abbrev pub hear_agreeing : Intake → ℕ → Bool → Hearing
 hear_agreeing r fsn has_msu =
-    if is_in_turn r fsn has_msu then accepts r else (if fsn == r.last then discards r else refuses r)
+    if is_in_turn r fsn has_msu then accepts r
+    else (if fsn == r.last then discards r else refuses r)
 
--- A unit whose forward indicator doesn't agree: expected while a negative acknowledgement is out, else a fault.
+-- A unit whose forward indicator doesn't agree: expected while a negative acknowledgement is out,
+-- else a fault.
 abbrev pub hear_unlike : Intake → Hearing
 hear_unlike r =
     if r.nack_out then discards r else record { verdict = Err BadIndicator; known = r }
 
 abbrev pub hear_by : Mode → Intake → ℕ → ℕ → Bool → Hearing
 hear_by Basic r fsn fib has_msu =
-    if fib == r.bib then hear_agreeing (record r { nack_out = false }) fsn has_msu else hear_unlike r
+    if fib == r.bib then hear_agreeing (record r { nack_out = false }) fsn has_msu
+    else hear_unlike r
 hear_by Cyclic r fsn fib has_msu = if is_in_turn r fsn has_msu then accepts r else discards r
 
 -- What a unit gives.

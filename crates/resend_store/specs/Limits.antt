@@ -1,7 +1,8 @@
 -- Numbers of a sender.
 use Rattle.std.specs.Prelude.{ℕ}
 
--- how many messages may be sent and not acknowledged: sequence numbers run modulo 128 (Q.703, 5 and 6)
+-- how many messages may be sent and not acknowledged: sequence numbers run modulo 128 (Q.703, 5 and
+-- 6)
 abbrev pub MOST_UNACKNOWLEDGED : ℕ
 MOST_UNACKNOWLEDGED = 127
 
@@ -13,7 +14,8 @@ MOST_WAITING = 1024
 abbrev pub MOST_KEPT : ℕ
 MOST_KEPT = 1151
 
--- so many unacknowledged messages begin forced retransmission (Q.703, 6.4; the value is this profile's)
+-- so many unacknowledged messages begin forced retransmission (Q.703, 6.4; the value is this
+-- profile's)
 abbrev pub N1 : ℕ
 N1 = 127
 

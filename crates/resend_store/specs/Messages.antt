@@ -15,6 +15,7 @@ octets_of m = length m.sif.items + 1
 abbrev pub octets : List Msu → ℕ
 octets ms = sum_by octets_of ms
 
--- whether so many messages, or so many octets of them, are unacknowledged that they have to go again
+-- whether so many messages, or so many octets of them, are unacknowledged that they have to go
+-- again
 abbrev pub reaches_limit : List Msu → Bool
 reaches_limit ms = nat_le N1 (length ms) || nat_le N2 (octets ms)

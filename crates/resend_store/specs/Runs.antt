@@ -1,11 +1,15 @@
--- Whole runs of a sender: which messages go out for the first time over a list of calls, and with which numbers.
-use Rattle.std.specs.Prelude.{◌≡◌, ℕ, ◌≤◌, zero, suc, nat_lt, nat_le, Bool, true, false, if◌then◌else◌, List, [], ◌∷◌, ◌++◌, length, map, Option, Some, None}
+-- Whole runs of a sender: which messages go out for the first time over a list of calls, and with
+-- which numbers.
+use Rattle.std.specs.Prelude.{◌≡◌, ℕ, ◌≤◌, zero, suc, nat_lt, nat_le, Bool, true, false}
+use Rattle.std.specs.Prelude.{if◌then◌else◌, List, [], ◌∷◌, ◌++◌, length, map, Option, Some, None}
 use Rattle.resend_store.specs.declared.messages.Msu.{Msu}
 use Rattle.resend_store.specs.declared.messages.Mode.{Mode}
 use Rattle.resend_store.specs.declared.messages.Outgoing.{Outgoing}
 use Rattle.resend_store.specs.Limits.{MOST_WAITING, MOST_KEPT}
 use Rattle.resend_store.specs.Numbers.{plus}
-use Rattle.resend_store.specs.Window.{Window, unacknowledged, waiting, last_acknowledged, start, with_put, next, count_by, after_back, count_known, emptied, refreshed}
+use Rattle.resend_store.specs.Window.{Window, unacknowledged, waiting, last_acknowledged, start}
+use Rattle.resend_store.specs.Window.{with_put, next, count_by, after_back, count_known, emptied}
+use Rattle.resend_store.specs.Window.{refreshed}
 
 -- A call of a sender. One for which there was no memory changes nothing, and isn't among them.
 pub data Call : Type 0 where
@@ -55,7 +59,8 @@ message_of fresh = []
 abbrev pub brought : Window → Call → List Msu
 brought w call = if is_accepted w call then message_of call else []
 
--- the unit that a call gives out whose message goes out for the first time: one more is sent after it
+-- the unit that a call gives out whose message goes out for the first time: one more is sent after
+-- it
 abbrev pub newly_given : Window → Call → List Outgoing
 newly_given w (put m) = []
 newly_given w (put_diverted m) = []
@@ -93,24 +98,34 @@ abbrev pub counted : ℕ → ℕ → List ℕ
 counted n zero = []
 counted n (suc k) = n ∷ counted (plus n 1) k
 
--- Where a sender held these messages and kept w: the new messages that it gives out over these calls are, in order and
--- without a gap, a beginning of those and of what is put meanwhile, and their numbers rise by one from that number.
+-- Where a sender held these messages and kept w: the new messages that it gives out over these
+-- calls are, in order and without a gap, a beginning of those and of what is put meanwhile, and
+-- their numbers rise by one from that number.
 pub record InOrder (held : List Msu) (number : ℕ) (w : Window) (calls : List Call) : Type 0 where
   pub unsent : List Msu
-  pub order : map (λ (u : Outgoing). u.msu) (all_given w calls) ++ map Some unsent ≡ map Some (held ++ all_brought w calls)
-  pub numbers : map (λ (u : Outgoing). u.fsn) (all_given w calls) ≡ counted number (length (all_given w calls))
+  pub order :
+      map (λ (u : Outgoing). u.msu) (all_given w calls) ++ map Some unsent
+      ≡ map Some (held ++ all_brought w calls)
+  pub numbers :
+      map (λ (u : Outgoing). u.fsn) (all_given w calls)
+      ≡ counted number (length (all_given w calls))
 
 -- the number after the last acknowledged one, once a retrieval has said what was accepted
 abbrev pub number_after : Window → Option ℕ → ℕ
 number_after w (Some fsn) = plus fsn 1
 number_after w None = plus (last_acknowledged w) 1
 
--- Over every list of calls from `new` on: since `new`, since each `fresh`, and since each accepted `retrieve`.
+-- Over every list of calls from `new` on: since `new`, since each `fresh`, and since each accepted
+-- `retrieve`.
 pub record NewInOrder : Type 0 where
-  pub since_new : (mode : Mode) (calls : List Call) → NoBeginning (start mode) calls → InOrder [] 0 (start mode) calls
+  pub since_new :
+      (mode : Mode) (calls : List Call) → NoBeginning (start mode) calls
+      → InOrder [] 0 (start mode) calls
   pub since_fresh : (mode : Mode) (before calls : List Call) →
       let w = after (start mode) before in
-      NoBeginning (refreshed w) calls → InOrder (unacknowledged w ++ waiting w) 0 (refreshed w) calls
+      NoBeginning (refreshed w) calls
+      → InOrder (unacknowledged w ++ waiting w) 0 (refreshed w) calls
   pub since_retrieve : (mode : Mode) (before : List Call) (fsn : Option ℕ) (calls : List Call) →
       let w = after (start mode) before in
-      count_known w fsn ≤ w.sent → NoBeginning (emptied w fsn) calls → InOrder [] (number_after w fsn) (emptied w fsn) calls
+      count_known w fsn ≤ w.sent → NoBeginning (emptied w fsn) calls
+      → InOrder [] (number_after w fsn) (emptied w fsn) calls

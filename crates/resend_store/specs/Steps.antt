@@ -1,14 +1,16 @@
--- How a sender goes about a call to send, in two steps: first a round of forced retransmission that is over makes way,
--- then one choice serves both modes.
+-- How a sender goes about a call to send, in two steps: first a round of forced retransmission that
+-- is over makes way, then one choice serves both modes.
 use Rattle.std.specs.Prelude.{◌==◌, ◌&&◌, nat_lt, Bool, true, false, if◌then◌else◌}
 use Rattle.resend_store.specs.declared.messages.Mode.{Mode}
 use Rattle.resend_store.specs.declared.messages.Mode.TheVariants.{Basic, Cyclic}
-use Rattle.resend_store.specs.Window.{Window, Sending, at_limit, round, may_send, repeats, sends_new, cycles, fill_in}
+use Rattle.resend_store.specs.Window.{Window, Sending, at_limit, round, may_send, repeats}
+use Rattle.resend_store.specs.Window.{sends_new, cycles, fill_in}
 
 -- no round is over and still stands
 abbrev pub settled : Window → Window
 settled w =
-    if w.forced && (w.again == 0) then (if at_limit w then round w else record w { forced = false }) else w
+    if w.forced && (w.again == 0) then (if at_limit w then round w else record w { forced = false })
+    else w
 
 abbrev pub is_cyclic : Mode → Bool
 is_cyclic Basic = false

@@ -1,6 +1,8 @@
--- The window of a sender over all messages that it was ever given, acknowledged ones too, and for which of them a kept
--- window stands.
-use Rattle.std.specs.Prelude.{◌≡◌, ℕ, ◌+◌, ◌-◌, ◌%◌, ◌≤◌, ◌==◌, ◌&&◌, nat_lt, nat_le, max, Bool, true, false, if◌then◌else◌, List, [], ◌∷◌, ◌++◌, length, take, drop, Option, Some, None, slice_get}
+-- The window of a sender over all messages that it was ever given, acknowledged ones too, and for
+-- which of them a kept window stands.
+use Rattle.std.specs.Prelude.{◌≡◌, ℕ, ◌+◌, ◌-◌, ◌%◌, ◌≤◌, ◌==◌, ◌&&◌, nat_lt, nat_le, max, Bool}
+use Rattle.std.specs.Prelude.{true, false, if◌then◌else◌, List, [], ◌∷◌, ◌++◌, length, take, drop}
+use Rattle.std.specs.Prelude.{Option, Some, None, slice_get}
 use Rattle.resend_store.specs.declared.messages.Msu.{Msu}
 use Rattle.resend_store.specs.declared.messages.Mode.{Mode}
 use Rattle.resend_store.specs.declared.messages.Mode.TheVariants.{Basic, Cyclic}
@@ -9,7 +11,8 @@ use Rattle.resend_store.specs.Limits.{MOST_UNACKNOWLEDGED, MOST_WAITING, MOST_KE
 use Rattle.resend_store.specs.Numbers.{minus}
 use Rattle.resend_store.specs.Messages.{reaches_limit}
 use Rattle.resend_store.specs.Window.{Window, start, next, count_by, retrieved}
-use Rattle.resend_store.specs.Runs.{Call, put, put_diverted, next_unit, on_back, retrieve, fresh, is_accepted, step, after}
+use Rattle.resend_store.specs.Runs.{Call, put, put_diverted, next_unit, on_back, retrieve, fresh}
+use Rattle.resend_store.specs.Runs.{is_accepted, step, after}
 
 -- Places are places in the list of all messages, so none of them ever changes its place.
 pub record Whole : Type 0 where
@@ -24,7 +27,8 @@ pub record Whole : Type 0 where
   pub sent : ℕ
   -- the forward indicator bit
   pub fib : ℕ
-  -- the place to repeat from; that of the first message not sent where no retransmission is under way
+  -- the place to repeat from; that of the first message not sent where no retransmission is under
+  -- way
   pub repeat_from : ℕ
   -- whether that retransmission is a round of forced retransmission
   pub forced : Bool
@@ -41,7 +45,18 @@ in_window h = drop h.acknowledged (take h.sent h.messages)
 
 -- nothing put yet
 abbrev pub whole_start : Mode → Whole
-whole_start mode = record { mode = mode; messages = []; origin = 0; acknowledged = 0; sent = 0; fib = 1; repeat_from = 0; forced = false; turn = 0 }
+whole_start mode =
+    record {
+      mode = mode;
+      messages = [];
+      origin = 0;
+      acknowledged = 0;
+      sent = 0;
+      fib = 1;
+      repeat_from = 0;
+      forced = false;
+      turn = 0;
+    }
 
 -- What a call to send gives, and leaves.
 pub record WholeSending : Type 0 where
@@ -54,11 +69,16 @@ carries h i = record { fsn = number_of h i; fib = h.fib; msu = slice_get h.messa
 
 -- nothing to send: the number before that of the next new message
 abbrev pub fills_in : Whole → WholeSending
-fills_in h = record { unit = record { fsn = minus (number_of h h.sent) 1; fib = h.fib; msu = None }; left = h }
+fills_in h =
+    record {
+      unit = record { fsn = minus (number_of h h.sent) 1; fib = h.fib; msu = None };
+      left = h;
+    }
 
 -- the next one to repeat
 abbrev pub goes_again : Whole → WholeSending
-goes_again h = record { unit = carries h h.repeat_from; left = record h { repeat_from = h.repeat_from + 1 } }
+goes_again h =
+    record { unit = carries h h.repeat_from; left = record h { repeat_from = h.repeat_from + 1 } }
 
 -- everything unacknowledged is to be forced out again
 abbrev pub forces : Whole → Whole
@@ -84,18 +104,24 @@ goes_in_turn h = record {
 
 -- whether a message waits, and fewer than 127 are unacknowledged
 abbrev pub is_open : Whole → Bool
-is_open h = nat_lt h.sent (length h.messages) && nat_lt (h.sent - h.acknowledged) MOST_UNACKNOWLEDGED
+is_open h =
+    nat_lt h.sent (length h.messages) && nat_lt (h.sent - h.acknowledged) MOST_UNACKNOWLEDGED
 
 abbrev pub whole_next_basic : Whole → WholeSending
-whole_next_basic h = if nat_lt h.repeat_from h.sent then goes_again h else (if is_open h then goes_out h else fills_in h)
+whole_next_basic h =
+    if nat_lt h.repeat_from h.sent then goes_again h
+    else (if is_open h then goes_out h else fills_in h)
 
 abbrev pub whole_next_ordinary : Whole → WholeSending
-whole_next_ordinary h = if is_open h then goes_out h else (if nat_lt h.acknowledged h.sent then goes_in_turn h else fills_in h)
+whole_next_ordinary h =
+    if is_open h then goes_out h
+    else (if nat_lt h.acknowledged h.sent then goes_in_turn h else fills_in h)
 
 abbrev pub whole_next_forced : Whole → WholeSending
 whole_next_forced h =
     if nat_lt h.repeat_from h.sent then goes_again h
-    else (if reaches_limit (in_window h) then goes_again (forces h) else whole_next_ordinary (record h { forced = false }))
+    else (if reaches_limit (in_window h) then goes_again (forces h)
+    else whole_next_ordinary (record h { forced = false }))
 
 abbrev pub whole_next_by : Mode → Whole → WholeSending
 whole_next_by Basic h = whole_next_basic h
@@ -119,7 +145,8 @@ acknowledges h n = record h {
 
 -- a backward bit unlike the forward one asks for all unacknowledged ones
 abbrev pub whole_asked : Mode → ℕ → Whole → Whole
-whole_asked Basic bib h = if bib == h.fib then h else record h { fib = 1 - h.fib; repeat_from = h.acknowledged }
+whole_asked Basic bib h =
+    if bib == h.fib then h else record h { fib = 1 - h.fib; repeat_from = h.acknowledged }
 whole_asked Cyclic bib h = h
 
 -- how many a retrieval acknowledges
@@ -136,7 +163,14 @@ handed h None = drop h.sent h.messages
 abbrev pub whole_emptied : Whole → ℕ → Whole
 whole_emptied h n =
     let a = h.acknowledged + n in
-    record h { messages = take a h.messages; acknowledged = a; sent = a; repeat_from = a; forced = false; turn = a }
+    record h {
+      messages = take a h.messages;
+      acknowledged = a;
+      sent = a;
+      repeat_from = a;
+      forced = false;
+      turn = a;
+    }
 
 -- numbers begin again at the first message that isn't acknowledged, and it is the first to be sent
 abbrev pub whole_refreshed : Whole → Whole
@@ -174,7 +208,8 @@ abbrev pub whole_after : Whole → List Call → Whole
 whole_after h [] = h
 whole_after h (call ∷ calls) = whole_after (whole_step h call) calls
 
--- The kept window w stands for the window h over all messages: it keeps what stands beyond the last acknowledged one.
+-- The kept window w stands for the window h over all messages: it keeps what stands beyond the last
+-- acknowledged one.
 pub record StandsFor (h : Whole) (w : Window) : Type 0 where
   pub mode : w.mode ≡ h.mode
   pub kept : w.kept ≡ drop h.acknowledged h.messages
@@ -198,9 +233,12 @@ pub record AnswerAlike (h : Whole) (w : Window) : Type 0 where
   pub handed_back : (fsn : Option ℕ) → retrieved w fsn ≡ handed h fsn
   pub accepts : (call : Call) → is_accepted w call ≡ whole_accepts h call
 
--- What is kept tells all that the window over all messages does: a step of one stands for the same step of the other,
--- so over every list of calls from `new` on, a sender stands for that window.
+-- What is kept tells all that the window over all messages does: a step of one stands for the same
+-- step of the other, so over every list of calls from `new` on, a sender stands for that window.
 pub record KeptIsEnough : Type 0 where
   pub alike : (h : Whole) (w : Window) → StandsFor h w → AnswerAlike h w
-  pub steps : (h : Whole) (w : Window) (call : Call) → StandsFor h w → StandsFor (whole_step h call) (step w call)
-  pub runs : (mode : Mode) (calls : List Call) → StandsFor (whole_after (whole_start mode) calls) (after (start mode) calls)
+  pub steps :
+      (h : Whole) (w : Window) (call : Call) → StandsFor h w
+      → StandsFor (whole_step h call) (step w call)
+  pub runs : (mode : Mode) (calls : List Call)
+      → StandsFor (whole_after (whole_start mode) calls) (after (start mode) calls)

@@ -1,6 +1,8 @@
--- What a sender keeps, and what each of its calls makes of it (Q.703: basic error correction, and error correction
--- by preventive cyclic retransmission).
-use Rattle.std.specs.Prelude.{◌≡◌, ℕ, ◌+◌, ◌-◌, ◌<◌, ◌≤◌, ◌==◌, ◌&&◌, nat_lt, min, Bool, true, false, if◌then◌else◌, List, [], ◌∷◌, ◌++◌, length, take, drop, All, Option, Some, None, slice_get}
+-- What a sender keeps, and what each of its calls makes of it (Q.703: basic error correction, and
+-- error correction by preventive cyclic retransmission).
+use Rattle.std.specs.Prelude.{◌≡◌, ℕ, ◌+◌, ◌-◌, ◌<◌, ◌≤◌, ◌==◌, ◌&&◌, nat_lt, min, Bool, true}
+use Rattle.std.specs.Prelude.{false, if◌then◌else◌, List, [], ◌∷◌, ◌++◌, length, take, drop, All}
+use Rattle.std.specs.Prelude.{Option, Some, None, slice_get}
 use Rattle.resend_store.specs.declared.messages.Msu.{Msu}
 use Rattle.resend_store.specs.declared.messages.Mode.{Mode}
 use Rattle.resend_store.specs.declared.messages.Mode.TheVariants.{Basic, Cyclic}
@@ -20,7 +22,8 @@ pub record Window : Type 0 where
   pub first : ℕ
   -- the forward indicator bit that goes out
   pub fib : ℕ
-  -- so many of the sent ones, the last of them, are still to go again in the retransmission under way
+  -- so many of the sent ones, the last of them, are still to go again in the retransmission under
+  -- way
   pub again : ℕ
   -- whether that retransmission is a round of forced retransmission
   pub forced : Bool
@@ -43,8 +46,8 @@ number_at w i = plus w.first i
 abbrev pub last_acknowledged : Window → ℕ
 last_acknowledged w = minus w.first 1
 
--- what a mode leaves unused: retransmission on request has no rounds and no cycle; cyclic retransmission has one
--- indicator, and repeats places by a round alone
+-- what a mode leaves unused: retransmission on request has no rounds and no cycle; cyclic
+-- retransmission has one indicator, and repeats places by a round alone
 abbrev pub UsesOnly : Mode → Window → Type 0
 UsesOnly Basic w = (w.forced ≡ false) × (w.turn ≡ 0)
 UsesOnly Cyclic w = (w.fib ≡ 1) × (w.forced ≡ false → w.again ≡ 0)
@@ -63,7 +66,17 @@ pub record IsWindow (w : Window) : Type 0 where
 
 -- nothing put yet, and the numbers at their start
 abbrev pub start : Mode → Window
-start mode = record { mode = mode; kept = []; sent = 0; first = 0; fib = 1; again = 0; forced = false; turn = 0 }
+start mode =
+    record {
+      mode = mode;
+      kept = [];
+      sent = 0;
+      first = 0;
+      fib = 1;
+      again = 0;
+      forced = false;
+      turn = 0;
+    }
 
 -- one more message waits
 abbrev pub with_put : Window → Msu → Window
@@ -88,7 +101,11 @@ unit_at w i = record { fsn = number_at w i; fib = w.fib; msu = slice_get w.kept 
 
 -- A fill-in unit has the number before that of the next new message.
 abbrev pub fill_in : Window → Sending
-fill_in w = record { unit = record { fsn = minus (number_at w w.sent) 1; fib = w.fib; msu = None }; left = w }
+fill_in w =
+    record {
+      unit = record { fsn = minus (number_at w w.sent) 1; fib = w.fib; msu = None };
+      left = w;
+    }
 
 -- The next one of the retransmission under way goes again.
 abbrev pub repeats : Window → Sending
@@ -98,14 +115,16 @@ repeats w = record { unit = unit_at w (w.sent - w.again); left = record w { agai
 abbrev pub round : Window → Window
 round w = record w { again = w.sent; forced = true }
 
--- after a new message: in cyclic retransmission one that reaches a limit begins forced retransmission
+-- after a new message: in cyclic retransmission one that reaches a limit begins forced
+-- retransmission
 abbrev pub after_new : Mode → Window → Window
 after_new Basic w = w
 after_new Cyclic w = if at_limit w then round w else w
 
 -- The first waiting message goes out for the first time.
 abbrev pub sends_new : Window → Sending
-sends_new w = record { unit = unit_at w w.sent; left = after_new w.mode (record w { sent = w.sent + 1 }) }
+sends_new w =
+    record { unit = unit_at w w.sent; left = after_new w.mode (record w { sent = w.sent + 1 }) }
 
 -- The ordinary cycle repeats one, and moves on: after the last sent one comes the first.
 abbrev pub cycles : Window → Sending
@@ -116,13 +135,17 @@ cycles w = record {
 
 -- Basic error correction: what is to be repeated, then new messages, then fill-in units.
 abbrev pub next_basic : Window → Sending
-next_basic w = if nat_lt 0 w.again then repeats w else (if may_send w then sends_new w else fill_in w)
+next_basic w =
+    if nat_lt 0 w.again then repeats w else (if may_send w then sends_new w else fill_in w)
 
--- Cyclic, while nothing is forced: new messages, then the unacknowledged ones in turn, then fill-in units.
+-- Cyclic, while nothing is forced: new messages, then the unacknowledged ones in turn, then fill-in
+-- units.
 abbrev pub next_ordinary : Window → Sending
-next_ordinary w = if may_send w then sends_new w else (if nat_lt 0 w.sent then cycles w else fill_in w)
+next_ordinary w =
+    if may_send w then sends_new w else (if nat_lt 0 w.sent then cycles w else fill_in w)
 
--- Cyclic, while retransmission is forced: the rest of the round; after it another round, while a limit is reached.
+-- Cyclic, while retransmission is forced: the rest of the round; after it another round, while a
+-- limit is reached.
 abbrev pub next_forced : Window → Sending
 next_forced w =
     if nat_lt 0 w.again then repeats w
@@ -140,7 +163,8 @@ next w = next_by w.mode w
 abbrev pub count_by : Window → ℕ → ℕ
 count_by w bsn = minus bsn (last_acknowledged w)
 
--- The first so many are acknowledged, and gone from what is kept. Those of them that were still to go again need not.
+-- The first so many are acknowledged, and gone from what is kept. Those of them that were still to
+-- go again need not.
 abbrev pub without : Window → ℕ → Window
 without w n = record w {
   kept = drop n w.kept;
@@ -159,7 +183,8 @@ asked Cyclic bib w = w
 abbrev pub after_back : Window → ℕ → ℕ → Window
 after_back w bsn bib = asked w.mode bib (without w (count_by w bsn))
 
--- What stands beyond the message that the far side has last accepted; what was never sent, where that is not known.
+-- What stands beyond the message that the far side has last accepted; what was never sent, where
+-- that is not known.
 abbrev pub retrieved : Window → Option ℕ → List Msu
 retrieved w (Some fsn) = drop (count_by w fsn) w.kept
 retrieved w None = waiting w

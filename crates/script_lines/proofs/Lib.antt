@@ -1,3 +1,5 @@
-pub mod NumberLemmas
+pub mod Lookups
 mod Loops
+pub mod NumberLemmas
+mod Parts
 mod Ranges

@@ -9,7 +9,7 @@ use Rattle.script_lines.specs.declared.settings.Setting.{Setting}
 use Rattle.script_lines.specs.declared.settings.Settings.{Settings}
 use Rattle.script_lines.specs.declared.script.ScriptFault.{ScriptFault}
 use Rattle.script_lines.specs.declared.script.ScriptFault.TheVariants.{BadLine, NoMemory}
-use Rattle.text_reader.specs.Reading.{LONGEST}
+use Rattle.plain_text.specs.Reading.{LONGEST}
 use Rattle.script_lines.specs.Lines.{PlainLine, texts, plain_line, lines_of, line_at}
 use Rattle.script_lines.specs.Scripts.{is_bad, said_of, setting_of, set, defaults, after_head, commands_by, script_of, IsBadLine, IsFaultOf}
 

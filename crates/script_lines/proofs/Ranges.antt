@@ -5,7 +5,7 @@ use Rattle.std.specs.Int.{is_in_range}
 use Rattle.std.specs.Str.{bytes_eq}
 use Rattle.std.proofs.lemmas.Bool.{and_parts, leb-true}
 use Rattle.std.proofs.lemmas.Option.{option_and_then_some}
-use Rattle.text_reader.specs.Reading.{LONGEST}
+use Rattle.plain_text.specs.Reading.{LONGEST}
 use Rattle.script_lines.specs.declared.settings.Setting.{Setting}
 use Rattle.script_lines.specs.declared.settings.Setting.TheVariants.{Ports, Env, Journal}
 use Rattle.script_lines.specs.declared.settings.Settings.{Settings}

@@ -1,5 +1,6 @@
 -- What a line of a book script reads as.
-use Rattle.std.specs.Prelude.{ℕ, if◌then◌else◌, List, [], ◌∷◌, ◌++◌, Option, None, Some, option_map, option_and_then, is_some, codes}
+use Rattle.std.specs.Prelude.{ℕ, if◌then◌else◌, List, [], ◌∷◌, ◌++◌, Option, None, Some, option_map}
+use Rattle.std.specs.Prelude.{option_and_then, is_some, codes}
 use Rattle.std.specs.List.{list_all, filter_map, flat_map}
 use Rattle.std.specs.Str.{bytes_eq}
 use Rattle.turn_code.specs.declared.value.Value.{Value}
@@ -60,11 +61,13 @@ verb_text verbs.Expect = codes "expect"
 -- the first of these verbs that has the text
 abbrev pub verb_among : List ℕ → List Verb → Option Verb
 verb_among word [] = None
-verb_among word (verb ∷ more) = if bytes_eq word (verb_text verb) then Some verb else verb_among word more
+verb_among word (verb ∷ more) =
+    if bytes_eq word (verb_text verb) then Some verb else verb_among word more
 
 unfoldable pub verb_of : List ℕ → Option Verb
 verb_of word = verb_among word
-    (verbs.Offer ∷ verbs.Call Begin ∷ verbs.Call Finish ∷ verbs.Call Skip ∷ verbs.Call State ∷ verbs.Tick ∷ verbs.Env ∷ verbs.Rest ∷ verbs.Flood ∷ verbs.Value ∷ verbs.Expect ∷ [])
+    (verbs.Offer ∷ verbs.Call Begin ∷ verbs.Call Finish ∷ verbs.Call Skip ∷ verbs.Call State
+    ∷ verbs.Tick ∷ verbs.Env ∷ verbs.Rest ∷ verbs.Flood ∷ verbs.Value ∷ verbs.Expect ∷ [])
 
 -- ---- what follows it
 
@@ -75,11 +78,15 @@ only_of _ = None
 
 -- words that all are values
 abbrev pub values_of : List (List ℕ) → Option (List Value)
-values_of words = if list_all (λ word. is_some (value_of word)) words then Some (filter_map value_of words) else None
+values_of words =
+    if list_all (λ word. is_some (value_of word)) words then Some (filter_map value_of words)
+    else None
 
 -- a process, a signal, and values
 abbrev pub offer_of : List (List ℕ) → Option PlainOffer
-offer_of (process ∷ signal ∷ words) = option_map (λ values. record { process = process; signal = signal; values = values }) (values_of words)
+offer_of (process ∷ signal ∷ words) =
+    option_map (λ values. record { process = process; signal = signal; values = values })
+    (values_of words)
 offer_of _ = None
 
 -- a count before that

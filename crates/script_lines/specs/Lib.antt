@@ -1,6 +1,10 @@
-pub mod Numbers
-pub mod Words
-pub mod Lines
+pub mod ActorWords
 pub mod Commands
-pub mod Scripts
+pub mod LineFaults
+pub mod Lines
+pub mod Numbers
 pub mod Printed
+pub mod Refused
+pub mod Replies
+pub mod Scripts
+pub mod Words

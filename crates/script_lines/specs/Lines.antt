@@ -1,5 +1,6 @@
 -- The lines of a script that say something.
-use Rattle.std.specs.Prelude.{ℕ, ◌+◌, ◌==◌, Bool, true, if◌then◌else◌, List, [], ◌∷◌, ◌++◌, map, take, count_by, slice_index}
+use Rattle.std.specs.Prelude.{ℕ, ◌+◌, ◌==◌, Bool, true, if◌then◌else◌, List, [], ◌∷◌, ◌++◌, map}
+use Rattle.std.specs.Prelude.{take, count_by, slice_index}
 use Rattle.std.specs.Borrow.{Bor}
 use Rattle.std.specs.Str.Lines.{lines}
 use Rattle.script_lines.specs.Words.{words_of}
@@ -31,7 +32,8 @@ abbrev pub spoken : ℕ → List (List ℕ) → List PlainLine
 spoken number [] = []
 spoken number (line ∷ more) = said number (words_of line) ++ spoken (number + 1) more
 
--- those of a text. A line ends with a line feed, and a carriage return before that belongs to its end.
+-- those of a text. A line ends with a line feed, and a carriage return before that belongs to its
+-- end.
 unfoldable pub lines_of : List ℕ → List PlainLine
 lines_of text = spoken 1 (lines text)
 

@@ -1,5 +1,7 @@
 -- What a word says, where it is a number or a truth value.
-use Rattle.std.specs.Prelude.{ℕ, ◌+◌, ◌-◌, ◌*◌, ◌==◌, nat_lt, nat_le, ℤ, pos, neg_ℤ, Bool as Truth, ◌&&◌, true, false, if◌then◌else◌, List, [], ◌∷◌, length, fold, Option, None, Some, option_map, codes}
+use Rattle.std.specs.Prelude.{ℕ, ◌+◌, ◌-◌, ◌*◌, ◌==◌, nat_lt, nat_le, ℤ, pos, neg_ℤ, Bool as Truth}
+use Rattle.std.specs.Prelude.{◌&&◌, true, false, if◌then◌else◌, List, [], ◌∷◌, length, fold, Option}
+use Rattle.std.specs.Prelude.{None, Some, option_map, codes}
 use Rattle.std.specs.Char.{is_ascii_digit}
 use Rattle.std.specs.List.{list_all}
 use Rattle.std.specs.Str.{bytes_eq}
@@ -16,7 +18,8 @@ is_digits word = nat_lt 0 (length word) && list_all is_ascii_digit word
 
 -- the number of digits, where it is no greater than this
 unfoldable pub number_up_to : ℕ → List ℕ → Option ℕ
-number_up_to most word = if is_digits word && nat_le (decimal word) most then Some (decimal word) else None
+number_up_to most word =
+    if is_digits word && nat_le (decimal word) most then Some (decimal word) else None
 
 -- a count: digits alone
 abbrev pub count_of : List ℕ → Option ℕ
@@ -36,4 +39,5 @@ integer_of (b ∷ bs) = if b == 45 then negative bs else positive (b ∷ bs)
 -- a value: `true`, `false`, or an Integer
 unfoldable pub value_of : List ℕ → Option Value
 value_of word = if bytes_eq word (codes "true") then Some (Bool true)
-    else (if bytes_eq word (codes "false") then Some (Bool false) else option_map Int (integer_of word))
+    else (if bytes_eq word (codes "false") then Some (Bool false)
+    else option_map Int (integer_of word))

@@ -1,10 +1,14 @@
 -- What a book script reads as: its first lines set numbers, the others are commands.
-use Rattle.std.specs.Prelude.{ℕ, ◌≡◌, ◌≤◌, Bool, nat_lt, ◌&&◌, if◌then◌else◌, List, [], ◌∷◌, length, map, Option, None, Some, option_map, option_and_then, is_none, find, Result, Ok, Err, codes}
+use Rattle.std.specs.Prelude.{ℕ, ◌≡◌, ◌≤◌, Bool, nat_lt, ◌&&◌, if◌then◌else◌, List, [], ◌∷◌, length}
+use Rattle.std.specs.Prelude.{map, Option, None, Some, option_map, option_and_then, is_none, find}
+use Rattle.std.specs.Prelude.{Result, Ok, Err, codes}
 use Rattle.std.specs.Int.{is_in_range}
 use Rattle.std.specs.List.{filter_map}
 use Rattle.std.specs.Str.{bytes_eq}
-use Rattle.profile_limits.specs.Limits.{LEAST_ENVIRONMENT, LEAST_JOURNAL, LEAST_PORT, MOST_ENVIRONMENT, MOST_JOURNAL, MOST_PORT, USUAL_ENVIRONMENT, USUAL_JOURNAL, USUAL_PORT}
-use Rattle.text_reader.specs.Reading.{LONGEST}
+use Rattle.plain_limits.specs.Limits.{LEAST_ENVIRONMENT, LEAST_JOURNAL, LEAST_PORT}
+use Rattle.plain_limits.specs.Limits.{MOST_ENVIRONMENT, MOST_JOURNAL, MOST_PORT, USUAL_ENVIRONMENT}
+use Rattle.plain_limits.specs.Limits.{USUAL_JOURNAL, USUAL_PORT}
+use Rattle.plain_text.specs.Reading.{LONGEST}
 use Rattle.script_lines.specs.Numbers.{count_of}
 use Rattle.script_lines.specs.Lines.{PlainLine, lines_of, line_at}
 use Rattle.script_lines.specs.Commands.{PlainCommand, plain_command, command_of}
@@ -19,9 +23,12 @@ use Rattle.script_lines.specs.declared.script.ScriptFault.TheVariants.{BadLine, 
 -- ---- first lines
 
 abbrev pub setting_at : List ℕ → ℕ → Option Setting
-setting_at word n = if bytes_eq word (codes "ports") && is_in_range LEAST_PORT MOST_PORT n then Some (Ports n)
-    else (if bytes_eq word (codes "env") && is_in_range LEAST_ENVIRONMENT MOST_ENVIRONMENT n then Some (Env n)
-    else (if bytes_eq word (codes "journal") && is_in_range LEAST_JOURNAL MOST_JOURNAL n then Some (Journal n) else None))
+setting_at word n =
+    if bytes_eq word (codes "ports") && is_in_range LEAST_PORT MOST_PORT n then Some (Ports n)
+    else (if bytes_eq word (codes "env") && is_in_range LEAST_ENVIRONMENT MOST_ENVIRONMENT n
+    then Some (Env n)
+    else (if bytes_eq word (codes "journal") && is_in_range LEAST_JOURNAL MOST_JOURNAL n
+    then Some (Journal n) else None))
 
 -- a line that sets a number
 abbrev pub setting_of : List (List ℕ) → Option Setting
@@ -46,15 +53,20 @@ pub record AreInRange (s : Settings) : Type 0 where
   pub least_journal : LEAST_JOURNAL ≤ s.journal
   pub most_journal : s.journal ≤ MOST_JOURNAL
 
--- what is left of the lines from one on: where it sets a number the head goes on behind it, and else the head is over and the line stays
-abbrev pub head_by : Settings → List PlainLine → (Settings → Settings × List PlainLine) → Option Setting → Settings × List PlainLine
+-- what is left of the lines from one on: where it sets a number the head goes on behind it, and
+-- else the head is over and the line stays
+abbrev pub head_by :
+    Settings → List PlainLine → (Settings → Settings × List PlainLine) → Option Setting
+    → Settings × List PlainLine
 head_by s lines go None = (s, lines)
 head_by s lines go (Some setting) = go (set setting s)
 
--- what the first lines set, the last one of a kind for good, and the lines from the first on that sets nothing
+-- what the first lines set, the last one of a kind for good, and the lines from the first on that
+-- sets nothing
 abbrev pub after_head : Settings → List PlainLine → Settings × List PlainLine
 after_head s [] = (s, [])
-after_head s (line ∷ more) = head_by s (line ∷ more) (λ t. after_head t more) (setting_of line.words)
+after_head s (line ∷ more) =
+    head_by s (line ∷ more) (λ t. after_head t more) (setting_of line.words)
 
 -- ---- commands
 
@@ -70,7 +82,8 @@ abbrev pub is_bad : PlainLine → Bool
 is_bad line = is_none (command_of line.words)
 
 abbrev pub said_of : PlainLine → Option PlainSaid
-said_of line = option_map (λ command. record { line = line.number; command = command }) (command_of line.words)
+said_of line =
+    option_map (λ command. record { line = line.number; command = command }) (command_of line.words)
 
 -- ---- scripts
 
@@ -89,9 +102,12 @@ commands_by s lines (Some line) = Err line.number
 abbrev pub script_by : Settings × List PlainLine → Result PlainScript ℕ
 script_by head = commands_by head.0 head.1 (find is_bad head.1)
 
--- what a text reads as, or the number of its first bad line; of a text that is too long that of the first byte too many
+-- what a text reads as, or the number of its first bad line; of a text that is too long that of the
+-- first byte too many
 unfoldable pub script_of : List ℕ → Result PlainScript ℕ
-script_of text = if nat_lt LONGEST (length text) then Err (line_at text LONGEST) else script_by (after_head defaults (lines_of text))
+script_of text =
+    if nat_lt LONGEST (length text) then Err (line_at text LONGEST)
+    else script_by (after_head defaults (lines_of text))
 
 -- what a refusal says of a text; want of memory says nothing
 abbrev pub IsFaultOf : List ℕ → ScriptFault → Type 0
@@ -100,5 +116,6 @@ IsFaultOf text NoMemory = Unit {0}
 
 -- the first line that is no command has this number
 abbrev pub IsBadLine : List PlainLine → ScriptFault → Type 0
-IsBadLine lines (BadLine number) = option_map (λ (line : PlainLine). line.number) (find is_bad lines) ≡ Some number
+IsBadLine lines (BadLine number) =
+    option_map (λ (line : PlainLine). line.number) (find is_bad lines) ≡ Some number
 IsBadLine lines NoMemory = Unit {0}

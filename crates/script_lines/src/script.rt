@@ -1,16 +1,16 @@
 //! Book scripts.
 ghost use Rattle.std.specs.Prelude.{◌≡◌, ◌≤◌, ◌+◌, IfOk, IfErr, Ok, Err, map, is_none, find, take, count_by, ◌==◌, length};
 ghost use Rattle.std.specs.List.{filter_map};
-ghost use Rattle.text_reader.specs.Reading.{LONGEST};
+ghost use Rattle.plain_text.specs.Reading.{LONGEST};
 ghost use Rattle.script_lines.specs.Lines.{plain_line, line_at};
 ghost use Rattle.script_lines.specs.Scripts.{plain_said, plain_script, is_bad, said_of, script_of, AreInRange, IsFaultOf, IsBadLine};
 
 use crate::commands::{Command, command_in};
 use crate::lines::{Line, lines_in};
 use crate::settings::{Settings, head_of};
+use plain_text::{MOST_BYTES, line_at_limit};
 use std::alloc::{AllocError, Global};
 use std::fmt;
-use text_reader::{MOST_BYTES, line_at_limit};
 use thiserror::Error;
 
 /// A command and where it stands.

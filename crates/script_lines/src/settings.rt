@@ -61,7 +61,7 @@ fn setting_at(word: &str, number: u32) -> Option<Setting>
 }
 
 /// What the words of a line set, if they set something.
-fn setting_in(words: &[&str]) -> Option<Setting>
+pub fn setting_in(words: &[&str]) -> Option<Setting>
     ensures { result ≡ setting_of (texts words.now) }
 {
     match words {

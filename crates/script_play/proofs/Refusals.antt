@@ -2,12 +2,12 @@
 use Rattle.std.proofs.Common.{◌≡◌, ℕ, ◌+◌, ◌<◌, ◌==◌, nat_lt, true, List, length, take, count_by, Option, Err, refl, sym, ap, arith, length-take, ◌∙◌}
 use Rattle.std.specs.Prelude.{IsUtf8}
 use Rattle.std.proofs.lemmas.Bool.{lt-ltb, ltb-true}
-use Rattle.text_reader.specs.declared.reading.TextRead.{TextRead}
-use Rattle.text_reader.specs.Reading.{LONGEST, Keeps}
+use Rattle.plain_text.specs.declared.reading.TextRead.{TextRead}
+use Rattle.plain_text.specs.Reading.{LONGEST, Keeps}
 use Rattle.script_lines.specs.Lines.{line_at}
 use Rattle.script_lines.specs.declared.script.ScriptFault.{ScriptFault}
 use Rattle.script_lines.specs.declared.script.ScriptFault.TheVariants.{BadLine, NoMemory}
-use Rattle.group_lines.specs.GroupScripts.{play_script_of, Tells}
+use Rattle.script_links.specs.GroupScripts.{play_script_of, Tells}
 use Rattle.script_play.specs.Played.{IsNoScript, bad_line, PrintsFault}
 use Rattle.plain_laws.proofs.Lists.{take_twice}
 

@@ -5,15 +5,16 @@ use Rattle.std.specs.Io.KnownBytes.{Appends}
 use Rattle.turn_code.specs.declared.draft.Draft.{Draft}
 use Rattle.script_lines.specs.declared.script.ScriptFault.{ScriptFault}
 use Rattle.script_lines.specs.declared.script.ScriptFault.TheVariants.{BadLine, NoMemory}
-use Rattle.group_play.specs.Played.{first_book, IsWritten, IsMissed}
-use Rattle.term_lines.specs.TermScripts.{PlainAnyScript, book, terminal}
-use Rattle.group_lines.specs.GroupScripts.{PlainPlayScript, other, group, play_script_of}
-use Rattle.text_check.specs.Checked.{IsGiven, IsSetOf, PrintsRefusal}
-use Rattle.group_play.specs.Lines.{line_of}
-use Rattle.group_play.specs.TermRuns.{IsOfNew, IsTermWritten, IsTermMissed, LacksName}
-use Rattle.group_play.specs.GroupRuns.{IsOfNewSet, IsGroupWritten, IsGroupMissed}
+use Rattle.script_group.specs.Played.{first_book, IsWritten, IsMissed}
+use Rattle.script_links.specs.TermScripts.{PlainAnyScript, book, terminal}
+use Rattle.script_links.specs.GroupScripts.{PlainPlayScript, other, group, play_script_of}
+use Rattle.script_check.specs.Checked.{IsGiven, IsSetOf, PrintsRefusal}
+use Rattle.script_group.specs.Lines.{line_of}
+use Rattle.script_group.specs.TermRuns.{IsOfNew, IsTermWritten, IsTermMissed, LacksName}
+use Rattle.script_group.specs.GroupRuns.{IsOfNewSet, IsGroupWritten, IsGroupMissed}
 
--- all commands of a script were obeyed, and their lines written: by a book of the set, or by a new terminal over it
+-- all commands of a script were obeyed, and their lines written: by a book of the set, or by a new
+-- terminal over it
 abbrev pub IsOtherObeyed : Draft → PlainAnyScript → Option (List ℕ) → Option (List ℕ) → Type 0
 IsOtherObeyed d (book s) old new = IsWritten (first_book d s.settings) s.commands old new
 IsOtherObeyed d (terminal s) old new = IsOfNew d s.mode (IsTermWritten s.commands old new)
@@ -50,9 +51,11 @@ pub record IsPlayedInPart (old new : Option (List ℕ)) (d : Draft) (bytes : Lis
 
 -- the bytes are no script, and the line that says so is all that was written
 pub data IsNoScript (old new : Option (List ℕ)) (bytes : List ℕ) : Type 0 where
-  no_text : (IsUtf8 bytes → ⊥) → Appends old new (line_of (codes "refused F1 NotText")) → IsNoScript old new bytes
+  no_text : (IsUtf8 bytes → ⊥) → Appends old new (line_of (codes "refused F1 NotText"))
+      → IsNoScript old new bytes
   bad_line : (line : ℕ) → IsUtf8 bytes → play_script_of bytes ≡ Err line
-      → Appends old new (line_of (codes "refused X1 BadLine line " ++ decimal line)) → IsNoScript old new bytes
+      → Appends old new (line_of (codes "refused X1 BadLine line " ++ decimal line))
+      → IsNoScript old new bytes
 
 -- a set that lacks a name has no terminal, and runs the scripts of books alone
 abbrev pub HasNoOther : Draft → PlainAnyScript → Option (List ℕ) → Option (List ℕ) → Type 0
@@ -63,21 +66,24 @@ abbrev pub HasNoTerminal : Draft → PlainPlayScript → Option (List ℕ) → O
 HasNoTerminal d (other s) old new = HasNoOther d s old new
 HasNoTerminal d (group s) old new = LacksName d old new
 
--- the bytes are a script of a terminal or of links, and the set lacks a name that a terminal wants: the line of the first such name is all that was written
+-- the bytes are a script of a terminal or of links, and the set lacks a name that a terminal wants:
+-- the line of the first such name is all that was written
 pub record IsWithoutTerminal (old new : Option (List ℕ)) (d : Draft) (bytes : List ℕ) : Type 0 where
   pub utf8 : IsUtf8 bytes
   pub script : PlainPlayScript
   pub reads : play_script_of bytes ≡ Ok script
   pub lacks : HasNoTerminal d script old new
 
--- why nothing ran on a set: the bytes are no script, whatever the set has; or they are one of a terminal or of links, for which it lacks a name
+-- why nothing ran on a set: the bytes are no script, whatever the set has; or they are one of a
+-- terminal or of links, for which it lacks a name
 pub data IsNotRun (old new : Option (List ℕ)) (d : Draft) (bytes : List ℕ) : Type 0 where
   no_script : IsNoScript old new bytes → IsNotRun old new d bytes
   no_terminal : IsWithoutTerminal old new d bytes → IsNotRun old new d bytes
 
 -- a bad line is named by its number; want of memory is no refusal
 abbrev pub PrintsFault : ScriptFault → Option (List ℕ) → Option (List ℕ) → Type 0
-PrintsFault (BadLine line) old new = Appends old new (line_of (codes "refused X1 BadLine line " ++ decimal line))
+PrintsFault (BadLine line) old new =
+    Appends old new (line_of (codes "refused X1 BadLine line " ++ decimal line))
 PrintsFault NoMemory old new = ⊥
 
 -- the bytes of the set are accepted, and P holds of their set and of the bytes of the script
@@ -86,7 +92,8 @@ pub record IsOnSet (set script : Option (List ℕ)) (P : Draft → List ℕ → 
   pub is_set : IsGiven set (λ bytes. IsSetOf bytes draft)
   pub of_script : IsGiven script (P draft)
 
--- why nothing ran: the set is refused, whatever the script is; or the set is accepted, and the script is refused, or is none for the set
+-- why nothing ran: the set is refused, whatever the script is; or the set is accepted, and the
+-- script is refused, or is none for the set
 pub data IsRefused (set script old new : Option (List ℕ)) : Type 0 where
   set_refused : IsGiven set (PrintsRefusal old new) → IsRefused set script old new
   script_refused : IsOnSet set script (IsNotRun old new) → IsRefused set script old new

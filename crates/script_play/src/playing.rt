@@ -1,20 +1,19 @@
 //! The command `play`.
 ghost use Rattle.std.specs.Prelude.{◌≡◌, ◌⊎◌, List, ℕ, IfSome};
-ghost use Rattle.text_reader.specs.Reading.{Keeps};
-ghost use Rattle.text_check.specs.Checked.{given, IsAccepted};
-ghost use Rattle.term_lines.specs.TermScripts.{plain_any_script, IsInRange};
-ghost use Rattle.group_lines.specs.GroupScripts.{plain_play_script, IsFit};
+ghost use Rattle.plain_text.specs.Reading.{Keeps};
+ghost use Rattle.script_check.specs.Checked.{given, IsAccepted};
+ghost use Rattle.script_links.specs.TermScripts.{plain_any_script, IsInRange};
+ghost use Rattle.script_links.specs.GroupScripts.{plain_play_script, IsFit};
 ghost use Rattle.script_play.specs.Played.{IsOtherObeyed, IsObeyed, IsPlayed, IsOtherMissed, IsMissedIn, IsPlayedInPart, HasNoOther, HasNoTerminal, IsNotRun, PrintsFault, IsOnSet, IsRefused};
 
-use group_lines::{PlayScript, play_script_in};
-use group_play::{FAILED, play_book, play_group, play_terminal, refuse};
+use plain_text::{MOST_BYTES, TextRead, line_at_limit, read_text};
+use script_check::{SetWord, load_set, write_refusal};
+use script_group::{FAILED, play_book, play_group, play_terminal, refuse, write_line};
 use script_lines::ScriptFault;
+use script_links::{AnyScript, PlayScript, play_fault, play_script_in};
 use std::alloc::Global;
 use std::io::{Read, Write};
 use std::str;
-use term_lines::AnyScript;
-use text_check::{SetWord, load_set, write_refusal};
-use text_reader::{TextRead, line_at_limit, read_text};
 use turn_check::Verified;
 
 /// Runs a script on a set of processes, or, where its first line is `terminal basic` or `terminal cyclic`, on a signalling link terminal over
@@ -27,12 +26,14 @@ use turn_check::Verified;
 ///
 /// Gives the exit status: 0 where each command ran and its line was written, 1 after `failed line N` where an expectation
 /// failed, 2 after a line `refused CODE Name ..` alone where the set or the script was refused, or 4 where memory, a read or
-/// a write fails. Nothing is written after a write that failed.
-pub fn play<S: Read + Drop, R: Read + Drop, W: Write>(
+/// a write fails. Nothing is written after a write that failed. Why a line is none of a script (X1), and why a signal is refused by B3, is told on
+/// `errors`, a line each (that it is written there tests alone show).
+pub fn play<S: Read + Drop, R: Read + Drop, W: Write, E: Write>(
     alloc: Global,
     set: SetWord<S>,
     mut script: R,
     writer: &mut W,
+    errors: &mut E,
 ) -> u8
     ensures accepted { (result ≡ 0) ⊎ (result ≡ 1) → IfSome (given S.remaining set) IsAccepted }
     ensures held { result ≡ 0
@@ -47,7 +48,7 @@ pub fn play<S: Read + Drop, R: Read + Drop, W: Write>(
     let read = read_text(alloc, &mut script);
     match set {
         Ok(set) => match read {
-            Ok(read) => play_text(alloc, &set, &read, writer),
+            Ok(read) => play_text(alloc, &set, &read, writer, errors),
             Err(_) => FAILED,
         },
         Err(fault) => write_refusal(alloc, writer, &fault),
@@ -65,8 +66,37 @@ fn refuse_script<W: Write>(alloc: Global, writer: &mut W, fault: ScriptFault) ->
     }
 }
 
+/// Tells why a line of a text is none of a script.
+fn explain<E: Write>(alloc: Global, text: &str, fault: ScriptFault, errors: &mut E) {
+    let ScriptFault::BadLine(line) = fault else {
+        return;
+    };
+    if let Ok(Some(fault)) = play_fault(alloc, text, line) {
+        let _told = write_line(
+            alloc,
+            errors,
+            &format_args!("mtp2_play: line {line}: {fault}"),
+        );
+    }
+}
+
+/// Tells that a text is too long for a script.
+fn explain_length<E: Write>(alloc: Global, line: usize, errors: &mut E) {
+    let _told = write_line(
+        alloc,
+        errors,
+        &format_args!("mtp2_play: line {line}: a script has {MOST_BYTES} octets at most"),
+    );
+}
+
 /// Runs the script of a text that was read.
-fn play_text<W: Write>(alloc: Global, set: &Verified, read: &TextRead, writer: &mut W) -> u8
+fn play_text<W: Write, E: Write>(
+    alloc: Global,
+    set: &Verified,
+    read: &TextRead,
+    writer: &mut W,
+    errors: &mut E,
+) -> u8
     ensures held { result ≡ 0 → (bytes : List ℕ) → Keeps bytes read.now → IsPlayed (W.contents writer.old) (W.contents writer.new) set.now bytes }
     ensures missed { result ≡ 1 → (bytes : List ℕ) → Keeps bytes read.now
         → IsPlayedInPart (W.contents writer.old) (W.contents writer.new) set.now bytes }
@@ -78,19 +108,29 @@ fn play_text<W: Write>(alloc: Global, set: &Verified, read: &TextRead, writer: &
     }
     if read.is_too_long() {
         let line = line_at_limit(&read.kept);
+        explain_length(alloc, line, errors);
         return refuse_script(alloc, writer, ScriptFault::BadLine(line));
     }
     match str::from_utf8(&read.kept) {
         Ok(text) => match play_script_in(alloc, text) {
-            Ok(script) => play_script(alloc, set, &script, writer),
-            Err(fault) => refuse_script(alloc, writer, fault),
+            Ok(script) => play_script(alloc, set, &script, writer, errors),
+            Err(fault) => {
+                explain(alloc, text, fault, errors);
+                refuse_script(alloc, writer, fault)
+            }
         },
         Err(_) => refuse(alloc, writer, &"refused F1 NotText"),
     }
 }
 
 /// Runs a script of a book or of a terminal.
-fn play_other<W: Write>(alloc: Global, set: &Verified, script: &AnyScript<'_>, writer: &mut W) -> u8
+fn play_other<W: Write, E: Write>(
+    alloc: Global,
+    set: &Verified,
+    script: &AnyScript<'_>,
+    writer: &mut W,
+    errors: &mut E,
+) -> u8
     requires { IsInRange script.now }
     ensures held { result ≡ 0 → IsOtherObeyed set.now (plain_any_script script.now) (W.contents writer.old) (W.contents writer.new) }
     ensures missed { result ≡ 1 → IsOtherMissed set.now (plain_any_script script.now) (W.contents writer.old) (W.contents writer.new) }
@@ -98,17 +138,18 @@ fn play_other<W: Write>(alloc: Global, set: &Verified, script: &AnyScript<'_>, w
     ensures status { (result ≡ 0) ⊎ (result ≡ 1) ⊎ (result ≡ 2) ⊎ (result ≡ 4) }
 {
     match script {
-        AnyScript::Book(script) => play_book(alloc, set, script, writer),
+        AnyScript::Book(script) => play_book(alloc, set, script, writer, errors),
         AnyScript::Terminal(script) => play_terminal(alloc, set, script, writer),
     }
 }
 
 /// Runs a script.
-fn play_script<W: Write>(
+fn play_script<W: Write, E: Write>(
     alloc: Global,
     set: &Verified,
     script: &PlayScript<'_>,
     writer: &mut W,
+    errors: &mut E,
 ) -> u8
     requires { IsFit script.now }
     ensures held { result ≡ 0 → IsObeyed set.now (plain_play_script script.now) (W.contents writer.old) (W.contents writer.new) }
@@ -117,7 +158,7 @@ fn play_script<W: Write>(
     ensures status { (result ≡ 0) ⊎ (result ≡ 1) ⊎ (result ≡ 2) ⊎ (result ≡ 4) }
 {
     match script {
-        PlayScript::Other(script) => play_other(alloc, set, script, writer),
+        PlayScript::Other(script) => play_other(alloc, set, script, writer, errors),
         PlayScript::Group(script) => play_group(alloc, set, script, writer),
     }
 }

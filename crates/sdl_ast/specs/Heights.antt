@@ -1,7 +1,13 @@
 -- How high a tree is, and what in it is too high.
-use Rattle.std.specs.Prelude.{ℕ, ◌+◌, max, nat_lt, List, [], ◌∷◌, Option, Some, None, if◌then◌else◌, min}
+use Rattle.std.specs.Prelude.{ℕ, ◌+◌, max, nat_lt, List, [], ◌∷◌, Option, Some, None, if◌then◌else◌}
+use Rattle.std.specs.Prelude.{min}
 use Rattle.sdl_ast.specs.Limits.{GREATEST_HEIGHT}
-use Rattle.sdl_ast.specs.Plain.{Tree, number, truth, variable, unary, binary, PlainAssignment, PlainSending, PlainAction, task, output, set_timer, reset_timer, Text, falls, ends, does, decides, Choice, nothing_else, otherwise, answer, PlainStatement, act, decide, PlainAnswer, PlainClause, input, save, PlainState, PlainConnection, PlainProcess, PlainEntity, signals, route, connect, process, PlainBlock}
+use Rattle.sdl_ast.specs.Plain.{Tree, number, truth, variable, unary, binary, PlainAssignment}
+use Rattle.sdl_ast.specs.Plain.{PlainSending, PlainAction, task, output, set_timer, reset_timer}
+use Rattle.sdl_ast.specs.Plain.{Text, falls, ends, does, decides, Choice, nothing_else, otherwise}
+use Rattle.sdl_ast.specs.Plain.{answer, PlainStatement, act, decide, PlainAnswer, PlainClause}
+use Rattle.sdl_ast.specs.Plain.{input, save, PlainState, PlainConnection, PlainProcess, PlainEntity}
+use Rattle.sdl_ast.specs.Plain.{signals, route, connect, process, PlainBlock}
 
 -- 1 for an operand, one more than its highest operand for an operator
 abbrev pub tree_height : Tree → ℕ
@@ -35,7 +41,8 @@ abbrev mutual
   text_height falls = 0
   text_height (ends e) = 0
   text_height (does action rest) = max (action_height action) (text_height rest)
-  text_height (decides at question choice rest) = max (max (tree_height question) (choice_height choice) + 1) (text_height rest)
+  text_height (decides at question choice rest) =
+      max (max (tree_height question) (choice_height choice) + 1) (text_height rest)
 
   -- an answer adds nothing to its body
   pub choice_height : Choice → ℕ
@@ -57,7 +64,9 @@ abbrev pub connection_height : PlainConnection → ℕ
 connection_height c = text_height c.text
 
 abbrev pub process_height : PlainProcess → ℕ
-process_height p = max (text_height p.start.text) (max (highest state_height p.states) (highest connection_height p.connections))
+process_height p =
+    max (text_height p.start.text)
+    (max (highest state_height p.states) (highest connection_height p.connections))
 
 abbrev pub entity_height : PlainEntity → ℕ
 entity_height (signals declared) = 0
@@ -86,24 +95,30 @@ place_of_action (reset_timer at timer) = at
 
 -- the place of an action with an expression that is too high
 abbrev pub high_in_action : PlainAction → Option ℕ
-high_in_action a = if nat_lt GREATEST_HEIGHT (action_height a) then Some (place_of_action a) else None
+high_in_action a =
+    if nat_lt GREATEST_HEIGHT (action_height a) then Some (place_of_action a) else None
 
 -- the place of a DECISION that is too high
 abbrev pub high_in_decision : ℕ → Tree → Choice → Option ℕ
-high_in_decision at question choice = if nat_lt GREATEST_HEIGHT (decision_height question choice) then Some at else None
+high_in_decision at question choice =
+    if nat_lt GREATEST_HEIGHT (decision_height question choice) then Some at else None
 
--- the place of the first TASK, OUTPUT, SET or DECISION that is too high: a DECISION stands before all that is in it
+-- the place of the first TASK, OUTPUT, SET or DECISION that is too high: a DECISION stands before
+-- all that is in it
 abbrev mutual
   pub high_in_text : Text → Option ℕ
   high_in_text falls = None
   high_in_text (ends e) = None
   high_in_text (does action rest) = or_first (high_in_action action) (high_in_text rest)
-  high_in_text (decides at question choice rest) = or_first (high_in_decision at question choice) (or_first (high_in_choice choice) (high_in_text rest))
+  high_in_text (decides at question choice rest) =
+      or_first (high_in_decision at question choice)
+      (or_first (high_in_choice choice) (high_in_text rest))
 
   pub high_in_choice : Choice → Option ℕ
   high_in_choice nothing_else = None
   high_in_choice (otherwise text) = high_in_text text
-  high_in_choice (answer at ranges text others) = or_first (high_in_text text) (high_in_choice others)
+  high_in_choice (answer at ranges text others) =
+      or_first (high_in_text text) (high_in_choice others)
 
 -- the same of one statement and of one answer alone
 abbrev pub high_in_statement : PlainStatement → Option ℕ
@@ -131,7 +146,9 @@ lesser (Some p) (Some q) = Some (min p q)
 
 -- STATE parts and CONNECTIONs stand mixed in the text
 abbrev pub high_in_process : PlainProcess → Option ℕ
-high_in_process p = or_first (high_in_text p.start.text) (lesser (first_of high_in_state p.states) (first_of high_in_connection p.connections))
+high_in_process p =
+    or_first (high_in_text p.start.text)
+    (lesser (first_of high_in_state p.states) (first_of high_in_connection p.connections))
 
 abbrev pub high_in_entity : PlainEntity → Option ℕ
 high_in_entity (signals declared) = None

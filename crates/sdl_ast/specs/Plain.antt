@@ -1,5 +1,5 @@
--- The syntax tree as definitions and contracts speak of it: records and lists, with no `Vec` and no `Box`.
--- Z.100 gives each of its nodes a concrete syntax; the places are the text's, in bytes.
+-- The syntax tree as definitions and contracts speak of it: records and lists, with no `Vec` and no
+-- `Box`. Z.100 gives each of its nodes a concrete syntax; the places are the text's, in bytes.
 use Rattle.std.specs.Prelude.{ℕ, Bool, List, [], ◌∷◌, Option, Some, None}
 use Rattle.std.specs.List.{filter_map}
 use Rattle.sdl_ast.specs.declared.expression.Identifier.{Identifier}
@@ -66,12 +66,14 @@ pub record PlainQuestion : Type 0 where
   pub at : ℕ
   pub question : Tree
 
--- What stands before the body of an answer: the values that it is for, at the place of the parenthesis.
+-- What stands before the body of an answer: the values that it is for, at the place of the
+-- parenthesis.
 pub record PlainHead : Type 0 where
   pub at : ℕ
   pub ranges : List Range
 
--- One statement of a transition alone: an action, or a DECISION at a place with its question and answers.
+-- One statement of a transition alone: an action, or a DECISION at a place with its question and
+-- answers.
 pub data PlainStatement : Type 0 where
   act : PlainAction → PlainStatement
   decide : ℕ → Tree → Choice → PlainStatement
@@ -177,8 +179,10 @@ abbrev pub connection_in : PlainSection → Option PlainConnection
 connection_in (in_state s) = None
 connection_in (in_connection c) = Some c
 
--- a process with these parts of its body: STATE parts and CONNECTIONs apart, each in the order of the text
-abbrev pub process_from : PlainProcessHead → List PlainDeclaration → PlainStart → List PlainSection → PlainProcess
+-- a process with these parts of its body: STATE parts and CONNECTIONs apart, each in the order of
+-- the text
+abbrev pub process_from :
+    PlainProcessHead → List PlainDeclaration → PlainStart → List PlainSection → PlainProcess
 process_from head declarations start sections = record {
   name = head.name;
   instances = head.instances;
@@ -204,7 +208,8 @@ pub record PlainSignal : Type 0 where
   pub name : Identifier
   pub parameters : List Sort
 
--- What stands in a block: the signals of a SIGNAL, a SIGNALROUTE, a CONNECT with its channels and routes, a PROCESS.
+-- What stands in a block: the signals of a SIGNAL, a SIGNALROUTE, a CONNECT with its channels and
+-- routes, a PROCESS.
 pub data PlainEntity : Type 0 where
   signals : List PlainSignal → PlainEntity
   route : PlainRoute → PlainEntity

@@ -1,7 +1,15 @@
 -- From the tree that the code holds to the plain tree.
 use Rattle.std.specs.Prelude.{List, [], ◌∷◌, map, Option, None, Some}
-use Rattle.sdl_ast.specs.Plain.{Tree, number, truth, variable, unary, binary, PlainAssignment, PlainSending, PlainAction, task, output, set_timer, reset_timer, Text, falls, ends, Choice, nothing_else, otherwise, PlainStatement, act, decide, PlainAnswer, before, all_before, all_answers, PlainConnection, PlainStimulus, PlainInput, PlainClause, input, save, PlainState, PlainStart, PlainGroup, PlainDeclaration, variables, timers, PlainProcess, PlainPath, PlainRoute, PlainSignal, PlainEntity, signals, route, connect, process, PlainBlock}
-use Rattle.sdl_ast.specs.declared.expression.Expression.{Expression, Number, Truth, Variable, Unary', Binary'}
+use Rattle.sdl_ast.specs.Plain.{Tree, number, truth, variable, unary, binary, PlainAssignment}
+use Rattle.sdl_ast.specs.Plain.{PlainSending, PlainAction, task, output, set_timer, reset_timer}
+use Rattle.sdl_ast.specs.Plain.{Text, falls, ends, Choice, nothing_else, otherwise, PlainStatement}
+use Rattle.sdl_ast.specs.Plain.{act, decide, PlainAnswer, before, all_before, all_answers}
+use Rattle.sdl_ast.specs.Plain.{PlainConnection, PlainStimulus, PlainInput, PlainClause, input}
+use Rattle.sdl_ast.specs.Plain.{save, PlainState, PlainStart, PlainGroup, PlainDeclaration}
+use Rattle.sdl_ast.specs.Plain.{variables, timers, PlainProcess, PlainPath, PlainRoute, PlainSignal}
+use Rattle.sdl_ast.specs.Plain.{PlainEntity, signals, route, connect, process, PlainBlock}
+use Rattle.sdl_ast.specs.declared.expression.Expression.{Expression, Number, Truth, Variable}
+use Rattle.sdl_ast.specs.declared.expression.Expression.{Unary', Binary'}
 use Rattle.sdl_ast.specs.declared.tree.Assignment.{Assignment}
 use Rattle.sdl_ast.specs.declared.tree.Action.{Action}
 use Rattle.sdl_ast.specs.declared.tree.Action.TheVariants.{Task, Output, Set, Reset}
@@ -12,8 +20,10 @@ use Rattle.sdl_ast.specs.declared.tree.Statement.{Statement}
 use Rattle.sdl_ast.specs.declared.tree.Decision.{Decision, out-Decision}
 use Rattle.sdl_ast.specs.declared.tree.Answer.{Answer}
 use Rattle.sdl_ast.specs.declared.tree.Connection.{Connection}
-use Rattle.sdl_ast.specs.declared.tree.Statement.TheOpen.{Answer-F, Decision-F, Statement-F, Transition-F}
-use Rattle.sdl_ast.specs.declared.tree.Statement.TheFolds.{fold-Transition, fold-Statement, fold-Decision, fold-Answer}
+use Rattle.sdl_ast.specs.declared.tree.Statement.TheOpen.{Answer-F, Decision-F, Statement-F}
+use Rattle.sdl_ast.specs.declared.tree.Statement.TheOpen.{Transition-F}
+use Rattle.sdl_ast.specs.declared.tree.Statement.TheFolds.{fold-Transition, fold-Statement}
+use Rattle.sdl_ast.specs.declared.tree.Statement.TheFolds.{fold-Decision, fold-Answer}
 use Rattle.sdl_ast.specs.declared.tree.Stimulus.{Stimulus}
 use Rattle.sdl_ast.specs.declared.tree.InputPart.{InputPart}
 use Rattle.sdl_ast.specs.declared.tree.StateClause.{StateClause}
@@ -64,10 +74,13 @@ else_text (Some body) = otherwise body
 abbrev pub answer_step : Answer-F PlainStatement PlainAnswer PlainStatement Text → PlainAnswer
 answer_step a = record { at = a.at; ranges = a.ranges.items; text = a.body }
 
-abbrev pub decision_step : Decision-F PlainStatement PlainAnswer PlainStatement Text → PlainStatement
-decision_step d = decide d.at (tree_of d.question) (all_answers d.answers.items (else_text d.otherwise))
+abbrev pub decision_step :
+    Decision-F PlainStatement PlainAnswer PlainStatement Text → PlainStatement
+decision_step d =
+    decide d.at (tree_of d.question) (all_answers d.answers.items (else_text d.otherwise))
 
-abbrev pub statement_step : Statement-F PlainStatement PlainAnswer PlainStatement Text → PlainStatement
+abbrev pub statement_step :
+    Statement-F PlainStatement PlainAnswer PlainStatement Text → PlainStatement
 statement_step (Statement-F.Act a) = act (action_of a)
 statement_step (Statement-F.Decide d) = d
 
@@ -75,17 +88,24 @@ abbrev pub transition_step : Transition-F PlainStatement PlainAnswer PlainStatem
 transition_step t = all_before t.statements.items (end_text t.end)
 
 abbrev pub text_of : Transition → Text
-text_of = fold-Transition PlainStatement PlainAnswer PlainStatement Text statement_step answer_step decision_step transition_step
+text_of = fold-Transition PlainStatement PlainAnswer PlainStatement Text statement_step answer_step
+    decision_step transition_step
 
 -- a statement, a DECISION and an answer alone
 abbrev pub plain_statement : Statement → PlainStatement
-plain_statement = fold-Statement PlainStatement PlainAnswer PlainStatement Text statement_step answer_step decision_step transition_step
+plain_statement =
+    fold-Statement PlainStatement PlainAnswer PlainStatement Text statement_step answer_step
+    decision_step transition_step
 
 abbrev pub plain_decision : Decision → PlainStatement
-plain_decision = fold-Decision PlainStatement PlainAnswer PlainStatement Text statement_step answer_step decision_step transition_step
+plain_decision =
+    fold-Decision PlainStatement PlainAnswer PlainStatement Text statement_step answer_step
+    decision_step transition_step
 
 abbrev pub plain_answer : Answer → PlainAnswer
-plain_answer = fold-Answer PlainStatement PlainAnswer PlainStatement Text statement_step answer_step decision_step transition_step
+plain_answer =
+    fold-Answer PlainStatement PlainAnswer PlainStatement Text statement_step answer_step
+    decision_step transition_step
 
 -- the same in front of what follows them
 abbrev pub statement_of : Statement → Text → Text
@@ -115,7 +135,8 @@ abbrev pub stimulus_of : Stimulus → PlainStimulus
 stimulus_of s = record { name = s.name; places = s.places.items }
 
 abbrev pub input_of : InputPart → PlainInput
-input_of i = record { at = i.at; stimuli = map stimulus_of i.stimuli.items; text = text_of i.transition }
+input_of i =
+    record { at = i.at; stimuli = map stimulus_of i.stimuli.items; text = text_of i.transition }
 
 abbrev pub clause_of : StateClause → PlainClause
 clause_of (Input i) = input (input_of i)

@@ -7,6 +7,7 @@ mod tree;
 
 pub use expression::{BinaryOperator, Expression, Identifier, UnaryOperator};
 pub use height::{high_in_action, high_in_decision};
+pub use sdl_lex::Name;
 pub use tree::{
     Action, Answer, Assignment, Block, Connect, Connection, Constant, Decision, Declaration,
     Destination, End, Entity, Group, InputPart, Join, Literal, NextState, Output, Party, Path,
@@ -16,5 +17,3 @@ pub use tree::{
 
 /// The greatest height of a tree.
 pub const MAX_HEIGHT: u32 = 32;
-
-pub use sdl_lex::Name;

@@ -2,10 +2,11 @@
 ghost use Rattle.std.specs.Prelude.{IfOk};
 ghost use Rattle.sdl_ast.specs.Views.{block_of};
 ghost use Rattle.turn_code.specs.Valid.{IsValid};
-ghost use Rattle.sdl_drafts.specs.Blocks.{MatchesBlock};
-ghost use Rattle.sdl_drafts.specs.Meaning.{RunsAsMeant};
+ghost use Rattle.sdl_compile.specs.Blocks.{MatchesBlock};
+ghost use Rattle.sdl_compile.specs.Meaning.{RunsAsMeant};
 
-use sdl_drafts::{Resolved, Surveys, compile_block};
+use crate::block::{Surveys, compile_block};
+use sdl_rules::Resolved;
 use std::alloc::{AllocError, Global};
 use turn_code::Draft;
 

@@ -1,8 +1,14 @@
-//! `compile`: from the sound tree of a text to its draft.
+//! From a sound block to a draft: a piece for each transition, and that each place of it keeps the rules of a valid draft.
 #![tactic(auto)]
 
+mod block;
 mod compiling;
+pub mod laws;
+mod piece;
+mod process;
+mod state;
+mod variables;
 
 pub use compiling::compile;
-pub use sdl_drafts::laws::set_law;
-pub use sdl_drafts::{ControlPath, Limit, Resolved, RuleFault, Step, resolve};
+pub use laws::set_law;
+pub use sdl_rules::{ControlPath, Limit, Resolved, RuleFault, Step, resolve};

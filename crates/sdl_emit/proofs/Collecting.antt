@@ -11,12 +11,12 @@ use Rattle.sdl_ast.specs.Plain.{Text, Choice, nothing_else, otherwise, answer, P
 use Rattle.sdl_ast.specs.Views.{plain_answer, text_of, choice_of, else_choice, statement_of, statements_before, answers_before}
 use Rattle.sdl_meaning.specs.Act.{is_truth}
 use Rattle.sdl_meaning.specs.Outcomes.{Scope}
-use Rattle.sdl_actions.specs.Scopes.{question_in}
+use Rattle.sdl_emit.specs.Scopes.{question_in}
 use Rattle.sdl_emit.specs.Placing.{decision_joins}
 use Rattle.sdl_meaning.specs.Code.{code_joins, else_joins, answers_joins, bodies_joins}
 use Rattle.sdl_ast.proofs.Views.{statement_of-decide}
 use Rattle.sdl_emit.proofs.Emitting.{one_statement}
-use Rattle.sdl_actions.proofs.Picking.{one_answer}
+use Rattle.sdl_emit.proofs.Picking.{one_answer}
 
 module _ (c : Scope) where
   bodies_split : (choice : Choice) → bodies_joins c choice ≡ answers_joins c choice ++ else_joins c choice

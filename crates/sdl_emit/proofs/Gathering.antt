@@ -3,11 +3,10 @@ use Rattle.std.proofs.Common.{◌≡◌, ℕ, zero, suc, ◌+◌, ◌<◌, ◌�
 use Rattle.std.specs.Prelude.{slice_get, get_or, fold, Contains}
 use Rattle.std.specs.List.{flat_map}
 use Rattle.std.specs.Option.{option_map_or, option_map}
-use Rattle.std.proofs.lemmas.List.{length-map}
+use Rattle.std.proofs.lemmas.List.{length-map, get_or_default}
 use Rattle.std.proofs.lemmas.List.Concat.{flat_map-append}
-use Rattle.std.proofs.lemmas.List.{get_or_default}
 use Rattle.std.proofs.lemmas.List.Elements.{Contains-append_left, Contains-append_right, Contains-append_cases}
-use Rattle.std.proofs.lemmas.Option.{slice_get-get_or}
+use Rattle.std.proofs.lemmas.Option.{slice_get-get_or, slice_get-map as slice_map}
 use Rattle.sdl_ast.specs.declared.tree.Join.{Join}
 use Rattle.sdl_ast.specs.declared.tree.Connection.{Connection}
 use Rattle.sdl_ast.specs.declared.tree.Process.{Process}
@@ -16,15 +15,13 @@ use Rattle.sdl_ast.specs.Views.{connection_of, process_of}
 use Rattle.sdl_meaning.specs.Outcomes.{Scope, connector_at}
 use Rattle.sdl_meaning.specs.Named.{NamedText, NamedConnections}
 use Rattle.sdl_emit.specs.Placing.{HaveNumbers}
-use Rattle.sdl_actions.specs.Marks.{has}
+use Rattle.sdl_emit.specs.Marks.{has}
 use Rattle.sdl_meaning.specs.Code.{number_or_zero, code_joins, joined, text_at, add_number, numbers_once, ArePlaced}
-use Rattle.std.proofs.lemmas.Option.{slice_get-map as slice_map}
 use Rattle.sdl_meaning.proofs.Joining.{has_connection}
 use Rattle.sdl_meaning.proofs.Acts.{once_there}
 use Rattle.sdl_meaning.proofs.Measured.{each_of, each_named, mapped_from, contains_later as later_in}
-use Rattle.turn_code.proofs.Lists.{within as none_past}
+use Rattle.turn_code.proofs.Lists.{within as none_past, at_place as contains_at}
 use Rattle.sdl_emit.proofs.Once.{once_few}
-use Rattle.turn_code.proofs.Lists.{at_place as contains_at}
 
 pub all_numbered : (c : Scope) (t : Text) → NamedText c t → (js : List Join) → js ≡ code_joins c t → HaveNumbers c js
 all_numbered c t named js e k d lt =

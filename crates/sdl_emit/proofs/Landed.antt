@@ -16,7 +16,7 @@ use Rattle.sdl_sound.specs.Going.{goes_on, choice_goes_on}
 use Rattle.sdl_sound.specs.Longest.{tests_size}
 use Rattle.sdl_meaning.specs.Outcomes.{Scope}
 use Rattle.sdl_meaning.specs.Code.{jump, leave_code, body_size, else_size, answers_size, names_truth, picked, ranges_code, tests_code, bodies_place, answers_place, after_choice, text_code, else_code, answers_code, truth_code, integer_code}
-use Rattle.sdl_actions.specs.Landing.{code_place, starts_from, leave_place, answers_leave, else_leave, landed, filled, has_any, picked_by, tests_by}
+use Rattle.sdl_emit.specs.Landing.{code_place, starts_from, leave_place, answers_leave, else_leave, landed, filled, has_any, picked_by, tests_by}
 use Rattle.sdl_meaning.proofs.Sizes.{leave_size, tests_are, text_size_is, else_size_is}
 use Rattle.sdl_emit.proofs.Emitting.{bodies_size_parts, answers_length, body_length, truth_whole, integer_whole}
 use Rattle.std.proofs.Math.Bool.{or-false as or_false, and_assoc as and_three}

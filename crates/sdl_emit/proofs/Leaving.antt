@@ -14,7 +14,7 @@ use Rattle.turn_code.specs.declared.instruction.Instruction.{Instruction}
 use Rattle.sdl_sound.specs.Going.{goes_on}
 use Rattle.sdl_meaning.specs.Outcomes.{Scope}
 use Rattle.sdl_meaning.specs.Code.{leave_code, text_code, answers_code}
-use Rattle.sdl_actions.specs.Landing.{left_jump, left_place, leave_place, answers_leave, starts_from}
+use Rattle.sdl_emit.specs.Landing.{left_jump, left_place, leave_place, answers_leave, starts_from}
 
 -- ---- behind the last item
 

@@ -5,7 +5,8 @@ pub mod Gathering
 pub mod Landed
 pub mod Leaving
 pub mod Marked
+pub mod Marking
 pub mod Once
+pub mod Picking
 pub mod Spacing
 pub mod Trimming
-pub use Rattle.sdl_actions.proofs.Picking

@@ -5,7 +5,7 @@ use Rattle.std.specs.List.{sum_by}
 use Rattle.std.proofs.lemmas.Bool.{ne_eqb as other_eq}
 use Rattle.std.proofs.lemmas.List.Sums.{sum_by-cons, sum_by-append}
 use Rattle.sdl_meaning.specs.Code.{add_number}
-use Rattle.sdl_actions.specs.Marks.{has}
+use Rattle.sdl_emit.specs.Marks.{has}
 use Rattle.std.proofs.Math.Bool.{or_assoc, or-false as or_none, or-true as or_some}
 use Rattle.sdl_meaning.proofs.Tests.{itself as same_eq}
 

@@ -7,7 +7,7 @@ use Rattle.std.proofs.lemmas.Bool.{cases_eq}
 use Rattle.std.proofs.lemmas.Bool.Decides.{nat_tests}
 use Rattle.std.proofs.lemmas.List.Sums.{sum_by-cons}
 use Rattle.sdl_meaning.specs.Outcomes.{Scope}
-use Rattle.sdl_actions.specs.Scopes.{places_by}
+use Rattle.sdl_emit.specs.Scopes.{places_by}
 use Rattle.sdl_meaning.specs.Code.{size_at, place_in}
 
 pub zero_at : (count n : ℕ) → get_or (replicate {A = ℕ} count 0) n 0 ≡ 0

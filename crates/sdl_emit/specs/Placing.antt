@@ -1,13 +1,15 @@
--- The JOINs of a text in the order of its code, and the numbers of the connections to which they lead.
-use Rattle.std.specs.Prelude.{◌≡◌, ◌<◌, ℕ, ◌++◌, Bool, List, length, map, if◌then◌else◌, All, IsSome, Some, slice_get}
+-- The JOINs of a text in the order of its code, and the numbers of the connections to which they
+-- lead.
+use Rattle.std.specs.Prelude.{◌≡◌, ◌<◌, ℕ, ◌++◌, Bool, List, length, map, if◌then◌else◌, All}
+use Rattle.std.specs.Prelude.{IsSome, Some, slice_get}
 use Rattle.sdl_ast.specs.declared.tree.Join.{Join}
 use Rattle.sdl_ast.specs.declared.tree.Decision.{Decision, out-Decision}
 use Rattle.sdl_ast.specs.Views.{choice_of, else_choice}
 use Rattle.sdl_meaning.specs.Act.{is_truth}
 use Rattle.sdl_meaning.specs.Outcomes.{Scope, connector_at}
 use Rattle.sdl_meaning.specs.Code.{number_or_zero, else_joins, answers_joins}
-use Rattle.sdl_actions.specs.Marks.{has}
-use Rattle.sdl_actions.specs.Scopes.{question_in}
+use Rattle.sdl_emit.specs.Marks.{has}
+use Rattle.sdl_emit.specs.Scopes.{question_in}
 
 -- those of a DECISION: the JOINs of ELSE come last in a Boolean one, and first in an Integer one
 abbrev pub decision_joins : Scope → Decision → List Join

@@ -1,13 +1,16 @@
-//! From a transition whose names are all there to its code: INPUT's places, its text, and the connections that it comes to, each
-//! once.
+//! From a transition whose names are all there to its code: INPUT's places, its text, and the connections that it comes to, each once.
 #![tactic(auto)]
 
 mod bodies;
+mod emit;
+mod landing;
+mod marks;
 mod placing;
+mod ranges;
 mod texts;
 
 pub use bodies::{Body, text_size};
 pub use placing::{connection_places, place_connections};
-pub use sdl_actions::{Names, UseTable, find_uses};
 pub use sdl_measures::Measure;
+pub use sdl_names::{Names, UseTable, find_uses};
 pub use texts::emit_piece;

@@ -6,17 +6,18 @@ ghost use Rattle.sdl_measures.specs.Counting.{measure_at};
 ghost use Rattle.sdl_measures.specs.Measures.{AreMeasures};
 ghost use Rattle.sdl_trimmed.specs.Trimmed.{AreTrimmed};
 ghost use Rattle.sdl_emit.specs.Bodies.{IsBody};
-ghost use Rattle.sdl_actions.specs.Scopes.{scope_in, places_by};
+ghost use Rattle.sdl_emit.specs.Scopes.{scope_in, places_by};
 ghost use Rattle.sdl_emit.specs.Placing.{decision_joins, numbers_of, HaveNumbers, AreMarked};
 ghost use Rattle.sdl_meaning.specs.Named.{NamedText, NamedConnections};
 ghost use Rattle.sdl_meaning.specs.Outcomes.{Scope, connector_at};
 ghost use Rattle.sdl_meaning.specs.Code.{number_or_zero, code_joins, else_joins, answers_joins, add_number, joined, text_at, size_at, place_in, ArePlaced};
-ghost use Rattle.profile_limits.specs.Limits.{MOST_INSTRUCTIONS};
+ghost use Rattle.plain_limits.specs.Limits.{MOST_INSTRUCTIONS};
 
 use crate::bodies::Body;
-use sdl_actions::{Names, add_once};
+use crate::marks::add_once;
 use sdl_ast::{Decision, End, Join, Statement, Transition};
 use sdl_measures::Measure;
+use sdl_names::Names;
 use std::alloc::{AllocError, Global};
 
 /// The JOIN with which a text may end.

@@ -8,18 +8,20 @@ ghost use Rattle.sdl_sound.specs.Longest.{size};
 ghost use Rattle.sdl_sound.specs.Going.{goes_on, choice_goes_on};
 ghost use Rattle.sdl_trimmed.specs.Trimmed.{AreTrimmed};
 ghost use Rattle.sdl_emit.specs.Bodies.{IsBody};
-ghost use Rattle.sdl_actions.specs.Scopes.{scope_in, places_by, question_in, piece_in};
+ghost use Rattle.sdl_emit.specs.Scopes.{scope_in, places_by, question_in, piece_in};
 ghost use Rattle.sdl_meaning.specs.Named.{NamedEnd, NamedText, NamedChoice, NamedPiece};
 ghost use Rattle.sdl_meaning.specs.Code.{end_code, leave_code, body_size, else_size, answers_size, after_choice, text_code, else_code, answers_code, truth_code, integer_code, text_at, size_at, connections_place, place_in, connections_code, piece_code};
-ghost use Rattle.sdl_actions.specs.Landing.{leave_place, answers_leave, else_leave, starts_from};
-ghost use Rattle.profile_limits.specs.Limits.{MOST_INSTRUCTIONS, MOST_PARAMETERS};
+ghost use Rattle.sdl_emit.specs.Landing.{leave_place, answers_leave, else_leave, starts_from};
+ghost use Rattle.plain_limits.specs.Limits.{MOST_INSTRUCTIONS, MOST_PARAMETERS};
 
 use crate::bodies::Body;
-use sdl_actions::{
-    Names, choose, emit_action, emit_expression, emit_places, emit_tests, fill_places, has_any,
-    keep_places, land_jumps, leave, put, tests_length,
+use crate::emit::{emit_action, emit_expression, emit_places};
+use crate::landing::{
+    choose, fill_places, has_any, keep_places, land_jumps, leave, put, tests_length,
 };
+use crate::ranges::emit_tests;
 use sdl_ast::{Decision, End, Identifier, Statement, Transition};
+use sdl_names::Names;
 use sdl_sound::both;
 use std::alloc::{AllocError, Global};
 use turn_code::{CodePlace, Instruction};

@@ -4,12 +4,13 @@ pub mod Bodies
 pub mod CopiedSets
 pub mod Counting
 pub mod Depths
-pub mod OwnDepths
 pub mod Marking
+pub mod OwnDepths
+pub mod Passes
 pub mod Piecewise
+pub mod PlaceSets
 pub mod Reckoned
 pub mod Rights
-pub mod PlaceSets
 pub mod Shapes
 pub mod Spots
 pub mod Straight

@@ -19,20 +19,19 @@ use Rattle.sdl_sound.specs.Longest.{cost_of, end_cost, Piece, size, joined as me
 use Rattle.sdl_meaning.specs.Outcomes.{Scope, connector_at}
 use Rattle.sdl_meaning.specs.Named.{NamedText, NamedConnections, NamedPiece}
 use Rattle.sdl_meaning.specs.Code.{number_or_zero, text_code, places_code, text_at, size_at, code_joins, joined, ArePlaced, place_in, connections_code, text_place, connections_place, piece_code}
-use Rattle.sdl_counts.specs.Counts.{number_at, read_at, AreCounts, AreCountsFrom}
+use Rattle.sdl_facts.specs.PlaceCounts.{number_at, read_at, AreCounts, AreCountsFrom}
 use Rattle.sdl_facts.proofs.Straight.{AreSteps}
 use Rattle.sdl_meaning.proofs.Sizes.{places_size, text_size_is}
 use Rattle.sdl_meaning.proofs.RunParts.{HasAt, has_front, has_back, has_all}
 use Rattle.sdl_meaning.proofs.Branches.{EachJoin}
 use Rattle.sdl_meaning.proofs.Joining.{HasConnection, contains_map, has_connection, each_join}
-use Rattle.turn_code.proofs.Lists.{first_of as contains_first}
+use Rattle.turn_code.proofs.Lists.{first_of as contains_first, within as none_past}
 use Rattle.sdl_meaning.proofs.Acts.{joined_placed, placed_closed, connection_stands}
 use Rattle.sdl_facts.proofs.Counting.{IsWeight, tally, tally_over}
 use Rattle.sdl_facts.proofs.Tallies.{steps_count, text_count}
 use Rattle.sdl_facts.proofs.Ahead.{Goes, AllOf, goes_append, steps_go, text_goes, at_place}
-use Rattle.sdl_counts.proofs.Passes.{read_ahead, read_back}
+use Rattle.sdl_facts.proofs.Passes.{read_ahead, read_back}
 use Rattle.sdl_meaning.proofs.Measured.{all_placed, fixed, each_of, each_named}
-use Rattle.turn_code.proofs.Lists.{within as none_past}
 use Rattle.sdl_emit.proofs.Gathering.{text_there}
 
 pub places_steps : (c : Scope) (j : ℕ) (places : List (Option Identifier)) → AreSteps (places_code c j places)

@@ -14,14 +14,14 @@ use Rattle.sdl_sound.specs.Going.{goes_on as may_go_on}
 use Rattle.sdl_sound.specs.Longest.{Piece, budget, effects, joined as measure_joined}
 use Rattle.sdl_emit.specs.Measures.{capped, IsMeasureOf, AreMeasures}
 use Rattle.sdl_emit.specs.sdl_measures_types.measures.Measure.{Measure}
-use Rattle.sdl_counts.specs.declared.counts.Counted.{Counted}
-use Rattle.sdl_counts.specs.declared.counts.Counted.TheVariants.{Instructions, Effects}
+use Rattle.sdl_facts.specs.declared.counts.Counted.{Counted}
+use Rattle.sdl_facts.specs.declared.counts.Counted.TheVariants.{Instructions, Effects}
 use Rattle.sdl_meaning.specs.Outcomes.{Scope, connector_at}
 use Rattle.sdl_meaning.specs.Named.{NamedText, NamedPiece}
 use Rattle.sdl_emit.specs.Scopes.{places_by}
 use Rattle.sdl_facts.specs.Made.{IsSmall}
 use Rattle.sdl_meaning.specs.Code.{number_or_zero, places_code, text_code, text_at, size_at, code_joins, ArePlaced, place_in, text_place, connections_place, connections_code, piece_code}
-use Rattle.sdl_counts.specs.Counts.{weight, number_at, AreCounts, AreCountsFrom, AreWithin}
+use Rattle.sdl_facts.specs.PlaceCounts.{weight, number_at, AreCounts, AreCountsFrom, AreWithin}
 use Rattle.sdl_facts.specs.Counts.{measure_of, measured, piece_count}
 use Rattle.sdl_meaning.proofs.Sizes.{places_size, text_size_is, connections_size}
 use Rattle.sdl_meaning.proofs.Branches.{EachJoin}

@@ -4,8 +4,8 @@ use Rattle.std.specs.Option.{option_map_or}
 use Rattle.sdl_ast.specs.Plain.{PlainProcess}
 use Rattle.sdl_sound.specs.Longest.{Piece, piece_budget, piece_effects}
 use Rattle.sdl_emit.specs.sdl_measures_types.measures.Measure.{Measure}
-use Rattle.sdl_counts.specs.declared.counts.Counted.{Counted}
-use Rattle.sdl_counts.specs.declared.counts.Counted.TheVariants.{Instructions, Effects}
+use Rattle.sdl_facts.specs.declared.counts.Counted.{Counted}
+use Rattle.sdl_facts.specs.declared.counts.Counted.TheVariants.{Instructions, Effects}
 
 -- what a connection is known to count
 abbrev pub measure_of : Counted → Measure → ℕ

@@ -1,9 +1,11 @@
--- The variables that are set as a connection begins: those that are set at every JOIN to it in a piece.
+-- The variables that are set as a connection begins: those that are set at every JOIN to it in a
+-- piece.
 use Rattle.std.specs.Prelude.{◌≡◌, ℕ, Bool, if◌then◌else◌, List, [], ◌∷◌, map, slice_get, slice_set}
 use Rattle.std.specs.Option.{option_map_or}
 use Rattle.sdl_ast.specs.declared.tree.End.{End}
 use Rattle.sdl_ast.specs.declared.tree.End.TheVariants.{NextState, Stop, Join}
-use Rattle.sdl_ast.specs.Plain.{Text, falls, ends, does, decides, Choice, nothing_else, otherwise, answer, PlainConnection}
+use Rattle.sdl_ast.specs.Plain.{Text, falls, ends, does, decides, Choice, nothing_else, otherwise}
+use Rattle.sdl_ast.specs.Plain.{answer, PlainConnection}
 use Rattle.turn_code.specs.declared.variable_set.VariableSet.{VariableSet}
 use Rattle.sdl_sound.specs.Longest.{Piece}
 use Rattle.sdl_meaning.specs.Act.{is_truth}
@@ -36,7 +38,8 @@ abbrev mutual
   met c m (does a rest) es = met c (action_set c m a) rest es
   met c m (decides at q choice rest) es =
       met c (choice_left c m choice) rest
-      (if is_truth c q then else_met c m choice (answers_met c m choice es) else answers_met c m choice (else_met c m choice es))
+      (if is_truth c q then else_met c m choice (answers_met c m choice es)
+      else answers_met c m choice (else_met c m choice es))
 
   pub answers_met : Scope → VariableSet → Choice → List VariableSet → List VariableSet
   answers_met c m nothing_else es = es
@@ -50,18 +53,27 @@ abbrev mutual
 
 -- those of the bodies of a DECISION
 abbrev pub choice_met : Scope → Bool → VariableSet → Choice → List VariableSet → List VariableSet
-choice_met c b m choice es = if b then else_met c m choice (answers_met c m choice es) else answers_met c m choice (else_met c m choice es)
+choice_met c b m choice es =
+    if b then else_met c m choice (answers_met c m choice es)
+    else answers_met c m choice (else_met c m choice es)
 
 -- the JOINs of the connection with a number
 abbrev pub connection_met : Scope → ℕ → List VariableSet → List VariableSet
-connection_met c n es = option_map_or (λ (x : PlainConnection). met c (entry_at es n) x.text es) (slice_get c.process.connections n) es
+connection_met c n es =
+    option_map_or (λ (x : PlainConnection). met c (entry_at es n) x.text es)
+    (slice_get c.process.connections n) es
 
--- These connections one after another, the last one first: each is joined from those behind it alone.
+-- These connections one after another, the last one first: each is joined from those behind it
+-- alone.
 abbrev pub connections_met : Scope → List ℕ → List VariableSet → List VariableSet
 connections_met c [] es = es
 connections_met c (n ∷ ns) es = connection_met c n (connections_met c ns es)
 
--- The sets of all connections, where a transition begins with these variables set, and each connection stands in this order
--- behind those that it joins. A connection to which the transition doesn't come has all.
+-- The sets of all connections, where a transition begins with these variables set, and each
+-- connection stands in this order behind those that it joins. A connection to which the transition
+-- doesn't come has all.
 abbrev pub piece_entries : Scope → VariableSet → Piece → List ℕ → List VariableSet
-piece_entries c m q order = connections_met c order (met c (places_set c m q.places) q.text (map (λ (x : PlainConnection). everything) c.process.connections))
+piece_entries c m q order =
+    connections_met c order
+    (met c (places_set c m q.places) q.text
+    (map (λ (x : PlainConnection). everything) c.process.connections))

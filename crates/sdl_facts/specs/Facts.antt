@@ -1,8 +1,12 @@
--- What is claimed of each place of a piece: the operands that are there, and the variables that are set.
+-- What is claimed of each place of a piece: the operands that are there, and the variables that are
+-- set.
 use Rattle.std.specs.Prelude.{ℕ, if◌then◌else◌, List, [], ◌∷◌, ◌++◌, Option, None, Some}
 use Rattle.sdl_ast.specs.declared.expression.Identifier.{Identifier}
 use Rattle.sdl_ast.specs.declared.tree.Range.{Range}
-use Rattle.sdl_ast.specs.Plain.{Tree, number, truth, variable, unary, binary, PlainAssignment, PlainSending, PlainAction, task, output, set_timer, reset_timer, Text, falls, ends, does, decides, Choice, nothing_else, otherwise, answer}
+use Rattle.sdl_ast.specs.Plain.{Tree, number, truth, variable, unary, binary, PlainAssignment}
+use Rattle.sdl_ast.specs.Plain.{PlainSending, PlainAction, task, output, set_timer, reset_timer}
+use Rattle.sdl_ast.specs.Plain.{Text, falls, ends, does, decides, Choice, nothing_else, otherwise}
+use Rattle.sdl_ast.specs.Plain.{answer}
 use Rattle.turn_code.specs.Code.{shape_after}
 use Rattle.turn_code.specs.Sets.{with_variable}
 use Rattle.turn_code.specs.declared.value.Sort.{Sort}
@@ -18,9 +22,11 @@ use Rattle.sdl_meaning.specs.Code.{number_or_zero, text_at}
 use Rattle.sdl_facts.specs.Reads.{action_set, left, choice_left, places_set}
 use Rattle.sdl_facts.specs.Entries.{entry_at, piece_entries}
 
--- The operands at each place, from a place with these on. What stands in front of a body, or of what a DECISION or a connection
--- goes on with, leaves none; so the order of the code is enough.
-abbrev pub shapes_from : List DraftSignal → List DraftVariable → List Sort → List Sort → List Instruction → List (List Sort)
+-- The operands at each place, from a place with these on. What stands in front of a body, or of
+-- what a DECISION or a connection goes on with, leaves none; so the order of the code is enough.
+abbrev pub shapes_from :
+    List DraftSignal → List DraftVariable → List Sort → List Sort → List Instruction
+    → List (List Sort)
 shapes_from ss xs ps shape [] = []
 shapes_from ss xs ps shape (i ∷ is) = shape ∷ shapes_from ss xs ps (shape_after ss xs ps i shape) is
 
@@ -32,7 +38,8 @@ tree_sets m (number at k) = m ∷ []
 tree_sets m (truth at b) = m ∷ []
 tree_sets m (variable at n) = m ∷ []
 tree_sets m (unary at op t) = tree_sets m t ++ m ∷ []
-tree_sets m (binary at op t u) = if is_division op then tree_sets m t ++ m ∷ [] else tree_sets m t ++ (tree_sets m u ++ m ∷ [])
+tree_sets m (binary at op t u) =
+    if is_division op then tree_sets m t ++ m ∷ [] else tree_sets m t ++ (tree_sets m u ++ m ∷ [])
 
 abbrev pub trees_sets : VariableSet → List Tree → List VariableSet
 trees_sets m [] = []
@@ -44,7 +51,9 @@ sendings_sets m (x ∷ rest) = trees_sets m x.parameters ++ m ∷ sendings_sets 
 
 abbrev pub tasks_sets : Scope → VariableSet → List PlainAssignment → List VariableSet
 tasks_sets c m [] = []
-tasks_sets c m (a ∷ rest) = tree_sets m a.value ++ m ∷ tasks_sets c (with_variable m (number_or_zero (variable_at c a.variable))) rest
+tasks_sets c m (a ∷ rest) =
+    tree_sets m a.value ++ m
+    ∷ tasks_sets c (with_variable m (number_or_zero (variable_at c a.variable))) rest
 
 abbrev pub action_sets : Scope → VariableSet → PlainAction → List VariableSet
 action_sets c m (task at ts) = tasks_sets c m ts
@@ -88,7 +97,8 @@ abbrev mutual
   pub answers_sets : Scope → VariableSet → Choice → List VariableSet
   answers_sets c m nothing_else = []
   answers_sets c m (otherwise body) = []
-  answers_sets c m (answer at rs body others) = (text_sets c m body ++ leave_sets (left c m body) body) ++ answers_sets c m others
+  answers_sets c m (answer at rs body others) =
+      (text_sets c m body ++ leave_sets (left c m body) body) ++ answers_sets c m others
 
 -- a DECISION with its bodies
 abbrev pub decision_sets : Scope → VariableSet → Tree → Choice → List VariableSet
@@ -100,14 +110,19 @@ decision_sets c m q choice = tree_sets m q ++ (if is_truth c q
 abbrev pub places_sets : Scope → VariableSet → List (Option Identifier) → List VariableSet
 places_sets c m [] = []
 places_sets c m (None ∷ rest) = places_sets c m rest
-places_sets c m (Some n ∷ rest) = m ∷ m ∷ places_sets c (with_variable m (number_or_zero (variable_at c n))) rest
+places_sets c m (Some n ∷ rest) =
+    m ∷ m ∷ places_sets c (with_variable m (number_or_zero (variable_at c n))) rest
 
 -- connections by their numbers, one behind another
 abbrev pub connections_sets : Scope → List VariableSet → List ℕ → List VariableSet
 connections_sets c es [] = []
-connections_sets c es (n ∷ ns) = text_sets c (entry_at es n) (text_at c n) ++ connections_sets c es ns
+connections_sets c es (n ∷ ns) =
+    text_sets c (entry_at es n) (text_at c n) ++ connections_sets c es ns
 
--- a piece with these connections, where each connection stands in an order behind those that it joins
+-- a piece with these connections, where each connection stands in an order behind those that it
+-- joins
 abbrev pub piece_sets : Scope → VariableSet → Piece → List ℕ → List ℕ → List VariableSet
 piece_sets c m q order ns =
-    places_sets c m q.places ++ (text_sets c (places_set c m q.places) q.text ++ connections_sets c (piece_entries c m q order) ns)
+    places_sets c m q.places
+    ++ (text_sets c (places_set c m q.places) q.text
+    ++ connections_sets c (piece_entries c m q order) ns)

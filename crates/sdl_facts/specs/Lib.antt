@@ -2,6 +2,7 @@ pub mod Counts
 pub mod Entries
 pub mod Facts
 pub mod Made
+pub mod PlaceCounts
 pub mod Reads
 pub mod Settings
 pub use Rattle.sdl_emit.specs.Bodies

@@ -1,6 +1,6 @@
 -- What the compiler makes of a transition.
 use Rattle.std.specs.Prelude.{◌≡◌, ℕ, ◌≤◌, List, [], map}
-use Rattle.profile_limits.specs.Limits.{MOST_EFFECTS, MOST_INSTRUCTIONS, MOST_OPERANDS}
+use Rattle.plain_limits.specs.Limits.{MOST_EFFECTS, MOST_INSTRUCTIONS, MOST_OPERANDS}
 use Rattle.turn_code.specs.declared.value.Sort.{Sort}
 use Rattle.turn_code.specs.declared.variable_set.VariableSet.{VariableSet}
 use Rattle.turn_code.specs.declared.instruction.Instruction.{Instruction}
@@ -13,8 +13,8 @@ use Rattle.sdl_meaning.specs.Outcomes.{Scope}
 use Rattle.sdl_meaning.specs.Code.{ArePlaced, piece_code}
 use Rattle.sdl_meaning.specs.Declarations.{drafted_signals, drafted_variables}
 use Rattle.sdl_facts.specs.Facts.{shapes_from, piece_sets}
-use Rattle.sdl_counts.specs.declared.counts.Counted.TheVariants.{Instructions, Effects}
-use Rattle.sdl_counts.specs.Counts.{weight, number_at, AreCounts}
+use Rattle.sdl_facts.specs.declared.counts.Counted.TheVariants.{Instructions, Effects}
+use Rattle.sdl_facts.specs.PlaceCounts.{weight, number_at, AreCounts}
 
 -- the certificate names the longest path
 pub record IsLongestOf (c : Scope) (q : Piece) (k : Cert) : Type 0 where
@@ -28,23 +28,30 @@ pub record IsCodeOf (c : Scope) (q : Piece) (instructions : List Instruction) : 
   pub placed : ArePlaced c q.text numbers
   pub code : instructions ≡ piece_code c q numbers
 
--- What is said of each place but counts, where these connections stand in the piece: the operands that are there, and the variables
--- that are set on every way.
-pub record AreFactsOf (c : Scope) (ps : List Sort) (entry : VariableSet) (q : Piece) (numbers : List ℕ) (instructions : List Instruction) (fs : List PlaceFacts) : Type 0 where
+-- What is said of each place but counts, where these connections stand in the piece: the operands
+-- that are there, and the variables that are set on every way.
+pub record AreFactsOf (c : Scope) (ps : List Sort) (entry : VariableSet) (q : Piece)
+    (numbers : List ℕ) (instructions : List Instruction) (fs : List PlaceFacts) : Type 0 where
   pub order : List ℕ
   pub ordered : IsOrder c.process order
-  pub shaped : map (λ (f : PlaceFacts). f.shape) fs ≡ shapes_from (drafted_signals c.block) (drafted_variables c.process) ps [] instructions
+  pub shaped :
+      map (λ (f : PlaceFacts). f.shape) fs
+      ≡ shapes_from (drafted_signals c.block) (drafted_variables c.process) ps [] instructions
   pub settled : map (λ (f : PlaceFacts). f.set) fs ≡ piece_sets c entry q order numbers
 
--- What is counted at each place: its own and the greatest where the code goes on; the first place counts the longest path.
-pub record AreCountsOf (c : Scope) (q : Piece) (instructions : List Instruction) (fs : List PlaceFacts) : Type 0 where
+-- What is counted at each place: its own and the greatest where the code goes on; the first place
+-- counts the longest path.
+pub record AreCountsOf (c : Scope) (q : Piece) (instructions : List Instruction)
+    (fs : List PlaceFacts) : Type 0 where
   pub counts : AreCounts (weight Instructions) instructions (map (λ (f : PlaceFacts). f.count) fs)
   pub effects : AreCounts (weight Effects) instructions (map (λ (f : PlaceFacts). f.effects) fs)
   pub longest : number_at (map (λ (f : PlaceFacts). f.count) fs) 0 ≡ piece_budget c.process q
   pub most : number_at (map (λ (f : PlaceFacts). f.effects) fs) 0 ≡ piece_effects c.process q
 
--- the piece of a transition whose parameters have these sorts, and which begins with these variables set
-pub record IsPieceOf (c : Scope) (ps : List Sort) (entry : VariableSet) (q : Piece) (d : DraftPiece) : Type 0 where
+-- the piece of a transition whose parameters have these sorts, and which begins with these
+-- variables set
+pub record IsPieceOf (c : Scope) (ps : List Sort) (entry : VariableSet) (q : Piece)
+    (d : DraftPiece) : Type 0 where
   pub code : IsCodeOf c q d.code
   pub facts : AreFactsOf c ps entry q code.numbers d.code d.facts
   pub counted : AreCountsOf c q d.code d.facts

@@ -3,7 +3,10 @@ use Rattle.std.specs.Prelude.{◌≡◌, List, [], ◌∷◌, Option, Some, None
 use Rattle.sdl_ast.specs.declared.expression.Identifier.{Identifier}
 use Rattle.sdl_ast.specs.declared.tree.End.{End}
 use Rattle.sdl_ast.specs.declared.tree.End.TheVariants.{NextState, Stop, Join}
-use Rattle.sdl_ast.specs.Plain.{Tree, number, truth, variable, unary, binary, PlainAssignment, PlainSending, PlainAction, task, output, set_timer, reset_timer, Text, falls, ends, does, decides, Choice, nothing_else, otherwise, answer}
+use Rattle.sdl_ast.specs.Plain.{Tree, number, truth, variable, unary, binary, PlainAssignment}
+use Rattle.sdl_ast.specs.Plain.{PlainSending, PlainAction, task, output, set_timer, reset_timer}
+use Rattle.sdl_ast.specs.Plain.{Text, falls, ends, does, decides, Choice, nothing_else, otherwise}
+use Rattle.sdl_ast.specs.Plain.{answer}
 use Rattle.turn_code.specs.declared.variable_set.VariableSet.{VariableSet}
 use Rattle.turn_code.specs.declared.draft.DraftState.{DraftState}
 use Rattle.turn_code.specs.Sets.{Has, IsWithin, with_variable}
@@ -24,7 +27,9 @@ ReadTrees c m (t ∷ ts) = ReadTree c m t × ReadTrees c m ts
 
 abbrev pub ReadTasks : Scope → VariableSet → List PlainAssignment → Type 0
 ReadTasks c m [] = Unit {0}
-ReadTasks c m (a ∷ rest) = ReadTree c m a.value × ReadTasks c (with_variable m (number_or_zero (variable_at c a.variable))) rest
+ReadTasks c m (a ∷ rest) =
+    ReadTree c m a.value
+    × ReadTasks c (with_variable m (number_or_zero (variable_at c a.variable))) rest
 
 abbrev pub ReadSendings : Scope → VariableSet → List PlainSending → Type 0
 ReadSendings c m [] = Unit {0}
@@ -39,7 +44,8 @@ ReadAction c m (reset_timer at n) = Unit {0}
 -- the variables that are set after assignments
 abbrev pub tasks_set : Scope → VariableSet → List PlainAssignment → VariableSet
 tasks_set c m [] = m
-tasks_set c m (a ∷ rest) = tasks_set c (with_variable m (number_or_zero (variable_at c a.variable))) rest
+tasks_set c m (a ∷ rest) =
+    tasks_set c (with_variable m (number_or_zero (variable_at c a.variable))) rest
 
 -- and after an action: a TASK alone sets some
 abbrev pub action_set : Scope → VariableSet → PlainAction → VariableSet
@@ -57,19 +63,21 @@ abbrev pub meet : VariableSet → VariableSet → VariableSet
 meet a b = record { 0 = bit_and a.0 b.0 }
 
 abbrev mutual
-  -- The variables that are set where a text runs off its end, whichever of its bodies were taken. Where it doesn't run off,
-  -- nothing comes there, and all are.
+  -- The variables that are set where a text runs off its end, whichever of its bodies were taken.
+  -- Where it doesn't run off, nothing comes there, and all are.
   pub left : Scope → VariableSet → Text → VariableSet
   left c m falls = m
   left c m (ends e) = everything
   left c m (does a rest) = left c (action_set c m a) rest
-  left c m (decides at q choice rest) = left c (meet (answers_left c m everything choice) (else_left c m choice)) rest
+  left c m (decides at q choice rest) =
+      left c (meet (answers_left c m everything choice) (else_left c m choice)) rest
 
   -- what is in a set and what the bodies of all answers leave that go on
   pub answers_left : Scope → VariableSet → VariableSet → Choice → VariableSet
   answers_left c m all nothing_else = all
   answers_left c m all (otherwise body) = all
-  answers_left c m all (answer at ranges body others) = answers_left c m (meet all (left c m body)) others
+  answers_left c m all (answer at ranges body others) =
+      answers_left c m (meet all (left c m body)) others
 
   -- what the body of ELSE leaves
   pub else_left : Scope → VariableSet → Choice → VariableSet
@@ -83,7 +91,9 @@ choice_left c m choice = meet (answers_left c m everything choice) (else_left c 
 
 -- what is said of the state where a transition ends is so
 abbrev pub EndsSet : Scope → List DraftState → VariableSet → End → Type 0
-EndsSet c ss m (NextState n) = (s : DraftState) → slice_get ss (number_or_zero (state_at c n.state)) ≡ Some s → IsWithin s.set m
+EndsSet c ss m (NextState n) =
+    (s : DraftState) → slice_get ss (number_or_zero (state_at c n.state)) ≡ Some s
+    → IsWithin s.set m
 EndsSet c ss m (Stop at) = Unit {0}
 EndsSet c ss m (Join j) = Unit {0}
 
@@ -92,7 +102,8 @@ abbrev mutual
   ReadText c ss m falls = Unit {0}
   ReadText c ss m (ends e) = EndsSet c ss m e
   ReadText c ss m (does a rest) = ReadAction c m a × ReadText c ss (action_set c m a) rest
-  ReadText c ss m (decides at q choice rest) = ReadTree c m q × ReadChoice c ss m choice × ReadText c ss (choice_left c m choice) rest
+  ReadText c ss m (decides at q choice rest) =
+      ReadTree c m q × ReadChoice c ss m choice × ReadText c ss (choice_left c m choice) rest
 
   pub ReadChoice : Scope → List DraftState → VariableSet → Choice → Type 0
   ReadChoice c ss m nothing_else = Unit {0}
@@ -103,4 +114,5 @@ abbrev mutual
 abbrev pub places_set : Scope → VariableSet → List (Option Identifier) → VariableSet
 places_set c m [] = m
 places_set c m (None ∷ rest) = places_set c m rest
-places_set c m (Some n ∷ rest) = places_set c (with_variable m (number_or_zero (variable_at c n))) rest
+places_set c m (Some n ∷ rest) =
+    places_set c (with_variable m (number_or_zero (variable_at c n))) rest

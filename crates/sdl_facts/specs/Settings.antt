@@ -1,6 +1,6 @@
 -- What comes with a transition, and what the compiler asks of it.
 use Rattle.std.specs.Prelude.{◌≡◌, ℕ, ◌≤◌, List, [], ◌∷◌, length}
-use Rattle.profile_limits.specs.Limits.{MOST_PARAMETERS}
+use Rattle.plain_limits.specs.Limits.{MOST_PARAMETERS}
 use Rattle.sdl_ast.specs.Views.{block_of, process_of}
 use Rattle.turn_code.specs.declared.value.Sort.{Sort}
 use Rattle.turn_code.specs.declared.draft.PlaceFacts.{PlaceFacts}
@@ -14,7 +14,8 @@ use Rattle.sdl_meaning.specs.Outcomes.{Scope}
 use Rattle.sdl_facts.specs.Made.{IsSmall}
 use Rattle.sdl_meaning.specs.Declarations.{drafted_signals, drafted_variables}
 
--- the variables are those of the process, the signals those of the block; the order, the measures and the copies are those of its connections
+-- the variables are those of the process, the signals those of the block; the order, the measures
+-- and the copies are those of its connections
 pub record IsSetting (s : Setting) : Type 0 where
   pub variables : s.variables.now ≡ drafted_variables (process_of s.names.now.process.now)
   pub signals : s.signals.now ≡ drafted_signals (block_of s.names.now.block.now)
@@ -22,7 +23,8 @@ pub record IsSetting (s : Setting) : Type 0 where
   pub measured : AreMeasures (process_of s.names.now.process.now) s.measures.now
   pub copied : AreTrimmed (process_of s.names.now.process.now).connections s.copies.now
 
--- a transition whose names are all there and whose sorts are right, with places for parameters of these sorts, within the limits
+-- a transition whose names are all there and whose sorts are right, with places for parameters of
+-- these sorts, within the limits
 pub record IsReadyPiece (c : Scope) (q : Piece) (ps : List Sort) : Type 0 where
   pub named : NamedPiece c q
   pub sorted : AreSorted c q.text

@@ -1,10 +1,9 @@
 //! What is claimed of the places of a piece.
-ghost use Rattle.std.specs.Prelude.{◌≡◌, [], length, map, drop, IfOk};
+ghost use Rattle.std.specs.Prelude.{◌≡◌, [], length, map, drop, IfOk, slice_get};
 ghost use Rattle.std.specs.Option.{option_to_list};
 ghost use Rattle.turn_code.specs.Transitions.{parameters_of};
 ghost use Rattle.turn_code.specs.Code.{sort_at as sorts_at, takes, gives, shape_after};
 ghost use Rattle.turn_code.specs.Rules.{greatest, depths};
-ghost use Rattle.std.specs.Prelude.{slice_get};
 ghost use Rattle.sdl_facts.specs.Facts.{shapes_from};
 ghost use Rattle.turn_code.specs.declared.draft.PlaceFacts as place_facts_of;
 

@@ -1,7 +1,7 @@
-//! What is said of each place of a piece: the operands that are there, the variables that are set, and how many instructions and
-//! effects are still to come.
+//! What is said of each place of a piece: operands, variables that are set, and what is counted from there on.
 #![tactic(auto)]
 
+mod counts;
 mod entries;
 mod facts;
 mod marks;

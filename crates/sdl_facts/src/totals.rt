@@ -1,18 +1,18 @@
 //! What is counted at each place of a piece.
 ghost use Rattle.std.specs.Prelude.{◌≡◌, ℕ, ◌<◌, ◌≤◌, length as length_of, replicate, All, Contains, IfOk};
 ghost use Rattle.sdl_ast.specs.Views.{text_of};
-ghost use Rattle.sdl_counts.specs.declared.counts.Counted.TheVariants.{Instructions, Effects};
-ghost use Rattle.sdl_counts.specs.Counts.{weight, number_at, AreCounts, AreWithin};
+ghost use Rattle.sdl_facts.specs.declared.counts.Counted.TheVariants.{Instructions, Effects};
+ghost use Rattle.sdl_facts.specs.PlaceCounts.{weight, number_at, AreCounts, AreWithin};
 ghost use Rattle.sdl_facts.specs.Counts.{measured, piece_count};
 ghost use Rattle.sdl_sound.specs.Longest.{piece_budget, piece_effects};
 ghost use Rattle.sdl_meaning.specs.Code.{ArePlaced, place_in, connections_place, piece_code};
 ghost use Rattle.sdl_emit.specs.Scopes.{scope_in, piece_in, places_by};
 ghost use Rattle.sdl_facts.specs.Settings.{IsSetting, IsReadyPiece};
-ghost use Rattle.profile_limits.specs.Limits.{MOST_INSTRUCTIONS};
+ghost use Rattle.plain_limits.specs.Limits.{MOST_INSTRUCTIONS};
 
+use crate::counts::{Counted, count_places};
 use crate::setting::Setting;
 use sdl_ast::{Identifier, Transition};
-use sdl_counts::{Counted, count_places};
 use sdl_emit::Measure;
 use std::alloc::{AllocError, Global};
 use turn_code::Instruction;

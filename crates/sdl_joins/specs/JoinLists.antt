@@ -1,7 +1,8 @@
 -- The JOINs of a text, in the order of the text, by cases on what it begins with.
 use Rattle.std.specs.Prelude.{List, [], ◌++◌}
 use Rattle.sdl_ast.specs.declared.tree.Join.{Join}
-use Rattle.sdl_ast.specs.Plain.{Text, falls, ends, does, decides, Choice, nothing_else, otherwise, answer}
+use Rattle.sdl_ast.specs.Plain.{Text, falls, ends, does, decides, Choice, nothing_else, otherwise}
+use Rattle.sdl_ast.specs.Plain.{answer}
 use Rattle.sdl_sound.specs.Statements.{end_joins}
 
 abbrev mutual

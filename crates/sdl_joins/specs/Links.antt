@@ -1,5 +1,6 @@
 -- Graphs by numbers: for each node, the nodes to which it leads.
-use Rattle.std.specs.Prelude.{◌≡◌, ◌<◌, ℕ, zero, suc, Bool, true, ◌||◌, List, [], Some, nat_eq, length, map, slice_get, All, Contains}
+use Rattle.std.specs.Prelude.{◌≡◌, ◌<◌, ℕ, zero, suc, Bool, true, ◌||◌, List, [], Some, nat_eq}
+use Rattle.std.specs.Prelude.{length, map, slice_get, All, Contains}
 use Rattle.std.specs.List.{list_any}
 use Rattle.std.specs.Option.{option_map_or}
 use Rattle.std.specs.Global.{Vec}
@@ -13,7 +14,8 @@ abbrev pub goes_by : List (List ℕ) → ℕ → ℕ → ℕ → Bool
 goes_by g zero n m = nat_eq n m
 goes_by g (suc k) n m = nat_eq n m || list_any (λ t. goes_by g k t m) (nexts g n)
 
--- Whether any way does: the shortest meets no node twice, so it has no more links than there are nodes.
+-- Whether any way does: the shortest meets no node twice, so it has no more links than there are
+-- nodes.
 abbrev pub goes : List (List ℕ) → ℕ → ℕ → Bool
 goes g n m = goes_by g (length g) n m
 
@@ -33,7 +35,9 @@ pub record IsOrderOf (g : List (List ℕ)) (order : List ℕ) : Type 0 where
   pub known : (i n : ℕ) → slice_get order i ≡ Some n → n < length g
   pub each : (n : ℕ) → n < length g → (i : ℕ) × (slice_get order i ≡ Some n)
   pub once : (i j n : ℕ) → slice_get order i ≡ Some n → slice_get order j ≡ Some n → i ≡ j
-  pub behind : (i n t : ℕ) → slice_get order i ≡ Some n → Contains (nexts g n) t → (k : ℕ) × (k < i) × (slice_get order k ≡ Some t)
+  pub behind :
+      (i n t : ℕ) → slice_get order i ≡ Some n → Contains (nexts g n) t
+      → (k : ℕ) × (k < i) × (slice_get order k ≡ Some t)
 
 -- lists of numbers as graphs
 abbrev pub graph_in : List (Vec ℕ) → List (List ℕ)

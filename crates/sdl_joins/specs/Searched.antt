@@ -1,5 +1,6 @@
 -- What searches of a graph keep.
-use Rattle.std.specs.Prelude.{◌≡◌, ◌<◌, ℕ, suc, ◌+◌, Bool, true, false, List, [], ◌∷◌, ◌++◌, Some, length, slice_get, All, Contains, ◌⊎◌}
+use Rattle.std.specs.Prelude.{◌≡◌, ◌<◌, ℕ, suc, ◌+◌, Bool, true, false, List, [], ◌∷◌, ◌++◌, Some}
+use Rattle.std.specs.Prelude.{length, slice_get, All, Contains, ◌⊎◌}
 use Rattle.sdl_joins.specs.Links.{nexts, goes, any_goes}
 use Rattle.sdl_joins.specs.declared.graph.Mark.{Mark}
 use Rattle.sdl_joins.specs.declared.graph.Mark.TheVariants.{New, Open, Done}
@@ -23,7 +24,8 @@ pub record AreFound (marks : List Bool) (found : List ℕ) : Type 0 where
   pub count : length found + unmarked marks ≡ length marks
 
 -- from what was found before, these nodes are found too, and no others
-pub record Finds (nodes : List ℕ) (marks : List Bool) (found : List ℕ) (new_marks : List Bool) (new_found : List ℕ) : Type 0 where
+pub record Finds (nodes : List ℕ) (marks : List Bool) (found : List ℕ) (new_marks : List Bool)
+    (new_found : List ℕ) : Type 0 where
   pub count : length new_marks ≡ length marks
   pub stays : (n : ℕ) → IsMarked marks n → IsMarked new_marks n
   pub added : List ℕ
@@ -32,9 +34,11 @@ pub record Finds (nodes : List ℕ) (marks : List Bool) (found : List ℕ) (new_
   pub marked : All (IsMarked new_marks) nodes
   pub only : (n : ℕ) → Contains new_found n → Contains found n ⊎ Contains nodes n
 
--- The marks after a search that went on from what was found: what was marked still is, and whatever a marked node leads to; and
--- each marked node is one to which some way leads from one that was found before.
-pub record Follows (g : List (List ℕ)) (marks : List Bool) (found : List ℕ) (new_marks : List Bool) : Type 0 where
+-- The marks after a search that went on from what was found: what was marked still is, and whatever
+-- a marked node leads to; and each marked node is one to which some way leads from one that was
+-- found before.
+pub record Follows (g : List (List ℕ)) (marks : List Bool) (found : List ℕ)
+    (new_marks : List Bool) : Type 0 where
   pub count : length new_marks ≡ length marks
   pub stays : (n : ℕ) → IsMarked marks n → IsMarked new_marks n
   pub closed : (n : ℕ) → IsMarked new_marks n → All (IsMarked new_marks) (nexts g n)
@@ -65,18 +69,26 @@ unseen (New ∷ marks) = suc (unseen marks)
 unseen (Open d ∷ marks) = unseen marks
 unseen (Done i ∷ marks) = unseen marks
 
--- Nodes are open, each but the first one of those to which the one before it leads; others stand in the order, each behind all
--- to which it leads. The marks tell where a node stands. All that an open node leads to before the place at which it is stand in
--- the order.
-pub record IsSearch (g : List (List ℕ)) (marks : List Mark) (path : List Frame) (order : List ℕ) : Type 0 where
+-- Nodes are open, each but the first one of those to which the one before it leads; others stand in
+-- the order, each behind all to which it leads. The marks tell where a node stands. All that an
+-- open node leads to before the place at which it is stand in the order.
+pub record IsSearch (g : List (List ℕ)) (marks : List Mark) (path : List Frame) (order : List ℕ) :
+    Type 0 where
   pub count : length marks ≡ length g
   pub total : length order + length path + unseen marks ≡ length marks
-  pub opened : (d : ℕ) (f : Frame) → slice_get path d ≡ Some f → slice_get marks f.node ≡ Some (Open d)
+  pub opened :
+      (d : ℕ) (f : Frame) → slice_get path d ≡ Some f → slice_get marks f.node ≡ Some (Open d)
   pub ordered : (i n : ℕ) → slice_get order i ≡ Some n → slice_get marks n ≡ Some (Done i)
-  pub open_at : (n d : ℕ) → slice_get marks n ≡ Some (Open d) → (f : Frame) × (slice_get path d ≡ Some f) × (f.node ≡ n)
+  pub open_at :
+      (n d : ℕ) → slice_get marks n ≡ Some (Open d)
+      → (f : Frame) × (slice_get path d ≡ Some f) × (f.node ≡ n)
   pub done_at : (n i : ℕ) → slice_get marks n ≡ Some (Done i) → slice_get order i ≡ Some n
-  pub chain : (d : ℕ) (f h : Frame) → slice_get path d ≡ Some f → slice_get path (suc d) ≡ Some h → slice_get (nexts g f.node) f.next ≡ Some h.node
-  pub passed : (d k t : ℕ) (f : Frame) → slice_get path d ≡ Some f → k < f.next → slice_get (nexts g f.node) k ≡ Some t
+  pub chain :
+      (d : ℕ) (f h : Frame) → slice_get path d ≡ Some f → slice_get path (suc d) ≡ Some h
+      → slice_get (nexts g f.node) f.next ≡ Some h.node
+  pub passed :
+      (d k t : ℕ) (f : Frame) → slice_get path d ≡ Some f → k < f.next
+      → slice_get (nexts g f.node) k ≡ Some t
       → (i : ℕ) × (slice_get order i ≡ Some t)
   pub behind : (i n k t : ℕ) → slice_get order i ≡ Some n → slice_get (nexts g n) k ≡ Some t
       → (j : ℕ) × (j < i) × (slice_get order j ≡ Some t)
@@ -85,13 +97,16 @@ abbrev pub StandsIn : List ℕ → ℕ → Type 0
 StandsIn order n = (i : ℕ) × (slice_get order i ≡ Some n)
 
 -- A search went on: it is nearer to its end, and has come to whatever it had come to.
-pub record Advances (g : List (List ℕ)) (marks : List Mark) (path : List Frame) (new_marks : List Mark) (new_path : List Frame) (new_order : List ℕ) : Type 0 where
+pub record Advances (g : List (List ℕ)) (marks : List Mark) (path : List Frame)
+    (new_marks : List Mark) (new_path : List Frame) (new_order : List ℕ) : Type 0 where
   pub search : IsSearch g new_marks new_path new_order
-  pub less : unseen new_marks + unseen new_marks + length new_path < unseen marks + unseen marks + length path
+  pub less : unseen new_marks + unseen new_marks + length new_path
+      < unseen marks + unseen marks + length path
   pub seen : (n : ℕ) → slice_get new_marks n ≡ Some New → slice_get marks n ≡ Some New
 
 -- A search came to a node and to all to which ways lead from it.
-pub record Visits (g : List (List ℕ)) (root : ℕ) (marks : List Mark) (new_marks : List Mark) (new_path : List Frame) (new_order : List ℕ) : Type 0 where
+pub record Visits (g : List (List ℕ)) (root : ℕ) (marks : List Mark) (new_marks : List Mark)
+    (new_path : List Frame) (new_order : List ℕ) : Type 0 where
   pub search : IsSearch g new_marks new_path new_order
   pub done : new_path ≡ []
   pub seen : (n : ℕ) → slice_get new_marks n ≡ Some New → slice_get marks n ≡ Some New

@@ -2,8 +2,8 @@ pub mod ChainLemmas
 pub mod KindLemmas
 pub mod NameLemmas
 pub mod OneLemmas
-pub mod TokenLemmas
 pub mod QuoteLemmas
 pub mod SliceLemmas
+pub mod TokenLemmas
 pub mod UniqueLemmas
 pub mod WordLemmas

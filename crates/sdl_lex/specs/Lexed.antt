@@ -1,20 +1,25 @@
 -- What the tokens of a text are, and what keeps a text from having them.
-use Rattle.std.specs.Prelude.{Vec, ◌≡◌, ℕ, ◌+◌, ◌-◌, ◌*◌, ◌<◌, ◌≤◌, ◌==◌, ◌⊎◌, Bool, true, false, IsTrue, ◌||◌, if◌then◌else◌, List, [], ◌∷◌, ◌++◌, length, fold, slice_index, slice_range, EachIndex, Result, Ok, Err}
+use Rattle.std.specs.Prelude.{Vec, ◌≡◌, ℕ, ◌+◌, ◌-◌, ◌*◌, ◌<◌, ◌≤◌, ◌==◌, ◌⊎◌, Bool, true, false}
+use Rattle.std.specs.Prelude.{IsTrue, ◌||◌, if◌then◌else◌, List, [], ◌∷◌, ◌++◌, length, fold}
+use Rattle.std.specs.Prelude.{slice_index, slice_range, EachIndex, Result, Ok, Err}
 use Rattle.std.specs.Char.{is_ascii_alphabetic, is_ascii_digit}
 use Rattle.sdl_lex.specs.Limits.{LONGEST_NAME, GREATEST_NUMBER, LONGEST_TEXT}
 use Rattle.sdl_lex.specs.declared.lexemes.Word.{Word}
 use Rattle.sdl_lex.specs.declared.lexemes.Symbol.{Symbol}
 use Rattle.sdl_lex.specs.declared.lexemes.Symbol.TheVariants.{Colon, Slash, Less, Greater}
 use Rattle.sdl_lex.specs.declared.lexemes.Lexeme.{Lexeme}
-use Rattle.sdl_lex.specs.declared.lexemes.Lexeme.TheVariants.{Name as a_name, Number as a_number, Word as a_word, Symbol as a_symbol, Quoted as a_quoted}
+use Rattle.sdl_lex.specs.declared.lexemes.Lexeme.TheVariants.{Name as a_name, Number as a_number}
+use Rattle.sdl_lex.specs.declared.lexemes.Lexeme.TheVariants.{Word as a_word, Symbol as a_symbol}
+use Rattle.sdl_lex.specs.declared.lexemes.Lexeme.TheVariants.{Quoted as a_quoted}
 use Rattle.sdl_lex.specs.declared.lexemes.Token.{Token}
 use Rattle.sdl_lex.specs.declared.lexemes.LexFault.{LexFault}
-use Rattle.sdl_lex.specs.declared.lexemes.LexFault.TheVariants.{BadCharacter, OpenComment, TooLong, NoMemory}
+use Rattle.sdl_lex.specs.declared.lexemes.LexFault.TheVariants.{BadCharacter, OpenComment, TooLong}
+use Rattle.sdl_lex.specs.declared.lexemes.LexFault.TheVariants.{NoMemory}
 use Rattle.sdl_lex.specs.Spelling.{IsName, SameName, is_name_byte, is_spelled_as_name}
 use Rattle.sdl_lex.specs.Texts.{word_text, symbol_text}
 
--- A text is the list of its bytes, and a place is an index into it. Past the end `slice_index` gives 0,
--- which is no white space and continues no token.
+-- A text is the list of its bytes, and a place is an index into it. Past the end `slice_index`
+-- gives 0, which is no white space and continues no token.
 
 -- space, tab, carriage return and line feed
 abbrev pub is_white : ℕ → Bool
@@ -53,7 +58,8 @@ IsQuoted bytes = (held : List ℕ) × (bytes ≡ 39 ∷ (doubled held ++ 39 ∷ 
 
 -- one or more digits
 abbrev pub IsNumber : List ℕ → Type 0
-IsNumber bytes = (0 < length bytes) × EachIndex bytes (λ k. is_ascii_digit (slice_index bytes k) ≡ true)
+IsNumber bytes =
+    (0 < length bytes) × EachIndex bytes (λ k. is_ascii_digit (slice_index bytes k) ≡ true)
 
 -- the number that digits stand for
 abbrev pub decimal : List ℕ → ℕ
@@ -61,7 +67,8 @@ decimal digits = fold (λ n digit. 10 * n + (digit - 48)) 0 digits
 
 -- a token's text: a name is no reserved word, in whatever case
 abbrev pub Spells : List ℕ → Lexeme → Type 0
-Spells bytes (a_name n) = (n ≡ bytes) × IsName bytes × ((w : Word) → SameName bytes (word_text w) → ⊥)
+Spells bytes (a_name n) =
+    (n ≡ bytes) × IsName bytes × ((w : Word) → SameName bytes (word_text w) → ⊥)
 Spells bytes (a_number n) = IsNumber bytes × (n ≡ decimal bytes) × (n ≤ GREATEST_NUMBER)
 Spells bytes (a_word w) = SameName bytes (word_text w)
 Spells bytes (a_symbol s) = bytes ≡ symbol_text s
@@ -100,7 +107,8 @@ pub data IsBlank (text : List ℕ) (at : ℕ) : ℕ → Type 0 where
   white : is_white (slice_index text at) ≡ true → IsBlank text at (at + 1)
   comment : {next : ℕ} → IsComment text at next → IsBlank text at next
 
--- From a place to another a text is white space, comments and these tokens, by what stands at the place.
+-- From a place to another a text is white space, comments and these tokens, by what stands at the
+-- place.
 pub data Lexes (text : List ℕ) (to : ℕ) : ℕ → List Token → Type 0 where
   ended : Lexes text to to []
   skipped : {at : ℕ} {tokens : List Token} (next : ℕ) → IsBlank text at next
@@ -127,7 +135,9 @@ IsLongName text at = (end : ℕ) × IsTrue (is_spelled_as_name (slice_range text
 
 -- a number above 2147483647 begins at a place
 abbrev pub IsLargeNumber : List ℕ → ℕ → Type 0
-IsLargeNumber text at = (end : ℕ) × IsNumber (slice_range text at end) × (GREATEST_NUMBER < decimal (slice_range text at end))
+IsLargeNumber text at =
+    (end : ℕ) × IsNumber (slice_range text at end)
+    × (GREATEST_NUMBER < decimal (slice_range text at end))
 
 -- this fault stands at its place
 abbrev pub IsFaultAt : List ℕ → LexFault → Type 0
@@ -143,15 +153,19 @@ place_of (OpenComment at) = at
 place_of (TooLong at) = at
 place_of NoMemory = 0
 
--- a text that isn't over-long has these tokens, or this is its first fault: up to its place it has tokens
+-- a text that isn't over-long has these tokens, or this is its first fault: up to its place it has
+-- tokens
 abbrev pub Gives : List ℕ → Result (List Token) LexFault → Type 0
 Gives text (Ok tokens) = Lexed text tokens
-Gives text (Err fault) = IsFaultAt text fault × (tokens : List Token) × Lexes text (place_of fault) 0 tokens
+Gives text (Err fault) =
+    IsFaultAt text fault × (tokens : List Token) × Lexes text (place_of fault) 0 tokens
 
--- the answer that a text has, want of memory aside: of an over-long one it is the first byte too many
+-- the answer that a text has, want of memory aside: of an over-long one it is the first byte too
+-- many
 pub data Answers (text : List ℕ) : Result (List Token) LexFault → Type 0 where
   over_long : LONGEST_TEXT < length text → Answers text (Err (TooLong LONGEST_TEXT))
-  in_room : {answer : Result (List Token) LexFault} → length text ≤ LONGEST_TEXT → Gives text answer → Answers text answer
+  in_room : {answer : Result (List Token) LexFault} → length text ≤ LONGEST_TEXT → Gives text answer
+      → Answers text answer
 
 -- the first fault of a text that isn't over-long; of want of memory nothing is said
 abbrev pub IsFirstFault : List ℕ → LexFault → Type 0
@@ -164,14 +178,16 @@ IsAnswer text NoMemory = Unit {0}
 IsAnswer text fault = Answers text (Err fault)
 
 -- the call's result is the answer, or memory ran out
-abbrev pub Agrees : {A : Type 0} → Result (Vec Token A) LexFault → Result (List Token) LexFault → Type 0
+abbrev pub Agrees :
+    {A : Type 0} → Result (Vec Token A) LexFault → Result (List Token) LexFault → Type 0
 Agrees (Err NoMemory) answer = Unit {0}
 Agrees (Err fault) answer = answer ≡ Err fault
 Agrees (Ok v) answer = answer ≡ Ok v.items
 
 -- whatever answer the text has is the one that the call gave, or memory ran out
 abbrev pub IsOnlyAnswer : {A : Type 0} → List ℕ → Result (Vec Token A) LexFault → Type 0
-IsOnlyAnswer text result = (answer : Result (List Token) LexFault) → Answers text answer → Agrees result answer
+IsOnlyAnswer text result =
+    (answer : Result (List Token) LexFault) → Answers text answer → Agrees result answer
 
 -- a text has one list of tokens at most
 abbrev pub OneReading : Type 0
@@ -179,4 +195,5 @@ OneReading = (text : List ℕ) (ts us : List Token) → Lexed text ts → Lexed 
 
 -- a text has one answer at most
 abbrev pub OneAnswer : Type 0
-OneAnswer = (text : List ℕ) (a b : Result (List Token) LexFault) → Answers text a → Answers text b → a ≡ b
+OneAnswer =
+    (text : List ℕ) (a b : Result (List Token) LexFault) → Answers text a → Answers text b → a ≡ b

@@ -1,6 +1,7 @@
-pub mod Limits
 pub mod Lexed
+pub mod Limits
 pub mod Printed
+pub mod Runs
 pub mod Scan
 pub mod Spelling
 pub mod Texts

@@ -1,7 +1,8 @@
 -- How the faults of the lexis are printed.
 use Rattle.std.specs.Prelude.{ℕ, List, codes}
 use Rattle.sdl_lex.specs.declared.lexemes.LexFault.{LexFault}
-use Rattle.sdl_lex.specs.declared.lexemes.LexFault.TheVariants.{BadCharacter, OpenComment, TooLong, NoMemory}
+use Rattle.sdl_lex.specs.declared.lexemes.LexFault.TheVariants.{BadCharacter, OpenComment, TooLong}
+use Rattle.sdl_lex.specs.declared.lexemes.LexFault.TheVariants.{NoMemory}
 
 -- the code of a fault and its name
 abbrev pub fault_text : LexFault → List ℕ

@@ -3,7 +3,7 @@ use Rattle.std.specs.Prelude.{◌≡◌, ℕ, List, Option, Some, None}
 use Rattle.sdl_lex.specs.declared.lexemes.Lexeme.{Lexeme}
 use Rattle.sdl_lex.specs.declared.lexemes.LexFault.{LexFault}
 use Rattle.sdl_lex.specs.Lexed.{IsBlank, IsToken, IsFaultAt, place_of}
-pub use Rattle.name_runs.specs.Runs.{IsRun}
+pub use Rattle.sdl_lex.specs.Runs.{IsRun}
 
 -- what stands between two places: a token, or no lexeme, and so white space or a comment
 abbrev pub Stands : List ℕ → ℕ → Option Lexeme → ℕ → Type 0

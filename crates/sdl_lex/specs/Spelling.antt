@@ -3,7 +3,7 @@ use Rattle.std.specs.Prelude.{◌≡◌, ℕ, Bool, false, IsTrue, ◌&&◌, Lis
 use Rattle.std.specs.List.{list_all}
 use Rattle.std.specs.Char.{is_ascii_alphabetic, to_ascii_lowercase}
 use Rattle.sdl_lex.specs.Limits.{LONGEST_NAME}
-pub use Rattle.name_runs.specs.Runs.{is_name_byte}
+pub use Rattle.sdl_lex.specs.Runs.{is_name_byte}
 
 -- an ASCII letter, and then letters, digits and `_`, however many
 abbrev pub is_spelled_as_name : List ℕ → Bool

@@ -1,9 +1,22 @@
 -- How reserved words and symbols are written (Z.100, lexical rules).
 use Rattle.std.specs.Prelude.{ℕ, List, codes}
 use Rattle.sdl_lex.specs.declared.lexemes.Word.{Word}
-use Rattle.sdl_lex.specs.declared.lexemes.Word.TheVariants.{Block, EndBlock, Signal, SignalRoute, From, To, With, Env, Connect, Process, EndProcess, Dcl, Timer, Start, State, EndState, Input, Save, Connection, EndConnection, Task, Output, Sender, Set, Reset, Now, Decision, Else, EndDecision, NextState, Stop, Join, Comment, Not, And, Or, Xor, Mod, Rem, Integer, Boolean, True, False, Procedure, EndProcedure, Call, Fpar, In, Return}
+use Rattle.sdl_lex.specs.declared.lexemes.Word.TheVariants.{Block, EndBlock, Signal, SignalRoute}
+use Rattle.sdl_lex.specs.declared.lexemes.Word.TheVariants.{From, To, With, Env, Connect, Process}
+use Rattle.sdl_lex.specs.declared.lexemes.Word.TheVariants.{EndProcess, Dcl, Timer, Start, State}
+use Rattle.sdl_lex.specs.declared.lexemes.Word.TheVariants.{EndState, Input, Save, Connection}
+use Rattle.sdl_lex.specs.declared.lexemes.Word.TheVariants.{EndConnection, Task, Output, Sender}
+use Rattle.sdl_lex.specs.declared.lexemes.Word.TheVariants.{Set, Reset, Now, Decision, Else}
+use Rattle.sdl_lex.specs.declared.lexemes.Word.TheVariants.{EndDecision, NextState, Stop, Join}
+use Rattle.sdl_lex.specs.declared.lexemes.Word.TheVariants.{Comment, Not, And, Or, Xor, Mod, Rem}
+use Rattle.sdl_lex.specs.declared.lexemes.Word.TheVariants.{Integer, Boolean, True, False}
+use Rattle.sdl_lex.specs.declared.lexemes.Word.TheVariants.{Procedure, EndProcedure, Call, Fpar, In}
+use Rattle.sdl_lex.specs.declared.lexemes.Word.TheVariants.{Return}
 use Rattle.sdl_lex.specs.declared.lexemes.Symbol.{Symbol}
-use Rattle.sdl_lex.specs.declared.lexemes.Symbol.TheVariants.{Semicolon, Comma, Colon, Assign, Open, Close, Plus, Minus, Star, Slash, Equal, NotEqual, Less, LessEqual, Greater, GreaterEqual}
+use Rattle.sdl_lex.specs.declared.lexemes.Symbol.TheVariants.{Semicolon, Comma, Colon, Assign, Open}
+use Rattle.sdl_lex.specs.declared.lexemes.Symbol.TheVariants.{Close, Plus, Minus, Star, Slash}
+use Rattle.sdl_lex.specs.declared.lexemes.Symbol.TheVariants.{Equal, NotEqual, Less, LessEqual}
+use Rattle.sdl_lex.specs.declared.lexemes.Symbol.TheVariants.{Greater, GreaterEqual}
 
 -- a reserved word in upper case
 abbrev pub word_text : Word → List ℕ

@@ -5,12 +5,12 @@ ghost use Rattle.sdl_lex.specs.Lexed.{is_white, OpensComment};
 ghost use Rattle.sdl_lex.specs.Limits.{LONGEST_TEXT};
 ghost use Rattle.sdl_lex.specs.Scan.{Stands, IsFaultThere};
 
+use crate::runs::name_end;
 use crate::scan::{
     byte_at, comment_end, is_white, number_end, number_of, quoted_end, symbol_of, with_equal,
     word_or_name,
 };
 use crate::{LexFault, Lexeme, MAX_TEXT};
-use name_runs::name_end;
 
 /// A token's lexeme, or nothing for white space and comments, and the place after it.
 #[derive(Clone, Copy)]

@@ -7,6 +7,7 @@ ghost use Rattle.sdl_lex.specs.Limits.{LONGEST_TEXT};
 
 mod items;
 mod lexemes;
+mod runs;
 mod scan;
 mod spelling;
 mod words;

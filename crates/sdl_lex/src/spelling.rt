@@ -9,7 +9,7 @@ ghost use Rattle.std.specs.List.{list_all};
 ghost use Rattle.sdl_lex.specs.Spelling.{IsName, is_name_byte, is_spelled_as_name, folded};
 
 use crate::MAX_NAME;
-use name_runs::is_name_byte;
+use crate::runs::is_name_byte;
 use std::convert::AsStr;
 use std::hash::{Hash, Hasher};
 use std::marker::Model;
@@ -30,7 +30,7 @@ impl Model for Name {
     ghost use Rattle.std.specs.Prelude.{◌≡◌, ℕ, ◌-◌, ◌≤◌, List, ◌++◌, length, take, replicate};
     ghost use Rattle.std.proofs.Common.{arith, length-take-le};
     ghost use Rattle.sdl_lex.specs.Spelling.{IsName};
-    ghost use Rattle.name_runs.proofs.NameRoom.{refilled};
+    ghost use Rattle.plain_laws.proofs.Refilling.{refilled};
 
     ghost Value = { List ℕ };
 

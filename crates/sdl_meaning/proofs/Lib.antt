@@ -6,11 +6,11 @@ pub mod Counted
 pub mod Follows
 pub mod Joining
 pub mod Measured
-pub mod SameMeasures
 pub mod Numbers
 pub mod Reached
-pub mod Runs
 pub mod RunParts
+pub mod Runs
+pub mod SameMeasures
 pub mod Sizes
 pub mod Sorting
 pub mod Tests

@@ -23,8 +23,7 @@ use Rattle.sdl_meaning.specs.Named.{NamedText, NamedChoice, NamedConnections}
 use Rattle.sdl_meaning.specs.Code.{number_or_zero, code_joins, else_joins, answers_joins, bodies_joins, joined, text_at, ArePlaced}
 use Rattle.sdl_meaning.proofs.Branches.{EachEnd, EachJoin, ChoiceJoin}
 use Rattle.sdl_meaning.proofs.Joining.{has_connection, each_join}
-use Rattle.turn_code.proofs.Lists.{first_of as contains_first}
-use Rattle.turn_code.proofs.Lists.{within as none_past}
+use Rattle.turn_code.proofs.Lists.{first_of as contains_first, within as none_past}
 use Rattle.plain_laws.proofs.Truths.{and_second, and_first}
 
 -- ---- what a JOIN counts is part of what the text does

@@ -1,12 +1,21 @@
--- What a transition does, said on its tree (Z.100, transitions, with the arithmetic of 32 bits that wraps).
-use Rattle.std.specs.Prelude.{ℕ, zero, suc, ◌+◌, ℤ, pos, ◌+ℤ◌, ◌-ℤ◌, ◌*ℤ◌, neg_ℤ, int_lt, int_div, int_rem, Bool, true, false, not, ◌||◌, ◌&&◌, if◌then◌else◌, List, [], ◌∷◌, length, Option, Some, None, slice_get, slice_set}
+-- What a transition does, said on its tree (Z.100, transitions, with the arithmetic of 32 bits that
+-- wraps).
+use Rattle.std.specs.Prelude.{ℕ, zero, suc, ◌+◌, ℤ, pos, ◌+ℤ◌, ◌-ℤ◌, ◌*ℤ◌, neg_ℤ, int_lt, int_div}
+use Rattle.std.specs.Prelude.{int_rem, Bool, true, false, not, ◌||◌, ◌&&◌, if◌then◌else◌, List, []}
+use Rattle.std.specs.Prelude.{◌∷◌, length, Option, Some, None, slice_get, slice_set}
 use Rattle.std.specs.Int.{int_rem_euclid}
 use Rattle.std.specs.Option.{option_map}
 use Rattle.sdl_sound.specs.sdl_ast_types.expression.Identifier.{Identifier}
 use Rattle.sdl_sound.specs.sdl_ast_types.expression.UnaryOperator.{UnaryOperator}
 use Rattle.sdl_sound.specs.sdl_ast_types.expression.UnaryOperator.TheVariants.{Negate, Not}
 use Rattle.sdl_sound.specs.sdl_ast_types.expression.BinaryOperator.{BinaryOperator}
-use Rattle.sdl_sound.specs.sdl_ast_types.expression.BinaryOperator.TheVariants.{Or, Xor, And, Equal, NotEqual, Less, LessEqual, Greater, GreaterEqual, Add, Subtract, Multiply, Divide, Modulo, Remainder}
+use Rattle.sdl_sound.specs.sdl_ast_types.expression.BinaryOperator.TheVariants.{Or, Xor, And, Equal}
+use Rattle.sdl_sound.specs.sdl_ast_types.expression.BinaryOperator.TheVariants.{NotEqual, Less}
+use Rattle.sdl_sound.specs.sdl_ast_types.expression.BinaryOperator.TheVariants.{LessEqual, Greater}
+use Rattle.sdl_sound.specs.sdl_ast_types.expression.BinaryOperator.TheVariants.{GreaterEqual, Add}
+use Rattle.sdl_sound.specs.sdl_ast_types.expression.BinaryOperator.TheVariants.{Subtract, Multiply}
+use Rattle.sdl_sound.specs.sdl_ast_types.expression.BinaryOperator.TheVariants.{Divide, Modulo}
+use Rattle.sdl_sound.specs.sdl_ast_types.expression.BinaryOperator.TheVariants.{Remainder}
 use Rattle.sdl_sound.specs.sdl_ast_types.tree.Sort.TheVariants.{Boolean}
 use Rattle.sdl_sound.specs.sdl_ast_types.tree.Party as tree_party
 use Rattle.sdl_sound.specs.sdl_ast_types.tree.Party.TheVariants as tree_parties
@@ -20,7 +29,10 @@ use Rattle.sdl_sound.specs.sdl_ast_types.tree.Relation as tree_relation
 use Rattle.sdl_sound.specs.sdl_ast_types.tree.Relation.TheVariants as signs
 use Rattle.sdl_sound.specs.sdl_ast_types.tree.Range.{Range}
 use Rattle.sdl_sound.specs.sdl_ast_types.tree.Range.TheVariants as ranges
-use Rattle.sdl_sound.specs.Plain.{Tree, number, truth, variable, unary, binary, PlainAssignment, PlainSending, PlainAction, task, output, set_timer, reset_timer, Text, falls, ends, does, decides, Choice, nothing_else, otherwise, answer, PlainConnection, PlainProcess, PlainBlock}
+use Rattle.sdl_sound.specs.Plain.{Tree, number, truth, variable, unary, binary, PlainAssignment}
+use Rattle.sdl_sound.specs.Plain.{PlainSending, PlainAction, task, output, set_timer, reset_timer}
+use Rattle.sdl_sound.specs.Plain.{Text, falls, ends, does, decides, Choice, nothing_else, otherwise}
+use Rattle.sdl_sound.specs.Plain.{answer, PlainConnection, PlainProcess, PlainBlock}
 use Rattle.turn_code.specs.declared.value.Value.{Value}
 use Rattle.turn_code.specs.declared.value.Value.TheVariants.{Int, Bool as Truth}
 use Rattle.turn_code.specs.declared.input.Input.{Input}
@@ -31,14 +43,18 @@ use Rattle.turn_code.specs.declared.machine.End.TheVariants as code_ends
 use Rattle.turn_code.specs.declared.instruction.Relation.{Relation}
 use Rattle.turn_code.specs.declared.instruction.Relation.TheVariants as relations
 use Rattle.turn_code.specs.declared.effect.Effect.TheVariants as effects
-use Rattle.turn_code.specs.declared.trouble.Trouble.TheVariants.{Unset, WrongSort, Underflow, NoState, NoReceiver, NoAnswer, Outside}
+use Rattle.turn_code.specs.declared.trouble.Trouble.TheVariants.{Unset, WrongSort, Underflow}
+use Rattle.turn_code.specs.declared.trouble.Trouble.TheVariants.{NoState, NoReceiver, NoAnswer}
+use Rattle.turn_code.specs.declared.trouble.Trouble.TheVariants.{Outside}
 use Rattle.turn_code.specs.Values.{wrap, holds, is_between, differ}
-use Rattle.turn_code.specs.Run.{Progress, tick, with_variables, with_effect, of_party, sending, begun, Ran, ended, got_stuck}
+use Rattle.turn_code.specs.Run.{Progress, tick, with_variables, with_effect, of_party, sending}
+use Rattle.turn_code.specs.Run.{begun, Ran, ended, got_stuck}
 use Rattle.sdl_sound.specs.TableNames.{number_of, variables_of, connection_named, process_names}
 use Rattle.sdl_sound.specs.Longest.{Piece, is_division}
 use Rattle.sdl_sound.specs.Sorts.{has_sort, sort_in}
 use Rattle.sdl_sound.specs.Receivers.{party_of, receivers, carries}
-use Rattle.sdl_meaning.specs.Outcomes.{Scope, at_end, in_trouble, Outcome, goes_on, over, then_do, variable_at, state_at, timer_at, signal_at}
+use Rattle.sdl_meaning.specs.Outcomes.{Scope, at_end, in_trouble, Outcome, goes_on, over, then_do}
+use Rattle.sdl_meaning.specs.Outcomes.{variable_at, state_at, timer_at, signal_at}
 
 -- ---- variables
 
@@ -68,15 +84,15 @@ write (Some v) x s = written (slice_get s.variables v) v x (tick s)
 abbrev pub is_truth : Scope → Tree → Bool
 is_truth c t = has_sort Boolean (sort_in (variables_of c.process) t)
 
--- What an operator makes of two operands: of two Integers an Integer, cut to 32 bits, or whether they stand so to each
--- other; of two Booleans a Boolean.
+-- What an operator makes of two operands: of two Integers an Integer, cut to 32 bits, or whether
+-- they stand so to each other; of two Booleans a Boolean.
 pub data Working : Type 0 where
   reckons : (ℤ → ℤ → ℤ) → Working
   compares : Relation → Working
   joins : (Bool → Bool → Bool) → Working
 
--- `=` and `/=` are two operators each, one of Integers and one of Booleans: the sort of the left operand says which one
--- the text means
+-- `=` and `/=` are two operators each, one of Integers and one of Booleans: the sort of the left
+-- operand says which one the text means
 abbrev pub working : Bool → BinaryOperator → Working
 working b Or = joins (λ x y. x || y)
 working b Xor = joins differ
@@ -122,7 +138,8 @@ divisor_of (variable at n) = pos 0
 divisor_of (unary at op t) = pos 0
 divisor_of (binary at op t u) = pos 0
 
--- `/` cuts towards zero, MOD gives 0 to one less than the divisor, REM has the sign of the number that is divided
+-- `/` cuts towards zero, MOD gives 0 to one less than the divisor, REM has the sign of the number
+-- that is divided
 abbrev pub quotient : BinaryOperator → ℤ → ℤ → ℤ
 quotient Divide x k = int_div x k
 quotient Modulo x k = int_rem_euclid x k
@@ -130,7 +147,8 @@ quotient op x k = int_rem x k
 
 -- a divisor is 1 or more, else the division has no meaning
 abbrev pub divide : BinaryOperator → ℤ → Value → Progress → Outcome Value
-divide op k (Int x) s = if int_lt (pos 0) k then goes_on (Int (quotient op x k)) s else over (in_trouble WrongSort) s
+divide op k (Int x) s =
+    if int_lt (pos 0) k then goes_on (Int (quotient op x k)) s else over (in_trouble WrongSort) s
 divide op k (Truth b) s = over (in_trouble WrongSort) s
 
 -- an expression, its operands from left to right; both operands of AND, OR and XOR are read
@@ -147,7 +165,8 @@ value_of c (binary at op t u) s =
 -- expressions from left to right
 abbrev pub values_of : Scope → List Tree → Progress → Outcome (List Value)
 values_of c [] s = goes_on [] s
-values_of c (t ∷ ts) s = then_do (value_of c t s) (λ x s. then_do (values_of c ts s) (λ xs s. goes_on (x ∷ xs) s))
+values_of c (t ∷ ts) s =
+    then_do (value_of c t s) (λ x s. then_do (values_of c ts s) (λ xs s. goes_on (x ∷ xs) s))
 
 -- ---- receivers
 
@@ -160,7 +179,8 @@ numbered c (tree_parties.Process id) =
 -- a party as the text names it
 abbrev pub named : Scope → Party → Option tree_party.Party
 named c Environment = Some tree_parties.Environment
-named c (Process k) = option_map (λ id. tree_parties.Process id) (slice_get (process_names c.block) k.0)
+named c (Process k) =
+    option_map (λ id. tree_parties.Process id) (slice_get (process_names c.block) k.0)
 
 -- whether a route carries the signal from this process there
 abbrev pub is_carried : Scope → Identifier → tree_party.Party → Bool
@@ -186,11 +206,13 @@ abbrev pub addressed : Option Party → Option Address
 addressed None = None
 addressed (Some p) = Some (of_party p)
 
--- who gets a signal that goes out: whom TO names, if a route carries it there; else the one to whom routes carry it
+-- who gets a signal that goes out: whom TO names, if a route carries it there; else the one to whom
+-- routes carry it
 abbrev pub receiver_of : Scope → Option Address → Option Destination → Identifier → Option Address
 receiver_of c sender None n = addressed (the_one c (receivers c.block (party_of c.process) n.name))
 receiver_of c sender (Some (address.Process id)) n =
-    addressed (if is_carried c n (tree_parties.Process id) then numbered c (tree_parties.Process id) else None)
+    addressed (if is_carried c n (tree_parties.Process id) then numbered c (tree_parties.Process id)
+    else None)
 receiver_of c sender (Some (address.Sender at)) n = to_sender c n sender
 
 -- ---- actions
@@ -199,7 +221,8 @@ receiver_of c sender (Some (address.Sender at)) n = to_sender c n sender
 abbrev pub assign : Scope → List PlainAssignment → Progress → Outcome (Unit {0})
 assign c [] s = goes_on (tt {0}) s
 assign c (a ∷ rest) s =
-    then_do (value_of c a.value s) (λ x s. then_do (write (variable_at c a.variable) x s) (λ _ s. assign c rest s))
+    then_do (value_of c a.value s)
+    (λ x s. then_do (write (variable_at c a.variable) x s) (λ _ s. assign c rest s))
 
 -- a signal goes out with its parameters, where there is such a signal and somebody gets it
 abbrev pub put_out : Option ℕ → Option Address → List Value → Progress → Outcome (Unit {0})
@@ -207,14 +230,18 @@ put_out None to xs s = over (in_trouble NoReceiver) s
 put_out (Some n) None xs s = over (in_trouble NoReceiver) s
 put_out (Some n) (Some p) xs s = goes_on (tt {0}) (with_effect s (sending (record { 0 = n }) p xs))
 
-abbrev pub send : Scope → Option Address → Option Destination → PlainSending → Progress → Outcome (Unit {0})
+abbrev pub send :
+    Scope → Option Address → Option Destination → PlainSending → Progress → Outcome (Unit {0})
 send c sender to x s =
-    then_do (values_of c x.parameters s) (λ xs s. put_out (signal_at c x.signal) (receiver_of c sender to x.signal) xs (tick s))
+    then_do (values_of c x.parameters s)
+    (λ xs s. put_out (signal_at c x.signal) (receiver_of c sender to x.signal) xs (tick s))
 
 -- the signals of an OUTPUT, one after another
-abbrev pub send_all : Scope → Option Address → Option Destination → List PlainSending → Progress → Outcome (Unit {0})
+abbrev pub send_all :
+    Scope → Option Address → Option Destination → List PlainSending → Progress → Outcome (Unit {0})
 send_all c sender to [] s = goes_on (tt {0}) s
-send_all c sender to (x ∷ rest) s = then_do (send c sender to x s) (λ _ s. send_all c sender to rest s)
+send_all c sender to (x ∷ rest) s =
+    then_do (send c sender to x s) (λ _ s. send_all c sender to rest s)
 
 -- a timer is set to so long after now
 abbrev pub start_timer : Option ℕ → Value → Progress → Outcome (Unit {0})
@@ -231,7 +258,8 @@ stop_timer (Some t) s = goes_on (tt {0}) (with_effect s (effects.Reset (record {
 abbrev pub perform : Scope → Option Address → PlainAction → Progress → Outcome (Unit {0})
 perform c sender (task at ts) s = assign c ts s
 perform c sender (output at xs to) s = send_all c sender to xs s
-perform c sender (set_timer at t n) s = then_do (value_of c t s) (λ x s. start_timer (timer_at c n) x (tick s))
+perform c sender (set_timer at t n) s =
+    then_do (value_of c t s) (λ x s. start_timer (timer_at c n) x (tick s))
 perform c sender (reset_timer at n) s = stop_timer (timer_at c n) (tick s)
 
 -- a next state has to be there
@@ -240,7 +268,8 @@ end_in None s = over (in_trouble NoState) (tick s)
 end_in (Some q) s = over (at_end (code_ends.State (record { 0 = q }))) (tick s)
 
 -- `join` says what a JOIN to the connection with a name goes on with
-abbrev pub end_with : Scope → (List ℕ → Progress → Outcome (Unit {0})) → End → Progress → Outcome (Unit {0})
+abbrev pub end_with :
+    Scope → (List ℕ → Progress → Outcome (Unit {0})) → End → Progress → Outcome (Unit {0})
 end_with c join (NextState n) s = end_in (state_at c n.state) s
 end_with c join (Stop at) s = over (at_end code_ends.Stop) (tick s)
 end_with c join (Join j) s = join j.connector.name (tick s)
@@ -275,7 +304,8 @@ between x (Some low) (Some high) = Some (is_between low high x)
 abbrev pub covers_integer : Range → ℤ → Option Bool
 covers_integer (ranges.Value k) x = compared relations.Equal x (integer_in k.value)
 covers_integer (ranges.Compared at r k) x = compared (relation_of r) x (integer_in k.value)
-covers_integer (ranges.Between low high) x = between x (integer_in low.value) (integer_in high.value)
+covers_integer (ranges.Between low high) x =
+    between x (integer_in low.value) (integer_in high.value)
 
 abbrev pub is_literal : literal.Literal → Bool → Option Bool
 is_literal (literals.Integer k) b = None
@@ -292,22 +322,30 @@ abbrev pub told : Option Bool → Progress → Outcome Bool
 told None s = over (in_trouble WrongSort) s
 told (Some b) s = goes_on b s
 
--- whether one of the ranges of an answer holds of an Integer: they are tried one after another, up to the first that holds
+-- whether one of the ranges of an answer holds of an Integer: they are tried one after another, up
+-- to the first that holds
 abbrev pub try_ranges : List Range → ℤ → Progress → Outcome Bool
 try_ranges [] x s = goes_on false s
-try_ranges (r ∷ rs) x s = then_do (told (covers_integer r x) (tick s)) (λ b s. if b then goes_on true s else try_ranges rs x s)
+try_ranges (r ∷ rs) x s =
+    then_do (told (covers_integer r x) (tick s)) (λ b s. if b then goes_on true s
+    else try_ranges rs x s)
 
 -- the same for a truth value, which costs nothing
 abbrev pub find_truth : List Range → Bool → Progress → Outcome Bool
 find_truth [] b s = goes_on false s
-find_truth (r ∷ rs) b s = then_do (told (covers_truth r b) s) (λ found s. if found then goes_on true s else find_truth rs b s)
+find_truth (r ∷ rs) b s =
+    then_do (told (covers_truth r b) s) (λ found s. if found then goes_on true s
+    else find_truth rs b s)
 
 -- a body that goes on does so behind its DECISION
 abbrev pub leave : Outcome (Unit {0}) → Outcome (Unit {0})
 leave o = then_do o (λ _ s. goes_on (tt {0}) (tick s))
 
--- what is chosen for the value of a question, which has to have the question's sort; the choice by a truth value costs 1
-abbrev pub decide : Bool → Value → Progress → (ℤ → Outcome (Unit {0})) → (Bool → Outcome (Unit {0})) → Outcome (Unit {0})
+-- what is chosen for the value of a question, which has to have the question's sort; the choice by
+-- a truth value costs 1
+abbrev pub decide :
+    Bool → Value → Progress → (ℤ → Outcome (Unit {0})) → (Bool → Outcome (Unit {0}))
+    → Outcome (Unit {0})
 decide true (Truth b) s by_integer by_truth = by_truth b
 decide true (Int x) s by_integer by_truth = over (in_trouble WrongSort) (tick s)
 decide false (Int x) s by_integer by_truth = by_integer x
@@ -315,28 +353,37 @@ decide false (Truth b) s by_integer by_truth = over (in_trouble WrongSort) (tick
 
 abbrev mutual
   -- a transition from some statement on
-  pub act : Scope → (List ℕ → Progress → Outcome (Unit {0})) → Option Address → Text → Progress → Outcome (Unit {0})
+  pub act : Scope → (List ℕ → Progress → Outcome (Unit {0})) → Option Address → Text → Progress
+      → Outcome (Unit {0})
   act c join sender falls s = goes_on (tt {0}) s
   act c join sender (ends e) s = end_with c join e s
-  act c join sender (does a rest) s = then_do (perform c sender a s) (λ _ s. act c join sender rest s)
+  act c join sender (does a rest) s =
+      then_do (perform c sender a s) (λ _ s. act c join sender rest s)
   act c join sender (decides at q choice rest) s =
       then_do (value_of c q s) (λ x s.
-      then_do (decide (is_truth c q) x s (λ x. choose c join sender choice x s) (λ b. pick c join sender choice b (tick s))) (λ _ s.
+      then_do (decide (is_truth c q) x s (λ x. choose c join sender choice x s)
+      (λ b. pick c join sender choice b (tick s))) (λ _ s.
       act c join sender rest s))
 
-  -- the answers to an Integer question from some answer on: the first range that holds tells the body; ELSE is for what is left
-  pub choose : Scope → (List ℕ → Progress → Outcome (Unit {0})) → Option Address → Choice → ℤ → Progress → Outcome (Unit {0})
+  -- the answers to an Integer question from some answer on: the first range that holds tells the
+  -- body; ELSE is for what is left
+  pub choose :
+      Scope → (List ℕ → Progress → Outcome (Unit {0})) → Option Address → Choice → ℤ → Progress
+      → Outcome (Unit {0})
   choose c join sender nothing_else x s = over (in_trouble NoAnswer) s
   choose c join sender (otherwise body) x s = leave (act c join sender body (tick s))
   choose c join sender (answer at rs body others) x s =
-      then_do (try_ranges rs x s) (λ found s. if found then leave (act c join sender body s) else choose c join sender others x s)
+      then_do (try_ranges rs x s) (λ found s. if found then leave (act c join sender body s)
+      else choose c join sender others x s)
 
   -- the answers to a Boolean question
-  pub pick : Scope → (List ℕ → Progress → Outcome (Unit {0})) → Option Address → Choice → Bool → Progress → Outcome (Unit {0})
+  pub pick : Scope → (List ℕ → Progress → Outcome (Unit {0})) → Option Address → Choice → Bool
+      → Progress → Outcome (Unit {0})
   pick c join sender nothing_else b s = over (in_trouble NoAnswer) s
   pick c join sender (otherwise body) b s = leave (act c join sender body s)
   pick c join sender (answer at rs body others) b s =
-      then_do (find_truth rs b s) (λ found s. if found then leave (act c join sender body s) else pick c join sender others b s)
+      then_do (find_truth rs b s) (λ found s. if found then leave (act c join sender body s)
+      else pick c join sender others b s)
 
 -- ---- connections
 
@@ -346,7 +393,8 @@ closed (goes_on x s) = over (in_trouble Outside) s
 closed (over e s) = over e s
 
 -- a connection's text, if there is one
-abbrev pub entered : Option PlainConnection → Progress → (Text → Outcome (Unit {0})) → Outcome (Unit {0})
+abbrev pub entered :
+    Option PlainConnection → Progress → (Text → Outcome (Unit {0})) → Outcome (Unit {0})
 entered None s go = over (in_trouble Outside) s
 entered (Some k) s go = go k.text
 
@@ -368,7 +416,8 @@ pass None v s = over (in_trouble Underflow) (tick s)
 pass (Some x) v s = write v x (tick s)
 
 -- the places of INPUT from place j on: each that has a name gets the parameter at its place
-abbrev pub take_places : Scope → List Value → ℕ → List (Option Identifier) → Progress → Outcome (Unit {0})
+abbrev pub take_places :
+    Scope → List Value → ℕ → List (Option Identifier) → Progress → Outcome (Unit {0})
 take_places c ps j [] s = goes_on (tt {0}) s
 take_places c ps j (None ∷ places) s = take_places c ps (j + 1) places s
 take_places c ps j (Some n ∷ places) s =
@@ -382,7 +431,9 @@ ran (over (in_trouble t) s) = got_stuck t
 
 -- The meaning of a transition on an input: INPUT's places (START has none), and then its text.
 abbrev pub Act : Scope → Piece → Input → Ran
-Act c q x = ran (then_do (take_places c x.parameters.items 0 q.places (begun x)) (λ _ s. act c (join_in c x.sender) x.sender q.text s))
+Act c q x =
+    ran (then_do (take_places c x.parameters.items 0 q.places (begun x))
+    (λ _ s. act c (join_in c x.sender) x.sender q.text s))
 
 abbrev pub scope_of : PlainBlock → PlainProcess → Scope
 scope_of b p = record { block = b; process = p }

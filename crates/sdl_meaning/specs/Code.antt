@@ -1,12 +1,20 @@
 -- The instructions of a transition.
-use Rattle.std.specs.Prelude.{◌≡◌, ℕ, ◌+◌, ◌==◌, ℤ, pos, Bool, true, false, if◌then◌else◌, List, [], ◌∷◌, ◌++◌, length, map, take, Option, Some, None, slice_get, Contains, fold}
+use Rattle.std.specs.Prelude.{◌≡◌, ℕ, ◌+◌, ◌==◌, ℤ, pos, Bool, true, false, if◌then◌else◌, List, []}
+use Rattle.std.specs.Prelude.{◌∷◌, ◌++◌, length, map, take, Option, Some, None, slice_get, Contains}
+use Rattle.std.specs.Prelude.{fold}
 use Rattle.std.specs.List.{list_any, flat_map}
 use Rattle.std.specs.Option.{option_map_or}
 use Rattle.sdl_sound.specs.sdl_ast_types.expression.Identifier.{Identifier}
 use Rattle.sdl_sound.specs.sdl_ast_types.expression.UnaryOperator.{UnaryOperator}
 use Rattle.sdl_sound.specs.sdl_ast_types.expression.UnaryOperator.TheVariants.{Negate, Not}
 use Rattle.sdl_sound.specs.sdl_ast_types.expression.BinaryOperator.{BinaryOperator}
-use Rattle.sdl_sound.specs.sdl_ast_types.expression.BinaryOperator.TheVariants.{Or, Xor, And, Equal, NotEqual, Less, LessEqual, Greater, GreaterEqual, Add, Subtract, Multiply, Divide, Modulo, Remainder}
+use Rattle.sdl_sound.specs.sdl_ast_types.expression.BinaryOperator.TheVariants.{Or, Xor, And, Equal}
+use Rattle.sdl_sound.specs.sdl_ast_types.expression.BinaryOperator.TheVariants.{NotEqual, Less}
+use Rattle.sdl_sound.specs.sdl_ast_types.expression.BinaryOperator.TheVariants.{LessEqual, Greater}
+use Rattle.sdl_sound.specs.sdl_ast_types.expression.BinaryOperator.TheVariants.{GreaterEqual, Add}
+use Rattle.sdl_sound.specs.sdl_ast_types.expression.BinaryOperator.TheVariants.{Subtract, Multiply}
+use Rattle.sdl_sound.specs.sdl_ast_types.expression.BinaryOperator.TheVariants.{Divide, Modulo}
+use Rattle.sdl_sound.specs.sdl_ast_types.expression.BinaryOperator.TheVariants.{Remainder}
 use Rattle.sdl_sound.specs.sdl_ast_types.tree.Party.TheVariants as tree_parties
 use Rattle.sdl_sound.specs.sdl_ast_types.tree.Destination.{Destination}
 use Rattle.sdl_sound.specs.sdl_ast_types.tree.Destination.TheVariants as address
@@ -17,7 +25,10 @@ use Rattle.sdl_sound.specs.sdl_ast_types.tree.Range.{Range}
 use Rattle.sdl_sound.specs.sdl_ast_types.tree.Range.TheVariants as ranges
 use Rattle.sdl_sound.specs.sdl_ast_types.tree.Literal.{Literal}
 use Rattle.sdl_sound.specs.sdl_ast_types.tree.Literal.TheVariants as literals
-use Rattle.sdl_sound.specs.Plain.{Tree, number, truth, variable, unary, binary, PlainAssignment, PlainSending, PlainAction, task, output, set_timer, reset_timer, Text, falls, ends, does, decides, Choice, nothing_else, otherwise, answer}
+use Rattle.sdl_sound.specs.Plain.{Tree, number, truth, variable, unary, binary, PlainAssignment}
+use Rattle.sdl_sound.specs.Plain.{PlainSending, PlainAction, task, output, set_timer, reset_timer}
+use Rattle.sdl_sound.specs.Plain.{Text, falls, ends, does, decides, Choice, nothing_else, otherwise}
+use Rattle.sdl_sound.specs.Plain.{answer}
 use Rattle.turn_code.specs.declared.input.Party.{Party}
 use Rattle.turn_code.specs.declared.input.Party.TheVariants.{Environment}
 use Rattle.turn_code.specs.declared.instruction.Receiver.{Receiver}
@@ -29,10 +40,12 @@ use Rattle.turn_code.specs.Values.{wrap}
 use Rattle.sdl_sound.specs.TableNames.{variables_of}
 use Rattle.sdl_sound.specs.Going.{goes_on}
 use Rattle.sdl_sound.specs.Statements.{end_joins}
-use Rattle.sdl_sound.specs.Longest.{Piece, is_division, cost_of, action_cost, jump_size, tests_size, size, bodies_size, places_cost}
+use Rattle.sdl_sound.specs.Longest.{Piece, is_division, cost_of, action_cost, jump_size, tests_size}
+use Rattle.sdl_sound.specs.Longest.{size, bodies_size, places_cost}
 use Rattle.sdl_sound.specs.Receivers.{party_of, receivers}
 use Rattle.sdl_meaning.specs.Act.{is_truth, divisor_of, relation_of, integer_in, numbered, the_one}
-use Rattle.sdl_meaning.specs.Outcomes.{Scope, variable_at, state_at, timer_at, connector_at, signal_at}
+use Rattle.sdl_meaning.specs.Outcomes.{Scope, variable_at, state_at, timer_at, connector_at}
+use Rattle.sdl_meaning.specs.Outcomes.{signal_at}
 
 -- the number of a name; its instructions are made only where it has one
 abbrev pub number_or_zero : Option ℕ → ℕ
@@ -107,7 +120,8 @@ trees_code c (t ∷ ts) = tree_code c t ++ trees_code c ts
 
 abbrev pub tasks_code : Scope → List PlainAssignment → List Instruction
 tasks_code c [] = []
-tasks_code c (a ∷ rest) = tree_code c a.value ++ store (number_or_zero (variable_at c a.variable)) ∷ tasks_code c rest
+tasks_code c (a ∷ rest) =
+    tree_code c a.value ++ store (number_or_zero (variable_at c a.variable)) ∷ tasks_code c rest
 
 -- a receiver; an instruction is made only where there is one
 abbrev pub party_or_environment : Option Party → Party
@@ -115,8 +129,10 @@ party_or_environment None = Environment
 party_or_environment (Some p) = p
 
 abbrev pub receiver_code : Scope → Option Destination → Identifier → Receiver
-receiver_code c None n = to_whom.Party (party_or_environment (the_one c (receivers c.block (party_of c.process) n.name)))
-receiver_code c (Some (address.Process id)) n = to_whom.Party (party_or_environment (numbered c (tree_parties.Process id)))
+receiver_code c None n =
+    to_whom.Party (party_or_environment (the_one c (receivers c.block (party_of c.process) n.name)))
+receiver_code c (Some (address.Process id)) n =
+    to_whom.Party (party_or_environment (numbered c (tree_parties.Process id)))
 receiver_code c (Some (address.Sender at)) n = to_whom.Sender
 
 -- the parameters, and the signal with so many of them
@@ -124,7 +140,8 @@ abbrev pub sendings_code : Scope → Option Destination → List PlainSending �
 sendings_code c to [] = []
 sendings_code c to (x ∷ rest) =
     trees_code c x.parameters
-    ++ put (number_or_zero (signal_at c x.signal)) (receiver_code c to x.signal) (length x.parameters) ∷ sendings_code c to rest
+    ++ put (number_or_zero (signal_at c x.signal)) (receiver_code c to x.signal)
+    (length x.parameters) ∷ sendings_code c to rest
 
 abbrev pub action_code : Scope → PlainAction → List Instruction
 action_code c (task at ts) = tasks_code c ts
@@ -132,8 +149,8 @@ action_code c (output at xs to) = sendings_code c to xs
 action_code c (set_timer at t n) = tree_code c t ++ set_to (number_or_zero (timer_at c n)) ∷ []
 action_code c (reset_timer at n) = reset (number_or_zero (timer_at c n)) ∷ []
 
--- ---- with answers and JOINs: each part has its own place, and targets are places in the whole code. `to` says at which place
--- the code of the connection with a number stands.
+-- ---- with answers and JOINs: each part has its own place, and targets are places in the whole
+-- code. `to` says at which place the code of the connection with a number stands.
 
 abbrev pub jump : ℕ → Instruction
 jump n = i.Jump (record { 0 = n })
@@ -153,9 +170,13 @@ body_size c body = size (variables_of c.process) body + jump_size body
 
 -- a range, where the body of its answer stands at a place
 abbrev pub range_code : ℕ → Range → Instruction
-range_code n (ranges.Value k) = i.Case relations.Equal (constant_or_zero (integer_in k.value)) (record { 0 = n })
-range_code n (ranges.Compared at r k) = i.Case (relation_of r) (constant_or_zero (integer_in k.value)) (record { 0 = n })
-range_code n (ranges.Between low high) = i.CaseWithin (record { 0 = n }) (constant_or_zero (integer_in low.value)) (constant_or_zero (integer_in high.value))
+range_code n (ranges.Value k) =
+    i.Case relations.Equal (constant_or_zero (integer_in k.value)) (record { 0 = n })
+range_code n (ranges.Compared at r k) =
+    i.Case (relation_of r) (constant_or_zero (integer_in k.value)) (record { 0 = n })
+range_code n (ranges.Between low high) =
+    i.CaseWithin (record { 0 = n }) (constant_or_zero (integer_in low.value))
+    (constant_or_zero (integer_in high.value))
 
 abbrev pub ranges_code : ℕ → List Range → List Instruction
 ranges_code n rs = map (range_code n) rs
@@ -164,7 +185,8 @@ ranges_code n rs = map (range_code n) rs
 abbrev pub tests_code : Scope → ℕ → Choice → List Instruction
 tests_code c n nothing_else = []
 tests_code c n (otherwise body) = i.Drop ∷ []
-tests_code c n (answer at rs body others) = ranges_code n rs ++ tests_code c (n + body_size c body) others
+tests_code c n (answer at rs body others) =
+    ranges_code n rs ++ tests_code c (n + body_size c body) others
 
 -- how many instructions the body of ELSE has
 abbrev pub else_size : Scope → Choice → ℕ
@@ -189,18 +211,21 @@ names_truth b (ranges.Value k) = is_literal b k.value
 names_truth b (ranges.Compared at r k) = false
 names_truth b (ranges.Between low high) = false
 
--- where the body for a truth value stands, if the bodies stand from a place on in the order of the text
+-- where the body for a truth value stands, if the bodies stand from a place on in the order of the
+-- text
 abbrev pub picked : Scope → ℕ → Choice → Bool → ℕ
 picked c n nothing_else b = n
 picked c n (otherwise body) b = n
-picked c n (answer at rs body others) b = if list_any (names_truth b) rs then n else picked c (n + body_size c body) others b
+picked c n (answer at rs body others) b =
+    if list_any (names_truth b) rs then n else picked c (n + body_size c body) others b
 
 -- a Boolean DECISION goes on at one place where its question is FALSE, at another where it is TRUE
 abbrev pub pick_code : Scope → ℕ → Choice → Instruction
-pick_code c n choice = i.Pick (record { 0 = picked c n choice false }) (record { 0 = picked c n choice true })
+pick_code c n choice =
+    i.Pick (record { 0 = picked c n choice false }) (record { 0 = picked c n choice true })
 
--- Of a DECISION whose question ends at a place: the place of the bodies of a Boolean one; those of ELSE and of the answers of an
--- Integer one; and that of what follows.
+-- Of a DECISION whose question ends at a place: the place of the bodies of a Boolean one; those of
+-- ELSE and of the answers of an Integer one; and that of what follows.
 abbrev pub bodies_place : ℕ → ℕ
 bodies_place n = n + 1
 
@@ -211,11 +236,13 @@ abbrev pub answers_place : Scope → ℕ → Choice → ℕ
 answers_place c n choice = n + tests_size choice + else_size c choice
 
 abbrev pub after_choice : Scope → Bool → ℕ → Choice → ℕ
-after_choice c b n choice = n + (if b then 1 else tests_size choice) + bodies_size (variables_of c.process) choice
+after_choice c b n choice =
+    n + (if b then 1 else tests_size choice) + bodies_size (variables_of c.process) choice
 
 abbrev mutual
-  -- An Integer DECISION: its question, a test for each range, the drop, the body of ELSE, and the bodies of the answers in order.
-  -- A Boolean one: its question, the choice, and the bodies in order.
+  -- An Integer DECISION: its question, a test for each range, the drop, the body of ELSE, and the
+  -- bodies of the answers in order. A Boolean one: its question, the choice, and the bodies in
+  -- order.
   pub text_code : Scope → (ℕ → ℕ) → ℕ → Text → List Instruction
   text_code c to n falls = []
   text_code c to n (ends e) = end_code c to e
@@ -224,10 +251,13 @@ abbrev mutual
       tree_code c q ++ (
       (if is_truth c q
       then pick_code c (bodies_place (n + cost_of q)) choice
-      ∷ bodies_code c to (bodies_place (n + cost_of q)) (after_choice c true (n + cost_of q) choice) choice
+      ∷ bodies_code c to (bodies_place (n + cost_of q)) (after_choice c true (n + cost_of q) choice)
+      choice
       else tests_code c (answers_place c (n + cost_of q) choice) choice
-      ++ (else_code c to (else_place (n + cost_of q) choice) (after_choice c false (n + cost_of q) choice) choice
-      ++ answers_code c to (answers_place c (n + cost_of q) choice) (after_choice c false (n + cost_of q) choice) choice))
+      ++ (else_code c to (else_place (n + cost_of q) choice)
+      (after_choice c false (n + cost_of q) choice) choice
+      ++ answers_code c to (answers_place c (n + cost_of q) choice)
+      (after_choice c false (n + cost_of q) choice) choice))
       ++ text_code c to (after_choice c (is_truth c q) (n + cost_of q) choice) rest)
 
   -- the body of ELSE at a place; what follows the DECISION stands at the second one
@@ -241,24 +271,28 @@ abbrev mutual
   answers_code c to n after nothing_else = []
   answers_code c to n after (otherwise body) = []
   answers_code c to n after (answer at rs body others) =
-      text_code c to n body ++ (leave_code after body ++ answers_code c to (n + body_size c body) after others)
+      text_code c to n body
+      ++ (leave_code after body ++ answers_code c to (n + body_size c body) after others)
 
   -- these and then that of ELSE
   pub bodies_code : Scope → (ℕ → ℕ) → ℕ → ℕ → Choice → List Instruction
   bodies_code c to n after nothing_else = []
   bodies_code c to n after (otherwise body) = text_code c to n body ++ leave_code after body
   bodies_code c to n after (answer at rs body others) =
-      text_code c to n body ++ (leave_code after body ++ bodies_code c to (n + body_size c body) after others)
+      text_code c to n body
+      ++ (leave_code after body ++ bodies_code c to (n + body_size c body) after others)
 
 abbrev pub places_code : Scope → ℕ → List (Option Identifier) → List Instruction
 places_code c j [] = []
 places_code c j (None ∷ rest) = places_code c (j + 1) rest
-places_code c j (Some n ∷ rest) = i.Param j ∷ store (number_or_zero (variable_at c n)) ∷ places_code c (j + 1) rest
+places_code c j (Some n ∷ rest) =
+    i.Param j ∷ store (number_or_zero (variable_at c n)) ∷ places_code c (j + 1) rest
 
 -- a DECISION behind its question, which ends at a place: a Boolean one, and an Integer one
 abbrev pub truth_code : Scope → (ℕ → ℕ) → ℕ → Choice → List Instruction
 truth_code c to n choice =
-    pick_code c (bodies_place n) choice ∷ bodies_code c to (bodies_place n) (after_choice c true n choice) choice
+    pick_code c (bodies_place n) choice
+    ∷ bodies_code c to (bodies_place n) (after_choice c true n choice) choice
 
 abbrev pub integer_code : Scope → (ℕ → ℕ) → ℕ → Choice → List Instruction
 integer_code c to n choice =
@@ -283,7 +317,8 @@ abbrev mutual
   code_joins c (ends e) = end_joins e
   code_joins c (does a rest) = code_joins c rest
   code_joins c (decides at q choice rest) =
-      (if is_truth c q then bodies_joins c choice else else_joins c choice ++ answers_joins c choice) ++ code_joins c rest
+      (if is_truth c q then bodies_joins c choice
+      else else_joins c choice ++ answers_joins c choice) ++ code_joins c rest
 
   pub else_joins : Scope → Choice → List tree_join.Join
   else_joins c nothing_else = []
@@ -312,20 +347,24 @@ add_number ns n = if list_any (λ m. m == n) ns then ns else ns ++ n ∷ []
 abbrev pub numbers_once : List ℕ → List ℕ
 numbers_once ns = fold add_number [] ns
 
--- The connections whose code stands behind that of a text: those that the text joins or one of them does, each once, in the
--- order in which the code joins them first.
+-- The connections whose code stands behind that of a text: those that the text joins or one of them
+-- does, each once, in the order in which the code joins them first.
 pub record ArePlaced (c : Scope) (t : Text) (ns : List ℕ) : Type 0 where
   pub once : ns ≡ numbers_once (joined c t ++ flat_map (λ n. joined c (text_at c n)) ns)
-  pub before : (k n : ℕ) → slice_get ns k ≡ Some n → Contains (joined c t ++ flat_map (λ m. joined c (text_at c m)) (take k ns)) n
+  pub before :
+      (k n : ℕ) → slice_get ns k ≡ Some n
+      → Contains (joined c t ++ flat_map (λ m. joined c (text_at c m)) (take k ns)) n
 
--- the place of the connection with a number, where those of these stand one behind another from a place on
+-- the place of the connection with a number, where those of these stand one behind another from a
+-- place on
 abbrev pub place_in : Scope → ℕ → List ℕ → ℕ → ℕ
 place_in c p [] n = 0
 place_in c p (m ∷ ms) n = if m == n then p else place_in c (p + size_at c m) ms n
 
 abbrev pub connections_code : Scope → (ℕ → ℕ) → ℕ → List ℕ → List Instruction
 connections_code c to p [] = []
-connections_code c to p (n ∷ ns) = text_code c to p (text_at c n) ++ connections_code c to (p + size_at c n) ns
+connections_code c to p (n ∷ ns) =
+    text_code c to p (text_at c n) ++ connections_code c to (p + size_at c n) ns
 
 -- where the text of a piece begins, and where its connections do
 abbrev pub text_place : Piece → ℕ

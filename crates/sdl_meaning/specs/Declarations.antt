@@ -16,7 +16,8 @@ use Rattle.turn_code.specs.declared.draft.DraftVariable.{DraftVariable}
 use Rattle.turn_code.specs.declared.draft.Trigger.{Trigger}
 use Rattle.turn_code.specs.declared.draft.Trigger.TheVariants.{Signal, Timer}
 use Rattle.turn_code.specs.Transitions.{parameters_of}
-use Rattle.sdl_sound.specs.TableNames.{Variable, number_of, variables_of, timers_of, signals_of, signal_names}
+use Rattle.sdl_sound.specs.TableNames.{Variable, number_of, variables_of, timers_of, signals_of}
+use Rattle.sdl_sound.specs.TableNames.{signal_names}
 use Rattle.sdl_sound.specs.Sorts.{parameter_sorts}
 use Rattle.sdl_meaning.specs.Outcomes.{Scope}
 use Rattle.sdl_meaning.specs.Code.{number_or_zero}
@@ -34,7 +35,12 @@ constant_value k = literal_value k.value
 
 -- a variable with its sort and its initial value
 abbrev pub drafted : Variable → DraftVariable
-drafted v = record { name = v.name.name; sort = sort_of_tree v.sort; initial = option_map constant_value v.initial }
+drafted v =
+    record {
+      name = v.name.name;
+      sort = sort_of_tree v.sort;
+      initial = option_map constant_value v.initial;
+    }
 
 -- a signal with the sorts of its parameters
 abbrev pub drafted_signal : PlainSignal → DraftSignal
@@ -54,7 +60,9 @@ trigger_with (Some n) t = Signal (record { 0 = n })
 
 -- what a name stands for in an INPUT or a SAVE: a signal, else a timer of the process
 abbrev pub trigger_of : Scope → Identifier → Trigger
-trigger_of c id = trigger_with (number_of (signal_names c.block) id.name) (number_or_zero (number_of (timers_of c.process) id.name))
+trigger_of c id =
+    trigger_with (number_of (signal_names c.block) id.name)
+    (number_or_zero (number_of (timers_of c.process) id.name))
 
 -- the sorts of the parameters of the signal with this number, if it has one
 abbrev pub parameters_by : List DraftSignal → Option ℕ → List Sort

@@ -1,5 +1,5 @@
 pub mod Act
-pub mod Outcomes
 pub mod Code
 pub mod Declarations
 pub mod Named
+pub mod Outcomes

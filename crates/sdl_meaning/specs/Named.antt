@@ -1,5 +1,7 @@
--- Texts all of whose names are declared, whose signals have receivers, and whose questions are answered.
-use Rattle.std.specs.Prelude.{◌≡◌, ℕ, ◌<◌, ◌≤◌, true, false, List, [], ◌∷◌, length, All, Contains, Option, None, Some, IsSome, slice_get}
+-- Texts all of whose names are declared, whose signals have receivers, and whose questions are
+-- answered.
+use Rattle.std.specs.Prelude.{◌≡◌, ℕ, ◌<◌, ◌≤◌, true, false, List, [], ◌∷◌, length, All, Contains}
+use Rattle.std.specs.Prelude.{Option, None, Some, IsSome, slice_get}
 use Rattle.sdl_sound.specs.sdl_ast_types.expression.Identifier.{Identifier}
 use Rattle.sdl_sound.specs.sdl_ast_types.tree.Party as tree_party
 use Rattle.sdl_sound.specs.sdl_ast_types.tree.Destination.{Destination}
@@ -8,10 +10,13 @@ use Rattle.sdl_sound.specs.sdl_ast_types.tree.End.{End}
 use Rattle.sdl_sound.specs.sdl_ast_types.tree.End.TheVariants.{NextState, Stop, Join}
 use Rattle.sdl_sound.specs.sdl_ast_types.tree.Join as tree_join
 use Rattle.sdl_sound.specs.sdl_ast_types.tree.Range.{Range}
-use Rattle.sdl_sound.specs.Plain.{Tree, number, truth, variable, unary, binary, PlainAssignment, PlainSending, PlainAction, task, output, set_timer, reset_timer, Text, falls, ends, does, decides, Choice, nothing_else, otherwise, answer, PlainConnection}
+use Rattle.sdl_sound.specs.Plain.{Tree, number, truth, variable, unary, binary, PlainAssignment}
+use Rattle.sdl_sound.specs.Plain.{PlainSending, PlainAction, task, output, set_timer, reset_timer}
+use Rattle.sdl_sound.specs.Plain.{Text, falls, ends, does, decides, Choice, nothing_else, otherwise}
+use Rattle.sdl_sound.specs.Plain.{answer, PlainConnection}
 use Rattle.turn_code.specs.declared.input.Address.{Address}
 use Rattle.std.specs.List.{flat_map}
-use Rattle.profile_limits.specs.Limits.{MOST_PARAMETERS}
+use Rattle.plain_limits.specs.Limits.{MOST_PARAMETERS}
 use Rattle.sdl_sound.specs.TableNames.{variables_of}
 use Rattle.sdl_sound.specs.Statements.{statements_of, joins_of}
 use Rattle.sdl_sound.specs.Going.{goes_on, choice_goes_on}
@@ -21,7 +26,8 @@ use Rattle.sdl_sound.specs.Joins.{reached}
 use Rattle.sdl_sound.specs.Longest.{Piece}
 use Rattle.sdl_sound.specs.Receivers.{party_of, carries}
 use Rattle.sdl_meaning.specs.Act.{named, to_sender, receiver_of}
-use Rattle.sdl_meaning.specs.Outcomes.{Scope, variable_at, state_at, timer_at, connector_at, signal_at}
+use Rattle.sdl_meaning.specs.Outcomes.{Scope, variable_at, state_at, timer_at, connector_at}
+use Rattle.sdl_meaning.specs.Outcomes.{signal_at}
 
 abbrev pub NamedTree : Scope → Tree → Type 0
 NamedTree c (number at k) = Unit {0}
@@ -36,12 +42,14 @@ NamedTrees c (t ∷ ts) = NamedTree c t × NamedTrees c ts
 
 abbrev pub NamedTasks : Scope → List PlainAssignment → Type 0
 NamedTasks c [] = Unit {0}
-NamedTasks c (a ∷ rest) = NamedTree c a.value × IsSome (variable_at c a.variable) × NamedTasks c rest
+NamedTasks c (a ∷ rest) =
+    NamedTree c a.value × IsSome (variable_at c a.variable) × NamedTasks c rest
 
 -- somebody gets the signal; who sent is known only as the transition runs
 abbrev pub HasReceiver : Scope → Option Destination → Identifier → Type 0
 HasReceiver c None n = IsSome (receiver_of c None None n)
-HasReceiver c (Some (address.Process id)) n = IsSome (receiver_of c None (Some (address.Process id)) n)
+HasReceiver c (Some (address.Process id)) n =
+    IsSome (receiver_of c None (Some (address.Process id)) n)
 HasReceiver c (Some (address.Sender at)) n = Unit {0}
 
 -- a signal that goes out, with as many parameters as a signal may have
@@ -71,7 +79,8 @@ abbrev pub AnswerTo : Scope → Tree → List Range → Type 0
 AnswerTo c q [] = Unit {0}
 AnswerTo c q (r ∷ rs) = (answers_question (variables_of c.process) q r ≡ true) × AnswerTo c q rs
 
--- A DECISION: its question's names, an answer for each value that it may have, and nothing behind it where no body goes on.
+-- A DECISION: its question's names, an answer for each value that it may have, and nothing behind
+-- it where no body goes on.
 pub record NamedDecision (c : Scope) (q : Tree) (choice : Choice) (rest : Text) : Type 0 where
   pub question : NamedTree c q
   pub answered : is_answered (variables_of c.process) q choice ≡ true
@@ -82,7 +91,8 @@ abbrev mutual
   NamedText c falls = Unit {0}
   NamedText c (ends e) = NamedEnd c e
   NamedText c (does a rest) = NamedAction c a × NamedText c rest
-  NamedText c (decides at q choice rest) = NamedDecision c q choice rest × NamedChoice c q choice × NamedText c rest
+  NamedText c (decides at q choice rest) =
+      NamedDecision c q choice rest × NamedChoice c q choice × NamedText c rest
 
   -- the answers to a question, which have its sort
   pub NamedChoice : Scope → Tree → Choice → Type 0
@@ -100,14 +110,23 @@ pub record NamedWhole (c : Scope) (t : Text) : Type 0 where
   pub text : NamedText c t
   pub ended : goes_on t ≡ false
 
--- the connections of a process, no two with one name, and so many steps that each JOIN in one of them leads to one with fewer steps
+-- the connections of a process, no two with one name, and so many steps that each JOIN in one of
+-- them leads to one with fewer steps
 pub record NamedConnections (c : Scope) : Type 0 where
-  pub texts : (n : ℕ) (k : PlainConnection) → slice_get c.process.connections n ≡ Some k → NamedWhole c k.text
-  pub sorted : (n : ℕ) (k : PlainConnection) → slice_get c.process.connections n ≡ Some k → AreSorted c k.text
-  pub numbered : (n : ℕ) (k : PlainConnection) → slice_get c.process.connections n ≡ Some k → connector_at c k.name ≡ Some n
+  pub texts :
+      (n : ℕ) (k : PlainConnection) → slice_get c.process.connections n ≡ Some k
+      → NamedWhole c k.text
+  pub sorted :
+      (n : ℕ) (k : PlainConnection) → slice_get c.process.connections n ≡ Some k
+      → AreSorted c k.text
+  pub numbered :
+      (n : ℕ) (k : PlainConnection) → slice_get c.process.connections n ≡ Some k
+      → connector_at c k.name ≡ Some n
   pub steps : ℕ → ℕ
   pub few : (n : ℕ) → n < length c.process.connections → steps n < length c.process.connections
-  pub fewer : (n m : ℕ) (k : PlainConnection) (j : tree_join.Join) → slice_get c.process.connections n ≡ Some k → Contains (joins_of k.text) j
+  pub fewer :
+      (n m : ℕ) (k : PlainConnection) (j : tree_join.Join)
+      → slice_get c.process.connections n ≡ Some k → Contains (joins_of k.text) j
       → connector_at c j.connector ≡ Some m → steps m < steps n
 
 abbrev pub NamedPlaces : Scope → List (Option Identifier) → Type 0
@@ -125,7 +144,9 @@ pub record NamedPiece (c : Scope) (q : Piece) : Type 0 where
 -- there is a sender, from whom a route carries the signal to this process
 abbrev pub IsBroughtBy : Scope → Identifier → Option Address → Type 0
 IsBroughtBy c n None = ⊥
-IsBroughtBy c n (Some p) = (q : tree_party.Party) × (named c p.party ≡ Some q) × (carries c.block q (party_of c.process) n.name ≡ true)
+IsBroughtBy c n (Some p) =
+    (q : tree_party.Party) × (named c p.party ≡ Some q)
+    × (carries c.block q (party_of c.process) n.name ≡ true)
 
 -- for a signal; a timer's comes from anybody
 abbrev pub IsSentIf : Scope → Identifier → Option ℕ → Option Address → Type 0
@@ -141,7 +162,8 @@ IsSentTo c (Some n) sender = IsSentIf c n (signal_at c n) sender
 abbrev pub AnswerAll : Scope → Option Identifier → List PlainSending → Type 0
 AnswerAll c from [] = Unit {0}
 AnswerAll c from (x ∷ rest) =
-    ((sender : Option Address) → IsSentTo c from sender → IsSome (to_sender c x.signal sender)) × AnswerAll c from rest
+    ((sender : Option Address) → IsSentTo c from sender
+    → IsSome (to_sender c x.signal sender)) × AnswerAll c from rest
 
 abbrev pub AnswersTo : Scope → Option Identifier → Option Destination → List PlainSending → Type 0
 AnswersTo c from None xs = Unit {0}
@@ -160,14 +182,17 @@ abbrev mutual
   AnswersSenders c from falls = Unit {0}
   AnswersSenders c from (ends e) = Unit {0}
   AnswersSenders c from (does a rest) = AnswersAction c from a × AnswersSenders c from rest
-  AnswersSenders c from (decides at q choice rest) = ChoiceAnswers c from choice × AnswersSenders c from rest
+  AnswersSenders c from (decides at q choice rest) =
+      ChoiceAnswers c from choice × AnswersSenders c from rest
 
   pub ChoiceAnswers : Scope → Option Identifier → Choice → Type 0
   ChoiceAnswers c from nothing_else = Unit {0}
   ChoiceAnswers c from (otherwise body) = AnswersSenders c from body
-  ChoiceAnswers c from (answer at rs body others) = AnswersSenders c from body × ChoiceAnswers c from others
+  ChoiceAnswers c from (answer at rs body others) =
+      AnswersSenders c from body × ChoiceAnswers c from others
 
 -- the same for a transition, with the connections to which it comes
 pub record AnswersAll (c : Scope) (from : Option Identifier) (t : Text) : Type 0 where
   pub text : AnswersSenders c from t
-  pub connections : All (λ (k : PlainConnection). AnswersSenders c from k.text) (reached c.process t)
+  pub connections :
+      All (λ (k : PlainConnection). AnswersSenders c from k.text) (reached c.process t)

@@ -3,7 +3,8 @@ use Rattle.std.specs.Prelude.{◌≡◌, ℕ, ◌+◌, Bool, true, false, List, 
 use Rattle.std.specs.Option.{option_map_or}
 use Rattle.sdl_ast.specs.Plain.{Text, Choice, PlainProcess}
 use Rattle.sdl_tables.specs.Names.{number_of, connector_names, Variable, variables_of}
-use Rattle.sdl_sound.specs.Longest.{budget, case_budget, pick_budget, depth, choice_depth, effects, choice_effects, size, bodies_size, tests_size}
+use Rattle.sdl_sound.specs.Longest.{budget, case_budget, pick_budget, depth, choice_depth, effects}
+use Rattle.sdl_sound.specs.Longest.{choice_effects, size, bodies_size, tests_size}
 use Rattle.sdl_sound.specs.Going.{goes_on, choice_goes_on}
 use Rattle.sdl_measures.specs.Measures.{capped}
 use Rattle.sdl_measures.specs.declared.measures.Measure.{Measure}
@@ -11,7 +12,8 @@ use Rattle.sdl_measures.specs.declared.measures.Measure.{Measure}
 abbrev pub no_measure : Measure
 no_measure = record { budget = 0; depth = 0; effects = 0; size = 0; goes_on = false }
 
--- that of the connection with a number, and that of the one with a name; nothing where there is none
+-- that of the connection with a number, and that of the one with a name; nothing where there is
+-- none
 abbrev pub measure_at : List Measure → ℕ → Measure
 measure_at ms n = option_map_or (λ m. m) (slice_get ms n) no_measure
 
@@ -35,7 +37,8 @@ pub record IsBehind (k e : ℕ) (m : Measure) : Type 0 where
   pub effects : m.effects ≡ capped e
 
 -- the counts of a text that it follows, where these are the measures of connections
-pub record IsMeasured (p : PlainProcess) (ms : List Measure) (t : Text) (k e : ℕ) (m : Measure) : Type 0 where
+pub record IsMeasured (p : PlainProcess) (ms : List Measure) (t : Text) (k e : ℕ) (m : Measure) :
+    Type 0 where
   pub budget : m.budget ≡ capped (budget (variables_of p) (budget_named p ms) t k)
   pub depth : m.depth ≡ capped (depth (depth_named p ms) t)
   pub effects : m.effects ≡ capped (effects (effects_named p ms) t e)
@@ -53,7 +56,8 @@ answers_tests true c = 0
 answers_tests false c = tests_size c
 
 -- the counts of the answers
-pub record AreMeasured (p : PlainProcess) (ms : List Measure) (truth : Bool) (c : Choice) (k e : ℕ) (m : Measure) : Type 0 where
+pub record AreMeasured (p : PlainProcess) (ms : List Measure) (truth : Bool) (c : Choice) (k e : ℕ)
+    (m : Measure) : Type 0 where
   pub budget : m.budget ≡ capped (answers_budget truth (variables_of p) (budget_named p ms) c k)
   pub depth : m.depth ≡ capped (choice_depth (depth_named p ms) c)
   pub effects : m.effects ≡ capped (choice_effects (effects_named p ms) c e)

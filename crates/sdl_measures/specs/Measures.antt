@@ -12,8 +12,8 @@ use Rattle.sdl_measures.specs.declared.measures.Measure.{Measure}
 abbrev pub capped : ℕ → ℕ
 capped n = min n 4294967295
 
--- What a JOIN to the connection goes on with (the greatest cost and depth and the most effects of a walk), the size of
--- the connection's own text, and whether that may run off its end.
+-- What a JOIN to the connection goes on with (the greatest cost and depth and the most effects of a
+-- walk), the size of the connection's own text, and whether that may run off its end.
 pub record IsMeasureOf (p : PlainProcess) (c : PlainConnection) (m : Measure) : Type 0 where
   pub budget : m.budget ≡ capped (joined (λ vs join text. budget vs join text 0) p c.name.name)
   pub depth : m.depth ≡ capped (joined (λ vs. depth) p c.name.name)

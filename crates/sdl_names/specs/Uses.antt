@@ -1,7 +1,8 @@
 -- What the names in transitions stand for, as it is kept.
 use Rattle.std.specs.Prelude.{◌≡◌, ℕ, List, Option, None, Some, IfSome, slice_get}
 use Rattle.turn_code.specs.declared.input.Party.{Party}
-use Rattle.sdl_tables.specs.Names.{number_of, connector_names, variable_names, signal_names, process_names}
+use Rattle.sdl_tables.specs.Names.{number_of, connector_names, variable_names, signal_names}
+use Rattle.sdl_tables.specs.Names.{process_names}
 use Rattle.sdl_sound.specs.Receivers.{party_of, receivers}
 use Rattle.sdl_meaning.specs.Act.{the_one}
 use Rattle.sdl_meaning.specs.Outcomes.{Scope}
@@ -31,10 +32,12 @@ kept_party (Variable n) = None
 kept_party (Process n) = None
 kept_party (Signal n to) = to
 
--- a name has the number that is kept; of a signal, who alone gets it where it goes to nobody in particular
+-- a name has the number that is kept; of a signal, who alone gets it where it goes to nobody in
+-- particular
 abbrev pub IsUse : Scope → List ℕ → Meant → Type 0
 IsUse c x m =
-    (number_as c x m ≡ Some (kept_number m)) × IfSome (kept_party m) (λ q. the_one c (receivers c.block (party_of c.process) x) ≡ Some q)
+    (number_as c x m ≡ Some (kept_number m))
+    × IfSome (kept_party m) (λ q. the_one c (receivers c.block (party_of c.process) x) ≡ Some q)
 
 -- each name that is kept, with what it stands for
 abbrev pub AreUses : Scope → List (Option Use) → Type 0

@@ -14,7 +14,7 @@ use sdl_ast::{
     StateClause, Statement, Transition,
 };
 use sdl_lex::MAX_TEXT;
-use sdl_senders::{Recipients, find_receivers};
+use sdl_scopes::{Recipients, find_receivers};
 use std::alloc::{AllocError, Global};
 use turn_code::{Party, ProcessNumber, SignalNumber, VariableNumber};
 

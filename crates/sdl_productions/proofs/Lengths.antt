@@ -3,14 +3,14 @@ use Rattle.std.specs.Prelude.{ℕ, suc, zero, ◌≤◌, List, [], ◌∷◌, Op
 use Rattle.sdl_lex.specs.declared.lexemes.Word.TheVariants as words
 use Rattle.sdl_lex.specs.declared.lexemes.Symbol.TheVariants.{Semicolon, Comma, Assign, Open, Close, Plus, Minus, Colon}
 use Rattle.sdl_ast.specs.Plain.{Tree, PlainHead}
-use Rattle.sdl_bodies.specs.Bodies.{Keeping, whole_texts, Branching, Body, Reached, Move, reaches, closes, with_answer}
-use Rattle.sdl_tokens.specs.Tokens.{a_word, a_symbol, a_number, a_name, a_sort, a_party, a_constant, a_count, the_number, a_closing, a_quoted, a_destination, a_declaration, a_clause, an_action, an_end, a_choice, a_relation, a_section}
-use Rattle.sdl_expressions.specs.Machine.{low_trees, expression_at}
-use Rattle.sdl_tokens.specs.Readings.{At, optional, token, Shortens, NeverLonger}
+use Rattle.sdl_productions.specs.Bodies.{Keeping, whole_texts, Branching, Body, Reached, Move, reaches, closes, with_answer}
+use Rattle.sdl_productions.specs.Tokens.{a_word, a_symbol, a_number, a_name, a_sort, a_party, a_constant, a_count, the_number, a_closing, a_quoted, a_destination, a_declaration, a_clause, an_action, an_end, a_choice, a_relation, a_section}
+use Rattle.sdl_productions.specs.Machine.{low_trees, expression_at}
+use Rattle.sdl_productions.specs.Readings.{At, optional, token, Shortens, NeverLonger}
 use Rattle.sdl_productions.specs.Productions.{place_at, stimulus_at, assignment_at, assigned_at, quoted_at, item_at, task_at, sending_at, destination_at, output_at, delay_at, set_at, reset_at, action_at, next_state_at, stop_at, end_at, head_step, closing_step, answer_step, body_step, behind_step, end_step, decision_step, action_step, step_at, after_move, steps_for, steps_from, at_first, text_at, input_at, save_at, clause_at, closing_at, end_state_at, state_at, start_at, second_number_at, instances_at, process_head_at, process_at, entity_at, compared_at, upper_at, value_at, range_at, answer_head_at, else_head_at, some_head_at, no_head_at, head_at, question_at, end_decision_at, join_at, end_connection_at, connection_at, state_section_at, connection_section_at, section_at}
 use Rattle.sdl_productions.specs.DeclarationProductions.{comment_at, signal_at, signals_at, path_at, route_at, connect_at, negative_at, constant_at, initial_at, group_at, variables_at, timers_at, declaration_at, terminator_at}
-use Rattle.sdl_tokens.proofs.Rests.{not_read, less_never_longer, shortens_token, keeps_give, keeps_token, ◌>>=◌, first_takes, keeps_choice, takes_choice, keeps_optional, keeps_many, keeps_separated_from, keeps_separated, keeps_list}
-use Rattle.sdl_expressions.proofs.Rests.{expression_keeps, low_keeps}
+use Rattle.sdl_productions.proofs.TokenRests.{not_read, less_never_longer, shortens_token, keeps_give, keeps_token, ◌>>=◌, first_takes, keeps_choice, takes_choice, keeps_optional, keeps_many, keeps_separated_from, keeps_separated, keeps_list}
+use Rattle.sdl_productions.proofs.Rests.{expression_keeps, low_keeps}
 
 pub name_keeps : NeverLonger (token a_name)
 name_keeps = keeps_token a_name

@@ -1,2 +1,12 @@
+pub mod Decides
+pub mod KeptLemmas
 pub mod Lengths
+pub mod Lowering
+pub mod MachineLemmas
+pub mod MarkLemmas
 pub mod MarkedLengths
+pub mod Rests
+pub mod RowLemmas
+pub mod Rows
+pub mod SoundLemmas
+pub mod TokenRests

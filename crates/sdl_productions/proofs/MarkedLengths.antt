@@ -1,10 +1,10 @@
 -- No marked reading gives more tokens back than it got.
 use Rattle.sdl_lex.specs.declared.lexemes.Word.TheVariants as words
 use Rattle.sdl_lex.specs.declared.lexemes.Symbol.TheVariants.{Colon}
-use Rattle.sdl_tokens.specs.Tokens.{a_word, a_symbol, a_clause, a_section}
-use Rattle.sdl_tokens.specs.Readings.{At, Shortens, NeverLonger}
-use Rattle.sdl_tokens.proofs.Rests.{less_never_longer, shortens_token, keeps_give, keeps_token, ◌>>=◌, first_takes, takes_choice, keeps_optional, keeps_many, keeps_separated_from, keeps_separated}
-use Rattle.sdl_bodies.specs.Bodies.{marked_texts}
+use Rattle.sdl_productions.specs.Tokens.{a_word, a_symbol, a_clause, a_section}
+use Rattle.sdl_productions.specs.Readings.{At, Shortens, NeverLonger}
+use Rattle.sdl_productions.proofs.TokenRests.{less_never_longer, shortens_token, keeps_give, keeps_token, ◌>>=◌, first_takes, takes_choice, keeps_optional, keeps_many, keeps_separated_from, keeps_separated}
+use Rattle.sdl_productions.specs.Bodies.{marked_texts}
 use Rattle.sdl_productions.specs.MarkedParts.{kept_at, marked_input, marked_clause, marked_state, marked_connection, marked_section, marked_start, marked_process, marked_entity}
 use Rattle.sdl_productions.proofs.Lengths.{name_keeps, terminator_keeps, signals_takes, route_takes, connect_takes, declaration_keeps, stimulus_keeps, text_keeps, save_takes, closing_keeps, end_state_keeps, end_connection_keeps, process_head_takes}
 

@@ -1,3 +1,14 @@
-pub mod Productions
+pub mod Bodies
+pub mod BodyViews
 pub mod DeclarationProductions
+pub mod Expressions
+pub mod Grammar
+pub mod Machine
 pub mod MarkedParts
+pub mod Marks
+pub mod Mirrors
+pub mod Parts
+pub mod Productions
+pub mod Readings
+pub mod Stacks
+pub mod Tokens

@@ -1,15 +1,21 @@
--- The productions above transitions as the code reads them: each with the mark of what is too high in it.
+-- The productions above transitions as the code reads them: each with the mark of what is too high
+-- in it.
 use Rattle.std.specs.Prelude.{Option, Some, None}
 use Rattle.std.specs.List.{filter_map}
 use Rattle.sdl_lex.specs.declared.lexemes.Word.TheVariants as words
 use Rattle.sdl_lex.specs.declared.lexemes.Symbol.TheVariants.{Colon}
-use Rattle.sdl_ast.specs.Plain.{PlainClause, input, PlainState, PlainConnection, PlainStart, PlainEntity, process, PlainBlock}
-use Rattle.sdl_tokens.specs.Tokens.{a_word, a_symbol, a_name, an_entity, a_declaration, a_clause, a_section}
-use Rattle.sdl_tokens.specs.Readings.{At, give, token, ◌>>=◌, many, choice, optional, separated_from, separated}
-use Rattle.sdl_bodies.specs.Bodies.{marked_texts}
-use Rattle.sdl_bodies.specs.Marks.{Marked, kept, map_marked, gathered, process_marked}
-use Rattle.sdl_productions.specs.Productions.{stimulus_at, text_at, save_at, closing_at, end_state_at, end_connection_at, process_head_at}
-use Rattle.sdl_productions.specs.DeclarationProductions.{terminator_at, signals_at, route_at, connect_at, declaration_at}
+use Rattle.sdl_ast.specs.Plain.{PlainClause, input, PlainState, PlainConnection, PlainStart}
+use Rattle.sdl_ast.specs.Plain.{PlainEntity, process, PlainBlock}
+use Rattle.sdl_productions.specs.Tokens.{a_word, a_symbol, a_name, an_entity, a_declaration}
+use Rattle.sdl_productions.specs.Tokens.{a_clause, a_section}
+use Rattle.sdl_productions.specs.Readings.{At, give, token, ◌>>=◌, many, choice, optional}
+use Rattle.sdl_productions.specs.Readings.{separated_from, separated}
+use Rattle.sdl_productions.specs.Bodies.{marked_texts}
+use Rattle.sdl_productions.specs.Marks.{Marked, kept, map_marked, gathered, process_marked}
+use Rattle.sdl_productions.specs.Productions.{stimulus_at, text_at, save_at, closing_at}
+use Rattle.sdl_productions.specs.Productions.{end_state_at, end_connection_at, process_head_at}
+use Rattle.sdl_productions.specs.DeclarationProductions.{terminator_at, signals_at, route_at}
+use Rattle.sdl_productions.specs.DeclarationProductions.{connect_at, declaration_at}
 
 -- what has no transition in it is never marked
 abbrev pub kept_at : {A : Type 0} → At A → At (Marked A)
@@ -59,7 +65,9 @@ marked_connection_in (a_state s) = None
 marked_connection_in (a_connection c) = Some c
 
 unfoldable pub marked_section : At MarkedSection
-marked_section = choice (a_word words.State) (marked_state >>= λ s. give (a_state s)) (marked_connection >>= λ c. give (a_connection c))
+marked_section =
+    choice (a_word words.State) (marked_state >>= λ s. give (a_state s))
+    (marked_connection >>= λ c. give (a_connection c))
 
 unfoldable pub marked_start : At (Marked PlainStart)
 marked_start = do
@@ -76,10 +84,15 @@ marked_process = do
   sections ← many a_section marked_section
   _ ← token (a_word words.EndProcess)
   _ ← closing_at head.name.name
-  give (map_marked (λ p. process p) (process_marked head declarations start (gathered (filter_map marked_state_in sections)) (gathered (filter_map marked_connection_in sections))))
+  give (map_marked (λ p. process p)
+      (process_marked head declarations start (gathered (filter_map marked_state_in sections))
+      (gathered (filter_map marked_connection_in sections))))
 
 unfoldable pub marked_entity : At (Marked PlainEntity)
-marked_entity = choice (a_word words.Signal) (kept_at signals_at) (choice (a_word words.SignalRoute) (kept_at route_at) (choice (a_word words.Connect) (kept_at connect_at) marked_process))
+marked_entity =
+    choice (a_word words.Signal) (kept_at signals_at)
+    (choice (a_word words.SignalRoute) (kept_at route_at)
+    (choice (a_word words.Connect) (kept_at connect_at) marked_process))
 
 unfoldable pub marked_block : At (Marked PlainBlock)
 marked_block = do

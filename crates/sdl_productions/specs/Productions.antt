@@ -1,9 +1,10 @@
--- The productions read token by token, in one step each. `e` reads an expression, `k` says how a transition is kept.
--- tools/productions writes them from Syntax, but for the steps of a transition.
+-- The productions read token by token, in one step each. `e` reads an expression, `k` says how a
+-- transition is kept. tools/productions writes them from Syntax, but for the steps of a transition.
 use Rattle.std.specs.Prelude.{ℕ, suc, zero, List, [], ◌∷◌, length, Option, Some, None}
 use Rattle.std.specs.List.{filter_map}
 use Rattle.sdl_lex.specs.declared.lexemes.Word.TheVariants as words
-use Rattle.sdl_lex.specs.declared.lexemes.Symbol.TheVariants.{Comma, Assign, Open, Close, Plus, Colon}
+use Rattle.sdl_lex.specs.declared.lexemes.Symbol.TheVariants.{Comma, Assign, Open, Close, Plus}
+use Rattle.sdl_lex.specs.declared.lexemes.Symbol.TheVariants.{Colon}
 use Rattle.sdl_ast.specs.declared.expression.Identifier.{Identifier}
 use Rattle.sdl_ast.specs.declared.tree.Constant.{Constant}
 use Rattle.sdl_ast.specs.declared.tree.Destination.{Destination}
@@ -11,12 +12,24 @@ use Rattle.sdl_ast.specs.declared.tree.End.{End}
 use Rattle.sdl_ast.specs.declared.tree.End.TheVariants.{NextState, Stop, Join}
 use Rattle.sdl_ast.specs.declared.tree.Range.{Range}
 use Rattle.sdl_ast.specs.declared.tree.Range.TheVariants.{Compared}
-use Rattle.sdl_ast.specs.Plain.{Tree, PlainAssignment, PlainSending, PlainAction, task, output, set_timer, reset_timer, PlainQuestion, PlainHead, PlainStimulus, PlainClause, input, save, PlainState, PlainStart, PlainEntity, process, PlainBlock, PlainConnection, PlainSection, in_state, in_connection, PlainProcessHead, process_head, process_from, from_to}
-use Rattle.sdl_tokens.specs.Tokens.{a_word, a_symbol, a_number, a_name, a_count, the_number, a_closing, a_quoted, a_destination, an_entity, a_declaration, a_clause, an_action, an_end, a_choice, a_relation, a_section}
-use Rattle.sdl_expressions.specs.Machine.{expression_at}
-use Rattle.sdl_bodies.specs.Bodies.{Keeping, whole_texts, Branching, Body, Reached, Move, reaches, closes, with_answer}
-use Rattle.sdl_tokens.specs.Readings.{At, fails, give, token, ◌>>=◌, many, choice, optional, separated_from, separated, list_in_parentheses}
-use Rattle.sdl_productions.specs.DeclarationProductions.{names_at, terminator_at, signals_at, route_at, connect_at, constant_at, declaration_at}
+use Rattle.sdl_ast.specs.Plain.{Tree, PlainAssignment, PlainSending, PlainAction, task, output}
+use Rattle.sdl_ast.specs.Plain.{set_timer, reset_timer, PlainQuestion, PlainHead, PlainStimulus}
+use Rattle.sdl_ast.specs.Plain.{PlainClause, input, save, PlainState, PlainStart, PlainEntity}
+use Rattle.sdl_ast.specs.Plain.{process, PlainBlock, PlainConnection, PlainSection, in_state}
+use Rattle.sdl_ast.specs.Plain.{in_connection, PlainProcessHead, process_head, process_from}
+use Rattle.sdl_ast.specs.Plain.{from_to}
+use Rattle.sdl_productions.specs.Tokens.{a_word, a_symbol, a_number, a_name, a_count, the_number}
+use Rattle.sdl_productions.specs.Tokens.{a_closing, a_quoted, a_destination, an_entity}
+use Rattle.sdl_productions.specs.Tokens.{a_declaration, a_clause, an_action, an_end, a_choice}
+use Rattle.sdl_productions.specs.Tokens.{a_relation, a_section}
+use Rattle.sdl_productions.specs.Machine.{expression_at}
+use Rattle.sdl_productions.specs.Bodies.{Keeping, whole_texts, Branching, Body, Reached, Move}
+use Rattle.sdl_productions.specs.Bodies.{reaches, closes, with_answer}
+use Rattle.sdl_productions.specs.Readings.{At, fails, give, token, ◌>>=◌, many, choice, optional}
+use Rattle.sdl_productions.specs.Readings.{separated_from, separated, list_in_parentheses}
+use Rattle.sdl_productions.specs.DeclarationProductions.{names_at, terminator_at, signals_at}
+use Rattle.sdl_productions.specs.DeclarationProductions.{route_at, connect_at, constant_at}
+use Rattle.sdl_productions.specs.DeclarationProductions.{declaration_at}
 
 unfoldable pub place_at : At (Option Identifier)
 place_at = optional a_name (token a_name)
@@ -101,7 +114,9 @@ reset_at = do
   give (reset_timer at timer)
 
 unfoldable pub action_at : At Tree → At PlainAction
-action_at e = choice (a_word words.Task) (task_at e) (choice (a_word words.Output) (output_at e) (choice (a_word words.Set) (set_at e) reset_at))
+action_at e =
+    choice (a_word words.Task) (task_at e)
+    (choice (a_word words.Output) (output_at e) (choice (a_word words.Set) (set_at e) reset_at))
 
 unfoldable pub compared_at : At Range
 compared_at = do
@@ -186,32 +201,40 @@ join_at = do
 unfoldable pub end_at : At End
 end_at = choice (a_word words.NextState) next_state_at (choice (a_word words.Stop) stop_at join_at)
 
--- Bodies of a DECISION stand in each other as deep as the text goes, so a transition is read in steps, each
--- of one action, of a question with the first head, or of an end with the head or ENDDECISION behind it.
+-- Bodies of a DECISION stand in each other as deep as the text goes, so a transition is read in
+-- steps, each of one action, of a question with the first head, or of an end with the head or
+-- ENDDECISION behind it.
 
 -- the head of an answer or ELSE: its body is read next
-unfoldable pub head_step : {S A C T : Type 0} → Keeping S A C T → List (Body S A) → Branching S A → At (Move S A T)
+unfoldable pub head_step :
+    {S A C T : Type 0} → Keeping S A C T → List (Body S A) → Branching S A → At (Move S A T)
 head_step k outer d = do
   head ← head_at
-  give (reaches (record { outer = record { branching = d; head = head } ∷ outer; here = k.no_statement }))
+  give (reaches
+      (record { outer = record { branching = d; head = head } ∷ outer; here = k.no_statement }))
 
 -- ENDDECISION: what stands behind it is read next
-unfoldable pub closing_step : {S A C T : Type 0} → Keeping S A C T → List (Body S A) → Branching S A → C → At (Move S A T)
+unfoldable pub closing_step :
+    {S A C T : Type 0} → Keeping S A C T → List (Body S A) → Branching S A → C → At (Move S A T)
 closing_step k outer d others = do
   _ ← end_decision_at
   give (reaches (record { outer = outer; here = k.decides d.before d.asked d.answers others }))
 
 -- behind the body of an answer: another head, or ENDDECISION
-unfoldable pub answer_step : {S A C T : Type 0} → Keeping S A C T → List (Body S A) → Branching S A → At (Move S A T)
+unfoldable pub answer_step :
+    {S A C T : Type 0} → Keeping S A C T → List (Body S A) → Branching S A → At (Move S A T)
 answer_step k outer d = choice a_choice (head_step k outer d) (closing_step k outer d k.no_else)
 
 -- behind a body; nothing but ENDDECISION stands behind that of ELSE
-abbrev pub body_step : {S A C T : Type 0} → Keeping S A C T → List (Body S A) → Branching S A → Option PlainHead → T → At (Move S A T)
+abbrev pub body_step :
+    {S A C T : Type 0} → Keeping S A C T → List (Body S A) → Branching S A → Option PlainHead → T
+    → At (Move S A T)
 body_step k outer d (Some h) text = answer_step k outer (with_answer k d h text)
 body_step k outer d None text = closing_step k outer d (k.with_else text)
 
 -- behind a transition
-abbrev pub behind_step : {S A C T : Type 0} → Keeping S A C T → List (Body S A) → T → At (Move S A T)
+abbrev pub behind_step :
+    {S A C T : Type 0} → Keeping S A C T → List (Body S A) → T → At (Move S A T)
 behind_step k [] text = give (closes text)
 behind_step k (body ∷ outer) text = body_step k outer body.branching body.head text
 
@@ -231,7 +254,9 @@ action_step k s = do
   give (reaches (record { outer = s.outer; here = k.acts s.here action }))
 
 unfoldable pub step_at : {S A C T : Type 0} → Keeping S A C T → Reached S A → At (Move S A T)
-step_at k s = choice an_action (action_step k s) (choice (a_word words.Decision) (decision_step k s) (end_step k s))
+step_at k s =
+    choice an_action (action_step k s)
+    (choice (a_word words.Decision) (decision_step k s) (end_step k s))
 
 abbrev pub after_move : {S A T : Type 0} → (Reached S A → At T) → Move S A T → At T
 after_move go_on (reaches s) = go_on s
@@ -357,7 +382,10 @@ process_at = do
   give (process (process_from head declarations start sections))
 
 unfoldable pub entity_at : At PlainEntity
-entity_at = choice (a_word words.Signal) signals_at (choice (a_word words.SignalRoute) route_at (choice (a_word words.Connect) connect_at process_at))
+entity_at =
+    choice (a_word words.Signal) signals_at
+    (choice (a_word words.SignalRoute) route_at
+    (choice (a_word words.Connect) connect_at process_at))
 
 unfoldable pub block_at : At PlainBlock
 block_at = do

@@ -1,3 +1,31 @@
-//! The productions of process texts as they are read token by token: what each reading is, and that none gives more tokens back than it
-//! got. Definitions and laws alone; `sdl_readers` has the code.
+//! Single tokens and expressions as they are read, what is kept of a transition while it is read, and what each production is as a
+//! reading of tokens. `sdl_readers` reads the productions.
 #![tactic(auto)]
+
+mod bodies;
+mod comparison;
+mod frames;
+mod kinds;
+mod level;
+mod marked;
+mod operands;
+mod operators;
+mod part;
+mod signs;
+mod starts;
+mod stop;
+mod tokens;
+
+pub use bodies::{
+    Body, Branching, Head, Move, Question, Reached, closed, ended, limited_action, with_answer,
+    with_else,
+};
+pub use kinds::{
+    AnyConstant, AnyCount, AnyDestination, AnyName, AnyNumber, AnyParty, AnyQuoted, AnyRelation,
+    AnySort, Closing, ThatNumber,
+};
+pub use marked::{Marked, gathered, more};
+pub use operands::expression;
+pub use starts::{AnyAction, AnyChoice, AnyClause, AnyDeclaration, AnyEnd, AnyEntity, AnySection};
+pub use stop::{Stop, push};
+pub use tokens::{stands_next, take};

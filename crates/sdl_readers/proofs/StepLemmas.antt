@@ -2,13 +2,13 @@
 use Rattle.std.proofs.Common.{◌≡◌, ℕ, suc, zero, ◌<◌, ◌≤◌, Bool, true, false, List, [], ◌∷◌, ◌++◌, Option, length, refl, sym, ap, ◌∙◌, append_assoc, arith}
 use Rattle.sdl_lex.specs.declared.lexemes.Token.{Token}
 use Rattle.sdl_lex.specs.declared.lexemes.Word.TheVariants as words
-use Rattle.sdl_bodies.specs.Bodies.{Keeping, Body, Reached, Move, reaches, closes}
-use Rattle.sdl_tokens.specs.Tokens.{begins, a_word, an_action, an_end}
-use Rattle.sdl_tokens.specs.Readings.{Reading, read, fails, At, then_read, either, choice, optional, Shortens, NeverLonger}
-use Rattle.sdl_tokens.specs.Readings as reading
+use Rattle.sdl_productions.specs.Bodies.{Keeping, Body, Reached, Move, reaches, closes}
+use Rattle.sdl_productions.specs.Tokens.{begins, a_word, an_action, an_end}
+use Rattle.sdl_productions.specs.Readings.{Reading, read, fails, At, then_read, either, choice, optional, Shortens, NeverLonger}
+use Rattle.sdl_productions.specs.Readings as reading
 use Rattle.sdl_productions.specs.Productions.{end_at, behind_step, end_step, decision_step, action_step, step_at, after_move, steps_for, steps_from}
 use Rattle.sdl_productions.proofs.Lengths.{last_keeps, body_step_takes, decision_step_takes, action_step_takes}
-use Rattle.sdl_tokens.proofs.Decides.{first, rest_of, with_rest, Seen, first-append}
+use Rattle.sdl_productions.proofs.Decides.{first, rest_of, with_rest, Seen, first-append}
 
 -- a step that doesn't end the transition takes a token
 

@@ -2,18 +2,18 @@
 use Rattle.std.proofs.Common.{◌≡◌, ◌<◌, List, length, ap, ◌∙◌}
 use Rattle.sdl_lex.specs.declared.lexemes.Token.{Token}
 use Rattle.sdl_ast.specs.declared.tree.Transition.{Transition}
-use Rattle.sdl_bodies.specs.declared.bodies.Reached as the_reached
-use Rattle.sdl_bodies.specs.declared.bodies.Move as the_move
-use Rattle.sdl_bodies.specs.declared.bodies.Move.TheVariants as moves
-use Rattle.sdl_tokens.specs.declared.stop.Stop.{Stop}
-use Rattle.sdl_tokens.specs.declared.stop.Stop.TheVariants.{Unexpected, NoMemory}
+use Rattle.sdl_productions.specs.declared.bodies.Reached as the_reached
+use Rattle.sdl_productions.specs.declared.bodies.Move as the_move
+use Rattle.sdl_productions.specs.declared.bodies.Move.TheVariants as moves
+use Rattle.sdl_productions.specs.declared.stop.Stop.{Stop}
+use Rattle.sdl_productions.specs.declared.stop.Stop.TheVariants.{Unexpected, NoMemory}
 use Rattle.sdl_ast.specs.Plain.{Text}
-use Rattle.sdl_bodies.specs.declared.marked.Marked as the_marked
-use Rattle.sdl_bodies.specs.Bodies.{MarkedReached, marked_texts}
-use Rattle.sdl_bodies.specs.Marks.{Marked}
-use Rattle.sdl_bodies.specs.BodyViews.{marked_view, reached_view, move_view}
-use Rattle.sdl_tokens.specs.Mirrors.{Stops}
-use Rattle.sdl_tokens.specs.Readings.{Reading, read}
+use Rattle.sdl_productions.specs.declared.marked.Marked as the_marked
+use Rattle.sdl_productions.specs.Bodies.{MarkedReached, marked_texts}
+use Rattle.sdl_productions.specs.Marks.{Marked}
+use Rattle.sdl_productions.specs.BodyViews.{marked_view, reached_view, move_view}
+use Rattle.sdl_productions.specs.Mirrors.{Stops}
+use Rattle.sdl_productions.specs.Readings.{Reading, read}
 use Rattle.sdl_productions.specs.Productions.{step_at, steps_from}
 use Rattle.sdl_ast.specs.Views.{text_of}
 use Rattle.sdl_readers.proofs.StepLemmas.{step_shortens, from_reaches, from_closes, from_fails}

@@ -1,7 +1,7 @@
 -- The head of a process, and a part of its body, as the code keeps them.
 use Rattle.sdl_ast.specs.Plain.{PlainProcessHead}
 use Rattle.sdl_ast.specs.Views.{state_of, connection_of}
-use Rattle.sdl_bodies.specs.BodyViews.{marked_view}
+use Rattle.sdl_productions.specs.BodyViews.{marked_view}
 use Rattle.sdl_productions.specs.MarkedParts.{MarkedSection, a_state, a_connection}
 use Rattle.sdl_readers.specs.declared.blocks.ProcessHead.{ProcessHead}
 use Rattle.sdl_readers.specs.declared.transitions.Section as the_section

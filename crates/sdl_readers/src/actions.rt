@@ -3,14 +3,14 @@ ghost use Rattle.std.specs.Prelude.{◌≡◌, ◌++◌, map, Option, OnOk, IfOk
 ghost use Rattle.std.specs.List.{filter_map};
 ghost use Rattle.std.specs.Option.{option_map, option_to_list};
 ghost use Rattle.sdl_lex.specs.declared.lexemes.Word.TheVariants as words;
-ghost use Rattle.sdl_tokens.specs.Readings.{optional};
-ghost use Rattle.sdl_expressions.specs.Machine.{low_trees, expression_at};
+ghost use Rattle.sdl_productions.specs.Readings.{optional};
+ghost use Rattle.sdl_productions.specs.Machine.{low_trees, expression_at};
 ghost use Rattle.sdl_productions.specs.Productions.{assignment_at, item_at, task_at, sending_at, destination_at, output_at, delay_at, set_at, reset_at, action_at};
-ghost use Rattle.sdl_tokens.specs.Tokens.{a_word, an_action};
+ghost use Rattle.sdl_productions.specs.Tokens.{a_word, an_action};
 ghost use Rattle.sdl_ast.specs.Plain.{Tree, PlainAssignment, PlainSending, PlainAction};
 ghost use Rattle.sdl_ast.specs.Views.{tree_of, assignment_of, sending_of, action_of};
-ghost use Rattle.sdl_tokens.specs.Mirrors.{Mirrors, same};
-ghost use Rattle.sdl_expressions.proofs.Rests.{low_keeps};
+ghost use Rattle.sdl_productions.specs.Mirrors.{Mirrors, same};
+ghost use Rattle.sdl_productions.proofs.Rests.{low_keeps};
 ghost use Rattle.sdl_productions.proofs.Lengths.{low_item_keeps, low_sending_keeps, low_action_takes, low_action_keeps};
 
 use crate::attempt::attempt;
@@ -19,9 +19,10 @@ use crate::production::{Listed, Production, read_in_parentheses, read_separated}
 use sdl_ast::{
     Action, Assignment, Destination, Expression, Output, ResetTimer, Sending, SetTimer, Task,
 };
-use sdl_expressions::expression;
 use sdl_lex::{Symbol, Token, Word};
-use sdl_tokens::{AnyAction, AnyDestination, AnyName, AnyQuoted, Stop, push, stands_next, take};
+use sdl_productions::{
+    AnyAction, AnyDestination, AnyName, AnyQuoted, Stop, expression, push, stands_next, take,
+};
 use std::alloc::Global;
 
 /// Reads `name := expression`.

@@ -2,12 +2,12 @@
 ghost use Rattle.std.specs.Prelude.{◌≡◌, Option};
 ghost use Rattle.std.specs.Option.{option_map};
 ghost use Rattle.sdl_lex.specs.declared.lexemes.Symbol.TheVariants as symbols;
-ghost use Rattle.sdl_tokens.specs.Readings.{optional};
-ghost use Rattle.sdl_expressions.specs.Machine.{low_trees, expression_at};
+ghost use Rattle.sdl_productions.specs.Readings.{optional};
+ghost use Rattle.sdl_productions.specs.Machine.{low_trees, expression_at};
 ghost use Rattle.sdl_productions.specs.Productions.{compared_at, upper_at, value_at, range_at, answer_head_at, else_head_at, head_at, question_at, end_decision_at};
-ghost use Rattle.sdl_tokens.specs.Tokens.{a_symbol};
-ghost use Rattle.sdl_bodies.specs.BodyViews.{head_of, question_of};
-ghost use Rattle.sdl_tokens.specs.Mirrors.{Mirrors, same};
+ghost use Rattle.sdl_productions.specs.Tokens.{a_symbol};
+ghost use Rattle.sdl_productions.specs.BodyViews.{head_of, question_of};
+ghost use Rattle.sdl_productions.specs.Mirrors.{Mirrors, same};
 ghost use Rattle.sdl_productions.proofs.Lengths.{range_keeps};
 
 use crate::attempt::attempt;
@@ -15,10 +15,8 @@ use crate::declarations::read_constant;
 use crate::endings::terminator;
 use crate::production::{Production, read_separated};
 use sdl_ast::{Constant, Range};
-use sdl_bodies::{Head, Question};
-use sdl_expressions::expression;
 use sdl_lex::{Symbol, Token, Word};
-use sdl_tokens::{AnyRelation, Stop, stands_next, take};
+use sdl_productions::{AnyRelation, Head, Question, Stop, expression, stands_next, take};
 use std::alloc::Global;
 
 /// Reads a relation and a constant.

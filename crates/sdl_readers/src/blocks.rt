@@ -1,16 +1,16 @@
 //! Processes, and the block that holds them.
 ghost use Rattle.std.specs.Prelude.{◌≡◌, ℕ, map, Some};
 ghost use Rattle.sdl_lex.specs.declared.lexemes.Symbol.TheVariants as symbols;
-ghost use Rattle.sdl_tokens.specs.Readings.{token, optional};
+ghost use Rattle.sdl_productions.specs.Readings.{token, optional};
 ghost use Rattle.sdl_ast.specs.Plain.{PlainEntity, process, process_head};
 ghost use Rattle.sdl_readers.specs.SectionViews.{head_of};
-ghost use Rattle.sdl_bodies.specs.BodyViews.{marked_view};
-ghost use Rattle.sdl_bodies.specs.Marks.{Marked, map_marked, body_marked, process_marked};
+ghost use Rattle.sdl_productions.specs.BodyViews.{marked_view};
+ghost use Rattle.sdl_productions.specs.Marks.{Marked, map_marked, body_marked, process_marked};
 ghost use Rattle.sdl_productions.specs.MarkedParts.{marked_process, marked_entity, marked_block};
 ghost use Rattle.sdl_productions.specs.Productions.{second_number_at, instances_at, process_head_at};
-ghost use Rattle.sdl_tokens.specs.Tokens.{a_number, the_number, a_symbol, an_entity};
+ghost use Rattle.sdl_productions.specs.Tokens.{a_number, the_number, a_symbol, an_entity};
 ghost use Rattle.sdl_ast.specs.Views.{declaration_of, start_of, state_of, connection_of, entity_of, block_of};
-ghost use Rattle.sdl_tokens.specs.Mirrors.{Mirrors, same};
+ghost use Rattle.sdl_productions.specs.Mirrors.{Mirrors, same};
 ghost use Rattle.sdl_productions.proofs.MarkedLengths.{marked_entity_takes, marked_entity_keeps};
 
 use crate::attempt::attempt;
@@ -20,9 +20,10 @@ use crate::production::{Listed, Production, read_many};
 use crate::sections::{Sections, parted};
 use crate::transitions::{Section, read_start};
 use sdl_ast::{Block, Connection, Declaration, Entity, Identifier, Process, Start, StatePart};
-use sdl_bodies::{Marked, gathered};
 use sdl_lex::{Symbol, Token, Word};
-use sdl_tokens::{AnyCount, AnyEntity, AnyName, AnyNumber, Stop, ThatNumber, stands_next, take};
+use sdl_productions::{
+    AnyCount, AnyEntity, AnyName, AnyNumber, Marked, Stop, ThatNumber, gathered, stands_next, take,
+};
 use std::alloc::Global;
 
 /// Reads `[number]`, this number again.

@@ -1,15 +1,15 @@
 //! Signals, routes, variables and timers.
 ghost use Rattle.std.specs.Prelude.{◌≡◌, ◌∷◌, map, Option, None, IfOk, IfErr};
 ghost use Rattle.std.specs.Option.{option_map, option_to_list};
-ghost use Rattle.sdl_tokens.specs.Readings.{token, separated, optional};
+ghost use Rattle.sdl_productions.specs.Readings.{token, separated, optional};
 ghost use Rattle.sdl_productions.specs.Productions.{place_at};
 ghost use Rattle.sdl_productions.specs.DeclarationProductions.{signal_at, signals_at, path_at, route_at, connect_at, negative_at, constant_at, initial_at, group_at, variables_at, timers_at, declaration_at};
-ghost use Rattle.sdl_tokens.specs.Tokens.{a_name, a_sort, a_word, a_symbol, a_declaration};
+ghost use Rattle.sdl_productions.specs.Tokens.{a_name, a_sort, a_word, a_symbol, a_declaration};
 ghost use Rattle.sdl_lex.specs.declared.lexemes.Symbol.TheVariants.{Assign};
 ghost use Rattle.sdl_lex.specs.declared.lexemes.Word.TheVariants.{From};
 ghost use Rattle.sdl_ast.specs.Plain.{PlainSignal, PlainGroup, PlainDeclaration};
 ghost use Rattle.sdl_ast.specs.Views.{signal_of, path_of, entity_of, group_of, declaration_of};
-ghost use Rattle.sdl_tokens.specs.Mirrors.{Mirrors, same};
+ghost use Rattle.sdl_productions.specs.Mirrors.{Mirrors, same};
 ghost use Rattle.sdl_productions.proofs.Lengths.{name_keeps, sort_keeps, signal_keeps, group_keeps, place_keeps, declaration_takes, declaration_keeps};
 
 use crate::attempt::attempt;
@@ -20,7 +20,7 @@ use sdl_ast::{
     SignalDeclaration, Sort,
 };
 use sdl_lex::{Symbol, Token, Word};
-use sdl_tokens::{
+use sdl_productions::{
     AnyConstant, AnyDeclaration, AnyName, AnyNumber, AnyParty, AnySort, Stop, push, stands_next,
     take,
 };

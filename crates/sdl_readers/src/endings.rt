@@ -1,16 +1,16 @@
 //! How statements and their groups end.
 ghost use Rattle.std.specs.Prelude.{◌≡◌, Option};
 ghost use Rattle.sdl_lex.specs.declared.lexemes.Word.TheVariants as words;
-ghost use Rattle.sdl_tokens.specs.Readings.{token, optional};
+ghost use Rattle.sdl_productions.specs.Readings.{token, optional};
 ghost use Rattle.sdl_productions.specs.Productions.{closing_at};
 ghost use Rattle.sdl_productions.specs.DeclarationProductions.{comment_at, terminator_at};
-ghost use Rattle.sdl_tokens.specs.Tokens.{a_name, a_word, a_closing};
-ghost use Rattle.sdl_tokens.specs.Mirrors.{Mirrors, same};
+ghost use Rattle.sdl_productions.specs.Tokens.{a_name, a_word, a_closing};
+ghost use Rattle.sdl_productions.specs.Mirrors.{Mirrors, same};
 
 use crate::attempt::attempt;
 use sdl_ast::Identifier;
 use sdl_lex::{Name, Symbol, Token, Word};
-use sdl_tokens::{AnyName, AnyQuoted, Closing, Stop, stands_next, take};
+use sdl_productions::{AnyName, AnyQuoted, Closing, Stop, stands_next, take};
 
 /// Reads `COMMENT quoted`.
 #[tactic(auto, unfolding(sdl_productions::specs::DeclarationProductions::comment_at))]

@@ -1,4 +1,4 @@
-//! The productions of process texts, each read from the first tokens on, with the place of what is too high in it.
+//! The productions of process texts, each read from the first tokens on.
 #![tactic(auto)]
 
 mod actions;

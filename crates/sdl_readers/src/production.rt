@@ -1,13 +1,12 @@
 //! What can be read from tokens, alone and in rows.
 ghost use Rattle.std.specs.Prelude.{◌≡◌, ◌<◌, length, map, IfOk, Option, ℕ};
 ghost use Rattle.sdl_lex.specs.declared.lexemes.Token.{Token};
-ghost use Rattle.sdl_tokens.specs.Readings.{At, Shortens, NeverLonger, separated, many, list_in_parentheses};
-ghost use Rattle.sdl_tokens.specs.Readings.{behind_comma, separated_from};
-ghost use Rattle.sdl_tokens.specs.Tokens.{begins};
-ghost use Rattle.sdl_tokens.specs.Mirrors.{Mirrors};
+ghost use Rattle.sdl_productions.specs.Readings.{At, Shortens, NeverLonger, separated, many, list_in_parentheses, behind_comma, separated_from};
+ghost use Rattle.sdl_productions.specs.Tokens.{begins};
+ghost use Rattle.sdl_productions.specs.Mirrors.{Mirrors};
 
 use sdl_lex::{Symbol, Token};
-use sdl_tokens::{Stop, push, stands_next, take};
+use sdl_productions::{Stop, push, stands_next, take};
 use std::alloc::Global;
 
 /// A part of the tree that tokens read as.

@@ -4,13 +4,12 @@ ghost use Rattle.std.specs.List.{filter_map};
 ghost use Rattle.std.specs.Option.{option_to_list};
 ghost use Rattle.sdl_productions.specs.MarkedParts.{marked_state_in, marked_connection_in};
 ghost use Rattle.sdl_ast.specs.Views.{state_of, connection_of};
-ghost use Rattle.sdl_bodies.specs.BodyViews.{marked_view};
+ghost use Rattle.sdl_productions.specs.BodyViews.{marked_view};
 ghost use Rattle.sdl_readers.specs.SectionViews.{section_of};
 
 use crate::transitions::Section;
 use sdl_ast::{Connection, StatePart};
-use sdl_bodies::Marked;
-use sdl_tokens::{Stop, push};
+use sdl_productions::{Marked, Stop, push};
 use std::alloc::Global;
 
 /// The STATE parts and the CONNECTIONs of a process, each in the order of the text.

@@ -1,9 +1,9 @@
-//! Transitions, read step by step; `sdl_bodies` has what is kept between the steps.
+//! Transitions, read step by step; `sdl_productions` has what is kept between the steps.
 ghost use Rattle.std.specs.Prelude.{◌≡◌, map, IfOk, IfErr};
 ghost use Rattle.std.specs.Option.{option_map};
-ghost use Rattle.sdl_bodies.specs.BodyViews.{marked_view, head_of, branching_view, bodies_view, reached_view, move_view};
-ghost use Rattle.sdl_bodies.specs.Bodies.{marked_texts};
-ghost use Rattle.sdl_tokens.specs.Mirrors.{Mirrors};
+ghost use Rattle.sdl_productions.specs.BodyViews.{marked_view, head_of, branching_view, bodies_view, reached_view, move_view};
+ghost use Rattle.sdl_productions.specs.Bodies.{marked_texts};
+ghost use Rattle.sdl_productions.specs.Mirrors.{Mirrors};
 ghost use Rattle.sdl_productions.specs.Productions.{head_step, closing_step, answer_step, body_step, behind_step, end_step, decision_step, action_step, step_at, text_at};
 ghost use Rattle.sdl_ast.specs.Views.{text_of, else_choice};
 
@@ -12,12 +12,11 @@ use crate::attempt::attempt;
 use crate::production::Production;
 use crate::transitions::read_optional_end;
 use sdl_ast::{Action, Transition};
-use sdl_bodies::{
-    Body, Branching, Marked, Move, Reached, closed, ended, limited_action, more, with_answer,
-    with_else,
-};
 use sdl_lex::{Token, Word};
-use sdl_tokens::{AnyAction, AnyChoice, Stop, push, stands_next};
+use sdl_productions::{
+    AnyAction, AnyChoice, Body, Branching, Marked, Move, Reached, Stop, closed, ended,
+    limited_action, more, push, stands_next, with_answer, with_else,
+};
 use std::alloc::Global;
 
 /// Reads the head of an answer or ELSE; its body is read next.

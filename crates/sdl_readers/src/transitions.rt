@@ -1,16 +1,16 @@
 //! Transitions, and the states that have them.
 ghost use Rattle.std.specs.Prelude.{◌≡◌, map, Option, None, List};
 ghost use Rattle.sdl_lex.specs.declared.lexemes.Word.TheVariants as words;
-ghost use Rattle.sdl_tokens.specs.Readings.{separated, optional};
+ghost use Rattle.sdl_productions.specs.Readings.{separated, optional};
 ghost use Rattle.sdl_productions.specs.Productions.{stimulus_at, next_state_at, stop_at, join_at, end_at, save_at, end_state_at, end_connection_at};
-ghost use Rattle.sdl_bodies.specs.Marks.{Marked};
+ghost use Rattle.sdl_productions.specs.Marks.{Marked};
 ghost use Rattle.sdl_productions.specs.MarkedParts.{MarkedSection, marked_input, marked_clause, marked_state, marked_connection, marked_section, marked_start};
-ghost use Rattle.sdl_tokens.specs.Tokens.{a_word, a_clause, a_section, an_end};
+ghost use Rattle.sdl_productions.specs.Tokens.{a_word, a_clause, a_section, an_end};
 ghost use Rattle.sdl_ast.specs.Plain.{PlainStimulus, PlainClause};
 ghost use Rattle.sdl_ast.specs.Views.{stimulus_of, clause_of, state_of, connection_of, start_of};
-ghost use Rattle.sdl_bodies.specs.BodyViews.{marked_view};
+ghost use Rattle.sdl_productions.specs.BodyViews.{marked_view};
 ghost use Rattle.sdl_readers.specs.SectionViews.{section_of};
-ghost use Rattle.sdl_tokens.specs.Mirrors.{Mirrors, same};
+ghost use Rattle.sdl_productions.specs.Mirrors.{Mirrors, same};
 ghost use Rattle.sdl_productions.proofs.Lengths.{stimulus_keeps};
 ghost use Rattle.sdl_productions.proofs.MarkedLengths.{marked_clause_takes, marked_clause_keeps, marked_section_takes, marked_section_keeps};
 
@@ -24,9 +24,10 @@ use sdl_ast::{
     Connection, End, Identifier, InputPart, Join, NextState, Start, StateClause, StatePart,
     Stimulus,
 };
-use sdl_bodies::{Marked, gathered};
 use sdl_lex::{Name, Symbol, Token, Word};
-use sdl_tokens::{AnyClause, AnyEnd, AnyName, AnySection, Stop, stands_next, take};
+use sdl_productions::{
+    AnyClause, AnyEnd, AnyName, AnySection, Marked, Stop, gathered, stands_next, take,
+};
 use std::alloc::Global;
 
 impl Production for Stimulus {

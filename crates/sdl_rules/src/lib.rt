@@ -6,8 +6,7 @@ mod resolved;
 
 pub use resolved::{Resolved, resolve};
 pub use sdl_measures::{Measure, budget_law, code_size};
-pub use sdl_scopes::goes_on;
-pub use sdl_senders::{Recipients, find_receivers};
+pub use sdl_scopes::{Recipients, find_receivers, goes_on};
 pub use sdl_sorts::sort_in;
 pub use sdl_sound::{ControlPath, Limit, RuleFault, Step, standing_inputs};
 pub use sdl_tables::{InputRow, NameTable, ProcessTable, Variable};

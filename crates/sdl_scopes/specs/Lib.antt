@@ -1,1 +1,5 @@
+pub mod Founds
+pub mod Known
+pub mod Parties
+pub mod Reaches
 pub mod Rests

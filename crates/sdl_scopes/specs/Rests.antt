@@ -6,7 +6,8 @@ use Rattle.sdl_tables.specs.Scopes.{Marks}
 use Rattle.sdl_sound.specs.Ends.{first_place, strays}
 use Rattle.sdl_scopes.specs.declared.ends.Rest.{Rest}
 
--- where what stands first is; what is stray where running off the end is, and is named by this place; and what is where it isn't
+-- where what stands first is; what is stray where running off the end is, and is named by this
+-- place; and what is where it isn't
 pub record IsRest (states : List Identifier) (at : ℕ) (t : Text) (r : Rest) : Type 0 where
   pub first : Marks r.first (first_place t)
   pub named : Marks r.named (strays states (at ∷ []) t)

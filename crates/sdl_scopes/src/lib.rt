@@ -1,13 +1,21 @@
-//! Names that their class and scope lack (S2), and transitions that don't end in a state that is there (S4).
+//! Names that are known (S2), ends of transitions (S4), and who sends and gets a signal by the routes.
 #![tactic(auto)]
 
 mod ends;
 mod going;
+mod known;
 mod names;
+mod recipients;
+mod sender;
+mod sent;
 
 pub use ends::stray_end;
 pub use going::goes_on;
+pub use known::KnownSenders;
 pub use names::{
     unknown_connector, unknown_in_action, unknown_in_block, unknown_in_expression,
     unknown_in_inputs, unknown_in_parts,
 };
+pub use recipients::{Recipients, find_receivers};
+pub use sender::{Numbered, Sender, nobody};
+pub use sent::{Sent, is_marked, senders_at};

@@ -3,14 +3,13 @@ use Rattle.std.proofs.Common.{◌≡◌, ℕ, zero, suc, ◌+◌, ◌<◌, ◌�
 use Rattle.std.specs.List.{flat_map, position_or_len}
 use Rattle.std.specs.Option.{option_map, option_map_or, option_and_then}
 use Rattle.std.proofs.lemmas.List.{append-nil, length-map, map-append, take_more}
-use Rattle.std.proofs.lemmas.Option.{slice_get_past, slice_get-get_or}
+use Rattle.std.proofs.lemmas.Option.{slice_get_past, slice_get-get_or, slice_get-map}
 use Rattle.std.proofs.lemmas.Grind.{flat_map-append}
 use Rattle.sdl_ast.specs.declared.expression.Identifier.{Identifier}
 use Rattle.sdl_tables.specs.Names.{same_name, number_of, Variable}
 use Rattle.sdl_tables.specs.Rows.{variable_of}
 use Rattle.sdl_tables.specs.declared.process_table.Variable as row
 use Rattle.sdl_sound.specs.Sorts.{variable_sort}
-use Rattle.std.proofs.lemmas.Option.{slice_get-map}
 use Rattle.plain_laws.proofs.Searches.{find-at, position-map}
 
 -- the variable with a name is the one with its number

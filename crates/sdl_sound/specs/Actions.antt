@@ -22,16 +22,19 @@ start_origins p x = if reaches p p.start.text x then begins ∷ [] else []
 abbrev pub joining_origins : PlainProcess → List ℕ → PlainInput → List Origin
 joining_origins p x i = if reaches p i.text x then input_origins i else []
 
--- with what the transitions begin that come to a connection, through others too; nothing where none comes there
+-- with what the transitions begin that come to a connection, through others too; nothing where none
+-- comes there
 abbrev pub connection_origins : PlainProcess → PlainConnection → List Origin
-connection_origins p c = start_origins p c.name.name ++ flat_map (joining_origins p c.name.name) (input_parts p)
+connection_origins p c =
+    start_origins p c.name.name ++ flat_map (joining_origins p c.name.name) (input_parts p)
 
 -- the places that each statement of an INPUT's transition has, asked with that with which it begins
 abbrev pub in_input : (List Origin → Statement → List ℕ) → PlainInput → List ℕ
 in_input ask i = flat_map (ask (input_origins i)) (statements_of i.text)
 
 -- the same for a connection, asked with that of every transition that comes there
-abbrev pub in_connection : (List Origin → Statement → List ℕ) → PlainProcess → PlainConnection → List ℕ
+abbrev pub in_connection :
+    (List Origin → Statement → List ℕ) → PlainProcess → PlainConnection → List ℕ
 in_connection ask p c = flat_map (ask (connection_origins p c)) (statements_of c.text)
 
 -- the same for each transition of a process and each of its connections

@@ -4,12 +4,13 @@ use Rattle.std.specs.Option.{option_map_or}
 use Rattle.sdl_tables.specs.sdl_ast_types.expression.Identifier.{Identifier}
 use Rattle.sdl_tables.specs.sdl_ast_types.tree.End.{End}
 use Rattle.sdl_tables.specs.sdl_ast_types.tree.End.TheVariants.{NextState, Stop, Join}
-use Rattle.sdl_tables.specs.Plain.{Text, falls, ends, does, decides, Choice, nothing_else, otherwise, answer, PlainProcess}
+use Rattle.sdl_tables.specs.Plain.{Text, falls, ends, does, decides, Choice, nothing_else}
+use Rattle.sdl_tables.specs.Plain.{otherwise, answer, PlainProcess}
 use Rattle.sdl_tables.specs.Names.{is_state, connection_named, states_of}
 use Rattle.sdl_sound.specs.Paths.{Event, tree_events, action_events, reads_first, sets_in}
 
--- whether some walk reads the variable before it sets it, whether some walk runs off the end and doesn't set it, and whether
--- some walk ends in a certain state and doesn't set it
+-- whether some walk reads the variable before it sets it, whether some walk runs off the end and
+-- doesn't set it, and whether some walk ends in a certain state and doesn't set it
 pub record Chances : Type 0 where
   pub reads : Bool
   pub leaves : Bool
@@ -24,7 +25,8 @@ leaving = record { reads = false; leaves = true; enters = false }
 
 -- some events, with nothing else beside them
 abbrev pub event_chances : List Event → List ℕ → Chances
-event_chances events x = record { reads = reads_first events x; leaves = not (sets_in events x); enters = false }
+event_chances events x =
+    record { reads = reads_first events x; leaves = not (sets_in events x); enters = false }
 
 -- one thing behind another
 abbrev pub behind : Chances → Chances → Chances
@@ -36,7 +38,13 @@ behind a b = record {
 
 -- one thing beside another
 abbrev pub beside : Chances → Chances → Chances
-beside a b = record { reads = a.reads || b.reads; leaves = a.leaves || b.leaves; enters = a.enters || b.enters }
+beside a b =
+    record {
+      reads = a.reads || b.reads;
+      leaves = a.leaves || b.leaves;
+      enters = a.enters
+          || b.enters;
+    }
 
 -- nothing stands behind a connection
 abbrev pub last_chances : Chances → Chances
@@ -44,7 +52,8 @@ last_chances a = record { reads = a.reads; leaves = false; enters = a.enters }
 
 -- variable x and state q at an end; `join` tells what may happen in a connection
 abbrev pub end_chances : List Identifier → (List ℕ → Chances) → ℕ → End → Chances
-end_chances states join q (NextState n) = record { reads = false; leaves = false; enters = is_state states q n.state.name }
+end_chances states join q (NextState n) =
+    record { reads = false; leaves = false; enters = is_state states q n.state.name }
 end_chances states join q (Stop at) = no_chances
 end_chances states join q (Join j) = join j.connector.name
 
@@ -52,9 +61,11 @@ abbrev mutual
   pub chances : List Identifier → (List ℕ → Chances) → List ℕ → ℕ → Text → Chances
   chances states join x q falls = leaving
   chances states join x q (ends e) = end_chances states join q e
-  chances states join x q (does action rest) = behind (event_chances (action_events action) x) (chances states join x q rest)
+  chances states join x q (does action rest) =
+      behind (event_chances (action_events action) x) (chances states join x q rest)
   chances states join x q (decides at t c rest) =
-      behind (event_chances (tree_events t) x) (behind (choice_chances states join x q c) (chances states join x q rest))
+      behind (event_chances (tree_events t) x)
+      (behind (choice_chances states join x q c) (chances states join x q rest))
 
   pub choice_chances : List Identifier → (List ℕ → Chances) → List ℕ → ℕ → Choice → Chances
   choice_chances states join x q nothing_else = no_chances
@@ -66,9 +77,11 @@ abbrev mutual
 abbrev pub chances_by : PlainProcess → ℕ → List ℕ → ℕ → List ℕ → Chances
 chances_by p zero x q y = no_chances
 chances_by p (suc n) x q y =
-    option_map_or (λ c. last_chances (chances (states_of p) (chances_by p n x q) x q c.text)) (connection_named p y) no_chances
+    option_map_or (λ c. last_chances (chances (states_of p) (chances_by p n x q) x q c.text))
+    (connection_named p y) no_chances
 
--- a connection, where no JOIN comes back: each walk follows no more JOINs than there are connections
+-- a connection, where no JOIN comes back: each walk follows no more JOINs than there are
+-- connections
 abbrev pub joined_chances : PlainProcess → List ℕ → ℕ → List ℕ → Chances
 joined_chances p x q y = chances_by p (length p.connections) x q y
 

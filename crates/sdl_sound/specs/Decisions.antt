@@ -1,7 +1,9 @@
--- Which DECISIONs aren't answered: those of Integers without ELSE; those of Booleans in which TRUE or FALSE isn't answered exactly once, where
--- ELSE answers what no answer names, and one of the two has to be left for it; and those with an answer for no value, which no text can have.
--- (Z.100: decisions; that ELSE is wanted is this profile's own.)
-use Rattle.std.specs.Prelude.{ℕ, ◌+◌, Bool, true, false, ◌&&◌, List, [], ◌∷◌, if◌then◌else◌, length, nat_eq, nat_lt, sum_by}
+-- Which DECISIONs aren't answered: those of Integers without ELSE; those of Booleans in which TRUE
+-- or FALSE isn't answered exactly once, where ELSE answers what no answer names, and one of the two
+-- has to be left for it; and those with an answer for no value, which no text can have. (Z.100:
+-- decisions; that ELSE is wanted is this profile's own.)
+use Rattle.std.specs.Prelude.{ℕ, ◌+◌, Bool, true, false, ◌&&◌, List, [], ◌∷◌, if◌then◌else◌, length}
+use Rattle.std.specs.Prelude.{nat_eq, nat_lt, sum_by}
 use Rattle.std.specs.List.{flat_map}
 use Rattle.sdl_tables.specs.sdl_ast_types.tree.Literal.{Literal}
 use Rattle.sdl_tables.specs.sdl_ast_types.tree.Literal.TheVariants.{Integer, Boolean}
@@ -39,8 +41,8 @@ times_named b nothing_else = 0
 times_named b (otherwise body) = 0
 times_named b (answer at ranges body others) = sum_by (names_value b) ranges + times_named b others
 
--- Each truth value is answered exactly once: without ELSE each is named once; with ELSE, which answers what is left, one of
--- them at most, and once.
+-- Each truth value is answered exactly once: without ELSE each is named once; with ELSE, which
+-- answers what is left, one of them at most, and once.
 abbrev pub answers_both : Choice → Bool
 answers_both c =
     if has_else c
@@ -64,4 +66,5 @@ statement_unanswered vs (covers q ranges) = []
 statement_unanswered vs (finishes e) = []
 
 abbrev pub unanswered : PlainBlock → List ℕ
-unanswered b = flat_map (λ p. in_statements (λ from. statement_unanswered (variables_of p)) p) (processes_of b)
+unanswered b =
+    flat_map (λ p. in_statements (λ from. statement_unanswered (variables_of p)) p) (processes_of b)

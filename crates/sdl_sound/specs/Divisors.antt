@@ -1,10 +1,21 @@
--- What may stand right of a division. (Z.100: Integer operators; that it is a literal is this profile's own.)
-use Rattle.std.specs.Prelude.{ℕ, Bool, true, false, not, ◌&&◌, List, [], ◌∷◌, ◌++◌, if◌then◌else◌, nat_lt, nat_le}
+-- What may stand right of a division. (Z.100: Integer operators; that it is a literal is this
+-- profile's own.)
+use Rattle.std.specs.Prelude.{ℕ, Bool, true, false, not, ◌&&◌, List, [], ◌∷◌, ◌++◌, if◌then◌else◌}
+use Rattle.std.specs.Prelude.{nat_lt, nat_le}
 use Rattle.std.specs.List.{flat_map}
 use Rattle.sdl_tables.specs.LexLimits.{GREATEST_NUMBER}
 use Rattle.sdl_tables.specs.sdl_ast_types.expression.BinaryOperator.{BinaryOperator}
-use Rattle.sdl_tables.specs.sdl_ast_types.expression.BinaryOperator.TheVariants.{Or, Xor, And, Equal, NotEqual, Less, LessEqual, Greater, GreaterEqual, Add, Subtract, Multiply, Divide, Modulo, Remainder}
-use Rattle.sdl_tables.specs.Plain.{Tree, number, truth, variable, unary, binary, PlainAssignment, PlainSending, PlainAction, task, output, set_timer, reset_timer, PlainBlock}
+use Rattle.sdl_tables.specs.sdl_ast_types.expression.BinaryOperator.TheVariants.{Or, Xor, And}
+use Rattle.sdl_tables.specs.sdl_ast_types.expression.BinaryOperator.TheVariants.{Equal, NotEqual}
+use Rattle.sdl_tables.specs.sdl_ast_types.expression.BinaryOperator.TheVariants.{Less, LessEqual}
+use Rattle.sdl_tables.specs.sdl_ast_types.expression.BinaryOperator.TheVariants.{Greater}
+use Rattle.sdl_tables.specs.sdl_ast_types.expression.BinaryOperator.TheVariants.{GreaterEqual, Add}
+use Rattle.sdl_tables.specs.sdl_ast_types.expression.BinaryOperator.TheVariants.{Subtract, Multiply}
+use Rattle.sdl_tables.specs.sdl_ast_types.expression.BinaryOperator.TheVariants.{Divide, Modulo}
+use Rattle.sdl_tables.specs.sdl_ast_types.expression.BinaryOperator.TheVariants.{Remainder}
+use Rattle.sdl_tables.specs.Plain.{Tree, number, truth, variable, unary, binary, PlainAssignment}
+use Rattle.sdl_tables.specs.Plain.{PlainSending, PlainAction, task, output, set_timer, reset_timer}
+use Rattle.sdl_tables.specs.Plain.{PlainBlock}
 use Rattle.sdl_tables.specs.Places.{place_of}
 use Rattle.sdl_tables.specs.Names.{processes_of}
 use Rattle.sdl_sound.specs.Statements.{Statement, acts, asks, covers, finishes}
@@ -38,7 +49,8 @@ is_divisor (unary at operator operand) = false
 is_divisor (binary at operator left right) = false
 
 abbrev pub bad_divisor : BinaryOperator → Tree → List ℕ
-bad_divisor operator right = if divides operator && not (is_divisor right) then place_of right ∷ [] else []
+bad_divisor operator right =
+    if divides operator && not (is_divisor right) then place_of right ∷ [] else []
 
 abbrev pub bad_divisors_in : Tree → List ℕ
 bad_divisors_in (number at value) = []

@@ -1,11 +1,13 @@
--- S4: a NEXTSTATE to a state without STATE, a list of actions that runs off its end, or a statement behind a DECISION none of whose
--- bodies goes on. (Z.100: nextstate, terminators.)
+-- S4: a NEXTSTATE to a state without STATE, a list of actions that runs off its end, or a statement
+-- behind a DECISION none of whose bodies goes on. (Z.100: nextstate, terminators.)
 use Rattle.std.specs.Prelude.{ℕ, List, [], ◌∷◌, ◌++◌, if◌then◌else◌}
 use Rattle.std.specs.List.{flat_map}
 use Rattle.sdl_tables.specs.sdl_ast_types.expression.Identifier.{Identifier}
 use Rattle.sdl_tables.specs.sdl_ast_types.tree.End.{End}
 use Rattle.sdl_tables.specs.sdl_ast_types.tree.End.TheVariants.{NextState, Stop, Join}
-use Rattle.sdl_tables.specs.Plain.{PlainAction, task, output, set_timer, reset_timer, Text, falls, ends, does, decides, Choice, nothing_else, otherwise, answer, PlainConnection, PlainInput, PlainProcess, PlainBlock}
+use Rattle.sdl_tables.specs.Plain.{PlainAction, task, output, set_timer, reset_timer, Text, falls}
+use Rattle.sdl_tables.specs.Plain.{ends, does, decides, Choice, nothing_else, otherwise, answer}
+use Rattle.sdl_tables.specs.Plain.{PlainConnection, PlainInput, PlainProcess, PlainBlock}
 use Rattle.sdl_tables.specs.Names.{is_in, processes_of, states_of, input_parts}
 use Rattle.sdl_sound.specs.Going.{choice_goes_on}
 
@@ -33,21 +35,23 @@ stray_end states (Stop at) = []
 stray_end states (Join j) = []
 
 abbrev mutual
-  -- The places in a text that has `off` where it runs off its end. What stands behind a DECISION none of whose bodies goes on
-  -- is named in place of that end.
+  -- The places in a text that has `off` where it runs off its end. What stands behind a DECISION
+  -- none of whose bodies goes on is named in place of that end.
   pub strays : List Identifier → List ℕ → Text → List ℕ
   strays states off falls = off
   strays states off (ends e) = stray_end states e
   strays states off (does a rest) = strays states off rest
   strays states off (decides at q c rest) =
       choice_strays states c
-      ++ (if choice_goes_on c then strays states off rest else first_place rest ++ strays states [] rest)
+      ++ (if choice_goes_on c then strays states off rest
+      else first_place rest ++ strays states [] rest)
 
   -- a body that runs off its end goes on behind its DECISION
   pub choice_strays : List Identifier → Choice → List ℕ
   choice_strays states nothing_else = []
   choice_strays states (otherwise body) = strays states [] body
-  choice_strays states (answer at ranges body others) = strays states [] body ++ choice_strays states others
+  choice_strays states (answer at ranges body others) =
+      strays states [] body ++ choice_strays states others
 
 -- a list that runs off its end is named by its START, INPUT or CONNECTION
 abbrev pub input_strays : PlainProcess → PlainInput → List ℕ

@@ -1,6 +1,8 @@
--- Whether what stands behind a list of statements, or behind a DECISION, may follow. (Z.100: transitions, decisions.)
+-- Whether what stands behind a list of statements, or behind a DECISION, may follow. (Z.100:
+-- transitions, decisions.)
 use Rattle.std.specs.Prelude.{Bool, true, false, ◌&&◌, ◌||◌}
-use Rattle.sdl_tables.specs.Plain.{Text, falls, ends, does, decides, Choice, nothing_else, otherwise, answer}
+use Rattle.sdl_tables.specs.Plain.{Text, falls, ends, does, decides, Choice, nothing_else}
+use Rattle.sdl_tables.specs.Plain.{otherwise, answer}
 
 abbrev mutual
   -- whether a text may run off its end

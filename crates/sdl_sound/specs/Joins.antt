@@ -1,6 +1,7 @@
--- Where JOINs lead: which connections a transition goes on with, and which come back to themselves. (Z.100: joins,
--- in-connectors.)
-use Rattle.std.specs.Prelude.{ℕ, zero, suc, Bool, ◌||◌, List, [], ◌∷◌, if◌then◌else◌, length, filter}
+-- Where JOINs lead: which connections a transition goes on with, and which come back to themselves.
+-- (Z.100: joins, in-connectors.)
+use Rattle.std.specs.Prelude.{ℕ, zero, suc, Bool, ◌||◌, List, [], ◌∷◌, if◌then◌else◌, length}
+use Rattle.std.specs.Prelude.{filter}
 use Rattle.std.specs.List.{list_any, flat_map}
 use Rattle.std.specs.Option.{option_map_or}
 use Rattle.sdl_tables.specs.sdl_ast_types.tree.Join.{Join}
@@ -15,10 +16,11 @@ joins_at p y = option_map_or (λ c. joins_of c.text) (connection_named p y) []
 -- whether a JOIN to connector y comes to connector x, by at most so many more JOINs
 abbrev pub comes_by : PlainProcess → ℕ → List ℕ → List ℕ → Bool
 comes_by p zero y x = same_name x y
-comes_by p (suc n) y x = same_name x y || list_any (λ j. comes_by p n j.connector.name x) (joins_at p y)
+comes_by p (suc n) y x =
+    same_name x y || list_any (λ j. comes_by p n j.connector.name x) (joins_at p y)
 
--- Whether it comes there at all: the shortest way meets no connection twice, so it has no more JOINs than there are
--- connections.
+-- Whether it comes there at all: the shortest way meets no connection twice, so it has no more
+-- JOINs than there are connections.
 abbrev pub comes : PlainProcess → List ℕ → List ℕ → Bool
 comes p y x = comes_by p (length p.connections) y x
 

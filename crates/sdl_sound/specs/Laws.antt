@@ -24,7 +24,8 @@ pub record Keeps (p : PlainProcess) (t : Transition) (x : List ℕ) (q : ℕ) : 
   pub number : number_of (states_of p) state ≡ Some q
   pub keeps : sets_in (t.first ++ events) x ≡ false
 
--- the texts of a process: that of START, those of the inputs of its states, and those of its connections
+-- the texts of a process: that of START, those of the inputs of its states, and those of its
+-- connections
 abbrev pub IsTextOf : PlainProcess → Text → Type 0
 IsTextOf p t =
     (t ≡ p.start.text)
@@ -33,11 +34,14 @@ IsTextOf p t =
 
 -- what may happen to a variable that is not set before, some walk does
 abbrev pub ChancesLaw : Type 0
-ChancesLaw = (b : PlainBlock) (p : PlainProcess) (order : List ℕ) (t : Transition) (x : List ℕ) (q : ℕ)
-    → Sound b → Contains (processes_of b) p → IsOrder p order → IsTextOf p t.text → sets_in t.first x ≡ false
-    → ((text_chances p t.text x q).reads ≡ true → Reads p t x) × ((text_chances p t.text x q).enters ≡ true → Keeps p t x q)
+ChancesLaw =
+    (b : PlainBlock) (p : PlainProcess) (order : List ℕ) (t : Transition) (x : List ℕ) (q : ℕ)
+    → Sound b → Contains (processes_of b) p → IsOrder p order → IsTextOf p t.text
+    → sets_in t.first x ≡ false
+    → ((text_chances p t.text x q).reads ≡ true
+    → Reads p t x) × ((text_chances p t.text x q).enters ≡ true → Keeps p t x q)
 
--- Where no JOIN comes back to its connection, no walk of a text costs more instructions than the code of the text has, with
--- that of the connections to which it comes.
+-- Where no JOIN comes back to its connection, no walk of a text costs more instructions than the
+-- code of the text has, with that of the connections to which it comes.
 abbrev pub BudgetLaw : Type 0
 BudgetLaw = (p : PlainProcess) (t : Text) → process_cycles p ≡ [] → text_budget p t ≤ text_size p t

@@ -1,12 +1,18 @@
 -- S10: the limits of this profile, in this order.
-use Rattle.std.specs.Prelude.{ℕ, Bool, ◌||◌, List, [], ◌∷◌, ◌++◌, Option, length, nat_lt, find, sum_by}
+use Rattle.std.specs.Prelude.{ℕ, Bool, ◌||◌, List, [], ◌∷◌, ◌++◌, Option, length, nat_lt, find}
+use Rattle.std.specs.Prelude.{sum_by}
 use Rattle.std.specs.List.{list_any}
-use Rattle.profile_limits.specs.Limits.{MOST_EFFECTS, MOST_INSTANCES, MOST_INSTRUCTIONS, MOST_OPERANDS, MOST_PARAMETERS, MOST_PIECES, MOST_PROCESSES, MOST_SIGNALS, MOST_STATES, MOST_TIMERS_EACH, MOST_VARIABLES}
+use Rattle.plain_limits.specs.Limits.{MOST_EFFECTS, MOST_INSTANCES, MOST_INSTRUCTIONS}
+use Rattle.plain_limits.specs.Limits.{MOST_OPERANDS, MOST_PARAMETERS, MOST_PIECES, MOST_PROCESSES}
+use Rattle.plain_limits.specs.Limits.{MOST_SIGNALS, MOST_STATES, MOST_TIMERS_EACH, MOST_VARIABLES}
 use Rattle.sdl_tables.specs.Plain.{PlainBlock}
 use Rattle.sdl_tables.specs.Names.{signals_of, processes_of, variables_of, timers_of, states_of}
 use Rattle.sdl_sound.specs.Longest.{pieces_of, piece_size, piece_depth, piece_effects}
 use Rattle.sdl_sound.specs.declared.fault.Limit.{Limit}
-use Rattle.sdl_sound.specs.declared.fault.Limit.TheVariants.{Processes, States, Variables, Timers, Signals, Params, Pieces, Piece as PieceSize, Depth, Effects, Instances}
+use Rattle.sdl_sound.specs.declared.fault.Limit.TheVariants.{Processes, States, Variables, Timers}
+use Rattle.sdl_sound.specs.declared.fault.Limit.TheVariants.{Signals, Params, Pieces}
+use Rattle.sdl_sound.specs.declared.fault.Limit.TheVariants.{Piece as PieceSize, Depth, Effects}
+use Rattle.sdl_sound.specs.declared.fault.Limit.TheVariants.{Instances}
 
 -- fewer than 1, which no text can have, or more than there may be
 abbrev pub wrong_instances : ℕ → Bool
@@ -15,14 +21,21 @@ wrong_instances n = nat_lt n 1 || nat_lt MOST_INSTANCES n
 abbrev pub exceeds : PlainBlock → Limit → Bool
 exceeds b Processes = nat_lt MOST_PROCESSES (length (processes_of b))
 exceeds b States = list_any (λ p. nat_lt MOST_STATES (length (states_of p))) (processes_of b)
-exceeds b Variables = list_any (λ p. nat_lt MOST_VARIABLES (length (variables_of p))) (processes_of b)
+exceeds b Variables =
+    list_any (λ p. nat_lt MOST_VARIABLES (length (variables_of p))) (processes_of b)
 exceeds b Timers = list_any (λ p. nat_lt MOST_TIMERS_EACH (length (timers_of p))) (processes_of b)
 exceeds b Signals = nat_lt MOST_SIGNALS (length (signals_of b))
 exceeds b Params = list_any (λ s. nat_lt MOST_PARAMETERS (length s.parameters)) (signals_of b)
 exceeds b Pieces = nat_lt MOST_PIECES (sum_by (λ p. length (pieces_of p)) (processes_of b))
-exceeds b PieceSize = list_any (λ p. list_any (λ q. nat_lt MOST_INSTRUCTIONS (piece_size p q)) (pieces_of p)) (processes_of b)
-exceeds b Depth = list_any (λ p. list_any (λ q. nat_lt MOST_OPERANDS (piece_depth p q)) (pieces_of p)) (processes_of b)
-exceeds b Effects = list_any (λ p. list_any (λ q. nat_lt MOST_EFFECTS (piece_effects p q)) (pieces_of p)) (processes_of b)
+exceeds b PieceSize =
+    list_any (λ p. list_any (λ q. nat_lt MOST_INSTRUCTIONS (piece_size p q)) (pieces_of p))
+    (processes_of b)
+exceeds b Depth =
+    list_any (λ p. list_any (λ q. nat_lt MOST_OPERANDS (piece_depth p q)) (pieces_of p))
+    (processes_of b)
+exceeds b Effects =
+    list_any (λ p. list_any (λ q. nat_lt MOST_EFFECTS (piece_effects p q)) (pieces_of p))
+    (processes_of b)
 exceeds b Instances = list_any (λ p. wrong_instances p.instances) (processes_of b)
 
 -- those on how many there are

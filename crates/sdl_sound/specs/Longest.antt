@@ -1,15 +1,26 @@
--- The longest path of a transition: how many instructions, how many operands at once, how many effects. Each
--- instruction counts 1. (The counts are this profile's own.)
-use Rattle.std.specs.Prelude.{ℕ, zero, suc, ◌+◌, Bool, true, false, List, [], ◌∷◌, Option, None, Some, if◌then◌else◌, length, max, map, sum_by}
+-- The longest path of a transition: how many instructions, how many operands at once, how many
+-- effects. Each instruction counts 1. (The counts are this profile's own.)
+use Rattle.std.specs.Prelude.{ℕ, zero, suc, ◌+◌, Bool, true, false, List, [], ◌∷◌, Option, None}
+use Rattle.std.specs.Prelude.{Some, if◌then◌else◌, length, max, map, sum_by}
 use Rattle.std.specs.List.{flat_map}
 use Rattle.std.specs.Option.{option_map_or}
 use Rattle.sdl_tables.specs.sdl_ast_types.expression.Identifier.{Identifier}
 use Rattle.sdl_tables.specs.sdl_ast_types.expression.BinaryOperator.{BinaryOperator}
-use Rattle.sdl_tables.specs.sdl_ast_types.expression.BinaryOperator.TheVariants.{Or, Xor, And, Equal, NotEqual, Less, LessEqual, Greater, GreaterEqual, Add, Subtract, Multiply, Divide, Modulo, Remainder}
+use Rattle.sdl_tables.specs.sdl_ast_types.expression.BinaryOperator.TheVariants.{Or, Xor, And}
+use Rattle.sdl_tables.specs.sdl_ast_types.expression.BinaryOperator.TheVariants.{Equal, NotEqual}
+use Rattle.sdl_tables.specs.sdl_ast_types.expression.BinaryOperator.TheVariants.{Less, LessEqual}
+use Rattle.sdl_tables.specs.sdl_ast_types.expression.BinaryOperator.TheVariants.{Greater}
+use Rattle.sdl_tables.specs.sdl_ast_types.expression.BinaryOperator.TheVariants.{GreaterEqual, Add}
+use Rattle.sdl_tables.specs.sdl_ast_types.expression.BinaryOperator.TheVariants.{Subtract, Multiply}
+use Rattle.sdl_tables.specs.sdl_ast_types.expression.BinaryOperator.TheVariants.{Divide, Modulo}
+use Rattle.sdl_tables.specs.sdl_ast_types.expression.BinaryOperator.TheVariants.{Remainder}
 use Rattle.sdl_tables.specs.sdl_ast_types.tree.Range.{Range}
 use Rattle.sdl_tables.specs.sdl_ast_types.tree.End.{End}
 use Rattle.sdl_tables.specs.sdl_ast_types.tree.End.TheVariants.{NextState, Stop, Join}
-use Rattle.sdl_tables.specs.Plain.{Tree, number, truth, variable, unary, binary, PlainAssignment, PlainSending, PlainAction, task, output, set_timer, reset_timer, Text, falls, ends, does, decides, Choice, nothing_else, otherwise, answer, PlainProcess}
+use Rattle.sdl_tables.specs.Plain.{Tree, number, truth, variable, unary, binary, PlainAssignment}
+use Rattle.sdl_tables.specs.Plain.{PlainSending, PlainAction, task, output, set_timer, reset_timer}
+use Rattle.sdl_tables.specs.Plain.{Text, falls, ends, does, decides, Choice, nothing_else}
+use Rattle.sdl_tables.specs.Plain.{otherwise, answer, PlainProcess}
 use Rattle.sdl_tables.specs.Names.{Variable, variables_of, connection_named, Input, inputs_by_state}
 use Rattle.sdl_sound.specs.Going.{goes_on}
 use Rattle.sdl_sound.specs.Joins.{reached}
@@ -39,7 +50,8 @@ cost_of (number at value) = 1
 cost_of (truth at value) = 1
 cost_of (variable at name) = 1
 cost_of (unary at operator operand) = cost_of operand + 1
-cost_of (binary at operator left right) = cost_of left + (if is_division operator then 0 else cost_of right) + 1
+cost_of (binary at operator left right) =
+    cost_of left + (if is_division operator then 0 else cost_of right) + 1
 
 -- the most operands that are there at once: while the right operand is made, the left one waits
 abbrev pub depth_of : Tree → ℕ
@@ -47,7 +59,8 @@ depth_of (number at value) = 1
 depth_of (truth at value) = 1
 depth_of (variable at name) = 1
 depth_of (unary at operator operand) = depth_of operand
-depth_of (binary at operator left right) = max (depth_of left) (if is_division operator then 0 else 1 + depth_of right)
+depth_of (binary at operator left right) =
+    max (depth_of left) (if is_division operator then 0 else 1 + depth_of right)
 
 -- an assignment: its value, and a store
 abbrev pub assignment_cost : PlainAssignment → ℕ
@@ -108,26 +121,29 @@ end_count join (NextState n) = 0
 end_count join (Stop at) = 0
 end_count join (Join j) = join j.connector.name
 
--- ---- with bodies and JOINs: `vs` are the variables, which tell the sort of a question, and `join` says what a connection counts
+-- ---- with bodies and JOINs: `vs` are the variables, which tell the sort of a question, and `join`
+-- says what a connection counts
 
--- Of an Integer DECISION, each range of an answer is tested in turn; where it holds, the answer's body is next. So a body
--- that counts so much counts one test more for each of its ranges, and what is left when none of them holds counts all of them.
+-- Of an Integer DECISION, each range of an answer is tested in turn; where it holds, the answer's
+-- body is next. So a body that counts so much counts one test more for each of its ranges, and what
+-- is left when none of them holds counts all of them.
 abbrev pub tests_budget : List Range → ℕ → ℕ → ℕ
 tests_budget [] body others = others
 tests_budget (r ∷ ranges) body others = 1 + max body (tests_budget ranges body others)
 
 abbrev mutual
-  -- the greatest cost of a walk through a text that something of cost k follows: a JOIN, or the question of a DECISION and
-  -- what is chosen, each is followed by what it goes on with
+  -- the greatest cost of a walk through a text that something of cost k follows: a JOIN, or the
+  -- question of a DECISION and what is chosen, each is followed by what it goes on with
   pub budget : List Variable → (List ℕ → ℕ) → Text → ℕ → ℕ
   budget vs join falls k = k
   budget vs join (ends e) k = end_cost e + end_count join e
   budget vs join (does a rest) k = action_cost a + budget vs join rest k
   budget vs join (decides at q c rest) k =
-      cost_of q + (if is_truth vs q then 1 + pick_budget vs join c (budget vs join rest k) else case_budget vs join c (budget vs join rest k))
+      cost_of q + (if is_truth vs q then 1 + pick_budget vs join c (budget vs join rest k)
+      else case_budget vs join c (budget vs join rest k))
 
-  -- of an Integer DECISION behind its question: the tests up to a range, its body, and 1 where the body goes on; for ELSE all
-  -- tests, and 1 to drop what was asked
+  -- of an Integer DECISION behind its question: the tests up to a range, its body, and 1 where the
+  -- body goes on; for ELSE all tests, and 1 to drop what was asked
   pub case_budget : List Variable → (List ℕ → ℕ) → Choice → ℕ → ℕ
   case_budget vs join nothing_else k = 0
   case_budget vs join (otherwise body) k = 1 + budget vs join body (1 + k)
@@ -138,7 +154,8 @@ abbrev mutual
   pub pick_budget : List Variable → (List ℕ → ℕ) → Choice → ℕ → ℕ
   pick_budget vs join nothing_else k = 0
   pick_budget vs join (otherwise body) k = budget vs join body (1 + k)
-  pick_budget vs join (answer at ranges body others) k = max (budget vs join body (1 + k)) (pick_budget vs join others k)
+  pick_budget vs join (answer at ranges body others) k =
+      max (budget vs join body (1 + k)) (pick_budget vs join others k)
 
 abbrev mutual
   -- the greatest depth on a walk
@@ -151,7 +168,8 @@ abbrev mutual
   pub choice_depth : (List ℕ → ℕ) → Choice → ℕ
   choice_depth join nothing_else = 0
   choice_depth join (otherwise body) = depth join body
-  choice_depth join (answer at ranges body others) = max (depth join body) (choice_depth join others)
+  choice_depth join (answer at ranges body others) =
+      max (depth join body) (choice_depth join others)
 
 abbrev mutual
   -- the most effects on a walk through a text that something with k effects follows
@@ -164,16 +182,19 @@ abbrev mutual
   pub choice_effects : (List ℕ → ℕ) → Choice → ℕ → ℕ
   choice_effects join nothing_else k = 0
   choice_effects join (otherwise body) k = effects join body k
-  choice_effects join (answer at ranges body others) k = max (effects join body k) (choice_effects join others k)
+  choice_effects join (answer at ranges body others) k =
+      max (effects join body k) (choice_effects join others k)
 
--- What the connection with a name counts, where a connection's text counts `measure` of it: as many JOINs are followed as it
--- says, and nothing is counted behind them.
+-- What the connection with a name counts, where a connection's text counts `measure` of it: as many
+-- JOINs are followed as it says, and nothing is counted behind them.
 abbrev pub joined_by : (List Variable → (List ℕ → ℕ) → Text → ℕ) → PlainProcess → ℕ → List ℕ → ℕ
 joined_by measure p zero x = 0
 joined_by measure p (suc n) x =
-    option_map_or (λ c. measure (variables_of p) (joined_by measure p n) c.text) (connection_named p x) 0
+    option_map_or (λ c. measure (variables_of p) (joined_by measure p n) c.text)
+    (connection_named p x) 0
 
--- As many JOINs as there are connections are enough where no JOIN comes back: a walk then meets no connection twice.
+-- As many JOINs as there are connections are enough where no JOIN comes back: a walk then meets no
+-- connection twice.
 abbrev pub joined : (List Variable → (List ℕ → ℕ) → Text → ℕ) → PlainProcess → List ℕ → ℕ
 joined measure p x = joined_by measure p (length p.connections) x
 
@@ -200,8 +221,8 @@ tests_size (otherwise body) = 1
 tests_size (answer at ranges body others) = length ranges + tests_size others
 
 abbrev mutual
-  -- the code of a text without that of connections: a JOIN is a jump; an Integer DECISION has a test for each range and a
-  -- drop before ELSE, a Boolean one has one instruction that chooses
+  -- the code of a text without that of connections: a JOIN is a jump; an Integer DECISION has a
+  -- test for each range and a drop before ELSE, a Boolean one has one instruction that chooses
   pub size : List Variable → Text → ℕ
   size vs falls = 0
   size vs (ends e) = end_cost e
@@ -212,14 +233,15 @@ abbrev mutual
   pub bodies_size : List Variable → Choice → ℕ
   bodies_size vs nothing_else = 0
   bodies_size vs (otherwise body) = size vs body + jump_size body
-  bodies_size vs (answer at ranges body others) = size vs body + jump_size body + bodies_size vs others
+  bodies_size vs (answer at ranges body others) =
+      size vs body + jump_size body + bodies_size vs others
 
 -- the code of a text with that of each connection to which it comes, once
 abbrev pub text_size : PlainProcess → Text → ℕ
 text_size p t = size (variables_of p) t + sum_by (λ c. size (variables_of p) c.text) (reached p t)
 
--- A transition with what comes before its text: the places of its input, each with the variable that gets the
--- parameter. START has none.
+-- A transition with what comes before its text: the places of its input, each with the variable
+-- that gets the parameter. START has none.
 pub record Piece : Type 0 where
   pub places : List (Option Identifier)
   pub text : Text

@@ -1,4 +1,5 @@
--- S2: a name that its class and scope lack. A state after NEXTSTATE is not asked for here. (Z.100: visibility, identifiers.)
+-- S2: a name that its class and scope lack. A state after NEXTSTATE is not asked for here. (Z.100:
+-- visibility, identifiers.)
 use Rattle.std.specs.Prelude.{ℕ, List, [], ◌∷◌, ◌++◌, Option, None, Some, if◌then◌else◌}
 use Rattle.std.specs.List.{flat_map}
 use Rattle.std.specs.Option.{option_to_list}
@@ -9,8 +10,13 @@ use Rattle.sdl_tables.specs.sdl_ast_types.tree.Party.{Party}
 use Rattle.sdl_tables.specs.sdl_ast_types.tree.Party.TheVariants.{Environment, Process}
 use Rattle.sdl_tables.specs.sdl_ast_types.tree.End.{End}
 use Rattle.sdl_tables.specs.sdl_ast_types.tree.End.TheVariants.{NextState, Stop, Join}
-use Rattle.sdl_tables.specs.Plain.{Tree, number, truth, variable, unary, binary, PlainAssignment, PlainSending, PlainAction, task, output, set_timer, reset_timer, PlainStimulus, PlainInput, PlainState, PlainProcess, PlainPath, PlainRoute, PlainBlock}
-use Rattle.sdl_tables.specs.Names.{is_in, routes_of, processes_of, signal_names, process_names, variable_names, timers_of, connector_names, input_parts, part_saves}
+use Rattle.sdl_tables.specs.Plain.{Tree, number, truth, variable, unary, binary, PlainAssignment}
+use Rattle.sdl_tables.specs.Plain.{PlainSending, PlainAction, task, output, set_timer, reset_timer}
+use Rattle.sdl_tables.specs.Plain.{PlainStimulus, PlainInput, PlainState, PlainProcess, PlainPath}
+use Rattle.sdl_tables.specs.Plain.{PlainRoute, PlainBlock}
+use Rattle.sdl_tables.specs.Names.{is_in, routes_of, processes_of, signal_names, process_names}
+use Rattle.sdl_tables.specs.Names.{variable_names, timers_of, connector_names, input_parts}
+use Rattle.sdl_tables.specs.Names.{part_saves}
 use Rattle.sdl_sound.specs.Statements.{Statement, acts, asks, covers, finishes}
 use Rattle.sdl_sound.specs.Actions.{in_statements}
 
@@ -24,7 +30,8 @@ party_names (Process id) = id ∷ []
 
 abbrev pub path_unknown : PlainBlock → PlainPath → List ℕ
 path_unknown b path =
-    unknown (process_names b) (party_names path.from ++ party_names path.to) ++ unknown (signal_names b) path.signals
+    unknown (process_names b) (party_names path.from ++ party_names path.to)
+    ++ unknown (signal_names b) path.signals
 
 abbrev pub route_unknown : PlainBlock → PlainRoute → List ℕ
 route_unknown b r = flat_map (path_unknown b) r.paths
@@ -43,7 +50,8 @@ assignment_names a = a.variable ∷ tree_names a.value
 -- a signal that goes out, with the variables of its parameters
 abbrev pub sending_unknown : PlainBlock → PlainProcess → PlainSending → List ℕ
 sending_unknown b p s =
-    unknown (signal_names b) (s.signal ∷ []) ++ unknown (variable_names p) (flat_map tree_names s.parameters)
+    unknown (signal_names b) (s.signal ∷ [])
+    ++ unknown (variable_names p) (flat_map tree_names s.parameters)
 
 -- the process to which signals go, if it is named
 abbrev pub destination_names : Option Destination → List Identifier
@@ -80,7 +88,8 @@ abbrev pub place_names : List (Option Identifier) → List Identifier
 place_names places = flat_map option_to_list places
 
 abbrev pub stimulus_unknown : PlainBlock → PlainProcess → PlainStimulus → List ℕ
-stimulus_unknown b p s = unknown (trigger_names b p) (s.name ∷ []) ++ unknown (variable_names p) (place_names s.places)
+stimulus_unknown b p s =
+    unknown (trigger_names b p) (s.name ∷ []) ++ unknown (variable_names p) (place_names s.places)
 
 abbrev pub input_unknown : PlainBlock → PlainProcess → PlainInput → List ℕ
 input_unknown b p i = flat_map (stimulus_unknown b p) i.stimuli
@@ -96,4 +105,5 @@ process_unknown b p =
     ++ (flat_map (saves_unknown b p) p.states ++ in_statements (λ from. statement_unknown b p) p)
 
 abbrev pub unknown_names : PlainBlock → List ℕ
-unknown_names b = flat_map (route_unknown b) (routes_of b) ++ flat_map (process_unknown b) (processes_of b)
+unknown_names b =
+    flat_map (route_unknown b) (routes_of b) ++ flat_map (process_unknown b) (processes_of b)

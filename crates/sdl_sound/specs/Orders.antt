@@ -1,5 +1,6 @@
 -- Orders of the connections of a process in which each stands behind all that its JOINs lead to.
-use Rattle.std.specs.Prelude.{◌≡◌, ◌<◌, ℕ, List, [], Option, Some, Result, Ok, Err, length, map, slice_get, Contains, option_to_list}
+use Rattle.std.specs.Prelude.{◌≡◌, ◌<◌, ℕ, List, [], Option, Some, Result, Ok, Err, length, map}
+use Rattle.std.specs.Prelude.{slice_get, Contains, option_to_list}
 use Rattle.std.specs.List.{AllZip, flat_map}
 use Rattle.std.specs.Global.{Vec}
 use Rattle.sdl_tables.specs.sdl_ast_types.expression.Identifier.{Identifier}
@@ -21,13 +22,16 @@ targets_of p joins = joins_in (connector_names p) joins
 abbrev pub links_of : PlainProcess → List (List ℕ)
 links_of p = map (λ c. targets_of p (joins_of c.text)) p.connections
 
--- The numbers of the connections, each once; and each JOIN of a connection leads to one that stands before it.
+-- The numbers of the connections, each once; and each JOIN of a connection leads to one that stands
+-- before it.
 pub record IsOrder (p : PlainProcess) (order : List ℕ) : Type 0 where
   pub count : length order ≡ length p.connections
   pub known : (i n : ℕ) → slice_get order i ≡ Some n → n < length p.connections
   pub each : (n : ℕ) → n < length p.connections → (i : ℕ) × (slice_get order i ≡ Some n)
   pub once : (i j n : ℕ) → slice_get order i ≡ Some n → slice_get order j ≡ Some n → i ≡ j
-  pub behind : (i n m : ℕ) (c : PlainConnection) (j : Join) → slice_get order i ≡ Some n → slice_get p.connections n ≡ Some c
+  pub behind :
+      (i n m : ℕ) (c : PlainConnection) (j : Join) → slice_get order i ≡ Some n
+      → slice_get p.connections n ≡ Some c
       → Contains (joins_of c.text) j → number_of (connector_names p) j.connector.name ≡ Some m
       → (k : ℕ) × (k < i) × (slice_get order k ≡ Some m)
 

@@ -13,22 +13,26 @@ abbrev pub StandsAt : PlainProcess → Step → ℕ → ℕ → Type 0
 StandsAt p Start q i = ⊥
 StandsAt p (Takes state signal) q i =
     (id : Identifier) × (slice_get (states_of p) q ≡ Some id) × (same_name state id.name ≡ true)
-    × (inp : Input) × (slice_get (inputs_of p q) i ≡ Some inp) × (same_name signal inp.stimulus.name.name ≡ true)
+    × (inp : Input) × (slice_get (inputs_of p q) i ≡ Some inp)
+    × (same_name signal inp.stimulus.name.name ≡ true)
 
--- START's transition stands first, and then those of the states in their order, of one state in the order of its inputs
+-- START's transition stands first, and then those of the states in their order, of one state in the
+-- order of its inputs
 abbrev pub Precedes : PlainProcess → Step → Step → Type 0
 Precedes p Start Start = ⊥
 Precedes p Start (Takes state signal) = ⊤
 Precedes p (Takes state signal) Start = ⊥
 Precedes p (Takes state signal) (Takes other heard) =
-    (q : ℕ) × (i : ℕ) × (r : ℕ) × (j : ℕ) × StandsAt p (Takes state signal) q i × StandsAt p (Takes other heard) r j × ((q < r) ⊎ ((q ≡ r) × (i < j)))
+    (q : ℕ) × (i : ℕ) × (r : ℕ) × (j : ℕ) × StandsAt p (Takes state signal) q i
+    × StandsAt p (Takes other heard) r j × ((q < r) ⊎ ((q ≡ r) × (i < j)))
 
 -- one step, however its names are spelled
 abbrev pub IsSame : PlainProcess → Step → Step → Type 0
 IsSame p Start Start = ⊤
 IsSame p Start (Takes state signal) = ⊥
 IsSame p (Takes state signal) Start = ⊥
-IsSame p (Takes state signal) (Takes other heard) = (q : ℕ) × (i : ℕ) × StandsAt p (Takes state signal) q i × StandsAt p (Takes other heard) q i
+IsSame p (Takes state signal) (Takes other heard) =
+    (q : ℕ) × (i : ℕ) × StandsAt p (Takes state signal) q i × StandsAt p (Takes other heard) q i
 
 -- of two paths the first other step of the one precedes that of the other
 abbrev pub Earlier : PlainProcess → List Step → List Step → Type 0
@@ -36,10 +40,14 @@ Earlier p [] other = ⊥
 Earlier p (a ∷ path) [] = ⊥
 Earlier p (a ∷ path) (b ∷ other) = Precedes p a b ⊎ (IsSame p a b × Earlier p path other)
 
--- a path has fewer transitions than another one, or as many, and then it is that one or comes first in the text
+-- a path has fewer transitions than another one, or as many, and then it is that one or comes first
+-- in the text
 abbrev pub NotAfter : PlainProcess → List Step → List Step → Type 0
-NotAfter p path other = (length path < length other) ⊎ ((length path ≡ length other) × (AllZip (IsSame p) path other ⊎ Earlier p path other))
+NotAfter p path other =
+    (length path < length other)
+    ⊎ ((length path ≡ length other) × (AllZip (IsSame p) path other ⊎ Earlier p path other))
 
--- no control path of the process that reads a variable unset has fewer transitions, or as many and comes first in the text
+-- no control path of the process that reads a variable unset has fewer transitions, or as many and
+-- comes first in the text
 abbrev pub IsFirst : PlainProcess → List Step → Type 0
 IsFirst p path = (other : List Step) (x : List ℕ) → ReadsUnset p other x → NotAfter p path other

@@ -1,10 +1,16 @@
--- Control paths, and what is read on them before it is set. (Z.100: the transitions of a process graph.)
-use Rattle.std.specs.Prelude.{◌≡◌, ◌⊎◌, ◌<◌, ◌≤◌, ℕ, zero, suc, Bool, true, false, not, ◌&&◌, ◌||◌, List, [], ◌∷◌, ◌++◌, length, Option, None, Some, if◌then◌else◌, map, All, Contains, is_some}
+-- Control paths, and what is read on them before it is set. (Z.100: the transitions of a process
+-- graph.)
+use Rattle.std.specs.Prelude.{◌≡◌, ◌⊎◌, ◌<◌, ◌≤◌, ℕ, zero, suc, Bool, true, false, not, ◌&&◌, ◌||◌}
+use Rattle.std.specs.Prelude.{List, [], ◌∷◌, ◌++◌, length, Option, None, Some, if◌then◌else◌, map}
+use Rattle.std.specs.Prelude.{All, Contains, is_some}
 use Rattle.std.specs.List.{flat_map}
 use Rattle.std.specs.Option.{option_map_or}
 use Rattle.sdl_tables.specs.sdl_ast_types.tree.End.TheVariants.{NextState, Stop, Join}
-use Rattle.sdl_tables.specs.Plain.{Tree, PlainAssignment, PlainSending, PlainAction, task, output, set_timer, reset_timer, Text, falls, ends, does, decides, Choice, nothing_else, otherwise, answer, PlainConnection, PlainProcess}
-use Rattle.sdl_tables.specs.Names.{same_name, number_of, Variable, variables_of, connection_named, states_of, Input, inputs_of}
+use Rattle.sdl_tables.specs.Plain.{Tree, PlainAssignment, PlainSending, PlainAction, task, output}
+use Rattle.sdl_tables.specs.Plain.{set_timer, reset_timer, Text, falls, ends, does, decides, Choice}
+use Rattle.sdl_tables.specs.Plain.{nothing_else, otherwise, answer, PlainConnection, PlainProcess}
+use Rattle.sdl_tables.specs.Names.{same_name, number_of, Variable, variables_of, connection_named}
+use Rattle.sdl_tables.specs.Names.{states_of, Input, inputs_of}
 use Rattle.sdl_sound.specs.Names.{tree_names, place_names}
 use Rattle.sdl_sound.specs.declared.fault.Step.{Step}
 use Rattle.sdl_sound.specs.declared.fault.Step.TheVariants.{Start, Input as Takes}
@@ -33,22 +39,24 @@ action_events (output at sendings to) = flat_map sending_events sendings
 action_events (set_timer at delay timer) = tree_events delay
 action_events (reset_timer at timer) = []
 
--- How a walk of a text ends: it runs off the text's end, so that what stands behind the text is next; it stops; or it ends in
--- the state with a name.
+-- How a walk of a text ends: it runs off the text's end, so that what stands behind the text is
+-- next; it stops; or it ends in the state with a name.
 pub data Way : Type 0 where
   onward : Way
   stops : Way
   enters : List ℕ → Way
 
--- what stands behind a DECISION is walked where the body runs off its end, and nothing where it doesn't
+-- what stands behind a DECISION is walked where the body runs off its end, and nothing where it
+-- doesn't
 abbrev pub GoesOn : Way → (List Event → Way → Type 0) → List Event → Way → Type 0
 GoesOn onward rest after way = rest after way
 GoesOn stops rest after way = (after ≡ []) × (way ≡ stops)
 GoesOn (enters s) rest after way = (after ≡ []) × (way ≡ enters s)
 
 abbrev mutual
-  -- A walk of a text: its reads and sets in order, and how it ends. A DECISION reads its question, and then some one of its
-  -- bodies is walked; a JOIN goes on with a walk of its connection, which `join` tells.
+  -- A walk of a text: its reads and sets in order, and how it ends. A DECISION reads its question,
+  -- and then some one of its bodies is walked; a JOIN goes on with a walk of its connection, which
+  -- `join` tells.
   pub Walks : (List ℕ → List Event → Way → Type 0) → Text → List Event → Way → Type 0
   Walks join falls events way = (events ≡ []) × (way ≡ onward)
   Walks join (ends (NextState n)) events way = (events ≡ []) × (way ≡ enters n.state.name)
@@ -64,7 +72,8 @@ abbrev mutual
   pub IsChosen : (List ℕ → List Event → Way → Type 0) → Choice → List Event → Way → Type 0
   IsChosen join nothing_else events way = ⊥
   IsChosen join (otherwise body) events way = Walks join body events way
-  IsChosen join (answer at ranges body others) events way = Walks join body events way ⊎ IsChosen join others events way
+  IsChosen join (answer at ranges body others) events way =
+      Walks join body events way ⊎ IsChosen join others events way
 
 -- nothing stands behind a connection
 abbrev pub last_way : Way → Way
@@ -87,7 +96,8 @@ way_state (enters s) = Some s
 
 -- A walk of a transition or of a connection, however many JOINs it follows.
 abbrev pub IsWalk : PlainProcess → Text → List Event → Option (List ℕ) → Type 0
-IsWalk p t events end = (n : ℕ) × (way : Way) × Walks (Follows p n) t events way × (end ≡ way_state way)
+IsWalk p t events end =
+    (n : ℕ) × (way : Way) × Walks (Follows p n) t events way × (end ≡ way_state way)
 
 -- A transition: what is set before its text, and its text.
 pub record Transition : Type 0 where
@@ -103,7 +113,8 @@ start_transition p = record { first = flat_map initial_sets (variables_of p); te
 
 -- that of an input comes after its places got the parameters
 abbrev pub input_transition : Input → Transition
-input_transition i = record { first = map (λ id. sets id.name) (place_names i.stimulus.places); text = i.text }
+input_transition i =
+    record { first = map (λ id. sets id.name) (place_names i.stimulus.places); text = i.text }
 
 -- where a process is between two transitions: before START, or in a state with this name
 abbrev pub Place : Type 0
@@ -120,7 +131,8 @@ Leads p None (Takes state signal) t = ⊥
 Leads p (Some s) Start t = ⊥
 Leads p (Some s) (Takes state signal) t =
     (same_name s state ≡ true)
-    × (i : Input) × Contains (inputs_in p s) i × (same_name signal i.stimulus.name.name ≡ true) × (t ≡ input_transition i)
+    × (i : Input) × Contains (inputs_in p s) i × (same_name signal i.stimulus.name.name ≡ true)
+    × (t ≡ input_transition i)
 
 -- whether these events read x, and set it nowhere before
 abbrev pub reads_first : List Event → List ℕ → Bool
@@ -134,8 +146,9 @@ sets_in [] x = false
 sets_in (reads y ∷ events) x = sets_in events x
 sets_in (sets y ∷ events) x = same_name x y || sets_in events x
 
--- From a place on, with x not set before, these steps are a control path: some walk of each but the last ends in the
--- state from which the next one leads, and does not set x; some walk of the last one reads x and sets it nowhere before.
+-- From a place on, with x not set before, these steps are a control path: some walk of each but the
+-- last ends in the state from which the next one leads, and does not set x; some walk of the last
+-- one reads x and sets it nowhere before.
 abbrev pub ReadsFrom : PlainProcess → Place → List Step → List ℕ → Type 0
 ReadsFrom p place [] x = ⊥
 ReadsFrom p place (step ∷ []) x =
@@ -148,19 +161,23 @@ ReadsFrom p place (step ∷ next ∷ steps) x =
     × (sets_in (t.first ++ events) x ≡ false)
     × ReadsFrom p (Some s) (next ∷ steps) x
 
--- a control path from START, the last transition of which reads x before anything on the path sets it
+-- a control path from START, the last transition of which reads x before anything on the path sets
+-- it
 abbrev pub ReadsUnset : PlainProcess → List Step → List ℕ → Type 0
 ReadsUnset p path x = ReadsFrom p None path x
 
 -- no control path of the process that reads a variable unset has fewer transitions
 abbrev pub IsShortest : PlainProcess → List Step → Type 0
-IsShortest p path = (other : List Step) (x : List ℕ) → ReadsUnset p other x → length path ≤ length other
+IsShortest p path =
+    (other : List Step) (x : List ℕ) → ReadsUnset p other x → length path ≤ length other
 
 -- each control path of the process that reads a variable unset has more transitions
 abbrev pub AreLonger : List Step → PlainProcess → Type 0
-AreLonger path p = (other : List Step) (x : List ℕ) → ReadsUnset p other x → length path < length other
+AreLonger path p =
+    (other : List Step) (x : List ℕ) → ReadsUnset p other x → length path < length other
 
--- It is a process of these, and the first that has so short a path: in each before it all have more transitions.
+-- It is a process of these, and the first that has so short a path: in each before it all have more
+-- transitions.
 pub record IsFirstWith (ps : List PlainProcess) (p : PlainProcess) (path : List Step) : Type 0 where
   pub before : List PlainProcess
   pub after : List PlainProcess

@@ -7,7 +7,10 @@ use Rattle.sdl_sound.specs.declared.fault.Step.{Step}
 use Rattle.sdl_sound.specs.declared.fault.Step.TheVariants.{Start, Input}
 use Rattle.sdl_sound.specs.declared.fault.ControlPath.{ControlPath}
 use Rattle.sdl_sound.specs.declared.fault.RuleFault.{RuleFault}
-use Rattle.sdl_sound.specs.declared.fault.RuleFault.TheVariants.{DoubleName, UnknownName, WrongSort, NoState, NoReceiver, TwoReceivers, JoinCycle, NoAnswer, BadDivisor, Limit as Passed, Unset, NoMemory}
+use Rattle.sdl_sound.specs.declared.fault.RuleFault.TheVariants.{DoubleName, UnknownName, WrongSort}
+use Rattle.sdl_sound.specs.declared.fault.RuleFault.TheVariants.{NoState, NoReceiver, TwoReceivers}
+use Rattle.sdl_sound.specs.declared.fault.RuleFault.TheVariants.{JoinCycle, NoAnswer, BadDivisor}
+use Rattle.sdl_sound.specs.declared.fault.RuleFault.TheVariants.{Limit as Passed, Unset, NoMemory}
 
 -- what there is too much of
 abbrev pub limit_text : Limit → List ℕ

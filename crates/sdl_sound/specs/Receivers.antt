@@ -1,12 +1,16 @@
--- Who gets what is sent: the OUTPUTs that nobody, or more than one, would get. (Z.100: signal routes, output.)
-use Rattle.std.specs.Prelude.{ℕ, Bool, false, not, ◌&&◌, List, [], ◌∷◌, Option, None, Some, if◌then◌else◌, length, nat_lt}
+-- Who gets what is sent: the OUTPUTs that nobody, or more than one, would get. (Z.100: signal
+-- routes, output.)
+use Rattle.std.specs.Prelude.{ℕ, Bool, false, not, ◌&&◌, List, [], ◌∷◌, Option, None, Some}
+use Rattle.std.specs.Prelude.{if◌then◌else◌, length, nat_lt}
 use Rattle.std.specs.List.{list_all, flat_map}
 use Rattle.sdl_tables.specs.sdl_ast_types.tree.Party.{Party}
 use Rattle.sdl_tables.specs.sdl_ast_types.tree.Party.TheVariants.{Process}
 use Rattle.sdl_tables.specs.sdl_ast_types.tree.Destination.{Destination}
 use Rattle.sdl_tables.specs.sdl_ast_types.tree.Destination.TheVariants as address
-use Rattle.sdl_tables.specs.Plain.{PlainSending, PlainAction, task, output, set_timer, reset_timer, PlainProcess, PlainBlock}
-pub use Rattle.sdl_tables.specs.Routes.{same_party, paths_of, brings, carries, path_receivers, path_senders, add_party, receivers, senders}
+use Rattle.sdl_tables.specs.Plain.{PlainSending, PlainAction, task, output, set_timer, reset_timer}
+use Rattle.sdl_tables.specs.Plain.{PlainProcess, PlainBlock}
+pub use Rattle.sdl_tables.specs.Routes.{same_party, paths_of, brings, carries, path_receivers}
+pub use Rattle.sdl_tables.specs.Routes.{path_senders, add_party, receivers, senders}
 use Rattle.sdl_tables.specs.Names.{is_in, processes_of, timers_of}
 use Rattle.sdl_sound.specs.Statements.{Statement, acts, asks, covers, finishes}
 use Rattle.sdl_sound.specs.Actions.{Origin, begins, takes, in_statements}
@@ -17,18 +21,20 @@ party_of p = Process p.name
 
 -- ---- S5: an OUTPUT that nobody would get
 
--- Whether what the transition of this input sends TO SENDER gets there: each who may have sent the input is reached. A
--- timer has no sender.
+-- Whether what the transition of this input sends TO SENDER gets there: each who may have sent the
+-- input is reached. A timer has no sender.
 abbrev pub answers : PlainBlock → PlainProcess → List ℕ → List ℕ → Bool
 answers b p s input =
-    not (is_in (timers_of p) input) && list_all (λ q. carries b (party_of p) q s) (senders b (party_of p) input)
+    not (is_in (timers_of p) input)
+    && list_all (λ q. carries b (party_of p) q s) (senders b (party_of p) input)
 
 -- the same for what a transition begins with; START has no sender
 abbrev pub answers_origin : PlainBlock → PlainProcess → List ℕ → Origin → Bool
 answers_origin b p s begins = false
 answers_origin b p s (takes x) = answers b p s x.name.name
 
--- The same for all with which the transitions begin that come to a statement: nothing is asked of one to which none comes.
+-- The same for all with which the transitions begin that come to a statement: nothing is asked of
+-- one to which none comes.
 abbrev pub answers_all : PlainBlock → PlainProcess → List Origin → List ℕ → Bool
 answers_all b p from s = list_all (answers_origin b p s) from
 
@@ -38,7 +44,8 @@ arrives b p from None s = nat_lt 0 (length (receivers b (party_of p) s))
 arrives b p from (Some (address.Sender at)) s = answers_all b p from s
 arrives b p from (Some (address.Process id)) s = carries b (party_of p) (Process id) s
 
-abbrev pub lost_sending : PlainBlock → PlainProcess → List Origin → Option Destination → PlainSending → List ℕ
+abbrev pub lost_sending :
+    PlainBlock → PlainProcess → List Origin → Option Destination → PlainSending → List ℕ
 lost_sending b p from to x = if arrives b p from to x.signal.name then [] else x.signal.at ∷ []
 
 abbrev pub lost_action : PlainBlock → PlainProcess → List Origin → PlainAction → List ℕ
@@ -78,4 +85,5 @@ doubtful_statement b p (covers q ranges) = []
 doubtful_statement b p (finishes e) = []
 
 abbrev pub with_two_receivers : PlainBlock → List ℕ
-with_two_receivers b = flat_map (λ p. in_statements (λ from. doubtful_statement b p) p) (processes_of b)
+with_two_receivers b =
+    flat_map (λ p. in_statements (λ from. doubtful_statement b p) p) (processes_of b)

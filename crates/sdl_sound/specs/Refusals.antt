@@ -15,11 +15,16 @@ use Rattle.sdl_sound.specs.Paths.{ReadsUnset, IsShortest, IsFirstWith}
 use Rattle.sdl_sound.specs.PathOrder.{IsFirst}
 use Rattle.sdl_sound.specs.Spellings.{AreDeclared}
 use Rattle.sdl_sound.specs.declared.fault.RuleFault.{RuleFault}
-use Rattle.sdl_sound.specs.declared.fault.RuleFault.TheVariants.{DoubleName, UnknownName, WrongSort, NoState, NoReceiver, TwoReceivers, JoinCycle, NoAnswer, BadDivisor, Limit, Unset, NoMemory}
+use Rattle.sdl_sound.specs.declared.fault.RuleFault.TheVariants.{DoubleName, UnknownName, WrongSort}
+use Rattle.sdl_sound.specs.declared.fault.RuleFault.TheVariants.{NoState, NoReceiver, TwoReceivers}
+use Rattle.sdl_sound.specs.declared.fault.RuleFault.TheVariants.{JoinCycle, NoAnswer, BadDivisor}
+use Rattle.sdl_sound.specs.declared.fault.RuleFault.TheVariants.{Limit, Unset, NoMemory}
 use Rattle.sdl_tables.specs.declared.fault.TableFault.{TableFault}
-use Rattle.sdl_tables.specs.declared.fault.TableFault.TheVariants.{DoubleName as NoTable, NoMemory as NoRoom}
+use Rattle.sdl_tables.specs.declared.fault.TableFault.TheVariants.{DoubleName as NoTable}
+use Rattle.sdl_tables.specs.declared.fault.TableFault.TheVariants.{NoMemory as NoRoom}
 
--- The rules by number: each of these says that neither its own rule nor one with a lesser number is broken.
+-- The rules by number: each of these says that neither its own rule nor one with a lesser number is
+-- broken.
 
 abbrev pub IsDistinct : PlainBlock → Type 0
 IsDistinct b = double_names b ≡ []
@@ -51,10 +56,10 @@ IsDivided b = IsAnswered b × (bad_divisors b ≡ [])
 abbrev pub IsWithin : PlainBlock → Type 0
 IsWithin b = IsDivided b × (first_limit b ≡ None)
 
--- A refusal names a rule that is broken at its place, and no rule with a lesser number is broken anywhere. A variable that is
--- read unset, and the path, are spelled as they are declared; no path of any process that reads any variable unset has fewer
--- transitions, none of a process before that of the path has as few, and none of that process with as few comes first in the
--- text.
+-- A refusal names a rule that is broken at its place, and no rule with a lesser number is broken
+-- anywhere. A variable that is read unset, and the path, are spelled as they are declared; no path
+-- of any process that reads any variable unset has fewer transitions, none of a process before that
+-- of the path has as few, and none of that process with as few comes first in the text.
 abbrev pub Refuses : PlainBlock → RuleFault → Type 0
 Refuses b (DoubleName at) = Contains (double_names b) at
 Refuses b (UnknownName at) = IsDistinct b × Contains (unknown_names b) at
@@ -67,8 +72,10 @@ Refuses b (NoAnswer at) = IsJoined b × Contains (unanswered b) at
 Refuses b (BadDivisor at) = IsAnswered b × Contains (bad_divisors b) at
 Refuses b (Limit which) = IsDivided b × (first_limit b ≡ Some which)
 Refuses b (Unset x path) =
-    IsWithin b × (p : PlainProcess) × Contains (processes_of b) p × ReadsUnset p path.steps.items x × AreDeclared b p x path.steps.items
-    × All (λ q. IsShortest q path.steps.items) (processes_of b) × IsFirstWith (processes_of b) p path.steps.items
+    IsWithin b × (p : PlainProcess) × Contains (processes_of b) p × ReadsUnset p path.steps.items x
+    × AreDeclared b p x path.steps.items
+    × All (λ q. IsShortest q path.steps.items) (processes_of b)
+    × IsFirstWith (processes_of b) p path.steps.items
     × IsFirst p path.steps.items
 Refuses b NoMemory = ⊤
 

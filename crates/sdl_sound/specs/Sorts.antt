@@ -1,13 +1,22 @@
--- Sorts: which one each operand, assigned value, initial value, parameter, answer and place of an INPUT has to have, and the
--- places in the text where it has another one. (Z.100: expressions, sorts of data.)
-use Rattle.std.specs.Prelude.{ℕ, Bool, true, false, ◌&&◌, List, [], ◌∷◌, ◌++◌, Option, None, Some, if◌then◌else◌, length, nat_eq, nat_lt, find, zip}
+-- Sorts: which one each operand, assigned value, initial value, parameter, answer and place of an
+-- INPUT has to have, and the places in the text where it has another one. (Z.100: expressions,
+-- sorts of data.)
+use Rattle.std.specs.Prelude.{ℕ, Bool, true, false, ◌&&◌, List, [], ◌∷◌, ◌++◌, Option, None, Some}
+use Rattle.std.specs.Prelude.{if◌then◌else◌, length, nat_eq, nat_lt, find, zip}
 use Rattle.std.specs.List.{flat_map}
 use Rattle.std.specs.Option.{option_map, option_map_or}
 use Rattle.sdl_tables.specs.sdl_ast_types.expression.Identifier.{Identifier}
 use Rattle.sdl_tables.specs.sdl_ast_types.expression.UnaryOperator.{UnaryOperator}
 use Rattle.sdl_tables.specs.sdl_ast_types.expression.UnaryOperator.TheVariants.{Negate, Not}
 use Rattle.sdl_tables.specs.sdl_ast_types.expression.BinaryOperator.{BinaryOperator}
-use Rattle.sdl_tables.specs.sdl_ast_types.expression.BinaryOperator.TheVariants.{Or, Xor, And, Equal, NotEqual, Less, LessEqual, Greater, GreaterEqual, Add, Subtract, Multiply, Divide, Modulo, Remainder}
+use Rattle.sdl_tables.specs.sdl_ast_types.expression.BinaryOperator.TheVariants.{Or, Xor, And}
+use Rattle.sdl_tables.specs.sdl_ast_types.expression.BinaryOperator.TheVariants.{Equal, NotEqual}
+use Rattle.sdl_tables.specs.sdl_ast_types.expression.BinaryOperator.TheVariants.{Less, LessEqual}
+use Rattle.sdl_tables.specs.sdl_ast_types.expression.BinaryOperator.TheVariants.{Greater}
+use Rattle.sdl_tables.specs.sdl_ast_types.expression.BinaryOperator.TheVariants.{GreaterEqual, Add}
+use Rattle.sdl_tables.specs.sdl_ast_types.expression.BinaryOperator.TheVariants.{Subtract, Multiply}
+use Rattle.sdl_tables.specs.sdl_ast_types.expression.BinaryOperator.TheVariants.{Divide, Modulo}
+use Rattle.sdl_tables.specs.sdl_ast_types.expression.BinaryOperator.TheVariants.{Remainder}
 use Rattle.sdl_tables.specs.sdl_ast_types.tree.Sort.{Sort}
 use Rattle.sdl_tables.specs.sdl_ast_types.tree.Sort.TheVariants.{Integer, Boolean}
 use Rattle.sdl_tables.specs.sdl_ast_types.tree.Constant.{Constant}
@@ -15,9 +24,12 @@ use Rattle.sdl_tables.specs.sdl_ast_types.tree.Range.{Range}
 use Rattle.sdl_tables.specs.sdl_ast_types.tree.Range.TheVariants.{Value, Compared, Between}
 use Rattle.sdl_tables.specs.sdl_ast_types.tree.Literal.{Literal}
 use Rattle.sdl_tables.specs.sdl_ast_types.tree.Literal.TheVariants as literal
-use Rattle.sdl_tables.specs.Plain.{Tree, number, truth, variable, unary, binary, PlainAssignment, PlainSending, PlainAction, task, output, set_timer, reset_timer, PlainStimulus, PlainInput, PlainProcess, PlainBlock}
+use Rattle.sdl_tables.specs.Plain.{Tree, number, truth, variable, unary, binary, PlainAssignment}
+use Rattle.sdl_tables.specs.Plain.{PlainSending, PlainAction, task, output, set_timer, reset_timer}
+use Rattle.sdl_tables.specs.Plain.{PlainStimulus, PlainInput, PlainProcess, PlainBlock}
 use Rattle.sdl_tables.specs.Places.{place_of}
-use Rattle.sdl_tables.specs.Names.{same_name, processes_of, signal_named, Variable, variables_of, input_parts}
+use Rattle.sdl_tables.specs.Names.{same_name, processes_of, signal_named, Variable, variables_of}
+use Rattle.sdl_tables.specs.Names.{input_parts}
 use Rattle.sdl_sound.specs.Statements.{Statement, acts, asks, covers, finishes}
 use Rattle.sdl_sound.specs.Actions.{in_statements}
 
@@ -64,7 +76,8 @@ binary_sort Divide = Integer
 binary_sort Modulo = Integer
 binary_sort Remainder = Integer
 
--- what both operands have to be, where the left one has this sort: `=` and `/=` take two of any one sort
+-- what both operands have to be, where the left one has this sort: `=` and `/=` take two of any one
+-- sort
 abbrev pub operand_sort : BinaryOperator → Option Sort → Option Sort
 operand_sort Or left = Some Boolean
 operand_sort Xor left = Some Boolean
@@ -100,17 +113,20 @@ is_truth vs q = has_sort Boolean (sort_in vs q)
 abbrev pub misfit : List Variable → Option Sort → Tree → List ℕ
 misfit vs want t = if have_one_sort want (sort_in vs t) then [] else place_of t ∷ []
 
--- the operands of an operator; where two of one sort are wanted and they differ, the right one is wrong
+-- the operands of an operator; where two of one sort are wanted and they differ, the right one is
+-- wrong
 abbrev pub wrong_operands : List Variable → BinaryOperator → Tree → Tree → List ℕ
 wrong_operands vs operator left right =
-    misfit vs (operand_sort operator (sort_in vs left)) left ++ misfit vs (operand_sort operator (sort_in vs left)) right
+    misfit vs (operand_sort operator (sort_in vs left)) left
+    ++ misfit vs (operand_sort operator (sort_in vs left)) right
 
 -- every wrong operand in an expression, also one under another
 abbrev pub wrong_in : List Variable → Tree → List ℕ
 wrong_in vs (number at value) = []
 wrong_in vs (truth at value) = []
 wrong_in vs (variable at id) = []
-wrong_in vs (unary at operator operand) = wrong_in vs operand ++ misfit vs (Some (unary_sort operator)) operand
+wrong_in vs (unary at operator operand) =
+    wrong_in vs operand ++ misfit vs (Some (unary_sort operator)) operand
 wrong_in vs (binary at operator left right) =
     wrong_in vs left ++ (wrong_in vs right ++ wrong_operands vs operator left right)
 
@@ -120,7 +136,9 @@ wrong_for vs want t = wrong_in vs t ++ misfit vs (Some want) t
 
 -- an assignment of a value of another sort is wrong at the variable
 abbrev pub wrong_variable : List Variable → PlainAssignment → List ℕ
-wrong_variable vs a = if have_one_sort (variable_sort vs a.variable.name) (sort_in vs a.value) then [] else a.variable.at ∷ []
+wrong_variable vs a =
+    if have_one_sort (variable_sort vs a.variable.name) (sort_in vs a.value) then []
+    else a.variable.at ∷ []
 
 abbrev pub wrong_assignment : List Variable → PlainAssignment → List ℕ
 wrong_assignment vs a = wrong_in vs a.value ++ wrong_variable vs a
@@ -217,7 +235,9 @@ wrong_input b vs i = flat_map (wrong_stimulus b vs) i.stimuli
 
 -- what a process declares, and the places of its INPUTs
 abbrev pub wrong_declarations : PlainBlock → PlainProcess → List ℕ
-wrong_declarations b p = flat_map wrong_initial (variables_of p) ++ flat_map (wrong_input b (variables_of p)) (input_parts p)
+wrong_declarations b p =
+    flat_map wrong_initial (variables_of p)
+    ++ flat_map (wrong_input b (variables_of p)) (input_parts p)
 
 abbrev pub wrong_sorts : PlainBlock → List ℕ
 wrong_sorts b =

@@ -12,10 +12,12 @@ use Rattle.sdl_sound.specs.declared.fault.Step.TheVariants.{Start, Input as Take
 abbrev pub IsSpelling : List Identifier → List ℕ → Type 0
 IsSpelling ids x = Any (λ (id : Identifier). id.name ≡ x) ids
 
--- a step spells its state as the first STATE that names it, and its signal or timer as that is declared
+-- a step spells its state as the first STATE that names it, and its signal or timer as that is
+-- declared
 abbrev pub IsDeclaredStep : PlainBlock → PlainProcess → Step → Type 0
 IsDeclaredStep b p Start = ⊤
-IsDeclaredStep b p (Takes state signal) = IsSpelling (states_of p) state × IsSpelling (trigger_names b p) signal
+IsDeclaredStep b p (Takes state signal) =
+    IsSpelling (states_of p) state × IsSpelling (trigger_names b p) signal
 
 -- a variable and the steps of a path are spelled as they are declared
 abbrev pub AreDeclared : PlainBlock → PlainProcess → List ℕ → List Step → Type 0

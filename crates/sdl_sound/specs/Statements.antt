@@ -1,12 +1,13 @@
--- The statements of a transition, those in the answers of its DECISIONs too, in the order of the text. (Z.100: transitions,
--- decisions.)
+-- The statements of a transition, those in the answers of its DECISIONs too, in the order of the
+-- text. (Z.100: transitions, decisions.)
 use Rattle.std.specs.Prelude.{ℕ, List, [], ◌∷◌, ◌++◌}
 use Rattle.std.specs.List.{flat_map}
 use Rattle.sdl_tables.specs.sdl_ast_types.tree.Range.{Range}
 use Rattle.sdl_tables.specs.sdl_ast_types.tree.Join.{Join}
 use Rattle.sdl_tables.specs.sdl_ast_types.tree.End.{End}
 use Rattle.sdl_tables.specs.sdl_ast_types.tree.End.TheVariants as how
-use Rattle.sdl_tables.specs.Plain.{Tree, PlainAction, Text, falls, ends, does, decides, Choice, nothing_else, otherwise, answer}
+use Rattle.sdl_tables.specs.Plain.{Tree, PlainAction, Text, falls, ends, does, decides, Choice}
+use Rattle.sdl_tables.specs.Plain.{nothing_else, otherwise, answer}
 
 pub data Statement : Type 0 where
   acts : PlainAction → Statement
@@ -28,7 +29,8 @@ abbrev mutual
   pub choice_statements : Tree → Choice → List Statement
   choice_statements q nothing_else = []
   choice_statements q (otherwise body) = statements_of body
-  choice_statements q (answer at ranges body others) = covers q ranges ∷ (statements_of body ++ choice_statements q others)
+  choice_statements q (answer at ranges body others) =
+      covers q ranges ∷ (statements_of body ++ choice_statements q others)
 
 -- ---- the JOINs
 

@@ -14,10 +14,10 @@ use Rattle.sdl_tables.specs.Routes.{same_party}
 use Rattle.sdl_sound.specs.Receivers.{party_of}
 use Rattle.sdl_sound.proofs.Numbered.{same_back}
 use Rattle.sdl_statements.specs.Distinct.{same_numbers, same_sender, has_sender, add_sender, distinct}
-use Rattle.sdl_senders.specs.Parties.{party_number, IsSender, gets_back}
-use Rattle.sdl_senders.specs.declared.sender.Numbered.{Numbered}
-use Rattle.sdl_senders.specs.declared.sender.Sender.{Sender}
-use Rattle.sdl_senders.specs.declared.sender.Sender.TheVariants.{Nobody, Party as By}
+use Rattle.sdl_scopes.specs.Parties.{party_number, IsSender, gets_back}
+use Rattle.sdl_scopes.specs.declared.sender.Numbered.{Numbered}
+use Rattle.sdl_scopes.specs.declared.sender.Sender.{Sender}
+use Rattle.sdl_scopes.specs.declared.sender.Sender.TheVariants.{Nobody, Party as By}
 use Rattle.sdl_statements.proofs.BackRows.{itself}
 use Rattle.sdl_statements.proofs.Gathering.{carried_same, same_number}
 use Rattle.sdl_statements.proofs.Spreading.{spread, all_on, all_there, rows_there}

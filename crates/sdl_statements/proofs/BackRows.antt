@@ -13,13 +13,13 @@ use Rattle.sdl_tables.specs.Names.{is_in, number_of}
 use Rattle.sdl_tables.specs.Routes.{same_party, paths_of, brings, carries, path_receivers, receivers}
 use Rattle.sdl_sound.specs.Receivers.{party_of}
 use Rattle.sdl_sound.proofs.Numbered.{number_names, same_folded, folded_same}
-use Rattle.sdl_senders.specs.Parties.{party_number}
-use Rattle.sdl_senders.specs.Reaches.{is_marked}
+use Rattle.sdl_scopes.specs.Parties.{party_number}
+use Rattle.sdl_scopes.specs.Reaches.{is_marked}
 use Rattle.sdl_statements.specs.Sources.{Marks}
 use Rattle.sdl_statements.specs.Backs.{GetThere, Brings}
 use Rattle.sdl_statements.specs.declared.back_table.BackTable.{BackTable}
 use Rattle.sdl_statements.proofs.Gathering.{carried_same, same_number, none_marked, once_all}
-use Rattle.sdl_senders.proofs.Knowing.{brought_alike}
+use Rattle.sdl_scopes.proofs.Knowing.{brought_alike}
 use Rattle.sdl_statements.proofs.SenderRows.{pushed_at}
 use Rattle.plain_laws.proofs.Truths.{and_first as and_left, and_second as and_right}
 

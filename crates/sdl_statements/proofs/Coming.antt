@@ -24,15 +24,14 @@ use Rattle.sdl_sound.specs.Receivers.{answers, answers_origin, answers_all}
 use Rattle.sdl_sound.proofs.Numbered.{number_names, folded_same}
 use Rattle.plain_laws.proofs.Places.{there_is}
 use Rattle.sdl_statements.specs.Distinct.{has_sender, distinct}
-use Rattle.sdl_senders.specs.Known.{AreSenders}
-use Rattle.sdl_senders.specs.Reaches.{is_marked}
-use Rattle.sdl_senders.specs.Parties.{IsSender, gets_back}
+use Rattle.sdl_scopes.specs.Known.{AreSenders}
+use Rattle.sdl_scopes.specs.Reaches.{is_marked, PlainSent, senders_in}
+use Rattle.sdl_scopes.specs.Parties.{IsSender, gets_back}
 use Rattle.sdl_statements.specs.SenderTables.{AreSendersOf, stimulus_rows, add_stimulus, add_input, ToldAll}
-use Rattle.sdl_senders.specs.Reaches.{PlainSent, senders_in}
 use Rattle.sdl_statements.specs.Reached.{joining_of, input_joining, takes_one, starts_with, row_at, may_begin, sent_joins, sent_reach, sent_by, sent_all}
 use Rattle.sdl_statements.specs.declared.reaching.Joining.{Joining}
-use Rattle.sdl_senders.specs.declared.sender.Sender.{Sender}
-use Rattle.sdl_senders.specs.declared.sender.Sender.TheVariants.{Nobody}
+use Rattle.sdl_scopes.specs.declared.sender.Sender.{Sender}
+use Rattle.sdl_scopes.specs.declared.sender.Sender.TheVariants.{Nobody}
 use Rattle.sdl_statements.specs.declared.sender_table.SenderTable.{SenderTable}
 use Rattle.sdl_statements.proofs.Alike.{distinct_there, distinct_are, row_covered}
 use Rattle.sdl_statements.proofs.SenderRows.{tells_at}

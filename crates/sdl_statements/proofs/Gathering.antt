@@ -19,13 +19,13 @@ use Rattle.sdl_sound.specs.Receivers.{party_of, same_party, paths_of, brings, ca
 use Rattle.sdl_ast.specs.declared.tree.Stimulus.{Stimulus}
 use Rattle.sdl_ast.specs.Views.{stimulus_of}
 use Rattle.sdl_sound.specs.Actions.{takes}
-use Rattle.sdl_senders.specs.Parties.{party_number, IsNumbered, IsSender, gets_back}
+use Rattle.sdl_scopes.specs.Parties.{party_number, IsNumbered, IsSender, gets_back}
 use Rattle.sdl_statements.specs.SenderTables.{numbered}
-use Rattle.sdl_senders.specs.declared.sender.Numbered.{Numbered}
-use Rattle.sdl_senders.specs.declared.sender.Sender.{Sender}
-use Rattle.sdl_senders.specs.declared.sender.Sender.TheVariants.{Nobody, Party as By}
+use Rattle.sdl_scopes.specs.declared.sender.Numbered.{Numbered}
+use Rattle.sdl_scopes.specs.declared.sender.Sender.{Sender}
+use Rattle.sdl_scopes.specs.declared.sender.Sender.TheVariants.{Nobody, Party as By}
 use Rattle.sdl_sound.proofs.Numbered.{number_names, same_folded, folded_same}
-use Rattle.sdl_senders.specs.Reaches.{is_marked}
+use Rattle.sdl_scopes.specs.Reaches.{is_marked}
 use Rattle.sdl_statements.specs.Sources.{Gathers, Marks}
 use Rattle.sdl_statements.specs.declared.sources.Senders.{Senders}
 use Rattle.plain_laws.proofs.Truths.{and_first as and_left, and_second as and_right}

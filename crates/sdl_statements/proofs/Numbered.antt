@@ -9,9 +9,9 @@ use Rattle.std.proofs.lemmas.List.Folds.{list_any-append}
 use Rattle.std.proofs.lemmas.Option.{none-some}
 use Rattle.sdl_tables.specs.Routes.{same_party}
 use Rattle.sdl_statements.specs.Distinct.{same_numbers, same_sender, has_sender, sender_number, has_number, HaveMarks}
-use Rattle.sdl_senders.specs.Reaches.{is_marked}
-use Rattle.sdl_senders.specs.declared.sender.Sender.{Sender}
-use Rattle.sdl_senders.specs.declared.sender.Sender.TheVariants.{Nobody, Party}
+use Rattle.sdl_scopes.specs.Reaches.{is_marked}
+use Rattle.sdl_scopes.specs.declared.sender.Sender.{Sender}
+use Rattle.sdl_scopes.specs.declared.sender.Sender.TheVariants.{Nobody, Party}
 
 or_none : (b : Bool) → b ≡ (b || false)
 or_none true = refl

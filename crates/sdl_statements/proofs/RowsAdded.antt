@@ -7,7 +7,7 @@ use Rattle.sdl_ast.specs.declared.expression.Identifier.{Identifier}
 use Rattle.sdl_ast.specs.Plain.{PlainProcess, PlainBlock}
 use Rattle.sdl_tables.specs.Names.{number_of}
 use Rattle.sdl_sound.specs.Receivers.{answers}
-use Rattle.sdl_senders.specs.Reaches.{is_marked}
+use Rattle.sdl_scopes.specs.Reaches.{is_marked}
 use Rattle.sdl_statements.specs.Sources.{Gathers, Asks, Marks}
 use Rattle.sdl_statements.specs.declared.sources.Senders.{Senders}
 use Rattle.sdl_statements.specs.declared.gathered.Gathered.{Gathered}

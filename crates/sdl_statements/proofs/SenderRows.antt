@@ -11,7 +11,7 @@ use Rattle.sdl_tables.specs.Names.{number_of, timers_of}
 use Rattle.sdl_tables.specs.Routes.{same_party, paths_of, path_senders, senders}
 use Rattle.sdl_sound.specs.Receivers.{party_of, carries, answers}
 use Rattle.sdl_statements.specs.SenderTables.{AreSendersOf, Tells}
-use Rattle.sdl_senders.specs.declared.sender.Sender.{Sender}
+use Rattle.sdl_scopes.specs.declared.sender.Sender.{Sender}
 use Rattle.sdl_statements.specs.declared.sender_table.SenderTable.{SenderTable}
 use Rattle.sdl_sound.proofs.Numbered.{number_names, same_folded, in_alike}
 use Rattle.std.proofs.lemmas.Option.{same_Some as some_same}

@@ -3,7 +3,8 @@ use Rattle.std.specs.Prelude.{ℕ, Bool, true, false, List, [], ◌∷◌, Optio
 use Rattle.std.specs.List.{flat_map}
 use Rattle.sdl_ast.specs.declared.tree.Destination.{Destination}
 use Rattle.sdl_ast.specs.declared.tree.Destination.TheVariants.{Sender, Process}
-use Rattle.sdl_ast.specs.Plain.{PlainAction, task, output, set_timer, reset_timer, PlainProcess, PlainBlock}
+use Rattle.sdl_ast.specs.Plain.{PlainAction, task, output, set_timer, reset_timer, PlainProcess}
+use Rattle.sdl_ast.specs.Plain.{PlainBlock}
 use Rattle.sdl_tables.specs.Names.{variables_of}
 use Rattle.sdl_sound.specs.Statements.{Statement, acts, asks, covers, finishes}
 use Rattle.sdl_sound.specs.Actions.{Origin}
@@ -13,7 +14,11 @@ use Rattle.sdl_sound.specs.Divisors.{statement_divisors}
 use Rattle.sdl_sound.specs.Receivers.{lost_statement, doubtful_statement}
 use Rattle.sdl_sound.specs.Decisions.{statement_unanswered}
 use Rattle.sdl_statements.specs.declared.statements.StatementRule.{StatementRule}
-use Rattle.sdl_statements.specs.declared.statements.StatementRule.TheVariants.{Names, Sorts, Receivers, OneReceiver, Answers, Divisors, NothingBack}
+use Rattle.sdl_statements.specs.declared.statements.StatementRule.TheVariants.{Names, Sorts}
+use Rattle.sdl_statements.specs.declared.statements.StatementRule.TheVariants.{Receivers}
+use Rattle.sdl_statements.specs.declared.statements.StatementRule.TheVariants.{OneReceiver, Answers}
+use Rattle.sdl_statements.specs.declared.statements.StatementRule.TheVariants.{Divisors}
+use Rattle.sdl_statements.specs.declared.statements.StatementRule.TheVariants.{NothingBack}
 
 -- the place at which an OUTPUT says that it goes TO SENDER
 abbrev pub back_destination : Option Destination → List ℕ
@@ -43,7 +48,8 @@ asked Divisors b p from s = statement_divisors s
 asked NothingBack b p from s = back_statement s
 
 -- of some statements
-abbrev pub asked_all : StatementRule → PlainBlock → PlainProcess → List Origin → List Statement → List ℕ
+abbrev pub asked_all :
+    StatementRule → PlainBlock → PlainProcess → List Origin → List Statement → List ℕ
 asked_all rule b p from statements = flat_map (asked rule b p from) statements
 
 -- whether the rule asks with what a transition begins

@@ -1,12 +1,13 @@
 -- Senders, each party once.
-use Rattle.std.specs.Prelude.{◌≡◌, ℕ, Bool, true, false, List, [], ◌∷◌, ◌++◌, Option, None, Some, if◌then◌else◌, nat_eq, fold}
+use Rattle.std.specs.Prelude.{◌≡◌, ℕ, Bool, true, false, List, [], ◌∷◌, ◌++◌, Option, None, Some}
+use Rattle.std.specs.Prelude.{if◌then◌else◌, nat_eq, fold}
 use Rattle.std.specs.List.{list_any}
 use Rattle.std.specs.Option.{option_map_or}
 use Rattle.std.specs.Global.{Vec}
 use Rattle.sdl_tables.specs.Routes.{same_party}
-use Rattle.sdl_senders.specs.Reaches.{is_marked}
-use Rattle.sdl_senders.specs.declared.sender.Sender.{Sender}
-use Rattle.sdl_senders.specs.declared.sender.Sender.TheVariants.{Nobody, Party}
+use Rattle.sdl_scopes.specs.Reaches.{is_marked}
+use Rattle.sdl_scopes.specs.declared.sender.Sender.{Sender}
+use Rattle.sdl_scopes.specs.declared.sender.Sender.TheVariants.{Nobody, Party}
 
 -- whether two parties have one number, or one name where neither has a number
 abbrev pub same_numbers : Option ℕ → Option ℕ → Bool → Bool

@@ -1,5 +1,6 @@
 -- To which connections the transitions come that begin with what a sender may have sent.
-use Rattle.std.specs.Prelude.{◌≡◌, ℕ, Bool, false, List, [], ◌∷◌, Option, Some, if◌then◌else◌, map, slice_get}
+use Rattle.std.specs.Prelude.{◌≡◌, ℕ, Bool, false, List, [], ◌∷◌, Option, Some, if◌then◌else◌, map}
+use Rattle.std.specs.Prelude.{slice_get}
 use Rattle.std.specs.List.{list_any, flat_map}
 use Rattle.std.specs.Option.{option_map_or}
 use Rattle.std.specs.Global.{Vec}
@@ -12,12 +13,12 @@ use Rattle.sdl_sound.specs.Joins.{comes, reaches}
 use Rattle.sdl_sound.specs.Orders.{targets_of}
 use Rattle.sdl_sound.specs.Actions.{connection_origins}
 use Rattle.sdl_statements.specs.Distinct.{has_sender, distinct}
-use Rattle.sdl_senders.specs.Known.{AreSenders}
-use Rattle.sdl_senders.specs.Reaches.{PlainSent, sent_of, senders_in, is_marked}
+use Rattle.sdl_scopes.specs.Known.{AreSenders}
+use Rattle.sdl_scopes.specs.Reaches.{PlainSent, sent_of, senders_in, is_marked}
 use Rattle.sdl_statements.specs.declared.reaching.Joining.{Joining}
-use Rattle.sdl_senders.specs.declared.sent.Sent.{Sent}
-use Rattle.sdl_senders.specs.declared.sender.Sender.{Sender}
-use Rattle.sdl_senders.specs.declared.sender.Sender.TheVariants.{Nobody}
+use Rattle.sdl_scopes.specs.declared.sent.Sent.{Sent}
+use Rattle.sdl_scopes.specs.declared.sender.Sender.{Sender}
+use Rattle.sdl_scopes.specs.declared.sender.Sender.TheVariants.{Nobody}
 use Rattle.sdl_statements.specs.declared.sender_table.SenderTable.{SenderTable}
 
 -- the rows of what an INPUT takes, and the numbers of the connections that it joins
@@ -29,7 +30,11 @@ abbrev pub joining_of : Joining → PlainJoining
 joining_of j = record { rows = j.rows.items; targets = j.targets.items }
 
 abbrev pub input_joining : List Identifier → PlainProcess → PlainInput → PlainJoining
-input_joining names p i = record { rows = map (λ x. number_of names x.name.name) i.stimuli; targets = targets_of p (joins_of i.text) }
+input_joining names p i =
+    record {
+      rows = map (λ x. number_of names x.name.name) i.stimuli;
+      targets = targets_of p (joins_of i.text);
+    }
 
 -- whether one of these rows is marked
 abbrev pub takes_one : List Bool → List (Option ℕ) → Bool
@@ -41,7 +46,10 @@ starts_with marks js = flat_map (λ j. if takes_one marks j.rows then j.targets 
 
 -- who may have sent a signal or timer, by the table
 abbrev pub row_at : SenderTable → List ℕ → List Sender
-row_at t name = option_map_or (λ n. option_map_or (λ (row : Vec Sender). row.items) (slice_get t.rows.items n) []) (number_of t.names name) []
+row_at t name =
+    option_map_or
+    (λ n. option_map_or (λ (row : Vec Sender). row.items) (slice_get t.rows.items n) [])
+    (number_of t.names name) []
 
 -- whether a sender may have sent one of those that an INPUT takes
 abbrev pub may_begin : SenderTable → Sender → PlainInput → Bool
@@ -53,16 +61,23 @@ sent_joins p t u = flat_map (λ i. if may_begin t u i then joins_of i.text else 
 
 -- to which connections those come
 abbrev pub sent_reach : PlainProcess → SenderTable → Sender → List Bool
-sent_reach p t u = map (λ c. list_any (λ j. comes p j.connector.name c.name.name) (sent_joins p t u)) p.connections
+sent_reach p t u =
+    map (λ c. list_any (λ j. comes p j.connector.name c.name.name) (sent_joins p t u)) p.connections
 
 abbrev pub sent_by : PlainProcess → SenderTable → Sender → PlainSent
 sent_by p t u = record { sender = u; reached = sent_reach p t u }
 
 -- nobody for START, and all senders of the INPUTs
 abbrev pub sent_all : PlainProcess → SenderTable → List PlainSent
-sent_all p t = record { sender = Nobody; reached = map (λ c. reaches p p.start.text c.name.name) p.connections } ∷ map (sent_by p t) (distinct t.rows.items)
+sent_all p t =
+    record {
+      sender = Nobody;
+      reached = map (λ c. reaches p p.start.text c.name.name) p.connections;
+    }
+    ∷ map (sent_by p t) (distinct t.rows.items)
 
 -- these tell for each connection who may have sent what the transitions begin with that come there
 abbrev pub AreSent : PlainBlock → PlainProcess → List Sent → Type 0
 AreSent b p sent =
-    (n : ℕ) (c : PlainConnection) → slice_get p.connections n ≡ Some c → AreSenders b p (senders_in (map sent_of sent) n) (connection_origins p c)
+    (n : ℕ) (c : PlainConnection) → slice_get p.connections n ≡ Some c
+    → AreSenders b p (senders_in (map sent_of sent) n) (connection_origins p c)

@@ -1,5 +1,6 @@
 -- Who may have sent each signal that a process takes, with numbers for the parties.
-use Rattle.std.specs.Prelude.{◌≡◌, ℕ, List, [], Option, None, Some, length, map, fold, slice_get, All}
+use Rattle.std.specs.Prelude.{◌≡◌, ℕ, List, [], Option, None, Some, length, map, fold, slice_get}
+use Rattle.std.specs.Prelude.{All}
 use Rattle.std.specs.List.{list_all}
 use Rattle.std.specs.Global.{Vec}
 use Rattle.sdl_ast.specs.declared.expression.Identifier.{Identifier}
@@ -8,10 +9,10 @@ use Rattle.sdl_ast.specs.declared.tree.Party.{Party}
 use Rattle.sdl_ast.specs.Plain.{PlainStimulus, PlainInput, PlainProcess, PlainBlock}
 use Rattle.sdl_tables.specs.Names.{number_of, add_name, input_parts}
 use Rattle.sdl_sound.specs.Receivers.{answers}
-use Rattle.sdl_senders.specs.Parties.{party_number, IsSender, gets_back}
-use Rattle.sdl_senders.specs.declared.sender.Numbered.{Numbered}
-use Rattle.sdl_senders.specs.declared.sender.Sender.{Sender}
-use Rattle.sdl_senders.specs.declared.sender.Sender.TheVariants as sent_by
+use Rattle.sdl_scopes.specs.Parties.{party_number, IsSender, gets_back}
+use Rattle.sdl_scopes.specs.declared.sender.Numbered.{Numbered}
+use Rattle.sdl_scopes.specs.declared.sender.Sender.{Sender}
+use Rattle.sdl_scopes.specs.declared.sender.Sender.TheVariants as sent_by
 use Rattle.sdl_statements.specs.declared.sender_table.SenderTable.{SenderTable}
 
 abbrev pub numbered : PlainBlock → Party → Numbered
@@ -21,15 +22,18 @@ abbrev pub sender_of : Option Numbered → Sender
 sender_of None = sent_by.Nobody
 sender_of (Some x) = sent_by.Party x
 
--- These are all who may have sent a signal or timer to a process: what they all get is what it allows.
-pub record AreSendersOf (b : PlainBlock) (p : PlainProcess) (name : List ℕ) (row : List Sender) : Type 0 where
+-- These are all who may have sent a signal or timer to a process: what they all get is what it
+-- allows.
+pub record AreSendersOf (b : PlainBlock) (p : PlainProcess) (name : List ℕ) (row : List Sender) :
+    Type 0 where
   pub told : (s : List ℕ) → list_all (gets_back b p s) row ≡ answers b p s name
   pub numbered : All (IsSender b) row
 
 -- a row for each name that was asked for
 pub record Tells (b : PlainBlock) (p : PlainProcess) (t : SenderTable) : Type 0 where
   pub count : length t.rows.items ≡ length t.names
-  pub each : (n : ℕ) (id : Identifier) (row : Vec Sender) → slice_get t.names n ≡ Some id → slice_get t.rows.items n ≡ Some row
+  pub each : (n : ℕ) (id : Identifier) (row : Vec Sender) → slice_get t.names n ≡ Some id
+      → slice_get t.rows.items n ≡ Some row
       → AreSendersOf b p id.name row.items
 
 -- the number of the row of each of these signals and timers

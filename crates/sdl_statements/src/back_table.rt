@@ -4,15 +4,15 @@ ghost use Rattle.std.specs.List.{list_all};
 ghost use Rattle.std.specs.Option.{option_map_or};
 ghost use Rattle.sdl_ast.specs.Plain.{PlainBlock, PlainProcess};
 ghost use Rattle.sdl_ast.specs.Views.{process_of, block_of};
-ghost use Rattle.sdl_senders.specs.Parties.{IsSender, gets_back};
-ghost use Rattle.sdl_senders.specs.Reaches.{is_marked};
+ghost use Rattle.sdl_scopes.specs.Parties.{IsSender, gets_back};
+ghost use Rattle.sdl_scopes.specs.Reaches.{is_marked};
 ghost use Rattle.sdl_statements.specs.Backs.{GetThere, Brings};
 
 use crate::sender_table::{party_number, party_of};
 use crate::sources::mark;
 use sdl_ast::Identifier;
 use sdl_lex::Name;
-use sdl_senders::{Sender, is_marked};
+use sdl_scopes::{Sender, is_marked};
 use sdl_tables::{BlockTable, NameTable, ProcessTable};
 use std::alloc::{AllocError, Global};
 

@@ -2,11 +2,11 @@
 ghost use Rattle.std.specs.Prelude.{◌≡◌, ◌<◌, ◌++◌, ◌∷◌, [], ℕ, List, length, fold, map, IfOk, OnOk};
 ghost use Rattle.sdl_tables.specs.Routes.{same_party};
 ghost use Rattle.sdl_statements.specs.Distinct.{same_numbers, same_sender, has_sender, sender_number, HaveMarks, add_sender, distinct};
-ghost use Rattle.sdl_senders.specs.Reaches.{is_marked};
-ghost use Rattle.sdl_senders.specs.declared.sender.Sender as the_sender;
+ghost use Rattle.sdl_scopes.specs.Reaches.{is_marked};
+ghost use Rattle.sdl_scopes.specs.declared.sender.Sender as the_sender;
 
 use sdl_ast::Party;
-use sdl_senders::{Numbered, Sender, is_marked};
+use sdl_scopes::{Numbered, Sender, is_marked};
 use std::alloc::{AllocError, Global};
 
 /// Whether two parties have one name, or are both the environment.

@@ -7,13 +7,13 @@ ghost use Rattle.sdl_tables.specs.Names.{number_of};
 ghost use Rattle.sdl_sound.specs.Actions.{takes, input_origins};
 ghost use Rattle.sdl_sound.specs.Receivers.{answers, answers_all};
 ghost use Rattle.sdl_statements.specs.SenderTables.{stimulus_rows, Tells};
-ghost use Rattle.sdl_senders.specs.Known.{AreSenders};
+ghost use Rattle.sdl_scopes.specs.Known.{AreSenders};
 ghost use Rattle.sdl_statements.specs.Sources.{Asks};
 
 use crate::sender_table::SenderTable;
 use crate::sources::{Senders, mark};
 use sdl_ast::{InputPart, Stimulus};
-use sdl_senders::Sender;
+use sdl_scopes::Sender;
 use sdl_tables::{BlockTable, ProcessTable};
 use std::alloc::{AllocError, Global};
 

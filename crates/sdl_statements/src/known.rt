@@ -5,13 +5,13 @@ ghost use Rattle.sdl_ast.specs.Plain.{PlainProcess, PlainBlock};
 ghost use Rattle.sdl_ast.specs.Views.{process_of, block_of};
 ghost use Rattle.sdl_sound.specs.Actions.{Origin};
 ghost use Rattle.sdl_sound.specs.Receivers.{answers_all};
-ghost use Rattle.sdl_senders.specs.Known.{AreSenders, Knows};
+ghost use Rattle.sdl_scopes.specs.Known.{AreSenders, Knows};
 ghost use Rattle.sdl_statements.specs.Backs.{Learns};
 
 use crate::back_table::{BackTable, all_get_back};
 use sdl_ast::{Action, Decision, Destination, Identifier, Sending, Statement, Transition};
 use sdl_lex::Name;
-use sdl_senders::KnownSenders;
+use sdl_scopes::KnownSenders;
 use sdl_tables::{BlockTable, NameTable, ProcessTable};
 use std::alloc::{AllocError, Global};
 

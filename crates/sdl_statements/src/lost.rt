@@ -10,7 +10,7 @@ ghost use Rattle.sdl_sound.specs.Statements.{statements_of};
 ghost use Rattle.sdl_sound.specs.Actions.{Origin, begins, in_input, in_connection, in_statements};
 ghost use Rattle.sdl_statements.specs.Backs.{Brings};
 ghost use Rattle.sdl_statements.specs.SenderTables.{Tells, ToldAll};
-ghost use Rattle.sdl_senders.specs.Known.{AreSenders};
+ghost use Rattle.sdl_scopes.specs.Known.{AreSenders};
 ghost use Rattle.sdl_statements.specs.Reached.{AreSent};
 ghost use Rattle.sdl_statements.specs.Asked.{asked, asked_all, back_statement};
 
@@ -22,7 +22,7 @@ use crate::sender_table::{SenderTable, find_senders};
 use crate::sources::start_senders;
 use crate::statements::{StatementRule, in_transition};
 use sdl_ast::{Connection, InputPart, Transition};
-use sdl_senders::{KnownSenders, Sender, Sent, senders_at};
+use sdl_scopes::{KnownSenders, Sender, Sent, senders_at};
 use sdl_tables::{BlockTable, ProcessTable, earlier};
 use std::alloc::{AllocError, Global};
 

@@ -9,7 +9,7 @@ ghost use Rattle.sdl_joins.specs.Links.{graph_in, IsGraph};
 ghost use Rattle.sdl_sound.specs.Orders.{links_of};
 ghost use Rattle.sdl_statements.specs.declared.sender_table.SenderTable as told;
 ghost use Rattle.sdl_statements.specs.SenderTables.{ToldAll};
-ghost use Rattle.sdl_senders.specs.Reaches.{sent_of, senders_in};
+ghost use Rattle.sdl_scopes.specs.Reaches.{sent_of, senders_in};
 ghost use Rattle.sdl_statements.specs.Reached.{joining_of, input_joining, takes_one, starts_with, sent_reach, AreSent};
 
 use crate::back_table::is_there;
@@ -17,7 +17,7 @@ use crate::distinct::{MarkedRow, distinct_senders, mark_rows, rows_with};
 use crate::sender_table::SenderTable;
 use sdl_ast::InputPart;
 use sdl_joins::{find_links, reached_from, reached_in, targets_in};
-use sdl_senders::{Sender, Sent};
+use sdl_scopes::{Sender, Sent};
 use sdl_tables::ProcessTable;
 use std::alloc::{AllocError, Global};
 

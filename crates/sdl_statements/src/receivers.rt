@@ -5,15 +5,15 @@ ghost use Rattle.sdl_ast.specs.Views.{sending_of, action_of, process_of, block_o
 ghost use Rattle.sdl_tables.specs.Scopes.{Marks};
 ghost use Rattle.sdl_sound.specs.Receivers.{party_of, arrives, lost_sending, lost_action, is_doubtful, doubtful_sending, doubtful_action};
 ghost use Rattle.sdl_sound.specs.Actions.{Origin};
-ghost use Rattle.sdl_senders.specs.Known.{Knows};
+ghost use Rattle.sdl_scopes.specs.Known.{Knows};
 ghost use Rattle.sdl_statements.specs.Asked.{back_destination, back_action};
-ghost use Rattle.sdl_senders.specs.Founds.{Counts};
+ghost use Rattle.sdl_scopes.specs.Founds.{Counts};
 
 use crate::known::all_get;
 use crate::sender_table::party_of;
 use sdl_ast::{Action, Destination, Party, Sending};
 use sdl_lex::Name;
-use sdl_senders::{KnownSenders, Recipients, find_receivers};
+use sdl_scopes::{KnownSenders, Recipients, find_receivers};
 use sdl_tables::{BlockTable, ProcessTable, earlier};
 
 /// Whether a signal that says to whom it goes gets there.

@@ -4,13 +4,13 @@ ghost use Rattle.sdl_ast.specs.Plain.{PlainBlock, PlainProcess};
 ghost use Rattle.sdl_ast.specs.Views.{stimulus_of, input_of, process_of, block_of};
 ghost use Rattle.sdl_tables.specs.Names.{number_of, add_name};
 ghost use Rattle.sdl_sound.specs.Receivers.{party_of};
-ghost use Rattle.sdl_senders.specs.declared.sender.Sender.TheVariants as sent_by;
-ghost use Rattle.sdl_senders.specs.Parties.{party_number};
+ghost use Rattle.sdl_scopes.specs.declared.sender.Sender.TheVariants as sent_by;
+ghost use Rattle.sdl_scopes.specs.Parties.{party_number};
 ghost use Rattle.sdl_statements.specs.SenderTables.{numbered, AreSendersOf, stimulus_rows, Tells, add_stimulus, add_input, ToldAll};
 
 use sdl_ast::{Identifier, InputPart, Party, Stimulus};
 use sdl_lex::Name;
-use sdl_senders::{Numbered, Sender, nobody};
+use sdl_scopes::{Numbered, Sender, nobody};
 use sdl_tables::{BlockTable, NameTable, ProcessTable};
 use std::alloc::{AllocError, Global};
 

@@ -7,15 +7,15 @@ ghost use Rattle.sdl_ast.specs.Views.{process_of, block_of};
 ghost use Rattle.sdl_sound.specs.Actions.{begins};
 ghost use Rattle.sdl_sound.specs.Receivers.{party_of, carries, answers};
 ghost use Rattle.sdl_tables.specs.Names.{number_of};
-ghost use Rattle.sdl_senders.specs.Parties.{IsNumbered, IsSender, gets_back};
+ghost use Rattle.sdl_scopes.specs.Parties.{IsNumbered, IsSender, gets_back};
 ghost use Rattle.sdl_statements.specs.SenderTables.{sender_of, Tells};
-ghost use Rattle.sdl_senders.specs.Known.{AreSenders};
-ghost use Rattle.sdl_senders.specs.Reaches.{is_marked};
+ghost use Rattle.sdl_scopes.specs.Known.{AreSenders};
+ghost use Rattle.sdl_scopes.specs.Reaches.{is_marked};
 ghost use Rattle.sdl_statements.specs.Sources.{Gathers, Marks};
 
 use crate::sender_table::{SenderTable, senders_of};
 use sdl_ast::Stimulus;
-use sdl_senders::{Numbered, Sender, is_marked, nobody};
+use sdl_scopes::{Numbered, Sender, is_marked, nobody};
 use sdl_tables::{BlockTable, ProcessTable};
 use std::alloc::{AllocError, Global};
 

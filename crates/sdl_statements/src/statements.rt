@@ -11,7 +11,7 @@ ghost use Rattle.sdl_sound.specs.Decisions.{unanswered};
 ghost use Rattle.sdl_sound.specs.Divisors.{bad_divisors};
 ghost use Rattle.sdl_sound.specs.Statements.{acts, covers, finishes, statements_of, choice_statements};
 ghost use Rattle.sdl_sound.specs.Actions.{Origin, begins, in_input, in_connection, in_statements};
-ghost use Rattle.sdl_senders.specs.Known.{Knows};
+ghost use Rattle.sdl_scopes.specs.Known.{Knows};
 ghost use Rattle.sdl_sound.specs.Parts.{statement_parts, question_of, decision_parts, answer_parts, end_parts};
 ghost use Rattle.sdl_statements.specs.Asked.{asked, asked_all, asks_origin};
 
@@ -20,10 +20,9 @@ use sdl_ast::{
     Action, Connection, Decision, End, Expression, InputPart, Range, Statement, Transition,
 };
 use sdl_scopes::{
-    unknown_connector, unknown_in_action, unknown_in_block, unknown_in_expression,
+    KnownSenders, unknown_connector, unknown_in_action, unknown_in_block, unknown_in_expression,
     unknown_in_inputs, unknown_in_parts,
 };
-use sdl_senders::KnownSenders;
 use sdl_sorts::{
     bad_in, bad_in_action, unanswered_decision, wrong_declaration, wrong_in, wrong_in_action,
     wrong_in_ranges,

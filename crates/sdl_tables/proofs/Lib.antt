@@ -1,8 +1,8 @@
 pub mod BlockLemmas
 pub mod Growing
-pub mod Numbers
 pub mod Indexing
 pub mod Mentions
+pub mod Numbers
 pub mod Parties
 pub mod ProcessTables
 pub mod Repeats

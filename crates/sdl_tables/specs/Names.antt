@@ -1,13 +1,18 @@
--- The tables of a block: its signals, routes and processes, and of each process the variables, timers, connectors and states,
--- with what each state takes and saves; each in the order of the text. Two names that differ in case alone are one. (Z.100: entity classes and scope units.)
-use Rattle.std.specs.Prelude.{ℕ, Bool, false, ◌==◌, List, [], ◌∷◌, ◌++◌, Option, if◌then◌else◌, map, fold, find, position, bytes_eq}
+-- The tables of a block: its signals, routes and processes, and of each process the variables,
+-- timers, connectors and states, with what each state takes and saves; each in the order of the
+-- text. Two names that differ in case alone are one. (Z.100: entity classes and scope units.)
+use Rattle.std.specs.Prelude.{ℕ, Bool, false, ◌==◌, List, [], ◌∷◌, ◌++◌, Option, if◌then◌else◌, map}
+use Rattle.std.specs.Prelude.{fold, find, position, bytes_eq}
 use Rattle.std.specs.List.{list_any, flat_map, enumerate_from}
 use Rattle.std.specs.Option.{option_map_or}
 use Rattle.sdl_ast.specs.Spelling.{folded}
 use Rattle.sdl_ast.specs.declared.expression.Identifier.{Identifier}
 use Rattle.sdl_ast.specs.declared.tree.Sort.{Sort}
 use Rattle.sdl_ast.specs.declared.tree.Constant.{Constant}
-use Rattle.sdl_ast.specs.Plain.{Text, PlainConnection, PlainStimulus, PlainInput, PlainClause, input, save, PlainState, PlainGroup, PlainDeclaration, variables, timers, PlainProcess, PlainRoute, PlainSignal, PlainEntity, signals, route, connect, process, PlainBlock}
+use Rattle.sdl_ast.specs.Plain.{Text, PlainConnection, PlainStimulus, PlainInput, PlainClause}
+use Rattle.sdl_ast.specs.Plain.{input, save, PlainState, PlainGroup, PlainDeclaration, variables}
+use Rattle.sdl_ast.specs.Plain.{timers, PlainProcess, PlainRoute, PlainSignal, PlainEntity, signals}
+use Rattle.sdl_ast.specs.Plain.{route, connect, process, PlainBlock}
 
 -- two spellings of one name
 abbrev pub same_name : List ℕ → List ℕ → Bool
@@ -166,8 +171,10 @@ abbrev pub is_state : List Identifier → ℕ → List ℕ → Bool
 is_state states s x = option_map_or (λ n. n == s) (number_of states x) false
 
 -- what a part gives to state s: what is in it, as often as it names the state
-abbrev pub given_to : {X : Type 0} → (PlainState → List X) → List Identifier → ℕ → PlainState → List X
-given_to in_part states s part = flat_map (λ id. if is_state states s id.name then in_part part else []) part.names
+abbrev pub given_to :
+    {X : Type 0} → (PlainState → List X) → List Identifier → ℕ → PlainState → List X
+given_to in_part states s part =
+    flat_map (λ id. if is_state states s id.name then in_part part else []) part.names
 
 -- what state s has, over all its parts
 abbrev pub of_state : {X : Type 0} → (PlainState → List X) → PlainProcess → ℕ → List X

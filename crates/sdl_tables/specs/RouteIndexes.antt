@@ -32,7 +32,8 @@ pub record Mention : Type 0 where
 
 -- the signals of a path, one as often as it stands there
 abbrev pub mentions_of : PlainPath → List Mention
-mentions_of path = map (λ id. record { from = path.from; to = path.to; signal = id.name }) path.signals
+mentions_of path =
+    map (λ id. record { from = path.from; to = path.to; signal = id.name }) path.signals
 
 -- the same the other way round
 abbrev pub turned : Mention → Mention
@@ -43,7 +44,8 @@ is_mention from to s m = same_party from m.from && (same_party to m.to && same_n
 
 -- to whom signal s is brought from a party
 abbrev pub mention_receivers : Party → List ℕ → Mention → List Party
-mention_receivers from s m = if same_party from m.from && same_name s m.signal then m.to ∷ [] else []
+mention_receivers from s m =
+    if same_party from m.from && same_name s m.signal then m.to ∷ [] else []
 
 -- each of them once
 abbrev pub receivers_in : List Mention → Party → List ℕ → List Party
@@ -81,7 +83,8 @@ passage_cmp x y = (passage_ord.ghosts).cmp x y
 
 -- the sides of these parties, and no others
 abbrev pub AreSides : List Party → BTreeSet Side → Type 0
-AreSides parties sides = (q : Side) → contains side_cmp sides q ≡ list_any (λ p. same_side q (side_of p)) parties
+AreSides parties sides =
+    (q : Side) → contains side_cmp sides q ≡ list_any (λ p. same_side q (side_of p)) parties
 
 -- what a table has for a party and a signal
 abbrev pub held : Ends → End → List Party
@@ -96,6 +99,8 @@ is_carried i from to s = contains passage_cmp i.carried (passage_of from to s)
 
 -- the index has these, and nothing else
 pub record Indexes (i : RouteIndex) (ms : List Mention) : Type 0 where
-  pub carried : (from to : Party) (s : List ℕ) → is_carried i from to s ≡ list_any (is_mention from to s) ms
+  pub carried :
+      (from to : Party) (s : List ℕ) → is_carried i from to s ≡ list_any (is_mention from to s) ms
   pub receivers : (own : Party) (s : List ℕ) → listed i.receivers own s ≡ receivers_in ms own s
-  pub senders : (own : Party) (s : List ℕ) → listed i.senders own s ≡ receivers_in (map turned ms) own s
+  pub senders :
+      (own : Party) (s : List ℕ) → listed i.senders own s ≡ receivers_in (map turned ms) own s

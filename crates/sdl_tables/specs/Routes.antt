@@ -1,5 +1,6 @@
--- Who gets what is sent, and who may have sent it: the parties to which, and from which, the paths of routes bring a signal.
--- A path brings its signals in the direction in which it is written, and no other. (Z.100: signal routes, output.)
+-- Who gets what is sent, and who may have sent it: the parties to which, and from which, the paths
+-- of routes bring a signal. A path brings its signals in the direction in which it is written, and
+-- no other. (Z.100: signal routes, output.)
 use Rattle.std.specs.Prelude.{ℕ, Bool, true, false, ◌&&◌, List, [], ◌∷◌, ◌++◌, if◌then◌else◌, fold}
 use Rattle.std.specs.List.{list_any, flat_map}
 use Rattle.sdl_ast.specs.declared.tree.Party.{Party}
@@ -28,11 +29,13 @@ carries b from to s = list_any (brings from to s) (paths_of b)
 
 -- to whom a path brings signal s from a party
 abbrev pub path_receivers : Party → List ℕ → PlainPath → List Party
-path_receivers from s path = if same_party from path.from && is_in path.signals s then path.to ∷ [] else []
+path_receivers from s path =
+    if same_party from path.from && is_in path.signals s then path.to ∷ [] else []
 
 -- from whom a path brings signal s to a party
 abbrev pub path_senders : Party → List ℕ → PlainPath → List Party
-path_senders to s path = if same_party to path.to && is_in path.signals s then path.from ∷ [] else []
+path_senders to s path =
+    if same_party to path.to && is_in path.signals s then path.from ∷ [] else []
 
 -- one party more, unless it is there
 abbrev pub add_party : List Party → Party → List Party

@@ -16,7 +16,12 @@ abbrev pub variable_of : row.Variable → names.Variable
 variable_of v = record { name = v.name; sort = v.sort; initial = v.initial }
 
 abbrev pub row_input : InputRow → names.Input
-row_input r = record { at = r.input.now.at; stimulus = stimulus_of r.stimulus.now; text = text_of r.input.now.transition }
+row_input r =
+    record {
+      at = r.input.now.at;
+      stimulus = stimulus_of r.stimulus.now;
+      text = text_of r.input.now.transition;
+    }
 
 abbrev pub rows_inputs : Vec InputRow → List names.Input
 rows_inputs v = map row_input v.items

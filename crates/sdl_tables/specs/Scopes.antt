@@ -1,9 +1,12 @@
--- Names that have to differ, and the places of those that are there twice. (Z.100: entity classes and scope units.)
-use Rattle.std.specs.Prelude.{◌≡◌, ℕ, List, [], ◌∷◌, ◌++◌, Option, None, Some, if◌then◌else◌, Contains, ⊤}
+-- Names that have to differ, and the places of those that are there twice. (Z.100: entity classes
+-- and scope units.)
+use Rattle.std.specs.Prelude.{◌≡◌, ℕ, List, [], ◌∷◌, ◌++◌, Option, None, Some, if◌then◌else◌}
+use Rattle.std.specs.Prelude.{Contains, ⊤}
 use Rattle.std.specs.List.{flat_map}
 use Rattle.sdl_ast.specs.declared.expression.Identifier.{Identifier}
 use Rattle.sdl_ast.specs.Plain.{PlainProcess, PlainBlock}
-use Rattle.sdl_tables.specs.Names.{is_in, processes_of, signal_names, route_names, process_names, variable_names, timers_of, connector_names, triggers_by_state}
+use Rattle.sdl_tables.specs.Names.{is_in, processes_of, signal_names, route_names, process_names}
+use Rattle.sdl_tables.specs.Names.{variable_names, timers_of, connector_names, triggers_by_state}
 use Rattle.sdl_tables.specs.declared.fault.TableFault.{TableFault}
 use Rattle.sdl_tables.specs.declared.fault.TableFault.TheVariants.{DoubleName, NoMemory}
 
@@ -12,21 +15,25 @@ abbrev pub Marks : Option ℕ → List ℕ → Type 0
 Marks None places = places ≡ []
 Marks (Some at) places = Contains places at
 
--- ---- S1: a name twice in its class and scope, a timer named as a signal, or a signal or timer twice among what a
--- state takes and saves
+-- ---- S1: a name twice in its class and scope, a timer named as a signal, or a signal or timer
+-- twice among what a state takes and saves
 
--- the places of the identifiers whose name one before them has, where `before` stand before all of them
+-- the places of the identifiers whose name one before them has, where `before` stand before all of
+-- them
 abbrev pub repeats : List Identifier → List Identifier → List ℕ
 repeats before [] = []
-repeats before (id ∷ ids) = (if is_in before id.name then id.at ∷ [] else []) ++ repeats (before ++ id ∷ []) ids
+repeats before (id ∷ ids) =
+    (if is_in before id.name then id.at ∷ [] else []) ++ repeats (before ++ id ∷ []) ids
 
--- the names of a process that have to differ: a list for each class, and one for what each state takes and saves
+-- the names of a process that have to differ: a list for each class, and one for what each state
+-- takes and saves
 abbrev pub process_scopes : PlainProcess → List (List Identifier)
 process_scopes p = variable_names p ∷ timers_of p ∷ connector_names p ∷ triggers_by_state p
 
 -- those of a block
 abbrev pub scopes : PlainBlock → List (List Identifier)
-scopes b = signal_names b ∷ route_names b ∷ process_names b ∷ flat_map process_scopes (processes_of b)
+scopes b = signal_names b ∷ route_names b ∷ process_names b
+    ∷ flat_map process_scopes (processes_of b)
 
 -- the places of the identifiers whose names are among those
 abbrev pub shared : List Identifier → List Identifier → List ℕ

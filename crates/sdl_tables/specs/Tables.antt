@@ -2,7 +2,8 @@
 use Rattle.std.specs.Prelude.{◌≡◌, ◌++◌, [], map}
 use Rattle.std.specs.List.{flat_map}
 use Rattle.sdl_ast.specs.Views.{process_of, input_of}
-use Rattle.sdl_tables.specs.Names.{variable_names, variables_of, timers_of, connector_names, states_of, input_parts, names_once, triggers_by_state}
+use Rattle.sdl_tables.specs.Names.{variable_names, variables_of, timers_of, connector_names}
+use Rattle.sdl_tables.specs.Names.{states_of, input_parts, names_once, triggers_by_state}
 use Rattle.sdl_ast.specs.Plain.{PlainProcess}
 use Rattle.sdl_tables.specs.Scopes.{Marks, repeats, process_scopes}
 use Rattle.sdl_tables.specs.Rows.{variable_of}
@@ -16,7 +17,9 @@ pub record HasDeclared (p : PlainProcess) (d : Declared) : Type 0 where
   pub rows : map variable_of d.rows.items ≡ variables_of p
   pub timers : d.timers ≡ names_once (timers_of p)
   pub connectors : d.connectors ≡ names_once (connector_names p)
-  pub double : Marks d.double (repeats [] (variable_names p) ++ (repeats [] (timers_of p) ++ repeats [] (connector_names p)))
+  pub double :
+      Marks d.double (repeats [] (variable_names p)
+      ++ (repeats [] (timers_of p) ++ repeats [] (connector_names p)))
 
 -- its states, its INPUTs, and a place of a name that a state takes or saves twice
 pub record HasStanding (p : PlainProcess) (t : Standing) : Type 0 where

@@ -1,4 +1,5 @@
--- How names that a state takes or saves twice are looked for: by numbers, and by the numbers of STATE parts.
+-- How names that a state takes or saves twice are looked for: by numbers, and by the numbers of
+-- STATE parts.
 use Rattle.std.specs.Prelude.{◌≡◌, ℕ, ◌<◌, ◌==◌, true, List, Some, map, length, get_or, slice_get}
 use Rattle.std.specs.Global.{Vec}
 use Rattle.std.specs.List.{flat_map, AllByRecursion}
@@ -22,7 +23,8 @@ taken_in of_part v = flat_map of_part v.items
 
 -- the parts take and save this, by number
 abbrev pub AreTaken : (ℕ → List Identifier) → List PlainState → Type 0
-AreTaken of_part parts = (k : ℕ) (part : PlainState) → slice_get parts k ≡ Some part → of_part k ≡ part_triggers part
+AreTaken of_part parts =
+    (k : ℕ) (part : PlainState) → slice_get parts k ≡ Some part → of_part k ≡ part_triggers part
 
 -- the number of a trigger is that of its name
 abbrev pub IsNumbered : List Identifier → Trigger → Type 0
@@ -36,9 +38,11 @@ abbrev pub Keeps : List Identifier → List Identifier → Type 0
 Keeps old new = (x : List ℕ) (n : ℕ) → number_of old x ≡ Some n → number_of new x ≡ Some n
 
 -- the numbers of the names before bear the stamp, and no others
-pub record Stamped (names : List Identifier) (seen : List ℕ) (stamp : ℕ) (before : List Identifier) : Type 0 where
+pub record Stamped (names : List Identifier) (seen : List ℕ) (stamp : ℕ)
+    (before : List Identifier) : Type 0 where
   pub count : length names ≡ length seen
-  pub same : (x : List ℕ) (n : ℕ) → number_of names x ≡ Some n → (get_or seen n 0 == stamp) ≡ is_in before x
+  pub same : (x : List ℕ) (n : ℕ) → number_of names x ≡ Some n
+      → (get_or seen n 0 == stamp) ≡ is_in before x
 
 -- no stamp is as late as this one
 abbrev pub AreBelow : List ℕ → ℕ → Type 0

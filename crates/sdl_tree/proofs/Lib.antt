@@ -1,9 +1,9 @@
-pub mod TextDecides
-pub mod TextSteps
-pub mod SyntaxDecides
 pub mod DeclarationsDecide
-pub mod LoweredActions
 pub mod LowHeights
-pub mod TextMarks
-pub mod PartMarks
+pub mod LoweredActions
 pub mod ParseLemmas
+pub mod PartMarks
+pub mod SyntaxDecides
+pub mod TextDecides
+pub mod TextMarks
+pub mod TextSteps

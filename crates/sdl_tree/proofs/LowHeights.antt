@@ -8,7 +8,7 @@ use Rattle.sdl_ast.specs.declared.expression.UnaryOperator.{UnaryOperator}
 use Rattle.sdl_ast.specs.declared.expression.BinaryOperator.{BinaryOperator}
 use Rattle.sdl_ast.specs.Plain.{Tree, number, truth, variable, unary, binary, PlainAssignment, PlainSending, PlainAction, task, output, set_timer, reset_timer}
 use Rattle.sdl_ast.specs.Places.{placed}
-use Rattle.sdl_expressions.specs.Machine.{lowered}
+use Rattle.sdl_productions.specs.Machine.{lowered}
 use Rattle.sdl_ast.specs.Heights.{tree_height, highest, sending_height, action_height, place_of_action, high_in_action}
 use Rattle.sdl_tree.proofs.LoweredActions.{lowered_assignment, lowered_sending, lowered_action}
 

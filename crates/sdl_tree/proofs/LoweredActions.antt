@@ -3,13 +3,13 @@ use Rattle.std.proofs.Common.{◌≡◌, ℕ, List, [], ◌∷◌, Option, Some,
 use Rattle.std.specs.List.{filter_map}
 use Rattle.sdl_lex.specs.declared.lexemes.Word.TheVariants as words
 use Rattle.sdl_lex.specs.declared.lexemes.Symbol.TheVariants.{Assign, Open, Close, Plus, Comma}
-use Rattle.sdl_tokens.specs.Tokens.{a_symbol, a_word, a_name, a_quoted}
+use Rattle.sdl_productions.specs.Tokens.{a_symbol, a_word, a_name, a_quoted}
 use Rattle.sdl_ast.specs.Plain.{Tree, PlainAssignment, PlainSending, PlainAction, task, output, set_timer, reset_timer, PlainQuestion}
-use Rattle.sdl_readers.specs.Productions.{assignment_at, assigned_at, quoted_at, item_at, task_at, sending_at, destination_at, output_at, delay_at, set_at, reset_at, action_at, question_at}
-use Rattle.sdl_readers.specs.DeclarationProductions.{terminator_at}
-use Rattle.sdl_tokens.specs.Readings.{read, At, choice, optional, give, token, separated, list_in_parentheses}
-use Rattle.sdl_expressions.specs.Machine.{whole_trees, low_trees, lowered, expression_at}
-use Rattle.sdl_expressions.proofs.Lowering.{mapped, Lowers, expression_lowers, give_lowers, then_lowers, next_lowers, choice_lowers, separated_lowers, list_lowers}
+use Rattle.sdl_productions.specs.Productions.{assignment_at, assigned_at, quoted_at, item_at, task_at, sending_at, destination_at, output_at, delay_at, set_at, reset_at, action_at, question_at}
+use Rattle.sdl_productions.specs.DeclarationProductions.{terminator_at}
+use Rattle.sdl_productions.specs.Readings.{read, At, choice, optional, give, token, separated, list_in_parentheses}
+use Rattle.sdl_productions.specs.Machine.{whole_trees, low_trees, lowered, expression_at}
+use Rattle.sdl_productions.proofs.Lowering.{mapped, Lowers, expression_lowers, give_lowers, then_lowers, next_lowers, choice_lowers, separated_lowers, list_lowers}
 
 -- the tree without what stands above a tree that is too high
 

@@ -9,14 +9,14 @@ use Rattle.sdl_ast.specs.Views.{block_of}
 use Rattle.sdl_tree.specs.Syntax.{Reads}
 use Rattle.sdl_ast.specs.Heights.{first_too_high}
 use Rattle.sdl_tree.specs.Refusals.{NoneAgrees, Refuses, Answers}
-use Rattle.sdl_tokens.specs.Readings.{Reading, read, fails}
-use Rattle.sdl_readers.specs.Productions.{block_at}
-use Rattle.sdl_bodies.specs.Marks.{Marked, kept, too_high, by_place, marked}
-use Rattle.sdl_readers.specs.MarkedParts.{marked_block}
+use Rattle.sdl_productions.specs.Readings.{Reading, read, fails}
+use Rattle.sdl_productions.specs.Productions.{block_at}
+use Rattle.sdl_productions.specs.Marks.{Marked, kept, too_high, by_place, marked}
+use Rattle.sdl_productions.specs.MarkedParts.{marked_block}
 use Rattle.sdl_tree.specs.Settled.{stops_at, Settled}
-use Rattle.sdl_tokens.proofs.Decides.{first, rest_of, with_rest}
+use Rattle.sdl_productions.proofs.Decides.{first, rest_of, with_rest}
 use Rattle.sdl_tree.proofs.SyntaxDecides.{block_decides}
-use Rattle.sdl_expressions.proofs.Lowering.{mapped, Lowers}
+use Rattle.sdl_productions.proofs.Lowering.{mapped, Lowers}
 use Rattle.sdl_tree.proofs.PartMarks.{block_lowers}
 use Rattle.sdl_ast.proofs.HeightLemmas.{low_where_none, high_where_some}
 

@@ -6,17 +6,17 @@ use Rattle.sdl_lex.specs.declared.lexemes.Token.{Token}
 use Rattle.sdl_lex.specs.declared.lexemes.Word.TheVariants as words
 use Rattle.sdl_lex.specs.declared.lexemes.Symbol.TheVariants.{Colon}
 use Rattle.sdl_ast.specs.declared.expression.Identifier.{Identifier}
-use Rattle.sdl_tokens.specs.Tokens.{a_symbol, a_word, a_name, an_entity, a_declaration, a_clause, a_section}
+use Rattle.sdl_productions.specs.Tokens.{a_symbol, a_word, a_name, an_entity, a_declaration, a_clause, a_section}
 use Rattle.sdl_ast.specs.Plain.{Text, PlainStimulus, PlainClause, input, save, PlainState, PlainConnection, PlainSection, in_state, in_connection, state_in, connection_in, PlainProcessHead, process_from, PlainStart, PlainDeclaration, PlainEntity, signals, route, connect, process, PlainBlock}
 use Rattle.sdl_ast.specs.Heights.{or_first, first_of, lesser, high_in_text, high_in_clause, high_in_state, high_in_connection, high_in_entity, first_too_high}
-use Rattle.sdl_readers.specs.Productions.{stimulus_at, text_at, input_at, save_at, clause_at, closing_at, end_state_at, state_at, end_connection_at, connection_at, state_section_at, connection_section_at, section_at, start_at, process_head_at, process_at, entity_at, block_at}
-use Rattle.sdl_readers.specs.DeclarationProductions.{names_at, terminator_at, signal_at, signals_at, path_at, route_at, connect_at, declaration_at}
-use Rattle.sdl_tokens.specs.Readings.{read, fails, Reading, then_read, At, ◌>>=◌, optional, many, give, token, separated_from, separated}
-use Rattle.sdl_bodies.specs.Bodies.{whole_texts, marked_texts}
-use Rattle.sdl_bodies.specs.Marks.{kept, by_place, marked, map_marked, gathered, process_with, process_marked}
-use Rattle.sdl_readers.specs.MarkedParts.{kept_at, marked_input, marked_clause, marked_state, marked_connection, MarkedSection, a_state, a_connection, marked_state_in, marked_connection_in, marked_section, marked_start, marked_process, marked_entity, marked_block}
-use Rattle.sdl_expressions.proofs.Lowering.{mapped, Lowers, give_lowers, then_lowers, next_lowers, choice_lowers, many_lowers}
-use Rattle.sdl_bodies.proofs.MarkLemmas.{one_marked, list_gathered}
+use Rattle.sdl_productions.specs.Productions.{stimulus_at, text_at, input_at, save_at, clause_at, closing_at, end_state_at, state_at, end_connection_at, connection_at, state_section_at, connection_section_at, section_at, start_at, process_head_at, process_at, entity_at, block_at}
+use Rattle.sdl_productions.specs.DeclarationProductions.{names_at, terminator_at, signal_at, signals_at, path_at, route_at, connect_at, declaration_at}
+use Rattle.sdl_productions.specs.Readings.{read, fails, Reading, then_read, At, ◌>>=◌, optional, many, give, token, separated_from, separated}
+use Rattle.sdl_productions.specs.Bodies.{whole_texts, marked_texts}
+use Rattle.sdl_productions.specs.Marks.{kept, by_place, marked, map_marked, gathered, process_with, process_marked}
+use Rattle.sdl_productions.specs.MarkedParts.{kept_at, marked_input, marked_clause, marked_state, marked_connection, MarkedSection, a_state, a_connection, marked_state_in, marked_connection_in, marked_section, marked_start, marked_process, marked_entity, marked_block}
+use Rattle.sdl_productions.proofs.Lowering.{mapped, Lowers, give_lowers, then_lowers, next_lowers, choice_lowers, many_lowers}
+use Rattle.sdl_productions.proofs.MarkLemmas.{one_marked, list_gathered}
 use Rattle.sdl_tree.proofs.TextMarks.{marked_text, text_lowers}
 
 -- what is given is marked like its one part

@@ -6,14 +6,14 @@ use Rattle.sdl_lex.specs.declared.lexemes.Symbol.TheVariants.{Comma, Assign, Ope
 use Rattle.sdl_ast.specs.declared.tree.End.TheVariants.{NextState, Stop, Join}
 use Rattle.sdl_ast.specs.declared.tree.Range.TheVariants.{Compared}
 use Rattle.sdl_ast.specs.Plain.{task, output, set_timer, reset_timer, process, input, save, in_state, in_connection, process_head, process_from, from_to}
-use Rattle.sdl_tokens.specs.Tokens.{a_word, a_symbol, a_number, a_name, a_count, the_number, a_closing, a_quoted, a_destination, an_entity, a_declaration, a_clause, a_relation, a_section}
-use Rattle.sdl_bodies.specs.Bodies.{whole_texts}
+use Rattle.sdl_productions.specs.Tokens.{a_word, a_symbol, a_number, a_name, a_count, the_number, a_closing, a_quoted, a_destination, an_entity, a_declaration, a_clause, a_relation, a_section}
+use Rattle.sdl_productions.specs.Bodies.{whole_texts}
 use Rattle.sdl_tree.specs.Syntax.{place_syntax, stimulus_syntax, assignment_syntax, assigned_syntax, quoted_syntax, item_syntax, task_syntax, sending_syntax, destination_syntax, output_syntax, delay_syntax, set_syntax, reset_syntax, action_syntax, next_state_syntax, stop_syntax, end_syntax, text_syntax, input_syntax, save_syntax, clause_syntax, closing_syntax, end_state_syntax, state_syntax, start_syntax, second_number_syntax, instances_syntax, process_head_syntax, process_syntax, entity_syntax, block_syntax, compared_syntax, upper_syntax, value_syntax, range_syntax, answer_head_syntax, else_head_syntax, some_head_syntax, no_head_syntax, head_syntax, question_syntax, end_decision_syntax, join_syntax, end_connection_syntax, connection_syntax, state_section_syntax, connection_section_syntax, section_syntax}
-use Rattle.sdl_readers.specs.Productions.{place_at, stimulus_at, assignment_at, assigned_at, quoted_at, item_at, task_at, sending_at, destination_at, output_at, delay_at, set_at, reset_at, action_at, next_state_at, stop_at, end_at, text_at, input_at, save_at, clause_at, closing_at, end_state_at, state_at, start_at, second_number_at, instances_at, process_head_at, process_at, entity_at, block_at, compared_at, upper_at, value_at, range_at, answer_head_at, else_head_at, some_head_at, no_head_at, head_at, question_at, end_decision_at, join_at, end_connection_at, connection_at, state_section_at, connection_section_at, section_at}
-use Rattle.sdl_readers.proofs.Lengths.{declaration_takes, clause_takes, entity_takes, section_takes}
-use Rattle.sdl_tokens.proofs.Decides.{Decides, give_decides, token_decides, choice_decides, optional_decides, ◌>>=◌}
-use Rattle.sdl_tokens.proofs.Rows.{many_decides, separated_from_decides, separated_decides, list_decides}
-use Rattle.sdl_expressions.proofs.SoundLemmas.{expression_decides}
+use Rattle.sdl_productions.specs.Productions.{place_at, stimulus_at, assignment_at, assigned_at, quoted_at, item_at, task_at, sending_at, destination_at, output_at, delay_at, set_at, reset_at, action_at, next_state_at, stop_at, end_at, text_at, input_at, save_at, clause_at, closing_at, end_state_at, state_at, start_at, second_number_at, instances_at, process_head_at, process_at, entity_at, block_at, compared_at, upper_at, value_at, range_at, answer_head_at, else_head_at, some_head_at, no_head_at, head_at, question_at, end_decision_at, join_at, end_connection_at, connection_at, state_section_at, connection_section_at, section_at}
+use Rattle.sdl_productions.proofs.Lengths.{declaration_takes, clause_takes, entity_takes, section_takes}
+use Rattle.sdl_productions.proofs.Decides.{Decides, give_decides, token_decides, choice_decides, optional_decides, ◌>>=◌}
+use Rattle.sdl_productions.proofs.Rows.{many_decides, separated_from_decides, separated_decides, list_decides}
+use Rattle.sdl_productions.proofs.SoundLemmas.{expression_decides}
 use Rattle.sdl_tree.proofs.TextDecides.{text_decides_from}
 use Rattle.sdl_tree.proofs.DeclarationsDecide.{whole, names_decides, terminator_decides, signals_decides, route_decides, connect_decides, constant_decides, declaration_decides}
 

@@ -5,16 +5,16 @@ use Rattle.sdl_lex.specs.declared.lexemes.Word.TheVariants as words
 use Rattle.sdl_lex.specs.declared.lexemes.Symbol.TheVariants.{Open}
 use Rattle.sdl_ast.specs.declared.tree.End.{End}
 use Rattle.sdl_ast.specs.Plain.{PlainAction, Text, falls, ends, does, decides, Choice, nothing_else, otherwise, answer, PlainStatement, act, decide, PlainAnswer, PlainQuestion, PlainHead, all_before, all_answers}
-use Rattle.sdl_bodies.specs.Bodies.{Keeping, whole_texts, WholeBranching, WholeBody, WholeReached, WholeMove, reaches, closes, with_answer}
+use Rattle.sdl_productions.specs.Bodies.{Keeping, whole_texts, WholeBranching, WholeBody, WholeReached, WholeMove, reaches, closes, with_answer}
 use Rattle.sdl_ast.specs.Views.{end_text}
-use Rattle.sdl_tokens.specs.Tokens.{begins, a_word, a_symbol, an_action, an_end, a_choice}
-use Rattle.sdl_tokens.specs.Grammar.{Gives, Then}
-use Rattle.sdl_tokens.specs.Grammar as grammar
+use Rattle.sdl_productions.specs.Tokens.{begins, a_word, a_symbol, an_action, an_end, a_choice}
+use Rattle.sdl_productions.specs.Grammar.{Gives, Then}
+use Rattle.sdl_productions.specs.Grammar as grammar
 use Rattle.sdl_tree.specs.Syntax.{action_syntax, question_syntax, answer_head_syntax, else_head_syntax, some_head_syntax, no_head_syntax, head_syntax, end_decision_syntax, end_syntax, TextReads, ChoiceReads, runs_off, ends_there, goes_on, branches, no_more_answers, else_follows, answer_follows, text_syntax}
-use Rattle.sdl_expressions.specs.Machine.{whole_trees, expression_at}
-use Rattle.sdl_tokens.specs.Readings.{Reading, read, then_read, either, choice, give, optional}
-use Rattle.sdl_readers.specs.Productions.{action_at, question_at, head_at, end_decision_at, end_at, head_step, closing_step, answer_step, body_step, behind_step, end_step, decision_step, action_step, step_at, after_move, steps_for, steps_from, at_first, text_at}
-use Rattle.sdl_tokens.proofs.Decides.{Seen, Decides, optional_decides}
+use Rattle.sdl_productions.specs.Machine.{whole_trees, expression_at}
+use Rattle.sdl_productions.specs.Readings.{Reading, read, then_read, either, choice, give, optional}
+use Rattle.sdl_productions.specs.Productions.{action_at, question_at, head_at, end_decision_at, end_at, head_step, closing_step, answer_step, body_step, behind_step, end_step, decision_step, action_step, step_at, after_move, steps_for, steps_from, at_first, text_at}
+use Rattle.sdl_productions.proofs.Decides.{Seen, Decides, optional_decides}
 use Rattle.sdl_readers.proofs.StepLemmas.{from_step, from_reaches, steps_look}
 use Rattle.sdl_tree.proofs.TextSteps.{Leaves, step_looks, all_before-more, all_answers-more, split, Closed, Chosen, Answered, InBody, Behind, Stands, Follows, carried, closing_sound, head_begins}
 

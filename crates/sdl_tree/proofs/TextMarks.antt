@@ -9,16 +9,16 @@ use Rattle.sdl_ast.specs.Plain.{Tree, Text, Choice, nothing_else, otherwise, Pla
 use Rattle.sdl_ast.specs.Views.{end_text}
 use Rattle.sdl_ast.specs.Heights.{tree_height, decision_height, or_first, first_of, high_in_action, high_in_decision, high_in_statement, high_in_answer, high_in_text, high_in_choice}
 use Rattle.sdl_ast.proofs.HeightLemmas.{none_inside}
-use Rattle.sdl_tokens.specs.Tokens.{a_word, an_action, an_end, a_choice}
-use Rattle.sdl_tokens.specs.Readings.{read, At, choice, optional, give}
-use Rattle.sdl_expressions.specs.Machine.{whole_trees, low_trees, lowered, expression_at}
-use Rattle.sdl_expressions.proofs.Lowering.{mapped, Lowers, give_lowers, then_lowers, next_lowers, choice_lowers}
-use Rattle.sdl_bodies.specs.Marks.{Marked, kept, by_place, marked, more, decided}
-use Rattle.sdl_bodies.specs.Bodies.{whole_texts, marked_texts, plain_answer_of, WholeBranching, WholeBody, WholeReached, WholeMove, MarkedBranching, MarkedBody, MarkedReached, MarkedMove, reaches, closes, with_answer}
-use Rattle.sdl_readers.specs.Productions.{action_at, question_at, head_at, end_decision_at, end_at, head_step, closing_step, answer_step, body_step, behind_step, end_step, decision_step, action_step, step_at, after_move, steps_for, steps_from, at_first, text_at}
+use Rattle.sdl_productions.specs.Tokens.{a_word, an_action, an_end, a_choice}
+use Rattle.sdl_productions.specs.Readings.{read, At, choice, optional, give}
+use Rattle.sdl_productions.specs.Machine.{whole_trees, low_trees, lowered, expression_at}
+use Rattle.sdl_productions.proofs.Lowering.{mapped, Lowers, give_lowers, then_lowers, next_lowers, choice_lowers}
+use Rattle.sdl_productions.specs.Marks.{Marked, kept, by_place, marked, more, decided}
+use Rattle.sdl_productions.specs.Bodies.{whole_texts, marked_texts, plain_answer_of, WholeBranching, WholeBody, WholeReached, WholeMove, MarkedBranching, MarkedBody, MarkedReached, MarkedMove, reaches, closes, with_answer}
+use Rattle.sdl_productions.specs.Productions.{action_at, question_at, head_at, end_decision_at, end_at, head_step, closing_step, answer_step, body_step, behind_step, end_step, decision_step, action_step, step_at, after_move, steps_for, steps_from, at_first, text_at}
 use Rattle.sdl_tree.proofs.LoweredActions.{lowered_action, lowered_question, action_lowers, question_lowers}
 use Rattle.sdl_tree.proofs.LowHeights.{Keeps, keeps, action_stays}
-use Rattle.sdl_bodies.proofs.MarkLemmas.{one_marked, list_more, or_first-assoc, or_first-none}
+use Rattle.sdl_productions.proofs.MarkLemmas.{one_marked, list_more, or_first-assoc, or_first-none}
 
 abbrev marked_statements : List PlainStatement → Marked (List PlainStatement)
 marked_statements ss = marked (first_of high_in_statement) ss

@@ -7,14 +7,14 @@ use Rattle.sdl_lex.specs.declared.lexemes.Lexeme.TheVariants as lexemes
 use Rattle.sdl_lex.specs.declared.lexemes.Word.TheVariants as words
 use Rattle.sdl_lex.specs.declared.lexemes.Symbol.TheVariants.{Open}
 use Rattle.sdl_ast.specs.Plain.{Text, decides, Choice, nothing_else, otherwise, answer, PlainStatement, decide, PlainAnswer, PlainHead, before, all_before, all_answers}
-use Rattle.sdl_bodies.specs.Bodies.{whole_texts, WholeBranching, WholeBody, WholeReached, WholeMove, reaches, closes, with_answer}
+use Rattle.sdl_productions.specs.Bodies.{whole_texts, WholeBranching, WholeBody, WholeReached, WholeMove, reaches, closes, with_answer}
 use Rattle.sdl_ast.specs.Views.{end_text}
-use Rattle.sdl_tokens.specs.Tokens.{begins, a_word, a_symbol, an_action, an_end, a_choice, word_place, symbol_place, choice_place}
+use Rattle.sdl_productions.specs.Tokens.{begins, a_word, a_symbol, an_action, an_end, a_choice, word_place, symbol_place, choice_place}
 use Rattle.sdl_tree.specs.Syntax.{action_syntax, question_syntax, else_head_syntax, some_head_syntax, no_head_syntax, head_syntax, end_decision_syntax, end_syntax, TextReads, ChoiceReads}
-use Rattle.sdl_expressions.specs.Machine.{whole_trees, expression_at}
-use Rattle.sdl_tokens.specs.Readings.{Reading, read, fails, At, then_read}
-use Rattle.sdl_readers.specs.Productions.{action_at, question_at, head_at, end_decision_at, end_at, head_step, closing_step, answer_step, body_step, behind_step, end_step, decision_step, action_step, step_at}
-use Rattle.sdl_tokens.proofs.Decides.{Seen, Decides, give_decides, choice_decides, optional_decides, ◌>>=◌}
+use Rattle.sdl_productions.specs.Machine.{whole_trees, expression_at}
+use Rattle.sdl_productions.specs.Readings.{Reading, read, fails, At, then_read}
+use Rattle.sdl_productions.specs.Productions.{action_at, question_at, head_at, end_decision_at, end_at, head_step, closing_step, answer_step, body_step, behind_step, end_step, decision_step, action_step, step_at}
+use Rattle.sdl_productions.proofs.Decides.{Seen, Decides, give_decides, choice_decides, optional_decides, ◌>>=◌}
 
 -- what is known of the flat parts
 pub record Leaves : Type 0 where

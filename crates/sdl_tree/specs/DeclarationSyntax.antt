@@ -1,4 +1,5 @@
--- The concrete syntax of declarations, signals and routes (Z.100, concrete textual grammar): which tokens read as which tree.
+-- The concrete syntax of declarations, signals and routes (Z.100, concrete textual grammar): which
+-- tokens read as which tree.
 use Rattle.std.specs.Prelude.{ℕ, List, ◌∷◌, pos, ◌-ℤ◌}
 use Rattle.std.specs.Option.{option_to_list}
 use Rattle.sdl_lex.specs.declared.lexemes.Word.TheVariants as words
@@ -6,9 +7,12 @@ use Rattle.sdl_lex.specs.declared.lexemes.Symbol.TheVariants.{Semicolon, Assign,
 use Rattle.sdl_ast.specs.declared.expression.Identifier.{Identifier}
 use Rattle.sdl_ast.specs.declared.tree.Constant.{Constant}
 use Rattle.sdl_ast.specs.declared.tree.Literal.TheVariants as literals
-use Rattle.sdl_ast.specs.Plain.{PlainGroup, PlainDeclaration, variables, timers, PlainPath, PlainSignal, PlainEntity, signals, route, connect}
-use Rattle.sdl_tokens.specs.Tokens.{a_word, a_symbol, a_number, a_name, a_sort, a_party, a_constant, a_quoted}
-use Rattle.sdl_tokens.specs.Grammar.{Grammar, give, token, ◌>>=◌, choice, optional, separated, list_in_parentheses}
+use Rattle.sdl_ast.specs.Plain.{PlainGroup, PlainDeclaration, variables, timers, PlainPath}
+use Rattle.sdl_ast.specs.Plain.{PlainSignal, PlainEntity, signals, route, connect}
+use Rattle.sdl_productions.specs.Tokens.{a_word, a_symbol, a_number, a_name, a_sort, a_party}
+use Rattle.sdl_productions.specs.Tokens.{a_constant, a_quoted}
+use Rattle.sdl_productions.specs.Grammar.{Grammar, give, token, ◌>>=◌, choice, optional, separated}
+use Rattle.sdl_productions.specs.Grammar.{list_in_parentheses}
 
 -- name {, name}
 abbrev pub names_syntax : Grammar (List Identifier)

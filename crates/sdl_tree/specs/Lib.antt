@@ -1,5 +1,5 @@
-pub mod Syntax
 pub mod DeclarationSyntax
-pub mod Settled
-pub mod Refusals
 pub mod Printed
+pub mod Refusals
+pub mod Settled
+pub mod Syntax

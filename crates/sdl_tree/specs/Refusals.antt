@@ -13,7 +13,9 @@ use Rattle.sdl_ast.specs.Heights.{Height, first_too_high}
 -- no text that reads agrees with these tokens up to and with the one at this index, where the end
 -- counts as a token: a text that ends there is another text than one that goes on
 abbrev pub NoneAgrees : List Token → ℕ → Type 0
-NoneAgrees tokens at = (others : List Token) (b : PlainBlock) → take (at + 1) others ≡ take (at + 1) tokens → Reads others b → ⊥
+NoneAgrees tokens at =
+    (others : List Token) (b : PlainBlock) → take (at + 1) others ≡ take (at + 1) tokens
+    → Reads others b → ⊥
 
 -- what a refusal says of the tokens; want of memory says nothing
 abbrev pub Refuses : List Token → ParseFault → Type 0

@@ -5,9 +5,9 @@ use Rattle.sdl_tree.specs.declared.fault.ParseFault.{ParseFault}
 use Rattle.sdl_tree.specs.declared.fault.ParseFault.TheVariants.{Unexpected, TooDeep, NoMemory}
 use Rattle.sdl_ast.specs.declared.tree.Block.{Block}
 use Rattle.sdl_ast.specs.Views.{block_of}
-use Rattle.sdl_tokens.specs.Readings.{Reading, read, fails}
-use Rattle.sdl_bodies.specs.Marks.{kept, too_high}
-use Rattle.sdl_readers.specs.MarkedParts.{marked_block}
+use Rattle.sdl_productions.specs.Readings.{Reading, read, fails}
+use Rattle.sdl_productions.specs.Marks.{kept, too_high}
+use Rattle.sdl_productions.specs.MarkedParts.{marked_block}
 
 -- where a reading that doesn't take all tokens stops
 abbrev pub stops_at : {A : Type 0} → Reading A → Option (List Token)
@@ -18,5 +18,7 @@ stops_at (fails us) = Some us
 abbrev pub Settled : List Token → Result Block ParseFault → Type 0
 Settled tokens (Ok block) = marked_block tokens ≡ read (kept (block_of block)) []
 Settled tokens (Err (TooDeep at)) = marked_block tokens ≡ read (too_high at) []
-Settled tokens (Err (Unexpected at)) = (us : List Token) × (stops_at (marked_block tokens) ≡ Some us) × (at ≡ length tokens - length us)
+Settled tokens (Err (Unexpected at)) =
+    (us : List Token) × (stops_at (marked_block tokens) ≡ Some us)
+    × (at ≡ length tokens - length us)
 Settled tokens (Err NoMemory) = Unit {0}

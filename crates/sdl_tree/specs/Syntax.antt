@@ -1,9 +1,11 @@
--- The concrete syntax of process texts (Z.100, concrete textual grammar): which tokens read as which tree.
+-- The concrete syntax of process texts (Z.100, concrete textual grammar): which tokens read as
+-- which tree.
 use Rattle.std.specs.Prelude.{◌≡◌, ℕ, true, false, List, [], Option, Some, None}
 use Rattle.std.specs.List.{filter_map}
 use Rattle.sdl_lex.specs.declared.lexemes.Token.{Token}
 use Rattle.sdl_lex.specs.declared.lexemes.Word.TheVariants as words
-use Rattle.sdl_lex.specs.declared.lexemes.Symbol.TheVariants.{Comma, Assign, Open, Close, Plus, Colon}
+use Rattle.sdl_lex.specs.declared.lexemes.Symbol.TheVariants.{Comma, Assign, Open, Close, Plus}
+use Rattle.sdl_lex.specs.declared.lexemes.Symbol.TheVariants.{Colon}
 use Rattle.sdl_ast.specs.declared.expression.Identifier.{Identifier}
 use Rattle.sdl_ast.specs.declared.tree.Constant.{Constant}
 use Rattle.sdl_ast.specs.declared.tree.Destination.{Destination}
@@ -11,11 +13,23 @@ use Rattle.sdl_ast.specs.declared.tree.End.{End}
 use Rattle.sdl_ast.specs.declared.tree.End.TheVariants.{NextState, Stop, Join}
 use Rattle.sdl_ast.specs.declared.tree.Range.{Range}
 use Rattle.sdl_ast.specs.declared.tree.Range.TheVariants.{Compared}
-use Rattle.sdl_ast.specs.Plain.{PlainAssignment, PlainSending, PlainAction, task, output, set_timer, reset_timer, Text, falls, ends, does, decides, Choice, nothing_else, otherwise, answer, PlainQuestion, PlainHead, Tree, PlainStimulus, PlainClause, input, save, PlainState, PlainStart, PlainEntity, process, PlainBlock, PlainConnection, PlainSection, in_state, in_connection, PlainProcessHead, process_head, process_from, from_to}
-use Rattle.sdl_tokens.specs.Tokens.{begins, a_word, a_symbol, a_number, a_name, a_count, the_number, a_closing, a_quoted, a_destination, an_entity, a_declaration, a_clause, an_action, an_end, a_choice, a_relation, a_section}
-use Rattle.sdl_tokens.specs.Grammar.{Grammar, give, token, ◌>>=◌, many, choice, optional, separated_from, separated, list_in_parentheses}
-use Rattle.sdl_expressions.specs.Expressions.{expression_syntax}
-use Rattle.sdl_tree.specs.DeclarationSyntax.{names_syntax, terminator_syntax, signals_syntax, route_syntax, connect_syntax, constant_syntax, declaration_syntax}
+use Rattle.sdl_ast.specs.Plain.{PlainAssignment, PlainSending, PlainAction, task, output, set_timer}
+use Rattle.sdl_ast.specs.Plain.{reset_timer, Text, falls, ends, does, decides, Choice, nothing_else}
+use Rattle.sdl_ast.specs.Plain.{otherwise, answer, PlainQuestion, PlainHead, Tree, PlainStimulus}
+use Rattle.sdl_ast.specs.Plain.{PlainClause, input, save, PlainState, PlainStart, PlainEntity}
+use Rattle.sdl_ast.specs.Plain.{process, PlainBlock, PlainConnection, PlainSection, in_state}
+use Rattle.sdl_ast.specs.Plain.{in_connection, PlainProcessHead, process_head, process_from}
+use Rattle.sdl_ast.specs.Plain.{from_to}
+use Rattle.sdl_productions.specs.Tokens.{begins, a_word, a_symbol, a_number, a_name, a_count}
+use Rattle.sdl_productions.specs.Tokens.{the_number, a_closing, a_quoted, a_destination, an_entity}
+use Rattle.sdl_productions.specs.Tokens.{a_declaration, a_clause, an_action, an_end, a_choice}
+use Rattle.sdl_productions.specs.Tokens.{a_relation, a_section}
+use Rattle.sdl_productions.specs.Grammar.{Grammar, give, token, ◌>>=◌, many, choice, optional}
+use Rattle.sdl_productions.specs.Grammar.{separated_from, separated, list_in_parentheses}
+use Rattle.sdl_productions.specs.Expressions.{expression_syntax}
+use Rattle.sdl_tree.specs.DeclarationSyntax.{names_syntax, terminator_syntax, signals_syntax}
+use Rattle.sdl_tree.specs.DeclarationSyntax.{route_syntax, connect_syntax, constant_syntax}
+use Rattle.sdl_tree.specs.DeclarationSyntax.{declaration_syntax}
 
 -- [ name ]
 unfoldable pub place_syntax : Grammar (Option Identifier)
@@ -114,7 +128,9 @@ reset_syntax = do
 
 -- a TASK, an OUTPUT, a SET or a RESET
 unfoldable pub action_syntax : Grammar PlainAction
-action_syntax = choice (a_word words.Task) task_syntax (choice (a_word words.Output) output_syntax (choice (a_word words.Set) set_syntax reset_syntax))
+action_syntax =
+    choice (a_word words.Task) task_syntax
+    (choice (a_word words.Output) output_syntax (choice (a_word words.Set) set_syntax reset_syntax))
 
 -- a relation, and a constant
 unfoldable pub compared_syntax : Grammar Range
@@ -212,30 +228,44 @@ join_syntax = do
 
 -- a NEXTSTATE, a STOP or a JOIN
 unfoldable pub end_syntax : Grammar End
-end_syntax = choice (a_word words.NextState) next_state_syntax (choice (a_word words.Stop) stop_syntax join_syntax)
+end_syntax =
+    choice (a_word words.NextState) next_state_syntax
+    (choice (a_word words.Stop) stop_syntax join_syntax)
 
--- A transition is { action | decision } [ NEXTSTATE name ; | STOP ; | JOIN name ; ], each of them exactly
--- where a word that begins one stands next. A decision is DECISION expression ; { answer } [ ELSE : transition ]
--- ENDDECISION ; with at least one answer or ELSE, an answer ( range {, range} ) : transition.
+-- A transition is { action | decision } [ NEXTSTATE name ; | STOP ; | JOIN name ; ], each of them
+-- exactly where a word that begins one stands next. A decision is DECISION expression ; { answer }
+-- [ ELSE : transition ] ENDDECISION ; with at least one answer or ELSE, an answer ( range {, range}
+-- ) : transition.
 mutual
   pub data TextReads : List Token → Text → List Token → Type 0 where
-    runs_off : (ts : List Token) → begins an_action ts ≡ false → begins (a_word words.Decision) ts ≡ false → begins an_end ts ≡ false
+    runs_off : (ts : List Token) → begins an_action ts ≡ false
+        → begins (a_word words.Decision) ts ≡ false → begins an_end ts ≡ false
         → TextReads ts falls ts
-    ends_there : (ts us : List Token) (e : End) → begins an_action ts ≡ false → begins (a_word words.Decision) ts ≡ false → begins an_end ts ≡ true
+    ends_there :
+        (ts us : List Token) (e : End) → begins an_action ts ≡ false
+        → begins (a_word words.Decision) ts ≡ false → begins an_end ts ≡ true
         → end_syntax ts e us → TextReads ts (ends e) us
-    goes_on : (ts us vs : List Token) (action : PlainAction) (rest : Text) → begins an_action ts ≡ true → action_syntax ts action us
+    goes_on : (ts us vs : List Token) (action : PlainAction) (rest : Text)
+        → begins an_action ts ≡ true → action_syntax ts action us
         → TextReads us rest vs → TextReads ts (does action rest) vs
-    branches : (ts us vs ws zs : List Token) (asked : PlainQuestion) (choice : Choice) (closed : ℕ) (rest : Text)
-        → begins an_action ts ≡ false → begins (a_word words.Decision) ts ≡ true → question_syntax ts asked us
+    branches : (ts us vs ws zs : List Token) (asked : PlainQuestion) (choice : Choice) (closed : ℕ)
+        (rest : Text)
+        → begins an_action ts ≡ false → begins (a_word words.Decision) ts ≡ true
+        → question_syntax ts asked us
         → begins a_choice us ≡ true → ChoiceReads us choice vs → end_decision_syntax vs closed ws
         → TextReads ws rest zs → TextReads ts (decides asked.at asked.question choice rest) zs
 
   -- answers, and ELSE behind them, as long as a parenthesis or ELSE stands next
   pub data ChoiceReads : List Token → Choice → List Token → Type 0 where
-    no_more_answers : (ts : List Token) → begins a_choice ts ≡ false → ChoiceReads ts nothing_else ts
-    else_follows : (ts us vs : List Token) (opened : ℕ) (text : Text) → begins a_choice ts ≡ true → begins (a_symbol Open) ts ≡ false
+    no_more_answers :
+        (ts : List Token) → begins a_choice ts ≡ false → ChoiceReads ts nothing_else ts
+    else_follows :
+        (ts us vs : List Token) (opened : ℕ) (text : Text) → begins a_choice ts ≡ true
+        → begins (a_symbol Open) ts ≡ false
         → else_head_syntax ts opened us → TextReads us text vs → ChoiceReads ts (otherwise text) vs
-    answer_follows : (ts us vs ws : List Token) (head : PlainHead) (text : Text) (others : Choice) → begins a_choice ts ≡ true
+    answer_follows :
+        (ts us vs ws : List Token) (head : PlainHead) (text : Text) (others : Choice)
+        → begins a_choice ts ≡ true
         → begins (a_symbol Open) ts ≡ true → answer_head_syntax ts head us → TextReads us text vs
         → ChoiceReads vs others ws → ChoiceReads ts (answer head.at head.ranges text others) ws
 
@@ -276,7 +306,8 @@ end_state_syntax name = do
   _ ← token (a_word words.EndState)
   closing_syntax name
 
--- STATE name {, name} ; { INPUT .. | SAVE .. } [ ENDSTATE [name] ; ], the closing name being the first one
+-- STATE name {, name} ; { INPUT .. | SAVE .. } [ ENDSTATE [name] ; ], the closing name being the
+-- first one
 unfoldable pub state_syntax : Grammar PlainState
 state_syntax = do
   _ ← token (a_word words.State)
@@ -351,7 +382,8 @@ process_head_syntax = do
   _ ← terminator_syntax
   give (process_head name instances)
 
--- PROCESS name [ ( number [, [number]] ) ] ; { DCL .. | TIMER .. } START .. { STATE .. | CONNECTION .. } ENDPROCESS [name] ;
+-- PROCESS name [ ( number [, [number]] ) ] ; { DCL .. | TIMER .. } START .. { STATE .. | CONNECTION
+-- .. } ENDPROCESS [name] ;
 unfoldable pub process_syntax : Grammar PlainEntity
 process_syntax = do
   head ← process_head_syntax
@@ -364,7 +396,10 @@ process_syntax = do
 
 -- a SIGNAL, a SIGNALROUTE, a CONNECT or a PROCESS
 unfoldable pub entity_syntax : Grammar PlainEntity
-entity_syntax = choice (a_word words.Signal) signals_syntax (choice (a_word words.SignalRoute) route_syntax (choice (a_word words.Connect) connect_syntax process_syntax))
+entity_syntax =
+    choice (a_word words.Signal) signals_syntax
+    (choice (a_word words.SignalRoute) route_syntax
+    (choice (a_word words.Connect) connect_syntax process_syntax))
 
 -- BLOCK name ; { SIGNAL .. | SIGNALROUTE .. | CONNECT .. | PROCESS .. } ENDBLOCK [name] ;
 unfoldable pub block_syntax : Grammar PlainBlock

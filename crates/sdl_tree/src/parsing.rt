@@ -8,10 +8,9 @@ ghost use Rattle.sdl_ast.specs.Views.{block_of};
 
 use crate::fault::ParseFault;
 use sdl_ast::Block;
-use sdl_bodies::Marked;
 use sdl_lex::Token;
+use sdl_productions::{Marked, Stop};
 use sdl_readers::read_block;
-use sdl_tokens::Stop;
 use std::alloc::Global;
 
 /// The tree of all tokens, or why there is none.

@@ -1,6 +1,9 @@
 -- A text without what has neither an effect nor an instruction: TASKs in which all is quoted.
-use Rattle.std.specs.Prelude.{◌≡◌, map, Option, None, Some, Bool, true, false, List, [], ◌∷◌, if◌then◌else◌}
-use Rattle.sdl_ast.specs.Plain.{PlainAction, task, output, set_timer, reset_timer, Text, falls, ends, does, decides, Choice, nothing_else, otherwise, answer, PlainStatement, act, decide, PlainAnswer, PlainConnection}
+use Rattle.std.specs.Prelude.{◌≡◌, map, Option, None, Some, Bool, true, false, List, [], ◌∷◌}
+use Rattle.std.specs.Prelude.{if◌then◌else◌}
+use Rattle.sdl_ast.specs.Plain.{PlainAction, task, output, set_timer, reset_timer, Text, falls}
+use Rattle.sdl_ast.specs.Plain.{ends, does, decides, Choice, nothing_else, otherwise, answer}
+use Rattle.sdl_ast.specs.Plain.{PlainStatement, act, decide, PlainAnswer, PlainConnection}
 use Rattle.sdl_ast.specs.declared.tree.Transition.{Transition}
 use Rattle.sdl_ast.specs.declared.tree.Statement.{Statement}
 use Rattle.sdl_ast.specs.Views.{text_of, plain_statement}
@@ -53,4 +56,5 @@ trimmed_answer a = record { at = a.at; ranges = a.ranges; text = trimmed a.text 
 
 -- these are the texts of connections so
 abbrev pub AreTrimmed : List PlainConnection → List Transition → Type 0
-AreTrimmed connections copies = map text_of copies ≡ map (λ (c : PlainConnection). trimmed c.text) connections
+AreTrimmed connections copies =
+    map text_of copies ≡ map (λ (c : PlainConnection). trimmed c.text) connections

@@ -11,7 +11,7 @@ use Rattle.std.proofs.Math.Nat.{one-mul, mod-eq_of_lt}
 use Rattle.std.proofs.Math.Pow.{pow-lt}
 use Rattle.std.proofs.lemmas.Option.{get_or_from_slice_get, slice_get-get_or}
 use lib.Bits.{bit_and, bit_or}
-use Rattle.unset_paths.specs.Graph.{has}
+use Rattle.sdl_unset.specs.Graph.{has}
 use Rattle.sdl_ast.specs.declared.expression.Identifier.{Identifier}
 use Rattle.sdl_ast.specs.Plain.{Tree, binary, PlainProcess}
 use Rattle.sdl_ast.specs.declared.expression.BinaryOperator.{BinaryOperator}

@@ -4,12 +4,12 @@ use Rattle.std.specs.Prelude.{slice_get, Contains}
 use Rattle.std.specs.List.{AllZip, flat_map}
 use Rattle.std.specs.Option.{option_map_or}
 use Rattle.sdl_lex.specs.Spelling.{folded}
-use Rattle.unset_paths.specs.declared.Summary.{Summary}
-use Rattle.unset_paths.specs.declared.Graph.{Graph}
-use Rattle.unset_paths.specs.declared.Step as number
-use Rattle.unset_paths.specs.declared.Step.TheVariants.{Start as First, Input as By}
-use Rattle.unset_paths.specs.Graph as graph
-use Rattle.unset_paths.specs.Graph.{has, input_at, Passes}
+use Rattle.sdl_unset.specs.declared.paths.Summary.{Summary}
+use Rattle.sdl_unset.specs.declared.paths.Graph.{Graph}
+use Rattle.sdl_unset.specs.declared.paths.Step as number
+use Rattle.sdl_unset.specs.declared.paths.Step.TheVariants.{Start as First, Input as By}
+use Rattle.sdl_unset.specs.Graph as graph
+use Rattle.sdl_unset.specs.Graph.{has, input_at, Passes}
 use Rattle.sdl_ast.specs.Plain.{Tree, Text, falls, ends, does, decides, Choice, nothing_else, otherwise, answer, PlainProcess, PlainBlock}
 use Rattle.sdl_ast.specs.declared.tree.End.TheVariants.{NextState, Stop, Join}
 use Rattle.sdl_ast.specs.declared.expression.Identifier.{Identifier}

@@ -5,13 +5,13 @@ use Rattle.std.specs.List.{AllZip, enumerate_from}
 use Rattle.std.specs.Option.{option_map_or, option_and_then}
 use Rattle.std.specs.Global.{Vec}
 use Rattle.std.proofs.lemmas.Option.{slice_get_within}
-use Rattle.unset_paths.specs.declared.Summary.{Summary}
-use Rattle.unset_paths.specs.declared.Graph.{Graph}
-use Rattle.unset_paths.specs.declared.Step as number
-use Rattle.unset_paths.specs.declared.Step.TheVariants.{Start as First, Input as By}
-use Rattle.unset_paths.specs.Order.{IsSorted}
-use Rattle.unset_paths.specs.Graph as graph
-use Rattle.unset_paths.specs.Graph.{input_at}
+use Rattle.sdl_unset.specs.declared.paths.Summary.{Summary}
+use Rattle.sdl_unset.specs.declared.paths.Graph.{Graph}
+use Rattle.sdl_unset.specs.declared.paths.Step as number
+use Rattle.sdl_unset.specs.declared.paths.Step.TheVariants.{Start as First, Input as By}
+use Rattle.sdl_unset.specs.Order.{IsSorted}
+use Rattle.sdl_unset.specs.Graph as graph
+use Rattle.sdl_unset.specs.Graph.{input_at}
 use Rattle.sdl_ast.specs.Plain.{PlainProcess}
 use Rattle.sdl_ast.specs.declared.expression.Identifier.{Identifier}
 use Rattle.sdl_tables.specs.Names.{same_name, number_of, variable_names, states_of, Input, inputs_of, inputs_by_state}

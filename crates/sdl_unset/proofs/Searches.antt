@@ -9,14 +9,14 @@ use Rattle.std.specs.Global.{Vec}
 use Rattle.std.proofs.lemmas.Option.{slice_get-get_or, slice_get_within, slice_get-map, slice_get_past, same_Some as some_same}
 use Rattle.std.proofs.lemmas.Bool.{cases_eq}
 use Rattle.std.proofs.lemmas.List.{length-map, take_more}
-use Rattle.unset_paths.specs.declared.Graph.{Graph}
-use Rattle.unset_paths.specs.declared.Fate.{Fate}
-use Rattle.unset_paths.specs.declared.Fate.TheVariants.{Unset, Set}
-use Rattle.unset_paths.specs.declared.Step as number
-use Rattle.unset_paths.specs.declared.Step.TheVariants.{Input as By}
-use Rattle.unset_paths.specs.Order.{NotAfter, IsSorted, IsFirst}
-use Rattle.unset_paths.proofs.Orders.{not_after_trans}
-use Rattle.unset_paths.specs.Graph.{IfUnset, IfSet, IsClosedSet, ReadsUnset, IsShortest}
+use Rattle.sdl_unset.specs.declared.paths.Graph.{Graph}
+use Rattle.sdl_unset.specs.declared.paths.Fate.{Fate}
+use Rattle.sdl_unset.specs.declared.paths.Fate.TheVariants.{Unset, Set}
+use Rattle.sdl_unset.specs.declared.paths.Step as number
+use Rattle.sdl_unset.specs.declared.paths.Step.TheVariants.{Input as By}
+use Rattle.sdl_unset.specs.Order.{NotAfter, IsSorted, IsFirst}
+use Rattle.sdl_unset.proofs.Orders.{not_after_trans}
+use Rattle.sdl_unset.specs.Graph.{IfUnset, IfSet, IsClosedSet, ReadsUnset, IsShortest}
 use Rattle.sdl_ast.specs.Plain.{PlainProcess, PlainBlock}
 use Rattle.sdl_ast.specs.declared.expression.Identifier.{Identifier}
 use Rattle.sdl_tables.specs.Names.{same_name, states_of, Input, inputs_of, inputs_by_state}

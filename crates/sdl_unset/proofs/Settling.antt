@@ -8,14 +8,14 @@ use Rattle.std.specs.Global.{Vec}
 use Rattle.std.proofs.lemmas.List.{length-map}
 use Rattle.std.proofs.lemmas.List.Elements.{All-contains}
 use Rattle.std.proofs.lemmas.Option.{slice_get-get_or, slice_get_within}
-use Rattle.unset_paths.specs.declared.Summary.{Summary}
-use Rattle.unset_paths.specs.declared.Graph.{Graph}
-use Rattle.unset_paths.specs.declared.Fate.{Fate}
-use Rattle.unset_paths.specs.declared.Fate.TheVariants.{Unset, Set}
-use Rattle.unset_paths.specs.declared.Step as number
-use Rattle.unset_paths.specs.declared.Step.TheVariants.{Input as By}
-use Rattle.unset_paths.specs.Graph as graph
-use Rattle.unset_paths.specs.Graph.{has, IsSeen, IsSafe, IsClosedSet}
+use Rattle.sdl_unset.specs.declared.paths.Summary.{Summary}
+use Rattle.sdl_unset.specs.declared.paths.Graph.{Graph}
+use Rattle.sdl_unset.specs.declared.paths.Fate.{Fate}
+use Rattle.sdl_unset.specs.declared.paths.Fate.TheVariants.{Unset, Set}
+use Rattle.sdl_unset.specs.declared.paths.Step as number
+use Rattle.sdl_unset.specs.declared.paths.Step.TheVariants.{Input as By}
+use Rattle.sdl_unset.specs.Graph as graph
+use Rattle.sdl_unset.specs.Graph.{has, IsSeen, IsSafe, IsClosedSet}
 use Rattle.sdl_ast.specs.Plain.{PlainProcess, PlainBlock}
 use Rattle.sdl_ast.specs.declared.expression.Identifier.{Identifier}
 use Rattle.sdl_tables.specs.Names.{number_of, variable_names, variables_of, states_of, Input, inputs_of, inputs_by_state}

@@ -6,8 +6,8 @@ use Rattle.std.specs.Option.{option_map, option_map_or, option_and_then}
 use Rattle.std.proofs.lemmas.List.Folds.{find_at}
 use Rattle.std.proofs.lemmas.List.Elements.{All-nil, All-cons, Contains-append_left, Contains-append_right}
 use Rattle.std.proofs.lemmas.Option.{slice_get-map}
-use Rattle.unset_paths.specs.declared.Step as number
-use Rattle.unset_paths.specs.declared.Step.TheVariants.{Start as First, Input as By}
+use Rattle.sdl_unset.specs.declared.paths.Step as number
+use Rattle.sdl_unset.specs.declared.paths.Step.TheVariants.{Start as First, Input as By}
 use Rattle.sdl_ast.specs.Plain.{PlainBlock, PlainInput, PlainProcess, PlainSignal, PlainStimulus, input}
 use Rattle.sdl_ast.specs.declared.expression.Identifier.{Identifier}
 use Rattle.sdl_tables.specs.Names.{same_name, is_in, number_of, signals_of, signal_names, signal_named, variable_names, timers_of, states_of, clause_inputs, Input, inputs_of, input_parts}
@@ -18,9 +18,8 @@ use Rattle.sdl_sound.specs.Spellings.{IsSpelling, IsDeclaredStep}
 use Rattle.sdl_sound.specs.declared.fault.Step.{Step}
 use Rattle.sdl_sound.proofs.Items.{Each, each_map, each_with, each_nil, each_unfound, each_at}
 use Rattle.sdl_unset.proofs.Ranks.{inputs_by}
-use Rattle.sdl_sound.proofs.Numbered.{folded_same, number_names}
+use Rattle.sdl_sound.proofs.Numbered.{folded_same, number_names, nowhere}
 use Rattle.sdl_unset.proofs.Numbers.{has_number}
-use Rattle.sdl_sound.proofs.Numbered.{nowhere}
 use Rattle.plain_laws.proofs.Lists.{test_known, append-nil_left as nil_front}
 use Rattle.plain_laws.proofs.Places.{among_at}
 

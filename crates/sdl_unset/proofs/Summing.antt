@@ -7,12 +7,12 @@ use Rattle.std.proofs.lemmas.Bool.{cases_eq}
 use Rattle.std.proofs.lemmas.List.{length-map, map_more, take_more, length-take-le}
 use Rattle.std.proofs.lemmas.List.Elements.{Contains-append_left, Contains-append_right, Contains-append_cases}
 use Rattle.std.proofs.lemmas.Option.{slice_get_within}
-use Rattle.unset_paths.specs.Graph.{has}
-use Rattle.unset_paths.specs.Order.{AreSorted}
+use Rattle.sdl_unset.specs.Graph.{has}
+use Rattle.sdl_unset.specs.Order.{AreSorted}
 use Rattle.sdl_sound.proofs.Lists.{get_push_cases}
-use Rattle.unset_paths.specs.declared.Passage.{Passage}
-use Rattle.unset_paths.specs.declared.Summary.{Summary}
-use Rattle.unset_paths.specs.declared.Graph.{Graph}
+use Rattle.sdl_unset.specs.declared.paths.Passage.{Passage}
+use Rattle.sdl_unset.specs.declared.paths.Summary.{Summary}
+use Rattle.sdl_unset.specs.declared.paths.Graph.{Graph}
 use Rattle.sdl_ast.specs.declared.expression.Identifier.{Identifier}
 use Rattle.sdl_ast.specs.Plain.{PlainProcess}
 use Rattle.sdl_tables.specs.Names.{Variable, variable_names, variables_of, states_of, Input, inputs_of, inputs_by_state, of_state, part_inputs}

@@ -25,8 +25,8 @@ use Rattle.sdl_sound.specs.declared.fault.Limit.TheVariants.{Processes, States, 
 use Rattle.plain_laws.proofs.Lists.{append-nil_right}
 use Rattle.sdl_unset.proofs.Numbers.{none_at, numbered_path}
 use Rattle.sdl_unset.proofs.TextOrder.{all_named, not_after_names}
-use Rattle.unset_paths.specs.Order.{NotAfter}
-use Rattle.unset_paths.proofs.Orders.{no_longer, not_after_trans}
+use Rattle.sdl_unset.specs.Order.{NotAfter}
+use Rattle.sdl_unset.proofs.Orders.{no_longer, not_after_trans}
 use Rattle.sdl_sound.specs.PathOrder.{IsFirst}
 use Rattle.sdl_unset.proofs.PathNames.{named_reads, steps_there}
 use Rattle.sdl_unset.proofs.Spelling.{spelling_at, declared_steps}
@@ -34,11 +34,11 @@ use Rattle.sdl_unset.specs.Fates.{IsFate, AreFates, IsUnsetAt, path_of, fate_pat
 use Rattle.sdl_sound.specs.Spellings.{AreDeclared}
 use Rattle.sdl_sound.specs.declared.fault.Step.{Step}
 use Rattle.sdl_ast.specs.declared.expression.Identifier.{Identifier}
-use Rattle.unset_paths.specs.declared.Fate.{Fate}
-use Rattle.unset_paths.specs.declared.Fate.TheVariants.{Unset as Path, Set as Marks}
-use Rattle.unset_paths.specs.declared.Graph as graphs
-use Rattle.unset_paths.specs.declared.Step as number
-use Rattle.unset_paths.specs.Graph as graph
+use Rattle.sdl_unset.specs.declared.paths.Fate.{Fate}
+use Rattle.sdl_unset.specs.declared.paths.Fate.TheVariants.{Unset as Path, Set as Marks}
+use Rattle.sdl_unset.specs.declared.paths.Graph as graphs
+use Rattle.sdl_unset.specs.declared.paths.Step as number
+use Rattle.sdl_unset.specs.Graph as graph
 use Rattle.std.proofs.lemmas.Bool.{or_parts as or_false}
 use Rattle.plain_laws.proofs.Pairwise.{zip_at as all_zip_at, zip_length}
 use Rattle.plain_laws.proofs.Places.{there_is, among_at}

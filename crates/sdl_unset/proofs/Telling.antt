@@ -8,13 +8,12 @@ use Rattle.sdl_ast.specs.Plain.{PlainProcess, PlainBlock}
 use Rattle.sdl_tables.specs.Names.{number_of, states_of, is_state, variables_of, processes_of, routes_of, input_parts}
 use Rattle.sdl_sound.specs.Paths.{Way, onward, stops, enters as into, way_state, Walks, Follows, Transition, reads_first, sets_in}
 use Rattle.sdl_sound.specs.Chances.{Chances, event_chances, behind, text_chances}
-use Rattle.sdl_sound.specs.Laws.{Reads, Keeps}
+use Rattle.sdl_sound.specs.Laws.{Reads, Keeps, IsTextOf}
 use Rattle.sdl_sound.specs.Actions.{in_statements}
 use Rattle.sdl_sound.specs.Decisions.{statement_unanswered}
 use Rattle.sdl_sound.specs.Names.{statement_unknown, process_unknown, input_unknown, saves_unknown, route_unknown}
 use Rattle.sdl_sound.specs.Sound.{Sound}
 use Rattle.sdl_sound.specs.Orders.{IsOrder}
-use Rattle.sdl_sound.specs.Laws.{IsTextOf}
 use Rattle.sdl_sound.proofs.Items.{each_nil, each_at}
 use Rattle.sdl_unset.proofs.Chancing.{reads-now, sets-neither, IsWhole, IsBefore, AreRanked, has_walk, follows_some, walk_tells, walk_shown}
 use Rattle.sdl_unset.proofs.Ranks.{AreFine, are_fine, rank_of, are_ranked, is_whole}

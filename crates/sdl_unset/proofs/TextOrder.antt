@@ -1,9 +1,9 @@
 -- Paths by numbers and by names stand in one order.
 use Rattle.std.proofs.Common.{◌≡◌, ℕ, suc, ◌<◌, List, [], ◌∷◌, length, refl, sym, ap, ◌∙◌, subst, arith, inl, inr, ◌⊎◌}
 use Rattle.std.specs.List.{AllZip}
-use Rattle.unset_paths.specs.declared.Step as number
-use Rattle.unset_paths.specs.declared.Step.TheVariants.{Start as First, Input as By}
-use Rattle.unset_paths.specs.Order as paths
+use Rattle.sdl_unset.specs.declared.paths.Step as number
+use Rattle.sdl_unset.specs.declared.paths.Step.TheVariants.{Start as First, Input as By}
+use Rattle.sdl_unset.specs.Order as paths
 use Rattle.sdl_ast.specs.Plain.{PlainProcess}
 use Rattle.sdl_sound.specs.PathOrder.{StandsAt, Precedes, IsSame, Earlier, NotAfter}
 use Rattle.sdl_sound.specs.declared.fault.Step.{Step}

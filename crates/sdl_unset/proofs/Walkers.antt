@@ -6,7 +6,7 @@ use Rattle.std.specs.Global.{Vec}
 use Rattle.std.proofs.lemmas.Bool.{cases_eq, cases_lt, eq-eqb, ne_eqb}
 use Rattle.std.proofs.lemmas.Option.{slice_get-get_or, slice_get_past}
 use lib.Bits.{bit_and, bit_or}
-use Rattle.unset_paths.specs.Graph.{has}
+use Rattle.sdl_unset.specs.Graph.{has}
 use Rattle.sdl_ast.specs.declared.expression.Identifier.{Identifier}
 use Rattle.sdl_ast.specs.Plain.{PlainAction, task, output, set_timer, reset_timer, Text, falls, Choice, nothing_else, answer, PlainStatement, act, decide, PlainAnswer, before, all_before, all_answers, PlainProcess}
 use Rattle.sdl_tables.specs.Names.{number_of, connector_names, states_of, is_state}

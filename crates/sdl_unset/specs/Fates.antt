@@ -1,26 +1,30 @@
 -- What becomes of the variables of a process, and how a path by numbers is named.
-use Rattle.std.specs.Prelude.{◌≡◌, ℕ, ◌<◌, Bool, true, false, not, List, [], Option, Some, length, slice_get, if◌then◌else◌, ⊤}
+use Rattle.std.specs.Prelude.{◌≡◌, ℕ, ◌<◌, Bool, true, false, not, List, [], Option, Some, length}
+use Rattle.std.specs.Prelude.{slice_get, if◌then◌else◌, ⊤}
 use Rattle.std.specs.Option.{option_map_or, option_and_then}
 use Rattle.std.specs.Global.{Vec}
-use Rattle.unset_paths.specs.declared.Graph.{Graph}
-use Rattle.unset_paths.specs.declared.Fate.{Fate}
-use Rattle.unset_paths.specs.declared.Fate.TheVariants.{Unset, Set}
-use Rattle.unset_paths.specs.declared.Step as number
-use Rattle.unset_paths.specs.declared.Step.TheVariants.{Start as First, Input as By}
-use Rattle.unset_paths.specs.Graph.{IsClosedSet, ReadsUnset, IsShortest}
-use Rattle.unset_paths.specs.Order.{NotAfter, IsFirst}
+use Rattle.sdl_unset.specs.declared.paths.Graph.{Graph}
+use Rattle.sdl_unset.specs.declared.paths.Fate.{Fate}
+use Rattle.sdl_unset.specs.declared.paths.Fate.TheVariants.{Unset, Set}
+use Rattle.sdl_unset.specs.declared.paths.Step as number
+use Rattle.sdl_unset.specs.declared.paths.Step.TheVariants.{Start as First, Input as By}
+use Rattle.sdl_unset.specs.Graph.{IsClosedSet, ReadsUnset, IsShortest}
+use Rattle.sdl_unset.specs.Order.{NotAfter, IsFirst}
 use Rattle.sdl_ast.specs.Plain.{PlainProcess, PlainBlock}
 use Rattle.sdl_ast.specs.declared.expression.Identifier.{Identifier}
-use Rattle.sdl_tables.specs.Names.{same_name, number_of, variables_of, timers_of, states_of, Input, inputs_of, signal_named}
+use Rattle.sdl_tables.specs.Names.{same_name, number_of, variables_of, timers_of, states_of, Input}
+use Rattle.sdl_tables.specs.Names.{inputs_of, signal_named}
 use Rattle.sdl_unset.specs.Graphs.{IsGraphOf}
 use Rattle.sdl_sound.specs.declared.fault.Step.{Step}
 use Rattle.sdl_sound.specs.declared.fault.Step.TheVariants.{Start, Input as Takes}
 
--- variable v of a graph is read unset by the path, by none with fewer steps, and by none with as many that comes first; or no path reads it unset, and the states are
--- closed
+-- variable v of a graph is read unset by the path, by none with fewer steps, and by none with as
+-- many that comes first; or no path reads it unset, and the states are closed
 abbrev pub IsFate : Graph → ℕ → Fate → Type 0
-IsFate g v (Unset path) = ReadsUnset g v path.items × IsShortest g v path.items × IsFirst g v path.items
-IsFate g v (Set marks) = ((path : List number.Step) → ReadsUnset g v path → ⊥) × IsClosedSet g v marks.items
+IsFate g v (Unset path) =
+    ReadsUnset g v path.items × IsShortest g v path.items × IsFirst g v path.items
+IsFate g v (Set marks) =
+    ((path : List number.Step) → ReadsUnset g v path → ⊥) × IsClosedSet g v marks.items
 
 -- the fate of each variable of a process
 pub record AreFates (p : PlainProcess) (fates : List Fate) : Type 0 where
@@ -49,7 +53,8 @@ IsNamed p First n = n ≡ Start
 IsNamed p (By q i) n =
     (id : Identifier) × (slice_get (states_of p) q ≡ Some id)
     × (inp : Input) × (slice_get (inputs_of p q) i ≡ Some inp)
-    × (signal : List ℕ) × (same_name signal inp.stimulus.name.name ≡ true) × (n ≡ Takes id.name signal)
+    × (signal : List ℕ) × (same_name signal inp.stimulus.name.name ≡ true)
+    × (n ≡ Takes id.name signal)
 
 -- the timer with a name
 abbrev pub timer_named : PlainProcess → List ℕ → Option Identifier
@@ -57,13 +62,16 @@ timer_named p x = option_and_then (slice_get (timers_of p)) (number_of (timers_o
 
 -- the name of a signal or timer as it is declared; where neither is declared, as it is written
 abbrev pub declared_name : PlainBlock → PlainProcess → List ℕ → List ℕ
-declared_name b p x = option_map_or (λ s. s.name.name) (signal_named b x) (option_map_or (λ id. id.name) (timer_named p x) x)
+declared_name b p x =
+    option_map_or (λ s. s.name.name) (signal_named b x)
+    (option_map_or (λ id. id.name) (timer_named p x) x)
 
 -- a step by names spells what it takes as that is declared
 abbrev pub IsSpelled : PlainBlock → PlainProcess → number.Step → Step → Type 0
 IsSpelled b p First n = ⊤
 IsSpelled b p (By q i) n =
-    (inp : Input) → slice_get (inputs_of p q) i ≡ Some inp → (state signal : List ℕ) → n ≡ Takes state signal
+    (inp : Input) → slice_get (inputs_of p q) i ≡ Some inp → (state signal : List ℕ)
+    → n ≡ Takes state signal
     → signal ≡ declared_name b p inp.stimulus.name.name
 
 -- a path reads this variable unset
@@ -78,7 +86,8 @@ path_of (Set marks) = []
 abbrev pub fate_path : List Fate → ℕ → List number.Step
 fate_path fates v = option_map_or path_of (slice_get fates v) []
 
--- none of the variables that are read unset is so by fewer steps, or by as many that come first in the text
+-- none of the variables that are read unset is so by fewer steps, or by as many that come first in
+-- the text
 abbrev pub HasFirst : List Fate → ℕ → Type 0
 HasFirst fates v = (w : ℕ) → IsUnsetAt fates w → NotAfter (fate_path fates v) (fate_path fates w)
 

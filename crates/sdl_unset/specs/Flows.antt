@@ -1,26 +1,30 @@
 -- What a part of a transition does with the variables, as bits by their numbers.
-use Rattle.std.specs.Prelude.{◌≡◌, ◌↔◌, ℕ, ◌<◌, Bool, true, false, not, List, [], ◌∷◌, map, length, Option, None, Some, slice_get, option_and_then, Contains}
+use Rattle.std.specs.Prelude.{◌≡◌, ◌↔◌, ℕ, ◌<◌, Bool, true, false, not, List, [], ◌∷◌, map, length}
+use Rattle.std.specs.Prelude.{Option, None, Some, slice_get, option_and_then, Contains}
 use Rattle.std.specs.List.{AllZip}
 use Rattle.std.specs.Option.{option_map_or}
 use Rattle.std.specs.Global.{Vec}
-use Rattle.profile_limits.specs.Limits.{MOST_VARIABLES}
-use Rattle.unset_paths.specs.Graph.{has, Passes}
-use Rattle.unset_paths.specs.Order.{AreSorted}
-use Rattle.unset_paths.specs.declared.Passage.{Passage}
-use Rattle.unset_paths.specs.declared.Summary.{Summary}
+use Rattle.plain_limits.specs.Limits.{MOST_VARIABLES}
+use Rattle.sdl_unset.specs.Graph.{has, Passes}
+use Rattle.sdl_unset.specs.Order.{AreSorted}
+use Rattle.sdl_unset.specs.declared.paths.Passage.{Passage}
+use Rattle.sdl_unset.specs.declared.paths.Summary.{Summary}
 use Rattle.sdl_ast.specs.declared.expression.Identifier.{Identifier}
 use Rattle.sdl_ast.specs.declared.tree.End.{End}
-use Rattle.sdl_ast.specs.Plain.{PlainAction, task, output, set_timer, reset_timer, Text, Choice, PlainProcess}
+use Rattle.sdl_ast.specs.Plain.{PlainAction, task, output, set_timer, reset_timer, Text, Choice}
+use Rattle.sdl_ast.specs.Plain.{PlainProcess}
 use Rattle.sdl_tables.specs.Names.{number_of, variable_names, connector_names, states_of, Input}
 use Rattle.sdl_sound.specs.Names.{place_names}
 use Rattle.sdl_sound.specs.Paths.{Event, sets, Transition, input_transition, reads_first, sets_in}
-use Rattle.sdl_sound.specs.Chances.{Chances, no_chances, event_chances, behind, end_chances, chances, choice_chances, joined_chances, text_chances}
+use Rattle.sdl_sound.specs.Chances.{Chances, no_chances, event_chances, behind, end_chances}
+use Rattle.sdl_sound.specs.Chances.{chances, choice_chances, joined_chances, text_chances}
 use Rattle.sdl_unset.specs.declared.flow.Flow.{Flow}
 use Rattle.sdl_unset.specs.declared.walker.Walker.{Walker}
 
 -- bit v says whether the name of identifier v passes a test
 pub record Tells (ids : List Identifier) (test : List ℕ → Bool) (bits : ℕ) : Type 0 where
-  pub at : (v : ℕ) (id : Identifier) → v < MOST_VARIABLES → slice_get ids v ≡ Some id → has bits v ≡ test id.name
+  pub at : (v : ℕ) (id : Identifier) → v < MOST_VARIABLES → slice_get ids v ≡ Some id
+      → has bits v ≡ test id.name
 
 -- what is read by these events before they set it, and what they don't set
 unfoldable pub Does : PlainProcess → List Event → Flow → Type 0
@@ -62,17 +66,22 @@ Stands p f w =
 unfoldable pub Walked : PlainProcess → Doings → Walker → Walker → Type 0
 Walked p c old new = (f : Doings) → Stands p f old → Stands p (λ x q. behind (f x q) (c x q)) new
 
--- Some bodies of a DECISION have been walked, each from the walker `old`, and the next begins as they did: `after` is what they
--- leave together.
+-- Some bodies of a DECISION have been walked, each from the walker `old`, and the next begins as
+-- they did: `after` is what they leave together.
 unfoldable pub Forked : PlainProcess → Doings → Walker → Walker → ℕ → Type 0
 Forked p c old now after =
-    (now.leaves ≡ old.leaves) × Walked p c old (record { reads = now.reads; leaves = after; enters = now.enters; firsts = now.firsts })
+    (now.leaves ≡ old.leaves)
+    × Walked p c old
+    (record { reads = now.reads; leaves = after; enters = now.enters; firsts = now.firsts })
 
--- The walkers of the connections, by number, say what may happen in each. In a connection that isn't there nothing may.
+-- The walkers of the connections, by number, say what may happen in each. In a connection that
+-- isn't there nothing may.
 unfoldable pub AreTold : PlainProcess → (List ℕ → ℕ → List ℕ → Chances) → List Walker → Type 0
 AreTold p told walkers =
-    ((y : List ℕ) (n : ℕ) (w : Walker) → number_of (connector_names p) y ≡ Some n → slice_get walkers n ≡ Some w → Stands p (λ x q. told x q y) w)
-    × ((y : List ℕ) → option_and_then (slice_get walkers) (number_of (connector_names p) y) ≡ None → (x : List ℕ) (q : ℕ) → told x q y ≡ no_chances)
+    ((y : List ℕ) (n : ℕ) (w : Walker) → number_of (connector_names p) y ≡ Some n
+    → slice_get walkers n ≡ Some w → Stands p (λ x q. told x q y) w)
+    × ((y : List ℕ) → option_and_then (slice_get walkers) (number_of (connector_names p) y) ≡ None
+    → (x : List ℕ) (q : ℕ) → told x q y ≡ no_chances)
 
 -- they say all that may happen in them
 abbrev pub AreJoined : PlainProcess → List Walker → Type 0
@@ -90,19 +99,23 @@ choice_doings p told c x q = choice_chances (states_of p) (told x q) x q c
 abbrev pub end_doings : PlainProcess → (List ℕ → ℕ → List ℕ → Chances) → End → Doings
 end_doings p told e x q = end_chances (states_of p) (told x q) q e
 
--- A summary says what may happen in a transition: what it reads, and for each state in which some variable may be unset a
--- passage.
+-- A summary says what may happen in a transition: what it reads, and for each state in which some
+-- variable may be unset a passage.
 pub record IsSummaryBy (p : PlainProcess) (t : Transition) (summary : Summary) : Type 0 where
   pub reads : (v q : ℕ) (id : Identifier) → slice_get (variable_names p) v ≡ Some id
-      → has summary.reads v ≡ (behind (event_chances t.first id.name) (text_chances p t.text id.name q)).reads
+      → has summary.reads v
+      ≡ (behind (event_chances t.first id.name) (text_chances p t.text id.name q)).reads
   pub passes : (v q : ℕ) (id : Identifier) → slice_get (variable_names p) v ≡ Some id
-      → Passes summary v q ↔ ((behind (event_chances t.first id.name) (text_chances p t.text id.name q)).enters ≡ true)
+      → Passes summary v q
+      ↔ ((behind (event_chances t.first id.name) (text_chances p t.text id.name q)).enters
+      ≡ true)
   pub sorted : AreSorted summary.passages.items
 
 -- a passage for each state in which some variable may be unset
 abbrev pub ArePassages : List ℕ → List Passage → Type 0
 ArePassages masks passages = (v q : ℕ)
-    → ((passage : Passage) × Contains passages passage × (has passage.keeps v ≡ true) × (passage.state ≡ q)) ↔ (has (mask_at masks q) v ≡ true)
+    → ((passage : Passage) × Contains passages passage × (has passage.keeps v ≡ true)
+    × (passage.state ≡ q)) ↔ (has (mask_at masks q) v ≡ true)
 
 -- the summaries of the inputs of a state
 abbrev pub AreSummariesBy : PlainProcess → List Input → Vec Summary → Type 0

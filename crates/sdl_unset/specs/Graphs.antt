@@ -1,19 +1,21 @@
--- What the walks of each transition do with the variables, by their numbers: the graph of a process.
+-- What the walks of each transition do with the variables, by their numbers: the graph of a
+-- process.
 use Rattle.std.specs.Prelude.{◌≡◌, ℕ, true, List, Some, slice_get, ◌↔◌}
 use Rattle.std.specs.List.{AllZip}
 use Rattle.std.specs.Global.{Vec}
-use Rattle.unset_paths.specs.declared.Summary.{Summary}
-use Rattle.unset_paths.specs.declared.Graph.{Graph}
-use Rattle.unset_paths.specs.Graph.{has, Passes}
-use Rattle.unset_paths.specs.Order.{AreSorted}
+use Rattle.sdl_unset.specs.declared.paths.Summary.{Summary}
+use Rattle.sdl_unset.specs.declared.paths.Graph.{Graph}
+use Rattle.sdl_unset.specs.Graph.{has, Passes}
+use Rattle.sdl_unset.specs.Order.{AreSorted}
 use Rattle.sdl_ast.specs.Plain.{PlainProcess}
 use Rattle.sdl_ast.specs.declared.expression.Identifier.{Identifier}
 use Rattle.sdl_tables.specs.Names.{variable_names, Input, inputs_by_state}
 use Rattle.sdl_sound.specs.Paths.{Transition, start_transition, input_transition}
 use Rattle.sdl_sound.specs.Laws.{Reads, Keeps}
 
--- The summary of a transition: what its walks read unset, and in which states they leave which variable unset. Each variable is
--- asked for by itself: one passage to a state may stand for many walks.
+-- The summary of a transition: what its walks read unset, and in which states they leave which
+-- variable unset. Each variable is asked for by itself: one passage to a state may stand for many
+-- walks.
 pub record IsSummaryOf (p : PlainProcess) (t : Transition) (summary : Summary) : Type 0 where
   pub reads : (v : ℕ) (id : Identifier) → slice_get (variable_names p) v ≡ Some id
       → (has summary.reads v ≡ true) ↔ Reads p t id.name
@@ -24,4 +26,7 @@ pub record IsSummaryOf (p : PlainProcess) (t : Transition) (summary : Summary) :
 -- the graph of a process: the summaries of START and of each input, by state
 pub record IsGraphOf (p : PlainProcess) (g : Graph) : Type 0 where
   pub start : IsSummaryOf p (start_transition p) g.start
-  pub states : AllZip (λ (is : List Input) (v : Vec Summary). AllZip (λ i s. IsSummaryOf p (input_transition i) s) is v.items) (inputs_by_state p) g.states.items
+  pub states :
+      AllZip (λ (is : List Input) (v : Vec Summary).
+      AllZip (λ i s. IsSummaryOf p (input_transition i) s) is v.items) (inputs_by_state p)
+      g.states.items

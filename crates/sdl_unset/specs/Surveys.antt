@@ -12,12 +12,15 @@ use Rattle.sdl_unset.specs.declared.settled.Unset.{Unset}
 
 -- a path reads the variable unset, with the names as they are declared
 abbrev pub IsUnset : PlainBlock → PlainProcess → Unset → Type 0
-IsUnset b p u = ReadsUnset p u.path.steps.items u.variable × AreDeclared b p u.variable u.path.steps.items
+IsUnset b p u =
+    ReadsUnset p u.path.steps.items u.variable × AreDeclared b p u.variable u.path.steps.items
 
--- the sets of the states of a process, no path of which reads a variable unset; or the first of the shortest paths that do
+-- the sets of the states of a process, no path of which reads a variable unset; or the first of the
+-- shortest paths that do
 abbrev pub IsSurvey : PlainBlock → PlainProcess → Result (Vec ℕ) Unset → Type 0
 IsSurvey b p (Ok sets) = AreSettled p sets.items × NeverReadsUnset p
-IsSurvey b p (Err u) = IsUnset b p u × IsShortest p u.path.steps.items × IsFirst p u.path.steps.items
+IsSurvey b p (Err u) =
+    IsUnset b p u × IsShortest p u.path.steps.items × IsFirst p u.path.steps.items
 
 -- those of each process
 abbrev pub AllSettled : List PlainProcess → List (Vec ℕ) → Type 0
@@ -25,7 +28,9 @@ AllSettled ps sets = AllZip (λ p (v : Vec ℕ). AreSettled p v.items) ps sets
 
 -- the same for all processes
 abbrev pub AreSurveys : PlainBlock → Result (Vec (Vec ℕ)) Unset → Type 0
-AreSurveys b (Ok sets) = AllSettled (processes_of b) sets.items × All NeverReadsUnset (processes_of b)
+AreSurveys b (Ok sets) =
+    AllSettled (processes_of b) sets.items × All NeverReadsUnset (processes_of b)
 AreSurveys b (Err u) =
-    (p : PlainProcess) × Contains (processes_of b) p × IsUnset b p u × All (λ q. IsShortest q u.path.steps.items) (processes_of b)
+    (p : PlainProcess) × Contains (processes_of b) p × IsUnset b p u
+    × All (λ q. IsShortest q u.path.steps.items) (processes_of b)
     × IsFirstWith (processes_of b) p u.path.steps.items × IsFirst p u.path.steps.items

@@ -1,6 +1,6 @@
 //! For each variable the first place of the text where it is read unset.
 ghost use Rattle.std.specs.Prelude.{◌≡◌, ℕ, ◌<◌, List, ◌++◌, None, if◌then◌else◌};
-ghost use Rattle.unset_paths.specs.Graph.{has};
+ghost use Rattle.sdl_unset.specs.Graph.{has};
 ghost use Rattle.sdl_tables.specs.Scopes.{Marks};
 ghost use Rattle.sdl_unset.specs.Firsts.{first_at};
 

@@ -4,6 +4,8 @@
 mod firsts;
 mod flow;
 mod laws;
+mod order;
+mod paths;
 mod places;
 mod search;
 mod sets;
@@ -14,4 +16,5 @@ mod walker;
 mod walks;
 
 pub use laws::chances_law;
+pub use paths::{Graph, Passage, Summary, first_unset};
 pub use settled::{Unset, settle};

@@ -3,13 +3,13 @@ ghost use Rattle.std.specs.Prelude.{◌≡◌, IfOk, length};
 ghost use Rattle.sdl_ast.specs.Views.{process_of};
 ghost use Rattle.sdl_tables.specs.Names.{variables_of};
 
+use crate::paths::{Fate, Step};
 use crate::search::path_at;
 use crate::summaries::text_walker;
 use crate::walker::Walker;
 use sdl_ast::Transition;
 use sdl_tables::{InputRow, ProcessTable};
 use std::alloc::{AllocError, Global};
-use unset_paths::{Fate, Step};
 
 /// The transition of an input of a state, by their numbers.
 fn transition_at<'a>(

@@ -1,6 +1,6 @@
 //! Which variables of a process a control path reads before they are set, and which of them is named.
 ghost use Rattle.std.specs.Prelude.{◌≡◌, ◌⊎◌, [], ℕ, List, ◌≤◌, true, false, Some, length, IfOk, IfSome, IfNone};
-ghost use Rattle.unset_paths.specs.Order.{NotAfter};
+ghost use Rattle.sdl_unset.specs.Order.{NotAfter};
 ghost use Rattle.sdl_ast.specs.Plain.{PlainBlock};
 ghost use Rattle.sdl_ast.specs.Views.{process_of};
 ghost use Rattle.sdl_sound.specs.Names.{process_unknown};
@@ -10,13 +10,14 @@ ghost use Rattle.sdl_sound.specs.Orders.{IsOrder};
 ghost use Rattle.sdl_tables.specs.Names.{variables_of};
 ghost use Rattle.sdl_unset.specs.Flows.{AreJoined};
 ghost use Rattle.sdl_unset.specs.Fates.{AreFates, AreSet, IsUnsetAt, fate_path, HasFirst};
-ghost use Rattle.profile_limits.specs.Limits.{MOST_VARIABLES};
+ghost use Rattle.plain_limits.specs.Limits.{MOST_VARIABLES};
 
+use crate::order::is_before;
+use crate::paths::{Fate, first_unset};
 use crate::summaries::graph_of;
 use crate::walker::Walker;
 use sdl_tables::ProcessTable;
 use std::alloc::{AllocError, Global};
-use unset_paths::{Fate, first_unset, is_before};
 
 /// What becomes of each variable of a process, by number. The walkers are those of its connections.
 pub(crate) fn find_fates(
@@ -40,7 +41,7 @@ pub(crate) fn find_fates(
 }
 
 /// The path that reads a variable unset; empty where there is none.
-pub(crate) fn path_at(fates: &[Fate], variable: usize) -> &[unset_paths::Step]
+pub(crate) fn path_at(fates: &[Fate], variable: usize) -> &[crate::paths::Step]
     ensures { result.now ≡ fate_path fates.now variable }
 {
     match fates.get(variable) {

@@ -9,8 +9,9 @@ ghost use Rattle.sdl_sound.specs.Orders.{IsOrder, AreOrders};
 ghost use Rattle.sdl_sound.specs.Refusals.{IsWithin};
 ghost use Rattle.sdl_unset.specs.Fates.{AreFates};
 ghost use Rattle.sdl_unset.specs.Surveys.{IsSurvey, AreSurveys};
-ghost use Rattle.profile_limits.specs.Limits.{MOST_VARIABLES};
+ghost use Rattle.plain_limits.specs.Limits.{MOST_VARIABLES};
 
+use crate::paths::Fate;
 use crate::places::read_places;
 use crate::search::{find_fates, find_first, path_at};
 use crate::sets::sets_in;
@@ -20,7 +21,6 @@ use sdl_lex::Name;
 use sdl_sound::ControlPath;
 use sdl_tables::{BlockTable, ProcessTable};
 use std::alloc::{AllocError, Global};
-use unset_paths::Fate;
 
 /// A variable that a control path reads before it is set.
 #[derive(Drop)]

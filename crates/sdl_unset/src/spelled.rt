@@ -6,7 +6,7 @@ ghost use Rattle.sdl_ast.specs.Views.{process_of, block_of};
 ghost use Rattle.sdl_tables.specs.Names.{same_name, inputs_by_state};
 ghost use Rattle.sdl_tables.specs.Rows.{rows_inputs};
 ghost use Rattle.sdl_unset.specs.Fates.{IsStep, IsNamed, timer_named, declared_name, IsSpelled};
-ghost use Rattle.unset_paths.specs.declared.Step.TheVariants.{Input as By};
+ghost use Rattle.sdl_unset.specs.declared.paths.Step.TheVariants.{Input as By};
 
 use sdl_lex::Name;
 use sdl_sound::{ControlPath, Step};
@@ -65,7 +65,7 @@ fn named_step(
     block: &BlockTable,
     table: &ProcessTable,
     inputs: &[Vec<InputRow>],
-    step: unset_paths::Step,
+    step: crate::paths::Step,
 ) -> Step
     requires inputs { map rows_inputs inputs.now ≡ inputs_by_state (process_of table.now) }
     requires step { IsStep (process_of table.now) step }
@@ -73,8 +73,8 @@ fn named_step(
     ensures spelled { IsSpelled (block_of block.now) (process_of table.now) step result }
 {
     match step {
-        unset_paths::Step::Start => Step::Start,
-        unset_paths::Step::Input(state, number) => {
+        crate::paths::Step::Start => Step::Start,
+        crate::paths::Step::Input(state, number) => {
             named_input(block, table, inputs, state, number)
         }
     }
@@ -85,7 +85,7 @@ pub(crate) fn named_path(
     alloc: Global,
     block: &BlockTable,
     table: &ProcessTable,
-    path: &[unset_paths::Step],
+    path: &[crate::paths::Step],
 ) -> Result<ControlPath, AllocError>
     requires { All (IsStep (process_of table.now)) path.now }
     ensures named { IfOk result (λ c. AllZip (IsNamed (process_of table.now)) path.now c.steps.items) }

@@ -1,7 +1,7 @@
 //! What each transition of a process does with the variables, as a graph by numbers.
 ghost use Rattle.std.specs.Prelude.{◌≡◌, ◌≤◌, ◌++◌, [], ℕ, List, map, length, IfOk, OnOk};
 ghost use Rattle.std.specs.List.{flat_map, AllZip};
-ghost use Rattle.unset_paths.specs.Order.{AreSorted, IsSorted};
+ghost use Rattle.sdl_unset.specs.Order.{AreSorted, IsSorted};
 ghost use Rattle.sdl_ast.specs.Plain.{Text, PlainBlock};
 ghost use Rattle.sdl_ast.specs.Views.{text_of, stimulus_of, input_of, process_of};
 ghost use Rattle.sdl_tables.specs.Names.{variables_of, Input};
@@ -15,16 +15,16 @@ ghost use Rattle.sdl_sound.specs.Orders.{IsOrder};
 ghost use Rattle.sdl_sound.specs.Standing.{taken_by, taken_in};
 ghost use Rattle.sdl_unset.specs.Graphs.{IsGraphOf};
 ghost use Rattle.sdl_unset.specs.Flows.{Does, Stands, AreTold, AreJoined, text_doings, ArePassages, IsSummaryBy, AreSummariesBy};
-ghost use Rattle.profile_limits.specs.Limits.{MOST_VARIABLES};
+ghost use Rattle.plain_limits.specs.Limits.{MOST_VARIABLES};
 
 use crate::flow::{Flow, initials_flow, places_flow};
+use crate::paths::{Graph, Passage, Summary};
 use crate::walker::Walker;
 use crate::walks::walk_transition;
 use sdl_ast::{InputPart, Stimulus, Transition};
 use sdl_sound::standing_inputs;
 use sdl_tables::ProcessTable;
 use std::alloc::{AllocError, Global};
-use unset_paths::{Graph, Passage, Summary};
 
 /// A passage for each state in which some variable may be unset.
 fn passages(alloc: Global, masks: &[u32]) -> Result<Vec<Passage>, AllocError>

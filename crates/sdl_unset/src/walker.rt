@@ -1,6 +1,6 @@
 //! What walks may do with the variables up to some place, all variables at once.
 ghost use Rattle.std.specs.Prelude.{◌≡◌, ◌<◌, ◌==◌, ◌&&◌, ◌||◌, ℕ, false, List, length, IfOk, All};
-ghost use Rattle.unset_paths.specs.Graph.{has};
+ghost use Rattle.sdl_unset.specs.Graph.{has};
 ghost use Rattle.sdl_ast.specs.Plain.{PlainProcess};
 ghost use Rattle.sdl_tables.specs.Names.{states_of};
 ghost use Rattle.sdl_sound.specs.Paths.{Event, reads};

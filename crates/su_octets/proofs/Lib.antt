@@ -1,7 +1,7 @@
-pub mod Remainders
 pub mod BitLists
-pub mod Registers
-pub mod OctetSteps
 pub mod CheckLaws
 pub mod FrameLaws
+pub mod OctetSteps
 pub mod OctetTexts
+pub mod Registers
+pub mod Remainders

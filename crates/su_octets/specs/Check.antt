@@ -1,5 +1,6 @@
 -- The check bits of a signal unit (Q.703, 4.2).
-use Rattle.std.specs.Prelude.{◌≡◌, ℕ, Bool, true, false, not, List, ◌++◌, map, reverse, length, replicate}
+use Rattle.std.specs.Prelude.{◌≡◌, ℕ, Bool, true, false, not, List, ◌++◌, map, reverse, length}
+use Rattle.std.specs.Prelude.{replicate}
 use Rattle.su_octets.specs.Bits.{bits_of, AreOctets}
 use Rattle.su_octets.specs.Polynomial.{plus, IsRemainder}
 

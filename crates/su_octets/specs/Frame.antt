@@ -1,12 +1,14 @@
 -- The format of signal units between the flags (Q.703, 2.2 and 2.3).
-use Rattle.std.specs.Prelude.{◌≡◌, ℕ, ◌+◌, ◌-◌, ◌*◌, ◌%◌, ◌<◌, ◌≤◌, min, Option, Some, None, List, [], ◌∷◌, ◌++◌, length, take, drop, slice_index}
+use Rattle.std.specs.Prelude.{◌≡◌, ℕ, ◌+◌, ◌-◌, ◌*◌, ◌%◌, ◌<◌, ◌≤◌, min, Option, Some, None, List}
+use Rattle.std.specs.Prelude.{[], ◌∷◌, ◌++◌, length, take, drop, slice_index}
 use Rattle.su_octets.specs.Check.{Check}
 use Rattle.su_octets.specs.Whole.{IsWhole}
 use Rattle.su_octets.specs.declared.units.Head.{Head}
 use Rattle.su_octets.specs.declared.units.Unit.{Unit}
 use Rattle.su_octets.specs.declared.units.Unit.TheVariants.{Fisu, Lssu, Msu}
 use Rattle.su_octets.specs.declared.units.UnitFault.{UnitFault}
-use Rattle.su_octets.specs.declared.units.UnitFault.TheVariants.{TooShort, TooLong, BadCheck, BadLength}
+use Rattle.su_octets.specs.declared.units.UnitFault.TheVariants.{TooShort, TooLong, BadCheck}
+use Rattle.su_octets.specs.declared.units.UnitFault.TheVariants.{BadLength}
 
 abbrev pub head_of : Unit → Head
 head_of (Fisu head) = head
@@ -30,8 +32,8 @@ body_of (Msu head sio sif) = sio ∷ sif.items
 abbrev pub length_indicator : ℕ → ℕ
 length_indicator n = min n 63
 
--- Octet 1 is BSN with BIB as its top bit, octet 2 is FSN with FIB, octet 3 the length indicator with
--- two spare bits on top.
+-- Octet 1 is BSN with BIB as its top bit, octet 2 is FSN with FIB, octet 3 the length indicator
+-- with two spare bits on top.
 abbrev pub content_of : Unit → ℕ → List ℕ
 content_of unit spare =
     ((head_of unit).bsn + 128 * (head_of unit).bib)

@@ -1,9 +1,9 @@
-pub mod Whole
 pub mod Bits
-pub mod Polynomial
 pub mod Check
 pub mod Frame
-pub mod Register
 pub mod Laws
-pub mod StatusNames
+pub mod Polynomial
 pub mod Printed
+pub mod Register
+pub mod StatusNames
+pub mod Whole

@@ -24,7 +24,8 @@ times (a ∷ q) p = plus (scale a p) (false ∷ times q p)
 
 -- x^16 + x^12 + x^5 + 1
 unfoldable pub generator : List Bool
-generator = true ∷ false ∷ false ∷ false ∷ false ∷ true ∷ false ∷ false ∷ false ∷ false ∷ false ∷ false
+generator =
+    true ∷ false ∷ false ∷ false ∷ false ∷ true ∷ false ∷ false ∷ false ∷ false ∷ false ∷ false
     ∷ true ∷ false ∷ false ∷ false ∷ true ∷ []
 
 -- r is the remainder of p: it has sixteen bits, and differs from p by a product with the generator

@@ -3,4 +3,5 @@ use Rattle.std.specs.Prelude.{ℕ, List, [], ◌∷◌, codes}
 
 abbrev pub STATUS_NAMES : List (List ℕ)
 STATUS_NAMES =
-    codes "SIO" ∷ codes "SIN" ∷ codes "SIE" ∷ codes "SIOS" ∷ codes "SIPO" ∷ codes "SIB" ∷ codes "6" ∷ codes "7" ∷ []
+    codes "SIO" ∷ codes "SIN" ∷ codes "SIE" ∷ codes "SIOS" ∷ codes "SIPO" ∷ codes "SIB" ∷ codes "6"
+    ∷ codes "7" ∷ []

@@ -9,10 +9,10 @@ use Rattle.std.proofs.lemmas.Bool.Decides.{nat_tests, eqb_tells}
 use Rattle.std.proofs.lemmas.Bool.{true≢false, or_cases}
 use Rattle.std.proofs.lemmas.List.{get_or-set_same, get_or-set_other, length-set, length-map, get_or-map, ext_get_or, get_or-replicate, length-replicate}
 use Rattle.std.proofs.Math.Bool.{or-true}
-use Rattle.profile_limits.specs.Limits.{LAST_TICK}
-use Rattle.slot_lists.specs.Sizes.{SLOTS}
-use Rattle.slot_lists.specs.Lists.{without}
-use Rattle.slot_lists.proofs.Tables.{without-gone, distinct-without}
+use Rattle.plain_limits.specs.Limits.{LAST_TICK}
+use Rattle.tick_wheel.specs.Sizes.{SLOTS}
+use Rattle.tick_wheel.specs.Lists.{without}
+use Rattle.tick_wheel.proofs.Tables.{without-gone, distinct-without}
 use Rattle.tick_wheel.specs.TimerId.{TimerId, timer_cmp}
 use Rattle.tick_wheel.specs.Table.{timer_at, deadlines_of, PLACES, NoneDue, kept}
 use Rattle.tick_wheel.specs.Timers.{Deadlines, due, due_cmp, is_due, not_due}

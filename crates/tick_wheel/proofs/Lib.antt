@@ -1,7 +1,9 @@
-pub mod Orders
-pub mod TableLemmas
+pub mod Chains
 pub mod DueLemmas
-pub mod Lists
-pub mod SlotLemmas
 pub mod Gathering
 pub mod Keeping
+pub mod Lists
+pub mod Orders
+pub mod SlotLemmas
+pub mod TableLemmas
+pub mod Tables

@@ -7,7 +7,7 @@ use Rattle.std.proofs.lemmas.List.Folds.{list_any-append}
 use Rattle.std.proofs.lemmas.Map.Steps.{length-le_from_distinct_below}
 use Rattle.std.proofs.Math.Bool.{or-true}
 use Rattle.std.proofs.Math.ListN.{get_or-eq_default}
-use Rattle.slot_lists.specs.Sizes.{SLOTS}
+use Rattle.tick_wheel.specs.Sizes.{SLOTS}
 use Rattle.tick_wheel.specs.Table.{PLACES}
 use Rattle.tick_wheel.specs.Slots.{in_slot, IsWheel, visited}
 use Rattle.tick_wheel.proofs.Lists.{distinct-none, distinct-append}

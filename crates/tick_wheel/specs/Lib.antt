@@ -1,6 +1,9 @@
+pub mod Linked
+pub mod Lists
 pub mod Printed
+pub mod Sizes
+pub mod Slots
+pub mod Table
 pub mod TimerId
 pub mod Timers
-pub mod Table
 pub mod Turning
-pub mod Slots

@@ -1,7 +1,8 @@
 -- A table with a place for each timer: eight places for actor 0, then eight for actor 1, and so on.
-use Rattle.std.specs.Prelude.{◌≡◌, ℕ, ◌+◌, ◌*◌, ◌/◌, ◌%◌, List, [], ◌∷◌, map, Option, Some, None, nat_le, if◌then◌else◌}
+use Rattle.std.specs.Prelude.{◌≡◌, ℕ, ◌+◌, ◌*◌, ◌/◌, ◌%◌, List, [], ◌∷◌, map, Option, Some, None}
+use Rattle.std.specs.Prelude.{nat_le, if◌then◌else◌}
 use Rattle.std.specs.FinMap as finite
-use Rattle.profile_limits.specs.Limits.{MOST_ACTORS, MOST_TIMERS_EACH}
+use Rattle.plain_limits.specs.Limits.{MOST_ACTORS, MOST_TIMERS_EACH}
 use Rattle.tick_wheel.specs.TimerId.{TimerId}
 use Rattle.tick_wheel.specs.Timers.{Deadlines}
 
@@ -17,7 +18,8 @@ timer_at place = record { actor = place / MOST_TIMERS_EACH; number = place % MOS
 abbrev pub entries_from : ℕ → List (Option ℕ) → List (TimerId × ℕ)
 entries_from place [] = []
 entries_from place (None ∷ table) = entries_from (place + 1) table
-entries_from place (Some deadline ∷ table) = (timer_at place, deadline) ∷ entries_from (place + 1) table
+entries_from place (Some deadline ∷ table) =
+    (timer_at place, deadline) ∷ entries_from (place + 1) table
 
 -- the map that a table stands for
 unfoldable pub deadlines_of : List (Option ℕ) → Deadlines

@@ -1,5 +1,6 @@
 -- The timers of a link: a clock, and the deadline of each timer that is active (Z.100, timers).
-use Rattle.std.specs.Prelude.{◌≡◌, ◌↔◌, ◌≤◌, ℕ, Bool, false, not, List, map, filter, nat_le, Contains, Some, refl}
+use Rattle.std.specs.Prelude.{◌≡◌, ◌↔◌, ◌≤◌, ℕ, Bool, false, not, List, map, filter, nat_le}
+use Rattle.std.specs.Prelude.{Contains, Some, refl}
 use Rattle.std.specs.List.Sorted.{IsStrictlySortedBy}
 use Rattle.std.specs.declared.cmp.Ordering.{Ordering}
 use Rattle.std.specs.Coded.{Coded, code_by, coded×, coded_ℕ}
@@ -19,10 +20,16 @@ pub record Timers : Type 0 where
 
 -- as the pair of its parts, a timer as the pair of its numbers
 abbrev pub timer_id_code : Coded TimerId
-timer_id_code = code_by (ℕ × ℕ) (coded× coded_ℕ coded_ℕ) (λ t. (t.actor, t.number)) (λ p. record { actor = p.0; number = p.1 }) (λ _. refl)
+timer_id_code =
+    code_by (ℕ
+    × ℕ) (coded× coded_ℕ coded_ℕ) (λ t. (t.actor, t.number))
+    (λ p. record { actor = p.0; number = p.1 }) (λ _. refl)
 
 abbrev pub timers_code : Coded Timers
-timers_code = code_by (ℕ × Deadlines) (coded× coded_ℕ (finite.code timer_id_code coded_ℕ)) (λ t. (t.clock, t.deadlines)) (λ p. record { clock = p.0; deadlines = p.1 }) (λ _. refl)
+timers_code =
+    code_by (ℕ
+    × Deadlines) (coded× coded_ℕ (finite.code timer_id_code coded_ℕ))
+    (λ t. (t.clock, t.deadlines)) (λ p. record { clock = p.0; deadlines = p.1 }) (λ _. refl)
 
 -- by deadline, then by actor, then by number
 abbrev pub due_cmp : Due → Due → Ordering
@@ -36,13 +43,15 @@ pairs deadlines = map (λ e. record { deadline = e.1; timer = e.0 }) (finite.ent
 unfoldable pub in_order : List Due → List Due
 in_order pairs = finite.keys (finite.from_entries {R = due_cmp} (map (λ d. (d, tt {0})) pairs))
 
--- what is due at a clock: the pairs with a deadline at most the clock, in order; IsDue says the same without a map
+-- what is due at a clock: the pairs with a deadline at most the clock, in order; IsDue says the
+-- same without a map
 unfoldable pub due : Deadlines → ℕ → List Due
 due deadlines clock = in_order (filter (λ d. nat_le d.deadline clock) (pairs deadlines))
 
 -- whether a timer is due at a clock
 abbrev pub is_due : Deadlines → ℕ → TimerId → Bool
-is_due deadlines clock timer = option_map_or (λ d. nat_le d clock) (finite.get deadlines timer) false
+is_due deadlines clock timer =
+    option_map_or (λ d. nat_le d clock) (finite.get deadlines timer) false
 
 -- the map without what is due
 unfoldable pub not_due : Deadlines → ℕ → Deadlines
@@ -50,7 +59,10 @@ not_due deadlines clock = finite.retain_keys deadlines (λ timer. not (is_due de
 
 -- the pairs are those that are due at a clock, each once, in order
 pub record IsDue (deadlines : Deadlines) (clock : ℕ) (answer : List Due) : Type 0 where
-  pub exactly : (d : Due) → Contains answer d ↔ ((finite.get deadlines d.timer ≡ Some d.deadline) × (d.deadline ≤ clock))
+  pub exactly :
+      (d : Due)
+      → Contains answer d
+      ↔ ((finite.get deadlines d.timer ≡ Some d.deadline) × (d.deadline ≤ clock))
   pub in_order : IsStrictlySortedBy due_cmp answer
 
 -- so at each clock, in each map

@@ -6,20 +6,21 @@ ghost use Rattle.std.specs.List.{IsDistinct};
 ghost use Rattle.std.specs.List.Sorted.{IsPermutation, IsSorted};
 ghost use Rattle.std.specs.Ordering.{eq_by_cmp};
 ghost use Rattle.std.specs.FinMap as map;
-ghost use Rattle.profile_limits.specs.Limits.{MOST_ACTORS, MOST_TIMERS_EACH, MOST_TICKS, LAST_TICK};
+ghost use Rattle.plain_limits.specs.Limits.{MOST_ACTORS, MOST_TIMERS_EACH, MOST_TICKS, LAST_TICK};
 ghost use Rattle.tick_wheel.specs.Table.{timer_at, PLACES};
 ghost use Rattle.tick_wheel.specs.Slots.{without_all};
 ghost use Rattle.tick_wheel.specs.Turning.{near_count, MOST_LOOKED};
 
+pub mod laws;
+mod look;
+mod slots;
+
+use crate::slots::SlotLists;
 use look::{copied_due, gather_near, slot_of};
-use slot_lists::SlotLists;
 use std::alloc::{AllocError, Global};
 use std::fmt;
 use std::marker::Model;
 use thiserror::Error;
-
-pub mod laws;
-mod look;
 
 /// How many timers there may be: 8 for each of 128 actors.
 pub const TIMERS: usize = 1024;
@@ -42,7 +43,7 @@ pub struct Timer {
 impl Model for Timer {
     ghost use Rattle.std.specs.Prelude.{◌<◌};
     ghost use Rattle.tick_wheel.specs.TimerId.{TimerId};
-    ghost use Rattle.profile_limits.specs.Limits.{MOST_ACTORS, MOST_TIMERS_EACH};
+    ghost use Rattle.plain_limits.specs.Limits.{MOST_ACTORS, MOST_TIMERS_EACH};
 
     ghost Value = { TimerId };
 

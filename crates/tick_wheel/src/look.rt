@@ -2,13 +2,13 @@
 
 ghost use Rattle.std.specs.Prelude.{◌≡◌, ℕ, ◌+◌, ◌%◌, ◌<◌, ◌≤◌, [], ◌++◌, min, nat_eq, true, IfOk, length, get_or, vec_capacity};
 ghost use Rattle.std.specs.List.{list_any};
-ghost use Rattle.profile_limits.specs.Limits.{MOST_TICKS};
-ghost use Rattle.slot_lists.specs.Sizes.{SLOTS};
+ghost use Rattle.plain_limits.specs.Limits.{MOST_TICKS};
+ghost use Rattle.tick_wheel.specs.Sizes.{SLOTS};
 ghost use Rattle.tick_wheel.specs.Table.{PLACES};
 ghost use Rattle.tick_wheel.specs.Slots.{IsWheel, due_before, due_of, visited};
 
+use crate::slots::SlotLists;
 use crate::{Due, TIMERS, Timer};
-use slot_lists::SlotLists;
 use std::alloc::{AllocError, Global};
 
 /// The slot in whose list a timer with that deadline stands.

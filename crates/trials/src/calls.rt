@@ -1,7 +1,7 @@
 //! Calls of a terminal, and why they stop a trial. What their clauses say ends here: a trial shows what none of them says.
 ghost use Rattle.std.specs.Prelude.{◌≤◌, length};
 
-use standard_link::{
+use link_standard::{
     CallError, Command, Mode, Msu, NewError, OpenError, Report, Terminal, new_terminal,
 };
 use std::alloc::{AllocError, Global};

@@ -5,7 +5,7 @@ use crate::calls::{Stopped, hear, next_report, pass, put, speak, tell, terminal,
 use crate::figures::Figures;
 use crate::noise::Noise;
 use arrayvec::ArrayVec;
-use standard_link::{Command, LinkStatus, Mode, Msu, Report, Terminal};
+use link_standard::{Command, LinkStatus, Mode, Msu, Report, Terminal};
 use std::alloc::Global;
 
 /// How many messages an end keeps to send at most.

@@ -8,7 +8,7 @@
 //!   whether the messages of each spell of service came in order, none twice and none missing. A run is six words: basic or cyclic, the
 //!   seed, the rate (of so many bits one is flipped, one dropped and one doubled, 0 for none), how many messages go each way, how many are
 //!   given to each end in a round, how many units go one way in a round.
-//! - `sets`: a run in each line ([`group_trials::run_sets`]). Two link sets, whose links are tied together, carry messages, while a seeded schedule cuts
+//! - `sets`: a run in each line ([`trials_groups::run_sets`]). Two link sets, whose links are tied together, carry messages, while a seeded schedule cuts
 //!   and heals links; what they say of a changeover is handed over as data, and some of it lost. Shows what was sent and arrived, how much is unsure, and
 //!   whether messages came once and in order of each selection, none missing but unsure ones.
 //! - `set_calls`: each public call of a link set. Shows what it answers.

@@ -5,7 +5,7 @@ use crate::end::End;
 use crate::lines::make_run;
 use crate::reports::do_steps;
 use crate::run::Run;
-use standard_link::Mode;
+use link_standard::Mode;
 use std::alloc::Global;
 
 /// Both ends.

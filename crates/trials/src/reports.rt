@@ -4,7 +4,7 @@ use crate::calls::{Stopped, hear, next_report, pass, put, speak, tell};
 use crate::message::message_of;
 use crate::pair::{Pair, try_pair};
 use crate::steps::{Step, step_of};
-use standard_link::{LinkStatus, Mode, Report, Terminal};
+use link_standard::{LinkStatus, Mode, Report, Terminal};
 use std::alloc::{AllocError, Global};
 
 /// How many units go each way in an exchange, so that some of them are whole on the line.

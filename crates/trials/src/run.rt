@@ -1,6 +1,6 @@
 //! Runs as they are written.
 
-use standard_link::Mode;
+use link_standard::Mode;
 use std::str::SplitWhitespace;
 
 /// A run over a line.

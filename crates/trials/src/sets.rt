@@ -1,9 +1,9 @@
 //! Link sets over the program's own set of processes.
 
 use crate::calls::Stopped;
-use group_trials::{Stopped as SetStopped, make_calls, run_sets};
-use standard_link::{Verified, standard};
+use link_standard::{Verified, standard};
 use std::alloc::Global;
+use trials_groups::{Stopped as SetStopped, make_calls, run_sets};
 
 /// Why a trial of sets stopped.
 pub fn why_stopped(stopped: SetStopped) -> Stopped {

@@ -2,7 +2,7 @@
 
 use crate::figures::{Figures, Wrong};
 use crate::run::Run;
-use standard_link::Mode;
+use link_standard::Mode;
 use std::alloc::AllocError;
 
 /// The word of a mode.

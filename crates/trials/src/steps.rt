@@ -4,7 +4,7 @@
 //! both; `units N` has so many units go out at the near end at once, and tells how many line octets they are; `show` hands out all that
 //! the near end has. Where the first line is `cyclic`, both ends repeat their messages in turn.
 
-use standard_link::Command;
+use link_standard::Command;
 
 /// What is done with the two ends.
 #[derive(Clone, Copy)]

@@ -3,7 +3,7 @@
 use crate::calls::Stopped;
 use crate::run::number;
 use std::alloc::Global;
-use wheel_trials::{Findings, first_other};
+use trials_wheels::{Findings, first_other};
 
 /// Writes what so many calls by a seed found.
 fn write_findings(

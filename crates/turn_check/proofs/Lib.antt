@@ -1,4 +1,4 @@
 pub mod NameLists
-pub mod Whole
 pub mod Sorting
-pub use Rattle.bare_words.proofs.Standing
+pub mod Whole
+pub use Rattle.turn_words.proofs.Standing

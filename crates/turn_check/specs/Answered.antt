@@ -15,4 +15,5 @@ same_trigger (Timer m) (Timer n) = eqb m.0 n.0
 
 -- the number of the first input of a state that waits for it
 abbrev pub input_for : Draft → ℕ → ℕ → Trigger → Option ℕ
-input_for d p q trigger = position (λ (x : DraftInput). same_trigger x.trigger trigger) (inputs_at d p q)
+input_for d p q trigger =
+    position (λ (x : DraftInput). same_trigger x.trigger trigger) (inputs_at d p q)

@@ -5,7 +5,8 @@ use Rattle.turn_code.specs.declared.rule.Rule.{Rule}
 use Rattle.turn_code.specs.declared.rule.Rule.TheVariants as rules
 use Rattle.turn_check.specs.declared.fault.Spot.{Spot}
 use Rattle.turn_check.specs.declared.fault.VerifyFault.{VerifyFault}
-use Rattle.turn_check.specs.declared.fault.VerifyFault.TheVariants.{Jump, Shape, Under, Sort, Unset, State, Number, Limit, Budget}
+use Rattle.turn_check.specs.declared.fault.VerifyFault.TheVariants.{Jump, Shape, Under, Sort, Unset}
+use Rattle.turn_check.specs.declared.fault.VerifyFault.TheVariants.{State, Number, Limit, Budget}
 
 abbrev pub rule_of : VerifyFault → Rule
 rule_of (Jump s) = rules.Jump

@@ -1,10 +1,12 @@
--- How the rule that a draft breaks is printed, and where it is broken: its code and name, and numbers in decimal.
+-- How the rule that a draft breaks is printed, and where it is broken: its code and name, and
+-- numbers in decimal.
 use Rattle.std.specs.Prelude.{ℕ, List, ◌++◌, codes}
 use Rattle.std.specs.Fmt.{decimal}
 use Rattle.turn_code.specs.declared.input.Place.{Place}
 use Rattle.turn_code.specs.declared.input.Place.TheVariants.{Start, State as InState}
 use Rattle.turn_code.specs.declared.rule.Rule.{Rule}
-use Rattle.turn_code.specs.declared.rule.Rule.TheVariants.{Jump, Shape, Under, Sort, Unset, State, Number, Limit, Budget}
+use Rattle.turn_code.specs.declared.rule.Rule.TheVariants.{Jump, Shape, Under, Sort, Unset, State}
+use Rattle.turn_code.specs.declared.rule.Rule.TheVariants.{Number, Limit, Budget}
 use Rattle.turn_check.specs.declared.fault.Spot.{Spot}
 use Rattle.turn_check.specs.declared.fault.VerifyFault.{VerifyFault}
 use Rattle.turn_check.specs.Faults.{rule_of, spot_of}
@@ -12,10 +14,13 @@ use Rattle.turn_check.specs.Faults.{rule_of, spot_of}
 -- START, or a state with an input
 abbrev pub state_text : Place → ℕ → List ℕ
 state_text Start input = codes " START"
-state_text (InState state) input = codes " state " ++ decimal state.0 ++ codes " input " ++ decimal input
+state_text (InState state) input =
+    codes " state " ++ decimal state.0 ++ codes " input " ++ decimal input
 
 abbrev pub spot_text : Spot → List ℕ
-spot_text s = codes "process " ++ decimal s.process.0 ++ state_text s.state s.input ++ codes " place " ++ decimal s.place
+spot_text s =
+    codes "process " ++ decimal s.process.0 ++ state_text s.state s.input ++ codes " place "
+    ++ decimal s.place
 
 abbrev pub rule_text : Rule → List ℕ
 rule_text Jump = codes "V1 Jump"

@@ -3,13 +3,16 @@ use Rattle.std.specs.Prelude.{◌≡◌, ℕ, List, Some, slice_get}
 use Rattle.turn_code.specs.Valid.{IsValid}
 use Rattle.turn_code.specs.declared.draft.Draft.{Draft}
 use Rattle.turn_code.specs.declared.draft.DraftProcess.{DraftProcess}
-use Rattle.bare_words.specs.Sorts.{sort_bits, sorts_of, AreBitsOf}
+use Rattle.turn_words.specs.Sorts.{sort_bits, sorts_of, AreBitsOf}
 
 -- at the place of each process stand the bits of its variables
 abbrev pub AreVariableBits : List DraftProcess → List ℕ → Type 0
-AreVariableBits xs bits = (n : ℕ) (p : DraftProcess) → slice_get xs n ≡ Some p → slice_get bits n ≡ Some (sort_bits (sorts_of p.variables))
+AreVariableBits xs bits =
+    (n : ℕ) (p : DraftProcess) → slice_get xs n ≡ Some p
+    → slice_get bits n ≡ Some (sort_bits (sorts_of p.variables))
 
--- the draft is valid, and these are the bits of its signals' parameters and of its processes' variables
+-- the draft is valid, and these are the bits of its signals' parameters and of its processes'
+-- variables
 pub record IsSorted (d : Draft) (ps vs : List ℕ) : Type 0 where
   pub valid : IsValid d
   pub parameters : AreBitsOf d.signals ps

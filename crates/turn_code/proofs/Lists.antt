@@ -1,9 +1,8 @@
 -- Lists, place by place.
-use Rattle.std.proofs.Common.{◌≡◌, ℕ, zero, suc, ◌+◌, ◌-◌, ◌<◌, ◌≤◌, List, [], ◌∷◌, ◌++◌, length, map, take, drop, reverse, Some, refl, sym, ap, ◌∙◌, subst, arith, take_all}
+use Rattle.std.proofs.Common.{◌≡◌, ℕ, zero, suc, ◌+◌, ◌-◌, ◌<◌, ◌≤◌, List, [], ◌∷◌, ◌++◌, length, map, take, drop, reverse, Some, refl, sym, ap, ◌∙◌, subst, arith, take_all, length-set}
 use Rattle.std.specs.Prelude.{slice_get, slice_set, Contains, All}
 use Rattle.std.specs.List.{AllZip, refill}
 use Rattle.std.proofs.lemmas.List.{take-append-le, take-append-drop, length-append, length-drop, length-reverse, reverse-append, reverse-reverse}
-use Rattle.std.proofs.Common.{length-set}
 pub use Rattle.plain_laws.proofs.Places.{among_at as at_place}
 
 pub within : {A : Type 0} (xs : List A) (k : ℕ) (a : A) → slice_get xs k ≡ Some a → k < length xs

@@ -1,11 +1,18 @@
 -- What each instruction needs, leaves and names.
-use Rattle.std.specs.Prelude.{ℕ, ◌+◌, ℤ, List, [], ◌∷◌, ◌++◌, length, drop, reverse, slice_get, option_map, option_to_list}
+use Rattle.std.specs.Prelude.{ℕ, ◌+◌, ℤ, List, [], ◌∷◌, ◌++◌, length, drop, reverse, slice_get}
+use Rattle.std.specs.Prelude.{option_map, option_to_list}
 use Rattle.turn_code.specs.Sets.{with_variable}
 use Rattle.turn_code.specs.Transitions.{parameters_of}
 use Rattle.turn_code.specs.declared.value.Sort.{Sort}
 use Rattle.turn_code.specs.declared.value.Sort.TheVariants.{Integer, Boolean}
 use Rattle.turn_code.specs.declared.instruction.Instruction.{Instruction}
-use Rattle.turn_code.specs.declared.instruction.Instruction.TheVariants.{Int, Bool, Load, Store, Param, Add, Sub, Mul, Div, Mod, Rem, Neg, Not, And, Or, Xor, Same, Compare, Case, CaseWithin, Pick, Drop, Jump, Output, Set, Reset, Next, Stop}
+use Rattle.turn_code.specs.declared.instruction.Instruction.TheVariants.{Int, Bool, Load, Store}
+use Rattle.turn_code.specs.declared.instruction.Instruction.TheVariants.{Param, Add, Sub, Mul, Div}
+use Rattle.turn_code.specs.declared.instruction.Instruction.TheVariants.{Mod, Rem, Neg, Not, And}
+use Rattle.turn_code.specs.declared.instruction.Instruction.TheVariants.{Or, Xor, Same, Compare}
+use Rattle.turn_code.specs.declared.instruction.Instruction.TheVariants.{Case, CaseWithin, Pick}
+use Rattle.turn_code.specs.declared.instruction.Instruction.TheVariants.{Drop, Jump, Output, Set}
+use Rattle.turn_code.specs.declared.instruction.Instruction.TheVariants.{Reset, Next, Stop}
 use Rattle.turn_code.specs.declared.variable_set.VariableSet.{VariableSet}
 use Rattle.turn_code.specs.declared.draft.DraftSignal.{DraftSignal}
 use Rattle.turn_code.specs.declared.draft.DraftVariable.{DraftVariable}
@@ -14,7 +21,8 @@ use Rattle.turn_code.specs.declared.draft.DraftVariable.{DraftVariable}
 abbrev pub sort_at : List DraftVariable → ℕ → List Sort
 sort_at xs v = option_to_list (option_map (λ (x : DraftVariable). x.sort) (slice_get xs v))
 
--- the sorts of the operands that an instruction takes, the topmost first; those of an output are its signal's parameters
+-- the sorts of the operands that an instruction takes, the topmost first; those of an output are
+-- its signal's parameters
 abbrev pub takes : List DraftSignal → List DraftVariable → Instruction → List Sort
 takes ss xs (Int z) = []
 takes ss xs (Bool b) = []
@@ -81,7 +89,8 @@ abbrev pub shape_left : List DraftSignal → List DraftVariable → Instruction 
 shape_left ss xs i shape = drop (length (takes ss xs i)) shape
 
 -- the shape where the code goes on behind it
-abbrev pub shape_after : List DraftSignal → List DraftVariable → List Sort → Instruction → List Sort → List Sort
+abbrev pub shape_after :
+    List DraftSignal → List DraftVariable → List Sort → Instruction → List Sort → List Sort
 shape_after ss xs ps i shape = gives xs ps i ++ shape_left ss xs i shape
 
 -- the variables that it reads

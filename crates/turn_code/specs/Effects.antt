@@ -13,7 +13,8 @@ use Rattle.turn_code.specs.declared.effect.Sending.{Sending}
 use Rattle.turn_code.specs.declared.machine.End.{End}
 use Rattle.turn_code.specs.declared.draft.Draft.{Draft}
 
--- the signal is there, the parameters have its sorts, and a route of the process carries it to its receiver, which is there
+-- the signal is there, the parameters have its sorts, and a route of the process carries it to its
+-- receiver, which is there
 pub record IsRightSending (d : Draft) (t : Transition) (s : Sending) : Type 0 where
   pub signal : s.signal.0 < length d.signals
   pub parameters : map sort_of s.parameters.items ≡ parameters_of (slice_get d.signals s.signal.0)
@@ -33,5 +34,7 @@ AreRightEffects d t (e ∷ es) = IsRightEffect d t e × AreRightEffects d t es
 
 -- the run of a valid transition on an input that fits it gives right effects alone
 abbrev pub EffectsLaw : Type 0
-EffectsLaw = (d : Draft) (t : Transition) (x : Input) (e : End) (s : Progress) → IsValidTransition d t → FitsTransition d t x
+EffectsLaw =
+    (d : Draft) (t : Transition) (x : Input) (e : End) (s : Progress) → IsValidTransition d t
+    → FitsTransition d t x
     → run t.piece.code x ≡ ended e s → AreRightEffects d t s.effects

@@ -1,12 +1,15 @@
 -- What a machine stands for, and what its next instruction makes of it.
-use Rattle.std.specs.Prelude.{◌≡◌, ℕ, ◌<◌, ◌≤◌, List, length, Bool, true, false, IsTrue, Some, slice_get}
-use Rattle.profile_limits.specs.Limits.{MOST_EFFECTS, MOST_OPERANDS, MOST_PARAMETERS}
+use Rattle.std.specs.Prelude.{◌≡◌, ℕ, ◌<◌, ◌≤◌, List, length, Bool, true, false, IsTrue, Some}
+use Rattle.std.specs.Prelude.{slice_get}
+use Rattle.plain_limits.specs.Limits.{MOST_EFFECTS, MOST_OPERANDS, MOST_PARAMETERS}
 use Rattle.turn_code.specs.Code.{effects_of, sends}
 use Rattle.turn_code.specs.Run.{Progress, After, goes, ends, stuck}
 use Rattle.turn_code.specs.declared.value.Value.{Value}
 use Rattle.turn_code.specs.declared.effect.Effect.{Effect}
 use Rattle.turn_code.specs.declared.instruction.Instruction.{Instruction}
-use Rattle.turn_code.specs.declared.instruction.Instruction.TheVariants.{Int as PutInt, Bool as PutBool, Load, Param}
+use Rattle.turn_code.specs.declared.instruction.Instruction.TheVariants.{Int as PutInt}
+use Rattle.turn_code.specs.declared.instruction.Instruction.TheVariants.{Bool as PutBool, Load}
+use Rattle.turn_code.specs.declared.instruction.Instruction.TheVariants.{Param}
 use Rattle.turn_code.specs.declared.machine.Machine.{Machine}
 use Rattle.turn_code.specs.declared.machine.After.{After as Next}
 use Rattle.turn_code.specs.declared.machine.After.TheVariants.{Goes, Ends, Stuck}
@@ -34,7 +37,8 @@ grows (Load v) = true
 grows (Param j) = true
 grows _ = false
 
--- there is room for what the instruction puts on the operands, for its effect, and for the parameters that it sends
+-- there is room for what the instruction puts on the operands, for its effect, and for the
+-- parameters that it sends
 pub record HasRoomFor (i : Instruction) (os : List Value) (es : List Effect) : Type 0 where
   pub operands : IsTrue (grows i) → length os < MOST_OPERANDS
   pub effects : 0 < effects_of i → length es < MOST_EFFECTS

@@ -8,8 +8,10 @@ use Rattle.turn_code.specs.declared.draft.Draft.{Draft}
 
 -- from place k to an end there is a path of n instructions, which gives e effects
 pub data Path (code : List Instruction) : ℕ → ℕ → ℕ → Type 0 where
-  last : {k : ℕ} (i : Instruction) → slice_get code k ≡ Some i → successors i k ≡ [] → Path code k 1 (effects_of i)
-  more : {k n e : ℕ} (i : Instruction) (j : ℕ) → slice_get code k ≡ Some i → Contains (successors i k) j → Path code j n e
+  last : {k : ℕ} (i : Instruction) → slice_get code k ≡ Some i → successors i k ≡ []
+      → Path code k 1 (effects_of i)
+  more : {k n e : ℕ} (i : Instruction) (j : ℕ) → slice_get code k ≡ Some i
+      → Contains (successors i k) j → Path code j n e
       → Path code k (suc n) (effects_of i + e)
 
 -- n is the number of instructions of a path from the first place, and no such path has more
@@ -24,7 +26,12 @@ pub record IsMostEffects (code : List Instruction) (e : ℕ) : Type 0 where
   pub reached : Path code 0 length e
   pub greatest : (m f : ℕ) → Path code 0 m f → f ≤ e
 
--- the certificate of a valid transition says the longest path and the most effects: not more, and not less
+-- the certificate of a valid transition says the longest path and the most effects: not more, and
+-- not less
 pub record PathLaw : Type 0 where
-  pub budget : (d : Draft) (t : Transition) → IsValidTransition d t → IsLongest t.piece.code t.piece.certificate.budget
-  pub effects : (d : Draft) (t : Transition) → IsValidTransition d t → IsMostEffects t.piece.code t.piece.certificate.effects
+  pub budget :
+      (d : Draft) (t : Transition) → IsValidTransition d t
+      → IsLongest t.piece.code t.piece.certificate.budget
+  pub effects :
+      (d : Draft) (t : Transition) → IsValidTransition d t
+      → IsMostEffects t.piece.code t.piece.certificate.effects

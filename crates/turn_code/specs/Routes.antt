@@ -37,6 +37,9 @@ Takes p receiver n r = Carries (the_process p) receiver n r
 abbrev pub Reaches : List DraftRoute → ℕ → Party → SignalNumber → Type 0
 Reaches routes p receiver n = Any (Takes p receiver n) routes
 
--- where the route brings signal m to process p, who sent it is there, and some route carries signal n to it
-abbrev pub Answers : List DraftProcess → List DraftRoute → ℕ → SignalNumber → SignalNumber → DraftRoute → Type 0
-Answers ps routes p m n r = IsProcess p r.to → Contains r.signals m → IsPartyOf ps r.from × Reaches routes p r.from n
+-- where the route brings signal m to process p, who sent it is there, and some route carries signal
+-- n to it
+abbrev pub Answers :
+    List DraftProcess → List DraftRoute → ℕ → SignalNumber → SignalNumber → DraftRoute → Type 0
+Answers ps routes p m n r =
+    IsProcess p r.to → Contains r.signals m → IsPartyOf ps r.from × Reaches routes p r.from n

@@ -1,15 +1,21 @@
 -- What a valid draft keeps, rule by rule, at each place of each transition.
-use Rattle.std.specs.Prelude.{◌≡◌, ℕ, ◌+◌, ◌<◌, ◌≤◌, pos, ◌≤ℤ◌, max, List, [], ◌∷◌, length, map, sum_by, All, Contains, Option, Some, None, IfSome, slice_get}
-use Rattle.profile_limits.specs.Limits.{MOST_EFFECTS, MOST_INSTANCES, MOST_INSTRUCTIONS, MOST_OPERANDS, MOST_PARAMETERS, MOST_PIECES, MOST_PROCESSES, MOST_SIGNALS, MOST_STATES, MOST_TIMERS_EACH, MOST_VARIABLES}
+use Rattle.std.specs.Prelude.{◌≡◌, ℕ, ◌+◌, ◌<◌, ◌≤◌, pos, ◌≤ℤ◌, max, List, [], ◌∷◌, length, map}
+use Rattle.std.specs.Prelude.{sum_by, All, Contains, Option, Some, None, IfSome, slice_get}
+use Rattle.plain_limits.specs.Limits.{MOST_EFFECTS, MOST_INSTANCES, MOST_INSTRUCTIONS}
+use Rattle.plain_limits.specs.Limits.{MOST_OPERANDS, MOST_PARAMETERS, MOST_PIECES, MOST_PROCESSES}
+use Rattle.plain_limits.specs.Limits.{MOST_SIGNALS, MOST_STATES, MOST_TIMERS_EACH, MOST_VARIABLES}
 use Rattle.turn_code.specs.Values.{sort_of}
 use Rattle.turn_code.specs.Sets.{Has, IsWithin}
 use Rattle.turn_code.specs.Routes.{IsPartyOf, Reaches, Answers}
-use Rattle.turn_code.specs.Code.{takes, shape_left, shape_after, reads, sets, set_after, parameters_in, timers_in, divisors_in, states_in, jumps, behind, successors, effects_of}
+use Rattle.turn_code.specs.Code.{takes, shape_left, shape_after, reads, sets, set_after}
+use Rattle.turn_code.specs.Code.{parameters_in, timers_in, divisors_in, states_in, jumps, behind}
+use Rattle.turn_code.specs.Code.{successors, effects_of}
 use Rattle.turn_code.specs.Transitions.{Transition, parameters_of}
 use Rattle.turn_code.specs.declared.value.Sort.{Sort}
 use Rattle.turn_code.specs.declared.numbers.SignalNumber.{SignalNumber}
 use Rattle.turn_code.specs.declared.instruction.Receiver.{Receiver}
-use Rattle.turn_code.specs.declared.instruction.Receiver.TheVariants.{Party as ToParty, Sender as ToSender}
+use Rattle.turn_code.specs.declared.instruction.Receiver.TheVariants.{Party as ToParty}
+use Rattle.turn_code.specs.declared.instruction.Receiver.TheVariants.{Sender as ToSender}
 use Rattle.turn_code.specs.declared.instruction.Instruction.{Instruction}
 use Rattle.turn_code.specs.declared.instruction.Instruction.TheVariants.{Output}
 use Rattle.turn_code.specs.declared.draft.Draft.{Draft}
@@ -24,7 +30,9 @@ use Rattle.turn_code.specs.declared.draft.Trigger.TheVariants.{Signal, Timer}
 
 -- what holds of the instruction at a place and of the facts there
 abbrev pub AtPlace : DraftPiece → ℕ → (Instruction → PlaceFacts → Type 0) → Type 0
-AtPlace piece k P = (i : Instruction) (f : PlaceFacts) → slice_get piece.code k ≡ Some i → slice_get piece.facts k ≡ Some f → P i f
+AtPlace piece k P =
+    (i : Instruction) (f : PlaceFacts) → slice_get piece.code k ≡ Some i
+    → slice_get piece.facts k ≡ Some f → P i f
 
 -- what holds of the instruction at a place, with facts there or without
 abbrev pub AtCode : DraftPiece → ℕ → (Instruction → Type 0) → Type 0
@@ -32,26 +40,30 @@ AtCode piece k P = (i : Instruction) → slice_get piece.code k ≡ Some i → P
 
 -- what holds of the facts at each of some places that has any
 abbrev pub AtEach : DraftPiece → List ℕ → (PlaceFacts → Type 0) → Type 0
-AtEach piece js P = (j : ℕ) (f : PlaceFacts) → Contains js j → slice_get piece.facts j ≡ Some f → P f
+AtEach piece js P =
+    (j : ℕ) (f : PlaceFacts) → Contains js j → slice_get piece.facts j ≡ Some f → P f
 
 -- ---- V1: each place where the code goes on, its first too, is inside it
 pub record JumpsInside (t : Transition) (k : ℕ) : Type 0 where
   pub entry : k ≡ 0 → 0 < length t.piece.code
   pub each : AtCode t.piece k (λ i. All (λ j. j < length t.piece.code) (successors i k))
 
--- ---- V2: each place has facts; no operand is there as the code begins; the place behind an instruction has the shape that is left there, and each
--- place where it jumps to has the shape without its operands
+-- ---- V2: each place has facts; no operand is there as the code begins; the place behind an
+-- instruction has the shape that is left there, and each place where it jumps to has the shape
+-- without its operands
 pub record KeepsShapes (ss : List DraftSignal) (t : Transition) (k : ℕ) : Type 0 where
   pub facts : k ≡ 0 → length t.piece.facts ≡ length t.piece.code
   pub entry : k ≡ 0 → AtEach t.piece (0 ∷ []) (λ f. f.shape ≡ [])
   pub each : AtPlace t.piece k
-      (λ i f. AtEach t.piece (behind i k) (λ g. g.shape ≡ shape_after ss t.process.variables t.parameters i f.shape))
+      (λ i f. AtEach t.piece (behind i k) (λ g. g.shape
+      ≡ shape_after ss t.process.variables t.parameters i f.shape))
   pub jumped : AtPlace t.piece k
       (λ i f. AtEach t.piece (jumps i) (λ g. g.shape ≡ shape_left ss t.process.variables i f.shape))
 
 -- ---- V3: the operands that the instruction takes are on the shape
 abbrev pub HasOperands : List DraftSignal → Transition → ℕ → Type 0
-HasOperands ss t k = AtPlace t.piece k (λ i f. length (takes ss t.process.variables i) ≤ length f.shape)
+HasOperands ss t k =
+    AtPlace t.piece k (λ i f. length (takes ss t.process.variables i) ≤ length f.shape)
 
 -- two lists of sorts agree as far as both go
 abbrev pub Agree : List Sort → List Sort → Type 0
@@ -63,19 +75,23 @@ Agree (x ∷ xs) (y ∷ ys) = (y ≡ x) × Agree xs ys
 abbrev pub StartsRight : DraftVariable → Type 0
 StartsRight x = IfSome x.initial (λ v. sort_of v ≡ x.sort)
 
--- ---- V4: those operands have the sorts that it wants; at START each initial value has its variable's sort
+-- ---- V4: those operands have the sorts that it wants; at START each initial value has its
+-- variable's sort
 pub record KeepsSorts (ss : List DraftSignal) (t : Transition) (k : ℕ) : Type 0 where
   pub initial : k ≡ 0 → t.trigger ≡ None → All StartsRight t.process.variables
   pub each : AtPlace t.piece k (λ i f. Agree (takes ss t.process.variables i) f.shape)
 
--- ---- V5: what is said to be set is set on every way: as the code begins that is what its entry sets, at each place where it goes on and in the
--- state where it ends not more than is left; a variable that is read is set
+-- ---- V5: what is said to be set is set on every way: as the code begins that is what its entry
+-- sets, at each place where it goes on and in the state where it ends not more than is left; a
+-- variable that is read is set
 pub record KeepsSets (t : Transition) (k : ℕ) : Type 0 where
   pub entry : k ≡ 0 → AtEach t.piece (0 ∷ []) (λ f. f.set ≡ t.entry)
   pub reads_set : AtPlace t.piece k (λ i f. All (Has f.set) (reads i))
-  pub each : AtPlace t.piece k (λ i f. AtEach t.piece (successors i k) (λ g. IsWithin g.set (set_after i f.set)))
+  pub each : AtPlace t.piece k
+      (λ i f. AtEach t.piece (successors i k) (λ g. IsWithin g.set (set_after i f.set)))
   pub states : AtPlace t.piece k
-      (λ i f. (q : ℕ) (s : DraftState) → Contains (states_in i) q → slice_get t.process.states q ≡ Some s → IsWithin s.set (set_after i f.set))
+      (λ i f. (q : ℕ) (s : DraftState) → Contains (states_in i) q
+      → slice_get t.process.states q ≡ Some s → IsWithin s.set (set_after i f.set))
 
 -- ---- V6: a state where the code ends is there
 abbrev pub HasStates : Transition → ℕ → Type 0
@@ -95,8 +111,9 @@ HasTrigger ss p (Some x) = IsThere ss p x
 abbrev pub HasSaves : List DraftSignal → DraftProcess → DraftState → Type 0
 HasSaves ss p q = All (IsThere ss p) q.saves
 
--- Signal n of process p reaches its receiver. A party is there, and a route goes to it. A sender is known where the transition waits for a
--- signal: then for each route that brings that one, who sent it is there, and a route goes back to it.
+-- Signal n of process p reaches its receiver. A party is there, and a route goes to it. A sender is
+-- known where the transition waits for a signal: then for each route that brings that one, who sent
+-- it is there, and a route goes back to it.
 abbrev pub AnswersSender : Draft → ℕ → SignalNumber → Option Trigger → Type 0
 AnswersSender d p n None = ⊥
 AnswersSender d p n (Some (Timer m)) = ⊥
@@ -107,7 +124,8 @@ ReachesReceiver d p n trigger (ToParty x) = IsPartyOf d.processes x × Reaches d
 ReachesReceiver d p n trigger ToSender = AnswersSender d p n trigger
 
 -- the signal of an output is there and has as many parameters, and it reaches its receiver
-pub record KeepsSending (d : Draft) (t : Transition) (n : SignalNumber) (r : Receiver) (c : ℕ) : Type 0 where
+pub record KeepsSending (d : Draft) (t : Transition) (n : SignalNumber) (r : Receiver) (c : ℕ) :
+    Type 0 where
   pub signal : n.0 < length d.signals
   pub parameters : c ≡ length (parameters_of (slice_get d.signals n.0))
   pub receiver : ReachesReceiver d t.number n t.trigger r
@@ -116,8 +134,9 @@ abbrev pub KeepsOutput : Draft → Transition → Instruction → Type 0
 KeepsOutput d t (Output n r c) = KeepsSending d t n r c
 KeepsOutput d t _ = Unit {0}
 
--- ---- V7: what an instruction names is there, its variables, its parameters, its timers, its signal and who gets it; it divides by 1 or more; the
--- signal or timer that the transition waits for is there, and at START what each state of the process saves
+-- ---- V7: what an instruction names is there, its variables, its parameters, its timers, its
+-- signal and who gets it; it divides by 1 or more; the signal or timer that the transition waits
+-- for is there, and at START what each state of the process saves
 pub record HasNumbers (d : Draft) (t : Transition) (k : ℕ) : Type 0 where
   pub trigger : k ≡ 0 → HasTrigger d.signals t.process t.trigger
   pub saves : k ≡ 0 → t.trigger ≡ None → All (HasSaves d.signals t.process) t.process.states
@@ -189,8 +208,12 @@ pub record KeepsCertificate (piece : DraftPiece) : Type 0 where
   pub depth : piece.certificate.depth ≡ greatest (depths piece.facts)
   pub effects : piece.certificate.effects ≡ effects_in (slice_get piece.facts 0)
 
--- ---- V9: the count of a place is 1 more than the greatest where the code goes on, and the effects likewise are its own and the greatest there
+-- ---- V9: the count of a place is 1 more than the greatest where the code goes on, and the effects
+-- likewise are its own and the greatest there
 pub record KeepsCounts (t : Transition) (k : ℕ) : Type 0 where
   pub certificate : k ≡ 0 → KeepsCertificate t.piece
-  pub counts : AtPlace t.piece k (λ i f. f.count ≡ 1 + greatest (counts_at t.piece (successors i k)))
-  pub effects : AtPlace t.piece k (λ i f. f.effects ≡ effects_of i + greatest (effects_at t.piece (successors i k)))
+  pub counts :
+      AtPlace t.piece k (λ i f. f.count ≡ 1 + greatest (counts_at t.piece (successors i k)))
+  pub effects :
+      AtPlace t.piece k (λ i f. f.effects
+      ≡ effects_of i + greatest (effects_at t.piece (successors i k)))

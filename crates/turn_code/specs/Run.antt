@@ -1,15 +1,27 @@
--- What code does: one instruction on a list of values with their sorts, and a run of as many of them as a turn may take.
-use Rattle.std.specs.Prelude.{◌≡◌, ℕ, zero, suc, ◌+◌, ℤ, pos, ◌+ℤ◌, ◌-ℤ◌, ◌*ℤ◌, neg_ℤ, int_lt, int_div, int_rem, Bool as Truth, not, ◌&&◌, ◌||◌, if◌then◌else◌, nat_le, List, [], ◌∷◌, ◌++◌, length, take, drop, reverse, Option, Some, None, slice_get, slice_set}
+-- What code does: one instruction on a list of values with their sorts, and a run of as many of
+-- them as a turn may take.
+use Rattle.std.specs.Prelude.{◌≡◌, ℕ, zero, suc, ◌+◌, ℤ, pos, ◌+ℤ◌, ◌-ℤ◌, ◌*ℤ◌, neg_ℤ, int_lt}
+use Rattle.std.specs.Prelude.{int_div, int_rem, Bool as Truth, not, ◌&&◌, ◌||◌, if◌then◌else◌}
+use Rattle.std.specs.Prelude.{nat_le, List, [], ◌∷◌, ◌++◌, length, take, drop, reverse, Option}
+use Rattle.std.specs.Prelude.{Some, None, slice_get, slice_set}
 use Rattle.std.specs.Int.{int_rem_euclid}
-use Rattle.profile_limits.specs.Limits.{MOST_INSTRUCTIONS}
+use Rattle.plain_limits.specs.Limits.{MOST_INSTRUCTIONS}
 use Rattle.turn_code.specs.Values.{wrap, holds, is_between, differ}
 use Rattle.turn_code.specs.declared.value.Value.{Value}
 use Rattle.turn_code.specs.declared.value.Value.TheVariants.{Int, Bool}
 use Rattle.turn_code.specs.declared.numbers.SignalNumber.{SignalNumber}
 use Rattle.turn_code.specs.declared.instruction.Receiver.{Receiver}
-use Rattle.turn_code.specs.declared.instruction.Receiver.TheVariants.{Party as ToParty, Sender as ToSender}
+use Rattle.turn_code.specs.declared.instruction.Receiver.TheVariants.{Party as ToParty}
+use Rattle.turn_code.specs.declared.instruction.Receiver.TheVariants.{Sender as ToSender}
 use Rattle.turn_code.specs.declared.instruction.Instruction.{Instruction}
-use Rattle.turn_code.specs.declared.instruction.Instruction.TheVariants.{Int as PutInt, Bool as PutBool, Load, Store, Param, Add, Sub, Mul, Div, Mod, Rem, Neg, Not, And, Or, Xor, Same, Compare, Case, CaseWithin, Pick, Drop, Jump, Output, Set, Reset, Next, Stop}
+use Rattle.turn_code.specs.declared.instruction.Instruction.TheVariants.{Int as PutInt}
+use Rattle.turn_code.specs.declared.instruction.Instruction.TheVariants.{Bool as PutBool, Load}
+use Rattle.turn_code.specs.declared.instruction.Instruction.TheVariants.{Store, Param, Add, Sub}
+use Rattle.turn_code.specs.declared.instruction.Instruction.TheVariants.{Mul, Div, Mod, Rem, Neg}
+use Rattle.turn_code.specs.declared.instruction.Instruction.TheVariants.{Not, And, Or, Xor, Same}
+use Rattle.turn_code.specs.declared.instruction.Instruction.TheVariants.{Compare, Case, CaseWithin}
+use Rattle.turn_code.specs.declared.instruction.Instruction.TheVariants.{Pick, Drop, Jump, Output}
+use Rattle.turn_code.specs.declared.instruction.Instruction.TheVariants.{Set, Reset, Next, Stop}
 use Rattle.turn_code.specs.declared.input.Input.{Input}
 use Rattle.turn_code.specs.declared.input.Party.{Party}
 use Rattle.turn_code.specs.declared.input.Address.{Address}
@@ -18,15 +30,18 @@ use Rattle.turn_code.specs.declared.effect.Effect.TheVariants as effect
 use Rattle.turn_code.specs.declared.machine.End.{End}
 use Rattle.turn_code.specs.declared.machine.End.TheVariants as end
 use Rattle.turn_code.specs.declared.trouble.Trouble.{Trouble}
-use Rattle.turn_code.specs.declared.trouble.Trouble.TheVariants.{Unset, WrongSort, Underflow, NoReceiver, Outside}
+use Rattle.turn_code.specs.declared.trouble.Trouble.TheVariants.{Unset, WrongSort, Underflow}
+use Rattle.turn_code.specs.declared.trouble.Trouble.TheVariants.{NoReceiver, Outside}
 
--- what a run has done so far: its variables, none where one isn't set, its effects in order, and how many instructions it took
+-- what a run has done so far: its variables, none where one isn't set, its effects in order, and
+-- how many instructions it took
 pub record Progress : Type 0 where
   pub variables : List (Option Value)
   pub effects : List Effect
   pub count : ℕ
 
--- what follows an instruction: a place with operands, the topmost first; an end; or nothing that the code tells
+-- what follows an instruction: a place with operands, the topmost first; an end; or nothing that
+-- the code tells
 pub data After : Type 0 where
   goes : ℕ → List Value → Progress → After
   ends : End → Progress → After
@@ -88,7 +103,8 @@ on_booleans (Int y ∷ x ∷ os) go = stuck WrongSort
 
 -- n operands as a list, the topmost last
 abbrev pub on_operands : ℕ → List Value → (List Value → List Value → After) → After
-on_operands n os go = if nat_le n (length os) then go (reverse (take n os)) (drop n os) else stuck Underflow
+on_operands n os go =
+    if nat_le n (length os) then go (reverse (take n os)) (drop n os) else stuck Underflow
 
 -- ---- the kinds of instructions, where what stands behind one is at k
 
@@ -99,7 +115,8 @@ on_two f k os s = on_integers os (λ x y rest. goes k (Int (wrap (f x y)) ∷ re
 -- an operation on an Integer and a divisor, which is 1 or more
 abbrev pub divided : (ℤ → ℤ → ℤ) → ℤ → ℕ → List Value → Progress → After
 divided f z k os s =
-    on_integer os (λ x rest. if int_lt (pos 0) z then goes k (Int (f x z) ∷ rest) s else stuck WrongSort)
+    on_integer os (λ x rest. if int_lt (pos 0) z then goes k (Int (f x z) ∷ rest) s
+    else stuck WrongSort)
 
 -- an operation on two Booleans
 abbrev pub joined : (Truth → Truth → Truth) → ℕ → List Value → Progress → After
@@ -113,13 +130,15 @@ tested f j k os s = on_integer os (λ x rest. if f x then goes j rest s else goe
 abbrev pub of_party : Party → Address
 of_party p = record { party = p; instance = None }
 
--- who gets a signal: a party, or the one who sent; nobody where it is for a sender and there is none
+-- who gets a signal: a party, or the one who sent; nobody where it is for a sender and there is
+-- none
 abbrev pub address_of : Receiver → Option Address → Option Address
 address_of (ToParty p) sender = Some (of_party p)
 address_of ToSender sender = sender
 
 abbrev pub sending : SignalNumber → Address → List Value → Effect
-sending n p vs = effect.Output (record { signal = n; receiver = p; parameters = record { items = vs } })
+sending n p vs =
+    effect.Output (record { signal = n; receiver = p; parameters = record { items = vs } })
 
 abbrev pub sent : SignalNumber → Option Address → List Value → ℕ → List Value → Progress → After
 sent n None vs k os s = stuck NoReceiver
@@ -150,7 +169,8 @@ act (CaseWithin p a b) x k os s = tested (is_between a b) p.0 k os s
 act (Pick p q) x k os s = on_boolean os (λ b rest. goes (if b then q.0 else p.0) rest s)
 act Drop x k os s = on_integer os (λ y rest. goes k rest s)
 act (Jump p) x k os s = goes p.0 os s
-act (Output n r c) x k os s = on_operands c os (λ vs rest. sent n (address_of r x.sender) vs k rest s)
+act (Output n r c) x k os s =
+    on_operands c os (λ vs rest. sent n (address_of r x.sender) vs k rest s)
 act (Set t) x k os s = on_integer os (λ y rest. goes k rest (with_effect s (effect.Set t y)))
 act (Reset t) x k os s = goes k os (with_effect s (effect.Reset t))
 act (Next q) x k os s = ends (end.State q) s
@@ -189,6 +209,7 @@ exec code x (suc n) k os s = go_on (exec code x n) (step code x k os s)
 abbrev pub begun : Input → Progress
 begun x = record { variables = x.variables.items; effects = []; count = 0 }
 
--- the run of a piece's code on an input: as many instructions as a turn may run, from the first on, with no operand
+-- the run of a piece's code on an input: as many instructions as a turn may run, from the first on,
+-- with no operand
 unfoldable pub run : List Instruction → Input → Ran
 run code x = exec code x MOST_INSTRUCTIONS 0 [] (begun x)

@@ -1,6 +1,6 @@
 -- Runs that never get stuck.
 use Rattle.std.specs.Prelude.{◌≡◌, ℕ, zero, suc, ◌≤◌, List, [], length, Option, Some, slice_get}
-use Rattle.profile_limits.specs.Limits.{MOST_INSTRUCTIONS, MOST_PARAMETERS}
+use Rattle.plain_limits.specs.Limits.{MOST_INSTRUCTIONS, MOST_PARAMETERS}
 use Rattle.turn_code.specs.Run.{Progress, After, goes, ends, stuck, step, begun, run, ended}
 use Rattle.turn_code.specs.Transitions.{Transition}
 use Rattle.turn_code.specs.Code.{sends}
@@ -26,8 +26,8 @@ abbrev pub EndIsReady : Transition → End → List (Option Value) → Type 0
 EndIsReady t (State q) vs = IsReady t q.0 vs
 EndIsReady t Stop vs = Unit {0}
 
--- what holds as a transition ends: each set variable has its sort, what is said of the state where it ends is so, and there are not more effects
--- than its certificate says
+-- what holds as a transition ends: each set variable has its sort, what is said of the state where
+-- it ends is so, and there are not more effects than its certificate says
 pub record EndsWell (t : Transition) (e : End) (s : Progress) : Type 0 where
   pub variables : HaveSorts t.process.variables s.variables
   pub ready : EndIsReady t e s.variables
@@ -38,21 +38,28 @@ IsSafeAfter t next (goes k os s) = next k os s
 IsSafeAfter t next (ends e s) = EndsWell t e s
 IsSafeAfter t next (stuck x) = ⊥
 
--- from place k the run ends well within n instructions, is never stuck, and never has more operands or effects than the certificate says
+-- from place k the run ends well within n instructions, is never stuck, and never has more operands
+-- or effects than the certificate says
 abbrev pub IsSafe : Transition → Input → ℕ → ℕ → List Value → Progress → Type 0
 IsSafe t x zero k os s = ⊥
-IsSafe t x (suc n) k os s = (length os ≤ t.piece.certificate.depth) × (length s.effects ≤ t.piece.certificate.effects)
+IsSafe t x (suc n) k os s =
+    (length os ≤ t.piece.certificate.depth) × (length s.effects ≤ t.piece.certificate.effects)
     × IsSafeAfter t (IsSafe t x n) (step t.piece.code x k os s)
 
 -- no output of the code has more parameters than a signal may have
 abbrev pub SendsFew : List Instruction → Type 0
 SendsFew code = (k : ℕ) (i : Instruction) → slice_get code k ≡ Some i → sends i ≤ MOST_PARAMETERS
 
--- on each input that fits it, a valid transition is safe within its budget, which is within the limit
+-- on each input that fits it, a valid transition is safe within its budget, which is within the
+-- limit
 pub record SafeLaw : Type 0 where
   pub limits : (d : Draft) (t : Transition) → IsValidTransition d t → KeepsPieceLimits t.piece
-  pub budget : (d : Draft) (t : Transition) → IsValidTransition d t → t.piece.certificate.budget ≤ MOST_INSTRUCTIONS
-  pub sends : (d : Draft) (t : Transition) → KeepsSetLimits d → IsValidTransition d t → SendsFew t.piece.code
+  pub budget :
+      (d : Draft) (t : Transition) → IsValidTransition d t
+      → t.piece.certificate.budget ≤ MOST_INSTRUCTIONS
+  pub sends :
+      (d : Draft) (t : Transition) → KeepsSetLimits d → IsValidTransition d t
+      → SendsFew t.piece.code
   pub safe : (d : Draft) (t : Transition) (x : Input) → IsValidTransition d t → FitsTransition d t x
       → IsSafe t x t.piece.certificate.budget 0 [] (begun x)
 
@@ -66,4 +73,5 @@ pub record RunsWell (t : Transition) (x : Input) : Type 0 where
 
 -- on each input that fits it, the run of a valid transition ends well, within its budget
 abbrev pub RunLaw : Type 0
-RunLaw = (d : Draft) (t : Transition) (x : Input) → IsValidTransition d t → FitsTransition d t x → RunsWell t x
+RunLaw = (d : Draft) (t : Transition) (x : Input) → IsValidTransition d t → FitsTransition d t x
+    → RunsWell t x

@@ -14,8 +14,9 @@ use Rattle.turn_code.specs.declared.draft.DraftPiece.{DraftPiece}
 use Rattle.turn_code.specs.declared.draft.Trigger.{Trigger}
 use Rattle.turn_code.specs.declared.draft.Trigger.TheVariants.{Signal, Timer}
 
--- a transition: the number of the process that it belongs to, that process, what it waits for (nothing at START), the
--- sorts of its parameters, the variables that are set as it begins, and its piece
+-- a transition: the number of the process that it belongs to, that process, what it waits for
+-- (nothing at START), the sorts of its parameters, the variables that are set as it begins, and its
+-- piece
 pub record Transition : Type 0 where
   pub number : ℕ
   pub process : DraftProcess
@@ -35,7 +36,15 @@ trigger_parameters signals (Signal n) = parameters_of (slice_get signals n.0)
 trigger_parameters signals (Timer t) = []
 
 abbrev pub start_of : ℕ → DraftProcess → Transition
-start_of n p = record { number = n; process = p; trigger = None; parameters = []; entry = initial_set p.variables; piece = p.start }
+start_of n p =
+    record {
+      number = n;
+      process = p;
+      trigger = None;
+      parameters = [];
+      entry = initial_set p.variables;
+      piece = p.start;
+    }
 
 abbrev pub input_of : List DraftSignal → ℕ → DraftProcess → DraftState → DraftInput → Transition
 input_of signals n p q x = record {
@@ -47,7 +56,8 @@ input_of signals n p q x = record {
   piece = x.piece;
 }
 
-abbrev pub input_at : List DraftSignal → ℕ → DraftProcess → ℕ → Option DraftState → Option Transition
+abbrev pub input_at :
+    List DraftSignal → ℕ → DraftProcess → ℕ → Option DraftState → Option Transition
 input_at signals n p i None = None
 input_at signals n p i (Some q) = option_map (input_of signals n p q) (slice_get q.inputs i)
 

@@ -1,12 +1,14 @@
 -- A valid draft, and where one is broken.
 use Rattle.std.specs.Prelude.{◌≡◌, ℕ, Some}
 use Rattle.turn_code.specs.Transitions.{Transition, transition_at}
-use Rattle.turn_code.specs.Rules.{JumpsInside, KeepsShapes, HasOperands, KeepsSorts, KeepsSets, HasStates, HasNumbers, KeepsSetLimits, KeepsLimits, KeepsCounts}
+use Rattle.turn_code.specs.Rules.{JumpsInside, KeepsShapes, HasOperands, KeepsSorts, KeepsSets}
+use Rattle.turn_code.specs.Rules.{HasStates, HasNumbers, KeepsSetLimits, KeepsLimits, KeepsCounts}
 use Rattle.turn_code.specs.declared.input.Place.{Place}
 use Rattle.turn_code.specs.declared.input.Place.TheVariants.{Start}
 use Rattle.turn_code.specs.declared.draft.Draft.{Draft}
 use Rattle.turn_code.specs.declared.rule.Rule.{Rule}
-use Rattle.turn_code.specs.declared.rule.Rule.TheVariants.{Jump, Shape, Under, Sort, Unset, State, Number, Limit, Budget}
+use Rattle.turn_code.specs.declared.rule.Rule.TheVariants.{Jump, Shape, Under, Sort, Unset, State}
+use Rattle.turn_code.specs.declared.rule.Rule.TheVariants.{Number, Limit, Budget}
 
 -- a transition keeps a rule at place k of its piece
 abbrev pub Keeps : Rule → Draft → Transition → ℕ → Type 0
@@ -35,9 +37,11 @@ pub record IsValidTransition (d : Draft) (t : Transition) : Type 0 where
 -- a draft within the limits of a set whose transitions keep every rule at every place
 pub record IsValid (d : Draft) : Type 0 where
   pub limits : KeepsSetLimits d
-  pub each : (p : ℕ) (s : Place) (i : ℕ) (t : Transition) → transition_at d p s i ≡ Some t → IsValidTransition d t
+  pub each : (p : ℕ) (s : Place) (i : ℕ) (t : Transition) → transition_at d p s i ≡ Some t
+      → IsValidTransition d t
 
--- what a rule wants of place k of input i at place s of process p; a limit of the whole set is V8 at place 0 of the START of process 0
+-- what a rule wants of place k of input i at place s of process p; a limit of the whole set is V8
+-- at place 0 of the START of process 0
 pub record KeepsAt (d : Draft) (rule : Rule) (p : ℕ) (s : Place) (i k : ℕ) : Type 0 where
   pub whole : rule ≡ Limit → p ≡ 0 → s ≡ Start → i ≡ 0 → k ≡ 0 → KeepsSetLimits d
   pub each : (t : Transition) → transition_at d p s i ≡ Some t → Keeps rule d t k

@@ -1,5 +1,6 @@
 -- Values, their sorts, the arithmetic of Integers, and how two values are compared.
-use Rattle.std.specs.Prelude.{◌≡◌, ℤ, pos, neg_ℤ, ◌+ℤ◌, ◌*ℤ◌, ◌≤ℤ◌, Bool as Truth, true, false, not, ◌&&◌, int_lt, int_le}
+use Rattle.std.specs.Prelude.{◌≡◌, ℤ, pos, neg_ℤ, ◌+ℤ◌, ◌*ℤ◌, ◌≤ℤ◌, Bool as Truth, true, false, not}
+use Rattle.std.specs.Prelude.{◌&&◌, int_lt, int_le}
 use Rattle.std.specs.Ordering.{int_eq}
 use Rattle.std.specs.Int.{int_wrap, w32}
 use Rattle.turn_code.specs.declared.value.Sort.{Sort}
@@ -7,13 +8,16 @@ use Rattle.turn_code.specs.declared.value.Sort.TheVariants.{Integer, Boolean}
 use Rattle.turn_code.specs.declared.value.Value.{Value}
 use Rattle.turn_code.specs.declared.value.Value.TheVariants.{Int, Bool}
 use Rattle.turn_code.specs.declared.instruction.Relation.{Relation}
-use Rattle.turn_code.specs.declared.instruction.Relation.TheVariants.{Equal, NotEqual, Less, LessEqual, Greater, GreaterEqual}
+use Rattle.turn_code.specs.declared.instruction.Relation.TheVariants.{Equal, NotEqual, Less}
+use Rattle.turn_code.specs.declared.instruction.Relation.TheVariants.{LessEqual, Greater}
+use Rattle.turn_code.specs.declared.instruction.Relation.TheVariants.{GreaterEqual}
 
 abbrev pub sort_of : Value → Sort
 sort_of (Int z) = Integer
 sort_of (Bool b) = Boolean
 
--- what is left of a number in an Integer: the number from -2^31 to 2^31 - 1 that differs from it by a multiple of 2^32
+-- what is left of a number in an Integer: the number from -2^31 to 2^31 - 1 that differs from it by
+-- a multiple of 2^32
 abbrev pub wrap : ℤ → ℤ
 wrap z = int_wrap w32 z
 

@@ -2,6 +2,7 @@
 #![tactic(auto)]
 
 mod copy;
+mod division;
 mod draft;
 mod effect;
 mod input;
@@ -19,6 +20,7 @@ mod trouble;
 mod value;
 mod variable_set;
 
+pub use division::Division;
 pub use draft::{
     Cert, Draft, DraftInput, DraftPiece, DraftProcess, DraftRoute, DraftSignal, DraftState,
     DraftVariable, PlaceFacts, Trigger,

@@ -5,11 +5,12 @@ ghost use Rattle.turn_code.specs.Values.{wrap, holds, is_between};
 ghost use Rattle.turn_code.specs.Run.{CountIs, step, act, goes, ends, loaded, stored, given, on_two, on_top, on_integer, on_integers, on_boolean, on_operands, divided, joined, tested, sent, address_of, tick, with_effect};
 ghost use Rattle.turn_code.specs.Machine.{progress_of, after_of, StaysIfStuck, HasRoom, HasRoomFor};
 ghost use Rattle.turn_code.specs.Operation.{meaning_of, truth_of};
-ghost use Rattle.turn_division.specs.Division.{division_of};
+ghost use Rattle.turn_code.specs.Division.{division_of};
 ghost use Rattle.turn_code.specs.declared.value.Value.TheVariants.{Int as IntValue, Bool as BoolValue};
 ghost use Rattle.turn_code.specs.declared.effect.Effect.TheVariants.{Set as SetEffect};
-ghost use Rattle.profile_limits.specs.Limits.{MOST_EFFECTS, MOST_INSTRUCTIONS, MOST_OPERANDS, MOST_PARAMETERS};
+ghost use Rattle.plain_limits.specs.Limits.{MOST_EFFECTS, MOST_INSTRUCTIONS, MOST_OPERANDS, MOST_PARAMETERS};
 
+use crate::division::Division;
 use crate::effect::{Effect, Sending};
 use crate::input::Input;
 use crate::instruction::{Instruction, Receiver, Relation};
@@ -19,7 +20,6 @@ use crate::operation::{Connective, Operation, negated};
 use crate::trouble::Trouble;
 use crate::value::Value;
 use arrayvec::ArrayVec;
-use turn_division::Division;
 
 /// How a transition ends.
 #[derive(Clone, Copy, PartialEq, Eq, Debug)]

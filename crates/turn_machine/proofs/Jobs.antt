@@ -19,7 +19,7 @@ use Rattle.turn_code.specs.declared.draft.DraftSignal.{DraftSignal}
 use Rattle.turn_code.specs.declared.draft.DraftProcess.{DraftProcess}
 use Rattle.turn_code.specs.declared.draft.DraftState.{DraftState}
 use Rattle.turn_code.specs.declared.draft.DraftInput.{DraftInput}
-use Rattle.turn_check.specs.bare_words_types.sorts.Sorts.{Sorts}
+use Rattle.turn_check.specs.turn_words_types.sorts.Sorts.{Sorts}
 use Rattle.turn_check.specs.Sorts.{AreSortsOf}
 use Rattle.turn_check.proofs.Whole.{start_small}
 use Rattle.turn_machine.specs.Turn.{Turn, turn_of, IsRunnableBy}

@@ -1,3 +1,4 @@
-pub mod Worded
-pub mod UnderWay
 pub mod Jobs
+pub mod PartsLemmas
+pub mod UnderWay
+pub mod Worded

@@ -23,13 +23,13 @@ use Rattle.turn_code.proofs.Lists.{zip_length}
 use Rattle.turn_code.proofs.SafeRuns.{code_at, stands_at_start}
 use Rattle.turn_code.proofs.RightEffects.{EffectsAre, act_keeps, adds}
 use Rattle.turn_code.proofs.Ran.{step_count}
-use Rattle.turn_check.specs.bare_words_types.piece.Piece.{Piece}
-use Rattle.turn_check.specs.bare_words_types.sorts.Sorts.{Sorts}
-use Rattle.turn_check.specs.bare_words_types.words.Words.{Words}
-use Rattle.turn_check.specs.bare_words_types.after.After.{After}
-use Rattle.turn_check.specs.bare_words_types.after.Given.{Given}
-use Rattle.turn_check.specs.bare_words_types.after.Given.TheVariants as gives
-use Rattle.turn_check.specs.bare_words_types.after.Next.TheVariants.{Goes, Ends}
+use Rattle.turn_check.specs.turn_words_types.piece.Piece.{Piece}
+use Rattle.turn_check.specs.turn_words_types.sorts.Sorts.{Sorts}
+use Rattle.turn_check.specs.turn_words_types.words.Words.{Words}
+use Rattle.turn_check.specs.turn_words_types.after.After.{After}
+use Rattle.turn_check.specs.turn_words_types.after.Given.{Given}
+use Rattle.turn_check.specs.turn_words_types.after.Given.TheVariants as gives
+use Rattle.turn_check.specs.turn_words_types.after.Next.TheVariants.{Goes, Ends}
 use Rattle.turn_check.specs.Bare.{bare_of}
 use Rattle.turn_check.specs.Meant.{AreWordsOf, IsEffectOf, Grow}
 use Rattle.turn_check.specs.Sorts.{AreSortsOf, IsOfSorts, HasReceiver, sort_bits}

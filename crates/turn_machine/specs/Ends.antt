@@ -9,9 +9,10 @@ use Rattle.turn_code.specs.declared.draft.Draft.{Draft}
 use Rattle.turn_code.specs.declared.machine.End.{End}
 use Rattle.turn_code.specs.declared.machine.Machine.{Machine}
 
--- input i at that place of process p is a transition whose code runs on the input to this end, with the machine as it is then, within its
--- certificate
-pub record EndsSo (d : Draft) (p : ℕ) (s : Place) (i : ℕ) (x : Input) (e : End) (m : Machine) : Type 0 where
+-- input i at that place of process p is a transition whose code runs on the input to this end, with
+-- the machine as it is then, within its certificate
+pub record EndsSo (d : Draft) (p : ℕ) (s : Place) (i : ℕ) (x : Input) (e : End) (m : Machine) :
+    Type 0 where
   pub transition : Transition
   pub there : transition_at d p s i ≡ Some transition
   pub ran : run transition.piece.code x ≡ ended e (progress_of m)

@@ -1,9 +1,10 @@
-pub mod Turn
-pub mod Given
-pub mod Fitting
-pub mod Wording
-pub mod Growing
-pub mod Safety
 pub mod Ends
+pub mod Fitting
+pub mod Given
+pub mod Growing
+pub mod Parts
+pub mod Safety
+pub mod Turn
+pub mod Wording
 pub use Rattle.turn_check.specs.Answered
 pub use Rattle.turn_check.specs.Named

@@ -15,15 +15,16 @@ use Rattle.turn_code.specs.declared.instruction.Instruction.{Instruction}
 use Rattle.turn_code.specs.declared.machine.End.{End}
 use Rattle.turn_code.specs.declared.draft.Cert.{Cert}
 use Rattle.turn_code.specs.declared.draft.Draft.{Draft}
-use Rattle.turn_check.specs.bare_words_types.piece.Piece.{Piece}
-use Rattle.turn_check.specs.bare_words_types.sorts.Sorts.{Sorts}
-use Rattle.turn_check.specs.bare_words_types.words.Words.{Words}
+use Rattle.turn_check.specs.turn_words_types.piece.Piece.{Piece}
+use Rattle.turn_check.specs.turn_words_types.sorts.Sorts.{Sorts}
+use Rattle.turn_check.specs.turn_words_types.words.Words.{Words}
 use Rattle.turn_check.specs.Bare.{bare_of}
 use Rattle.turn_check.specs.Sorts.{AreSortsOf}
 use Rattle.turn_check.specs.Steps.{Stand}
 use Rattle.turn_machine.specs.Wording.{AreVariables}
 
--- the code and its counts are those of a valid transition, the input fits it, the sorts are its own, and its run is safe within its budget
+-- the code and its counts are those of a valid transition, the input fits it, the sorts are its
+-- own, and its run is safe within its budget
 pub record IsSafeWithin (code : List Instruction) (x : Input) (s : Sorts) (c : Cert) : Type 0 where
   pub draft : Draft
   pub transition : Transition
@@ -37,8 +38,10 @@ pub record IsSafeWithin (code : List Instruction) (x : Input) (s : Sorts) (c : C
   pub small : transition.piece.certificate.budget ≤ MOST_INSTRUCTIONS
   pub safe : IsSafe transition x transition.piece.certificate.budget 0 [] (begun x)
 
--- a run that is at place k, which took so many instructions and goes on as the whole does: its words and effects are those of a run on values
-pub record IsUnderWay (p : Piece) (x : Input) (c : Cert) (taken k : ℕ) (w : Words) (es : List Effect) : Type 0 where
+-- a run that is at place k, which took so many instructions and goes on as the whole does: its
+-- words and effects are those of a run on values
+pub record IsUnderWay (p : Piece) (x : Input) (c : Cert) (taken k : ℕ) (w : Words)
+    (es : List Effect) : Type 0 where
   pub draft : Draft
   pub transition : Transition
   pub certificate_is : transition.piece.certificate ≡ c
@@ -57,8 +60,10 @@ pub record IsUnderWay (p : Piece) (x : Input) (c : Cert) (taken k : ℕ) (w : Wo
   pub effects : es ≡ progress.effects
   pub count : taken ≡ progress.count
 
--- a run that has ended so: its effects and its count are those of the run on values, within the certificate, and the words stand for its variables
-pub record HasEnded (p : Piece) (x : Input) (c : Cert) (e : End) (w : Words) (es : List Effect) (n : ℕ) : Type 0 where
+-- a run that has ended so: its effects and its count are those of the run on values, within the
+-- certificate, and the words stand for its variables
+pub record HasEnded (p : Piece) (x : Input) (c : Cert) (e : End) (w : Words) (es : List Effect)
+    (n : ℕ) : Type 0 where
   pub progress : Progress
   pub ran : run p.code.now x ≡ ended e progress
   pub effects : es ≡ progress.effects

@@ -2,7 +2,7 @@
 use Rattle.std.specs.Prelude.{◌≡◌, ℕ, ◌≤◌, List, length, Option, Some}
 use Rattle.turn_check.specs.Limits.{MOST_VARIABLES}
 use Rattle.turn_check.specs.Sorts.{AreSortsOf}
-use Rattle.turn_check.specs.bare_words_types.sorts.Sorts.{Sorts}
+use Rattle.turn_check.specs.turn_words_types.sorts.Sorts.{Sorts}
 use Rattle.turn_code.specs.Run.{run, ended}
 use Rattle.turn_code.specs.Transitions.{Transition, transition_at}
 use Rattle.turn_code.specs.Rules.{KeepsSetLimits}
@@ -19,7 +19,8 @@ use Rattle.turn_code.specs.declared.machine.End.{End}
 use Rattle.turn_code.specs.declared.draft.Cert.{Cert}
 use Rattle.turn_code.specs.declared.draft.Draft.{Draft}
 
--- who runs, which turn of the set this is, the transition with its code and its counts, and the input
+-- who runs, which turn of the set this is, the transition with its code and its counts, and the
+-- input
 pub record Turn : Type 0 where
   pub actor : ℕ
   pub turn : ℕ
@@ -64,13 +65,18 @@ abbrev pub outcome_of : Turn → Option Outcome
 outcome_of j = outcome_in (run j.code j.input)
 
 -- the job is that transition of the draft on that input
-pub record Begins (d : Draft) (actor turn : ℕ) (process : ProcessNumber) (place : Place) (input_number : ℕ) (input : Input) (j : Turn) : Type 0 where
+pub record Begins (d : Draft) (actor turn : ℕ) (process : ProcessNumber) (place : Place)
+    (input_number : ℕ) (input : Input) (j : Turn) : Type 0 where
   pub transition : Transition
   pub there : transition_at d process.0 place input_number ≡ Some transition
-  pub is : j ≡ turn_of actor turn process place input_number transition.piece.code transition.piece.certificate input
+  pub is : j
+      ≡ turn_of actor turn process place input_number transition.piece.code
+      transition.piece.certificate input
 
--- the end, variables, effects and count are those of the run of the turn's own code on its own input, within its certificate
-pub record IsOutcome (j : Turn) (e : End) (vs : List (Option Value)) (es : List Effect) (count : ℕ) : Type 0 where
+-- the end, variables, effects and count are those of the run of the turn's own code on its own
+-- input, within its certificate
+pub record IsOutcome (j : Turn) (e : End) (vs : List (Option Value)) (es : List Effect)
+    (count : ℕ) : Type 0 where
   pub ran : run j.code j.input ≡ ended e (record { variables = vs; effects = es; count = count })
   pub within : count ≤ j.certificate.budget
   pub few : length es ≤ j.certificate.effects

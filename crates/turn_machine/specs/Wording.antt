@@ -1,5 +1,6 @@
 -- Values in words, and words as values.
-use Rattle.std.specs.Prelude.{◌≡◌, ℕ, ◌<◌, ◌≤◌, if◌then◌else◌, List, length, Option, Some, None, slice_get}
+use Rattle.std.specs.Prelude.{◌≡◌, ℕ, ◌<◌, ◌≤◌, if◌then◌else◌, List, length, Option, Some, None}
+use Rattle.std.specs.Prelude.{slice_get}
 use Rattle.std.specs.Int.{bit_at}
 use Rattle.turn_check.specs.Limits.{MOST_VARIABLES}
 use Rattle.turn_code.specs.Values.{sort_of}
@@ -26,7 +27,9 @@ pub record IsKeptTo (old new : Bare) (vs : List (Option Value)) (n : ℕ) : Type
 abbrev pub IsVariable : Bare → ℕ → ℕ → Option Value → Type 0
 IsVariable b bits v None = bit_at b.set v ≡ 0
 IsVariable b bits v (Some x) =
-    (bit_at b.set v ≡ 1) × (slice_get b.variables v ≡ Some (word_of x)) × (bit_at bits v ≡ (if is_boolean (sort_of x) then 1 else 0))
+    (bit_at b.set v ≡ 1) × (slice_get b.variables v ≡ Some (word_of x))
+    × (bit_at bits v ≡ (if is_boolean (sort_of x) then 1 else 0))
 
 abbrev pub AreVariables : Bare → ℕ → List (Option Value) → Type 0
-AreVariables b bits vs = (v : ℕ) (x : Option Value) → slice_get vs v ≡ Some x → IsVariable b bits v x
+AreVariables b bits vs =
+    (v : ℕ) (x : Option Value) → slice_get vs v ≡ Some x → IsVariable b bits v x

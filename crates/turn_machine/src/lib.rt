@@ -8,7 +8,9 @@ mod ending;
 mod execute;
 mod fit;
 mod job;
+mod parts;
 mod received;
+mod same_turn;
 mod values;
 mod wording;
 
@@ -17,4 +19,5 @@ pub use ending::{new_machine, run_in};
 pub use fit::fits;
 pub use job::Job;
 pub use received::Received;
+pub use same_turn::{is_turn, runs_piece};
 pub use turn_check::{After, Given, Next, Piece, Sorts, Words, step_bare, value_of};

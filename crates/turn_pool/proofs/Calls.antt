@@ -1,10 +1,10 @@
 -- What a client's call is answered.
 use Rattle.std.proofs.Common.{◌≡◌, ℕ, sym, ap, ◌∙◌}
-use Rattle.link_machine.specs.Step.{Says}
-use Rattle.link_machine.specs.Kept.{IsKept}
-use Rattle.link_machine.specs.Ledger.{Ledger, ask, next}
-use Rattle.link_machine.specs.declared.event.Event.{Event}
-use Rattle.link_machine.specs.declared.reply.Reply.{Reply}
+use Rattle.actor_machine.specs.Step.{Says}
+use Rattle.actor_machine.specs.Kept.{IsKept}
+use Rattle.actor_machine.specs.Ledger.{Ledger, ask, next}
+use Rattle.actor_machine.specs.declared.event.Event.{Event}
+use Rattle.actor_machine.specs.declared.reply.Reply.{Reply}
 use Rattle.turn_pool.specs.declared.receipt.PoolRefusal.{PoolRefusal}
 use Rattle.turn_pool.specs.declared.receipt.PoolRefusal.TheVariants.{NoLink, Closing, NoMemory, Refused}
 use Rattle.turn_pool.specs.declared.receipt.Receipt.{Receipt}

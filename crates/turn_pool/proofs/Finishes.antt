@@ -1,7 +1,7 @@
 -- What holds of each book, and of one more.
 use Rattle.std.proofs.Common.{List, [], ◌∷◌, ◌++◌, All}
 use Rattle.std.proofs.lemmas.List.Elements.{All-append, All-cons, All-nil}
-use Rattle.link_machine.specs.Ledger.{Ledger}
+use Rattle.actor_machine.specs.Ledger.{Ledger}
 use Rattle.turn_pool.specs.Serves.{CountsFinishes}
 
 pub one_more : (bs : List Ledger) (b : Ledger) → All CountsFinishes bs → CountsFinishes b → All CountsFinishes (bs ++ b ∷ [])

@@ -1,6 +1,6 @@
 pub mod Asks
 pub mod Calls
 pub mod Finishes
+pub mod Naming
 pub mod Standing
 pub mod Turns
-pub mod Naming

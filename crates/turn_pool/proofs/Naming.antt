@@ -4,11 +4,11 @@ use Rattle.std.specs.Prelude.{IsSome, Ok, is_some, option_map, slice_get}
 use Rattle.std.proofs.lemmas.Bool.{false≢true}
 use Rattle.std.proofs.lemmas.Option.{none-some}
 use Rattle.turn_machine.specs.Turn.{Turn}
-use Rattle.link_machine.specs.actor_names_types.name.ActorName.{ActorName}
-use Rattle.link_machine.specs.Core.{names_in}
-use Rattle.link_machine.specs.Ledger.{Ledger, state_of, turn_at, turn_out}
-use Rattle.link_machine.specs.declared.actor.Actor.{Actor}
-use Rattle.link_machine.proofs.FitsLists.{name_there}
+use Rattle.actor_machine.specs.declared.name.ActorName.{ActorName}
+use Rattle.actor_machine.specs.Core.{names_in}
+use Rattle.actor_machine.specs.Ledger.{Ledger, state_of, turn_at, turn_out}
+use Rattle.actor_machine.specs.declared.actor.Actor.{Actor}
+use Rattle.actor_machine.proofs.FitsLists.{name_there}
 use Rattle.actor_book.proofs.Ending.{own_actor}
 use Rattle.turn_pool.specs.Moves.{Moves}
 use Rattle.turn_pool.specs.Turns.{told_of, told, NamesBegun, IsNamed}

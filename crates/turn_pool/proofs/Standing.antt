@@ -1,7 +1,7 @@
 -- What a receipt says, and where its event stands.
 use Rattle.std.proofs.Common.{◌≡◌, ℕ, ◌+◌, Some, sym, ap, ◌∙◌}
-use Rattle.link_machine.specs.Ledger.{Ledger, ask, next, event_at}
-use Rattle.link_machine.specs.declared.event.Event.{Event}
+use Rattle.actor_machine.specs.Ledger.{Ledger, ask, next, event_at}
+use Rattle.actor_machine.specs.declared.event.Event.{Event}
 use Rattle.turn_pool.specs.declared.receipt.Receipt.{Receipt}
 use Rattle.turn_pool.proofs.Asks.{stands}
 

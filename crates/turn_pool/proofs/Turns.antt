@@ -2,8 +2,8 @@
 use Rattle.std.proofs.Common.{◌≡◌, ℕ, ◌<◌, ◌≤◌, nat_lt, Bool, true, false, length, None, refl, arith}
 use Rattle.std.proofs.lemmas.Option.{slice_get_past}
 use borrow.Author.Tests.{ltb-false, ltb-true}
-use Rattle.link_machine.specs.Ledger.{Ledger, state_of}
-use Rattle.link_machine.specs.Refusals.{refuses}
+use Rattle.actor_machine.specs.Ledger.{Ledger, state_of}
+use Rattle.actor_machine.specs.Refusals.{refuses}
 use Rattle.turn_pool.specs.Turns.{move_of}
 
 -- an actor that isn't there does nothing

@@ -1,7 +1,7 @@
 -- The names of what a pool refuses, as they are printed.
 use Rattle.std.specs.Prelude.{ℕ, List, ◌++◌, codes}
 use Rattle.std.specs.Fmt.{decimal}
-use Rattle.link_machine.specs.Printed.{refusal_text}
+use Rattle.actor_machine.specs.Printed.{refusal_text}
 use Rattle.turn_pool.specs.declared.closed.Mismatch.{Mismatch}
 use Rattle.turn_pool.specs.declared.fault.PoolFault.{PoolFault}
 use Rattle.turn_pool.specs.declared.fault.PoolFault.TheVariants.{NoWorkers, NoMemory}

@@ -1,14 +1,15 @@
 -- Receipts, held against the journals.
 use Rattle.std.specs.Prelude.{◌≡◌, ℕ, List, Option, None, Some, slice_get}
-use Rattle.link_machine.specs.Kept.{IsKept}
-use Rattle.link_machine.specs.Ledger.{Ledger, ask, event_at, next, rebased}
-use Rattle.link_machine.specs.Step.{Says}
-use Rattle.link_machine.specs.declared.event.Event.{Event}
-use Rattle.link_machine.specs.declared.reply.Refusal.{Refusal}
-use Rattle.link_machine.specs.declared.reply.Reply.{Reply}
-use Rattle.link_machine.specs.declared.reply.Reply.TheVariants as reply
+use Rattle.actor_machine.specs.Kept.{IsKept}
+use Rattle.actor_machine.specs.Ledger.{Ledger, ask, event_at, next, rebased}
+use Rattle.actor_machine.specs.Step.{Says}
+use Rattle.actor_machine.specs.declared.event.Event.{Event}
+use Rattle.actor_machine.specs.declared.reply.Refusal.{Refusal}
+use Rattle.actor_machine.specs.declared.reply.Reply.{Reply}
+use Rattle.actor_machine.specs.declared.reply.Reply.TheVariants as reply
 use Rattle.turn_pool.specs.declared.receipt.PoolRefusal.{PoolRefusal}
-use Rattle.turn_pool.specs.declared.receipt.PoolRefusal.TheVariants.{NoLink, Closing, NoMemory, Refused}
+use Rattle.turn_pool.specs.declared.receipt.PoolRefusal.TheVariants.{NoLink, Closing, NoMemory}
+use Rattle.turn_pool.specs.declared.receipt.PoolRefusal.TheVariants.{Refused}
 use Rattle.turn_pool.specs.declared.receipt.Receipt.{Receipt}
 
 -- the event at a place of a link's journal
@@ -29,9 +30,11 @@ pub record FailsAt (books : List Ledger) (receipts : List Receipt) (position : �
   pub there : slice_get receipts position ≡ Some receipt
   pub fails : StandsIn books receipt → ⊥
 
--- ---- what a client's call comes to; which book it met no contract can say, but that it is one that is kept as every book is
+-- ---- what a client's call comes to; which book it met no contract can say, but that it is one
+-- that is kept as every book is
 
--- a book takes the event and replies so; the receipt names the link, the place that the event gets in that book, and the event
+-- a book takes the event and replies so; the receipt names the link, the place that the event gets
+-- in that book, and the event
 pub record IsTaken (link : ℕ) (e : Event) (says : Reply) (r : Receipt) : Type 0 where
   pub book : Ledger
   pub kept : IsKept book

@@ -1,20 +1,25 @@
 -- What a pool serves, and what it leaves.
 use Rattle.std.specs.Prelude.{◌≡◌, ◌≤◌, ◌+◌, ℕ, List, length, count_by}
-use Rattle.profile_limits.specs.Limits.{LEAST_WORKERS, MOST_LINKS, MOST_WORKERS}
-use Rattle.link_machine.specs.Kept.{is_finish}
-use Rattle.link_machine.specs.Ledger.{Ledger, state_of}
+use Rattle.plain_limits.specs.Limits.{LEAST_WORKERS, MOST_LINKS, MOST_WORKERS}
+use Rattle.actor_machine.specs.Kept.{is_finish}
+use Rattle.actor_machine.specs.Ledger.{Ledger, state_of}
 use Rattle.turn_pool.specs.declared.fault.PoolFault.{PoolFault}
 use Rattle.turn_pool.specs.declared.fault.PoolFault.TheVariants.{NoWorkers, NoMemory}
 
 -- so many links by so many workers, each in its range
 abbrev pub AreServed : ℕ → ℕ → Type 0
-AreServed links workers = (links ≤ MOST_LINKS) × (LEAST_WORKERS ≤ workers) × (workers ≤ MOST_WORKERS)
+AreServed links workers =
+    (links ≤ MOST_LINKS) × (LEAST_WORKERS ≤ workers) × (workers ≤ MOST_WORKERS)
 
--- no finish stands in the journal that the state doesn't count, and none is counted that doesn't stand there
+-- no finish stands in the journal that the state doesn't count, and none is counted that doesn't
+-- stand there
 abbrev pub CountsFinishes : Ledger → Type 0
 CountsFinishes b = (state_of b).finishes ≡ b.base.finishes + count_by is_finish b.journal
 
--- where nobody is served the books come back: the very ones, or, where no thread could be made, as many
+-- where nobody is served the books come back: the very ones, or, where no thread could be made, as
+-- many
 abbrev pub HandsBack : List Ledger → ℕ → PoolFault → Type 0
 HandsBack links workers (NoMemory books) = (books.items ≡ links) × AreServed (length links) workers
-HandsBack links workers (NoWorkers books) = (length books.items ≡ length links) × ((AreServed (length links) workers → ⊥) → books.items ≡ links)
+HandsBack links workers (NoWorkers books) =
+    (length books.items ≡ length links) × ((AreServed (length links) workers → ⊥)
+    → books.items ≡ links)

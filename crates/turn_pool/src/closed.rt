@@ -1,7 +1,7 @@
 //! What a pool leaves, and receipts held against its journals.
 
 ghost use Rattle.std.specs.Prelude.{◌≡◌, ◌↔◌, IsTrue, Some, IfErr, OnOk, slice_get};
-ghost use Rattle.link_machine.specs.Ledger.{event_at};
+ghost use Rattle.actor_machine.specs.Ledger.{event_at};
 ghost use Rattle.turn_pool.specs.Receipts.{StandsIn, AllStand, FailsAt};
 
 use crate::receipt::Receipt;

@@ -1,8 +1,8 @@
 //! What a pool asks of others.
 
 use crate::pool::Pool;
+use crate::totals::Seat;
 use actor_book::ActorName;
-use event_seats::Seat;
 use std::sync::Wait;
 use std::sync::ledger::Ledger;
 

@@ -1,7 +1,7 @@
 //! Books under locks, and out of them again. Each gets a share of the account that goes as far as its journal can.
 
 ghost use Rattle.std.specs.Prelude.{◌≡◌, ◌≤◌, ◌<◌, ◌+◌, ◌*◌, ◌^◌, [], All, sum_by, vec_len, vec_capacity};
-ghost use Rattle.link_machine.specs.Ledger.{next};
+ghost use Rattle.actor_machine.specs.Ledger.{next};
 ghost use Rattle.turn_pool.specs.Serves.{CountsFinishes};
 
 use crate::slot::Slot;

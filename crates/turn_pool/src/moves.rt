@@ -1,12 +1,12 @@
 //! A worker's step.
 
 ghost use Rattle.std.specs.Prelude.{◌≡◌, ◌+◌};
-ghost use Rattle.link_machine.specs.Ledger.{next};
+ghost use Rattle.actor_machine.specs.Ledger.{next};
 ghost use Rattle.turn_pool.specs.Moves.{Moves};
 
 use crate::slot::Slot;
+use crate::totals::{Counts, Seat};
 use actor_book::{Refusal, Report};
-use event_seats::{Counts, Seat};
 use std::sync::ledger::Ledger;
 use turn_code::Trigger;
 use turn_machine::{Done, Job};

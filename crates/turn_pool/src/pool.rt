@@ -1,15 +1,15 @@
 //! Books that threads share.
 
 ghost use Rattle.std.specs.Prelude.{◌≡◌, ◌+◌, ◌↔◌, ◌≤◌, vec_len, Err, IfOk, IfErr, OnOk, OnErr};
-ghost use Rattle.link_machine.specs.declared.event.Event.TheVariants.{Offer as Offered, Advance, TakeEnv};
-ghost use Rattle.link_machine.specs.declared.reply.Reply.TheVariants as reply;
+ghost use Rattle.actor_machine.specs.declared.event.Event.TheVariants.{Offer as Offered, Advance, TakeEnv};
+ghost use Rattle.actor_machine.specs.declared.reply.Reply.TheVariants as reply;
 ghost use Rattle.turn_pool.specs.Receipts.{IsOwn, IsTaken, IsRefusal, IsRebased, IsRebaseRefusal};
 ghost use Rattle.turn_pool.specs.declared.receipt.PoolRefusal.TheVariants.{NoLink};
 
 use crate::receipt::{PoolRefusal, Receipt};
 use crate::slot::Slot;
+use crate::totals::{Seat, Shared, Totals};
 use actor_book::Emitted;
-use event_seats::{Seat, Shared, Totals};
 use std::sync::atomic::{AtomicBool, Ordering};
 use std::sync::ledger::Ledger;
 use std::sync::{Mutex, Wait};

@@ -3,8 +3,8 @@
 ghost use Rattle.std.specs.Prelude.{◌≡◌, ◌≤◌, ◌<◌, ◌+◌, [], IfOk, vec_len, vec_capacity};
 
 use crate::slot::Slot;
+use crate::totals::Seat;
 use actor_book::Book;
-use event_seats::Seat;
 use std::alloc::{AllocError, Global};
 use std::sync::Mutex;
 use std::sync::ledger::Ledger;

@@ -1,7 +1,7 @@
 //! Serving: threads work on the books of links while a client uses them.
 
 ghost use Rattle.std.specs.Prelude.{◌≡◌, ◌+◌, All, Err, IsOk, IfOk, IfErr, sum, sum_by, vec_len};
-ghost use Rattle.link_machine.specs.Ledger.{next};
+ghost use Rattle.actor_machine.specs.Ledger.{next};
 ghost use Rattle.turn_pool.specs.Serves.{AreServed, CountsFinishes, HandsBack};
 ghost use Rattle.turn_pool.specs.declared.fault.PoolFault.TheVariants.{NoWorkers};
 
@@ -12,8 +12,8 @@ use crate::links::{put_all_away, take_all_out};
 use crate::pool::Pool;
 use crate::room::Room;
 use crate::shift::{Ended, Shift, drive};
+use crate::totals::Totals;
 use actor_book::Book;
-use event_seats::Totals;
 use std::alloc::Global;
 use std::marker::Brand;
 use std::sync::atomic::AtomicBool;

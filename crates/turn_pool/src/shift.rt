@@ -4,8 +4,9 @@ ghost use Rattle.std.specs.Prelude.{◌≡◌, ◌≤◌, ◌<◌, ◌+◌, [], 
 
 use crate::gate::{Client, Gate};
 use crate::pool::Pool;
+use crate::seats::{dismiss, leave_seat, take_seat};
+use crate::totals::Seat;
 use crate::worker::worker;
-use event_seats::{Seat, dismiss, leave_seat, take_seat};
 use std::sync::Wait;
 use std::sync::atomic::{AtomicUsize, Ordering};
 use std::sync::ledger::{Ledger, Share};

@@ -1,18 +1,18 @@
 //! A link's book with its share of the account.
 
 ghost use Rattle.std.specs.Prelude.{◌≡◌, ◌≤◌, ◌<◌, ◌+◌, ◌^◌, ◌++◌, ◌∷◌, [], List, Option, Some, None, IfOk, IfErr, OnOk, OnErr};
-ghost use Rattle.link_machine.specs.Kept.{IsKept};
-ghost use Rattle.link_machine.specs.Ledger.{ask, event_at, next, rebased, turn_out};
-ghost use Rattle.link_machine.specs.declared.event.Event.{Event as PlainEvent};
-ghost use Rattle.link_machine.specs.declared.event.Event.TheVariants.{Offer as Offered, Advance, TakeEnv};
-ghost use Rattle.link_machine.specs.declared.reply.Reply.TheVariants as reply;
+ghost use Rattle.actor_machine.specs.Kept.{IsKept};
+ghost use Rattle.actor_machine.specs.Ledger.{ask, event_at, next, rebased, turn_out};
+ghost use Rattle.actor_machine.specs.declared.event.Event.{Event as PlainEvent};
+ghost use Rattle.actor_machine.specs.declared.event.Event.TheVariants.{Offer as Offered, Advance, TakeEnv};
+ghost use Rattle.actor_machine.specs.declared.reply.Reply.TheVariants as reply;
 ghost use Rattle.actor_book.specs.Answered.{answer_by};
 ghost use Rattle.turn_pool.specs.Moves.{Begins, Skips, Finishes};
 
 use crate::receipt::Receipt;
+use crate::totals::{Counts, Seat};
 use actor_book::{Book, Emitted, Event, Refusal, Report};
-use event_seats::{Counts, Seat};
-use link_machine::laws::place_law;
+use actor_machine::laws::place_law;
 use std::alloc::AllocError;
 use std::marker::Model;
 use std::sync::ledger::{Ledger, Share};
@@ -29,7 +29,7 @@ pub struct Slot<L: Ledger> {
 
 impl<L: Ledger> Model for Slot<L> {
     ghost use Rattle.std.specs.Prelude.{◌≡◌, ◌+◌, ◌^◌};
-    ghost use Rattle.link_machine.specs.Ledger.{next};
+    ghost use Rattle.actor_machine.specs.Ledger.{next};
     ghost use Rattle.std.specs.Coded.{codes};
     ghost use Rattle.tick_wheel.specs.Timers.{timers_code};
     ghost use Rattle.turn_pool.specs.Links.{Link};

@@ -1,9 +1,14 @@
 -- What each rule wants of an instruction and its facts, and of a transition as it begins.
-use Rattle.std.specs.Prelude.{◌≡◌, ℕ, ◌+◌, ◌<◌, ◌≤◌, ◌≤ℤ◌, pos, [], List, length, All, Contains, Some, None, slice_get}
+use Rattle.std.specs.Prelude.{◌≡◌, ℕ, ◌+◌, ◌<◌, ◌≤◌, ◌≤ℤ◌, pos, [], List, length, All, Contains}
+use Rattle.std.specs.Prelude.{Some, None, slice_get}
 use Rattle.turn_code.specs.Sets.{Has, IsWithin}
-use Rattle.turn_code.specs.Code.{takes, shape_after, shape_left, reads, sets, set_after, parameters_in, timers_in, divisors_in, states_in, jumps, behind, successors, effects_of}
+use Rattle.turn_code.specs.Code.{takes, shape_after, shape_left, reads, sets, set_after}
+use Rattle.turn_code.specs.Code.{parameters_in, timers_in, divisors_in, states_in, jumps, behind}
+use Rattle.turn_code.specs.Code.{successors, effects_of}
 use Rattle.turn_code.specs.Transitions.{Transition}
-use Rattle.turn_code.specs.Rules.{AtEach, Agree, StartsRight, HasTrigger, HasSaves, KeepsOutput, KeepsProcessLimits, KeepsPieceLimits, KeepsCertificate, greatest, counts_at, effects_at}
+use Rattle.turn_code.specs.Rules.{AtEach, Agree, StartsRight, HasTrigger, HasSaves, KeepsOutput}
+use Rattle.turn_code.specs.Rules.{KeepsProcessLimits, KeepsPieceLimits, KeepsCertificate, greatest}
+use Rattle.turn_code.specs.Rules.{counts_at, effects_at}
 use Rattle.turn_code.specs.declared.value.Sort.{Sort as SortOf}
 use Rattle.turn_code.specs.declared.instruction.Instruction.{Instruction}
 use Rattle.turn_code.specs.declared.draft.Draft.{Draft}
@@ -13,16 +18,22 @@ use Rattle.turn_code.specs.declared.draft.DraftPiece.{DraftPiece}
 use Rattle.turn_code.specs.declared.draft.PlaceFacts.{PlaceFacts}
 use Rattle.turn_code.specs.declared.variable_set.VariableSet.{VariableSet}
 use Rattle.turn_code.specs.declared.rule.Rule.{Rule}
-use Rattle.turn_code.specs.declared.rule.Rule.TheVariants.{Jump, Shape, Under, Sort, Unset, State, Number, Limit, Budget}
+use Rattle.turn_code.specs.declared.rule.Rule.TheVariants.{Jump, Shape, Under, Sort, Unset, State}
+use Rattle.turn_code.specs.declared.rule.Rule.TheVariants.{Number, Limit, Budget}
 
 pub record SetsPart (t : Transition) (k : ℕ) (i : Instruction) (f : PlaceFacts) : Type 0 where
   pub reads_set : All (Has f.set) (reads i)
   pub each : AtEach t.piece (successors i k) (λ g. IsWithin g.set (set_after i f.set))
-  pub states : (q : ℕ) (s : DraftState) → Contains (states_in i) q → slice_get t.process.states q ≡ Some s → IsWithin s.set (set_after i f.set)
+  pub states :
+      (q : ℕ) (s : DraftState) → Contains (states_in i) q → slice_get t.process.states q ≡ Some s
+      → IsWithin s.set (set_after i f.set)
 
--- the places behind an instruction, and those where it jumps to, have the shapes that are left there
-pub record ShapesPart (ss : List DraftSignal) (t : Transition) (k : ℕ) (i : Instruction) (shape : List SortOf) : Type 0 where
-  pub each : AtEach t.piece (behind i k) (λ g. g.shape ≡ shape_after ss t.process.variables t.parameters i shape)
+-- the places behind an instruction, and those where it jumps to, have the shapes that are left
+-- there
+pub record ShapesPart (ss : List DraftSignal) (t : Transition) (k : ℕ) (i : Instruction)
+    (shape : List SortOf) : Type 0 where
+  pub each : AtEach t.piece (behind i k) (λ g. g.shape
+      ≡ shape_after ss t.process.variables t.parameters i shape)
   pub jumped : AtEach t.piece (jumps i) (λ g. g.shape ≡ shape_left ss t.process.variables i shape)
 
 pub record NumbersPart (d : Draft) (t : Transition) (i : Instruction) : Type 0 where
@@ -49,7 +60,8 @@ Part Number d t k i f = NumbersPart d t i
 Part Limit d t k i f = Unit {0}
 Part Budget d t k i f = CountsPart t k i f
 
-pub record AllParts (d : Draft) (t : Transition) (k : ℕ) (i : Instruction) (f : PlaceFacts) : Type 0 where
+pub record AllParts (d : Draft) (t : Transition) (k : ℕ) (i : Instruction) (f : PlaceFacts) :
+    Type 0 where
   pub jump : Part Jump d t k i f
   pub shape : Part Shape d t k i f
   pub under : Part Under d t k i f
@@ -93,7 +105,8 @@ pub record AllEntries (d : Draft) (t : Transition) : Type 0 where
   pub limit : Entry Limit d t
   pub budget : Entry Budget d t
 
--- what a rule wants of the places where the code goes on, in a draft with these signals; other rules want nothing of them
+-- what a rule wants of the places where the code goes on, in a draft with these signals; other
+-- rules want nothing of them
 abbrev pub NextPart : Rule → List DraftSignal → Transition → ℕ → Instruction → PlaceFacts → Type 0
 NextPart Jump ss t k i f = All (λ j. j < length t.piece.code) (successors i k)
 NextPart Shape ss t k i f = ShapesPart ss t k i f.shape
@@ -101,17 +114,22 @@ NextPart Unset ss t k i f = SetsPart t k i f
 NextPart Budget ss t k i f = CountsPart t k i f
 NextPart _ ss t k i f = Unit {0}
 
-pub record AllNexts (ss : List DraftSignal) (t : Transition) (k : ℕ) (i : Instruction) (f : PlaceFacts) : Type 0 where
+pub record AllNexts (ss : List DraftSignal) (t : Transition) (k : ℕ) (i : Instruction)
+    (f : PlaceFacts) : Type 0 where
   pub jump : NextPart Jump ss t k i f
   pub shape : NextPart Shape ss t k i f
   pub unset : NextPart Unset ss t k i f
   pub budget : NextPart Budget ss t k i f
 
 -- the rule of sets, where the code goes on at the places js
-pub record SetsHold (t : Transition) (js : List ℕ) (i : Instruction) (s : VariableSet) : Type 0 where
+pub record SetsHold (t : Transition) (js : List ℕ) (i : Instruction) (s : VariableSet) :
+    Type 0 where
   pub reads_set : All (Has s) (reads i)
-  pub each : (j : ℕ) (g : PlaceFacts) → Contains js j → slice_get t.piece.facts j ≡ Some g → IsWithin g.set (set_after i s)
-  pub states : (q : ℕ) (st : DraftState) → Contains (states_in i) q → slice_get t.process.states q ≡ Some st → IsWithin st.set (set_after i s)
+  pub each : (j : ℕ) (g : PlaceFacts) → Contains js j → slice_get t.piece.facts j ≡ Some g
+      → IsWithin g.set (set_after i s)
+  pub states :
+      (q : ℕ) (st : DraftState) → Contains (states_in i) q → slice_get t.process.states q ≡ Some st
+      → IsWithin st.set (set_after i s)
 
 -- the entries that speak of the first place and of the certificate
 pub record FirstPlace (t : Transition) : Type 0 where
@@ -122,4 +140,5 @@ pub record FirstPlace (t : Transition) : Type 0 where
 
 -- what the rules want of the instruction at place k, if there is one with facts
 pub record HasParts (d : Draft) (t : Transition) (k : ℕ) : Type 0 where
-  pub each : (i : Instruction) (f : PlaceFacts) → slice_get t.piece.code k ≡ Some i → slice_get t.piece.facts k ≡ Some f → AllParts d t k i f
+  pub each : (i : Instruction) (f : PlaceFacts) → slice_get t.piece.code k ≡ Some i
+      → slice_get t.piece.facts k ≡ Some f → AllParts d t k i f

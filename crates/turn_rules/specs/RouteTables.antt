@@ -1,7 +1,8 @@
 -- What the table of the routes of a draft keeps.
-use Rattle.std.specs.Prelude.{◌≡◌, ℕ, ◌<◌, Bool, false, eqb, ◌&&◌, List, [], map, Contains, slice_index_or}
+use Rattle.std.specs.Prelude.{◌≡◌, ℕ, ◌<◌, Bool, false, eqb, ◌&&◌, List, [], map, Contains}
+use Rattle.std.specs.Prelude.{slice_index_or}
 use Rattle.std.specs.List.{list_any}
-use Rattle.profile_limits.specs.Limits.{MOST_PROCESSES}
+use Rattle.plain_limits.specs.Limits.{MOST_PROCESSES}
 use Rattle.turn_code.specs.declared.input.Party.{Party}
 use Rattle.turn_code.specs.declared.input.Party.TheVariants.{Environment, Process}
 use Rattle.turn_code.specs.declared.numbers.SignalNumber.{SignalNumber}
@@ -44,8 +45,12 @@ is_brought p n b m = is_process p m.to && (eqb m.signal.0 n && eqb (seat m.from)
 
 -- for as many processes as a set may have the table has these, and nothing else
 pub record Tells (t : RouteTable) (ms : List Mention) : Type 0 where
-  pub receivers : (p n b : ℕ) → p < MOST_PROCESSES → holds (listed t.receivers p n) b ≡ list_any (is_sent p n b) ms
-  pub senders : (p n b : ℕ) → p < MOST_PROCESSES → holds (listed t.senders p n) b ≡ list_any (is_brought p n b) ms
+  pub receivers :
+      (p n b : ℕ) → p < MOST_PROCESSES
+      → holds (listed t.receivers p n) b ≡ list_any (is_sent p n b) ms
+  pub senders :
+      (p n b : ℕ) → p < MOST_PROCESSES
+      → holds (listed t.senders p n) b ≡ list_any (is_brought p n b) ms
 
 -- the path brings signal n to process p, from a party with that bit
 pub record ComesFrom (b p : ℕ) (n : SignalNumber) (r : DraftRoute) : Type 0 where

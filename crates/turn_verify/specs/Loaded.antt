@@ -1,5 +1,6 @@
 -- What loading a text gives: the set of its block, or the refusal of the first layer that refuses.
-use Rattle.std.specs.Prelude.{◌≡◌, ℕ, ◌+◌, ◌-◌, ◌==◌, ◌≤◌, List, length, take, count_by, min, Option, None, Some, option_map, slice_get, Result, Ok, Err}
+use Rattle.std.specs.Prelude.{◌≡◌, ℕ, ◌+◌, ◌-◌, ◌==◌, ◌≤◌, List, length, take, count_by, min}
+use Rattle.std.specs.Prelude.{Option, None, Some, option_map, slice_get, Result, Ok, Err}
 use Rattle.std.specs.Option.{option_map_or}
 use Rattle.sdl_lex.specs.Lexed.{Answers, place_of}
 use Rattle.sdl_lex.specs.declared.lexemes.Token.{Token}
@@ -41,8 +42,8 @@ pub record IsSound (text : List ℕ) : Type 0 where
   pub block : PlainBlock
   pub is_so : IsSoundText text tokens block
 
--- The text is sound, and the set is that of its block: names and numbers in the order of the text, each run on an input
--- that fits what its transition means, each certificate the longest path.
+-- The text is sound, and the set is that of its block: names and numbers in the order of the text,
+-- each run on an input that fits what its transition means, each certificate the longest path.
 pub record IsLoaded (text : List ℕ) (d : Draft) : Type 0 where
   pub tokens : List Token
   pub block : PlainBlock
@@ -64,20 +65,23 @@ Gives (Err NoMemory) P = Unit {0}
 abbrev pub line_at : List ℕ → ℕ → ℕ
 line_at text place = count_by (λ b. b == 10) (take place text) + 1
 
--- the place of the token with an index, of the last one where they end before it, 0 where there is none
+-- the place of the token with an index, of the last one where they end before it, 0 where there is
+-- none
 abbrev pub token_place : List Token → ℕ → ℕ
-token_place tokens index = option_map_or (λ (t : Token). t.start) (slice_get tokens (min index (length tokens - 1))) 0
+token_place tokens index =
+    option_map_or (λ (t : Token). t.start) (slice_get tokens (min index (length tokens - 1))) 0
 
 -- the text has no tokens, for this fault in this line
 pub record IsUnlexed (text : List ℕ) (fault : LexFault) (line : ℕ) : Type 0 where
   pub answers : Answers text (Err fault)
   pub there : line ≡ line_at text (place_of fault)
 
--- The tokens read as no block, or as one that is too high. What is named is what the reading settles: the first token at which
--- it stops, or the first statement that is too high.
+-- The tokens read as no block, or as one that is too high. What is named is what the reading
+-- settles: the first token at which it stops, or the first statement that is too high.
 abbrev pub IsUnread : List ℕ → List Token → ParseFault → ℕ → Type 0
 IsUnread text tokens (parsing.Unexpected index) line =
-    refusals.Refuses tokens (parsing.Unexpected index) × Settled tokens (Err (parsing.Unexpected index)) ×
+    refusals.Refuses tokens (parsing.Unexpected index)
+    × Settled tokens (Err (parsing.Unexpected index)) ×
     (line ≡ line_at text (token_place tokens index))
 IsUnread text tokens (parsing.TooDeep place) line =
     refusals.Refuses tokens (parsing.TooDeep place) × (line ≡ line_at text place)
@@ -99,7 +103,8 @@ rule_place (rules.Unset variable path) = None
 rule_place rules.NoMemory = None
 
 -- the block breaks this rule, and none with a lesser number
-pub record IsUnsound (text : List ℕ) (b : PlainBlock) (fault : RuleFault) (line : Option ℕ) : Type 0 where
+pub record IsUnsound (text : List ℕ) (b : PlainBlock) (fault : RuleFault) (line : Option ℕ) :
+    Type 0 where
   pub refuses : Refuses b fault
   pub named : fault ≡ rules.NoMemory → ⊥
   pub there : line ≡ option_map (line_at text) (rule_place fault)
@@ -107,7 +112,8 @@ pub record IsUnsound (text : List ℕ) (b : PlainBlock) (fault : RuleFault) (lin
 -- what a refusal says of the text; want of memory says nothing
 abbrev pub IsRefused : List ℕ → LoadFault → Type 0
 IsRefused text (Lex fault line) = IsUnlexed text fault line
-IsRefused text (Parse fault line) = (tokens : List Token) × Answers text (Ok tokens) × IsUnread text tokens fault line
+IsRefused text (Parse fault line) =
+    (tokens : List Token) × Answers text (Ok tokens) × IsUnread text tokens fault line
 IsRefused text (Rule fault line) =
     (tokens : List Token) × (b : PlainBlock) × IsRead text tokens b × IsUnsound text b fault line
 IsRefused text NoMemory = Unit {0}

@@ -100,7 +100,7 @@ impl fmt::Display for LoadFault {
 /// # Errors
 ///
 /// The fault of the first layer that has one; of several broken rules the one with the least
-/// number. [`LoadFault::NoMemory`] may stand in place of any answer.
+/// number. Any call may answer [`LoadFault::NoMemory`] instead.
 pub fn load(alloc: Global, text: &str) -> Result<Verified, LoadFault>
     // what is given is the set of the text, which is sound
     ensures accepted { IfOk result (λ v. IsLoaded text.now v) }

@@ -9,7 +9,7 @@ macro_rules! declarations {
    A tick is a millisecond. Kinds of units: 0 SIO, 1 SIN, 2 SIE, 3 SIOS, 4 SIPO, 5 SIB, 8 FISU, 9 MSU. */
 BLOCK Standard;
 
-/* from the environment */
+/* from the environment; Errored: a signal unit with errors, or N = 16 octets without one */
 SIGNAL PowerOn, StartLink, StopLink, Emergency, Calm, LocalOut, LocalBack;
 SIGNAL Unit(Integer), Bad, Errored, Good, MsuSent, AckSeen(Boolean), Busy, Free;
 /* from link state control */

@@ -4,7 +4,7 @@
 macro_rules! error_rate_monitors {
     ([$($before:literal)*] $next:ident $($rest:ident)*) => {
         $next!([$($before)*
-"/* The alignment error rate monitor: ti errors in one proving period break it off. */
+"/* The alignment error rate monitor: ti errors (Tin, or Tie in an emergency) abort a proving period. */
 PROCESS AERM (1, 1);
 DCL ti, n Integer := 0;
 START;
@@ -31,7 +31,7 @@ INPUT AeStop;
 ENDSTATE Watching;
 ENDPROCESS AERM;
 
-/* The signal unit error rate monitor: a leaky bucket c, which an error fills and each 256th unit empties by one; at 64 the link fails. */
+/* The signal unit error rate monitor: a leaky bucket c, which an error fills and each 256th unit (D) empties by one; at 64 (T) the link fails. */
 PROCESS SUERM (1, 1);
 DCL c, n Integer := 0;
 START;

@@ -4,8 +4,8 @@
 macro_rules! initial_alignment_control {
     ([$($before:literal)*] $next:ident $($rest:ident)*) => {
         $next!([$($before)*
-"/* Initial alignment control. em: the emergency is on here; short: the emergency proving period is the one; more: another period is
-   to follow; cp: periods that were broken off. */
+"/* Initial alignment control. em: the emergency is on here; short: the proving period is Pe, the emergency one, else Pn; more: another
+   period is to follow; cp: aborted periods, of which M = 5 end the alignment. */
 PROCESS IAC (1, 1);
 DCL em, short, more Boolean := FALSE, cp, k Integer := 0;
 TIMER T2, T3, T4;
@@ -142,7 +142,7 @@ CONNECTION prove:
   JOIN period;
 ENDCONNECTION prove;
 
-/* a proving period begins */
+/* a proving period begins: by Tie = 1 and Pe in an emergency, else by Tin = 4 and Pn */
 CONNECTION period:
   TASK more := FALSE;
   DECISION short;

@@ -9,7 +9,7 @@ use crate::rounds::rows::{ROWS, Row};
 use crate::rounds::sets::{Set, load_set};
 use crate::rounds::straight::run_straight;
 use crate::rounds::turns::By;
-use standard_link::Verified;
+use link_standard::Verified;
 use std::alloc::Global;
 use std::rt::{Clock, Runtime};
 use std::sync::Wait;

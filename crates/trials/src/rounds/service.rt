@@ -3,7 +3,7 @@
 use crate::calls::{Stopped, hear, next_report, pass, put, speak, take, tell, terminal};
 use crate::rounds::traffic::{Traffic, WINDOW, head, message};
 use bit_line::Stuffer;
-use standard_link::{Command, Mode, Report, Terminal};
+use link_standard::{Command, Mode, Report, Terminal};
 use std::alloc::Global;
 use su_octets::Unit;
 

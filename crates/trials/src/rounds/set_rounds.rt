@@ -3,11 +3,11 @@
 use crate::calls::Stopped;
 use crate::rounds::clock::{now, since};
 use crate::sets::{standard_set, why_stopped};
-use group_trials::FullSet;
-use standard_link::Verified;
+use link_standard::Verified;
 use std::alloc::Global;
 use std::rt::Clock;
 use std::time::Duration;
+use trials_groups::FullSet;
 
 /// What a round has, and how long it took.
 #[derive(Clone, Copy)]

@@ -1,7 +1,7 @@
 //! The sets whose turns are measured.
 
 use crate::calls::Stopped;
-use standard_link::{LoadFault, Verified, load, standard};
+use link_standard::{LoadFault, Verified, load, standard};
 use std::alloc::{AllocError, Global};
 
 /// The text of the counter.

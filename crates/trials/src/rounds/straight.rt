@@ -7,7 +7,7 @@ use crate::calls::Stopped;
 use crate::rounds::books::{Measured, RUNS};
 use crate::rounds::clock::{now, since};
 use arrayvec::ArrayVec;
-use standard_link::Verified;
+use link_standard::Verified;
 use std::rt::Clock;
 use turn_code::{Address, Input, Party, Place, ProcessNumber, StateNumber, Value};
 use turn_machine::{Received, fits, new_machine, run_in};

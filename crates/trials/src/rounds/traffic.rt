@@ -3,7 +3,7 @@ ghost use Rattle.std.specs.Prelude.{◌≡◌, ◌≤◌, length};
 
 use crate::message::message_of;
 use bit_line::Stuffer;
-use standard_link::Msu;
+use link_standard::Msu;
 use std::alloc::{AllocError, Global};
 use su_octets::{Head, Unit};
 

@@ -1,8 +1,7 @@
 //! Turns of a book's actors, by jobs or by the book itself.
 
 use crate::rounds::client::{START, STOP};
-use actor_book::{Book, Refusal};
-use book_rest::{REST, rest};
+use actor_book::{Book, REST, Refusal, rest};
 use turn_code::SignalNumber;
 use turn_machine::run;
 

@@ -5,7 +5,7 @@ use crate::rounds::clock::{now, rate, since};
 use std::alloc::{AllocError, Global};
 use std::rt::Clock;
 use tick_wheel::{Timer, Wheel};
-use wheel_trials::Table;
+use trials_wheels::Table;
 
 /// How many timers are set, one case after another.
 const COUNTS: [u16; 3] = [8, 64, 1024];

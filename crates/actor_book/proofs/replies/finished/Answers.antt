@@ -1,7 +1,7 @@
 use Rattle.std.proofs.Common.{ap, sym, ◌∙◌, ℕ}
-use Rattle.link_machine.specs.Ledger.{ask}
-use Rattle.link_machine.specs.declared.event.Event.TheVariants.{Finish}
-use Rattle.link_machine.specs.declared.reply.Refusal.TheVariants.{Stranger}
+use Rattle.actor_machine.specs.Ledger.{ask}
+use Rattle.actor_machine.specs.declared.event.Event.TheVariants.{Finish}
+use Rattle.actor_machine.specs.declared.reply.Refusal.TheVariants.{Stranger}
 use Rattle.actor_book.proofs.Ending.{own_actor, still_own, no_turn}
 use Rattle.actor_book.proofs.Taking.{stays, says}
 use Rattle.actor_book.proofs.replies.finished.Goals as goal

@@ -1,4 +1,4 @@
-use Rattle.text_check.proofs.Prints.{refusal_printed}
+use Rattle.script_check.proofs.Prints.{refusal_printed}
 use Rattle.line_play.proofs.NoSets.{no_name, no_text}
 use Rattle.line_play.proofs.opening.new_terminal.Goals as goal
 

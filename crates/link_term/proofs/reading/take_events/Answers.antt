@@ -3,5 +3,5 @@ use Rattle.link_term.proofs.reading.take_events.Goals as goal
 
 pub returns : goal.returns
 returns c =
-    c.loop-event.invariant.taken c.loop-event.heart
-    (all_taken c.args.events.now c.loop-event.event-index c.loop-event.heart c.loop-event-test.false)
+    c.loop-event.invariant.taken c.loop-event.processes
+    (all_taken c.args.events.now c.loop-event.event-index c.loop-event.processes c.loop-event-test.false)

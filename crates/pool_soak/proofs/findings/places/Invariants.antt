@@ -1,5 +1,5 @@
 use Rattle.std.proofs.Common.{◌≡◌, ◌≤◌, ◌*◌, sum_by, take}
-use Rattle.link_machine.specs.Ledger.{next}
+use Rattle.actor_machine.specs.Ledger.{next}
 use Rattle.pool_soak.proofs.findings.places.Given as goal
 
 abbrev pub invariant-loop-book : goal.invariant-loop-book

@@ -1,6 +1,6 @@
 use Rattle.std.proofs.Common.{◌+◌, ◌==◌, ◌∙◌, Err, ap, sym, take}
 use Rattle.std.specs.Prelude.{count_by}
-use Rattle.text_reader.specs.Reading.{LONGEST}
+use Rattle.plain_text.specs.Reading.{LONGEST}
 use Rattle.pool_soak.proofs.Loops.{long}
 use Rattle.pool_soak.proofs.script.soak_script.Goals as goal
 

@@ -1,7 +1,7 @@
 use Rattle.std.proofs.Common.{◌≡◌, ◌∙◌, Ok, inl, inr, ap, sym, subst}
 use Rattle.std.specs.Prelude.{IsUtf8}
 use Rattle.pool_soak.specs.Scripts.{soak_of, plain_soak, IsFaultOf}
-use Rattle.text_check.proofs.Long.{all_kept}
+use Rattle.script_check.proofs.Long.{all_kept}
 use Rattle.pool_soak.proofs.Texts.{too_long, turned, bad_line, is_not}
 use Rattle.pool_soak.proofs.soaking.soak_text.Goals as goal
 use Rattle.plain_laws.proofs.Numbers.{not_refused}

@@ -1,6 +1,6 @@
 use Rattle.std.proofs.Common.{◌+◌, ◌==◌, ◌∙◌, Err, ap, sym, take}
 use Rattle.std.specs.Prelude.{count_by}
-use Rattle.text_reader.specs.Reading.{LONGEST}
+use Rattle.plain_text.specs.Reading.{LONGEST}
 use Rattle.std.proofs.lemmas.Result.{IfOk-weaker}
 use Rattle.script_lines.specs.Scripts.{plain_script}
 use Rattle.script_lines.proofs.Loops.{long}

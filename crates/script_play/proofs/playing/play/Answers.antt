@@ -1,7 +1,7 @@
 use Rattle.script_play.specs.Played.{set_refused, script_refused}
 use Rattle.script_play.proofs.Texts.{not_held, not_missed}
 use Rattle.script_play.proofs.playing.play.Goals as goal
-use Rattle.text_check.proofs.Prints.{refusal_printed}
+use Rattle.script_check.proofs.Prints.{refusal_printed}
 
 pub returns-in-Ok-read-clause-held : goal.returns-in-Ok-read-clause-held
 returns-in-Ok-read-clause-held g c zero = record {

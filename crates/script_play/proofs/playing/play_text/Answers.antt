@@ -1,12 +1,12 @@
 use Rattle.std.proofs.Common.{◌≡◌, ◌∙◌, ◌+◌, ◌==◌, List, ℕ, ap, sym, subst, rules}
 use Rattle.std.specs.Prelude.{IsTrue, IsUtf8, count_by, take}
-use Rattle.text_reader.specs.Reading.{LONGEST}
-use Rattle.group_lines.specs.GroupScripts.{plain_play_script, play_script_of}
+use Rattle.plain_text.specs.Reading.{LONGEST}
+use Rattle.script_links.specs.GroupScripts.{plain_play_script, play_script_of}
 use Rattle.script_play.specs.Played.{no_text, bad_line, no_script, no_terminal}
 use Rattle.script_play.proofs.Refusals.{too_long, no_script_in}
 use Rattle.script_play.proofs.Texts.{not_held, not_missed}
 use Rattle.script_play.proofs.playing.play_text.Goals as goal
-use Rattle.text_check.proofs.Long.{all_kept}
+use Rattle.script_check.proofs.Long.{all_kept}
 
 pub returns-then-not-read-clause-held : goal.returns-then-not-read-clause-held
 returns-then-not-read-clause-held g c zero bytes keeps = absurd (not_held _ c.refuse.ensures.status zero)

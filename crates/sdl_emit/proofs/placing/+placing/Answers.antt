@@ -4,7 +4,7 @@ use Rattle.sdl_ast.specs.declared.tree.Decision.{out-Decision}
 use Rattle.sdl_ast.specs.Views.{end_text, else_choice, statements_before, answers_before}
 use Rattle.sdl_ast.proofs.Views.{text_of-is}
 use Rattle.sdl_meaning.specs.Code.{code_joins, answers_joins}
-use Rattle.sdl_actions.specs.Scopes.{scope_in}
+use Rattle.sdl_emit.specs.Scopes.{scope_in}
 use Rattle.sdl_emit.proofs.Collecting.{decided, statement_on, statements_past, answer_on, answers_past}
 use Rattle.sdl_emit.proofs.placing.+placing.Goals as goal
 

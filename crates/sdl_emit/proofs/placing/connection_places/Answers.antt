@@ -3,7 +3,7 @@ use Rattle.std.specs.Prelude.{get_or}
 use Rattle.std.proofs.lemmas.Option.{slice_get-get_or}
 use Rattle.std.proofs.lemmas.List.{length-map, length-replicate}
 use Rattle.sdl_ast.specs.Views.{connection_of}
-use Rattle.sdl_actions.specs.Scopes.{scope_in}
+use Rattle.sdl_emit.specs.Scopes.{scope_in}
 use Rattle.sdl_emit.proofs.Spacing.{Spaced, none_spaced, one_fits, one_spaced}
 use Rattle.sdl_emit.proofs.placing.connection_places.Goals as goal
 

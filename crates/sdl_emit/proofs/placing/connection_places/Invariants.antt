@@ -1,5 +1,5 @@
 use Rattle.std.proofs.Common.{◌≡◌, length}
-use Rattle.sdl_actions.specs.Scopes.{scope_in}
+use Rattle.sdl_emit.specs.Scopes.{scope_in}
 use Rattle.sdl_emit.proofs.Spacing.{Spaced}
 use Rattle.sdl_emit.proofs.placing.connection_places.Given as goal
 

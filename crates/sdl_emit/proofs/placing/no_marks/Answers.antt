@@ -1,12 +1,11 @@
-use Rattle.std.proofs.Common.{rules, ◌≡◌, [], ap, sym, subst, length, arith}
+use Rattle.std.proofs.Common.{rules, ◌≡◌, [], ap, sym, subst, length, arith, false}
 use Rattle.std.specs.Prelude.{replicate}
 use Rattle.std.proofs.lemmas.List.{length-map}
 use Rattle.sdl_ast.specs.Views.{connection_of}
-use Rattle.sdl_actions.specs.Scopes.{scope_in}
+use Rattle.sdl_emit.specs.Scopes.{scope_in}
 use Rattle.sdl_emit.specs.Placing.{AreMarked}
 use Rattle.sdl_emit.proofs.Marked.{none_marked}
 use Rattle.sdl_emit.proofs.placing.no_marks.Goals as goal
-use Rattle.std.proofs.Common.{false}
 
 pub returns : goal.returns
 returns c =

@@ -2,7 +2,7 @@ use Rattle.std.proofs.Common.{◌≡◌, ℕ, ◌<◌, List, [], length, Some, s
 use Rattle.std.specs.Prelude.{slice_get, get_or, fold}
 use Rattle.std.proofs.lemmas.Option.{slice_get-get_or}
 use Rattle.sdl_ast.specs.Views.{text_of}
-use Rattle.sdl_actions.specs.Scopes.{scope_in}
+use Rattle.sdl_emit.specs.Scopes.{scope_in}
 use Rattle.sdl_meaning.specs.Code.{add_number, joined}
 use Rattle.sdl_emit.specs.Placing.{AreMarked}
 use Rattle.sdl_emit.proofs.Gathering.{first_gathered, next_gathered, last_gathered, gathered_few, next_there}

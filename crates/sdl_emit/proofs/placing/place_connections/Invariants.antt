@@ -1,6 +1,6 @@
 use Rattle.std.proofs.Common.{◌-◌, length}
 use Rattle.sdl_ast.specs.Views.{text_of}
-use Rattle.sdl_actions.specs.Scopes.{scope_in}
+use Rattle.sdl_emit.specs.Scopes.{scope_in}
 use Rattle.sdl_emit.specs.Placing.{AreMarked}
 use Rattle.sdl_emit.proofs.Gathering.{Gathered}
 use Rattle.sdl_emit.proofs.placing.place_connections.Given as goal

@@ -1,7 +1,7 @@
 use Rattle.std.proofs.Common.{◌≡◌, ◌+◌, ◌∷◌, suc, List, drop, ap, sym, ◌∙◌, subst, arith}
 use Rattle.std.specs.Prelude.{fold}
 use Rattle.sdl_ast.specs.declared.tree.Join.{Join}
-use Rattle.sdl_actions.specs.Scopes.{scope_in}
+use Rattle.sdl_emit.specs.Scopes.{scope_in}
 use Rattle.sdl_meaning.specs.Code.{add_number}
 use Rattle.sdl_emit.specs.Placing.{numbers_of, HaveNumbers}
 use Rattle.sdl_emit.proofs.Marked.{next_first}

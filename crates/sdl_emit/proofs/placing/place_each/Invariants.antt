@@ -1,7 +1,7 @@
 use Rattle.std.proofs.Common.{◌≡◌, drop}
 use Rattle.std.specs.Prelude.{fold}
 use Rattle.sdl_meaning.specs.Code.{add_number}
-use Rattle.sdl_actions.specs.Scopes.{scope_in}
+use Rattle.sdl_emit.specs.Scopes.{scope_in}
 use Rattle.sdl_emit.specs.Placing.{numbers_of, HaveNumbers, AreMarked}
 use Rattle.sdl_emit.proofs.placing.place_each.Given as goal
 

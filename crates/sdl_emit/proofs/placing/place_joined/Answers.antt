@@ -1,6 +1,6 @@
 use Rattle.std.proofs.Common.{◌∙◌, ◌++◌, ap}
 use Rattle.sdl_ast.specs.Views.{text_of}
-use Rattle.sdl_actions.specs.Scopes.{scope_in}
+use Rattle.sdl_emit.specs.Scopes.{scope_in}
 use Rattle.sdl_meaning.specs.Code.{code_joins}
 use Rattle.sdl_emit.proofs.Gathering.{all_numbered}
 use Rattle.sdl_emit.proofs.placing.place_joined.Goals as goal

@@ -1,6 +1,6 @@
 use Rattle.std.proofs.Common.{◌≡◌, List, ℕ, subst, arith}
 use Rattle.std.specs.Prelude.{OnOk, fold}
-use Rattle.sdl_actions.specs.Scopes.{scope_in}
+use Rattle.sdl_emit.specs.Scopes.{scope_in}
 use Rattle.sdl_meaning.specs.Code.{text_at, add_number}
 use Rattle.sdl_emit.proofs.Emitting.{each_named}
 use Rattle.sdl_emit.proofs.Copies.{copies_length, copy_is, named_so, joined_so}

@@ -7,7 +7,7 @@ use Rattle.sdl_ast.specs.Plain.{Text, falls}
 use Rattle.sdl_ast.specs.declared.tree.Decision.{out-Decision, the_lemmas}
 use Rattle.sdl_ast.specs.Views.{text_of, action_of, decision_of, choice_of, answers_before, statements_before, end_text, else_choice}
 use Rattle.turn_code.specs.declared.instruction.Instruction.TheVariants as i
-use Rattle.sdl_actions.specs.Scopes.{scope_in, places_by, question_in}
+use Rattle.sdl_emit.specs.Scopes.{scope_in, places_by, question_in}
 use Rattle.sdl_tables.specs.Names.{variables_of}
 use Rattle.sdl_sound.specs.Going.{goes_on}
 use Rattle.sdl_sound.specs.Longest.{size}
@@ -15,9 +15,9 @@ use Rattle.sdl_meaning.specs.Named.{NamedText, NamedChoice}
 use Rattle.sdl_meaning.specs.Code.{action_code, else_size, else_code, answers_size, answers_code, text_code}
 use Rattle.sdl_ast.proofs.Views.{text_of-is, decision_of-is}
 use Rattle.sdl_emit.proofs.Emitting.{one_statement, statement_named, statement_fits, answer_named, rest_named, rest_fits, rest_code, others_fit, others_code, others_named, else_size_alone, else_code_alone, else_named, choice_named, choice_fits, decision_code}
-use Rattle.sdl_actions.proofs.Picking.{one_answer}
+use Rattle.sdl_emit.proofs.Picking.{one_answer}
 use Rattle.sdl_emit.proofs.Leaving.{statements_past, answers_past, acted, decided, is_decision, no_code, no_leave, no_starts, left_code, left_told}
-use Rattle.sdl_actions.specs.Landing.{starts_from, answers_leave, else_leave, landed, filled, has_any, picked_by, tests_by}
+use Rattle.sdl_emit.specs.Landing.{starts_from, answers_leave, else_leave, landed, filled, has_any, picked_by, tests_by}
 use Rattle.sdl_emit.proofs.Landed.{jumps_more, starts_more, else_leave_alone, rest_goes, truth_answers_fit, truth_else_fits, truth_else_low, truth_low, truth_lands, truth_goes, place_is, integer_else_fits, integer_answers_fit, integer_low, integer_tests_fit, integer_lands, integer_goes}
 use Rattle.sdl_emit.proofs.texts.+texts.Goals as goal
 

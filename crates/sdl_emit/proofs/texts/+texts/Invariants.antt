@@ -4,10 +4,10 @@ use Rattle.sdl_ast.specs.Views.{text_of, choice_of, statements_before, answers_b
 use Rattle.sdl_tables.specs.Names.{variables_of}
 use Rattle.sdl_sound.specs.Going.{goes_on}
 use Rattle.sdl_sound.specs.Longest.{size}
-use Rattle.sdl_actions.specs.Scopes.{scope_in, places_by, question_in}
+use Rattle.sdl_emit.specs.Scopes.{scope_in, places_by, question_in}
 use Rattle.sdl_meaning.specs.Named.{NamedText, NamedChoice}
 use Rattle.sdl_meaning.specs.Code.{text_code, answers_code, answers_size}
-use Rattle.sdl_actions.specs.Landing.{answers_leave, starts_from}
+use Rattle.sdl_emit.specs.Landing.{answers_leave, starts_from}
 use Rattle.sdl_emit.proofs.texts.+texts.Given as goal
 
 abbrev pub invariant-emit_answers-loop-answer : goal.invariant-emit_answers-loop-answer

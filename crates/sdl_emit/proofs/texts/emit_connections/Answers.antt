@@ -1,7 +1,7 @@
 use Rattle.std.proofs.Common.{length, ◌++◌}
 use Rattle.std.specs.Prelude.{get_or}
 use Rattle.std.proofs.lemmas.List.{get_or_default}
-use Rattle.sdl_actions.specs.Scopes.{scope_in, places_by}
+use Rattle.sdl_emit.specs.Scopes.{scope_in, places_by}
 use Rattle.sdl_meaning.specs.Code.{connections_code}
 use Rattle.sdl_emit.proofs.Emitting.{connections_more, connections_fit}
 use Rattle.sdl_emit.proofs.texts.emit_connections.Goals as goal

@@ -1,6 +1,6 @@
 use Rattle.std.proofs.Common.{◌≡◌, ◌+◌, ◌≤◌, ◌++◌, length, drop}
 use Rattle.std.specs.List.{sum_by}
-use Rattle.sdl_actions.specs.Scopes.{scope_in, places_by}
+use Rattle.sdl_emit.specs.Scopes.{scope_in, places_by}
 use Rattle.sdl_meaning.specs.Code.{size_at, connections_code}
 use Rattle.sdl_emit.proofs.texts.emit_connections.Given as goal
 

@@ -1,6 +1,6 @@
 use Rattle.std.proofs.Common.{length, ◌++◌, ap, ◌∙◌, arith}
 use Rattle.sdl_ast.specs.Views.{text_of}
-use Rattle.sdl_actions.specs.Scopes.{scope_in, places_by, piece_in}
+use Rattle.sdl_emit.specs.Scopes.{scope_in, places_by, piece_in}
 use Rattle.sdl_meaning.specs.Code.{places_code}
 use Rattle.sdl_emit.proofs.Emitting.{each_named, text_fits, connections_follow, piece_whole}
 use Rattle.sdl_emit.proofs.Copies.{named_so, size_so, code_so}

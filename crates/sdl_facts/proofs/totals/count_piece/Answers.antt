@@ -1,10 +1,10 @@
 use Rattle.std.proofs.Common.{length, sym, ap, ◌∙◌, arith}
 use Rattle.std.specs.Prelude.{get_or}
 use Rattle.std.proofs.lemmas.List.{get_or_default}
-use Rattle.sdl_counts.specs.declared.counts.Counted.TheVariants.{Instructions}
+use Rattle.sdl_facts.specs.declared.counts.Counted.TheVariants.{Instructions}
 use Rattle.sdl_emit.specs.Scopes.{scope_in, piece_in}
 use Rattle.sdl_meaning.specs.Code.{connections_place}
-use Rattle.sdl_counts.specs.Counts.{number_at}
+use Rattle.sdl_facts.specs.PlaceCounts.{number_at}
 use Rattle.sdl_facts.proofs.Reckoned.{place_inside, place_apart, connection_some, counts_small, measured_is, piece_is}
 use Rattle.sdl_facts.proofs.totals.count_piece.Goals as goal
 

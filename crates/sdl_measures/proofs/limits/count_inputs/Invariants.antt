@@ -1,6 +1,5 @@
-use Rattle.std.proofs.Common.{◌≡◌, map, take, min}
+use Rattle.std.proofs.Common.{◌≡◌, map, take, min, length}
 use Rattle.std.specs.List.{flat_map}
-use Rattle.std.proofs.Common.{length}
 use Rattle.sdl_sound.specs.Longest.{input_piece}
 use Rattle.sdl_tables.specs.Rows.{rows_inputs}
 use Rattle.sdl_measures.proofs.limits.count_inputs.Given as goal

@@ -1,6 +1,5 @@
-use Rattle.std.proofs.Common.{◌≡◌, map, take, min}
+use Rattle.std.proofs.Common.{◌≡◌, map, take, min, length}
 use Rattle.std.specs.Prelude.{sum_by}
-use Rattle.std.proofs.Common.{length}
 use Rattle.sdl_sound.specs.Longest.{pieces_of}
 use Rattle.sdl_ast.specs.Views.{process_of}
 use Rattle.sdl_measures.proofs.limits.count_pieces.Given as goal

@@ -3,7 +3,7 @@ use Rattle.std.specs.List.{filter_map}
 use Rattle.std.specs.Option.{option_map, option_to_list}
 use Rattle.std.specs.Vec.Iter.{into_iter_items}
 use Rattle.sdl_ast.specs.Views.{assignment_of}
-use Rattle.sdl_bodies.proofs.KeptLemmas.{kept_more, nothing_left}
+use Rattle.sdl_productions.proofs.KeptLemmas.{kept_more, nothing_left}
 use Rattle.sdl_readers.proofs.actions.kept.Goals as goal
 
 pub rows-preserved : goal.rows-preserved

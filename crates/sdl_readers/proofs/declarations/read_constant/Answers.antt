@@ -1,6 +1,6 @@
 use Rattle.std.proofs.Common.{◌≡◌, false, sym, ◌∙◌}
 use Rattle.sdl_lex.specs.declared.lexemes.Symbol.TheVariants.{Minus}
-use Rattle.sdl_tokens.specs.Tokens.{begins, a_symbol}
+use Rattle.sdl_productions.specs.Tokens.{begins, a_symbol}
 use Rattle.sdl_productions.specs.DeclarationProductions.{constant_at}
 use Rattle.sdl_readers.proofs.declarations.read_constant.Goals as goal
 

@@ -1,6 +1,6 @@
 use Rattle.std.proofs.Common.{sym, ◌∙◌}
 use Rattle.std.proofs.lemmas.Result.{err_from_is_err_and}
-use Rattle.sdl_tokens.proofs.RowLemmas.{row_turn, row_done, row_stops}
+use Rattle.sdl_productions.proofs.RowLemmas.{row_turn, row_done, row_stops}
 use Rattle.sdl_readers.proofs.production.read_many.Goals as goal
 
 pub returns-in_err-item : goal.returns-in_err-item

@@ -1,5 +1,5 @@
 use Rattle.std.proofs.Common.{◌≡◌, length, map}
-use Rattle.sdl_tokens.specs.Readings.{many, prepend}
+use Rattle.sdl_productions.specs.Readings.{many, prepend}
 use Rattle.sdl_readers.proofs.production.read_many.Given as goal
 
 abbrev pub invariant-rows : goal.invariant-rows

@@ -1,9 +1,9 @@
 use Rattle.std.proofs.Common.{sym, ◌∙◌}
 use Rattle.std.proofs.lemmas.Result.{err_from_is_err_and}
 use Rattle.sdl_lex.specs.declared.lexemes.Symbol.TheVariants.{Comma}
-use Rattle.sdl_tokens.specs.Tokens.{a_symbol}
-use Rattle.sdl_tokens.specs.Readings.{behind_comma}
-use Rattle.sdl_tokens.proofs.RowLemmas.{row_turn, row_done, row_stops, shortens_behind_comma}
+use Rattle.sdl_productions.specs.Tokens.{a_symbol}
+use Rattle.sdl_productions.specs.Readings.{behind_comma}
+use Rattle.sdl_productions.proofs.RowLemmas.{row_turn, row_done, row_stops, shortens_behind_comma}
 use Rattle.sdl_readers.proofs.production.read_more.Goals as goal
 
 pub returns-in_err-item : goal.returns-in_err-item

@@ -1,7 +1,7 @@
 use Rattle.std.proofs.Common.{◌≡◌, length, map}
 use Rattle.sdl_lex.specs.declared.lexemes.Symbol.TheVariants.{Comma}
-use Rattle.sdl_tokens.specs.Tokens.{a_symbol}
-use Rattle.sdl_tokens.specs.Readings.{many, prepend, behind_comma, separated_from}
+use Rattle.sdl_productions.specs.Tokens.{a_symbol}
+use Rattle.sdl_productions.specs.Readings.{many, prepend, behind_comma, separated_from}
 use Rattle.sdl_readers.proofs.production.read_more.Given as goal
 
 abbrev pub invariant-rows : goal.invariant-rows

@@ -4,7 +4,7 @@ use Rattle.std.specs.Option.{option_to_list}
 use Rattle.std.specs.Vec.Iter.{into_iter_items}
 use Rattle.sdl_productions.specs.MarkedParts.{marked_state_in, marked_connection_in}
 use Rattle.sdl_readers.specs.SectionViews.{section_of}
-use Rattle.sdl_bodies.proofs.KeptLemmas.{kept_by, nothing_left}
+use Rattle.sdl_productions.proofs.KeptLemmas.{kept_by, nothing_left}
 use Rattle.sdl_readers.proofs.sections.parted.Goals as goal
 
 pub rows-preserved : goal.rows-preserved

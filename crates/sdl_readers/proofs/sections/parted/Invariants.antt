@@ -3,7 +3,7 @@ use Rattle.std.specs.List.{filter_map}
 use Rattle.std.specs.Vec.Iter.{into_iter_items, into_iter_len}
 use Rattle.sdl_productions.specs.MarkedParts.{marked_state_in, marked_connection_in}
 use Rattle.sdl_ast.specs.Views.{state_of, connection_of}
-use Rattle.sdl_bodies.specs.BodyViews.{marked_view}
+use Rattle.sdl_productions.specs.BodyViews.{marked_view}
 use Rattle.sdl_readers.specs.SectionViews.{section_of}
 use Rattle.sdl_readers.proofs.sections.parted.Given as goal
 

@@ -1,4 +1,4 @@
-use Rattle.sdl_bodies.specs.BodyViews.{reached_view}
+use Rattle.sdl_productions.specs.BodyViews.{reached_view}
 use Rattle.sdl_readers.proofs.StepTurns.{step_goes_on, step_smaller, step_closes, step_stops}
 use Rattle.sdl_readers.proofs.statements.read_transition.Goals as goal
 

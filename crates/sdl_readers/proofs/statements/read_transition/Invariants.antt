@@ -1,6 +1,6 @@
 use Rattle.std.proofs.Common.{◌≡◌, length}
-use Rattle.sdl_bodies.specs.BodyViews.{reached_view}
-use Rattle.sdl_bodies.specs.Bodies.{marked_texts}
+use Rattle.sdl_productions.specs.BodyViews.{reached_view}
+use Rattle.sdl_productions.specs.Bodies.{marked_texts}
 use Rattle.sdl_productions.specs.Productions.{steps_from, text_at}
 use Rattle.sdl_readers.proofs.statements.read_transition.Given as goal
 

@@ -1,8 +1,8 @@
 use Rattle.std.proofs.Common.{◌≡◌, ◌∙◌, ◌&&◌, true, refl, ap, sym, subst, take_all}
 use Rattle.std.specs.List.{list_all}
 use Rattle.sdl_ast.specs.Views.{block_of, process_of}
-use Rattle.sdl_senders.specs.Parties.{IsSender, gets_back}
-use Rattle.sdl_senders.specs.declared.sender.Sender.{Sender}
+use Rattle.sdl_scopes.specs.Parties.{IsSender, gets_back}
+use Rattle.sdl_scopes.specs.declared.sender.Sender.{Sender}
 use Rattle.sdl_statements.proofs.Gathering.{all_more}
 use Rattle.sdl_statements.proofs.back_table.all_get_back.Goals as goal
 

@@ -2,7 +2,7 @@ use Rattle.std.proofs.Common.{◌≡◌, true, take}
 use Rattle.std.specs.Prelude.{All}
 use Rattle.std.specs.List.{list_all}
 use Rattle.sdl_ast.specs.Views.{block_of, process_of}
-use Rattle.sdl_senders.specs.Parties.{IsSender, gets_back}
+use Rattle.sdl_scopes.specs.Parties.{IsSender, gets_back}
 use Rattle.sdl_statements.specs.Backs.{GetThere}
 use Rattle.sdl_statements.proofs.back_table.all_get_back.Given as goal
 

@@ -1,5 +1,5 @@
 use Rattle.std.proofs.Common.{◌≡◌, ◌+◌, ◌-◌, ℕ, length}
-use Rattle.sdl_senders.specs.Reaches.{is_marked}
+use Rattle.sdl_scopes.specs.Reaches.{is_marked}
 use Rattle.sdl_statements.proofs.distinct.grow.Given as goal
 
 abbrev pub invariant-loop-marks : goal.invariant-loop-marks

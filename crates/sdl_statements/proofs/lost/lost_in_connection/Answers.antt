@@ -3,8 +3,8 @@ use Rattle.sdl_ast.specs.Views.{block_of, process_of, text_of, connection_of}
 use Rattle.sdl_tables.specs.Scopes.{Marks}
 use Rattle.sdl_sound.specs.Statements.{statements_of}
 use Rattle.sdl_sound.specs.Actions.{connection_origins}
-use Rattle.sdl_senders.specs.Known.{AreSenders}
-use Rattle.sdl_senders.specs.declared.sender.Sender.{Sender}
+use Rattle.sdl_scopes.specs.Known.{AreSenders}
+use Rattle.sdl_scopes.specs.declared.sender.Sender.{Sender}
 use Rattle.sdl_statements.proofs.Backward.{lost_same}
 use Rattle.sdl_statements.proofs.lost.lost_in_connection.Goals as goal
 

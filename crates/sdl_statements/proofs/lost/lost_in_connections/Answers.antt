@@ -6,7 +6,7 @@ use Rattle.sdl_ast.specs.Views.{block_of, process_of, connection_of}
 use Rattle.sdl_sound.specs.Actions.{in_connection}
 use Rattle.sdl_statements.specs.Asked.{asked}
 use Rattle.sdl_statements.specs.Reached.{AreSent}
-use Rattle.sdl_senders.specs.declared.sent.Sent.{Sent}
+use Rattle.sdl_scopes.specs.declared.sent.Sent.{Sent}
 use Rattle.sdl_statements.specs.declared.statements.StatementRule.TheVariants.{Receivers}
 use Rattle.sdl_sound.proofs.Places.{Marks-more}
 use Rattle.sdl_statements.proofs.lost.lost_in_connections.Goals as goal

@@ -4,11 +4,11 @@ use Rattle.sdl_ast.specs.Views.{process_of}
 use Rattle.sdl_sound.specs.Joins.{reaches}
 use Rattle.sdl_sound.specs.Actions.{connection_origins}
 use Rattle.sdl_statements.specs.Distinct.{distinct}
-use Rattle.sdl_senders.specs.Known.{AreSenders}
-use Rattle.sdl_senders.specs.Reaches.{PlainSent, sent_of, senders_in}
+use Rattle.sdl_scopes.specs.Known.{AreSenders}
+use Rattle.sdl_scopes.specs.Reaches.{PlainSent, sent_of, senders_in}
 use Rattle.sdl_statements.specs.Reached.{sent_by, sent_all}
-use Rattle.sdl_senders.specs.declared.sender.Sender.{Sender}
-use Rattle.sdl_senders.specs.declared.sender.Sender.TheVariants.{Nobody}
+use Rattle.sdl_scopes.specs.declared.sender.Sender.{Sender}
+use Rattle.sdl_scopes.specs.declared.sender.Sender.TheVariants.{Nobody}
 use Rattle.sdl_statements.proofs.Coming.{sent_are}
 use Rattle.sdl_statements.proofs.reaching.find_sent.Goals as goal
 

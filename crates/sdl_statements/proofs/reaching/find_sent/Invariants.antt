@@ -1,9 +1,9 @@
 use Rattle.std.proofs.Common.{◌≡◌, ◌∷◌, map, take}
 use Rattle.sdl_ast.specs.Views.{process_of}
 use Rattle.sdl_sound.specs.Joins.{reaches}
-use Rattle.sdl_senders.specs.Reaches.{sent_of}
+use Rattle.sdl_scopes.specs.Reaches.{sent_of}
 use Rattle.sdl_statements.specs.Reached.{sent_by}
-use Rattle.sdl_senders.specs.declared.sender.Sender.TheVariants.{Nobody}
+use Rattle.sdl_scopes.specs.declared.sender.Sender.TheVariants.{Nobody}
 use Rattle.sdl_statements.proofs.reaching.find_sent.Given as goal
 
 abbrev pub invariant-loop-sender : goal.invariant-loop-sender

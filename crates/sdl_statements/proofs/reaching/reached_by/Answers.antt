@@ -6,7 +6,7 @@ use Rattle.sdl_sound.specs.Orders.{targets_of}
 use Rattle.sdl_joins.proofs.Connectors.{within_links}
 use Rattle.sdl_statements.specs.Distinct.{has_sender}
 use Rattle.sdl_statements.specs.Reached.{joining_of, starts_with, sent_joins}
-use Rattle.sdl_senders.specs.declared.sender.Sender.{Sender}
+use Rattle.sdl_scopes.specs.declared.sender.Sender.{Sender}
 use Rattle.sdl_statements.specs.declared.distinct.MarkedRow.{MarkedRow}
 use Rattle.sdl_tables.proofs.States.{map-map}
 use Rattle.sdl_statements.proofs.Coming.{starts_is, starts_within}

@@ -4,7 +4,7 @@ use Rattle.sdl_sound.specs.Actions.{Origin}
 use Rattle.sdl_sound.specs.Receivers.{lost_sending}
 use Rattle.sdl_tables.specs.Scopes.{Marks}
 use Rattle.sdl_ast.specs.Views.{block_of, process_of, sending_of}
-use Rattle.sdl_senders.specs.Known.{Knows}
+use Rattle.sdl_scopes.specs.Known.{Knows}
 use Rattle.sdl_statements.proofs.receivers.lost_sendings.Given as goal
 
 abbrev pub invariant-loop-sending : goal.invariant-loop-sending

@@ -2,9 +2,9 @@ use Rattle.std.proofs.Common.{◌++◌, ◌∷◌, [], map, take, sym, ap, ◌�
 use Rattle.sdl_ast.specs.declared.tree.Party as tree
 use Rattle.sdl_ast.specs.Views.{block_of}
 use Rattle.sdl_statements.specs.SenderTables.{numbered}
-use Rattle.sdl_senders.specs.declared.sender.Sender.{Sender}
-use Rattle.sdl_senders.specs.declared.sender.Sender.TheVariants.{Party}
-use Rattle.sdl_senders.specs.declared.sender.Numbered.{Numbered}
+use Rattle.sdl_scopes.specs.declared.sender.Sender.{Sender}
+use Rattle.sdl_scopes.specs.declared.sender.Sender.TheVariants.{Party}
+use Rattle.sdl_scopes.specs.declared.sender.Numbered.{Numbered}
 use Rattle.sdl_statements.proofs.sender_table.number_parties.Goals as goal
 use Rattle.plain_laws.proofs.Lists.{mapped_more}
 

@@ -6,10 +6,10 @@ use Rattle.sdl_ast.specs.declared.tree.Party as the_party
 use Rattle.sdl_tables.specs.Names.{is_in, timers_of}
 use Rattle.sdl_tables.specs.Routes.{senders, parties_once}
 use Rattle.sdl_sound.specs.Receivers.{party_of, carries}
-use Rattle.sdl_senders.specs.Parties.{IsSender, gets_back}
+use Rattle.sdl_scopes.specs.Parties.{IsSender, gets_back}
 use Rattle.sdl_statements.specs.SenderTables.{numbered}
-use Rattle.sdl_senders.specs.declared.sender.Sender.{Sender}
-use Rattle.sdl_senders.specs.declared.sender.Sender.TheVariants.{Party}
+use Rattle.sdl_scopes.specs.declared.sender.Sender.{Sender}
+use Rattle.sdl_scopes.specs.declared.sender.Sender.TheVariants.{Party}
 use Rattle.sdl_statements.proofs.Gathering.{row_all, row_numbered, nobody_numbered}
 use Rattle.sdl_statements.proofs.sender_table.senders_of.Goals as goal
 

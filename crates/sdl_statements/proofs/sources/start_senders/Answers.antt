@@ -1,8 +1,8 @@
 use Rattle.std.proofs.Common.{List, sym, ap, subst}
 use Rattle.std.specs.Prelude.{All}
 use Rattle.std.specs.List.{list_all}
-use Rattle.sdl_senders.specs.Parties.{IsSender, gets_back}
-use Rattle.sdl_senders.specs.declared.sender.Sender.{Sender}
+use Rattle.sdl_scopes.specs.Parties.{IsSender, gets_back}
+use Rattle.sdl_scopes.specs.declared.sender.Sender.{Sender}
 use Rattle.sdl_statements.proofs.Gathering.{nobody_numbered}
 use Rattle.sdl_statements.proofs.sources.start_senders.Goals as goal
 

@@ -6,7 +6,7 @@ use Rattle.sdl_tables.specs.Scopes.{Marks}
 use Rattle.sdl_statements.specs.Asked.{asked_all}
 use Rattle.sdl_sound.specs.Parts.{statement_parts, answer_parts}
 use Rattle.sdl_sound.specs.Actions.{Origin}
-use Rattle.sdl_senders.specs.Known.{Knows}
+use Rattle.sdl_scopes.specs.Known.{Knows}
 use Rattle.sdl_statements.proofs.statements.+statements.Given as goal
 
 abbrev pub invariant-in_transition-loop-statement : goal.invariant-in_transition-loop-statement

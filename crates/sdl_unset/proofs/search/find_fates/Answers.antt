@@ -4,7 +4,7 @@ use Rattle.std.proofs.lemmas.List.{length-map}
 use Rattle.sdl_ast.specs.Views.{process_of}
 use Rattle.sdl_tables.specs.Names.{variables_of}
 use Rattle.sdl_tables.specs.Rows.{variable_of}
-use Rattle.unset_paths.specs.declared.Fate.{Fate}
+use Rattle.sdl_unset.specs.declared.paths.Fate.{Fate}
 use Rattle.sdl_unset.specs.Fates.{IsFate}
 use Rattle.sdl_unset.proofs.Searches.{fate_by, push_at}
 use Rattle.sdl_unset.proofs.search.find_fates.Goals as goal

@@ -1,6 +1,6 @@
 use Rattle.std.proofs.Common.{◌≡◌, ℕ, length, Some}
 use Rattle.std.specs.Prelude.{slice_get}
-use Rattle.unset_paths.specs.declared.Fate.{Fate}
+use Rattle.sdl_unset.specs.declared.paths.Fate.{Fate}
 use Rattle.sdl_unset.specs.Fates.{IsFate}
 use Rattle.sdl_unset.proofs.search.find_fates.Given as goal
 

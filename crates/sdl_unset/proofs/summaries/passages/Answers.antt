@@ -1,5 +1,5 @@
 use Rattle.std.proofs.Common.{◌+◌, ℕ, List, take, get_or, sym, subst, arith, ap, ◌∙◌}
-use Rattle.unset_paths.specs.declared.Passage.{Passage}
+use Rattle.sdl_unset.specs.declared.paths.Passage.{Passage}
 use Rattle.sdl_unset.specs.Flows.{ArePassages}
 use Rattle.std.proofs.lemmas.List.{take_all}
 use Rattle.sdl_unset.proofs.Summing.{AreBelow, no_passages, passage_added, passage_skipped, below_none, below_later, below_push}

@@ -1,6 +1,6 @@
 use Rattle.std.proofs.Common.{sym, subst, map, take, List, Option, ◌++◌, ◌+◌}
 use Rattle.std.specs.List.{AllZip}
-use Rattle.unset_paths.specs.declared.Summary.{Summary}
+use Rattle.sdl_unset.specs.declared.paths.Summary.{Summary}
 use Rattle.sdl_ast.specs.declared.expression.Identifier.{Identifier}
 use Rattle.sdl_ast.specs.declared.tree.Stimulus.{Stimulus}
 use Rattle.sdl_ast.specs.Views.{stimulus_of, process_of}

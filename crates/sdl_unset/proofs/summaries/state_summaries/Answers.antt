@@ -2,7 +2,7 @@ use Rattle.std.proofs.Common.{sym, subst, map, take, List, ◌+◌}
 use Rattle.std.specs.Borrow.{Bor}
 use Rattle.std.specs.List.{AllZip, flat_map}
 use Rattle.std.specs.Global.{Vec}
-use Rattle.unset_paths.specs.declared.Summary.{Summary}
+use Rattle.sdl_unset.specs.declared.paths.Summary.{Summary}
 use Rattle.sdl_ast.specs.declared.tree.InputPart.{InputPart}
 use Rattle.sdl_ast.specs.Views.{process_of}
 use Rattle.sdl_unset.specs.Flows.{AreSummariesBy}

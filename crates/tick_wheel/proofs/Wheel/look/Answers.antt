@@ -1,7 +1,7 @@
 use Rattle.std.proofs.Common.{◌+◌, min, List, Option, ℕ, sym, ap, subst, ◌∙◌, arith}
 use Rattle.std.specs.List.{IsDistinct}
 use Rattle.std.specs.Ordering.{eq_by_cmp}
-use Rattle.slot_lists.specs.Sizes.{SLOTS}
+use Rattle.tick_wheel.specs.Sizes.{SLOTS}
 use Rattle.tick_wheel.specs.Timers.{due, due_cmp, in_order}
 use Rattle.tick_wheel.specs.Slots.{due_of, visited}
 use Rattle.tick_wheel.specs.Turning.{near_count, MOST_LOOKED}

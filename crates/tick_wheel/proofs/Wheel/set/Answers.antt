@@ -1,6 +1,6 @@
 use Rattle.std.proofs.Common.{◌<◌, Some, ◌∙◌, ◌∷◌, [], ap, map, get_or, set, subst₂, sym, arith}
 use Rattle.std.specs.FinMap as finite
-use Rattle.slot_lists.specs.Lists.{without}
+use Rattle.tick_wheel.specs.Lists.{without}
 use Rattle.tick_wheel.specs.Slots.{IsWheel}
 use Rattle.tick_wheel.specs.Table.{deadlines_of}
 use Rattle.tick_wheel.specs.Turning.{Turning}

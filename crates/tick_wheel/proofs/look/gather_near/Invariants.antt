@@ -1,5 +1,5 @@
 use Rattle.std.proofs.Common.{◌≡◌, ◌≤◌, ◌+◌, length, min, vec_capacity}
-use Rattle.slot_lists.specs.Sizes.{SLOTS}
+use Rattle.tick_wheel.specs.Sizes.{SLOTS}
 use Rattle.tick_wheel.specs.Slots.{due_of, visited}
 use Rattle.tick_wheel.proofs.look.gather_near.Given as goal
 

@@ -1,6 +1,6 @@
 use Rattle.std.proofs.Common.{◌≡◌, ◌≤◌, ◌+◌, ◌*◌, ◌^◌, sum_by, vec_len, vec_capacity}
 use Rattle.std.specs.Vec.Iter.{into_iter_len, into_iter_items}
-use Rattle.link_machine.specs.Ledger.{next}
+use Rattle.actor_machine.specs.Ledger.{next}
 use Rattle.turn_pool.proofs.links.put_all_away.Given as goal
 
 abbrev pub invariant-loop-book : goal.invariant-loop-book

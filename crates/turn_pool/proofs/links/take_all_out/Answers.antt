@@ -1,6 +1,6 @@
 use Rattle.std.proofs.Common.{rules, arith, sum_by, ◌≡◌, ◌+◌, ◌∷◌, []}
 use Rattle.std.proofs.lemmas.List.Sums.{sum_by-append}
-use Rattle.link_machine.specs.Ledger.{next}
+use Rattle.actor_machine.specs.Ledger.{next}
 use Rattle.turn_pool.proofs.Finishes.{one_more}
 use Rattle.turn_pool.proofs.links.take_all_out.Goals as goal
 

@@ -1,6 +1,6 @@
 use Rattle.std.proofs.Common.{◌≡◌, ◌≤◌, ◌+◌, ◌*◌, ◌^◌, All, sum_by, vec_len, vec_capacity}
 use Rattle.std.specs.Vec.Iter.{into_iter_len}
-use Rattle.link_machine.specs.Ledger.{next}
+use Rattle.actor_machine.specs.Ledger.{next}
 use Rattle.turn_pool.specs.Serves.{CountsFinishes}
 use Rattle.turn_pool.proofs.links.take_all_out.Given as goal
 

@@ -1,6 +1,6 @@
 use Rattle.std.proofs.Common.{Result, ap, ◌∙◌}
 use Rattle.turn_machine.specs.Turn.{Turn}
-use Rattle.link_machine.specs.declared.reply.Refusal.{Refusal}
+use Rattle.actor_machine.specs.declared.reply.Refusal.{Refusal}
 use Rattle.turn_pool.specs.declared.moves.Moved.TheVariants as moved
 use Rattle.turn_pool.proofs.Naming.{no_name}
 use Rattle.turn_pool.proofs.worker.follow.Goals as goal

@@ -1,5 +1,5 @@
 use Rattle.std.proofs.Common.{◌∙◌, ap, arith, length}
-use Rattle.link_machine.specs.Core.{Core}
+use Rattle.actor_machine.specs.Core.{Core}
 use Rattle.turn_pool.proofs.Turns.{all_of}
 use Rattle.turn_pool.proofs.worker.next_step.Goals as goal
 

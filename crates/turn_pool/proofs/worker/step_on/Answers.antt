@@ -1,5 +1,5 @@
 use Rattle.std.proofs.Common.{ap, ◌∙◌, subst}
-use Rattle.link_machine.specs.Ledger.{Ledger}
+use Rattle.actor_machine.specs.Ledger.{Ledger}
 use Rattle.turn_pool.specs.Turns.{told, NamesBegun}
 use Rattle.turn_pool.proofs.Naming.{step_named}
 use Rattle.turn_pool.proofs.worker.step_on.Goals as goal

@@ -1,5 +1,5 @@
 use Rattle.std.proofs.Common.{sym, ◌∙◌}
-use Rattle.link_machine.specs.declared.event.Event.TheVariants.{Advance}
+use Rattle.actor_machine.specs.declared.event.Event.TheVariants.{Advance}
 use Rattle.actor_book.proofs.Taking.{stays, says}
 use Rattle.actor_book.proofs.book.Book.advance.Goals as goal
 

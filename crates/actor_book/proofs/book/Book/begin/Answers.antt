@@ -1,6 +1,6 @@
 use Rattle.std.proofs.Common.{ap, sym, ◌∙◌}
-use Rattle.link_machine.specs.Ledger.{Ledger, turn_out}
-use Rattle.link_machine.specs.declared.event.Event.TheVariants.{Begin}
+use Rattle.actor_machine.specs.Ledger.{Ledger, turn_out}
+use Rattle.actor_machine.specs.declared.event.Event.TheVariants.{Begin}
 use Rattle.actor_book.proofs.Beginning.{has_begun, begin_answer}
 use Rattle.actor_book.proofs.Taking.{none_left, stays, says}
 use Rattle.actor_book.proofs.book.Book.begin.Goals as goal

@@ -1,7 +1,7 @@
 use Rattle.std.proofs.Common.{◌≡◌, refl, ap, ◌∙◌}
-use Rattle.link_machine.specs.Ledger.{Ledger, state_of}
-use Rattle.link_machine.specs.Refusals.{refuses}
-use Rattle.link_machine.specs.declared.event.Event.TheVariants.{Begin}
+use Rattle.actor_machine.specs.Ledger.{Ledger, state_of}
+use Rattle.actor_machine.specs.Refusals.{refuses}
+use Rattle.actor_machine.specs.declared.event.Event.TheVariants.{Begin}
 use Rattle.actor_book.proofs.book.Book.begin_refusal.Goals as goal
 
 -- a beginning wants two places, its own and that of its end

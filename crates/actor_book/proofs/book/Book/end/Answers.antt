@@ -1,7 +1,7 @@
 use Rattle.std.proofs.Common.{ap, ◌∙◌, le_trans}
-use Rattle.link_machine.specs.Step.{Says}
-use Rattle.link_machine.specs.declared.reply.Report.{Report}
-use Rattle.link_machine.specs.declared.reply.Reply.TheVariants as reply
+use Rattle.actor_machine.specs.Step.{Says}
+use Rattle.actor_machine.specs.declared.reply.Report.{Report}
+use Rattle.actor_machine.specs.declared.reply.Reply.TheVariants as reply
 use Rattle.turn_machine.specs.Turn.{outcome_of}
 use Rattle.actor_book.proofs.Taking.{fits, new_book, new_answer, new_inside, new_next}
 use Rattle.actor_book.proofs.Ending.{names_known, from_parts, still_out, out_in, finishes_in, takes_in, timers_in, few_effects, link_ends, link_reports}

@@ -1,8 +1,8 @@
 use Rattle.std.proofs.Common.{ap, ◌∙◌, List}
 use Rattle.std.specs.Prelude.{slice_get}
-use Rattle.link_machine.specs.Core.{Core}
-use Rattle.link_machine.specs.Ledger.{Ledger, state_of, turn_at, turn_out}
-use Rattle.link_machine.specs.declared.actor.Actor.{Actor}
+use Rattle.actor_machine.specs.Core.{Core}
+use Rattle.actor_machine.specs.Ledger.{Ledger, state_of, turn_at, turn_out}
+use Rattle.actor_machine.specs.declared.actor.Actor.{Actor}
 use Rattle.actor_book.proofs.Taking.{fits_in}
 use Rattle.actor_book.proofs.book.Book.job.Goals as goal
 

@@ -1,5 +1,5 @@
 use Rattle.std.proofs.Common.{sym, ◌∙◌}
-use Rattle.link_machine.specs.declared.event.Event.TheVariants.{Offer as Offered}
+use Rattle.actor_machine.specs.declared.event.Event.TheVariants.{Offer as Offered}
 use Rattle.actor_book.proofs.Offering.{few_values}
 use Rattle.actor_book.proofs.Taking.{none_left, stays, says}
 use Rattle.actor_book.proofs.book.Book.offer.Goals as goal

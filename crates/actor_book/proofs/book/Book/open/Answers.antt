@@ -1,5 +1,5 @@
 use Rattle.std.proofs.Common.{ap, ◌∙◌, arith}
-use Rattle.link_machine.specs.Kept.{opened}
+use Rattle.actor_machine.specs.Kept.{opened}
 use Rattle.actor_book.proofs.Taking.{is_opened, inside_opened}
 use Rattle.actor_book.proofs.book.Book.open.Goals as goal
 

@@ -1,6 +1,6 @@
 use Rattle.std.proofs.Common.{ap, ◌∙◌}
-use Rattle.link_machine.specs.Step.{Says, step}
-use Rattle.link_machine.specs.declared.reply.Reply.TheVariants as reply
+use Rattle.actor_machine.specs.Step.{Says, step}
+use Rattle.actor_machine.specs.declared.reply.Reply.TheVariants as reply
 use Rattle.actor_book.proofs.Taking.{link_passes, fits, new_book, new_answer, new_inside, new_next}
 use Rattle.actor_book.proofs.Passing.{may_pass}
 use Rattle.actor_book.proofs.book.Book.pass.Goals as goal

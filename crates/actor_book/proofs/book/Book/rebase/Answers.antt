@@ -1,5 +1,5 @@
 use Rattle.std.proofs.Common.{ap, ◌∙◌, ◌+◌, arith}
-use Rattle.link_machine.specs.Ledger.{Ledger, rebased}
+use Rattle.actor_machine.specs.Ledger.{Ledger, rebased}
 use Rattle.actor_book.proofs.Taking.{is_rebased, inside_rebased}
 use Rattle.actor_book.proofs.book.Book.rebase.Goals as goal
 

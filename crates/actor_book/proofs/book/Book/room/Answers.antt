@@ -1,6 +1,6 @@
 use Rattle.std.proofs.Common.{ap, ◌∙◌, ◌-◌, ◌+◌, length, arith}
-use Rattle.link_machine.specs.Core.{outs}
-use Rattle.link_machine.specs.Ledger.{Ledger, state_of}
+use Rattle.actor_machine.specs.Core.{outs}
+use Rattle.actor_machine.specs.Ledger.{Ledger, state_of}
 use Rattle.actor_book.proofs.Taking.{no_room, some_room}
 use Rattle.actor_book.proofs.book.Book.room.Goals as goal
 

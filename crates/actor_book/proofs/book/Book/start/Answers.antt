@@ -1,6 +1,6 @@
 use Rattle.std.proofs.Common.{ap, ◌∙◌}
-use Rattle.link_machine.specs.Step.{step}
-use Rattle.link_machine.specs.declared.event.Event.TheVariants.{Begin}
+use Rattle.actor_machine.specs.Step.{step}
+use Rattle.actor_machine.specs.declared.event.Event.TheVariants.{Begin}
 use Rattle.actor_book.proofs.Taking.{link_after, link_passes, fits, new_book, new_inside, new_next}
 use Rattle.actor_book.proofs.Passing.{may_begin}
 use Rattle.actor_book.proofs.book.Book.start.Goals as goal

@@ -1,7 +1,7 @@
 use Rattle.std.proofs.Common.{ap, ◌∙◌}
-use Rattle.link_machine.specs.Step.{step}
-use Rattle.link_machine.specs.declared.event.Event.TheVariants.{Offer as Offered}
-use Rattle.link_machine.specs.declared.event.Offer.{Offer}
+use Rattle.actor_machine.specs.Step.{step}
+use Rattle.actor_machine.specs.declared.event.Event.TheVariants.{Offer as Offered}
+use Rattle.actor_machine.specs.declared.event.Offer.{Offer}
 use Rattle.actor_book.proofs.Taking.{link_after, fits, new_book, new_answer, new_inside, new_next}
 use Rattle.actor_book.proofs.book.Book.take_offer.Goals as goal
 

@@ -1,5 +1,5 @@
 use Rattle.std.proofs.Common.{ap, sym, ◌∙◌}
-use Rattle.link_machine.specs.Step.{Says, step}
+use Rattle.actor_machine.specs.Step.{Says, step}
 use Rattle.actor_book.proofs.Taking.{link_passes, fits, new_book, new_answer, new_inside, new_next}
 use Rattle.actor_book.proofs.Passing.{something_waits, takes_first}
 use Rattle.actor_book.proofs.book.Book.take_waiting.Goals as goal

@@ -1,8 +1,8 @@
 use Rattle.std.proofs.Common.{ap, sym, ◌∙◌}
 use Rattle.std.specs.Prelude.{slice_get}
-use Rattle.link_machine.specs.Step.{Says, step}
-use Rattle.link_machine.specs.declared.event.Event.TheVariants.{Skip}
-use Rattle.link_state.specs.Saving.{skipped_by}
+use Rattle.actor_machine.specs.Step.{Says, step}
+use Rattle.actor_machine.specs.declared.event.Event.TheVariants.{Skip}
+use Rattle.actor_state.specs.Saving.{skipped_by}
 use Rattle.actor_book.proofs.Taking.{link_after, link_passes, fits, new_book, new_answer, new_inside, new_next}
 use Rattle.actor_book.proofs.Passing.{may_skip, skip_replies}
 use Rattle.actor_book.proofs.book.Book.throw.Goals as goal

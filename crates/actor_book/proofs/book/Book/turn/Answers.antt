@@ -1,5 +1,5 @@
 use Rattle.std.proofs.Common.{sym, ◌∙◌}
-use Rattle.link_machine.specs.declared.event.Event.TheVariants.{Begin}
+use Rattle.actor_machine.specs.declared.event.Event.TheVariants.{Begin}
 use Rattle.actor_book.proofs.Meant.{refuses_by_text}
 use Rattle.actor_book.proofs.Taking.{says}
 use Rattle.actor_book.proofs.book.Book.turn.Goals as goal

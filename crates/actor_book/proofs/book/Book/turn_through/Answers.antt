@@ -1,6 +1,6 @@
 use Rattle.std.proofs.Common.{ap, sym, ◌∙◌, subst}
-use Rattle.link_machine.specs.Ledger.{Ledger, ask, turn_out}
-use Rattle.link_machine.specs.declared.event.Event.TheVariants.{Begin, Finish}
+use Rattle.actor_machine.specs.Ledger.{Ledger, ask, turn_out}
+use Rattle.actor_machine.specs.declared.event.Event.TheVariants.{Begin, Finish}
 use Rattle.actor_book.specs.Whole.{TookWithin}
 use Rattle.actor_book.proofs.Beginning.{has_begun}
 use Rattle.actor_book.proofs.Meant.{turns_by_text}

@@ -1,5 +1,5 @@
 use Rattle.std.proofs.Common.{◌∙◌, sym, ap, subst, Option}
-use Rattle.link_labels.specs.declared.changeover.Changeover.{Changeover}
+use Rattle.group_changeover.specs.declared.changeover.Changeover.{Changeover}
 use Rattle.link_group.specs.Changing.{after_message, reply_to, IsReply}
 use Rattle.link_group.proofs.Fields.{one_reading}
 use Rattle.link_group.proofs.group.Group.changeover_message.Goals as goal

@@ -1,5 +1,5 @@
 use Rattle.std.proofs.Common.{rules, refl}
-use Rattle.group_links.specs.Commanding.{Commanded}
+use Rattle.group_members.specs.Commanding.{Commanded}
 use Rattle.link_group.proofs.ByLinks.{by_link, written}
 use Rattle.link_group.proofs.Commands.{command_error, commanded}
 use Rattle.link_group.proofs.group.Group.command.Goals as goal

@@ -1,5 +1,5 @@
 use Rattle.std.proofs.Common.{rules}
-use Rattle.group_links.specs.Doing.{Listened}
+use Rattle.group_members.specs.Doing.{Listened}
 use Rattle.link_group.proofs.ByLinks.{by_link, written}
 use Rattle.link_group.proofs.group.Group.line_in.Goals as goal
 

@@ -1,5 +1,5 @@
 use Rattle.std.proofs.Common.{rules}
-use Rattle.group_links.specs.Doing.{Spoken}
+use Rattle.group_members.specs.Doing.{Spoken}
 use Rattle.link_group.proofs.ByLinks.{by_link, written}
 use Rattle.link_group.proofs.group.Group.line_out.Goals as goal
 

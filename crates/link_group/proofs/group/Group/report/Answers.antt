@@ -1,5 +1,5 @@
 use Rattle.std.proofs.Common.{rules}
-use Rattle.group_links.specs.Doing.{Reported}
+use Rattle.group_members.specs.Doing.{Reported}
 use Rattle.link_group.proofs.ByLinks.{by_link, written}
 use Rattle.link_group.proofs.group.Group.report.Goals as goal
 

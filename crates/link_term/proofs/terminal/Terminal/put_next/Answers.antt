@@ -7,5 +7,5 @@ pub returns-in-None-clause-ok : goal.returns-in-None-clause-ok
 returns-in-None-clause-ok c =
     spoke_none c.args.self.now c.unit_out.new.self c.args.octets.now.items c.args.octets.now.items
     (sym c.in-None.is ∙ c.in_ok-unit.ensures.unit)
-    (ap (λ (t : Term). t.heart) c.in_ok-unit.ensures.ok) (ap (λ (t : Term). t.line) c.in_ok-unit.ensures.ok)
+    (ap (λ (t : Term). t.processes) c.in_ok-unit.ensures.ok) (ap (λ (t : Term). t.line) c.in_ok-unit.ensures.ok)
     (ap (λ (t : Term). t.sending) c.in_ok-unit.ensures.ok) refl

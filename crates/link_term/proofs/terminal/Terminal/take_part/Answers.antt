@@ -7,7 +7,7 @@ use Rattle.link_term.proofs.terminal.Terminal.take_part.Goals as goal
 
 pub take_events-requires : goal.take_events-requires
 take_events-requires c =
-    room_for c.self.inside.heart c.make_room.new.heart c.feed_until-taken.result.1.items c.as_slice.result.now
+    room_for c.self.inside.processes c.make_room.new.processes c.feed_until-taken.result.1.items c.as_slice.result.now
     (c.if-not-make_room.ensures.room refl) (c.if-not-make_room.ensures.tidied refl) c.as_slice.ensures.value
     (c.feed_until-taken.ensures.one c.self.invariant.0 c.self.invariant.1)
 
@@ -17,13 +17,13 @@ returns-clause-heard c =
     (heard_part _ _ c.args.octets.now c.feed_until-taken.result.0 c.feed_until-taken.result.1.items c.requires c.feed_until-taken.ensures.most
     c.feed_until-taken.ensures.all c.feed_until-taken.ensures.stands c.feed_until-taken.ensures.events c.feed_until-taken.ensures.before
     (c.if-not-make_room.ensures.room refl)
-    (taken_from c.as_slice.result.now c.feed_until-taken.result.1.items c.make_room.new.heart c.self.inside.heart c.take_events.new.heart
+    (taken_from c.as_slice.result.now c.feed_until-taken.result.1.items c.make_room.new.processes c.self.inside.processes c.take_events.new.processes
     c.as_slice.ensures.value (c.if-not-make_room.ensures.tidied refl) c.take_events.ensures)
     refl)
 
 pub returns-then-not-make_room-clause-heard : goal.returns-then-not-make_room-clause-heard
 returns-then-not-make_room-clause-heard c =
-    heard_none c.args.self.now _ c.make_room.new.heart c.self.view_is (c.if-not-make_room.ensures.left refl)
+    heard_none c.args.self.now _ c.make_room.new.processes c.self.view_is (c.if-not-make_room.ensures.left refl)
 
 pub returns-clause-left : goal.returns-clause-left
 returns-clause-left c none =
@@ -44,11 +44,11 @@ returns-clause-took c =
     let part = heard_part _ _ c.args.octets.now c.feed_until-taken.result.0 c.feed_until-taken.result.1.items c.requires c.feed_until-taken.ensures.most
     c.feed_until-taken.ensures.all c.feed_until-taken.ensures.stands c.feed_until-taken.ensures.events c.feed_until-taken.ensures.before
     (c.if-not-make_room.ensures.room refl)
-    (taken_from c.as_slice.result.now c.feed_until-taken.result.1.items c.make_room.new.heart c.self.inside.heart c.take_events.new.heart
+    (taken_from c.as_slice.result.now c.feed_until-taken.result.1.items c.make_room.new.processes c.self.inside.processes c.take_events.new.processes
     c.as_slice.ensures.value (c.if-not-make_room.ensures.tidied refl) c.take_events.ensures)
     refl in
     took_from c.args.self.now _ _ c.self.view_is (took_heard c.unacknowledged_messages_stay.ensures _ _ c.self.invariant.0 _ c.self.invariant.1 part)
 
 pub returns-then-not-make_room-clause-took : goal.returns-then-not-make_room-clause-took
 returns-then-not-make_room-clause-took c =
-    took_none c.args.self.now _ c.make_room.new.heart c.self.view_is (c.if-not-make_room.ensures.left refl)
+    took_none c.args.self.now _ c.make_room.new.processes c.self.view_is (c.if-not-make_room.ensures.left refl)

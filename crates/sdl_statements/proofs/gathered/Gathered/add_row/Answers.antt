@@ -1,7 +1,7 @@
 use Rattle.std.proofs.Common.{false, refl}
 use Rattle.std.specs.Option.{option_map_or}
 use Rattle.sdl_ast.specs.Views.{block_of, process_of}
-use Rattle.sdl_senders.specs.Reaches.{is_marked}
+use Rattle.sdl_scopes.specs.Reaches.{is_marked}
 use Rattle.sdl_statements.proofs.Gathering.{not_is}
 use Rattle.sdl_statements.proofs.RowsAdded.{asks_new, asks_there}
 use Rattle.sdl_statements.proofs.gathered.Gathered.add_row.Goals as goal

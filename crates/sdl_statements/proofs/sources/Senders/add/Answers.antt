@@ -1,7 +1,7 @@
 use Rattle.std.proofs.Common.{◌&&◌, false, sym, ap, subst}
 use Rattle.sdl_sound.specs.Receivers.{party_of, carries}
-use Rattle.sdl_senders.specs.Parties.{IsSender, gets_back}
-use Rattle.sdl_senders.specs.declared.sender.Sender.{Sender}
+use Rattle.sdl_scopes.specs.Parties.{IsSender, gets_back}
+use Rattle.sdl_scopes.specs.declared.sender.Sender.{Sender}
 use Rattle.sdl_statements.proofs.Gathering.{gather_same, gather_nobody}
 use Rattle.sdl_statements.proofs.sources.Senders.add.Goals as goal
 

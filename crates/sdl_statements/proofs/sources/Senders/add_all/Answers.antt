@@ -1,7 +1,7 @@
 use Rattle.std.proofs.Common.{◌&&◌, List, take, sym, ap, subst, take_all}
 use Rattle.std.specs.List.{list_all}
-use Rattle.sdl_senders.specs.Parties.{IsSender, gets_back}
-use Rattle.sdl_senders.specs.declared.sender.Sender.{Sender}
+use Rattle.sdl_scopes.specs.Parties.{IsSender, gets_back}
+use Rattle.sdl_scopes.specs.declared.sender.Sender.{Sender}
 use Rattle.sdl_statements.proofs.Gathering.{gather_same, gather_more, gather_none}
 use Rattle.sdl_statements.proofs.sources.Senders.add_all.Goals as goal
 

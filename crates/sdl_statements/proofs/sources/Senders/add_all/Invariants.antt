@@ -2,7 +2,7 @@ use Rattle.std.proofs.Common.{◌&&◌, Bool, List, ℕ, take}
 use Rattle.std.specs.Prelude.{All}
 use Rattle.std.specs.List.{list_all}
 use Rattle.sdl_ast.specs.Plain.{PlainBlock, PlainProcess}
-use Rattle.sdl_senders.specs.Parties.{IsSender, gets_back}
+use Rattle.sdl_scopes.specs.Parties.{IsSender, gets_back}
 use Rattle.sdl_statements.specs.Sources.{Gathers}
 use Rattle.sdl_statements.proofs.sources.Senders.add_all.Given as goal
 

@@ -1,6 +1,6 @@
 use Rattle.std.proofs.Common.{false, refl}
 use Rattle.std.specs.Option.{option_map_or}
-use Rattle.sdl_senders.specs.Reaches.{is_marked}
+use Rattle.sdl_scopes.specs.Reaches.{is_marked}
 use Rattle.sdl_statements.proofs.Gathering.{gather_party, gather_there, not_is}
 use Rattle.sdl_statements.proofs.sources.Senders.add_party.Goals as goal
 

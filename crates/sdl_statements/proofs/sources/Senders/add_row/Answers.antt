@@ -2,7 +2,7 @@ use Rattle.std.proofs.Common.{◌&&◌, sym, ap, subst}
 use Rattle.std.specs.List.{list_all}
 use Rattle.sdl_ast.specs.Views.{block_of, process_of}
 use Rattle.sdl_sound.specs.Receivers.{answers}
-use Rattle.sdl_senders.specs.Parties.{gets_back}
+use Rattle.sdl_scopes.specs.Parties.{gets_back}
 use Rattle.sdl_statements.specs.SenderTables.{AreSendersOf}
 use Rattle.sdl_statements.proofs.Gathering.{gather_same}
 use Rattle.sdl_statements.proofs.sources.Senders.add_row.Goals as goal

@@ -1,5 +1,5 @@
 use Rattle.std.proofs.Common.{◌≡◌, ◌&&◌, ◌||◌, ℕ, List, length, subst}
-use Rattle.unset_paths.specs.Graph.{has}
+use Rattle.sdl_unset.specs.Graph.{has}
 use Rattle.sdl_unset.specs.Flows.{mask_at}
 use Rattle.sdl_unset.proofs.Walkers.{joined}
 use Rattle.sdl_unset.proofs.walker.Walker.join.Goals as goal

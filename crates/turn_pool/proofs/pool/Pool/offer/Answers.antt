@@ -1,6 +1,6 @@
 use Rattle.std.proofs.Common.{sym}
 use Rattle.std.proofs.lemmas.Result.{err_from_is_err_and}
-use Rattle.link_machine.specs.declared.event.Event.TheVariants.{Offer as Offered}
+use Rattle.actor_machine.specs.declared.event.Event.TheVariants.{Offer as Offered}
 use Rattle.turn_pool.proofs.Calls.{own, taken_by}
 use Rattle.turn_pool.proofs.pool.Pool.offer.Goals as goal
 

@@ -1,6 +1,6 @@
 use Rattle.std.proofs.Common.{ap, ◌∙◌}
 use Rattle.std.proofs.lemmas.Result.{err_from_is_err_and}
-use Rattle.link_machine.specs.Ledger.{next}
+use Rattle.actor_machine.specs.Ledger.{next}
 use Rattle.turn_pool.proofs.Calls.{own_rebase}
 use Rattle.turn_pool.proofs.pool.Pool.rebase.Goals as goal
 

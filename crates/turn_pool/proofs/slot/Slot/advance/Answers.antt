@@ -1,7 +1,7 @@
 use Rattle.std.proofs.Common.{◌≡◌, ◌^◌, ◌<◌, refl, ap, ◌∙◌, arith}
-use Rattle.link_machine.specs.Ledger.{ask, next}
-use Rattle.link_machine.specs.declared.event.Event.{Event}
-use Rattle.link_machine.specs.declared.event.Event.TheVariants.{Advance}
+use Rattle.actor_machine.specs.Ledger.{ask, next}
+use Rattle.actor_machine.specs.declared.event.Event.{Event}
+use Rattle.actor_machine.specs.declared.event.Event.TheVariants.{Advance}
 use Rattle.turn_pool.specs.Links.{Link}
 use Rattle.turn_pool.proofs.Standing.{same_receipt, stands_at}
 use Rattle.turn_pool.proofs.slot.Slot.advance.Goals as goal

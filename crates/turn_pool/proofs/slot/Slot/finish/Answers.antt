@@ -1,5 +1,5 @@
 use Rattle.std.proofs.Common.{◌≡◌, ◌^◌, ◌<◌, ap, arith, rules}
-use Rattle.link_machine.specs.Ledger.{next}
+use Rattle.actor_machine.specs.Ledger.{next}
 use Rattle.turn_pool.specs.Links.{Link}
 use Rattle.turn_pool.proofs.slot.Slot.finish.Goals as goal
 

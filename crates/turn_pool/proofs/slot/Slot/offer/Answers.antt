@@ -1,8 +1,8 @@
 use Rattle.std.proofs.Common.{◌≡◌, ◌^◌, ◌<◌, ◌+◌, [], ◌∷◌, ◌++◌, Some, sym, ap, ◌∙◌, arith}
 use Rattle.std.proofs.lemmas.Option.{same_Some}
-use Rattle.link_machine.specs.Ledger.{Ledger, ask, next}
-use Rattle.link_machine.specs.declared.event.Event.{Event}
-use Rattle.link_machine.specs.declared.event.Event.TheVariants.{Offer as Offered}
+use Rattle.actor_machine.specs.Ledger.{Ledger, ask, next}
+use Rattle.actor_machine.specs.declared.event.Event.{Event}
+use Rattle.actor_machine.specs.declared.event.Event.TheVariants.{Offer as Offered}
 use Rattle.turn_pool.specs.Links.{Link}
 use Rattle.turn_pool.proofs.Asks.{offered}
 use Rattle.turn_pool.proofs.Standing.{same_receipt, stands_at}

@@ -1,0 +1,103 @@
+-- One turn of a link that is left to itself, and a rest of them. An actor can have a turn where the
+-- book takes its Begin, or refuses it since an item has to be thrown away first (B11) and takes its
+-- Skip. It could if there were room where the journal alone is against that (B8). Else it can do
+-- nothing.
+use Rattle.std.specs.Prelude.{ℕ, zero, suc, ◌+◌, Option, Some, None, length}
+use Rattle.actor_book.specs.Ledger.{Ledger, state_of, ask}
+use Rattle.actor_book.specs.Step.{Answer, Stuck, Says}
+use Rattle.actor_book.specs.actor_machine_types.event.Event.TheVariants.{Begin, Skip, Finish}
+use Rattle.actor_book.specs.actor_machine_types.reply.Refusal.{Refusal}
+use Rattle.actor_book.specs.actor_machine_types.reply.Refusal.TheVariants.{JournalFull, SkipFirst}
+use Rattle.actor_book.specs.actor_machine_types.reply.Reply.{Reply}
+use Rattle.actor_book.specs.actor_machine_types.reply.Reply.TheVariants.{Refused}
+use Rattle.actor_book.specs.declared.turn.Turn.{Turn}
+use Rattle.actor_book.specs.declared.turn.Turn.TheVariants.{Made, Blocked, Idle}
+
+-- the book after a try, and what came of it
+pub record Tried : Type 0 where
+  pub book : Ledger
+  pub turn : Turn
+
+-- a journal without room is told apart; by any other refusal the actor can do nothing
+abbrev pub turn_refused : Refusal → Turn
+turn_refused JournalFull = Blocked
+turn_refused _ = Idle
+
+-- nothing happens
+abbrev pub stays : Ledger → Turn → Tried
+stays b t = record { book = b; turn = t }
+
+-- why an event was refused, if it was
+abbrev pub refusal_by : Reply → Option Refusal
+refusal_by (Refused r) = Some r
+refusal_by _ = None
+
+abbrev pub refusal_in : Answer → Option Refusal
+refusal_in (Stuck x) = None
+refusal_in (Says r) = refusal_by r
+
+abbrev pub skips_by : Ledger → Ledger → Option Refusal → Tried
+skips_by b c None = record { book = c; turn = Made }
+skips_by b c (Some r) = stays b (turn_refused r)
+
+-- an item that is no input of the actor's state is thrown away
+abbrev pub skips : ℕ → Ledger → Tried
+skips n b = skips_by b (ask b (Skip n)).book (refusal_in (ask b (Skip n)).answer)
+
+-- a turn that began ends by what the set's own code does
+abbrev pub ends : ℕ → Ledger → Tried
+ends n c = record { book = (ask c (Finish n)).book; turn = Made }
+
+abbrev pub by_refusal : ℕ → Ledger → Refusal → Tried
+by_refusal n b SkipFirst = skips n b
+by_refusal n b r = stays b (turn_refused r)
+
+abbrev pub begins_by : ℕ → Ledger → Ledger → Option Refusal → Tried
+begins_by n b c None = ends n c
+begins_by n b c (Some r) = by_refusal n b r
+
+-- actor n has a turn, from its beginning to its end, or throws an item away, if it can; else
+-- nothing happens, and why is told
+unfoldable pub tried : ℕ → Ledger → Tried
+tried n b = begins_by n b (ask b (Begin n)).book (refusal_in (ask b (Begin n)).answer)
+
+-- how many actors a link has
+abbrev pub actors_in : Ledger → ℕ
+actors_in b = length (state_of b).actors
+
+-- the first try where it came to something, else the second
+abbrev pub first_that : Tried → Tried → Turn → Tried
+first_that t u Made = t
+first_that t u Blocked = t
+first_that t u Idle = u
+
+-- the same of so many actors from number n on
+unfoldable pub first_from : ℕ → ℕ → Ledger → Tried
+first_from zero n b = stays b Idle
+first_from (suc k) n b = first_that (tried n b) (first_from k (n + 1) b) (tried n b).turn
+
+-- the turn of the least actor that can
+unfoldable pub least_turn : Ledger → Tried
+least_turn b = first_from (actors_in b) 0 b
+
+-- how many turns a rest has at most
+abbrev pub MOST_TURNS : ℕ
+MOST_TURNS = 10000
+
+-- a book after a rest, and how many turns there were
+pub record Rested : Type 0 where
+  pub book : Ledger
+  pub turns : ℕ
+
+abbrev pub one_more : Rested → Rested
+one_more r = record { book = r.book; turns = r.turns + 1 }
+
+abbrev pub goes_on : Ledger → Rested → Turn → Rested
+goes_on b r Made = one_more r
+goes_on b r Blocked = record { book = b; turns = 0 }
+goes_on b r Idle = record { book = b; turns = 0 }
+
+-- one turn after another, so many at most
+unfoldable pub rests : ℕ → Ledger → Rested
+rests zero b = record { book = b; turns = 0 }
+rests (suc k) b = goes_on b (rests k (least_turn b).book) (least_turn b).turn

@@ -1,0 +1,5 @@
+use Rattle.actor_machine.proofs.Ends as lemmas
+use Rattle.actor_machine.proofs.laws.never_stuck_law.Goals as goal
+
+pub returns : goal.returns
+returns c = lemmas.never_stuck_law c.safe_law.ensures c.run_law.ensures

@@ -1,0 +1,101 @@
+-- What holds of every state of a link: each signal that waits came along a route with parameters of
+-- its sorts, each timer is its receiver's own, both fit wherever the receiver is, and each turn
+-- that is out has an input that fits it.
+use Rattle.std.specs.Prelude.{◌≡◌, ℕ, ◌<◌, List, length, map, Any, Option, None, Some, slice_get}
+use Rattle.std.specs.List.{AllByRecursion}
+use Rattle.std.specs.FinMap as finite
+use Rattle.turn_code.specs.Values.{sort_of}
+use Rattle.turn_code.specs.Routes.{Brings, Reaches}
+use Rattle.turn_code.specs.Fits.{HaveSorts, AreSet, Fits}
+use Rattle.turn_code.specs.Start.{initial_values}
+use Rattle.turn_code.specs.Transitions.{parameters_of}
+use Rattle.turn_code.specs.declared.value.Value.{Value}
+use Rattle.turn_code.specs.declared.input.Party.TheVariants.{Environment}
+use Rattle.turn_code.specs.declared.input.Place.TheVariants.{Start, State}
+use Rattle.turn_code.specs.declared.draft.Draft.{Draft}
+use Rattle.turn_code.specs.declared.draft.DraftProcess.{DraftProcess}
+use Rattle.turn_code.specs.declared.draft.DraftState.{DraftState}
+use Rattle.input_port.specs.declared.queue.Arrival.{Arrival}
+use Rattle.input_port.specs.declared.queue.Item.{Item}
+use Rattle.input_port.specs.declared.queue.Item.TheVariants.{Signal, Timer}
+use Rattle.actor_machine.specs.Names.{actors_of}
+use Rattle.actor_machine.specs.declared.name.ActorName.{ActorName}
+use Rattle.tick_wheel.specs.TimerId.{TimerId}
+use Rattle.tick_wheel.specs.Timers.{Deadlines}
+use Rattle.actor_machine.specs.Core.{Core, names_in}
+use Rattle.actor_machine.specs.declared.actor.Actor.{Actor}
+use Rattle.actor_machine.specs.declared.actor.Given.{Given}
+use Rattle.actor_machine.specs.declared.actor.Standing.{Standing}
+use Rattle.actor_machine.specs.declared.actor.Standing.TheVariants.{At, Stopped}
+use Rattle.actor_machine.specs.declared.reply.Emitted.{Emitted}
+
+-- the signal is one of the set's, its parameters have that signal's sorts, and a route brought it
+-- from its sender to process n
+pub record Arrived (d : Draft) (n : ℕ) (a : Arrival) : Type 0 where
+  pub there : a.signal.0 < length d.signals
+  pub sorts : map sort_of a.parameters.items ≡ parameters_of (slice_get d.signals a.signal.0)
+  pub brought : Any (Brings a.sender.party n a.signal) d.routes
+
+-- a signal that came so, or the signal of a timer of the process
+abbrev pub ItemFits : Draft → ℕ → DraftProcess → Item → Type 0
+ItemFits d n p (Signal a) = Arrived d n a
+ItemFits d n p (Timer t) = t.0 < length p.timers
+
+-- the state is there, and the variables that are said to be set there have values
+pub record IsReadyAt (p : DraftProcess) (q : ℕ) (vs : List (Option Value)) : Type 0 where
+  pub state : DraftState
+  pub there : slice_get p.states q ≡ Some state
+  pub set : AreSet state.set vs
+
+abbrev pub StandingFits : DraftProcess → Standing → List (Option Value) → Type 0
+StandingFits p (At Start) vs = vs ≡ initial_values p.variables
+StandingFits p (At (State q)) vs = IsReadyAt p q.0 vs
+StandingFits p Stopped vs = Unit {0}
+
+-- an actor with a turn out hasn't stopped, and the turn's input fits the transition
+abbrev pub GivenFits : Draft → ℕ → Standing → Option Given → Type 0
+GivenFits d n (At s) None = Unit {0}
+GivenFits d n (At s) (Some g) = Fits d n s g.number g.input
+GivenFits d n Stopped None = Unit {0}
+GivenFits d n Stopped (Some g) = ⊥
+
+-- an actor of a process of the set
+pub record ActorFits (d : Draft) (a : Actor) : Type 0 where
+  pub process : DraftProcess
+  pub there : slice_get d.processes a.name.process.0 ≡ Some process
+  pub variables : HaveSorts process.variables a.variables.items
+  pub standing : StandingFits process a.standing a.variables.items
+  pub items : AllByRecursion (ItemFits d a.name.process.0 process) a.port.items
+  pub given : GivenFits d a.name.process.0 a.standing a.given
+
+-- actor n of the set is called so
+abbrev pub IsCalled : Draft → ℕ → ActorName → Type 0
+IsCalled d n me = slice_get (actors_of d.processes) n ≡ Some me
+
+-- the timer is one of its actor's process
+pub record TimerFits (d : Draft) (t : TimerId) : Type 0 where
+  pub name : ActorName
+  pub actor : IsCalled d t.actor name
+  pub process : DraftProcess
+  pub there : slice_get d.processes name.process.0 ≡ Some process
+  pub number : t.number < length process.timers
+
+abbrev pub TimersFit : Draft → Deadlines → Type 0
+TimersFit d deadlines =
+    (t : TimerId) (until : ℕ) → finite.get deadlines t ≡ Some until → TimerFits d t
+
+-- an actor of the set sent it, its signal is one of the set's, its parameters have that signal's
+-- sorts, and a route carries it to the environment
+pub record EmittedFits (d : Draft) (x : Emitted) : Type 0 where
+  pub number : ℕ
+  pub sender : IsCalled d number x.sender
+  pub there : x.signal.0 < length d.signals
+  pub sorts : map sort_of x.parameters.items ≡ parameters_of (slice_get d.signals x.signal.0)
+  pub reaches : Reaches d.routes x.sender.process.0 Environment x.signal
+
+-- all of a link: its actors are those of the set
+pub record CoreFits (d : Draft) (w : Core) : Type 0 where
+  pub each : (n : ℕ) (a : Actor) → slice_get w.actors n ≡ Some a → ActorFits d a
+  pub names : names_in w.actors ≡ actors_of d.processes
+  pub timers : TimersFit d w.timers.deadlines
+  pub ring : AllByRecursion (EmittedFits d) w.ring.items

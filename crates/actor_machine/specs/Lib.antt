@@ -1,0 +1,13 @@
+pub mod Core
+pub mod Effects
+pub mod Fits
+pub mod Full
+pub mod Kept
+pub mod Laws
+pub mod Ledger
+pub mod Looking
+pub mod NameLaws
+pub mod Names
+pub mod Printed
+pub mod Refusals
+pub mod Step

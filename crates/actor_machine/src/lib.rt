@@ -1,0 +1,19 @@
+//! What the processes of a link do, said on lists: one link's actors with their ports, its timers, its clock and what waits
+//! for the environment, as a machine whose steps are the events of a link (Z.100, the behaviour of processes).
+#![tactic(auto)]
+
+mod actor;
+mod event;
+mod found;
+pub mod laws;
+mod name;
+pub mod name_laws;
+mod number;
+mod reply;
+
+pub use actor::{Actor, Given, Standing};
+pub use event::{Event, Offer};
+pub use found::Found;
+pub use name::ActorName;
+pub use number::{first_of, number_of};
+pub use reply::{Begun, Cause, Emitted, Lost, Refusal, Reply, Report};

@@ -1,6 +1,0 @@
-//! Actors as scripts call them.
-#![tactic(auto)]
-
-mod word;
-
-pub use word::{Called, actor_called};

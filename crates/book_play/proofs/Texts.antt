@@ -1,9 +1,0 @@
--- Runs that begin.
-use Rattle.std.proofs.Common.{ℕ, List, [], Option, None}
-use Rattle.std.proofs.KnownBytes.{Appends-nil}
-use Rattle.link_machine.specs.Ledger.{Ledger}
-use Rattle.book_play.specs.Played.{begins, IsRun}
-
--- nothing was obeyed yet
-pub run_begins : (b : Ledger) (now : Option (List ℕ)) → IsRun b [] now now b None
-run_begins b now = record { lines = []; goes = begins; written = Appends-nil now }

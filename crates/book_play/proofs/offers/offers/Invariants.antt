@@ -1,8 +1,0 @@
--- The offers that are left come to what all come to.
-use Rattle.std.proofs.Common.{◌≡◌, ◌-◌}
-use Rattle.script_lines.specs.Commands.{plain_offer}
-use Rattle.book_play.specs.Answers.{floods}
-use Rattle.book_play.proofs.offers.offers.Given as goal
-
-abbrev pub invariant-loop-sent : goal.invariant-loop-sent
-invariant-loop-sent l = floods (l.times - l.sent) (plain_offer l.given) l.book ≡ floods l.times (plain_offer l.given) l.initial.book

@@ -1,3 +1,0 @@
-pub mod Leasts
-pub mod Owned
-pub mod Wholes

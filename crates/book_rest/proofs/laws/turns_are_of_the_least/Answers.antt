@@ -1,5 +1,0 @@
-use Rattle.book_rest.proofs.Leasts.{turn_law}
-use Rattle.book_rest.proofs.laws.turns_are_of_the_least.Goals as goal
-
-pub returns : goal.returns
-returns c = turn_law

@@ -1,8 +1,0 @@
-use Rattle.book_rest.proofs.Wholes.{turned_book, turned_made}
-use Rattle.book_rest.proofs.turn.try_actor.Goals as goal
-
-pub returns-in-Ok-clause-turn : goal.returns-in-Ok-clause-turn
-returns-in-Ok-clause-turn c = turned_made c.args.actor _ c.args.book.now c.in-Ok.ensures.took
-
-pub returns-in-Ok-clause-book : goal.returns-in-Ok-clause-book
-returns-in-Ok-clause-book c = turned_book c.args.actor _ c.args.book.now c.turn.new.self c.in-Ok.ensures.took c.in-Ok.ensures.book

@@ -1,5 +1,0 @@
-pub mod Ends
-pub mod Words
-pub mod Asked
-pub mod Commands
-pub mod TurnedDown

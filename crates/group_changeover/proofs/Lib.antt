@@ -1,0 +1,5 @@
+pub mod Counting
+pub mod Equal
+mod Keeping
+pub mod Lists
+mod Moving

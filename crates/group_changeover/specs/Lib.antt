@@ -1,0 +1,9 @@
+pub mod Changeovers
+pub mod Labels
+pub mod Laws
+pub mod Limits
+pub mod Availability
+pub mod Places
+pub mod Printed
+pub mod Saying
+pub mod Sharing

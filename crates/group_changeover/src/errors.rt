@@ -1,0 +1,203 @@
+//! Why a call of a link set is refused.
+
+ghost use Rattle.std.specs.Prelude.{Some};
+ghost use Rattle.group_changeover.specs.Printed.{send_error_text, fail_error_text, retrieve_error_text, abandon_error_text, divert_fault_text, rebalance_error_text, link_error_text, line_error_text, command_error_text};
+
+use actor_machine::Refusal;
+use std::fmt;
+use thiserror::Error;
+
+/// Why a message isn't taken.
+#[derive(Clone, Copy, Debug, PartialEq, Eq, Error)]
+pub enum SendError {
+    /// Its selection has no link, or that link is out of service and not in changeover.
+    NoLink,
+    /// Its link is in changeover.
+    Waiting,
+    /// 1,024 messages or more wait with its link.
+    Full,
+}
+
+/// Why no changeover begins.
+#[derive(Clone, Copy, Debug, PartialEq, Eq, Error)]
+pub enum FailError {
+    /// There is no such link.
+    NoLink,
+    /// Its changeover goes on.
+    Waiting,
+}
+
+/// Why messages aren't handed out.
+#[derive(Clone, Copy, Debug, PartialEq, Eq, Error)]
+pub enum RetrieveError {
+    /// There is no such link, or no changeover goes on there.
+    NoLink,
+    /// They are handed out already, or nothing was told and fewer than 1,400 ticks have passed since the changeover began.
+    Waiting,
+    /// It isn't known whether so many of them have arrived.
+    Unsure(usize),
+    /// There is no memory.
+    NoMemory,
+}
+
+/// Why messages aren't given up.
+#[derive(Clone, Copy, Debug, PartialEq, Eq, Error)]
+pub enum AbandonError {
+    /// There is no such link, or no changeover goes on there.
+    NoLink,
+    /// `retrieve` isn't refused as unsure.
+    Waiting,
+    /// There is no memory.
+    NoMemory,
+}
+
+/// Why retrieved messages aren't diverted.
+#[derive(Clone, Copy, Debug, PartialEq, Eq, Error)]
+pub enum DivertFault {
+    /// No link may take them: no other one is in service that didn't fail, and their own is out of service.
+    NoLink,
+    /// The link that has to take those of a selection, or all of them where they go back, would hold more than 1,151.
+    Full,
+}
+
+/// Why a set isn't rebalanced.
+#[derive(Clone, Copy, Debug, PartialEq, Eq, Error)]
+pub enum RebalanceError {
+    /// A changeover goes on.
+    Waiting,
+    /// A selection that would move has messages held by its link.
+    NotEmpty,
+}
+
+/// Why nothing is done by a link.
+#[derive(Clone, Copy, Debug, PartialEq, Eq, Error)]
+pub enum LinkError {
+    /// There is no such link.
+    NoLink,
+}
+
+/// Why nothing goes out on a link.
+#[derive(Clone, Copy, Debug, PartialEq, Eq, Error)]
+pub enum LineError {
+    /// There is no such link.
+    NoLink,
+    /// There is no memory.
+    NoMemory,
+}
+
+/// Why a command isn't given to a link.
+#[derive(Clone, Copy, Debug, PartialEq, Eq, Error)]
+pub enum CommandError {
+    /// There is no such link.
+    NoLink,
+    /// It is Start, and the messages of a changeover aren't handed out yet.
+    Waiting,
+    /// The terminal's refusal.
+    Refused(Refusal),
+    /// There is no memory to make room in the terminal's journal.
+    NoMemory,
+}
+
+impl fmt::Display for SendError {
+    ghost output = { λ e. Some (send_error_text e) };
+
+    fn fmt<W: fmt::Write>(&self, f: &mut fmt::Formatter<W>) -> fmt::Result {
+        f.write_str(match self {
+            Self::NoLink => "K1 NoLink",
+            Self::Waiting => "K2 Waiting",
+            Self::Full => "E1 Full",
+        })
+    }
+}
+
+impl fmt::Display for FailError {
+    ghost output = { λ e. Some (fail_error_text e) };
+
+    fn fmt<W: fmt::Write>(&self, f: &mut fmt::Formatter<W>) -> fmt::Result {
+        f.write_str(match self {
+            Self::NoLink => "K1 NoLink",
+            Self::Waiting => "K2 Waiting",
+        })
+    }
+}
+
+impl fmt::Display for RetrieveError {
+    ghost output = { λ e. Some (retrieve_error_text e) };
+
+    fn fmt<W: fmt::Write>(&self, f: &mut fmt::Formatter<W>) -> fmt::Result {
+        match self {
+            Self::NoLink => f.write_str("K1 NoLink"),
+            Self::Waiting => f.write_str("K2 Waiting"),
+            Self::Unsure(count) => write!(f, "K4 Unsure {count}"),
+            Self::NoMemory => f.write_str("out of memory"),
+        }
+    }
+}
+
+impl fmt::Display for AbandonError {
+    ghost output = { λ e. Some (abandon_error_text e) };
+
+    fn fmt<W: fmt::Write>(&self, f: &mut fmt::Formatter<W>) -> fmt::Result {
+        f.write_str(match self {
+            Self::NoLink => "K1 NoLink",
+            Self::Waiting => "K2 Waiting",
+            Self::NoMemory => "out of memory",
+        })
+    }
+}
+
+impl fmt::Display for DivertFault {
+    ghost output = { λ e. Some (divert_fault_text e) };
+
+    fn fmt<W: fmt::Write>(&self, f: &mut fmt::Formatter<W>) -> fmt::Result {
+        f.write_str(match self {
+            Self::NoLink => "K1 NoLink",
+            Self::Full => "E1 Full",
+        })
+    }
+}
+
+impl fmt::Display for RebalanceError {
+    ghost output = { λ e. Some (rebalance_error_text e) };
+
+    fn fmt<W: fmt::Write>(&self, f: &mut fmt::Formatter<W>) -> fmt::Result {
+        f.write_str(match self {
+            Self::Waiting => "K2 Waiting",
+            Self::NotEmpty => "K3 NotEmpty",
+        })
+    }
+}
+
+impl fmt::Display for LinkError {
+    ghost output = { λ e. Some (link_error_text e) };
+
+    fn fmt<W: fmt::Write>(&self, f: &mut fmt::Formatter<W>) -> fmt::Result {
+        f.write_str(match self {
+            Self::NoLink => "K1 NoLink",
+        })
+    }
+}
+
+impl fmt::Display for LineError {
+    ghost output = { λ e. Some (line_error_text e) };
+
+    fn fmt<W: fmt::Write>(&self, f: &mut fmt::Formatter<W>) -> fmt::Result {
+        f.write_str(match self {
+            Self::NoLink => "K1 NoLink",
+            Self::NoMemory => "out of memory",
+        })
+    }
+}
+
+impl fmt::Display for CommandError {
+    ghost output = { λ e. Some (command_error_text e) };
+
+    fn fmt<W: fmt::Write>(&self, f: &mut fmt::Formatter<W>) -> fmt::Result {
+        match self {
+            Self::NoLink => f.write_str("K1 NoLink"),
+            Self::Waiting => f.write_str("K2 Waiting"),
+            Self::Refused(refusal) => f.write_str(refusal.name()),
+            Self::NoMemory => f.write_str("out of memory"),
+        }
+    }
+}

@@ -1,0 +1,23 @@
+//! Changeover of one link of a set (Q.704, section 5): labels, the four messages as octets, what a link's state in a changeover says and
+//! answers, where each message stands, load sharing, and how a link set's refusals are printed.
+#![tactic(auto)]
+
+mod availability;
+mod changeover;
+mod errors;
+mod labels;
+mod laws;
+mod saying;
+mod sharing;
+mod table;
+
+pub use availability::{Answer, Availability, Changing, SELECTIONS, T2};
+pub use changeover::{Changeover, Kind, read_changeover};
+pub use errors::{
+    AbandonError, CommandError, DivertFault, FailError, LineError, LinkError, RebalanceError,
+    RetrieveError, SendError,
+};
+pub use labels::{Label, label_of};
+pub use laws::steps_keep_places;
+pub use sharing::{Counts, count_on, counts_of, pick, selection_of};
+pub use table::Table;

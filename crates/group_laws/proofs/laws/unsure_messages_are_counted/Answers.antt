@@ -1,5 +1,0 @@
-use Rattle.group_laws.proofs.Counting.{unsure_are_counted}
-use Rattle.group_laws.proofs.laws.unsure_messages_are_counted.Goals as goal
-
-pub returns : goal.returns
-returns c = unsure_are_counted

@@ -1,3 +1,0 @@
-pub mod Heads
-pub mod GroupCommands
-pub mod GroupScripts

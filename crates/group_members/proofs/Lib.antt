@@ -1,0 +1,7 @@
+pub mod Below
+pub mod ByLinks
+pub mod Diversions
+pub mod Opening
+pub mod Passing
+pub mod Refusing
+pub mod Turning

@@ -1,0 +1,87 @@
+-- A command to the terminal of a link.
+use Rattle.std.specs.Prelude.{◌≡◌, ◌&&◌, Bool, true, false, not, if◌then◌else◌, Option, Some, None}
+use Rattle.std.specs.Prelude.{is_some}
+use Rattle.actor_machine.specs.Ledger.{ask}
+use Rattle.actor_machine.specs.Step.{Says}
+use Rattle.actor_machine.specs.declared.reply.Refusal.{Refusal}
+use Rattle.actor_machine.specs.declared.reply.Reply.TheVariants as reply
+use Rattle.link_term.specs.Machine.{is_low, tidied, offered}
+use Rattle.link_term.specs.Offering.{command_event}
+use Rattle.link_term.specs.link_processes_types.commands.Command.{Command}
+use Rattle.link_term.specs.link_processes_types.commands.Command.TheVariants as order
+use Rattle.link_term.specs.Term.{with_processes}
+use Rattle.link_term.specs.Kept.{Keeps}
+use Rattle.group_changeover.specs.declared.availability.Availability.{Availability}
+use Rattle.group_changeover.specs.declared.availability.Changing.{Changing}
+use Rattle.group_changeover.specs.declared.errors.CommandError.{CommandError}
+use Rattle.group_changeover.specs.declared.errors.CommandError.TheVariants as error
+use Rattle.group_members.specs.declared.link.Link.{Link}
+use Rattle.group_members.specs.OneLink.{is_serving}
+
+abbrev pub is_start : Command → Bool
+is_start order.Start = true
+is_start order.PowerOn = false
+is_start order.Stop = false
+is_start order.Emergency = false
+is_start order.Calm = false
+is_start order.Outage = false
+is_start order.Back = false
+is_start order.Busy = false
+is_start order.Free = false
+
+abbrev pub is_barred_in : Option Changing → Bool
+is_barred_in None = false
+is_barred_in (Some c) = not (is_some c.retrieval)
+
+-- Start is no command in a changeover until its messages are handed out: what the far side tells
+-- speaks of the numbers that stand.
+abbrev pub is_barred : Command → Link → Bool
+is_barred command k = is_start command && is_barred_in k.availability.changing
+
+abbrev pub starts_anew : Command → Link → Bool
+starts_anew command k = is_start command && not (is_serving k)
+
+-- A link to which Start is commanded while it is out of service is started anew.
+abbrev pub started : Command → Link → Availability
+started command k =
+    if starts_anew command k then record k.availability { anew = true } else k.availability
+
+-- The terminal took it.
+pub record Commanded (command : Command) (old new : Link) : Type 0 where
+  pub free : is_barred command old ≡ false
+  pub answer :
+      let t = tidied old.terminal.processes
+      in Says reply.Offered ≡ (ask t.book (command_event t.names command)).answer
+  pub terminal :
+      let t = tidied old.terminal.processes
+      in new.terminal ≡ with_processes old.terminal (offered (command_event t.names command) t)
+  pub keeps : Keeps old.terminal new.terminal
+  pub availability : new.availability ≡ started command old
+
+-- The terminal refused it: nothing changed, but that there may be room in its journal now.
+pub record Refused (command : Command) (refusal : Refusal) (old new : Link) : Type 0 where
+  pub free : is_barred command old ≡ false
+  pub answer :
+      let t = tidied old.terminal.processes
+      in Says (reply.Refused refusal) ≡ (ask t.book (command_event t.names command)).answer
+  pub terminal : new.terminal ≡ with_processes old.terminal (tidied old.terminal.processes)
+  pub availability : new.availability ≡ old.availability
+
+-- It has to wait.
+pub record Barred (command : Command) (old new : Link) : Type 0 where
+  pub bars : is_barred command old ≡ true
+  pub same : new ≡ old
+
+-- Its journal lacks room, and there was no memory for it.
+pub record Lacks (command : Command) (old new : Link) : Type 0 where
+  pub free : is_barred command old ≡ false
+  pub low : is_low old.terminal.processes ≡ true
+  pub same : new ≡ old
+
+-- what a link makes of a command, by why it isn't done
+abbrev pub Commands : Command → Option CommandError → Link → Link → Type 0
+Commands command None old new = Commanded command old new
+Commands command (Some error.NoLink) old new = ⊥
+Commands command (Some error.Waiting) old new = Barred command old new
+Commands command (Some (error.Refused refusal)) old new = Refused command refusal old new
+Commands command (Some error.NoMemory) old new = Lacks command old new

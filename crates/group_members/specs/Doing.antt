@@ -1,0 +1,81 @@
+-- What a link does by its terminal, and that it comes into service.
+use Rattle.std.specs.Prelude.{◌≡◌, ℕ, ◌<◌, ◌≤◌, ◌&&◌, ◌⊎◌, Bool, true, false, not, if◌then◌else◌}
+use Rattle.std.specs.Prelude.{List, length, take, Option, Some, None, slice_get, slice_set}
+use Rattle.link_transceiver.specs.Limits.{KEPT_MESSAGES}
+use Rattle.link_term.specs.Machine.{is_low, sent, tidied}
+use Rattle.link_term.specs.Term.{term_with_transceiver, with_processes}
+use Rattle.link_term.specs.Kept.{Took, Sends, window_of}
+use Rattle.link_term.specs.Hearing.{Heard}
+use Rattle.link_term.specs.Speaking.{IsSpoken}
+use Rattle.link_transceiver.specs.Reporting.{reported}
+use Rattle.link_transceiver.specs.declared.signals.Report.{Report}
+use Rattle.su_octets.specs.declared.units.Unit.{Unit}
+use Rattle.group_changeover.specs.Availability.{serves}
+use Rattle.group_members.specs.declared.link.Link.{Link}
+
+-- it came into service since that was last asked
+abbrev pub came : Link → Bool
+came k = k.terminal.processes.transceiver.came
+
+-- for the first time
+abbrev pub came_first : Link → Bool
+came_first k = came k && not k.availability.served
+
+-- It counts as one that has been in service, and no longer as started anew.
+abbrev pub asked : Link → Link
+asked k = record {
+  terminal = term_with_transceiver k.terminal
+      (record k.terminal.processes.transceiver { came = false });
+  availability = if came k then serves k.availability else k.availability;
+}
+
+abbrev pub came_by : Option Link → Bool
+came_by None = false
+came_by (Some k) = came_first k
+
+-- Its journal is low: it needs memory to make room there.
+abbrev pub low_at : Option Link → Bool
+low_at None = false
+low_at (Some k) = is_low k.terminal.processes
+
+-- the terminal of the link at a place did this, and nothing else changed
+pub record AtLink (did : Link → Link → Type 0) (l : ℕ) (old new : List Link) : Type 0 where
+  pub before : Link
+  pub there : slice_get old l ≡ Some before
+  pub after : Link
+  pub links : new ≡ slice_set old l after
+  pub was : did before after
+
+-- so much of the octets was taken
+pub record Listened (octets : List ℕ) (taken : ℕ) (old new : Link) : Type 0 where
+  pub few : taken ≤ length octets
+  pub heard : Heard old.terminal (take taken octets) new.terminal
+  pub stops :
+      taken < length octets
+      → (KEPT_MESSAGES ≤ length new.terminal.processes.transceiver.messages)
+      ⊎ (is_low new.terminal.processes ≡ true)
+  pub took : Took old.terminal new.terminal
+  pub availability : new.availability ≡ old.availability
+
+-- so many units were asked for, and these octets went out
+pub record Spoken (units : ℕ) (octets : List ℕ) (old new : Link) : Type 0 where
+  pub spoken : IsSpoken old.terminal units new.terminal octets
+  pub sends : Sends units old.terminal new.terminal
+  pub availability : new.availability ≡ old.availability
+
+-- this unit went out
+pub record Sent (unit : Option Unit) (old new : Link) : Type 0 where
+  pub unit_is : unit ≡ (sent (tidied old.terminal.processes)).unit
+  pub terminal :
+      new.terminal ≡ with_processes old.terminal (sent (tidied old.terminal.processes)).processes
+  pub sends : Sends 1 old.terminal new.terminal
+  pub availability : new.availability ≡ old.availability
+
+-- this was handed out
+pub record Reported (report : Option Report) (old new : Link) : Type 0 where
+  pub report_is : report ≡ (reported old.terminal.processes.transceiver).report
+  pub terminal :
+      new.terminal
+      ≡ term_with_transceiver old.terminal (reported old.terminal.processes.transceiver).transceiver
+  pub same : window_of new.terminal ≡ window_of old.terminal
+  pub availability : new.availability ≡ old.availability

@@ -1,0 +1,23 @@
+-- A link of a new set.
+use Rattle.std.specs.Prelude.{◌≡◌, false, [], None}
+use Rattle.link_term.specs.Term.{Term, term_with_transceiver}
+use Rattle.link_term.specs.Kept.{window_of}
+use Rattle.group_members.specs.declared.link.Link.{Link}
+
+-- a terminal that holds no message
+abbrev pub IsUnused : Term → Type 0
+IsUnused t = (window_of t).kept ≡ []
+
+-- What came into service before the set was made counts by what stands.
+abbrev pub fresh : Term → Link
+fresh t =
+    record {
+      terminal = term_with_transceiver t (record t.processes.transceiver { came = false });
+      availability =
+          record {
+            served = t.processes.transceiver.in_service;
+            anew = false;
+            failed = false;
+            changing = None;
+          };
+    }

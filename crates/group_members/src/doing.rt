@@ -1,0 +1,136 @@
+//! What a link does by its terminal.
+ghost use Rattle.std.specs.List.{list_any};
+ghost use Rattle.std.specs.Prelude.{◌≡◌, ◌||◌, map, ◌<◌, length, slice_get, true, IfOk, OnErr, Err};
+ghost use Rattle.link_term.specs.Machine.{is_low};
+ghost use Rattle.group_members.specs.Links.{change};
+ghost use Rattle.group_members.specs.Doing.{AtLink, Listened, Spoken, Sent, Reported, low_at, asked, came_first, came_by};
+
+use crate::link::Link;
+use link_term::Report;
+use std::alloc::AllocError;
+use su_octets::Unit;
+
+impl Link {
+    /// Whether it came into service for the first time since this was last asked.
+    fn see(&mut self) -> bool
+        ensures first { result ≡ came_first self.old }
+        ensures link { self.new ≡ asked self.old }
+    {
+        let served = self.availability.served;
+        if !self.terminal.came_into_service() {
+            return false;
+        }
+        self.availability = self.availability.serves();
+        !served
+    }
+
+    fn listen(&mut self, octets: &[u8]) -> usize
+        ensures { Listened octets.now result self.old self.new }
+    {
+        self.terminal.line_in(octets)
+    }
+
+    fn speak(&mut self, units: usize) -> Result<Vec<u8>, AllocError>
+        ensures ok { IfOk result (λ octets. Spoken units octets.items self.old self.new) }
+        ensures err { OnErr result (self.new ≡ self.old) }
+    {
+        self.terminal.line_out(units)
+    }
+
+    fn send(&mut self) -> Result<Option<Unit>, AllocError>
+        ensures ok { IfOk result (λ unit. Sent unit self.old self.new) }
+        ensures err { OnErr result (self.new ≡ self.old) }
+        ensures low { OnErr result (is_low self.old.terminal.processes ≡ true) }
+    {
+        self.terminal.unit_out()
+    }
+
+    fn tell(&mut self) -> Option<Report>
+        ensures { Reported result self.old self.new }
+    {
+        self.terminal.report()
+    }
+}
+
+/// Whether the link at a place came into service for the first time.
+#[tactic(auto, unfolding(crate::specs::Links::change))]
+pub fn see_at(links: &mut [Link], at: usize) -> bool
+    ensures first { result ≡ came_by (slice_get links.old at) }
+    ensures links { links.new ≡ change links.old at asked }
+{
+    if at < links.len() {
+        links[at].see()
+    } else {
+        false
+    }
+}
+
+/// Whether a link did, or one before it.
+fn see_more(link: &mut Link, before: bool) -> bool
+    ensures first { result ≡ before || came_first link.old }
+    ensures link { link.new ≡ asked link.old }
+{
+    let first = link.see();
+    before || first
+}
+
+/// Whether any link came into service for the first time.
+pub fn see_all(links: &mut [Link]) -> bool
+    ensures first { result ≡ list_any came_first links.old }
+    ensures links { links.new ≡ map asked links.old }
+{
+    let mut first = false;
+    for at in 0..links.len() {
+        first = see_more(&mut links[at], first);
+    }
+    first
+}
+
+/// `Terminal::line_in` of the link at a place.
+pub fn listen_at(links: &mut [Link], at: usize, octets: &[u8]) -> usize
+    requires { at < length links.old }
+    ensures { AtLink (Listened octets.now result) at links.old links.new }
+{
+    links[at].listen(octets)
+}
+
+/// `Terminal::line_out` of the link at a place.
+///
+/// # Errors
+///
+/// Want of memory: nothing changes.
+pub fn speak_at(links: &mut [Link], at: usize, units: usize) -> Result<Vec<u8>, AllocError>
+    requires { at < length links.old }
+    ensures ok { IfOk result (λ octets. AtLink (Spoken units octets.items) at links.old links.new) }
+    ensures err { OnErr result (links.new ≡ links.old) }
+{
+    match links[at].speak(units) {
+        Ok(octets) => Ok(octets),
+        Err(fault) => Err(fault),
+    }
+}
+
+/// `Terminal::unit_out` of the link at a place.
+///
+/// # Errors
+///
+/// Want of memory: nothing changes.
+pub fn send_at(links: &mut [Link], at: usize) -> Result<Option<Unit>, AllocError>
+    requires { at < length links.old }
+    ensures ok { IfOk result (λ unit. AtLink (Sent unit) at links.old links.new) }
+    ensures err { OnErr result (links.new ≡ links.old) }
+    ensures low { OnErr result (low_at (slice_get links.old at) ≡ true) }
+{
+    match links[at].send() {
+        Ok(unit) => Ok(unit),
+        Err(fault) => Err(fault),
+    }
+}
+
+/// `Terminal::report` of the link at a place.
+pub fn tell_at(links: &mut [Link], at: usize) -> Option<Report>
+    requires { at < length links.old }
+    ensures { AtLink (Reported result) at links.old links.new }
+{
+    links[at].tell()
+}

@@ -1,0 +1,117 @@
+//! The links of a set, of which a call changes one.
+ghost use Rattle.std.specs.Prelude.{◌≡◌, ◌<◌, ◌≤◌, All, length, slice_get, IfSome, IfOk, OnOk, OnErr, Some, None};
+ghost use Rattle.resend_store.specs.Messages.{IsMessage};
+ghost use Rattle.group_changeover.specs.Changeovers.{IsKind};
+ghost use Rattle.group_members.specs.OneLink.{fault_of, put_fault, puts, number_of, retrieve_fault, retrieve_refusal, abandon_fault, abandon_refusal};
+ghost use Rattle.group_members.specs.Links.{change, fault_at, read_at};
+ghost use Rattle.group_members.specs.Failing.{changeover_begins_at, fail_fault_of, hears, replies_at, order_of, handed, given_up, messages_by, none_known, sent_by};
+
+use crate::link::Link;
+use group_changeover::{AbandonError, FailError, Kind, RetrieveError, SendError};
+use link_term::Msu;
+use std::collections::VecDeque;
+
+/// Takes a message to send.
+///
+/// # Errors
+///
+/// `K1 NoLink` where there is no such link, or it is out of service and not in changeover, `K2 Waiting` where it is in changeover, `E1 Full`
+/// where 1,024 messages wait. Nothing changes then.
+#[tactic(auto, unfolding(crate::specs::Links::change))]
+pub fn put_at(links: &mut [Link], at: usize, msu: Msu) -> Result<(), SendError>
+    requires { 2 ≤ length msu.sif.items }
+    ensures fault { fault_of result ≡ fault_at SendError.NoLink put_fault (slice_get links.old at) }
+    ensures ok { OnOk result (links.new ≡ change links.old at (puts msu)) }
+    ensures err { OnErr result (links.new ≡ links.old) }
+{
+    if at < links.len() {
+        links[at].put(msu)
+    } else {
+        Err(SendError::NoLink)
+    }
+}
+
+/// The changeover of a link begins.
+///
+/// # Errors
+///
+/// `K1 NoLink` where there is no such link, `K2 Waiting` where its changeover goes on. Nothing changes then.
+#[tactic(auto, unfolding(crate::specs::Links::change))]
+pub fn fail_at(links: &mut [Link], at: usize) -> Result<Kind, FailError>
+    ensures fault { fault_of result ≡ fault_at FailError.NoLink fail_fault_of (slice_get links.old at) }
+    ensures order { IfOk result (λ kind. Some kind ≡ read_at order_of (slice_get links.old at)) }
+    ensures whole { IfOk result IsKind }
+    ensures there { OnOk result (at < length links.old) }
+    ensures ok { OnOk result (links.new ≡ change links.old at changeover_begins_at) }
+    ensures err { OnErr result (links.new ≡ links.old) }
+{
+    if at < links.len() {
+        links[at].fail()
+    } else {
+        Err(FailError::NoLink)
+    }
+}
+
+/// The other point says something of a link. What is answered.
+#[tactic(auto, unfolding(crate::specs::Links::change))]
+pub fn hear_at(links: &mut [Link], at: usize, kind: Kind) -> Option<Kind>
+    ensures reply { result ≡ replies_at kind (slice_get links.old at) }
+    ensures whole { IfSome result IsKind }
+    ensures heard { links.new ≡ change links.old at (hears kind) }
+{
+    if at < links.len() {
+        links[at].hear(kind)
+    } else {
+        None
+    }
+}
+
+/// Hands out the messages of a link.
+///
+/// # Errors
+///
+/// `K1 NoLink` where there is no such link or no changeover goes on there, `K2 Waiting` where they are out or an answer may still come, `K4 Unsure`
+/// with the number of those of which nothing is known, and then want of memory. Nothing changes then.
+#[tactic(auto, unfolding(crate::specs::Links::change))]
+pub fn retrieve_at(links: &mut [Link], at: usize) -> Result<VecDeque<Msu>, RetrieveError>
+    ensures fault { retrieve_refusal result ≡ fault_at RetrieveError.NoLink retrieve_fault (slice_get links.old at) }
+    ensures messages { IfOk result (λ messages. messages.items ≡ messages_by number_of (slice_get links.old at)) }
+    ensures whole { IfOk result (λ messages. All IsMessage messages.items) }
+    ensures ok { OnOk result (links.new ≡ change links.old at handed) }
+    ensures err { OnErr result (links.new ≡ links.old) }
+{
+    if at < links.len() {
+        links[at].retrieve()
+    } else {
+        Err(RetrieveError::NoLink)
+    }
+}
+
+/// Hands out the unsent messages of a link, and tells how many were sent.
+///
+/// # Errors
+///
+/// `K1 NoLink` where there is no such link or no changeover goes on there, `K2 Waiting` where [`retrieve_at`] isn't refused as unsure, and then want
+/// of memory. Nothing changes then.
+#[tactic(auto, unfolding(crate::specs::Links::change))]
+pub fn abandon_at(links: &mut [Link], at: usize) -> Result<(VecDeque<Msu>, usize), AbandonError>
+    ensures fault { abandon_refusal result ≡ fault_at AbandonError.NoLink abandon_fault (slice_get links.old at) }
+    ensures messages { IfOk result (λ given. given.0.items ≡ messages_by none_known (slice_get links.old at)) }
+    ensures sent { IfOk result (λ given. given.1 ≡ sent_by (slice_get links.old at)) }
+    ensures whole { IfOk result (λ given. All IsMessage given.0.items) }
+    ensures ok { OnOk result (links.new ≡ change links.old at given_up) }
+    ensures err { OnErr result (links.new ≡ links.old) }
+{
+    if at < links.len() {
+        let held = links[at].terminal.held();
+        match links[at].abandon() {
+            Ok(messages) => {
+                let sent = held - messages.len();
+                Ok((messages, sent))
+            }
+            Err(fault) => Err(fault),
+        }
+    } else {
+        Err(AbandonError::NoLink)
+    }
+}

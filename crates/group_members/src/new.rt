@@ -1,0 +1,36 @@
+//! Links of a new set.
+ghost use Rattle.std.specs.Prelude.{◌≡◌, ◌<◌, ◌≤◌, [], map, vec_len, vec_capacity};
+ghost use Rattle.group_members.specs.New.{fresh};
+
+use crate::link::Link;
+use group_changeover::Availability;
+use link_term::Terminal;
+
+/// A link over a terminal.
+fn fresh(mut terminal: Terminal) -> Link
+    ensures { result ≡ fresh terminal }
+{
+    let _came = terminal.came_into_service();
+    let served = terminal.in_service();
+    Link {
+        terminal,
+        availability: Availability {
+            served,
+            anew: false,
+            failed: false,
+            changing: None,
+        },
+    }
+}
+
+/// Links over terminals, for which there is room.
+pub fn all_fresh(terminals: Vec<Terminal>, mut links: Vec<Link>) -> Vec<Link>
+    requires empty { links.items ≡ [] }
+    requires room { vec_len terminals ≤ vec_capacity links }
+    ensures { result.items ≡ map fresh terminals.items }
+{
+    for terminal in terminals {
+        links.push_reserved(fresh(terminal));
+    }
+    links
+}

@@ -1,7 +1,0 @@
-mod CallAnswers
-mod HandAnswers
-mod Keeping
-mod LineAnswers
-mod ShownAnswers
-mod GroupRuns
-mod Openings

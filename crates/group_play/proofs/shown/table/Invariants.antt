@@ -1,7 +1,0 @@
--- The entries so far.
-use Rattle.std.proofs.Common.{◌≡◌}
-use Rattle.group_play.specs.GroupAnswers.{entries_to}
-use Rattle.group_play.proofs.shown.table.Given as goal
-
-abbrev pub invariant-loop-before : goal.invariant-loop-before
-invariant-loop-before l = l.text.items ≡ entries_to l.group.table l.before

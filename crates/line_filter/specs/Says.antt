@@ -1,0 +1,75 @@
+-- What a line of a stream of orders says.
+use Rattle.std.specs.Prelude.{ℕ, ◌||◌, Bool, if◌then◌else◌, List, [], ◌∷◌, ◌++◌, Option, None, Some}
+use Rattle.std.specs.Prelude.{codes, string_bytes}
+use Rattle.std.specs.List.{flat_map}
+use Rattle.std.specs.Str.{bytes_eq}
+use Rattle.script_lines.specs.Numbers.{number_up_to}
+use Rattle.script_lines.specs.Lines.{is_silent}
+use Rattle.line_filter.specs.declared.says.LineSays.{LineSays}
+use Rattle.line_filter.specs.declared.says.LineSays.TheVariants as code
+
+-- a millisecond: digits alone, as far as 64 bits hold it
+abbrev pub millisecond_of : List ℕ → Option ℕ
+millisecond_of word = number_up_to 18446744073709551615 word
+
+pub data PlainSays : Type 0 where
+  nothing : PlainSays
+  at : ℕ → PlainSays  -- what follows waits until this millisecond
+  order : List ℕ → PlainSays
+  order_at : ℕ → List ℕ → PlainSays  -- both
+
+abbrev pub plain_says : LineSays → PlainSays
+plain_says code.Nothing = nothing
+plain_says (code.At millisecond) = at millisecond
+plain_says (code.Order text) = order (string_bytes text)
+plain_says (code.OrderAt millisecond text) = order_at millisecond (string_bytes text)
+
+-- words, parted by one space
+abbrev pub joined : List ℕ → List (List ℕ) → List ℕ
+joined first words = first ++ flat_map (λ (word : List ℕ). 32 ∷ word) words
+
+-- the word that a report has behind its millisecond, if it isn't that of an order that was obeyed
+abbrev pub is_report : List ℕ → Bool
+is_report word =
+    bytes_eq word (codes "in")
+    || (bytes_eq word (codes "down")
+    || (bytes_eq word (codes "far") || (bytes_eq word (codes "message")
+    || (bytes_eq word (codes "state")
+    || (bytes_eq word (codes "value")
+    || (bytes_eq word (codes "refused") || bytes_eq word (codes "lost")))))))
+
+-- such a report says nothing; what is none is an order, which no terminal obeys
+abbrev pub by_other : List ℕ → List (List ℕ) → PlainSays
+by_other first [] = order (joined first [])
+by_other first (word ∷ words) =
+    if is_report word then nothing else order (joined first (word ∷ words))
+
+-- behind a millisecond: `ok` and the order that was obeyed then, another report, or none
+abbrev pub by_report : ℕ → List ℕ → List (List ℕ) → PlainSays
+by_report millisecond first [] = by_other first []
+by_report millisecond first (word ∷ []) = by_other first (word ∷ [])
+by_report millisecond first (word ∷ next ∷ words) =
+    if bytes_eq word (codes "ok") then order_at millisecond (joined next words)
+    else by_other first (word ∷ next ∷ words)
+
+-- `at`, and a millisecond
+abbrev pub by_time : Option ℕ → List ℕ → List (List ℕ) → PlainSays
+by_time None first words = order (joined first words)
+by_time (Some millisecond) first words = at millisecond
+
+abbrev pub by_at : Bool → List ℕ → List (List ℕ) → PlainSays
+by_at is_at first (word ∷ []) =
+    if is_at then by_time (millisecond_of word) first (word ∷ [])
+    else order (joined first (word ∷ []))
+by_at is_at first words = order (joined first words)
+
+abbrev pub by_first : Option ℕ → List ℕ → List (List ℕ) → PlainSays
+by_first (Some millisecond) first words = by_report millisecond first words
+by_first None first words = by_at (bytes_eq first (codes "at")) first words
+
+-- Blank lines and comments say nothing, and a line that is no order says one that no terminal
+-- obeys.
+abbrev pub says_of : List (List ℕ) → PlainSays
+says_of [] = nothing
+says_of (first ∷ words) =
+    if is_silent (first ∷ words) then nothing else by_first (millisecond_of first) first words

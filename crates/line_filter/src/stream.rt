@@ -1,0 +1,79 @@
+//! Orders, read on as they come.
+ghost use Rattle.std.specs.Prelude.{◌≡◌, ◌≤◌, None, IfOk, length, option_map};
+ghost use Rattle.line_filter.specs.Streams.{orders_of};
+ghost use Rattle.line_filter.specs.Reading.{left_of, Stays, IsRead};
+
+use crate::lines::OrderLines;
+use crate::orders::Orders;
+use std::alloc::Global;
+use std::io::{self, ErrorKind, Read};
+
+/// How many octets are asked for at once.
+const PART: usize = 1024;
+
+/// The orders that the lines of a reader say. Where a reader has nothing now, it may have more later; a line counts when its end has
+/// come.
+#[derive(Drop)]
+pub struct LineOrders<R> {
+    /// What gives the octets.
+    pub reader: R,
+    /// The lines, as far as they were read.
+    pub lines: OrderLines,
+}
+
+impl<R: Read> LineOrders<R> {
+    /// No line was read.
+    pub fn new(alloc: Global, reader: R) -> Self
+        ensures { left_of R.remaining result ≡ option_map orders_of (R.remaining reader) }
+    {
+        LineOrders {
+            reader,
+            lines: OrderLines::new(alloc),
+        }
+    }
+
+    /// Reads on, where all was looked at. Whether there may be more.
+    fn read_on(&mut self) -> io::Result<bool>
+        requires looked { length self.old.lines.part.items ≤ self.old.lines.from }
+        requires none { self.old.lines.waiting ≡ None }
+        ensures { IfOk result (λ on. IsRead on (left_of R.remaining self.old) (left_of R.remaining self.new)) }
+    {
+        let mut part = [0; PART];
+        match self.reader.read(&mut part) {
+            Ok(0) => Ok(false),
+            Ok(count) => {
+                self.lines.fill(&part[..count])?;
+                Ok(true)
+            }
+            Err(error) => {
+                if error.kind() == ErrorKind::Interrupted {
+                    Ok(true)
+                } else {
+                    Err(error)
+                }
+            }
+        }
+    }
+}
+
+impl<R: Read> Orders for LineOrders<R> {
+    ghost left = { left_of R.remaining };
+
+    fn next(&mut self, alloc: Global, now: u64) -> io::Result<Option<String>> {
+        for _octet in 0..u64::MAX {
+            if self.lines.waiting.is_some() {
+                let due = self.lines.take_due(now);
+                return Ok(due);
+            }
+            if self.lines.from < self.lines.part.len() {
+                self.lines.look(alloc)?;
+            } else {
+                let goes_on = self.read_on()?;
+                if !goes_on {
+                    return Ok(None);
+                }
+            }
+        }
+        Err(io::Error::from(ErrorKind::Other))
+    }
+}

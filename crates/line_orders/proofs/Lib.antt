@@ -1,3 +1,0 @@
-mod Digits
-mod Looking
-mod Leaving

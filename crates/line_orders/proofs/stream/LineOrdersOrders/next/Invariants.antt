@@ -1,6 +1,0 @@
--- What is left stays so.
-use Rattle.line_orders.specs.Reading.{left_of, Stays}
-use Rattle.line_orders.proofs.stream.LineOrdersOrders.next.Given as goal
-
-abbrev pub invariant-loop-octet : goal.invariant-loop-octet
-invariant-loop-octet g l = Stays (left_of g.R.Read.remaining l.fn.self) (left_of g.R.Read.remaining l.self)

@@ -1,0 +1,261 @@
+-- Messages to send, and messages handed out.
+use Rattle.std.proofs.Common.{◌≡◌, ◌≢◌, ℕ, ◌<◌, ◌==◌, Bool, true, false, cond, List, [], ◌∷◌, ◌++◌, Option, Some, None, take, drop, refl, sym, ap, ◌∙◌, subst, inl, inr}
+use Rattle.std.specs.Prelude.{◌⊎◌, All, is_some, if◌then◌else◌, slice_get}
+use Rattle.std.proofs.lemmas.Bool.Decides.{eqb_tells}
+use Rattle.std.proofs.lemmas.List.{append-nil, take-append-drop}
+use Rattle.std.proofs.lemmas.List.Elements.{All-push, All-drop}
+use Rattle.plain_laws.proofs.Options.{some_none, row_passes}
+use Rattle.resend_store.specs.declared.messages.Msu.{Msu}
+use Rattle.resend_store.specs.Window.{Window, retrieved, count_known, unacknowledged}
+use Rattle.group_changeover.specs.declared.availability.Changing.{Changing}
+use Rattle.group_changeover.specs.declared.availability.Availability.{Availability}
+use Rattle.group_changeover.specs.Laws.{StepsKeepPlaces}
+use Rattle.group_changeover.specs.Limits.{SELECTIONS}
+use Rattle.group_changeover.specs.Availability.{retrieval_in, with_retrieval}
+use Rattle.group_changeover.specs.Sharing.{selection_of, is_on, of, link_of, counts_of}
+use Rattle.group_changeover.specs.declared.errors.SendError.TheVariants as send
+use Rattle.group_changeover.specs.declared.errors.RetrieveError.{RetrieveError}
+use Rattle.group_changeover.specs.declared.errors.RetrieveError.TheVariants as retrieve
+use Rattle.group_changeover.specs.declared.errors.AbandonError.TheVariants as abandon
+use Rattle.group_members.specs.declared.link.Link.{Link}
+use Rattle.group_members.specs.OneLink.{window, held, is_changing, put_fault, puts, known_at, unsure_by, retrieve_fault, retrieve_fault_by, retrieve_fault_in, number_of, hands_out, abandon_by, abandon_fault}
+use Rattle.group_members.specs.Links.{change, fault_at}
+use Rattle.group_members.specs.Failing.{handed, given_up, messages_by, none_known}
+use Rattle.group_members.specs.Moving.{retrieval_by}
+use Rattle.link_group.specs.Set.{LinkSet, send_fault, send_fault_by, change_by, sent}
+use Rattle.link_group.specs.Changing.{retrieve_fault_at, after_retrieve, messages_for, abandon_fault_at, after_abandon, unsent_at}
+use Rattle.link_group.specs.Laws.{held_by, held_at}
+use Rattle.link_group.specs.Reached.{Gone, acknowledged, unsure, messages_gone, with_retrieval_of, told_front, unacknowledged_at}
+use Rattle.link_group.proofs.Getting.{change_here, change_other}
+use Rattle.link_group.proofs.Fitting.{IsSmall, none_small, FitsAvailability, FitsLink, fits_there, fits_change, fits_changed}
+use Rattle.link_group.proofs.Staying.{Stays, gone_marked, at_one, leaves}
+
+-- ---- retrievals
+
+equal_retrieval : (retrievals : ℕ → List Msu) (l j : ℕ) (ms : List Msu) → ((j == l) ≡ true) × (j ≡ l) ⊎ ((j == l) ≡ false) × (j ≢ l) → j ≡ l → with_retrieval_of retrievals l ms j ≡ ms
+equal_retrieval retrievals l j ms (inl x) e = ap (λ (b : Bool). if b then ms else retrievals j) x.0
+equal_retrieval retrievals l j ms (inr x) e = absurd (x.1 e)
+
+pub retrieval_here : (retrievals : ℕ → List Msu) (l : ℕ) (ms : List Msu) → with_retrieval_of retrievals l ms l ≡ ms
+retrieval_here retrievals l ms = equal_retrieval retrievals l l ms (eqb_tells l l) refl
+
+other_retrieval : (retrievals : ℕ → List Msu) (l j : ℕ) (ms : List Msu) → ((j == l) ≡ true) × (j ≡ l) ⊎ ((j == l) ≡ false) × (j ≢ l) → (j ≡ l → ⊥) → with_retrieval_of retrievals l ms j ≡ retrievals j
+other_retrieval retrievals l j ms (inl x) h = absurd (h x.1)
+other_retrieval retrievals l j ms (inr x) h = ap (λ (b : Bool). if b then ms else retrievals j) x.0
+
+pub retrieval_other : (retrievals : ℕ → List Msu) (l j : ℕ) (ms : List Msu) → (j ≡ l → ⊥) → with_retrieval_of retrievals l ms j ≡ retrievals j
+retrieval_other retrievals l j ms h = other_retrieval retrievals l j ms (eqb_tells j l) h
+
+pub no_retrieval : (o : Option Changing) → is_some o ≡ false → retrieval_by o ≡ None
+no_retrieval None e = refl
+no_retrieval (Some c) e = let f : true ≡ false = e in cc
+
+-- ---- a message to send
+
+free_link : (k : Link) → put_fault k ≡ None → is_changing k ≡ false
+unfolding put_fault
+free_link k e = (row_passes (is_changing k) send.Waiting _ e).0
+
+one_none : (s : ℕ) (m : Msu) → is_on s m ≡ false → of s (m ∷ []) ≡ []
+unfolding of
+one_none s m e = ap (λ (b : Bool). cond b (m ∷ []) []) e
+
+own_by : (s l : ℕ) (m : Msu) (table : List (Option ℕ)) → ((selection_of m == s) ≡ true) × (selection_of m ≡ s) ⊎ ((selection_of m == s) ≡ false) × (selection_of m ≢ s)
+    → link_of table (selection_of m) ≡ Some l → (of s (m ∷ []) ≡ []) ⊎ (link_of table s ≡ Some l)
+own_by s l m table (inl x) e = inr (ap (link_of table) (sym x.1) ∙ e)
+own_by s l m table (inr x) e = inl (one_none s m x.0)
+
+order_put : (h x g came : List Msu) → x ≡ [] → g ≡ h ++ came → h ++ x ++ came ≡ [] ++ g ++ x
+order_put h x g came e f = rw (e, f) (ap (λ (y : List Msu). y ++ came) (append-nil h) ∙ sym (append-nil (h ++ came)))
+
+puts_held : (m : Msu) (k : Link) → held (puts m k) ≡ held k ++ m ∷ []
+unfolding puts
+puts_held m k = refl
+
+puts_fits : (m : Msu) (k : Link) (ms : List Msu) → selection_of m < SELECTIONS → FitsLink k ms → FitsLink (puts m k) ms
+unfolding puts
+puts_fits m k ms small fits = record {
+  availability = fits.availability;
+  small = All-push IsSmall (held k) m fits.small small;
+  small_retrieval = fits.small_retrieval;
+}
+
+send_at : (laws : StepsKeepPlaces) (c : LinkSet) (retrievals : ℕ → List Msu) (accepted : List Msu) (gone : List Gone) (m : Msu) (l : ℕ) (k : Link) → Stays c retrievals accepted gone
+    → link_of c.table (selection_of m) ≡ Some l → slice_get c.links l ≡ Some k → put_fault k ≡ None → selection_of m < SELECTIONS
+    → Stays (record c { links = change c.links l (puts m) }) retrievals (accepted ++ m ∷ []) gone
+send_at laws c retrievals accepted gone m l k stays link there free small =
+    let d : LinkSet = record c { links = change c.links l (puts m) } in
+    let fits : FitsLink k (retrievals l) = fits_there c.links retrievals l k stays.fits there in
+    let none : retrievals l ≡ [] = fits.availability.idle (no_retrieval k.availability.changing (free_link k free)) in
+    let grows : held_at d l ≡ held_at c l ++ m ∷ [] = ap held_by (change_here (puts m) c.links l (Some k) there) ∙ puts_held m k ∙ ap (λ (o : Option Link). held_by o ++ m ∷ []) (sym there) in
+    record {
+      places = at_one laws l c d retrievals retrievals accepted (m ∷ []) [] gone gone stays.places (sym (append-nil (messages_gone gone)))
+          (λ s lt. own_by s l m c.table (eqb_tells (selection_of m) s) link) (order_put (held_at c l) (retrievals l) (held_at d l) (m ∷ []) none grows) (inl none)
+          (λ j h. ap held_by (change_other (puts m) c.links l j h)) (λ j h. refl) refl;
+      fits = fits_change (puts m) c.links retrievals l stays.fits (λ x e f. puts_fits m x (retrievals l) small f);
+      table = stays.table;
+    }
+
+send_there : (laws : StepsKeepPlaces) (c : LinkSet) (retrievals : ℕ → List Msu) (accepted : List Msu) (gone : List Gone) (m : Msu) (l : ℕ) (o : Option Link) → Stays c retrievals accepted gone
+    → link_of c.table (selection_of m) ≡ Some l → slice_get c.links l ≡ o → fault_at send.NoLink put_fault o ≡ None → selection_of m < SELECTIONS
+    → Stays (record c { links = change c.links l (puts m) }) retrievals (accepted ++ m ∷ []) gone
+send_there laws c retrievals accepted gone m l None stays link there free small = absurd (some_none free)
+send_there laws c retrievals accepted gone m l (Some k) stays link there free small = send_at laws c retrievals accepted gone m l k stays link there free small
+
+send_by : (laws : StepsKeepPlaces) (c : LinkSet) (retrievals : ℕ → List Msu) (accepted : List Msu) (gone : List Gone) (m : Msu) (o : Option ℕ) → Stays c retrievals accepted gone
+    → link_of c.table (selection_of m) ≡ o → send_fault_by c.links o ≡ None → selection_of m < SELECTIONS
+    → Stays (record c { links = change_by c.links o (puts m) }) retrievals (accepted ++ m ∷ []) gone
+send_by laws c retrievals accepted gone m None stays link free small = absurd (some_none free)
+send_by laws c retrievals accepted gone m (Some l) stays link free small = send_there laws c retrievals accepted gone m l (slice_get c.links l) stays link refl free small
+
+pub stays_sent : (laws : StepsKeepPlaces) (c : LinkSet) (retrievals : ℕ → List Msu) (accepted : List Msu) (gone : List Gone) (m : Msu) → Stays c retrievals accepted gone
+    → send_fault c m ≡ None → selection_of m < SELECTIONS → Stays (sent c m) retrievals (accepted ++ m ∷ []) gone
+unfolding send_fault sent
+stays_sent laws c retrievals accepted gone m stays free small = send_by laws c retrievals accepted gone m (link_of c.table (selection_of m)) stays refl free small
+
+-- ---- messages handed out
+
+gives_idle : (counts : List ℕ) (o : Option Changing) (ms : List Msu) → is_some o ≡ true → retrieval_by (retrieval_in counts o) ≡ None → ms ≡ []
+gives_idle counts None ms some e = let f : false ≡ true = some in cc
+gives_idle counts (Some c) ms some e = absurd (some_none e)
+
+pub fits_given : (counts : List ℕ) (m : Availability) (ms new : List Msu) → is_some m.changing ≡ true → FitsAvailability m ms → FitsAvailability (with_retrieval counts m) new
+fits_given counts m ms new some fits = record {
+  idle = λ e. gives_idle counts m.changing new some e;
+  failed = λ e. fits.failed some;
+}
+
+small_given : (w : Window) (fsn : Option ℕ) → All IsSmall w.kept → All IsSmall (retrieved w fsn)
+small_given w (Some n) small = All-drop IsSmall _ w.kept small
+small_given w None small = All-drop IsSmall w.sent w.kept small
+
+given_held : (fsn : Option ℕ) (k : Link) → held (hands_out fsn k) ≡ []
+unfolding hands_out
+given_held fsn k = refl
+
+given_fits : (fsn : Option ℕ) (k : Link) (ms : List Msu) → is_some k.availability.changing ≡ true → FitsLink k ms → FitsLink (hands_out fsn k) (retrieved (window k) fsn)
+unfolding hands_out
+given_fits fsn k ms some fits = record {
+  availability = fits_given (counts_of (retrieved (window k) fsn)) k.availability ms (retrieved (window k) fsn) some fits.availability;
+  small = none_small;
+  small_retrieval = small_given (window k) fsn fits.small;
+}
+
+order_given : (h x left ms g new : List Msu) → x ≡ [] → left ++ ms ≡ h → g ≡ [] → new ≡ ms → h ++ x ≡ left ++ g ++ new
+order_given h x left ms g new e parts none is = rw (e, none, is) (append-nil h ∙ sym parts ∙ ap (λ (y : List Msu). y ++ ms) (sym (append-nil left)))
+
+same_link : (a b : Link) → Some a ≡ Some b → a ≡ b
+same_link a b e = cc
+
+give_at : (laws : StepsKeepPlaces) (c : LinkSet) (retrievals : ℕ → List Msu) (accepted : List Msu) (gone more : List Gone) (l unsure : ℕ) (k : Link) (fsn : Option ℕ) (left : List Msu)
+    (f : Link → Link) → Stays c retrievals accepted gone → slice_get c.links l ≡ Some k → retrieval_by k.availability.changing ≡ None → is_some k.availability.changing ≡ true
+    → left ++ retrieved (window k) fsn ≡ held k → messages_gone more ≡ messages_gone gone ++ left → f k ≡ hands_out fsn k
+    → Stays (record c { links = change c.links l f; unsure = unsure }) (with_retrieval_of retrievals l (retrieved (window k) fsn)) accepted more
+give_at laws c retrievals accepted gone more l unsure k fsn left f stays there free some parts marked is =
+    let d : LinkSet = record c { links = change c.links l f; unsure = unsure } in
+    let ms : List Msu = retrieved (window k) fsn in
+    let fits : FitsLink k (retrievals l) = fits_there c.links retrievals l k stays.fits there in
+    let none : retrievals l ≡ [] = fits.availability.idle free in
+    let empty : held_at d l ≡ [] = ap held_by (change_here f c.links l (Some k) there) ∙ ap held is ∙ given_held fsn k in
+    let whole : left ++ ms ≡ held_at c l = parts ∙ ap held_by (sym there) in
+    record {
+      places = leaves laws l c d retrievals (with_retrieval_of retrievals l ms) accepted left gone more stays.places marked
+          (order_given (held_at c l) (retrievals l) left ms (held_at d l) (with_retrieval_of retrievals l ms l) none whole empty (retrieval_here retrievals l ms)) (inr empty)
+          (λ j h. ap held_by (change_other f c.links l j h)) (λ j h. retrieval_other retrievals l j ms h) refl;
+      fits = fits_changed f c.links retrievals (with_retrieval_of retrievals l ms) ms l stays.fits (λ j h. retrieval_other retrievals l j ms h) (retrieval_here retrievals l ms)
+          (λ x e. let same : x ≡ k = same_link x k (sym e ∙ there) in
+          subst (λ (y : Link). FitsLink y ms) (sym (ap f same ∙ is)) (given_fits fsn k (retrievals l) some fits))
+          (λ e. absurd (some_none (sym there ∙ e)));
+      table = stays.table;
+    }
+
+-- ---- by the number that was told
+
+none_by : (n : ℕ) (b : Bool) → (n == 0) ≡ b → ((n == 0) ≡ true) × (n ≡ 0) ⊎ ((n == 0) ≡ false) × (n ≢ 0) → (if b then None else Some (retrieve.Unsure n)) ≡ None → n ≡ 0
+none_by n b is (inl x) e = x.1
+none_by n true is (inr x) e = let f : false ≡ true = sym x.0 ∙ is in cc
+none_by n false is (inr x) e = absurd (some_none e)
+
+told_parts : (w : Window) (n : Option ℕ) → unsure_by w.sent n ≡ None → take (count_known w n) w.kept ++ retrieved w n ≡ w.kept
+told_parts w (Some fsn) e = take-append-drop (count_known w (Some fsn)) w.kept
+told_parts w None e = ap (λ (i : ℕ). drop i w.kept) (none_by w.sent (w.sent == 0) refl (eqb_tells w.sent 0) e)
+
+abbrev pub Told : Link → Type 0
+Told k = (retrieval_by k.availability.changing ≡ None) × (is_some k.availability.changing ≡ true) × (unsure_by (window k).sent (number_of k) ≡ None)
+
+told_by : (k : Link) (o : Option Changing) → k.availability.changing ≡ o → retrieve_fault_by k o ≡ None → Told k
+unfolding retrieve_fault_in number_of
+told_by k None is e = absurd (some_none e)
+told_by k (Some c) is e =
+    let first = row_passes (is_some c.retrieval) retrieve.Waiting _ e in
+    let second = row_passes _ retrieve.Waiting _ first.1 in
+    (ap retrieval_by is ∙ retrieval_none c.retrieval first.0, ap is_some is, ap (λ (x : Option Changing). unsure_by (window k).sent (known_at k x)) is ∙ second.1)
+  where
+    retrieval_none : (h : Option (List ℕ)) → is_some h ≡ false → h ≡ None
+    retrieval_none None x = refl
+    retrieval_none (Some counts) x = let f : true ≡ false = x in cc
+
+told_of : (k : Link) → retrieve_fault k ≡ None → Told k
+unfolding retrieve_fault
+told_of k e = told_by k k.availability.changing refl e
+
+retrieves_by : (laws : StepsKeepPlaces) (c : LinkSet) (retrievals : ℕ → List Msu) (accepted : List Msu) (gone : List Gone) (l : ℕ) (o : Option Link) → Stays c retrievals accepted gone
+    → slice_get c.links l ≡ o → fault_at retrieve.NoLink retrieve_fault o ≡ None
+    → Stays (record c { links = change c.links l handed }) (with_retrieval_of retrievals l (messages_by number_of o)) accepted (gone ++ acknowledged (told_front o))
+retrieves_by laws c retrievals accepted gone l None stays there e = absurd (some_none e)
+retrieves_by laws c retrievals accepted gone l (Some k) stays there e =
+    let told : Told k = told_of k e in
+    let left : List Msu = take (count_known (window k) (number_of k)) (held k) in
+    give_at laws c retrievals accepted gone (gone ++ acknowledged left) l c.unsure k (number_of k) left handed stays there told.0 told.1
+    (told_parts (window k) (number_of k) told.2) (gone_marked false gone left) refl
+
+pub stays_retrieved : (laws : StepsKeepPlaces) (c : LinkSet) (retrievals : ℕ → List Msu) (accepted : List Msu) (gone : List Gone) (l : ℕ) → Stays c retrievals accepted gone
+    → retrieve_fault_at c l ≡ None
+    → Stays (after_retrieve c l) (with_retrieval_of retrievals l (messages_for c l)) accepted (gone ++ acknowledged (told_front (slice_get c.links l)))
+unfolding retrieve_fault_at after_retrieve messages_for
+stays_retrieved laws c retrievals accepted gone l stays e = retrieves_by laws c retrievals accepted gone l (slice_get c.links l) stays refl e
+
+-- ---- given up
+
+abbrev pub Unknown : Link → Type 0
+Unknown k = (retrieval_by k.availability.changing ≡ None) × (is_some k.availability.changing ≡ true)
+
+unsure_in : (a : Bool) (n : ℕ) (rest : Option RetrieveError) → (if a then Some retrieve.Waiting else rest) ≡ Some (retrieve.Unsure n) → a ≡ false
+unsure_in true n rest e = cc
+unsure_in false n rest e = refl
+
+unknown_by : (k : Link) (n : ℕ) (o : Option Changing) → k.availability.changing ≡ o → retrieve_fault_by k o ≡ Some (retrieve.Unsure n) → Unknown k
+unfolding retrieve_fault_in
+unknown_by k n None is e = cc
+unknown_by k n (Some c) is e = rw is (retrieval_none c.retrieval (unsure_in (is_some c.retrieval) n _ e), refl)
+  where
+    retrieval_none : (h : Option (List ℕ)) → is_some h ≡ false → h ≡ None
+    retrieval_none None x = refl
+    retrieval_none (Some counts) x = let f : true ≡ false = x in cc
+
+unsure_by_fault : (k : Link) (o : Option RetrieveError) → retrieve_fault k ≡ o → abandon_by o ≡ None → Unknown k
+unfolding retrieve_fault
+unsure_by_fault k None is e = absurd (some_none e)
+unsure_by_fault k (Some retrieve.NoLink) is e = absurd (some_none e)
+unsure_by_fault k (Some retrieve.Waiting) is e = absurd (some_none e)
+unsure_by_fault k (Some (retrieve.Unsure n)) is e = unknown_by k n k.availability.changing refl is
+unsure_by_fault k (Some retrieve.NoMemory) is e = absurd (some_none e)
+
+unknown_of : (k : Link) → abandon_fault k ≡ None → Unknown k
+unfolding abandon_fault
+unknown_of k e = unsure_by_fault k (retrieve_fault k) refl e
+
+abandons_by : (laws : StepsKeepPlaces) (c : LinkSet) (retrievals : ℕ → List Msu) (accepted : List Msu) (gone : List Gone) (l count : ℕ) (o : Option Link) → Stays c retrievals accepted gone
+    → slice_get c.links l ≡ o → fault_at abandon.NoLink abandon_fault o ≡ None
+    → Stays (record c { links = change c.links l given_up; unsure = count }) (with_retrieval_of retrievals l (messages_by none_known o)) accepted (gone ++ unsure (unacknowledged_at o))
+abandons_by laws c retrievals accepted gone l count None stays there e = absurd (some_none e)
+abandons_by laws c retrievals accepted gone l count (Some k) stays there e =
+    let free : Unknown k = unknown_of k e in
+    give_at laws c retrievals accepted gone (gone ++ unsure (unacknowledged (window k))) l count k None (unacknowledged (window k)) given_up stays there free.0 free.1
+    (take-append-drop (window k).sent (held k)) (gone_marked true gone (unacknowledged (window k))) refl
+
+pub stays_abandoned : (laws : StepsKeepPlaces) (c : LinkSet) (retrievals : ℕ → List Msu) (accepted : List Msu) (gone : List Gone) (l : ℕ) → Stays c retrievals accepted gone
+    → abandon_fault_at c l ≡ None
+    → Stays (after_abandon c l) (with_retrieval_of retrievals l (unsent_at c l)) accepted (gone ++ unsure (unacknowledged_at (slice_get c.links l)))
+unfolding abandon_fault_at after_abandon unsent_at
+stays_abandoned laws c retrievals accepted gone l stays e = abandons_by laws c retrievals accepted gone l _ (slice_get c.links l) stays refl e

@@ -1,0 +1,159 @@
+-- Over every list of calls a set counts those of its messages that are unsure.
+use Rattle.std.proofs.Common.{◌≡◌, ◌+◌, ◌-◌, ◌^◌, ℕ, cond, List, [], ◌∷◌, ◌++◌, Option, Some, None, length, map, refl, sym, ap, ◌∙◌, arith}
+use Rattle.std.specs.Prelude.{min, slice_get}
+use Rattle.std.specs.List.{list_any}
+use Rattle.std.proofs.lemmas.List.Sums.{sum_by-append}
+use Rattle.plain_laws.proofs.Truths.{by_test}
+use Rattle.resend_store.specs.declared.messages.Msu.{Msu}
+use Rattle.group_members.specs.Term.{Term}
+use Rattle.group_changeover.specs.declared.changeover.Changeover.{Changeover}
+use Rattle.group_changeover.specs.declared.errors.DivertFault.{DivertFault}
+use Rattle.group_members.specs.declared.link.Link.{Link}
+use Rattle.group_members.specs.Failing.{hears as heard_at, sent_by}
+use Rattle.group_members.specs.Links.{change}
+use Rattle.group_members.specs.Moving.{Diversion}
+use Rattle.group_members.specs.Doing.{asked, came_by, came_first}
+use Rattle.group_members.specs.Ticking.{passed}
+use Rattle.link_group.specs.Set.{LinkSet, sent}
+use Rattle.link_group.specs.Changing.{is_for, after_failure, after_message, after_retrieve, after_abandon}
+use Rattle.link_group.specs.Diverting.{diverted, after_by, after_divert}
+use Rattle.link_group.specs.Placing.{placed_anew, rebalanced}
+use Rattle.link_group.specs.Lines.{seen, all_seen, ByLink, Alone}
+use Rattle.link_group.specs.Ticks.{with_room, after_ticks}
+use Rattle.link_group.specs.New.{new_set}
+use Rattle.link_group.specs.Laws.{unsure_in, UnsureAreCounted}
+use Rattle.link_group.specs.Reached.{Gone, acknowledged, unsure, unacknowledged_at, told_front, Reached, opens, sends, fails, hears, retrieves, abandons, diverts, rebalances, listens, speaks, gives, reports, commands, refuses, ticks, makes_room, lacks_room}
+
+-- ---- messages that have left
+
+both : (gone more : List Gone) → unsure_in (gone ++ more) ≡ unsure_in gone + unsure_in more
+both gone more = sum_by-append (λ (g : Gone). cond g.unsure 1 0) gone more
+
+known_none : (ms : List Msu) → unsure_in (acknowledged ms) ≡ 0
+known_none [] = refl
+known_none (m ∷ ms) = omega (arith, known_none ms)
+
+all_unsure : (ms : List Msu) → unsure_in (unsure ms) ≡ length ms
+all_unsure [] = refl
+all_unsure (m ∷ ms) =
+    let one : unsure_in (unsure (m ∷ [])) ≡ 1 = refl in
+    let step : unsure_in (unsure (m ∷ ms)) ≡ unsure_in (unsure (m ∷ [])) + unsure_in (unsure ms) = both (unsure (m ∷ [])) (unsure ms) in
+    omega (arith, one, step, all_unsure ms)
+
+-- of those that were acknowledged none is unsure
+none_more : (n most : ℕ) (gone : List Gone) (ms : List Msu) → n ≡ min most (unsure_in gone) → n ≡ min most (unsure_in (gone ++ acknowledged ms))
+none_more n most gone ms e =
+    let same : unsure_in (gone ++ acknowledged ms) ≡ unsure_in gone = omega (arith, both gone (acknowledged ms), known_none ms) in
+    e ∙ ap (min most) (sym same)
+
+capped : (most n a b : ℕ) → b ≡ a + n → min most (min most a + n) ≡ min most b
+capped most n a b e = omega (arith, e)
+
+-- those that are given up are
+so_many_more : (most count n : ℕ) (gone : List Gone) (ms : List Msu) → count ≡ min most (unsure_in gone) → n ≡ length ms
+    → min most (count + n) ≡ min most (unsure_in (gone ++ unsure ms))
+so_many_more most count n gone ms e is =
+    let all : unsure_in (gone ++ unsure ms) ≡ unsure_in gone + n = omega (arith, both gone (unsure ms), all_unsure ms, is) in
+    ap (λ (x : ℕ). min most (x + n)) e ∙ capped most n (unsure_in gone) (unsure_in (gone ++ unsure ms)) all
+
+sent_is : (o : Option Link) → sent_by o ≡ length (unacknowledged_at o)
+sent_is None = refl
+sent_is (Some k) = refl
+
+-- ---- calls that count nothing
+
+heard_same : (c : LinkSet) (m : Option Changeover) → (after_message c m).unsure ≡ c.unsure
+heard_same c None = refl
+heard_same c (Some m) =
+    by_test (λ (d : LinkSet). d.unsure ≡ c.unsure) (is_for c m) (record c { links = change c.links m.label.sls (heard_at m.kind) }) c (λ e. refl) (λ e. refl)
+
+diverted_same : (c : LinkSet) (l : ℕ) (d : Diversion) (o : Option DivertFault) → (after_by c l d o).unsure ≡ c.unsure
+diverted_same c l d None = refl
+diverted_same c l d (Some fault) = refl
+
+after_same : (c : LinkSet) (l : ℕ) (ms : List Msu) → (after_divert c l ms).unsure ≡ c.unsure
+unfolding after_divert
+after_same c l ms = diverted_same c l (diverted c l ms).at (diverted c l ms).fault
+
+placed_same : (c : LinkSet) → (placed_anew c).unsure ≡ c.unsure
+unfolding placed_anew
+placed_same c = refl
+
+seen_same : (l : ℕ) (c : LinkSet) → (seen l c).unsure ≡ c.unsure
+unfolding seen
+seen_same l c =
+    let d : LinkSet = record c { links = change c.links l asked } in
+    by_test (λ (x : LinkSet). x.unsure ≡ c.unsure) (came_by (slice_get c.links l)) (placed_anew d) d (λ e. placed_same d) (λ e. refl)
+
+all_seen_same : (c : LinkSet) → (all_seen c).unsure ≡ c.unsure
+unfolding all_seen
+all_seen_same c =
+    let d : LinkSet = record c { links = map asked c.links } in
+    by_test (λ (x : LinkSet). x.unsure ≡ c.unsure) (list_any came_first c.links) (placed_anew d) d (λ e. placed_same d) (λ e. refl)
+
+link_same : (did : Link → Link → Type 0) (l : ℕ) (c d : LinkSet) → ByLink did l c d → d.unsure ≡ c.unsure
+link_same did l c d by = ap (λ (x : LinkSet). x.unsure) by.set ∙ seen_same l (record c { links = by.links })
+
+alone_same : (did : Link → Link → Type 0) (l : ℕ) (c d : LinkSet) → Alone did l c d → d.unsure ≡ c.unsure
+alone_same did l c d by = ap (λ (x : LinkSet). x.unsure) by.set
+
+ticked_same : (n : ℕ) (c : LinkSet) → (after_ticks n c).unsure ≡ c.unsure
+unfolding after_ticks
+ticked_same n c = all_seen_same (record c { links = map (passed n) (with_room c.links) })
+
+sent_same : (c : LinkSet) (m : Msu) → (sent c m).unsure ≡ c.unsure
+unfolding sent
+sent_same c m = refl
+
+failed_same : (c : LinkSet) (l : ℕ) → (after_failure c l).unsure ≡ c.unsure
+unfolding after_failure
+failed_same c l = refl
+
+retrieved_same : (c : LinkSet) (l : ℕ) → (after_retrieve c l).unsure ≡ c.unsure
+unfolding after_retrieve
+retrieved_same c l = refl
+
+rebalanced_same : (c : LinkSet) → (rebalanced c).unsure ≡ c.unsure
+unfolding rebalanced
+rebalanced_same c = refl
+
+new_none : (own peer : ℕ) (ts : List Term) → (new_set own peer ts).unsure ≡ 0
+unfolding new_set
+new_none own peer ts = refl
+
+-- ---- every list of calls
+
+abbrev MOST : ℕ
+MOST = 2 ^ 64 - 1
+
+abbrev Counts : LinkSet → List Gone → Type 0
+Counts c gone = c.unsure ≡ min MOST (unsure_in gone)
+
+given_up : (c : LinkSet) (l : ℕ) (gone : List Gone) → Counts c gone → Counts (after_abandon c l) (gone ++ unsure (unacknowledged_at (slice_get c.links l)))
+unfolding after_abandon
+given_up c l gone e =
+    so_many_more MOST c.unsure (sent_by (slice_get c.links l)) gone (unacknowledged_at (slice_get c.links l)) e (sent_is (slice_get c.links l))
+
+counted : (c : LinkSet) (retrievals : ℕ → List Msu) (accepted : List Msu) (gone : List Gone) → Reached c retrievals accepted gone → Counts c gone
+counted _ _ _ _ (opens own peer ts unused) = new_none own peer ts
+counted _ _ _ _ (sends c retrievals accepted gone m r free small) = sent_same c m ∙ counted c retrievals accepted gone r
+counted _ _ _ _ (fails c retrievals accepted gone l r free) = failed_same c l ∙ counted c retrievals accepted gone r
+counted _ _ _ _ (hears c retrievals accepted gone m r) = heard_same c m ∙ counted c retrievals accepted gone r
+counted _ _ _ _ (retrieves c retrievals accepted gone l r free) =
+    retrieved_same c l ∙ none_more c.unsure MOST gone (told_front (slice_get c.links l)) (counted c retrievals accepted gone r)
+counted _ _ _ _ (abandons c retrievals accepted gone l r free) = given_up c l gone (counted c retrievals accepted gone r)
+counted _ _ _ _ (diverts c retrievals accepted gone l r own) = after_same c l (retrievals l) ∙ counted c retrievals accepted gone r
+counted _ _ _ _ (rebalances c retrievals accepted gone r free) = rebalanced_same c ∙ counted c retrievals accepted gone r
+counted _ _ _ _ (listens c d retrievals accepted gone l octets taken r did) =
+    link_same _ l c d did ∙ none_more c.unsure MOST gone did.at.was.took.gone (counted c retrievals accepted gone r)
+counted _ _ _ _ (speaks c d retrievals accepted gone l units octets r did) = link_same _ l c d did ∙ counted c retrievals accepted gone r
+counted _ _ _ _ (gives c d retrievals accepted gone l unit r did) = link_same _ l c d did ∙ counted c retrievals accepted gone r
+counted _ _ _ _ (reports c d retrievals accepted gone l report r did) = link_same _ l c d did ∙ counted c retrievals accepted gone r
+counted _ _ _ _ (commands c d retrievals accepted gone l command r did) = link_same _ l c d did ∙ counted c retrievals accepted gone r
+counted _ _ _ _ (refuses c d retrievals accepted gone l command refusal r did) = alone_same _ l c d did ∙ counted c retrievals accepted gone r
+counted _ _ _ _ (ticks c retrievals accepted gone n r) = ticked_same n c ∙ counted c retrievals accepted gone r
+counted _ _ _ _ (makes_room c retrievals accepted gone r) = counted c retrievals accepted gone r
+counted _ _ _ _ (lacks_room c d retrievals accepted gone r lacks) = ap (λ (x : LinkSet). x.unsure) lacks.set ∙ counted c retrievals accepted gone r
+
+pub unsure_are_counted : UnsureAreCounted
+unsure_are_counted = λ c retrievals accepted gone r. counted c retrievals accepted gone r

@@ -1,0 +1,123 @@
+-- Over every list of calls each message stands in its one place.
+use Rattle.std.proofs.Common.{◌≡◌, ℕ, Bool, true, false, List, [], Option, Some, None, refl, sym, ap, ◌∙◌, subst}
+use Rattle.std.specs.Prelude.{All, if◌then◌else◌, slice_get, get_or, option_map}
+use Rattle.std.proofs.lemmas.Option.{slice_get-map, slice_get_within, get_or_from_slice_get}
+use Rattle.resend_store.specs.declared.messages.Msu.{Msu}
+use Rattle.resend_store.specs.Window.{Window}
+use Rattle.link_transceiver.specs.TransceiverState.{TransceiverState}
+use Rattle.link_processes.specs.Machine.{tidied}
+use Rattle.link_processes.specs.Laws.{KeptLaw}
+use Rattle.group_members.specs.Kept.{window_of}
+use Rattle.group_members.specs.Term.{Term, with_processes}
+use Rattle.group_changeover.specs.declared.availability.Availability.{Availability}
+use Rattle.group_changeover.specs.Laws.{StepsKeepPlaces}
+use Rattle.group_members.specs.declared.link.Link.{Link}
+use Rattle.group_members.specs.OneLink.{held}
+use Rattle.group_members.specs.Commanding.{starts_anew, started, Commanded, Refused}
+use Rattle.group_members.specs.Doing.{Listened, Spoken, Sent, Reported}
+use Rattle.group_members.specs.New.{IsUnused, fresh}
+use Rattle.link_group.specs.New.{new_set}
+use Rattle.link_group.specs.Set.{LinkSet}
+use Rattle.link_group.specs.Laws.{held_by, EachInOnePlace}
+use Rattle.link_group.specs.Reached.{Gone, Reached, opens, sends, fails, hears, retrieves, abandons, diverts, rebalances, listens, speaks, gives, reports, commands, refuses, ticks, makes_room, lacks_room}
+use Rattle.link_group.proofs.Calling.{stays_sent, stays_retrieved, stays_abandoned}
+use Rattle.link_group.proofs.EndingLaws.{stays_diverted}
+use Rattle.link_group.proofs.Fitting.{IsSmall, none_small, FitsAt}
+use Rattle.link_group.proofs.PlacingLaws.{stays_rebalanced}
+use Rattle.link_group.proofs.Staying.{Stays}
+use Rattle.link_group.proofs.Working.{stays_failed, stays_heard, link_works, link_keeps, alone_keeps, transceiver_tidied, stays_roomy, stays_ticked, stays_lacking}
+
+-- ---- a new set
+
+unused_held : (ts : List Term) (l : ℕ) (t : Term) → All IsUnused ts → slice_get ts l ≡ Some t → held (fresh t) ≡ []
+unused_held ts l t unused e =
+    let here : get_or ts l t ≡ t = get_or_from_slice_get ts l t t e in
+    subst (λ (x : Term). (window_of x).kept ≡ []) here (unused l t (slice_get_within ts l t e))
+
+new_held : (ts : List Term) (l : ℕ) (o : Option Term) → All IsUnused ts → slice_get ts l ≡ o → held_by (option_map fresh o) ≡ []
+new_held ts l None unused e = refl
+new_held ts l (Some t) unused e = unused_held ts l t unused e
+
+new_fits : (ts : List Term) (l : ℕ) (o : Option Term) → All IsUnused ts → slice_get ts l ≡ o → FitsAt (option_map fresh o) []
+new_fits ts l None unused e = refl
+new_fits ts l (Some t) unused e = record {
+  availability = record { idle = λ x. refl; failed = λ x. let f : false ≡ true = x in cc };
+  small = subst (λ (xs : List Msu). All IsSmall xs) (sym (unused_held ts l t unused e)) none_small;
+  small_retrieval = none_small;
+}
+
+stays_new : (laws : StepsKeepPlaces) (own peer : ℕ) (ts : List Term) → All IsUnused ts → Stays (new_set own peer ts) (λ l. []) [] []
+unfolding new_set
+stays_new laws own peer ts unused = record {
+  places = laws.first _ (record {
+    accepted = refl;
+    gone = refl;
+    held = λ l. ap held_by (slice_get-map fresh ts l) ∙ new_held ts l (slice_get ts l) unused refl;
+    retrieval = λ l. refl;
+  });
+  fits = λ l. rw (slice_get-map fresh ts l) (new_fits ts l (slice_get ts l) unused refl);
+  table = refl;
+}
+
+-- ---- a terminal's calls
+
+started_changing : (b : Bool) (m : Availability) → (if b then record m { anew = true } else m).changing ≡ m.changing
+started_changing true m = refl
+started_changing false m = refl
+
+started_failed : (b : Bool) (m : Availability) → (if b then record m { anew = true } else m).failed ≡ m.failed
+started_failed true m = refl
+started_failed false m = refl
+
+same_changing : (m n : Availability) → m ≡ n → m.changing ≡ n.changing
+same_changing m n e = ap (λ (x : Availability). x.changing) e
+
+same_failed : (m n : Availability) → m ≡ n → m.failed ≡ n.failed
+same_failed m n e = ap (λ (x : Availability). x.failed) e
+
+refused_held : (k new : Link) → new.terminal ≡ with_processes k.terminal (tidied k.terminal.processes) → held k ≡ held new
+refused_held k new e = sym (ap (λ (t : Term). (window_of t).kept) e ∙ ap (λ (h : TransceiverState). h.sender.kept) (transceiver_tidied k.terminal.processes))
+
+-- ---- every list of calls
+
+stays_reached : (laws : StepsKeepPlaces) (law : KeptLaw) (c : LinkSet) (retrievals : ℕ → List Msu) (accepted : List Msu) (gone : List Gone) → Reached c retrievals accepted gone → Stays c retrievals accepted gone
+stays_reached laws law _ _ _ _ (opens own peer ts unused) = stays_new laws own peer ts unused
+stays_reached laws law _ _ _ _ (sends c retrievals accepted gone m r free small) = stays_sent laws c retrievals accepted gone m (stays_reached laws law c retrievals accepted gone r) free small
+stays_reached laws law _ _ _ _ (fails c retrievals accepted gone l r free) = stays_failed laws c retrievals accepted gone l (stays_reached laws law c retrievals accepted gone r)
+stays_reached laws law _ _ _ _ (hears c retrievals accepted gone m r) = stays_heard laws c retrievals accepted gone m (stays_reached laws law c retrievals accepted gone r)
+stays_reached laws law _ _ _ _ (retrieves c retrievals accepted gone l r free) = stays_retrieved laws c retrievals accepted gone l (stays_reached laws law c retrievals accepted gone r) free
+stays_reached laws law _ _ _ _ (abandons c retrievals accepted gone l r free) = stays_abandoned laws c retrievals accepted gone l (stays_reached laws law c retrievals accepted gone r) free
+stays_reached laws law _ _ _ _ (diverts c retrievals accepted gone l r own) = stays_diverted laws c retrievals accepted gone l (stays_reached laws law c retrievals accepted gone r) own
+stays_reached laws law _ _ _ _ (rebalances c retrievals accepted gone r free) = stays_rebalanced laws c retrievals accepted gone (stays_reached laws law c retrievals accepted gone r) free
+stays_reached laws law _ _ _ _ (listens c d retrievals accepted gone l octets taken r did) =
+    let was = did.at.was in
+    link_works laws (Listened octets taken) c d retrievals accepted gone l was.took.gone (stays_reached laws law c retrievals accepted gone r) did was.took.loses.kept
+    (same_changing did.at.after.availability did.at.before.availability was.availability) (same_failed did.at.after.availability did.at.before.availability was.availability)
+stays_reached laws law _ _ _ _ (speaks c d retrievals accepted gone l units octets r did) =
+    let was = did.at.was in
+    link_keeps laws (Spoken units octets) c d retrievals accepted gone l (stays_reached laws law c retrievals accepted gone r) did (sym was.sends.kept)
+    (same_changing did.at.after.availability did.at.before.availability was.availability) (same_failed did.at.after.availability did.at.before.availability was.availability)
+stays_reached laws law _ _ _ _ (gives c d retrievals accepted gone l unit r did) =
+    let was = did.at.was in
+    link_keeps laws (Sent unit) c d retrievals accepted gone l (stays_reached laws law c retrievals accepted gone r) did (sym was.sends.kept)
+    (same_changing did.at.after.availability did.at.before.availability was.availability) (same_failed did.at.after.availability did.at.before.availability was.availability)
+stays_reached laws law _ _ _ _ (reports c d retrievals accepted gone l report r did) =
+    let was = did.at.was in
+    link_keeps laws (Reported report) c d retrievals accepted gone l (stays_reached laws law c retrievals accepted gone r) did (sym (ap (λ (w : Window). w.kept) was.same))
+    (same_changing did.at.after.availability did.at.before.availability was.availability) (same_failed did.at.after.availability did.at.before.availability was.availability)
+stays_reached laws law _ _ _ _ (commands c d retrievals accepted gone l command r did) =
+    let was = did.at.was in
+    let before : Link = did.at.before in
+    link_keeps laws (Commanded command) c d retrievals accepted gone l (stays_reached laws law c retrievals accepted gone r) did was.keeps.kept
+    (same_changing did.at.after.availability (started command before) was.availability ∙ started_changing (starts_anew command before) before.availability)
+    (same_failed did.at.after.availability (started command before) was.availability ∙ started_failed (starts_anew command before) before.availability)
+stays_reached laws law _ _ _ _ (refuses c d retrievals accepted gone l command refusal r did) =
+    let was = did.at.was in
+    alone_keeps laws (Refused command refusal) c d retrievals accepted gone l (stays_reached laws law c retrievals accepted gone r) did (refused_held did.at.before did.at.after was.terminal)
+    (same_changing did.at.after.availability did.at.before.availability was.availability) (same_failed did.at.after.availability did.at.before.availability was.availability)
+stays_reached laws law _ _ _ _ (ticks c retrievals accepted gone n r) = stays_ticked laws law c retrievals accepted gone n (stays_reached laws law c retrievals accepted gone r)
+stays_reached laws law _ _ _ _ (makes_room c retrievals accepted gone r) = stays_roomy laws c retrievals accepted gone (stays_reached laws law c retrievals accepted gone r)
+stays_reached laws law _ _ _ _ (lacks_room c d retrievals accepted gone r lacks) = stays_lacking laws c d retrievals accepted gone (stays_reached laws law c retrievals accepted gone r) lacks
+
+pub each_in_one_place : StepsKeepPlaces → KeptLaw → EachInOnePlace
+each_in_one_place laws law = λ c retrievals accepted gone r. (stays_reached laws law c retrievals accepted gone r).places

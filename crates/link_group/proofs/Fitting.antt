@@ -1,0 +1,154 @@
+-- What is marked at each link fits what the caller has retrieved.
+use Rattle.std.proofs.Common.{◌≡◌, ℕ, ◌<◌, true, List, [], ◌∷◌, ◌++◌, Option, Some, None, refl, sym, ap, ◌∙◌, subst, arith, inl, inr}
+use Rattle.std.specs.Prelude.{All, is_some, map, option_map, slice_get}
+use Rattle.std.proofs.lemmas.List.Elements.{All-tail}
+use Rattle.std.proofs.lemmas.Option.{slice_get-map}
+use Rattle.resend_store.specs.declared.messages.Msu.{Msu}
+use Rattle.group_changeover.specs.declared.availability.Availability.{Availability}
+use Rattle.group_changeover.specs.declared.availability.Changing.{Changing}
+use Rattle.group_changeover.specs.declared.availability.Answer.{Answer}
+use Rattle.group_changeover.specs.Limits.{SELECTIONS}
+use Rattle.group_changeover.specs.Availability.{begun_by, changeover_begins, told_by, told_in, told, waited_in, waits}
+use Rattle.group_changeover.specs.Sharing.{selection_of}
+use Rattle.group_changeover.proofs.Equal.{Same, same}
+use Rattle.group_members.specs.declared.link.Link.{Link}
+use Rattle.group_members.specs.OneLink.{held}
+use Rattle.group_members.specs.Links.{change}
+use Rattle.group_members.specs.Moving.{retrieval_by}
+use Rattle.link_group.proofs.Getting.{change_here, change_other}
+
+abbrev pub IsSmall : Msu → Type 0
+IsSmall m = selection_of m < SELECTIONS
+
+pub none_small : All IsSmall []
+none_small = λ i d lt. absurd (omega (arith, lt))
+
+-- The caller has the retrieval of a link only where that is marked as out. A link in changeover has failed.
+pub record FitsAvailability (m : Availability) (ms : List Msu) : Type 0 where
+  pub idle : retrieval_by m.changing ≡ None → ms ≡ []
+  pub failed : is_some m.changing ≡ true → m.failed ≡ true
+
+pub record FitsLink (k : Link) (ms : List Msu) : Type 0 where
+  pub availability : FitsAvailability k.availability ms
+  pub small : All IsSmall (held k)
+  pub small_retrieval : All IsSmall ms
+
+abbrev pub FitsAt : Option Link → List Msu → Type 0
+FitsAt None ms = ms ≡ []
+FitsAt (Some k) ms = FitsLink k ms
+
+abbrev pub Fits : List Link → (ℕ → List Msu) → Type 0
+Fits ks retrievals = (l : ℕ) → FitsAt (slice_get ks l) (retrievals l)
+
+pub fits_there : (ks : List Link) (retrievals : ℕ → List Msu) (l : ℕ) (k : Link) → Fits ks retrievals → slice_get ks l ≡ Some k → FitsLink k (retrievals l)
+fits_there ks retrievals l k fits e = subst (λ (o : Option Link). FitsAt o (retrievals l)) e (fits l)
+
+-- ---- one link changes, or all do
+
+change_at : (f : Link → Link) (o : Option Link) (ms : List Msu) → ((k : Link) → o ≡ Some k → FitsLink (f k) ms) → (o ≡ None → ms ≡ []) → FitsAt (option_map f o) ms
+change_at f None ms some none = none refl
+change_at f (Some k) ms some none = some k refl
+
+change_by : (f : Link → Link) (ks : List Link) (retrievals : ℕ → List Msu) (ms : List Msu) (l j : ℕ) (new : ℕ → List Msu) → Same j l → Fits ks retrievals
+    → ((i : ℕ) → (i ≡ l → ⊥) → new i ≡ retrievals i) → new l ≡ ms
+    → ((k : Link) → slice_get ks l ≡ Some k → FitsLink (f k) ms) → (slice_get ks l ≡ None → ms ≡ []) → FitsAt (slice_get (change ks l f) j) (new j)
+change_by f ks retrievals ms l j new (inl e) fits else is some none =
+    let here : FitsAt (slice_get (change ks l f) l) (new l) =
+    rw (change_here f ks l (slice_get ks l) refl, is) (change_at f (slice_get ks l) ms some none) in
+    subst (λ (i : ℕ). FitsAt (slice_get (change ks l f) i) (new i)) (sym e) here
+change_by f ks retrievals ms l j new (inr other) fits else is some none = rw (change_other f ks l j other, else j other) (fits j)
+
+-- a link changes, with its retrieval
+pub fits_changed : (f : Link → Link) (ks : List Link) (retrievals new : ℕ → List Msu) (ms : List Msu) (l : ℕ) → Fits ks retrievals
+    → ((i : ℕ) → (i ≡ l → ⊥) → new i ≡ retrievals i) → new l ≡ ms
+    → ((k : Link) → slice_get ks l ≡ Some k → FitsLink (f k) ms) → (slice_get ks l ≡ None → ms ≡ []) → Fits (change ks l f) new
+fits_changed f ks retrievals new ms l fits else is some none = λ j. change_by f ks retrievals ms l j new (same j l) fits else is some none
+
+none_at : (ks : List Link) (retrievals : ℕ → List Msu) (l : ℕ) → Fits ks retrievals → slice_get ks l ≡ None → retrievals l ≡ []
+none_at ks retrievals l fits e = subst (λ (o : Option Link). FitsAt o (retrievals l)) e (fits l)
+
+-- a link changes, and its retrieval stays
+pub fits_change : (f : Link → Link) (ks : List Link) (retrievals : ℕ → List Msu) (l : ℕ) → Fits ks retrievals
+    → ((k : Link) → slice_get ks l ≡ Some k → FitsLink k (retrievals l) → FitsLink (f k) (retrievals l)) → Fits (change ks l f) retrievals
+fits_change f ks retrievals l fits step =
+    fits_changed f ks retrievals retrievals (retrievals l) l fits (λ i h. refl) refl (λ k e. step k e (fits_there ks retrievals l k fits e)) (none_at ks retrievals l fits)
+
+map_at : (f : Link → Link) (o : Option Link) (ms : List Msu) → ((k : Link) → o ≡ Some k → FitsLink k ms → FitsLink (f k) ms) → FitsAt o ms → FitsAt (option_map f o) ms
+map_at f None ms step fits = fits
+map_at f (Some k) ms step fits = step k refl fits
+
+pub fits_map : (f : Link → Link) (ks : List Link) (retrievals : ℕ → List Msu) → Fits ks retrievals
+    → ((k : Link) (l : ℕ) → slice_get ks l ≡ Some k → FitsLink k (retrievals l) → FitsLink (f k) (retrievals l)) → Fits (map f ks) retrievals
+fits_map f ks retrievals fits step = λ l. rw (slice_get-map f ks l) (map_at f (slice_get ks l) (retrievals l) (λ k. step k l) (fits l))
+
+-- ---- marks
+
+-- marks that say the same of retrievals and changeovers
+pub fits_alike : (m n : Availability) (ms : List Msu) → n.changing ≡ m.changing → n.failed ≡ m.failed → FitsAvailability m ms → FitsAvailability n ms
+fits_alike m n ms c f fits = record {
+  idle = λ e. fits.idle (ap retrieval_by (sym c) ∙ e);
+  failed = λ e. f ∙ fits.failed (ap is_some (sym c) ∙ e);
+}
+
+begins_by : (m : Availability) (ms : List Msu) (o : Option Changing) → m.changing ≡ o → FitsAvailability m ms → FitsAvailability (begun_by o m) ms
+begins_by m ms None is fits = record {
+  idle = λ e. fits.idle (ap retrieval_by is);
+  failed = λ e. refl;
+}
+begins_by m ms (Some c) is fits = fits
+
+pub fits_begins : (m : Availability) (ms : List Msu) → FitsAvailability m ms → FitsAvailability (changeover_begins m) ms
+fits_begins m ms fits = begins_by m ms m.changing refl fits
+
+told_retrieval : (h : Option (List ℕ)) (a : Answer) (c : Changing) → (told_by h a c).retrieval ≡ c.retrieval
+told_retrieval None a c = refl
+told_retrieval (Some counts) a c = refl
+
+told_retrieval_by : (o : Option Changing) (a : Answer) → retrieval_by (told_in o a) ≡ retrieval_by o
+told_retrieval_by None a = refl
+told_retrieval_by (Some c) a = told_retrieval c.retrieval a c
+
+told_some : (o : Option Changing) (a : Answer) → is_some (told_in o a) ≡ is_some o
+told_some None a = refl
+told_some (Some c) a = refl
+
+pub fits_told : (a : Answer) (m : Availability) (ms : List Msu) → FitsAvailability m ms → FitsAvailability (told a m) ms
+fits_told a m ms fits = record {
+  idle = λ e. fits.idle (sym (told_retrieval_by m.changing a) ∙ e);
+  failed = λ e. fits.failed (sym (told_some m.changing a) ∙ e);
+}
+
+waited_retrieval : (n : ℕ) (o : Option Changing) → retrieval_by (waited_in n o) ≡ retrieval_by o
+waited_retrieval n None = refl
+waited_retrieval n (Some c) = refl
+
+waited_some : (n : ℕ) (o : Option Changing) → is_some (waited_in n o) ≡ is_some o
+waited_some n None = refl
+waited_some n (Some c) = refl
+
+pub fits_waits : (n : ℕ) (m : Availability) (ms : List Msu) → FitsAvailability m ms → FitsAvailability (waits n m) ms
+fits_waits n m ms fits = record {
+  idle = λ e. fits.idle (sym (waited_retrieval n m.changing) ∙ e);
+  failed = λ e. fits.failed (sym (waited_some n m.changing) ∙ e);
+}
+
+-- ---- links that hold the same
+
+pub fits_held : (k new : Link) (ms : List Msu) → FitsAvailability new.availability ms → held new ≡ held k → FitsLink k ms → FitsLink new ms
+fits_held k new ms availability same fits = record {
+  availability = availability;
+  small = subst (λ (xs : List Msu). All IsSmall xs) (sym same) fits.small;
+  small_retrieval = fits.small_retrieval;
+}
+
+rest_small : (left rest : List Msu) → All IsSmall (left ++ rest) → All IsSmall rest
+rest_small [] rest small = small
+rest_small (m ∷ left) rest small = rest_small left rest (All-tail IsSmall m (left ++ rest) small)
+
+-- a link that holds what is left of what another holds
+pub less_fits : (k new : Link) (ms left : List Msu) → held k ≡ left ++ held new → FitsAvailability new.availability ms → FitsLink k ms → FitsLink new ms
+less_fits k new ms left parts availability fits = record {
+  availability = availability;
+  small = rest_small left (held new) (subst (λ (xs : List Msu). All IsSmall xs) parts fits.small);
+  small_retrieval = fits.small_retrieval;
+}

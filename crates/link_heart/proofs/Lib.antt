@@ -1,5 +1,0 @@
-pub mod Repeats
-pub mod Runs
-pub mod Keeping
-pub mod Having
-pub mod Actors

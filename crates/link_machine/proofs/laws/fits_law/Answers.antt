@@ -1,5 +1,0 @@
-use Rattle.link_machine.proofs.Replays as lemmas
-use Rattle.link_machine.proofs.laws.fits_law.Goals as goal
-
-pub returns : goal.returns
-returns c = lemmas.fits_law

@@ -1,5 +1,0 @@
-use Rattle.link_machine.proofs.Fullness as lemmas
-use Rattle.link_machine.proofs.laws.full_law.Goals as goal
-
-pub returns : goal.returns
-returns c = lemmas.full_law

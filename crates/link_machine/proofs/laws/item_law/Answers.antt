@@ -1,5 +1,0 @@
-use Rattle.link_machine.proofs.FitsBegin as lemmas
-use Rattle.link_machine.proofs.laws.item_law.Goals as goal
-
-pub returns : goal.returns
-returns c = lemmas.item_law

@@ -1,5 +1,0 @@
-use Rattle.link_machine.proofs.Ends as lemmas
-use Rattle.link_machine.proofs.laws.never_stuck_law.Goals as goal
-
-pub returns : goal.returns
-returns c = lemmas.never_stuck_law c.safe_law.ensures c.run_law.ensures

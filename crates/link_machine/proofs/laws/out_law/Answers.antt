@@ -1,5 +1,0 @@
-use Rattle.link_machine.proofs.Ends as lemmas
-use Rattle.link_machine.proofs.laws.out_law.Goals as goal
-
-pub returns : goal.returns
-returns c = lemmas.out_law

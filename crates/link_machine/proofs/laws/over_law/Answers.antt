@@ -1,5 +1,0 @@
-use Rattle.link_machine.proofs.Numbers as lemmas
-use Rattle.link_machine.proofs.laws.over_law.Goals as goal
-
-pub returns : goal.returns
-returns c = lemmas.over_law c.safe_law.ensures c.run_law.ensures

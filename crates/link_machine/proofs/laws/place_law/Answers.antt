@@ -1,5 +1,0 @@
-use Rattle.link_machine.proofs.Places as lemmas
-use Rattle.link_machine.proofs.laws.place_law.Goals as goal
-
-pub returns : goal.returns
-returns c = lemmas.place_law

@@ -1,5 +1,0 @@
-use Rattle.link_machine.proofs.Silence as lemmas
-use Rattle.link_machine.proofs.laws.timer_law.Goals as goal
-
-pub returns : goal.returns
-returns c = lemmas.timer_law

@@ -1,8 +1,0 @@
-//! Laws of places. The call costs nothing.
-ghost use Rattle.link_places.specs.Laws.{StepsKeepPlaces};
-
-/// Whatever comes to a link or leaves it, goes into a hand or is diverted, and whatever link a selection of which nothing stands gets: each
-/// message that was accepted stands in one place or has left, in order for each selection.
-pub fn steps_keep_places()
-    ensures { StepsKeepPlaces }
-{}

@@ -1,0 +1,5 @@
+pub mod Actors
+pub mod Having
+pub mod Keeping
+pub mod Repeats
+pub mod Runs

@@ -1,0 +1,61 @@
+-- What follows from the steps of a terminal.
+use Rattle.std.specs.Prelude.{◌≡◌, ℕ, zero, suc, ◌+◌, ◌++◌, ◌≤◌, List, [], length}
+use Rattle.su_octets.specs.declared.units.Unit.{Unit}
+use Rattle.actor_book.specs.declared.turn.Turn.TheVariants.{Made, Blocked}
+use Rattle.actor_book.specs.Turns.{MOST_TURNS, tried}
+use Rattle.actor_book.specs.Laws.{IsLeast, NoneCan}
+use Rattle.link_transceiver.specs.declared.offers.Offer.{Offer}
+use Rattle.link_transceiver.specs.Laws.{Loses, accepted_of, acknowledged_of}
+use Rattle.link_processes.specs.declared.processes.Processes.{Processes}
+use Rattle.link_processes.specs.Machine.{with_book, emptied, rested, offered, all_offered}
+use Rattle.link_processes.specs.Machine.{unit_taken, error_taken, sent}
+use Rattle.actor_machine.specs.declared.event.Event.{Event}
+
+-- Up to so many turns, each of the least actor that can, come one after another, and behind each
+-- all that waits for the environment is taken. There are less only where no actor can, or where the
+-- journal has no room for the least that could.
+pub data IsRun : ℕ → Processes → Processes → Type 0 where
+  spent : (t : Processes) → IsRun zero t t
+  none_can : (k : ℕ) (t : Processes) → NoneCan t.book → IsRun k t t
+  blocked : (k : ℕ) (t : Processes) (n : ℕ) → IsLeast t.book n → (tried n t.book).turn ≡ Blocked
+      → IsRun k t t
+  goes : (k : ℕ) (t u : Processes) (n : ℕ) → IsLeast t.book n → (tried n t.book).turn ≡ Made
+      → IsRun k (emptied (with_book t (tried n t.book).book)) u → IsRun (suc k) t u
+
+abbrev pub RestLaw : Type 0
+RestLaw = (t : Processes) → IsRun MOST_TURNS t (rested t)
+
+-- What waits to be handed out changes by the units that come alone: each puts the message that the
+-- receiver accepts of it behind the others.
+pub record MessagesLaw : Type 0 where
+  pub events :
+      (e : Event) (t : Processes) → (offered e t).transceiver.messages ≡ t.transceiver.messages
+  pub offers :
+      (os : List Offer) (t : Processes)
+      → (all_offered os t).transceiver.messages ≡ t.transceiver.messages
+  pub units :
+      (u : Unit) (t : Processes)
+      → (unit_taken u t).transceiver.messages
+      ≡ t.transceiver.messages ++ accepted_of t.transceiver u
+  pub errors : (t : Processes) → (error_taken t).transceiver.messages ≡ t.transceiver.messages
+  pub sends : (t : Processes) → (sent t).processes.transceiver.messages ≡ t.transceiver.messages
+  pub few : (u : Unit) (t : Processes)
+      → length (unit_taken u t).transceiver.messages ≤ length t.transceiver.messages + 1
+
+-- Of what is kept to send a unit that comes takes away the messages that it acknowledges; nothing
+-- else takes any away, and but for units that go out nothing lets more of them count as sent.
+pub record KeptLaw : Type 0 where
+  pub events :
+      (e : Event) (t : Processes) → Loses [] t.transceiver.sender (offered e t).transceiver.sender
+  pub offers :
+      (os : List Offer) (t : Processes)
+      → Loses [] t.transceiver.sender (all_offered os t).transceiver.sender
+  pub units :
+      (u : Unit) (t : Processes)
+      → Loses (acknowledged_of t.transceiver u) t.transceiver.sender
+      (unit_taken u t).transceiver.sender
+  pub errors : (t : Processes) → Loses [] t.transceiver.sender (error_taken t).transceiver.sender
+  pub sends :
+      (t : Processes) → (sent t).processes.transceiver.sender.kept ≡ t.transceiver.sender.kept
+  pub one_sent :
+      (t : Processes) → (sent t).processes.transceiver.sender.sent ≤ t.transceiver.sender.sent + 1

@@ -1,0 +1,6 @@
+pub mod Known
+pub mod Laws
+pub mod Machine
+pub mod Offering
+pub mod Printed
+pub mod Wanted

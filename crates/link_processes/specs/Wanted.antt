@@ -1,0 +1,99 @@
+-- What a terminal wants of its set.
+use Rattle.std.specs.Prelude.{◌≡◌, ℕ, ◌==◌, Bool, true, not, ◌&&◌, List, [], ◌∷◌, slice_get}
+use Rattle.std.specs.List.{list_any}
+use Rattle.turn_code.specs.Transitions.{parameters_of}
+use Rattle.turn_code.specs.declared.numbers.SignalNumber.{SignalNumber}
+use Rattle.turn_code.specs.declared.draft.Draft.{Draft}
+use Rattle.turn_code.specs.declared.draft.DraftRoute.{DraftRoute}
+use Rattle.actor_machine.specs.Refusals.{is_environment, offers}
+use Rattle.link_processes.specs.Known.{signal_sorts, IsProcess, IsSignal}
+use Rattle.link_processes.specs.declared.words.ProcessName.{ProcessName}
+use Rattle.link_processes.specs.declared.words.ProcessName.TheVariants as process
+use Rattle.link_processes.specs.declared.words.SignalName.{SignalName}
+use Rattle.link_processes.specs.declared.words.SignalName.TheVariants as signal
+use Rattle.link_processes.specs.declared.wanted.Wanted.{Wanted}
+use Rattle.link_processes.specs.declared.wanted.Wanted.TheVariants.{Process, Sent, Heard}
+
+-- ---- what a set has
+
+-- a signal, by its number, has that name, and the parameters that a terminal knows of it
+pub record IsSpoken (d : Draft) (name : SignalName) (k : SignalNumber) : Type 0 where
+  pub named : IsSignal d k.0 name
+  pub sorts : parameters_of (slice_get d.signals k.0) ≡ signal_sorts name
+
+-- the route brings the signal from some process to the environment
+abbrev pub tells : SignalNumber → DraftRoute → Bool
+tells s r =
+    not (is_environment r.from)
+    && (is_environment r.to && list_any (λ (x : SignalNumber). x.0 == s.0) r.signals)
+
+-- such a signal, and a route that brings it from the environment to the process of that name
+pub record HasSent (d : Draft) (to : ProcessName) (name : SignalName) : Type 0 where
+  pub process : ℕ
+  pub signal : SignalNumber
+  pub is_process : IsProcess d process to
+  pub is_signal : IsSpoken d name signal
+  pub brought : list_any (offers process signal) d.routes ≡ true
+
+-- such a signal, and a route that brings it from some process to the environment
+pub record HasHeard (d : Draft) (name : SignalName) : Type 0 where
+  pub signal : SignalNumber
+  pub is_signal : IsSpoken d name signal
+  pub brought : list_any (tells signal) d.routes ≡ true
+
+abbrev pub Has : Draft → Wanted → Type 0
+Has d (Process name) = (n : ℕ) × IsProcess d n name
+Has d (Sent to name) = HasSent d to name
+Has d (Heard name) = HasHeard d name
+
+-- of these, in their order, that one is the first that the set lacks
+pub data IsFirstLacking (d : Draft) (name : Wanted) : List Wanted → Type 0 where
+  lacks : {left : List Wanted} → (Has d name → ⊥) → IsFirstLacking d name (name ∷ left)
+  has_first :
+      {w : Wanted} {left : List Wanted} → Has d w → IsFirstLacking d name left
+      → IsFirstLacking d name (w ∷ left)
+
+-- ---- what a terminal wants
+
+-- the processes, the signals that the environment sends to each of them, and those that come to it
+abbrev pub wanted : List Wanted
+wanted =
+    Process process.Lsc
+    ∷ Process process.Aerm
+    ∷ Process process.Suerm
+    ∷ Process process.Txc
+    ∷ Process process.Rc
+    ∷ Process process.Cc
+    ∷ Sent process.Lsc signal.PowerOn
+    ∷ Sent process.Lsc signal.StartLink
+    ∷ Sent process.Lsc signal.StopLink
+    ∷ Sent process.Lsc signal.Emergency
+    ∷ Sent process.Lsc signal.Calm
+    ∷ Sent process.Lsc signal.LocalOut
+    ∷ Sent process.Lsc signal.LocalBack
+    ∷ Sent process.Cc signal.Busy
+    ∷ Sent process.Cc signal.Free
+    ∷ Sent process.Aerm signal.Good
+    ∷ Sent process.Suerm signal.Good
+    ∷ Sent process.Aerm signal.Errored
+    ∷ Sent process.Suerm signal.Errored
+    ∷ Sent process.Txc signal.AckSeen
+    ∷ Sent process.Rc signal.Bad
+    ∷ Sent process.Rc signal.Unit
+    ∷ Sent process.Txc signal.MsuSent
+    ∷ Heard signal.Fresh
+    ∷ Heard signal.Take
+    ∷ Heard signal.Line
+    ∷ Heard signal.Withhold
+    ∷ Heard signal.InServiceNow
+    ∷ Heard signal.Down
+    ∷ Heard signal.RemoteOut
+    ∷ Heard signal.RemoteBack
+    ∷ []
+
+-- all its processes, and all its signals, have a number in the set
+abbrev pub HasProcesses : Draft → Type 0
+HasProcesses d = (name : ProcessName) → (n : ℕ) × IsProcess d n name
+
+abbrev pub HasSignals : Draft → Type 0
+HasSignals d = (name : SignalName) → (k : SignalNumber) × IsSignal d k.0 name

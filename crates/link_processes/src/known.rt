@@ -1,0 +1,130 @@
+//! The numbers that a terminal's names have in its set.
+ghost use Rattle.std.specs.Prelude.{◌≡◌, All, IfOk, IfErr};
+ghost use Rattle.link_processes.specs.Known.{IsProcess, IsActor, IsSignal, AreParties, AreOrders, AreNotices, AreOutputs, AreNames};
+ghost use Rattle.link_processes.specs.Wanted.{wanted, Has, HasSignals, HasProcesses, IsFirstLacking};
+
+use crate::names::{Names, Notices, Orders, Outputs, Parties};
+use crate::wanted::{Wanted, all_wanted, first_lacking};
+use crate::words::{ProcessName, SignalName};
+use actor_machine::first_of;
+use turn_check::Verified;
+use turn_code::{ProcessNumber, SignalNumber};
+
+/// The number of a process, which the set has.
+fn process(set: &Verified, name: ProcessName) -> ProcessNumber
+    requires { HasProcesses set.now }
+    ensures { IsProcess set.now result.0 name }
+{
+    match set.process_of(name.word()) {
+        Some(number) => number,
+        None => unreachable!(),
+    }
+}
+
+/// The number of its first instance.
+fn actor(set: &Verified, name: ProcessName) -> u16
+    requires { HasProcesses set.now }
+    ensures { IsActor set.now result name }
+{
+    first_of(set, process(set, name))
+}
+
+/// The number of a signal, which the set has.
+fn signal(set: &Verified, name: SignalName) -> SignalNumber
+    requires { HasSignals set.now }
+    ensures { IsSignal set.now result.0 name }
+{
+    match set.signal_of(name.word()) {
+        Some(number) => number,
+        None => unreachable!(),
+    }
+}
+
+/// The actors.
+fn parties(set: &Verified) -> Parties
+    requires { HasProcesses set.now }
+    ensures { AreParties set.now result }
+{
+    Parties {
+        lsc: actor(set, ProcessName::Lsc),
+        aerm: actor(set, ProcessName::Aerm),
+        suerm: actor(set, ProcessName::Suerm),
+        txc: actor(set, ProcessName::Txc),
+        rc: actor(set, ProcessName::Rc),
+        cc: actor(set, ProcessName::Cc),
+    }
+}
+
+/// The signals for commands.
+fn orders(set: &Verified) -> Orders
+    requires { HasSignals set.now }
+    ensures { AreOrders set.now result }
+{
+    Orders {
+        power_on: signal(set, SignalName::PowerOn),
+        start_link: signal(set, SignalName::StartLink),
+        stop_link: signal(set, SignalName::StopLink),
+        emergency: signal(set, SignalName::Emergency),
+        calm: signal(set, SignalName::Calm),
+        local_out: signal(set, SignalName::LocalOut),
+        local_back: signal(set, SignalName::LocalBack),
+        busy: signal(set, SignalName::Busy),
+        free: signal(set, SignalName::Free),
+    }
+}
+
+/// The signals that tell of units.
+fn notices(set: &Verified) -> Notices
+    requires { HasSignals set.now }
+    ensures { AreNotices set.now result }
+{
+    Notices {
+        good: signal(set, SignalName::Good),
+        errored: signal(set, SignalName::Errored),
+        ack_seen: signal(set, SignalName::AckSeen),
+        bad: signal(set, SignalName::Bad),
+        unit: signal(set, SignalName::Unit),
+        msu_sent: signal(set, SignalName::MsuSent),
+    }
+}
+
+/// The signals that come to the environment.
+fn outputs(set: &Verified) -> Outputs
+    requires { HasSignals set.now }
+    ensures { AreOutputs set.now result }
+{
+    Outputs {
+        fresh: signal(set, SignalName::Fresh),
+        take: signal(set, SignalName::Take),
+        line: signal(set, SignalName::Line),
+        withhold: signal(set, SignalName::Withhold),
+        in_service_now: signal(set, SignalName::InServiceNow),
+        down: signal(set, SignalName::Down),
+        remote_out: signal(set, SignalName::RemoteOut),
+        remote_back: signal(set, SignalName::RemoteBack),
+    }
+}
+
+impl Names {
+    /// The numbers that the names of a terminal have in a set, which has all of them, with the parameters and the routes that a terminal
+    /// knows; case is ignored.
+    ///
+    /// # Errors
+    ///
+    /// The first of them that the set lacks, in the order of [`all_wanted`].
+    pub fn find(set: &Verified) -> Result<Names, Wanted>
+        ensures ok { IfOk result (AreNames set.now) }
+        ensures all { IfOk result (λ _. All (Has set.now) wanted) }
+        ensures err { IfErr result (λ name. IsFirstLacking set.now name wanted) }
+    {
+        match first_lacking(set, &all_wanted()) {
+            Some(name) => Err(name),
+            None => Ok(Names {
+                parties: parties(set),
+                orders: orders(set),
+                notices: notices(set),
+                outputs: outputs(set),
+            }),
+        }
+    }
+}

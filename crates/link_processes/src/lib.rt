@@ -1,0 +1,21 @@
+//! The actors of a signalling link terminal together with what it keeps beside them (Q.703): what the environment offers to the actors,
+//! how they come to rest, and what they tell the environment.
+#![tactic(auto)]
+
+mod commands;
+mod known;
+mod laws;
+mod names;
+mod processes;
+mod resting;
+mod routes;
+mod wanted;
+mod words;
+
+pub use actor_book::{Book, Limits};
+pub use commands::Command;
+pub use laws::{accepted_messages_wait_in_order, rests_are_runs, unacknowledged_messages_stay};
+pub use names::{Names, Notices, Orders, Outputs, Parties};
+pub use processes::{LOW, Processes};
+pub use wanted::Wanted;
+pub use words::{ProcessName, SignalName};

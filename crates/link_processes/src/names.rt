@@ -1,0 +1,176 @@
+//! The numbers that the actors and signals of the environment have in a set.
+ghost use Rattle.std.specs.Prelude.{◌≡◌};
+ghost use Rattle.link_processes.specs.Offering.{number_of, notice_signal, notice_values, value_told, integer_told, boolean_told, plain_told, told_by};
+
+use actor_machine::Emitted;
+use arrayvec::ArrayVec;
+use link_transceiver::{EnvSignal, Notice, Party};
+use turn_code::{SignalNumber, Value};
+
+/// The actors that the environment sends signals to, by number: the first instance of each process.
+#[derive(Clone, Copy, PartialEq, Eq, Debug)]
+pub struct Parties {
+    /// Link state control.
+    pub lsc: u16,
+    /// The alignment error rate monitor.
+    pub aerm: u16,
+    /// The signal unit error rate monitor.
+    pub suerm: u16,
+    /// Transmission control.
+    pub txc: u16,
+    /// Reception control.
+    pub rc: u16,
+    /// Congestion control.
+    pub cc: u16,
+}
+
+/// The signals by which the environment hands on commands.
+#[derive(Clone, Copy, PartialEq, Eq, Debug)]
+pub struct Orders {
+    pub power_on: SignalNumber,
+    pub start_link: SignalNumber,
+    pub stop_link: SignalNumber,
+    pub emergency: SignalNumber,
+    pub calm: SignalNumber,
+    pub local_out: SignalNumber,
+    pub local_back: SignalNumber,
+    pub busy: SignalNumber,
+    pub free: SignalNumber,
+}
+
+/// The signals by which it tells of units.
+#[derive(Clone, Copy, PartialEq, Eq, Debug)]
+pub struct Notices {
+    pub good: SignalNumber,
+    pub errored: SignalNumber,
+    pub ack_seen: SignalNumber,
+    pub bad: SignalNumber,
+    pub unit: SignalNumber,
+    pub msu_sent: SignalNumber,
+}
+
+/// The signals that come to the environment.
+#[derive(Clone, Copy, PartialEq, Eq, Debug)]
+pub struct Outputs {
+    pub fresh: SignalNumber,
+    pub take: SignalNumber,
+    pub line: SignalNumber,
+    pub withhold: SignalNumber,
+    pub in_service_now: SignalNumber,
+    pub down: SignalNumber,
+    pub remote_out: SignalNumber,
+    pub remote_back: SignalNumber,
+}
+
+/// All numbers that a terminal knows of its set.
+#[derive(Clone, Copy, PartialEq, Eq, Debug)]
+pub struct Names {
+    pub parties: Parties,
+    pub orders: Orders,
+    pub notices: Notices,
+    pub outputs: Outputs,
+}
+
+/// The number of an actor.
+pub(crate) fn actor_of(parties: &Parties, party: Party) -> u16
+    ensures { result ≡ number_of parties.now party }
+{
+    match party {
+        Party::Aerm => parties.aerm,
+        Party::Suerm => parties.suerm,
+        Party::Txc => parties.txc,
+        Party::Rc => parties.rc,
+    }
+}
+
+/// The signal of a notice.
+pub(crate) fn notice_signal(notices: &Notices, notice: Notice) -> SignalNumber
+    ensures { result ≡ notice_signal notices.now notice }
+{
+    match notice {
+        Notice::Good => notices.good,
+        Notice::Errored => notices.errored,
+        Notice::AckSeen(_) => notices.ack_seen,
+        Notice::Bad => notices.bad,
+        Notice::Unit(_) => notices.unit,
+        Notice::MsuSent => notices.msu_sent,
+    }
+}
+
+/// The values of its parameters.
+pub(crate) fn notice_values(notice: Notice) -> ArrayVec<Value, 4>
+    ensures { result.items ≡ notice_values notice }
+{
+    let mut values = ArrayVec::new();
+    match notice {
+        Notice::AckSeen(left) => values.push(Value::Bool(left)),
+        Notice::Unit(kind) => values.push(Value::Int(i32::from(kind))),
+        Notice::Good | Notice::Errored | Notice::Bad | Notice::MsuSent => {}
+    }
+    values
+}
+
+/// What a signal that came to the environment says, by its number and its first parameter; nothing where it is none that a terminal
+/// knows.
+#[tactic(auto, unfolding(crate::specs::Offering::told_by))]
+pub(crate) fn told_by(outputs: &Outputs, emitted: &Emitted) -> Option<EnvSignal>
+    ensures { result ≡ told_by outputs.now emitted.now }
+{
+    match emitted.parameters.as_slice().first() {
+        Some(value) => value_told(outputs, emitted.signal, *value),
+        None => plain_told(outputs, emitted.signal),
+    }
+}
+
+/// A signal with a parameter.
+fn value_told(outputs: &Outputs, signal: SignalNumber, value: Value) -> Option<EnvSignal>
+    ensures { result ≡ value_told outputs.now signal value }
+{
+    match value {
+        Value::Int(number) => integer_told(outputs, signal, number),
+        Value::Bool(on) => boolean_told(outputs, signal, on),
+    }
+}
+
+/// A signal with a number.
+fn integer_told(outputs: &Outputs, signal: SignalNumber, number: i32) -> Option<EnvSignal>
+    ensures { result ≡ integer_told outputs.now signal number }
+{
+    if signal.0 == outputs.line.0 {
+        Some(EnvSignal::Line(number))
+    } else if signal.0 == outputs.down.0 {
+        Some(EnvSignal::Down(number))
+    } else {
+        None
+    }
+}
+
+/// A signal with a truth value.
+fn boolean_told(outputs: &Outputs, signal: SignalNumber, on: bool) -> Option<EnvSignal>
+    ensures { result ≡ boolean_told outputs.now signal on }
+{
+    if signal.0 == outputs.take.0 {
+        Some(EnvSignal::Take(on))
+    } else if signal.0 == outputs.withhold.0 {
+        Some(EnvSignal::Withhold(on))
+    } else {
+        None
+    }
+}
+
+/// A signal without parameters.
+fn plain_told(outputs: &Outputs, signal: SignalNumber) -> Option<EnvSignal>
+    ensures { result ≡ plain_told outputs.now signal }
+{
+    if signal.0 == outputs.fresh.0 {
+        Some(EnvSignal::Fresh)
+    } else if signal.0 == outputs.in_service_now.0 {
+        Some(EnvSignal::InServiceNow)
+    } else if signal.0 == outputs.remote_out.0 {
+        Some(EnvSignal::RemoteOut)
+    } else if signal.0 == outputs.remote_back.0 {
+        Some(EnvSignal::RemoteBack)
+    } else {
+        None
+    }
+}

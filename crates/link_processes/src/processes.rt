@@ -1,0 +1,189 @@
+//! A terminal's actors, and what it keeps beside them.
+ghost use Rattle.std.specs.Prelude.{◌≡◌, ◌+◌, ◌<◌, ◌≤◌, [], true, false, length, None, Some, OnOk, OnErr, IfErr, IfSome};
+ghost use Rattle.su_octets.specs.Whole.{IsWhole};
+ghost use Rattle.actor_machine.specs.Ledger.{ask};
+ghost use Rattle.actor_machine.specs.declared.event.Event.TheVariants.{Advance};
+ghost use Rattle.actor_machine.specs.declared.reply.Reply.TheVariants as reply;
+ghost use Rattle.actor_book.specs.Answered.{answer_by};
+ghost use Rattle.link_transceiver.specs.Laws.{Loses};
+ghost use Rattle.link_transceiver.specs.Limits.{KEPT_MESSAGES};
+ghost use Rattle.link_processes.specs.Offering.{command_event, offer_event};
+ghost use Rattle.link_processes.specs.Machine.{with_book, with_transceiver, heard, rested, offered, all_offered, noted_by, unit_taken, error_taken, told_of, sent, tidied, is_low, tick_refusal};
+
+use crate::commands::{Command, command_number, command_signal};
+use crate::laws::{accepted_messages_wait_in_order, unacknowledged_messages_stay};
+use crate::names::{Names, actor_of, notice_signal, notice_values};
+use actor_book::Book;
+use actor_machine::Refusal;
+use link_transceiver::{Offer, Transceiver, UnitOut, error_offers};
+use std::alloc::AllocError;
+use su_octets::Unit;
+
+/// Where fewer places of the journal are free than that, `tidy` makes room.
+pub const LOW: usize = 32_768;
+
+/// The actors of a terminal, its stores and flags, and the numbers of what the two tell each other.
+///
+/// No call but `tidy` takes memory.
+#[derive(Drop)]
+pub struct Processes {
+    pub book: Book,
+    pub transceiver: Transceiver,
+    pub names: Names,
+}
+
+impl Processes {
+    /// Gives the actors a command, and lets them come to rest.
+    ///
+    /// # Errors
+    ///
+    /// Those of `Book::offer`. Then nothing changes.
+    #[tactic(auto, unfolding(crate::specs::Machine::offered))]
+    pub fn command(&mut self, command: Command) -> Result<(), Refusal>
+        ensures answer { answer_by (λ _. reply.Offered) result ≡ (ask self.old.book (command_event self.old.names command)).answer }
+        ensures ok { OnOk result (self.new ≡ offered (command_event self.old.names command) self.old) }
+        ensures keeps { Loses [] self.old.transceiver.sender self.new.transceiver.sender }
+        ensures err { OnErr result (self.new ≡ self.old) }
+    {
+        unacknowledged_messages_stay();
+        let actor = command_number(&self.names, command);
+        let signal = command_signal(&self.names, command);
+        match self.book.offer(actor, signal, &[]) {
+            Ok(_) => {
+                self.rest();
+                Ok(())
+            }
+            Err(refusal) => Err(refusal),
+        }
+    }
+
+    /// Lets so many ticks pass, and the actors come to rest. How many timers were due.
+    ///
+    /// # Errors
+    ///
+    /// Those that `tick_refusal` tells. Then nothing changes.
+    #[tactic(auto, unfolding(crate::specs::Machine::offered))]
+    pub fn tick(&mut self, ticks: u64) -> Result<usize, Refusal>
+        ensures answer { answer_by reply.Passed result ≡ (ask self.old.book (Advance ticks)).answer }
+        ensures passes { OnOk result (tick_refusal ticks self.old ≡ None) }
+        ensures refuses { IfErr result (λ refusal. tick_refusal ticks self.old ≡ Some refusal) }
+        ensures ok { OnOk result (self.new ≡ offered (Advance ticks) self.old) }
+        ensures keeps { Loses [] self.old.transceiver.sender self.new.transceiver.sender }
+        ensures err { OnErr result (self.new ≡ self.old) }
+    {
+        unacknowledged_messages_stay();
+        match self.book.advance(ticks) {
+            Ok(passed) => {
+                self.rest();
+                Ok(passed.due)
+            }
+            Err(refusal) => Err(refusal),
+        }
+    }
+
+    /// Why so many ticks can't pass now, if they can't: `W1 TooFar`, `W2 ClockFull`, `B8 JournalFull`.
+    pub fn tick_refusal(&self, ticks: u64) -> Option<Refusal>
+        ensures { result ≡ tick_refusal ticks self.now }
+    {
+        self.book.advance_refusal(ticks)
+    }
+
+    /// Makes an offer to an actor, which is dropped where the book refuses it, and lets the actors come to rest.
+    #[tactic(auto, unfolding(crate::specs::Machine::offered))]
+    fn offer(&mut self, offer: Offer)
+        ensures { self.new ≡ offered (offer_event self.old.names offer) self.old }
+    {
+        let actor = actor_of(&self.names.parties, offer.to);
+        let signal = notice_signal(&self.names.notices, offer.notice);
+        let values = notice_values(offer.notice);
+        let _refused = self.book.offer(actor, signal, values.as_slice()).is_err();
+        self.rest();
+    }
+
+    /// Makes offers in their order.
+    #[tactic(auto, unfolding(crate::specs::Machine::all_offered))]
+    fn offer_all(&mut self, offers: &[Offer])
+        ensures { self.new ≡ all_offered offers.now self.old }
+    {
+        for offer in offers {
+            self.offer(*offer);
+        }
+    }
+
+    /// Takes a unit without errors: the stores and then the actors learn of it.
+    #[tactic(auto, unfolding(crate::specs::Machine::unit_taken))]
+    pub fn take_unit(&mut self, unit: Unit)
+        requires whole { IsWhole unit }
+        requires room { length self.old.transceiver.messages < KEPT_MESSAGES }
+        ensures processes { self.new ≡ unit_taken unit self.old }
+        ensures few { length self.new.transceiver.messages ≤ length self.old.transceiver.messages + 1 }
+    {
+        accepted_messages_wait_in_order();
+        let offers = self.transceiver.on_unit(unit);
+        self.offer_all(offers.as_slice());
+    }
+
+    /// Takes a unit with errors, or sixteen octets without a unit.
+    #[tactic(auto, unfolding(crate::specs::Machine::error_taken))]
+    pub fn take_error(&mut self)
+        ensures processes { self.new ≡ error_taken self.old }
+        ensures messages { self.new.transceiver.messages ≡ self.old.transceiver.messages }
+    {
+        accepted_messages_wait_in_order();
+        self.offer_all(&error_offers());
+    }
+
+    /// The unit that goes out next, none before anything was said of the line. The actors learn of each message that goes out.
+    #[tactic(auto, unfolding(crate::specs::Machine::sent))]
+    pub fn send_unit(&mut self) -> Option<Unit>
+        ensures unit { result ≡ (sent self.old).unit }
+        ensures processes { self.new ≡ (sent self.old).processes }
+        ensures kept { self.new.transceiver.sender.kept ≡ self.old.transceiver.sender.kept }
+        ensures one_sent { self.new.transceiver.sender.sent ≤ self.old.transceiver.sender.sent + 1 }
+        ensures whole { IfSome result IsWhole }
+    {
+        unacknowledged_messages_stay();
+        match self.transceiver.unit_out() {
+            Some(UnitOut { unit, offer }) => {
+                self.tell(offer);
+                Some(unit)
+            }
+            None => None,
+        }
+    }
+
+    /// Makes an offer, if there is one.
+    fn tell(&mut self, offer: Option<Offer>)
+        ensures { self.new ≡ told_of offer self.old }
+    {
+        if let Some(offer) = offer {
+            self.offer(offer);
+        }
+    }
+
+    /// Makes room in the journal where fewer than [`LOW`] places of it are free and it holds events.
+    ///
+    /// # Errors
+    ///
+    /// Where there is no memory, and there was too little room: nothing changes.
+    #[tactic(auto, unfolding(crate::specs::Machine::tidied, actor_machine::specs::Ledger::rebased))]
+    pub fn tidy(&mut self) -> Result<(), AllocError>
+        ensures ok { OnOk result (self.new ≡ tidied self.old) }
+        ensures room { OnOk result (is_low self.new ≡ false) }
+        ensures transceiver { self.new.transceiver ≡ self.old.transceiver }
+        ensures err { OnErr result (self.new ≡ self.old) }
+        ensures low { OnErr result (is_low self.old ≡ true) }
+    {
+        if self.is_low() {
+            self.book.rebase()?;
+        }
+        Ok(())
+    }
+
+    /// Whether the journal holds events, and fewer than [`LOW`] places of it are free.
+    fn is_low(&self) -> bool
+        ensures { result ≡ is_low self.now }
+    {
+        !self.book.journal().is_empty() && self.book.room() < LOW
+    }
+}

@@ -1,0 +1,159 @@
+//! What a terminal wants of its set.
+ghost use Rattle.std.specs.Prelude.{◌≡◌, ◌↔◌, All, IsTrue, IfSome, IfNone, slice_get};
+ghost use Rattle.turn_code.specs.Transitions.{parameters_of};
+ghost use Rattle.turn_code.specs.declared.numbers.SignalNumber.{SignalNumber as PlainSignal};
+ghost use Rattle.link_processes.specs.Wanted.{wanted, IsSpoken, HasSent, HasHeard, Has, IsFirstLacking};
+
+use crate::routes::{is_heard, is_sent};
+use crate::words::{ProcessName, SignalName};
+use std::fmt;
+use thiserror::Error;
+use turn_check::Verified;
+use turn_code::{SignalNumber, Sort};
+
+/// Something that a terminal wants of its set.
+#[derive(Clone, Copy, PartialEq, Eq, Debug, Error)]
+pub enum Wanted {
+    /// A process.
+    Process(ProcessName),
+    /// A signal that a route brings from the environment to that process.
+    Sent(ProcessName, SignalName),
+    /// A signal that a route brings from some process to the environment.
+    Heard(SignalName),
+}
+
+impl fmt::Display for Wanted {
+    ghost use Rattle.std.specs.Prelude.{Some};
+    ghost use Rattle.link_processes.specs.Printed.{wanted_text};
+
+    ghost output = { λ w. Some (wanted_text w) };
+
+    fn fmt<W: fmt::Write>(&self, f: &mut fmt::Formatter<W>) -> fmt::Result {
+        match self {
+            Self::Process(name) => f.write_str(name.word()),
+            Self::Sent(to, name) => write!(f, "{}/{}", to.word(), name.word()),
+            Self::Heard(name) => write!(f, "ENV/{}", name.word()),
+        }
+    }
+}
+
+/// All that a terminal wants, in the order in which it is asked for: the processes, what the environment sends to each, and what comes to
+/// it.
+pub(crate) fn all_wanted() -> [Wanted; 31]
+    ensures { result ≡ wanted }
+{
+    [
+        Wanted::Process(ProcessName::Lsc),
+        Wanted::Process(ProcessName::Aerm),
+        Wanted::Process(ProcessName::Suerm),
+        Wanted::Process(ProcessName::Txc),
+        Wanted::Process(ProcessName::Rc),
+        Wanted::Process(ProcessName::Cc),
+        Wanted::Sent(ProcessName::Lsc, SignalName::PowerOn),
+        Wanted::Sent(ProcessName::Lsc, SignalName::StartLink),
+        Wanted::Sent(ProcessName::Lsc, SignalName::StopLink),
+        Wanted::Sent(ProcessName::Lsc, SignalName::Emergency),
+        Wanted::Sent(ProcessName::Lsc, SignalName::Calm),
+        Wanted::Sent(ProcessName::Lsc, SignalName::LocalOut),
+        Wanted::Sent(ProcessName::Lsc, SignalName::LocalBack),
+        Wanted::Sent(ProcessName::Cc, SignalName::Busy),
+        Wanted::Sent(ProcessName::Cc, SignalName::Free),
+        Wanted::Sent(ProcessName::Aerm, SignalName::Good),
+        Wanted::Sent(ProcessName::Suerm, SignalName::Good),
+        Wanted::Sent(ProcessName::Aerm, SignalName::Errored),
+        Wanted::Sent(ProcessName::Suerm, SignalName::Errored),
+        Wanted::Sent(ProcessName::Txc, SignalName::AckSeen),
+        Wanted::Sent(ProcessName::Rc, SignalName::Bad),
+        Wanted::Sent(ProcessName::Rc, SignalName::Unit),
+        Wanted::Sent(ProcessName::Txc, SignalName::MsuSent),
+        Wanted::Heard(SignalName::Fresh),
+        Wanted::Heard(SignalName::Take),
+        Wanted::Heard(SignalName::Line),
+        Wanted::Heard(SignalName::Withhold),
+        Wanted::Heard(SignalName::InServiceNow),
+        Wanted::Heard(SignalName::Down),
+        Wanted::Heard(SignalName::RemoteOut),
+        Wanted::Heard(SignalName::RemoteBack),
+    ]
+}
+
+/// Whether the sorts are these.
+fn are_sorts(found: &[Sort], sorts: &[Sort]) -> bool
+    ensures { IsTrue result ↔ (found.now ≡ sorts.now) }
+{
+    found == sorts
+}
+
+/// The sorts of a signal's parameters, none where there is no such signal.
+fn sorts_of(set: &Verified, signal: SignalNumber) -> &[Sort]
+    ensures { result.now ≡ parameters_of (slice_get set.now.signals signal.0) }
+{
+    match set.draft().signals.as_slice().get(usize::from(signal.0)) {
+        Some(found) => found.parameters.as_slice(),
+        None => &[],
+    }
+}
+
+/// The number of the signal of a name, where its parameters are those that a terminal knows.
+fn spoken(set: &Verified, name: SignalName) -> Option<SignalNumber>
+    ensures found { IfSome result (IsSpoken set.now name) }
+    ensures none { IfNone result ((k : PlainSignal) → IsSpoken set.now name k → ⊥) }
+{
+    match set.signal_of(name.word()) {
+        Some(signal) => {
+            if are_sorts(sorts_of(set, signal), name.sorts()) {
+                Some(signal)
+            } else {
+                None
+            }
+        }
+        None => None,
+    }
+}
+
+/// Whether a route brings a signal of that name, with the parameters that a terminal knows, from the environment to a process of that name.
+fn has_sent(set: &Verified, to: ProcessName, name: SignalName) -> bool
+    ensures { IsTrue result ↔ HasSent set.now to name }
+{
+    let Some(process) = set.process_of(to.word()) else {
+        return false;
+    };
+    match spoken(set, name) {
+        Some(signal) => is_sent(set, process, signal),
+        None => false,
+    }
+}
+
+/// Whether a route brings a signal of that name, with the parameters that a terminal knows, from some process to the environment.
+fn has_heard(set: &Verified, name: SignalName) -> bool
+    ensures { IsTrue result ↔ HasHeard set.now name }
+{
+    match spoken(set, name) {
+        Some(signal) => is_heard(set, signal),
+        None => false,
+    }
+}
+
+/// Whether a set has what is wanted.
+fn has(set: &Verified, wanted: Wanted) -> bool
+    ensures { IsTrue result ↔ Has set.now wanted }
+{
+    match wanted {
+        Wanted::Process(name) => set.process_of(name.word()).is_some(),
+        Wanted::Sent(to, name) => has_sent(set, to, name),
+        Wanted::Heard(name) => has_heard(set, name),
+    }
+}
+
+/// The first of these that a set lacks.
+pub(crate) fn first_lacking(set: &Verified, all: &[Wanted]) -> Option<Wanted>
+    ensures found { IfSome result (λ name. IsFirstLacking set.now name all.now) }
+    ensures none { IfNone result (All (Has set.now) all.now) }
+{
+    for name in all {
+        if !has(set, *name) {
+            return Some(*name);
+        }
+    }
+    None
+}

@@ -1,7 +1,0 @@
-mod Offering
-mod Passing
-mod SmallSaves
-mod TimerItems
-mod Opened
-mod Naming
-mod Looking

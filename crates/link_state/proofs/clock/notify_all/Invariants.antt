@@ -1,6 +1,0 @@
-use Rattle.std.proofs.Common.{◌≡◌, drop}
-use Rattle.link_machine.specs.Step.{notified}
-use Rattle.link_state.proofs.clock.notify_all.Given as goal
-
-abbrev pub invariant-loop-one : goal.invariant-loop-one
-invariant-loop-one l = notified l.actors (drop l.one-index l.due) ≡ notified l.initial.actors l.due

@@ -1,7 +1,0 @@
-use Rattle.std.proofs.Common.{rules}
-use Rattle.link_machine.specs.Refusals.{refuses}
-use Rattle.link_state.proofs.link.Link.skip_refusal.Goals as goal
-
-pub returns : goal.returns
-unfolding refuses
-returns c = search rules

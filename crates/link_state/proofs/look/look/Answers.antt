@@ -1,7 +1,0 @@
-use Rattle.std.proofs.Common.{rules}
-use Rattle.link_machine.specs.Looking.{looks}
-use Rattle.link_state.proofs.look.look.Goals as goal
-
-pub returns : goal.returns
-unfolding looks
-returns c = search rules

@@ -1,0 +1,5 @@
+pub mod Acknowledging
+pub mod Handing
+pub mod Keeping
+pub mod Latest
+pub mod Withholding

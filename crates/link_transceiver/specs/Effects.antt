@@ -1,0 +1,83 @@
+-- What the signals that actors send to the environment do.
+use Rattle.std.specs.Prelude.{ℕ, ℤ, pos, negsuc, ◌-◌, ◌==◌, nat_lt, Bool, true, false}
+use Rattle.std.specs.Prelude.{if◌then◌else◌, Option, Some, None, List, [], ◌∷◌, ◌++◌, length, drop}
+use Rattle.resend_store.specs.Window.{refreshed}
+use Rattle.resend_store.specs.Intake.{Intake, first_intake}
+use Rattle.link_transceiver.specs.declared.signals.Backward.{Backward}
+use Rattle.link_transceiver.specs.declared.signals.EnvSignal.{EnvSignal}
+use Rattle.link_transceiver.specs.declared.signals.EnvSignal.TheVariants as signal
+use Rattle.link_transceiver.specs.declared.signals.LineKind.{LineKind}
+use Rattle.link_transceiver.specs.declared.signals.LineKind.TheVariants as kind
+use Rattle.link_transceiver.specs.declared.signals.LinkStatus.{LinkStatus}
+use Rattle.link_transceiver.specs.declared.signals.LinkStatus.TheVariants as status
+use Rattle.link_transceiver.specs.Limits.{KEPT_STATUSES}
+use Rattle.link_transceiver.specs.Faults.{no_faults}
+use Rattle.link_transceiver.specs.TransceiverState.{TransceiverState}
+
+-- the number of the message that a receiver accepted last, and its bit in force
+abbrev pub backward_of : Intake → Backward
+backward_of r = record { bsn = r.last; bib = r.bib }
+
+-- those that are withheld become those of a receiver that has accepted nothing
+abbrev pub renewed_backward : Option Backward → Option Backward
+renewed_backward (Some b) = Some (record { bsn = 127; bib = 1 })
+renewed_backward None = None
+
+-- The link is aligned anew: both stores begin anew, and units before that tell of no fault.
+unfoldable pub renewed : TransceiverState → TransceiverState
+renewed h = record h {
+  sender = refreshed h.sender;
+  receiver = first_intake h.receiver.mode;
+  withheld = renewed_backward h.withheld;
+  faults = no_faults;
+}
+
+-- what goes out from then on, by number; other numbers name nothing
+abbrev pub kind_by : ℕ → Option LineKind
+kind_by number =
+    if nat_lt number 5 then Some (kind.Status number)
+    else (if number == 8 then Some kind.FillIn
+    else (if number == 9 then Some kind.Messages else None))
+
+unfoldable pub kind_named : ℤ → Option LineKind
+kind_named (pos number) = kind_by number
+kind_named (negsuc number) = None
+
+-- whether it is the number of the status 'busy'
+unfoldable pub is_busy_named : ℤ → Bool
+is_busy_named (pos number) = number == 5
+is_busy_named (negsuc number) = false
+
+-- It goes out from now on, and no busy status that was wanted before.
+abbrev pub sends : Option LineKind → TransceiverState → TransceiverState
+sends (Some k) h = record h { line = Some k; busy = false }
+sends None h = h
+
+-- One busy status goes out first; of any other number the last one counts.
+unfoldable pub directed : ℤ → TransceiverState → TransceiverState
+directed number h =
+    if is_busy_named number then record h { busy = true } else sends (kind_named number) h
+
+-- the latest so many; those before them give way
+unfoldable pub latest : List LinkStatus → List LinkStatus
+latest statuses = drop (length statuses - KEPT_STATUSES) statuses
+
+-- one more is told
+unfoldable pub told : LinkStatus → TransceiverState → TransceiverState
+told s h = record h { statuses = latest (h.statuses ++ s ∷ []) }
+
+-- While acknowledgement is withheld, number and bit stay as they are when that is asked for last,
+-- whatever unit comes (Q.703, 9).
+abbrev pub withheld_by : Bool → TransceiverState → TransceiverState
+withheld_by true h = record h { withheld = Some (backward_of h.receiver) }
+withheld_by false h = record h { withheld = None }
+
+unfoldable pub effect : EnvSignal → TransceiverState → TransceiverState
+effect signal.Fresh h = renewed h
+effect (signal.Take on) h = record h { take = on }
+effect (signal.Line number) h = directed number h
+effect (signal.Withhold on) h = withheld_by on h
+effect signal.InServiceNow h = told status.InService (record h { in_service = true; came = true })
+effect (signal.Down reason) h = told (status.Down reason) (record h { in_service = false })
+effect signal.RemoteOut h = told status.RemoteOut h
+effect signal.RemoteBack h = told status.RemoteBack h

@@ -1,0 +1,22 @@
+-- What the fields of a transceiver stand for, and keep.
+use Rattle.std.specs.Prelude.{IfSome}
+use Rattle.link_transceiver.specs.declared.transceiver.Transceiver.TheInside.{Inside}
+use Rattle.link_transceiver.specs.TransceiverState.{TransceiverState, IsBackward}
+
+abbrev pub transceiver_state_of : Inside → TransceiverState
+transceiver_state_of s = record {
+  sender = s.sender;
+  receiver = s.receiver;
+  take = s.take;
+  withheld = s.withheld;
+  line = s.line;
+  busy = s.busy;
+  faults = s.faults;
+  messages = s.messages;
+  statuses = s.statuses;
+  in_service = s.in_service;
+  came = s.came;
+}
+
+abbrev pub IsTransceiver : Inside → Type 0
+IsTransceiver s = IfSome s.withheld IsBackward

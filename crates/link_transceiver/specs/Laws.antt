@@ -1,0 +1,153 @@
+-- What holds of a transceiver over every list of calls.
+use Rattle.std.specs.Prelude.{◌≡◌, ℕ, pos, ◌+◌, ◌≤◌, ◌&&◌, not, Bool, true, false, if◌then◌else◌}
+use Rattle.std.specs.Prelude.{Option, Some, None, Result, Ok, Err, List, [], ◌∷◌, ◌++◌, length}
+use Rattle.std.specs.Prelude.{take}
+use Rattle.resend_store.specs.Window.{Window, unacknowledged, waiting, count_by}
+use Rattle.resend_store.specs.declared.messages.Msu.{Msu}
+use Rattle.resend_store.specs.declared.messages.Verdict.{Verdict}
+use Rattle.resend_store.specs.declared.messages.Verdict.TheVariants.{Accept, Discard, Nack}
+use Rattle.resend_store.specs.declared.refusals.UnitError.{UnitError}
+use Rattle.su_octets.specs.Frame.{head_of}
+use Rattle.su_octets.specs.declared.units.Head.{Head}
+use Rattle.su_octets.specs.declared.units.Unit.{Unit}
+use Rattle.su_octets.specs.declared.units.Unit.TheVariants as unit
+use Rattle.link_transceiver.specs.declared.offers.UnitOut.{UnitOut}
+use Rattle.link_transceiver.specs.declared.signals.Backward.{Backward}
+use Rattle.link_transceiver.specs.declared.signals.EnvSignal.{EnvSignal}
+use Rattle.link_transceiver.specs.declared.signals.EnvSignal.TheVariants as signal
+use Rattle.link_transceiver.specs.declared.signals.Report.{Report}
+use Rattle.link_transceiver.specs.declared.signals.Report.TheVariants as report
+use Rattle.link_transceiver.specs.TransceiverState.{TransceiverState}
+use Rattle.link_transceiver.specs.Effects.{effect, backward_of}
+use Rattle.link_transceiver.specs.Judging.{hears, is_abnormal, judged}
+use Rattle.link_transceiver.specs.Going.{gone}
+use Rattle.link_transceiver.specs.Reporting.{reported}
+
+-- These messages leave what is kept to send, and nothing else does: they are the oldest, and were
+-- sent. Of what stays none counts as sent that didn't.
+pub record Loses (gone : List Msu) (before after : Window) : Type 0 where
+  pub kept : before.kept ≡ gone ++ after.kept
+  pub sent : length gone + after.sent ≤ before.sent
+
+-- the messages up to a backward number: the oldest of those that are sent and not acknowledged
+abbrev pub acknowledged_messages : Window → ℕ → List Msu
+acknowledged_messages w bsn = take (count_by w bsn) (unacknowledged w)
+
+-- Those that a fill-in or message signal unit acknowledges: none where such units aren't taken, or
+-- where its number is abnormal.
+abbrev pub acknowledged_by : TransceiverState → Head → List Msu
+acknowledged_by h head =
+    if h.take && not (is_abnormal h.sender head.bsn) then acknowledged_messages h.sender head.bsn
+    else []
+
+-- those that a unit acknowledges
+abbrev pub acknowledged_of : TransceiverState → Unit → List Msu
+acknowledged_of h (unit.Fisu head) = acknowledged_by h head
+acknowledged_of h (unit.Msu head sio sif) = acknowledged_by h head
+acknowledged_of h (unit.Lssu head status second) = []
+
+-- Of what is kept to send a unit from the far side takes away the messages that it acknowledges,
+-- and those that wait to be sent go on waiting; a signal, a unit that goes out and a report take
+-- nothing. By a unit that goes out one more at most counts as sent.
+pub record KeepsUnacknowledged : Type 0 where
+  pub on_signal : (s : EnvSignal) (h : TransceiverState) → Loses [] h.sender (effect s h).sender
+  pub on_unit :
+      (h : TransceiverState) (u : Unit)
+      → Loses (acknowledged_of h u) h.sender (judged h u).transceiver.sender
+  pub waits :
+      (h : TransceiverState) (u : Unit) → waiting (judged h u).transceiver.sender ≡ waiting h.sender
+  pub unit_out : (h : TransceiverState) → (gone h).transceiver.sender.kept ≡ h.sender.kept
+  pub one_sent : (h : TransceiverState) → (gone h).transceiver.sender.sent ≤ h.sender.sent + 1
+  pub report : (h : TransceiverState) → (reported h).transceiver.sender ≡ h.sender
+
+unfoldable pub is_accept : Result Verdict UnitError → Bool
+is_accept (Ok Accept) = true
+is_accept (Ok Discard) = false
+is_accept (Ok Nack) = false
+is_accept (Err e) = false
+
+-- whether a unit with a message goes to the receiver, and is accepted there
+abbrev pub is_accepted : TransceiverState → Head → Bool
+is_accepted h head =
+    h.take && not (is_abnormal h.sender head.bsn)
+    && is_accept (hears h.receiver head.fsn head.fib true).verdict
+
+-- the message of a unit, where it is accepted
+abbrev pub accepted_of : TransceiverState → Unit → List Msu
+accepted_of h (unit.Fisu head) = []
+accepted_of h (unit.Lssu head status second) = []
+accepted_of h (unit.Msu head sio sif) =
+    if is_accepted h head then record { sio = sio; sif = sif } ∷ [] else []
+
+-- what a report hands out of them
+abbrev pub message_of : Option Report → List Msu
+message_of (Some (report.Message msu)) = msu ∷ []
+message_of (Some (report.Status status)) = []
+message_of None = []
+
+pub data Call : Type 0 where
+  Told : EnvSignal → Call
+  Came : Unit → Call
+  Went : Call
+  Asked : Call
+
+abbrev pub after_call : TransceiverState → Call → TransceiverState
+after_call h (Told s) = effect s h
+after_call h (Came u) = (judged h u).transceiver
+after_call h Went = (gone h).transceiver
+after_call h Asked = (reported h).transceiver
+
+abbrev pub accepted_by : TransceiverState → Call → List Msu
+accepted_by h (Told s) = []
+accepted_by h (Came u) = accepted_of h u
+accepted_by h Went = []
+accepted_by h Asked = []
+
+abbrev pub handed_by : TransceiverState → Call → List Msu
+handed_by h (Told s) = []
+handed_by h (Came u) = []
+handed_by h Went = []
+handed_by h Asked = message_of (reported h).report
+
+abbrev pub after : TransceiverState → List Call → TransceiverState
+after h [] = h
+after h (c ∷ cs) = after (after_call h c) cs
+
+-- the messages that were accepted over a list of calls, in order
+abbrev pub accepted : TransceiverState → List Call → List Msu
+accepted h [] = []
+accepted h (c ∷ cs) = accepted_by h c ++ accepted (after_call h c) cs
+
+-- those that were handed out
+abbrev pub handed : TransceiverState → List Call → List Msu
+handed h [] = []
+handed h (c ∷ cs) = handed_by h c ++ handed (after_call h c) cs
+
+-- What waited and what was accepted is what was handed out, then what waits now: none lost, none
+-- twice, all in order.
+abbrev pub HandsOutInOrder : Type 0
+HandsOutInOrder =
+    (h : TransceiverState) (cs : List Call)
+    → h.messages ++ accepted h cs ≡ handed h cs ++ (after h cs).messages
+
+-- a unit that goes out, if one does, has this backward number and bit
+abbrev pub Tells : Backward → Option UnitOut → Type 0
+Tells b None = Prim.Unit {0}
+Tells b (Some out) = ((head_of out.unit).bsn ≡ b.bsn) × ((head_of out.unit).bib ≡ b.bib)
+
+-- While acknowledgement is withheld, each unit that goes out tells of the number and the bit of
+-- when that was asked for, whatever was heard since: units that come don't change what is withheld.
+pub record Withholds : Type 0 where
+  pub begins :
+      (h : TransceiverState)
+      → (effect (signal.Withhold true) h).withheld ≡ Some (backward_of h.receiver)
+  pub on_unit : (h : TransceiverState) (u : Unit) → (judged h u).transceiver.withheld ≡ h.withheld
+  pub unit_out : (h : TransceiverState) → (gone h).transceiver.withheld ≡ h.withheld
+  pub tells : (h : TransceiverState) (b : Backward) → h.withheld ≡ Some b → Tells b (gone h).out
+  pub ends : (h : TransceiverState) → (effect (signal.Withhold false) h).withheld ≡ None
+
+-- Once a busy status was asked for, it goes out, and everything is as before: so it goes out once.
+abbrev pub BusyGoesOutOnce : Type 0
+BusyGoesOutOnce =
+    (h : TransceiverState) → h.busy ≡ false
+    → (gone (effect (signal.Line (pos 5)) h)).transceiver ≡ h

@@ -1,0 +1,10 @@
+pub mod Effects
+pub mod Faults
+pub mod Going
+pub mod TransceiverState
+pub mod Inside
+pub mod Judging
+pub mod Laws
+pub mod Limits
+pub mod Offers
+pub mod Reporting

@@ -1,0 +1,14 @@
+-- Numbers of a terminal's transceiver.
+use Rattle.std.specs.Prelude.{ℕ}
+
+-- the code of the status 'busy' (Q.703, 11.1.3)
+abbrev pub BUSY_CODE : ℕ
+BUSY_CODE = 5
+
+-- how many accepted messages wait until they are handed out (this profile's)
+abbrev pub KEPT_MESSAGES : ℕ
+KEPT_MESSAGES = 256
+
+-- and how many statuses, of which the latest stay (this profile's)
+abbrev pub KEPT_STATUSES : ℕ
+KEPT_STATUSES = 64

@@ -1,0 +1,56 @@
+-- What a signalling link terminal keeps beside its actors and its line.
+use Rattle.std.specs.Prelude.{◌<◌, Bool, false, Option, None, List, []}
+use Rattle.resend_store.specs.Window.{Window, start}
+use Rattle.resend_store.specs.Intake.{Intake, first_intake}
+use Rattle.resend_store.specs.declared.messages.Mode.{Mode}
+use Rattle.resend_store.specs.declared.messages.Msu.{Msu}
+use Rattle.link_transceiver.specs.declared.faults.Fault.{Fault}
+use Rattle.link_transceiver.specs.declared.signals.LineKind.{LineKind}
+use Rattle.link_transceiver.specs.declared.signals.LinkStatus.{LinkStatus}
+use Rattle.link_transceiver.specs.declared.signals.Backward.{Backward}
+use Rattle.link_transceiver.specs.Faults.{no_faults}
+
+-- a number and a bit as units have them
+pub record IsBackward (b : Backward) : Type 0 where
+  pub number : b.bsn < 128
+  pub indicator : b.bib < 2
+
+pub record TransceiverState : Type 0 where
+  -- the messages to send, and the numbers that they go out with
+  pub sender : Window
+  -- which messages of the far side were accepted
+  pub receiver : Intake
+  -- whether fill-in and message signal units go through both
+  pub take : Bool
+  -- the backward sequence number and indicator bit that go out in place of the receiver's
+  pub withheld : Option Backward
+  -- what goes out; nothing before that was said for the first time
+  pub line : Option LineKind
+  -- whether one unit that tells of congestion goes out first
+  pub busy : Bool
+  -- what was wrong with the last three units that went through the stores, the newest first
+  pub faults : List (Option Fault)
+  -- messages that were accepted and not handed out yet, the oldest first
+  pub messages : List Msu
+  -- the same of what was told of the link
+  pub statuses : List LinkStatus
+  -- whether the link is in service, by what was told last
+  pub in_service : Bool
+  -- whether it came into service since that was last asked
+  pub came : Bool
+
+-- that of a terminal that is made
+unfoldable pub first_transceiver : Mode → TransceiverState
+first_transceiver mode = record {
+  sender = start mode;
+  receiver = first_intake mode;
+  take = false;
+  withheld = None;
+  line = None;
+  busy = false;
+  faults = no_faults;
+  messages = [];
+  statuses = [];
+  in_service = false;
+  came = false;
+}

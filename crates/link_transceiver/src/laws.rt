@@ -1,0 +1,26 @@
+//! Laws over every list of calls.
+ghost use Rattle.link_transceiver.specs.Laws.{KeepsUnacknowledged, HandsOutInOrder, BusyGoesOutOnce, Withholds};
+
+/// Of the messages that are kept to send a unit from the far side takes away those that it acknowledges, the oldest of those that
+/// were sent. Nothing else takes any but `retrieve`, which hands out what stands behind the number that it is given or, without one,
+/// what was never sent, and keeps nothing.
+pub fn unacknowledged_messages_are_kept()
+    ensures { KeepsUnacknowledged }
+{}
+
+/// Over every list of signals, units and reports the messages that are handed out, and then those that still wait, are the
+/// accepted ones: none is lost, none comes twice, and their order stays.
+pub fn accepted_messages_are_handed_out_in_order()
+    ensures { HandsOutInOrder }
+{}
+
+/// From when acknowledgement is withheld until that ends, each unit that goes out has the backward number and bit of when it began,
+/// whatever unit comes: a message that is accepted then isn't acknowledged, and one that is lost isn't asked for.
+pub fn withheld_acknowledgement_stays()
+    ensures { Withholds }
+{}
+
+/// A busy status that is asked for goes out once, and then what went out before.
+pub fn busy_goes_out_once()
+    ensures { BusyGoesOutOnce }
+{}

@@ -1,0 +1,22 @@
+//! What a terminal sends and what a unit that comes leads to (transmission and reception control of Q.703, without their processes):
+//! both stores, what goes out next, faults and reports.
+#![tactic(auto)]
+
+mod faults;
+mod hearing;
+mod kept;
+mod laws;
+mod offers;
+mod sending;
+mod signals;
+mod transceiver;
+
+pub use faults::Fault;
+pub use hearing::Offers;
+pub use laws::{
+    accepted_messages_are_handed_out_in_order, busy_goes_out_once,
+    unacknowledged_messages_are_kept, withheld_acknowledgement_stays,
+};
+pub use offers::{Notice, Offer, Party, UnitOut, error_offers};
+pub use signals::{BUSY, Backward, EnvSignal, LineKind, LinkStatus, MESSAGES, Report, STATUSES};
+pub use transceiver::Transceiver;

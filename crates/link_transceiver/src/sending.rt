@@ -1,0 +1,124 @@
+//! What goes out.
+ghost use Rattle.std.specs.Prelude.{◌≡◌, ◌<◌, IfSome};
+ghost use Rattle.resend_store.specs.Messages.{IsMessage};
+ghost use Rattle.su_octets.specs.Whole.{IsWhole, IsWholeHead};
+ghost use Rattle.link_transceiver.specs.TransceiverState.{IsBackward};
+ghost use Rattle.link_transceiver.specs.Going.{gives, backward_out, head_with, idle_head, quiet, filled, status_gone, sender_gone, gone};
+
+use crate::offers::{Notice, Offer, Party, UnitOut};
+use crate::signals::{BUSY, Backward, LineKind};
+use crate::transceiver::Transceiver;
+use resend_store::{Msu, Outgoing, Sender};
+use su_octets::{Head, Unit};
+
+impl Transceiver {
+    /// What goes out next, with what is to be offered then; nothing before anything was said of the line.
+    ///
+    /// One link status signal unit of congestion goes out first where that was asked for; then by the last other
+    /// `EnvSignal::Line`: link status signal units with its code, fill-in units, or what the sender gives (Q.703, 11.1.3 and
+    /// sections 5, 6 and 9). The numbers of a unit without a message are those of a fill-in unit.
+    #[tactic(auto, unfolding(crate::specs::Going::gone))]
+    pub fn unit_out(&mut self) -> Option<UnitOut>
+        ensures out { result ≡ (gone self.old).out }
+        ensures transceiver { self.new ≡ (gone self.old).transceiver }
+        ensures whole { IfSome result (λ out. IsWhole out.unit) }
+    {
+        if self.busy {
+            self.busy = false;
+            return Some(self.status(BUSY));
+        }
+        match self.line {
+            None => None,
+            Some(LineKind::Status(code)) => Some(self.status(code)),
+            Some(LineKind::FillIn) => Some(quiet(Unit::Fisu(self.idle_head()))),
+            Some(LineKind::Messages) => Some(self.next_unit()),
+        }
+    }
+
+    /// A link status signal unit with this code.
+    fn status(&self, code: u8) -> UnitOut
+        ensures out { Some result ≡ (status_gone self.now code).out }
+        ensures whole { IsWhole result.unit }
+    {
+        quiet(Unit::Lssu(self.idle_head(), code, None))
+    }
+
+    /// The head of a unit that the sender has no part in.
+    #[tactic(auto, unfolding(crate::specs::Going::idle_head, crate::specs::Going::idle_fsn))]
+    fn idle_head(&self) -> Head
+        ensures value { result ≡ idle_head self.now }
+        ensures whole { IsWholeHead result }
+    {
+        self.head_with(self.sender.fsn(), self.sender.fib())
+    }
+
+    /// The head around these.
+    fn head_with(&self, fsn: u8, fib: u8) -> Head
+        requires fsn { fsn < 128 }
+        requires fib { fib < 2 }
+        ensures value { result ≡ head_with self.now fsn fib }
+        ensures whole { IsWholeHead result }
+    {
+        let Backward { bsn, bib } = self.backward_out();
+        Head { bsn, bib, fsn, fib }
+    }
+
+    /// The backward number and bit that go out.
+    fn backward_out(&self) -> Backward
+        ensures value { result ≡ backward_out self.now }
+        ensures whole { IsBackward result }
+    {
+        match self.withheld {
+            Some(backward) => backward,
+            None => self.backward(),
+        }
+    }
+
+    /// What the sender gives.
+    fn next_unit(&mut self) -> UnitOut
+        ensures out { Some result ≡ (sender_gone self.old (gives self.old.sender)).out }
+        ensures transceiver { self.new ≡ (sender_gone self.old (gives self.old.sender)).transceiver }
+        ensures whole { IsWhole result.unit }
+    {
+        let Outgoing { fsn, fib, msu } = give(&mut self.sender);
+        filled(self.head_with(fsn, fib), msu)
+    }
+}
+
+/// What a sender gives next.
+#[tactic(auto, unfolding(crate::specs::Going::gives))]
+fn give(sender: &mut Sender) -> Outgoing
+    ensures unit { result ≡ (gives sender.old).unit }
+    ensures left { sender.new ≡ (gives sender.old).left }
+    ensures number { result.fsn < 128 }
+    ensures indicator { result.fib < 2 }
+    ensures message { IfSome result.msu IsMessage }
+{
+    sender.next_unit()
+}
+
+/// The unit with a message or without one.
+fn filled(head: Head, msu: Option<Msu>) -> UnitOut
+    requires head { IsWholeHead head }
+    requires message { IfSome msu IsMessage }
+    ensures value { result ≡ filled head msu }
+    ensures whole { IsWhole result.unit }
+{
+    match msu {
+        Some(Msu { sio, sif }) => UnitOut {
+            unit: Unit::Msu(head, sio, sif),
+            offer: Some(Offer {
+                to: Party::Txc,
+                notice: Notice::MsuSent,
+            }),
+        },
+        None => quiet(Unit::Fisu(head)),
+    }
+}
+
+/// A unit that nobody is told of.
+fn quiet(unit: Unit) -> UnitOut
+    ensures { result ≡ quiet unit }
+{
+    UnitOut { unit, offer: None }
+}

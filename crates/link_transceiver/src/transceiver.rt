@@ -1,0 +1,311 @@
+//! The transceiver as its user sees it.
+ghost use Rattle.std.specs.Prelude.{◌≡◌, ◌<◌, ◌≤◌, ◌↔◌, ◌∷◌, ◌++◌, [], IsTrue, false, length, All, IfOk, OnOk, OnErr, IfSome, slice_get};
+ghost use Rattle.std.specs.Option.{option_copied};
+ghost use Rattle.resend_store.specs.Limits.{MOST_WAITING, MOST_KEPT};
+ghost use Rattle.resend_store.specs.Messages.{IsMessage};
+ghost use Rattle.resend_store.specs.Window.{IsWindow, waiting, with_put, retrieved, emptied, count_by, count_known};
+ghost use Rattle.link_transceiver.specs.Effects.{effect, backward_of, renewed, directed, kind_named, kind_by, is_busy_named, withheld_by, told, latest};
+ghost use Rattle.link_transceiver.specs.TransceiverState.{IsBackward, first_transceiver};
+ghost use Rattle.link_transceiver.specs.Limits.{KEPT_MESSAGES};
+ghost use Rattle.link_transceiver.specs.Reporting.{reported};
+
+use crate::faults::LastThree;
+use crate::kept::KeptQueue;
+use crate::signals::{BUSY, Backward, EnvSignal, LineKind, LinkStatus, MESSAGES, Report, STATUSES};
+use resend_store::{Mode, Msu, PutError, Receiver, RetrieveError, Sender};
+use std::alloc::{AllocError, Global};
+use std::collections::VecDeque;
+use std::marker::Model;
+
+/// What a link terminal keeps beside its actors and its line: its stores, what goes out, and what is to be handed out.
+///
+/// All its room is made by `new`. Only `retrieve` takes memory after that.
+#[derive(Debug, Drop)]
+pub struct Transceiver {
+    pub(crate) sender: Sender,
+    pub(crate) receiver: Receiver,
+    pub(crate) take: bool,
+    /// The backward number and bit that go out in place of the receiver's.
+    pub(crate) withheld: Option<Backward>,
+    pub(crate) line: Option<LineKind>,
+    /// Whether one unit of status 'busy' goes out first.
+    pub(crate) busy: bool,
+    pub(crate) faults: LastThree,
+    pub(crate) messages: KeptQueue<Msu, MESSAGES>,
+    statuses: KeptQueue<LinkStatus, STATUSES>,
+    in_service: bool,
+    /// Whether it came into service since that was last asked.
+    came: bool,
+}
+
+impl Model for Transceiver {
+    ghost use Rattle.link_transceiver.specs.TransceiverState.{TransceiverState};
+
+    ghost Value = { TransceiverState };
+
+    ghost use Rattle.link_transceiver.specs.Inside.{transceiver_state_of, IsTransceiver};
+
+    ghost view = { transceiver_state_of };
+
+    ghost invariant = { IsTransceiver };
+}
+
+impl Transceiver {
+    /// That of a link which is out of service: nothing is kept, and nothing goes out.
+    #[tactic(auto, unfolding(crate::specs::TransceiverState::first_transceiver))]
+    pub fn new(alloc: Global, mode: Mode) -> Result<Transceiver, AllocError>
+        ensures { IfOk result (λ transceiver. transceiver ≡ first_transceiver mode) }
+    {
+        let sender = Sender::new(alloc, mode)?;
+        let messages = KeptQueue::new(alloc)?;
+        let statuses = KeptQueue::new(alloc)?;
+        Ok(Transceiver {
+            sender,
+            receiver: Receiver::new(mode),
+            take: false,
+            withheld: None,
+            line: None,
+            busy: false,
+            faults: LastThree::new(),
+            messages,
+            statuses,
+            in_service: false,
+            came: false,
+        })
+    }
+
+    /// Does what an actor asks of the environment.
+    #[tactic(auto, unfolding(crate::specs::Effects::effect))]
+    pub fn on_signal(&mut self, signal: EnvSignal)
+        ensures { self.new ≡ effect signal self.old }
+    {
+        match signal {
+            EnvSignal::Fresh => self.renew(),
+            EnvSignal::Take(on) => self.take = on,
+            EnvSignal::Line(number) => self.direct(number),
+            EnvSignal::Withhold(on) => self.withhold(on),
+            EnvSignal::InServiceNow => {
+                self.in_service = true;
+                self.came = true;
+                self.tell(LinkStatus::InService);
+            }
+            EnvSignal::Down(reason) => {
+                self.in_service = false;
+                self.tell(LinkStatus::Down(reason));
+            }
+            EnvSignal::RemoteOut => self.tell(LinkStatus::RemoteOut),
+            EnvSignal::RemoteBack => self.tell(LinkStatus::RemoteBack),
+        }
+    }
+
+    /// Takes a message to send, with a field of 2 octets or more. It waits behind all others.
+    ///
+    /// `Full` where `resend_store::MAX_WAITING` or more wait. Nothing changes then, and the message is dropped.
+    pub fn put(&mut self, msu: Msu) -> Result<(), PutError>
+        requires { 2 ≤ length msu.sif.items }
+        ensures full { (result ≡ Err PutError.Full) ↔ (MOST_WAITING ≤ length (waiting self.old.sender)) }
+        ensures ok { OnOk result (self.new ≡ record self.old { sender = with_put self.old.sender msu }) }
+        ensures err { OnErr result (self.new ≡ self.old) }
+    {
+        self.sender.put(msu)
+    }
+
+    /// Takes a message that another link left behind (Q.704, changeover), with a field of 2 octets or more.
+    ///
+    /// `Full` where `resend_store::MAX_KEPT` are unacknowledged or wait. Nothing changes then.
+    pub fn put_diverted(&mut self, msu: Msu) -> Result<(), PutError>
+        requires { 2 ≤ length msu.sif.items }
+        ensures full { (result ≡ Err PutError.Full) ↔ (MOST_KEPT ≤ length self.old.sender.kept) }
+        ensures ok { OnOk result (self.new ≡ record self.old { sender = with_put self.old.sender msu }) }
+        ensures err { OnErr result (self.new ≡ self.old) }
+    {
+        self.sender.put_diverted(msu)
+    }
+
+    /// Hands out, in order, what the far side may lack (Q.704, retrieval): what comes after the number, 0 to 127, that it
+    /// accepted last, or, where that number isn't known, what was never sent. Nothing is kept to send then.
+    ///
+    /// `BadAck` where the number acknowledges more than is sent, and then `NoMemory`. Nothing changes in either case.
+    pub fn retrieve(&mut self, accepted: Option<u8>) -> Result<VecDeque<Msu>, RetrieveError>
+        requires { IfSome accepted (λ fsn. fsn < 128) }
+        ensures bad { (result ≡ Err RetrieveError.BadAck) ↔ (self.old.sender.sent < count_known self.old.sender accepted) }
+        ensures messages { IfOk result (λ messages. messages.items ≡ retrieved self.old.sender accepted) }
+        ensures whole { IfOk result (λ messages. All IsMessage messages.items) }
+        ensures ok { OnOk result (self.new ≡ record self.old { sender = emptied self.old.sender accepted }) }
+        ensures err { OnErr result (self.new ≡ self.old) }
+    {
+        self.sender.retrieve(accepted)
+    }
+
+    /// How many messages are kept to send: unacknowledged and waiting ones.
+    pub fn held(&self) -> usize
+        ensures value { result ≡ length self.now.sender.kept }
+        ensures window { IsWindow self.now.sender }
+    {
+        self.sender.held()
+    }
+
+    /// The kept message at a place, the oldest at 0.
+    pub fn held_at(&self, place: usize) -> Option<&Msu>
+        ensures { option_copied result ≡ slice_get self.now.sender.kept place }
+    {
+        self.sender.held_at(place)
+    }
+
+    /// How many messages are sent and not acknowledged.
+    pub fn sent(&self) -> usize
+        ensures { result ≡ self.now.sender.sent }
+    {
+        self.sender.sent()
+    }
+
+    /// The forward sequence number, 0 to 127, of the message that was accepted last; 127 where there is none.
+    pub fn accepted(&self) -> u8
+        ensures value { result ≡ self.now.receiver.last }
+        ensures within { result < 128 }
+    {
+        self.receiver.bsn()
+    }
+
+    /// Whether a number, below 128, acknowledges no more than is sent.
+    pub fn knows(&self, fsn: u8) -> bool
+        requires { fsn < 128 }
+        ensures { IsTrue result ↔ (count_by self.now.sender fsn ≤ self.now.sender.sent) }
+    {
+        let _window = self.sender.held();
+        let sent = self.sender.sent();
+        let acknowledged = (usize::from(self.sender.fsn()) + 128 - sent) % 128;
+        (usize::from(fsn) + 128 - acknowledged) % 128 <= sent
+    }
+
+    /// Whether a further message that is accepted can be kept.
+    pub fn has_room(&self) -> bool
+        ensures { IsTrue result ↔ (length self.now.messages < KEPT_MESSAGES) }
+    {
+        !self.messages.is_full()
+    }
+
+    /// What is to be handed out next: messages first, then what was told of the link, each in order.
+    #[tactic(auto, unfolding(crate::specs::Reporting::reported))]
+    pub fn report(&mut self) -> Option<Report>
+        ensures report { result ≡ (reported self.old).report }
+        ensures sender { self.new.sender ≡ self.old.sender }
+        ensures transceiver { self.new ≡ (reported self.old).transceiver }
+    {
+        match self.messages.pop() {
+            Some(msu) => Some(Report::Message(msu)),
+            None => self.statuses.pop().map(Report::Status),
+        }
+    }
+
+    /// Whether the link is in service, by what was told last.
+    pub fn in_service(&self) -> bool
+        ensures { result ≡ self.now.in_service }
+    {
+        self.in_service
+    }
+
+    /// Whether the link came into service since this was last asked.
+    pub fn came_into_service(&mut self) -> bool
+        ensures value { result ≡ self.old.came }
+        ensures asked { self.new ≡ record self.old { came = false } }
+    {
+        let came = self.came;
+        self.came = false;
+        came
+    }
+
+    /// Both stores begin anew.
+    #[tactic(auto, unfolding(crate::specs::Effects::renewed))]
+    fn renew(&mut self)
+        ensures { self.new ≡ renewed self.old }
+    {
+        self.sender.fresh();
+        self.receiver.fresh();
+        self.faults = LastThree::new();
+        if self.withheld.is_some() {
+            self.withheld = Some(self.backward());
+        }
+    }
+
+    /// Says what goes out from now on.
+    #[tactic(auto, unfolding(crate::specs::Effects::directed))]
+    fn direct(&mut self, number: i32)
+        ensures { self.new ≡ directed number self.old }
+    {
+        if is_busy(number) {
+            self.busy = true;
+        } else if let Some(kind) = kind_named(number) {
+            self.line = Some(kind);
+            self.busy = false;
+        }
+    }
+
+    /// Keeps the backward number and bit as they are, or lets them follow the receiver's again.
+    fn withhold(&mut self, on: bool)
+        ensures { self.new ≡ withheld_by on self.old }
+    {
+        self.withheld = if on { Some(self.backward()) } else { None };
+    }
+
+    /// The receiver's number and bit.
+    pub(crate) fn backward(&self) -> Backward
+        ensures value { result ≡ backward_of self.now.receiver }
+        ensures whole { IsBackward result }
+    {
+        Backward {
+            bsn: self.receiver.bsn(),
+            bib: self.receiver.bib(),
+        }
+    }
+
+    /// One more status waits; where there are too many the oldest gives way.
+    #[tactic(auto, unfolding(crate::specs::Effects::told))]
+    fn tell(&mut self, status: LinkStatus)
+        ensures { self.new ≡ told status self.old }
+    {
+        keep_latest(&mut self.statuses, status);
+    }
+}
+
+/// Puts one more behind the others, in place of the oldest where there is no room.
+#[tactic(auto, unfolding(crate::specs::Effects::latest), using(crate::proofs::Latest::latest_full, crate::proofs::Latest::latest_with_room))]
+fn keep_latest(statuses: &mut KeptQueue<LinkStatus, STATUSES>, status: LinkStatus)
+    ensures { statuses.new ≡ latest (statuses.old ++ status ∷ []) }
+{
+    if statuses.len() == STATUSES {
+        let _oldest = statuses.pop();
+    }
+    statuses.push(status);
+}
+
+/// Whether that is the number of the status 'busy'.
+#[tactic(auto, unfolding(crate::specs::Effects::is_busy_named))]
+fn is_busy(number: i32) -> bool
+    ensures { result ≡ is_busy_named number }
+{
+    number == i32::from(BUSY)
+}
+
+/// What the number says is to go out.
+#[tactic(auto, unfolding(crate::specs::Effects::kind_named))]
+fn kind_named(number: i32) -> Option<LineKind>
+    ensures { result ≡ kind_named number }
+{
+    match u8::try_from(number) {
+        Ok(number) => kind_by(number),
+        Err(_) => None,
+    }
+}
+
+/// The same of a number that isn't negative.
+fn kind_by(number: u8) -> Option<LineKind>
+    ensures { result ≡ kind_by number }
+{
+    match number {
+        0..=4 => Some(LineKind::Status(number)),
+        8 => Some(LineKind::FillIn),
+        9 => Some(LineKind::Messages),
+        _ => None,
+    }
+}

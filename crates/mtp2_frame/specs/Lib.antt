@@ -1,0 +1,3 @@
+pub mod LineBits
+pub mod Printed
+pub mod Reading

@@ -1,0 +1,123 @@
+-- What the words of a command's matches ask for, by what single words say.
+use Rattle.std.proofs.Common.{◌≡◌, ◌∙◌, List, Option, Some, None, IfSome, IsSomeAnd, refl, sym, ap, subst, inr, option_map, option_and_then, box_value, codes}
+use Rattle.std.proofs.lemmas.Option.{none-some, same_Some}
+use Rattle.clap.specs.Words.{Row, Text, found_of, rows_of, subcommand_name_of, subcommand_rows_of}
+use Rattle.clap.specs.declared.parser.matches.ArgMatches.{ArgMatches}
+use Rattle.clap.specs.declared.parser.matches.ArgMatches.TheViews.{out-ArgMatches, out-SubCommand}
+use Rattle.clap.proofs.WalkLemmas.{first_value-rows}
+use Rattle.mtp2_words.specs.Ends.{IsEndOf}
+use Rattle.mtp2_words.specs.declared.ends.LineEnd.{LineEnd}
+use Rattle.mtp2_words.specs.declared.ends.LineWords.{LineWords}
+use Rattle.mtp2_words.specs.Words.{command_of, workers_of, AreStdin, IsNamed, IsPlay, IsSoak, IsSource}
+use Rattle.mtp2_words.specs.Asked.{Given, given_by, given_in, AreBothStdin, AreUnderIds, AsksEnd, AsksNothing, IsAsked, IsAskedBy, IsNoPlay, IsNoSoak, SaysNothing}
+use Rattle.mtp2_words.specs.declared.words.Named.{Named}
+use Rattle.mtp2_words.specs.declared.words.Request.{Request}
+use Rattle.mtp2_words.specs.declared.words.Request.TheVariants.{Check, Play, Soak, Line, Frame}
+
+-- ---- words under their ids
+
+some_word : (o : Option Text) (word : Text) (P : Text → Type 0) → Some word ≡ o → P word → IsSomeAnd o P
+some_word o word P e h = let Q : Option Text → Type 0 = λ x. IsSomeAnd x P in subst Q e h
+
+pub named : (given : Given) (word : Text) (set : Named) → Some word ≡ given (codes "SET") → IsNamed set word
+    → IsSomeAnd (given (codes "SET")) (IsNamed set)
+named given word set e h = some_word (given (codes "SET")) word (IsNamed set) e h
+
+-- standard input under both ids is standard input as both words
+both_words : (given : Given) (set_word script_word : Text) → Some set_word ≡ given (codes "SET") → Some script_word ≡ given (codes "SCRIPT")
+    → AreBothStdin given → AreStdin set_word script_word
+both_words given set_word script_word e f b = (same_Some set_word _ (e ∙ b.set_is), same_Some script_word _ (f ∙ b.script_is))
+
+pub plays : (given : Given) (set_word script_word : Text) (request : Request) → Some set_word ≡ given (codes "SET")
+    → Some script_word ≡ given (codes "SCRIPT") → IsPlay set_word script_word request → IsAsked given request
+plays given set_word script_word (Check set) e f h = absurd h
+plays given set_word script_word (Play set script) e f h = record {
+  set_is = some_word (given (codes "SET")) set_word (IsNamed set) e h.set_is;
+  script_is = some_word (given (codes "SCRIPT")) script_word (IsSource script) f h.script_is;
+  one_input = λ b. h.one_input (both_words given set_word script_word e f b);
+}
+plays given set_word script_word (Soak script workers) e f h = absurd h
+plays given set_word script_word (Line set end) e f h = absurd h
+plays given set_word script_word (Frame octets) e f h = absurd h
+
+pub is_play : (set_word script_word : Text) (request : Request) → IsPlay set_word script_word request → command_of request ≡ codes "play"
+is_play set_word script_word (Check set) h = absurd h
+is_play set_word script_word (Play set script) h = refl
+is_play set_word script_word (Soak script workers) h = absurd h
+is_play set_word script_word (Line set end) h = absurd h
+is_play set_word script_word (Frame octets) h = absurd h
+
+pub plays_nothing : (given : Given) (set_word script_word : Text) → Some set_word ≡ given (codes "SET")
+    → Some script_word ≡ given (codes "SCRIPT") → AreStdin set_word script_word → IsNoPlay given
+plays_nothing given set_word script_word e f h = inr (inr (record {
+  set_is = sym e ∙ ap Some h.0;
+  script_is = sym f ∙ ap Some h.1;
+}))
+
+pub soaks : (given : Given) (script_word workers_word : Text) (request : Request) → Some script_word ≡ given (codes "SCRIPT")
+    → Some workers_word ≡ given (codes "workers") → IsSoak script_word workers_word request → IsAsked given request
+soaks given script_word workers_word (Check set) e f h = absurd h
+soaks given script_word workers_word (Play set script) e f h = absurd h
+soaks given script_word workers_word (Soak script workers) e f h = record {
+  script_is = some_word (given (codes "SCRIPT")) script_word (IsSource script) e h.0;
+  workers_are = ap (option_and_then workers_of) (sym f) ∙ h.1;
+}
+soaks given script_word workers_word (Line set end) e f h = absurd h
+soaks given script_word workers_word (Frame octets) e f h = absurd h
+
+pub is_soak : (script_word workers_word : Text) (request : Request) → IsSoak script_word workers_word request → command_of request ≡ codes "soak"
+is_soak script_word workers_word (Check set) h = absurd h
+is_soak script_word workers_word (Play set script) h = absurd h
+is_soak script_word workers_word (Soak script workers) h = refl
+is_soak script_word workers_word (Line set end) h = absurd h
+is_soak script_word workers_word (Frame octets) h = absurd h
+
+pub soaks_nothing : (given : Given) (workers_word : Text) → Some workers_word ≡ given (codes "workers") → workers_of workers_word ≡ None
+    → IsNoSoak given
+soaks_nothing given workers_word f h = inr (ap (option_and_then workers_of) (sym f) ∙ h)
+
+-- ---- an end of a link
+
+pub ends : (given : Given) (words : LineWords) → AreUnderIds given words → (end : Option LineEnd) → IfSome end (IsEndOf words)
+    → IfSome end (AsksEnd given)
+ends given words under None h = tt
+ends given words under (Some end) h = record { words = words; under_ids = under; end_is = h }
+
+-- ---- the command that was entered
+
+abbrev both : {X A B : Type 0} → (X → A) → (X → B) → X → A × B
+both f g x = (f x, g x)
+
+paired : {X A B : Type 0} (o : Option X) (f : X → A) (g : X → B) (a : A) (b : B) → Some a ≡ option_map f o
+    → Some b ≡ option_map (λ (p : A × B). p.1) (option_map (both f g) o) → option_map (both f g) o ≡ Some (a, b)
+paired None f g a b p q = absurd (none-some a (sym p))
+paired (Some x) f g a b p q = let h : f x ≡ a = sym (same_Some a (f x) p) in let k : g x ≡ b = sym (same_Some b (g x) q) in
+    λ i. Some (h i, k i)
+
+pub entered : (matches given : ArgMatches) (name : Text) → Some name ≡ subcommand_name_of matches
+    → Some (rows_of (found_of given)) ≡ option_map (λ p. p.1) (subcommand_rows_of matches)
+    → subcommand_rows_of matches ≡ Some (name, rows_of (found_of given))
+entered matches given name p q = paired (out-ArgMatches matches).subcommand (λ b. (out-SubCommand (box_value b)).name.now)
+    (λ b. rows_of (found_of (out-SubCommand (box_value b)).matches)) name (rows_of (found_of given)) p q
+
+-- the words of a command's matches are those of its rows
+in_rows : (given : ArgMatches) → given_by given ≡ given_in (rows_of (found_of given))
+in_rows given = λ i id. first_value-rows (found_of given) id i
+
+asked_in_rows : (given : ArgMatches) (request : Request) → IsAsked (given_by given) request
+    → IsAsked (given_in (rows_of (found_of given))) request
+asked_in_rows given request h = let P : Given → Type 0 = λ g. IsAsked g request in subst P (in_rows given) h
+
+pub asked_by : (matches given : ArgMatches) (name : Text) → subcommand_rows_of matches ≡ Some (name, rows_of (found_of given))
+    → (request : Option Request) → IfSome request (λ r. command_of r ≡ name) → IfSome request (IsAsked (given_by given))
+    → IfSome request (IsAskedBy (subcommand_rows_of matches))
+asked_by matches given name e None n h = tt
+asked_by matches given name e (Some request) n h =
+    let P : Option (Text × List Row) → Type 0 = λ o. IsAskedBy o request in subst P (sym e) (n, asked_in_rows given request h)
+
+pub asks_nothing : (matches given : ArgMatches) (name : Text) → subcommand_rows_of matches ≡ Some (name, rows_of (found_of given))
+    → AsksNothing name (given_by given) → SaysNothing (subcommand_rows_of matches)
+asks_nothing matches given name e h =
+    let P : Given → Type 0 = λ g. AsksNothing name g in
+    let Q : Option (Text × List Row) → Type 0 = λ o. SaysNothing o in
+    subst Q (sym e) (subst P (in_rows given) h)

@@ -1,0 +1,17 @@
+use Rattle.std.proofs.lemmas.Result.{IfOk-weaker}
+use Rattle.mtp2_words.specs.Commands.{program_begun, check_command, play_command, soak_command, line_command, frame_command}
+use Rattle.mtp2_words.proofs.Building.{with_command}
+use Rattle.mtp2_words.proofs.commands.all_commands.Goals as goal
+
+pub returns : goal.returns
+returns c =
+    let check = with_command program_begun check_command _ c.in_ok-check_command.field-0 c.in_ok-subcommand.field-0 c.program_begun.ensures
+    c.in_ok-check_command.ensures c.in_ok-subcommand.ensures in
+    let play = with_command _ play_command _ c.in_ok-play_command.field-0 c.in_ok-subcommand-2.field-0 check
+    c.in_ok-play_command.ensures c.in_ok-subcommand-2.ensures in
+    let soak = with_command _ soak_command _ c.in_ok-soak_command.field-0 c.in_ok-subcommand-3.field-0 play
+    c.in_ok-soak_command.ensures c.in_ok-subcommand-3.ensures in
+    let line = with_command _ line_command _ c.in_ok-line_command.field-0 c.in_ok-subcommand-4.field-0 soak
+    c.in_ok-line_command.ensures c.in_ok-subcommand-4.ensures in
+    IfOk-weaker c.subcommand-5.result _ _ (λ r a. with_command _ frame_command _ c.in_ok-frame_command.field-0 r line
+    c.in_ok-frame_command.ensures a) c.subcommand-5.ensures

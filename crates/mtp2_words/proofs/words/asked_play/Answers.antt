@@ -1,0 +1,14 @@
+use Rattle.std.proofs.lemmas.Option.{IfSome_then}
+use Rattle.mtp2_words.specs.Asked.{given_by}
+use Rattle.mtp2_words.proofs.Asking.{is_play, plays, plays_nothing}
+use Rattle.mtp2_words.proofs.words.asked_play.Goals as goal
+
+pub returns-clause-named : goal.returns-clause-named
+returns-clause-named c = IfSome_then c.played.result c.played.ensures.play (λ r h. is_play _ _ r h)
+
+pub returns-clause-asked : goal.returns-clause-asked
+returns-clause-asked c = IfSome_then c.played.result c.played.ensures.play
+    (λ r h. plays (given_by c.args.given.now) _ _ r c.in_ok-set.ensures c.in_ok-script.ensures h)
+
+pub returns-clause-none : goal.returns-clause-none
+returns-clause-none c = λ n. plays_nothing (given_by c.args.given.now) _ _ c.in_ok-set.ensures c.in_ok-script.ensures (c.played.ensures.none n)

@@ -1,0 +1,132 @@
+-- What the words of a command line ask for, by the ids under which they stand in its matches, and
+-- why they ask for nothing.
+use Rattle.std.specs.Prelude.{◌≡◌, ◌⊎◌, ℕ, List, Option, Some, None, IsSomeAnd, option_map}
+use Rattle.std.specs.Prelude.{option_and_then, codes}
+use Rattle.clap.specs.Words.{Row, Text, first_of, first_value, found_of}
+use Rattle.clap.specs.declared.parser.matches.ArgMatches.{ArgMatches}
+use Rattle.mtp2_words.specs.Ends.{IsEndOf, IsNoEnd}
+use Rattle.mtp2_words.specs.declared.ends.LineEnd.{LineEnd}
+use Rattle.mtp2_words.specs.declared.ends.LineWords.{LineWords}
+use Rattle.mtp2_words.specs.Words.{command_of, workers_of, IsNamed, IsSource, IsText}
+use Rattle.mtp2_words.specs.declared.words.Named.{Named}
+use Rattle.mtp2_words.specs.declared.words.Source.{Source}
+use Rattle.mtp2_words.specs.declared.words.Request.{Request}
+use Rattle.mtp2_words.specs.declared.words.Request.TheVariants.{Check, Play, Soak, Line, Frame}
+
+-- the first word under each id, if there is one
+abbrev pub Given : Type 0
+Given = Text → Option Text
+
+-- the words of a command's matches
+abbrev pub given_by : ArgMatches → Given
+given_by matches id = first_value (found_of matches) id
+
+-- the same, by the rows that clap has for them
+abbrev pub given_in : List Row → Given
+given_in rows id = first_of id rows
+
+-- ---- what they ask for
+
+-- both the set and the script are standard input
+pub record AreBothStdin (given : Given) : Type 0 where
+  pub set_is : given (codes "SET") ≡ Some (codes "stdin")
+  pub script_is : given (codes "SCRIPT") ≡ Some (codes "stdin")
+
+-- `play`: the set that SET names, and the script that SCRIPT names; standard input isn't both
+pub record AsksPlay (given : Given) (set : Named) (script : Source) : Type 0 where
+  pub set_is : IsSomeAnd (given (codes "SET")) (IsNamed set)
+  pub script_is : IsSomeAnd (given (codes "SCRIPT")) (IsSource script)
+  pub one_input : AreBothStdin given → ⊥
+
+-- `soak`: the script that SCRIPT names, and as many workers as --workers says
+pub record AsksSoak (given : Given) (script : Source) (workers : ℕ) : Type 0 where
+  pub script_is : IsSomeAnd (given (codes "SCRIPT")) (IsSource script)
+  pub workers_are : option_and_then workers_of (given (codes "workers")) ≡ Some workers
+
+-- each word of an end of a link stands under its id
+pub record AreUnderIds (given : Given) (words : LineWords) : Type 0 where
+  pub mode : given (codes "MODE") ≡ Some words.mode.now
+  pub orders : given (codes "orders") ≡ option_map (λ w. w.now) words.orders
+  pub reports : given (codes "reports") ≡ option_map (λ w. w.now) words.reports
+  pub bits : given (codes "bits") ≡ option_map (λ w. w.now) words.bits
+  pub ahead : given (codes "ahead") ≡ option_map (λ w. w.now) words.ahead
+
+-- the end of a link that MODE, --orders, --reports, --bits and --ahead say
+pub record AsksEnd (given : Given) (end : LineEnd) : Type 0 where
+  pub words : LineWords
+  pub under_ids : AreUnderIds given words
+  pub end_is : IsEndOf words end
+
+-- `line`: the set that --text names, and such an end
+pub record AsksLine (given : Given) (set : Named) (end : LineEnd) : Type 0 where
+  pub set_is : IsText (given (codes "text")) set
+  pub asks_end : AsksEnd given end
+
+-- the words of a command ask for this; `check`: the set that SET names; `frame`: the octets of HEX
+abbrev pub IsAsked : Given → Request → Type 0
+IsAsked given (Check set) = IsSomeAnd (given (codes "SET")) (IsNamed set)
+IsAsked given (Play set script) = AsksPlay given set script
+IsAsked given (Soak script workers) = AsksSoak given script workers
+IsAsked given (Line set end) = AsksLine given set end
+IsAsked given (Frame octets) = given (codes "HEX") ≡ Some octets.now
+
+-- the command that was entered, and its rows: its name is that of the request, and its words ask
+-- for it
+abbrev pub IsAskedBy : Option (Text × List Row) → Request → Type 0
+IsAskedBy None request = ⊥
+IsAskedBy (Some entered) request =
+    (command_of request ≡ entered.0) × IsAsked (given_in entered.1) request
+
+-- ---- why they ask for nothing
+
+-- `check`: no SET
+abbrev pub IsNoCheck : Given → Type 0
+IsNoCheck given = given (codes "SET") ≡ None
+
+-- `play`: no SET or no SCRIPT, or standard input for both
+abbrev pub IsNoPlay : Given → Type 0
+IsNoPlay given =
+    (given (codes "SET") ≡ None) ⊎ ((given (codes "SCRIPT") ≡ None) ⊎ AreBothStdin given)
+
+-- `soak`: no SCRIPT, or no --workers that says how many
+abbrev pub IsNoSoak : Given → Type 0
+IsNoSoak given =
+    (given (codes "SCRIPT") ≡ None) ⊎ (option_and_then workers_of (given (codes "workers")) ≡ None)
+
+-- words are there for an end of a link, and one of them says nothing
+pub record SaysNoEnd (given : Given) : Type 0 where
+  pub words : LineWords
+  pub under_ids : AreUnderIds given words
+  pub no_end : IsNoEnd words
+
+-- `line`: standard input as --text, no MODE, or words that say no end
+abbrev pub IsNoLine : Given → Type 0
+IsNoLine given =
+    (given (codes "text") ≡ Some (codes "stdin"))
+    ⊎ ((given (codes "MODE") ≡ None) ⊎ SaysNoEnd given)
+
+-- `frame`: no HEX
+abbrev pub IsNoFrame : Given → Type 0
+IsNoFrame given = given (codes "HEX") ≡ None
+
+-- the name of none of the commands
+pub record IsNoCommand (name : Text) : Type 0 where
+  pub not_check : name ≡ codes "check" → ⊥
+  pub not_play : name ≡ codes "play" → ⊥
+  pub not_soak : name ≡ codes "soak" → ⊥
+  pub not_line : name ≡ codes "line" → ⊥
+  pub not_frame : name ≡ codes "frame" → ⊥
+
+-- the words of a command of this name ask for nothing
+pub data AsksNothing (name : Text) (given : Given) : Type 0 where
+  no_command : IsNoCommand name → AsksNothing name given
+  no_check : name ≡ codes "check" → IsNoCheck given → AsksNothing name given
+  no_play : name ≡ codes "play" → IsNoPlay given → AsksNothing name given
+  no_soak : name ≡ codes "soak" → IsNoSoak given → AsksNothing name given
+  no_line : name ≡ codes "line" → IsNoLine given → AsksNothing name given
+  no_frame : name ≡ codes "frame" → IsNoFrame given → AsksNothing name given
+
+-- no command was entered, or its words ask for nothing
+abbrev pub SaysNothing : Option (Text × List Row) → Type 0
+SaysNothing None = Unit {0}
+SaysNothing (Some entered) = AsksNothing entered.0 (given_in entered.1)

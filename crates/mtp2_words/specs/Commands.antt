@@ -1,0 +1,77 @@
+-- The commands of the program, and the words that each takes.
+use Rattle.std.specs.Prelude.{◌≡◌, Bool, true, false, Some, codes}
+use Rattle.clap.specs.Words.{App, Rule, Text, app_of, new_app, new_rule, with_rule, with_subcommand}
+use Rattle.clap.specs.Simple.{new_shape}
+use Rattle.clap.specs.declared.builder.command.Command.{Command}
+use Rattle.clap.specs.declared.builder.command.Command.TheViews.{out-Command}
+
+-- a word that has to be there
+abbrev pub plain_word : Text → Rule
+plain_word id = record (new_rule id) { required = true }
+
+-- `--ID` with a word behind it, which may be there
+abbrev pub option_word : Text → Rule
+option_word id = record (new_rule id) { long = Some id; value_names = 1 }
+
+-- `check SET`
+abbrev pub check_command : App
+check_command = with_rule (new_app (codes "check")) (plain_word (codes "SET"))
+
+-- `play SET SCRIPT`
+abbrev pub play_command : App
+play_command =
+    with_rule (with_rule (new_app (codes "play")) (plain_word (codes "SET")))
+    (plain_word (codes "SCRIPT"))
+
+-- `soak SCRIPT --workers N`, which has to be there
+abbrev pub soak_command : App
+soak_command =
+    with_rule (with_rule (new_app (codes "soak")) (plain_word (codes "SCRIPT")))
+    (record (option_word (codes "workers")) { required = true })
+
+-- `line MODE`, with --text, without the other options
+abbrev pub line_begun : App
+line_begun =
+    with_rule (with_rule (new_app (codes "line")) (plain_word (codes "MODE")))
+    (option_word (codes "text"))
+
+-- a command with the options that say what an end of a link does on its line
+abbrev pub with_line_options : App → App
+with_line_options command =
+    with_rule
+    (with_rule
+    (with_rule (with_rule command (option_word (codes "orders")))
+    (option_word (codes "reports")))
+    (option_word (codes "bits"))) (option_word (codes "ahead"))
+
+-- `line MODE`, with all options
+abbrev pub line_command : App
+line_command = with_line_options line_begun
+
+-- `frame HEX`
+abbrev pub frame_command : App
+frame_command = with_rule (new_app (codes "frame")) (plain_word (codes "HEX"))
+
+-- the program without its commands, of which one has to be named; it has a version
+abbrev pub program_begun : App
+program_begun = record (new_app (codes "mtp2_play")) {
+  top = record (new_shape (codes "mtp2_play")) { subcommand_required = true; has_version = true };
+}
+
+-- the program with its commands
+abbrev pub all_commands : App
+all_commands =
+    with_subcommand
+    (with_subcommand
+    (with_subcommand
+    (with_subcommand (with_subcommand program_begun check_command.top) play_command.top)
+    soak_command.top) line_command.top) frame_command.top
+
+-- a word of the command is one of its commands' too
+abbrev pub has_globals : Command → Bool
+has_globals command = (out-Command command).has_globals
+
+-- a command is read as this one, and none of its words is one of its commands' too
+pub record IsCommand (app : App) (command : Command) : Type 0 where
+  pub app_is : app_of command ≡ app
+  pub local : has_globals command ≡ false

@@ -1,0 +1,84 @@
+-- What a command line asks for.
+use Rattle.std.specs.Prelude.{◌≡◌, ℕ, if◌then◌else◌, List, Option, Some, None, option_and_then}
+use Rattle.std.specs.Prelude.{codes}
+use Rattle.std.specs.Int.{is_in_range}
+use Rattle.plain_limits.specs.Limits.{LEAST_WORKERS, MOST_WORKERS}
+use Rattle.script_lines.specs.Numbers.{count_of}
+use Rattle.mtp2_words.specs.declared.words.Named.{Named}
+use Rattle.mtp2_words.specs.declared.words.Named.TheVariants.{Standard, Monitors, Stdin, File}
+use Rattle.mtp2_words.specs.declared.words.Source.{Source}
+use Rattle.mtp2_words.specs.declared.words.Source.TheVariants.{Stdin as stdin, File as script_file}
+use Rattle.mtp2_words.specs.declared.words.Request.{Request}
+use Rattle.mtp2_words.specs.declared.words.Request.TheVariants.{Check, Play, Soak, Line, Frame}
+
+-- a file may have any name but these
+pub record IsFileName (word : List ℕ) : Type 0 where
+  pub not_standard : word ≡ codes "standard" → ⊥
+  pub not_monitors : word ≡ codes "monitors" → ⊥
+  pub not_stdin : word ≡ codes "stdin" → ⊥
+
+-- the set that a word names
+abbrev pub IsNamed : Named → List ℕ → Type 0
+IsNamed Standard word = word ≡ codes "standard"
+IsNamed Monitors word = word ≡ codes "monitors"
+IsNamed Stdin word = word ≡ codes "stdin"
+IsNamed (File path) word = (path.now ≡ word) × IsFileName word
+
+-- where the script stands that a word names
+abbrev pub IsSource : Source → List ℕ → Type 0
+IsSource stdin word = word ≡ codes "stdin"
+IsSource (script_file path) word = (path.now ≡ word) × (word ≡ codes "stdin" → ⊥)
+
+-- standard input as set and script
+abbrev pub AreStdin : List ℕ → List ℕ → Type 0
+AreStdin set_word script_word = (set_word ≡ codes "stdin") × (script_word ≡ codes "stdin")
+
+-- what `play` asks for by two words; standard input isn't both
+pub record IsPlayOf (set_word script_word : List ℕ) (set : Named) (script : Source) : Type 0 where
+  pub set_is : IsNamed set set_word
+  pub script_is : IsSource script script_word
+  pub one_input : AreStdin set_word script_word → ⊥
+
+abbrev pub IsPlay : List ℕ → List ℕ → Request → Type 0
+IsPlay set_word script_word (Check set) = ⊥
+IsPlay set_word script_word (Play set script) = IsPlayOf set_word script_word set script
+IsPlay set_word script_word (Soak script workers) = ⊥
+IsPlay set_word script_word (Line set end) = ⊥
+IsPlay set_word script_word (Frame octets) = ⊥
+
+-- as many workers as may serve
+abbrev pub as_many : ℕ → Option ℕ
+as_many n = if is_in_range LEAST_WORKERS MOST_WORKERS n then Some n else None
+
+-- the number of workers that a word says: a count, and such a one
+abbrev pub workers_of : List ℕ → Option ℕ
+workers_of word = option_and_then as_many (count_of word)
+
+-- what `soak` asks for by two words
+abbrev pub IsSoak : List ℕ → List ℕ → Request → Type 0
+IsSoak script_word workers_word (Check set) = ⊥
+IsSoak script_word workers_word (Play set script) = ⊥
+IsSoak script_word workers_word (Soak script workers) =
+    IsSource script script_word × (workers_of workers_word ≡ Some workers)
+IsSoak script_word workers_word (Line set end) = ⊥
+IsSoak script_word workers_word (Frame octets) = ⊥
+
+-- the set that a word names for a terminal on a line: standard input is the line, and no text
+abbrev pub IsTextNamed : Named → List ℕ → Type 0
+IsTextNamed Standard word = word ≡ codes "standard"
+IsTextNamed Monitors word = word ≡ codes "monitors"
+IsTextNamed Stdin word = ⊥
+IsTextNamed (File path) word = (path.now ≡ word) × IsFileName word
+
+-- the same by a word that may be there; `standard` where there is none
+abbrev pub IsText : Option (List ℕ) → Named → Type 0
+IsText None set = set ≡ Standard
+IsText (Some word) set = IsTextNamed set word
+
+-- the word that names the command
+abbrev pub command_of : Request → List ℕ
+command_of (Check set) = codes "check"
+command_of (Play set script) = codes "play"
+command_of (Soak script workers) = codes "soak"
+command_of (Line set end) = codes "line"
+command_of (Frame octets) = codes "frame"

@@ -1,0 +1,204 @@
+//! The commands of the program, and the words that they take.
+ghost use Rattle.std.specs.Prelude.{◌≡◌, IfOk, false};
+ghost use Rattle.clap.specs.Words.{rule_of, new_app, app_of};
+ghost use Rattle.mtp2_words.specs.Commands.{plain_word, option_word, check_command, play_command, soak_command, line_begun, line_command, frame_command, all_commands, program_begun, with_line_options, has_globals, IsCommand};
+
+use clap::{Arg, Command};
+use std::alloc::{AllocError, Global};
+
+/// The program's commands.
+pub fn all_commands<'a>(alloc: Global) -> Result<Command<'a>, AllocError>
+    ensures { IfOk result (IsCommand all_commands) }
+{
+    program_begun(alloc)
+        .subcommand(check_command(alloc)?)?
+        .subcommand(play_command(alloc)?)?
+        .subcommand(soak_command(alloc)?)?
+        .subcommand(line_command(alloc)?)?
+        .subcommand(frame_command(alloc)?)
+}
+
+/// The program without its commands.
+fn program_begun<'a>(alloc: Global) -> Command<'a>
+    ensures { IsCommand program_begun result }
+{
+    bare_command(
+        alloc,
+        "mtp2_play",
+        "Checks and plays SDL process texts of signalling links, and reads signal units",
+        "Exit statuses: 0 done, 1 an expectation of a script failed or something differs, 2 refused, 3 usage, 4 memory or a file failed.",
+    )
+    .version("1.0")
+    .subcommand_required(true)
+}
+
+/// A command without words, with what its help says before them and behind them.
+fn bare_command<'a>(alloc: Global, name: &'a str, about: &'a str, after: &'a str) -> Command<'a>
+    ensures { IsCommand (new_app name.entry.now) result }
+{
+    Command::new(alloc, name).about(about).after_help(after)
+}
+
+/// A word that has to be there.
+fn plain_word<'a>(alloc: Global, id: &'a str, help: &'a str) -> Arg<'a>
+    ensures rule { rule_of result ≡ plain_word id.entry.now }
+    ensures local { result.global ≡ false }
+{
+    Arg::new(alloc, id).help(help).required(true)
+}
+
+/// An option with a word behind it.
+fn option_word<'a>(alloc: Global, name: &'a str, value: &'a str, help: &'a str) -> Arg<'a>
+    ensures rule { rule_of result ≡ option_word name.entry.now }
+    ensures local { result.global ≡ false }
+{
+    Arg::new(alloc, name)
+        .long(name)
+        .value_name(value)
+        .help(help)
+}
+
+/// The command `check`.
+fn check_command<'a>(alloc: Global) -> Result<Command<'a>, AllocError>
+    ensures { IfOk result (IsCommand check_command) }
+{
+    let set = plain_word(
+        alloc,
+        "SET",
+        "standard, monitors, a file with the text of a set of processes, or stdin for standard input",
+    );
+    bare_command(
+        alloc,
+        "check",
+        "Checks a set of processes, and prints what each of its transitions costs",
+        "Prints for START and for each input of each process PROCESS START or PROCESS STATE/INPUT, and then\nbudget (the most steps of a turn), depth (the most operands at once) and effects (the most effects of\na turn). Then it prints accepted. Exits with 0, or with 2 after a line refused CODE Name where the text\nis refused (F1, L1 to L3, P1, P2, S1 to S11), 4 where memory, a file, a read or a write fails.",
+    )
+    .arg(set)
+}
+
+/// The command `play`.
+fn play_command<'a>(alloc: Global) -> Result<Command<'a>, AllocError>
+    ensures { IfOk result (IsCommand play_command) }
+{
+    let set = plain_word(
+        alloc,
+        "SET",
+        "standard, monitors, a file with the text of a set of processes, or stdin for standard input",
+    );
+    let script = plain_word(
+        alloc,
+        "SCRIPT",
+        "A file with the script, or stdin for standard input (for one of the two alone)",
+    );
+    bare_command(
+        alloc,
+        "play",
+        "Runs a script on a set of processes, or on one end of a signalling link or of a set of links",
+        "First lines: ports N (1 to 64), env N (1 to 1024), journal N (16 to 65536).\nCommands: offer P SIG v.., begin P, finish P, skip P, tick N, env, rest, flood N P SIG v.., state P, value P x, expect TEXT.\nA script may begin with terminal basic or terminal cyclic: then one end of a link runs on the set, with the commands\ncommand W (power, start, stop, emergency, calm, outage, back, busy, free), unit HEX, line HEX, msu HEX, out N, tick N, state P, value P x, expect TEXT.\nWith group basic N or group cyclic N (1 to 16) one end of N links runs, with these commands of link L behind on L, but for msu send HEX, and\nfail, message HEX, retrieve, abandon, divert, rebalance, table, held, unsure.\nPrints a line for each command but on and expect, and for each unit that goes out; one that is refused prints refused CODE Name (B1 to B12, W1, W2, E1, K1 to K4), and the run goes on.\nExits with 0, or 1 after failed line N where an expect failed, 2 after refused CODE Name where the set or the script is refused\n(F1, L1 to L3, P1, P2, S1 to S11, X1; X2 NoName NAME where the set lacks a name that a terminal wants), 4 where memory, a file, a read or a write fails.",
+    )
+    .arg(set)?
+    .arg(script)
+}
+
+/// The command `soak`.
+fn soak_command<'a>(alloc: Global) -> Result<Command<'a>, AllocError>
+    ensures { IfOk result (IsCommand soak_command) }
+{
+    let script = plain_word(
+        alloc,
+        "SCRIPT",
+        "A file with the script, or stdin for standard input",
+    );
+    let workers = option_word(
+        alloc,
+        "workers",
+        "N",
+        "How many threads work on the links, 1 to 16",
+    )
+    .required(true);
+    bare_command(
+        alloc,
+        "soak",
+        "Has threads work on links of the set standard while a script's signals come to them",
+        "First line: links N (1 to 16). Then on L, offer P SIG v.., tick N.\nPrints seats agree or seats differ, and audit yes or audit no: whether what was counted is what happened, and whether each event\nthat was accepted stands at its place. Exits with 0, or 1 where something differs, 2 after refused CODE Name where the script is\nrefused (F1, X1), 4 where memory, a file, a read or a write fails or no thread can be started.",
+    )
+    .arg(script)?
+    .arg(workers)
+}
+
+/// The options that say what an end of a link does on its line.
+fn with_line_options<'a>(alloc: Global, command: Command<'a>) -> Result<Command<'a>, AllocError>
+    ensures { has_globals command.entry ≡ false → IfOk result (IsCommand (with_line_options (app_of command.entry))) }
+{
+    let orders = option_word(
+        alloc,
+        "orders",
+        "PATH",
+        "A file or a FIFO with orders, one a line, read on as it grows",
+    );
+    let reports = option_word(
+        alloc,
+        "reports",
+        "PATH",
+        "A file or a FIFO for reports, one a line; else they go to standard error",
+    );
+    let bits = option_word(
+        alloc,
+        "bits",
+        "low|high",
+        "Which bit of an octet is the first on the line; low where nothing is said",
+    );
+    let ahead = option_word(
+        alloc,
+        "ahead",
+        "N",
+        "How many octets of 1s go out before any octet came in, 0 to 8000; else none",
+    );
+    command.arg(orders)?.arg(reports)?.arg(bits)?.arg(ahead)
+}
+
+/// The command `line`, without what its end does on its line.
+fn line_begun<'a>(alloc: Global) -> Result<Command<'a>, AllocError>
+    ensures { IfOk result (IsCommand line_begun) }
+{
+    let mode = plain_word(alloc, "MODE", "The error correction: basic or cyclic");
+    let text = option_word(
+        alloc,
+        "text",
+        "TEXT",
+        "standard (as where nothing is said), or a file with the text of a set of processes",
+    );
+    bare_command(
+        alloc,
+        "line",
+        "Puts one end of a signalling link on a channel of 64 kbit/s: line octets come on standard input and go to standard output",
+        "Writes one octet for each that it reads; 8 octets are a millisecond, and no clock is read. Orders: power, start, stop, emergency, calm,\noutage, back, busy, free, msu HEX, at MS (what follows waits until that millisecond), state P, value P x, quit; # begins a comment,\nand a report MS ok ORDER is obeyed as at MS and that order. Reports, each behind its millisecond: in service, down R, far out,\nfar back, message HEX, state P S, value P x V, ok ORDER, refused CODE Name, lost N (what a FIFO had no room for).\nExits with 0 at the end of input or after quit, 2 after refused CODE Name on standard error where the text is refused, 4 where memory,\na file, a read or a write fails.",
+    )
+    .arg(mode)?
+    .arg(text)
+}
+
+/// The command `line`.
+fn line_command<'a>(alloc: Global) -> Result<Command<'a>, AllocError>
+    ensures { IfOk result (IsCommand line_command) }
+{
+    with_line_options(alloc, line_begun(alloc)?)
+}
+
+/// The command `frame`.
+fn frame_command<'a>(alloc: Global) -> Result<Command<'a>, AllocError>
+    ensures { IfOk result (IsCommand frame_command) }
+{
+    let octets = plain_word(
+        alloc,
+        "HEX",
+        "The octets in hexadecimal digits, check octets included",
+    );
+    bare_command(
+        alloc,
+        "frame",
+        "Reads one signal unit and prints its fields",
+        "Prints FISU, LSSU or MSU with the unit's fields, then the number of its bits on the line.\nExits with 0, or with 2 where the octets are refused (H1, U1 to U4), 4 where memory or a write fails.",
+    )
+    .arg(octets)
+}

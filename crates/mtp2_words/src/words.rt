@@ -1,0 +1,272 @@
+//! The command line.
+ghost use Rattle.std.specs.Prelude.{◌≡◌, ◌↔◌, ◌⊎◌, Some, None, [], true, map, string_bytes, IfSome, IfOk, IfErr, IsNone, IsTrue, option_map, codes};
+ghost use Rattle.clap.specs.Words.{fault_of, kind_of, subcommand_name_of, subcommand_of, subcommand_rows_of, takes};
+ghost use Rattle.mtp2_words.specs.Words.{command_of, workers_of, IsNamed, IsSource, AreStdin, IsPlay, IsSoak, IsTextNamed, IsText};
+ghost use Rattle.mtp2_words.specs.Asked.{given_by, AsksEnd, AsksNothing, IsAsked, IsAskedBy, IsNoCheck, IsNoFrame, IsNoLine, IsNoPlay, IsNoSoak, SaysNoEnd, SaysNothing};
+ghost use Rattle.mtp2_words.specs.Commands.{all_commands};
+ghost use Rattle.mtp2_words.specs.TurnedDown.{IsTurnedDown};
+
+use crate::commands::all_commands;
+use crate::ends::{LineEnd, LineWords, line_end};
+use clap::error::ErrorKind;
+use clap::{ArgMatches, Error};
+use script_lines::count;
+use std::alloc::Global;
+
+/// A text or a set, as a word of the command line names it.
+#[derive(Clone, Copy, PartialEq, Eq, Debug)]
+pub enum Named<'a> {
+    /// `standard`: a set of the program's own.
+    Standard,
+    /// `monitors`: a set of the program's own.
+    Monitors,
+    /// `stdin`: standard input.
+    Stdin,
+    /// A file.
+    File(&'a str),
+}
+
+/// Where a script stands.
+#[derive(Clone, Copy, PartialEq, Eq, Debug)]
+pub enum Source<'a> {
+    /// `stdin`: standard input.
+    Stdin,
+    /// A file.
+    File(&'a str),
+}
+
+/// What the command line asks for.
+#[derive(Debug, Drop)]
+pub enum Request<'a> {
+    /// `check SET`: a set of the program's own, a file with the text of a set, or standard input.
+    Check { set: Named<'a> },
+    /// `play SET SCRIPT`: a set as for `check`, and a file with a script, or standard input.
+    Play { set: Named<'a>, script: Source<'a> },
+    /// `soak SCRIPT --workers N`: a file with a script, or standard input, and the number of threads, 1 to 16.
+    Soak { script: Source<'a>, workers: usize },
+    /// `line basic|cyclic`: one end of a link on a line, with a set as for `check`, but never standard input, which is the line.
+    Line { set: Named<'a>, end: LineEnd<'a> },
+    /// `frame HEX`: the octets of a signal unit in hexadecimal digits, with its check octets.
+    Frame { octets: &'a str },
+}
+
+/// The set that a word names.
+fn set_named(word: &str) -> Named<'_>
+    ensures { IsNamed result word.now }
+{
+    match word {
+        "standard" => Named::Standard,
+        "monitors" => Named::Monitors,
+        "stdin" => Named::Stdin,
+        path => Named::File(path),
+    }
+}
+
+/// Where the script stands that a word names.
+fn script_named(word: &str) -> Source<'_>
+    ensures { IsSource result word.now }
+{
+    match word {
+        "stdin" => Source::Stdin,
+        path => Source::File(path),
+    }
+}
+
+/// Whether two words both name standard input.
+fn are_stdin(set: &str, script: &str) -> bool
+    ensures { IsTrue result ↔ AreStdin set.now script.now }
+{
+    set == "stdin" && script == "stdin"
+}
+
+/// The set and the script that two words name; none where standard input is to be both.
+fn played<'a>(set: &'a str, script: &'a str) -> Option<Request<'a>>
+    ensures play { IfSome result (IsPlay set.now script.now) }
+    ensures none { IsNone result → AreStdin set.now script.now }
+{
+    if are_stdin(set, script) {
+        return None;
+    }
+    Some(Request::Play {
+        set: set_named(set),
+        script: script_named(script),
+    })
+}
+
+/// The number of workers that a word says: digits without a sign, 1 to 16.
+fn workers_of(word: &str) -> Option<usize>
+    ensures { result ≡ workers_of word.now }
+{
+    match count(word) {
+        Some(workers) if 1 <= workers && workers <= 16 => Some(workers as usize),
+        _ => None,
+    }
+}
+
+/// The script and the number of workers that two words name; none where the second says no such number.
+fn soaked<'a>(script: &'a str, workers: &str) -> Option<Request<'a>>
+    ensures soak { IfSome result (IsSoak script.now workers.now) }
+    ensures none { IsNone result → workers_of workers.now ≡ None }
+{
+    match workers_of(workers) {
+        Some(workers) => Some(Request::Soak {
+            script: script_named(script),
+            workers,
+        }),
+        None => None,
+    }
+}
+
+/// The set of a terminal on a line that a word names. Standard input is the line, and no text.
+fn text_named(word: &str) -> Option<Named<'_>>
+    ensures some { IfSome result (λ set. IsTextNamed set word.now) }
+    ensures none { IsNone result → word.now ≡ codes "stdin" }
+{
+    match word {
+        "standard" => Some(Named::Standard),
+        "monitors" => Some(Named::Monitors),
+        "stdin" => None,
+        path => Some(Named::File(path)),
+    }
+}
+
+/// The set of a terminal on a line, by the word for it: `standard` where there is none.
+fn text_of<'a>(word: Option<&'a str>) -> Option<Named<'a>>
+    ensures some { IfSome result (IsText (option_map (λ w. w.now) word.entry)) }
+    ensures none { IsNone result → option_map (λ w. w.now) word.entry ≡ Some (codes "stdin") }
+{
+    match word {
+        Some(word) => text_named(word),
+        None => Some(Named::Standard),
+    }
+}
+
+/// The end of a link that the matches of `line` stand for.
+fn line_of<'a>(given: &ArgMatches<'a>) -> Option<LineEnd<'a>>
+    ensures some { IfSome result (AsksEnd (given_by given.now)) }
+    ensures none { IsNone result → (given_by given.now (codes "MODE") ≡ None) ⊎ SaysNoEnd (given_by given.now) }
+{
+    let mode = given.get_str("MODE")?;
+    line_end(&LineWords {
+        mode,
+        orders: given.get_str("orders"),
+        reports: given.get_str("reports"),
+        bits: given.get_str("bits"),
+        ahead: given.get_str("ahead"),
+    })
+}
+
+/// What the matches of `line` ask for.
+fn lined<'a>(given: &ArgMatches<'a>) -> Option<Request<'a>>
+    ensures named { IfSome result (λ r. command_of r ≡ codes "line") }
+    ensures asked { IfSome result (IsAsked (given_by given.now)) }
+    ensures none { IsNone result → IsNoLine (given_by given.now) }
+{
+    let set = text_of(given.get_str("text"))?;
+    let end = line_of(given)?;
+    Some(Request::Line { set, end })
+}
+
+/// What the matches of `check` ask for.
+fn checked<'a>(given: &ArgMatches<'a>) -> Option<Request<'a>>
+    ensures named { IfSome result (λ r. command_of r ≡ codes "check") }
+    ensures asked { IfSome result (IsAsked (given_by given.now)) }
+    ensures none { IsNone result → IsNoCheck (given_by given.now) }
+{
+    let set = set_named(given.get_str("SET")?);
+    Some(Request::Check { set })
+}
+
+/// What the matches of `play` ask for.
+fn asked_play<'a>(given: &ArgMatches<'a>) -> Option<Request<'a>>
+    ensures named { IfSome result (λ r. command_of r ≡ codes "play") }
+    ensures asked { IfSome result (IsAsked (given_by given.now)) }
+    ensures none { IsNone result → IsNoPlay (given_by given.now) }
+{
+    let set = given.get_str("SET")?;
+    let script = given.get_str("SCRIPT")?;
+    played(set, script)
+}
+
+/// What the matches of `soak` ask for.
+fn asked_soak<'a>(given: &ArgMatches<'a>) -> Option<Request<'a>>
+    ensures named { IfSome result (λ r. command_of r ≡ codes "soak") }
+    ensures asked { IfSome result (IsAsked (given_by given.now)) }
+    ensures none { IsNone result → IsNoSoak (given_by given.now) }
+{
+    let script = given.get_str("SCRIPT")?;
+    let workers = given.get_str("workers")?;
+    soaked(script, workers)
+}
+
+/// What the matches of `frame` ask for.
+fn framed<'a>(given: &ArgMatches<'a>) -> Option<Request<'a>>
+    ensures named { IfSome result (λ r. command_of r ≡ codes "frame") }
+    ensures asked { IfSome result (IsAsked (given_by given.now)) }
+    ensures none { IsNone result → IsNoFrame (given_by given.now) }
+{
+    let octets = given.get_str("HEX")?;
+    Some(Request::Frame { octets })
+}
+
+/// What the matches of the command of this name ask for.
+fn asked<'a>(name: &str, given: &ArgMatches<'a>) -> Option<Request<'a>>
+    ensures named { IfSome result (λ r. command_of r ≡ name.now) }
+    ensures asked { IfSome result (IsAsked (given_by given.now)) }
+    ensures none { IsNone result → AsksNothing name.now (given_by given.now) }
+{
+    match name {
+        "check" => checked(given),
+        "play" => asked_play(given),
+        "soak" => asked_soak(given),
+        "line" => lined(given),
+        "frame" => framed(given),
+        _ => None,
+    }
+}
+
+/// Reads the words of the command line, the program's own name first.
+///
+/// # Errors
+///
+/// What clap says of words that are none of a command, or ask for help, and `InvalidSubcommand` where one of a command's words says nothing:
+/// standard input for two things, a number out of range, no such mode or bits. Or want of memory.
+pub fn read<'a>(alloc: Global, given: &'a [String]) -> Result<Request<'a>, Error>
+    ensures taken { IfOk result (λ _. fault_of all_commands (map string_bytes given.now) ≡ []) }
+    ensures asked { IfOk result (IsAskedBy (subcommand_of all_commands (map string_bytes given.now))) }
+    ensures refused { IfErr result (λ e. IsTurnedDown (map string_bytes given.now) (kind_of e)) }
+    ensures in_vain { IfErr result (λ e. takes all_commands (map string_bytes given.now) ≡ true → (kind_of e ≡ ErrorKind.OutOfMemory)
+        ⊎ ((kind_of e ≡ ErrorKind.InvalidSubcommand) × SaysNothing (subcommand_of all_commands (map string_bytes given.now)))) }
+{
+    let mut commands = all_commands(alloc)?;
+    let matches = commands.try_get_matches_from_mut(given)?;
+    match request_of(&matches) {
+        Some(request) => Ok(request),
+        None => Err(commands.error(ErrorKind::InvalidSubcommand, complaint_of(&matches))?),
+    }
+}
+
+/// What is said where the words of a command are there, and one of them says nothing.
+fn complaint_of(matches: &ArgMatches<'_>) -> &'static str {
+    let Some(name) = matches.subcommand_name() else {
+        return "no such command";
+    };
+    match name {
+        "play" => "standard input can be the set or the script, not both",
+        "soak" => "--workers is a number from 1 to 16",
+        "line" => {
+            "MODE is basic or cyclic, --bits low or high, --ahead a number up to 8000; standard input is the line, so it can't be --text"
+        }
+        _ => "no such command",
+    }
+}
+
+/// The request that the matches stand for.
+fn request_of<'a>(matches: &ArgMatches<'a>) -> Option<Request<'a>>
+    ensures named { IfSome result (λ r. subcommand_name_of matches.now ≡ Some (command_of r)) }
+    ensures asked { IfSome result (IsAskedBy (subcommand_rows_of matches.now)) }
+    ensures none { IsNone result → SaysNothing (subcommand_rows_of matches.now) }
+{
+    let (name, given) = matches.subcommand()?;
+    asked(name, given)
+}

@@ -1,0 +1,6 @@
+-- What was read so far.
+use Rattle.plain_text.proofs.SoFar.{SoFar}
+use Rattle.plain_text.proofs.reading.read_text.Given as goal
+
+abbrev pub invariant-loop : goal.invariant-loop
+invariant-loop g l = SoFar (g.R.Read.remaining l.initial.reader) (g.R.Read.remaining l.reader) l.kept.items l.check

@@ -1,0 +1,71 @@
+//! Whether bytes that come part by part are UTF-8.
+ghost use Rattle.std.specs.Prelude.{◌≡◌, ◌↔◌, ◌<◌, ◌≤◌, ◌-◌, [], ◌∷◌, ◌++◌, List, ℕ, length, replicate, IsTrue, IsUtf8};
+
+use arrayvec::ArrayVec;
+use simdutf8::Checker;
+use std::simd::prelude::*;
+
+/// How many bytes are checked at once.
+const BLOCK: usize = 64;
+
+/// The bytes, and zeros behind them.
+fn block_of(bytes: &[u8]) -> u8x64
+    requires { length bytes.now ≤ 64 }
+    ensures { result ≡ bytes.now ++ replicate (64 - length bytes.now) 0 }
+{
+    let mut block = [0; BLOCK];
+    block[..bytes.len()].copy_from_slice(bytes);
+    u8x64::from_array(block)
+}
+
+/// Whether the bytes so far are UTF-8.
+#[derive(Drop)]
+pub struct TextCheck {
+    checker: Checker,
+    /// Bytes that wait for the block to fill.
+    waiting: ArrayVec<u8, 64>,
+    ghost short: { length waiting.items < 64 },
+}
+
+impl TextCheck {
+    ghost use Rattle.plain_text.specs.Reading.{HasTaken};
+
+    /// Of no bytes.
+    pub fn new() -> TextCheck
+        ensures { HasTaken result [] }
+    {
+        TextCheck {
+            checker: Checker::new(),
+            waiting: ArrayVec::new(),
+        }
+    }
+
+    /// One byte more.
+    fn push(&mut self, byte: u8)
+        ensures { (bytes : List ℕ) → HasTaken self.old bytes → HasTaken self.new (bytes ++ byte ∷ []) }
+    {
+        self.waiting.push(byte);
+        if self.waiting.len() == BLOCK {
+            self.checker = self.checker.step(block_of(self.waiting.as_slice()));
+            self.waiting.clear();
+        }
+    }
+
+    /// Further bytes.
+    pub fn push_all(&mut self, part: &[u8])
+        ensures { (bytes : List ℕ) → HasTaken self.old bytes → HasTaken self.new (bytes ++ part.now) }
+    {
+        for byte in part {
+            self.push(*byte);
+        }
+    }
+
+    /// Whether all bytes are UTF-8.
+    pub fn is_text(&self) -> bool
+        ensures { (bytes : List ℕ) → HasTaken self.now bytes → (IsTrue result ↔ IsUtf8 bytes) }
+    {
+        self.checker
+            .step(block_of(self.waiting.as_slice()))
+            .finish()
+    }
+}

@@ -1,0 +1,87 @@
+//! Why a line is none of a script of `soak`, for a person to read.
+ghost use Rattle.std.specs.Prelude.{◌≡◌, ◌∷◌, ℕ, List, None, IfSome, codes};
+ghost use Rattle.script_lines.specs.Commands.{verb_of};
+ghost use Rattle.script_lines.specs.Lines.{texts};
+ghost use Rattle.script_lines.specs.LineFaults.{IsSo};
+ghost use Rattle.pool_soak.specs.Faults.{IsNoStep};
+
+use crate::script::links_in;
+use plain_text::MOST_BYTES;
+use script_check::write_line;
+use script_lines::{
+    LineFault, ScriptFault, Verb, lines_in, number_fault, verb_fault, verb_in, words_fault,
+};
+use std::alloc::{AllocError, Global};
+use std::io::Write;
+
+/// The greatest count.
+const MOST: u32 = 2_147_483_647;
+
+/// Why a line with one number behind its word is none.
+fn count_fault<'a>(word: &'a str, more: &[&'a str], least: u32, most: u32) -> Option<LineFault<'a>>
+    ensures { (P : List ℕ → Type 0) → IfSome result (IsSo P (word.now ∷ texts more.now)) }
+{
+    match more {
+        [number] => number_fault(number, least, most),
+        _ => words_fault(word, more, 1, 1),
+    }
+}
+
+/// Why the words of a line are none of a script of `soak`, where it is told.
+pub fn soak_line_fault<'a>(words: &[&'a str]) -> Option<LineFault<'a>>
+    ensures { IfSome result (IsSo IsNoStep (texts words.now)) }
+{
+    let [word, more @ ..] = words else {
+        return None;
+    };
+    if links_in(words).is_some() {
+        return Some(LineFault::Late { word });
+    }
+    match *word {
+        "links" => count_fault(word, more, 1, 16),
+        "on" => count_fault(word, more, 0, MOST),
+        _ => match verb_in(word) {
+            Some(Verb::Offer) => verb_fault(Verb::Offer, word, more),
+            Some(Verb::Tick) => verb_fault(Verb::Tick, word, more),
+            _ => Some(LineFault::NoCommand {
+                word,
+                script: "a script of soak",
+            }),
+        },
+    }
+}
+
+/// Tells why the line of this number is none.
+fn explain_line<E: Write>(
+    alloc: Global,
+    text: &str,
+    number: usize,
+    errors: &mut E,
+) -> Result<(), AllocError> {
+    let lines = lines_in(alloc, text)?;
+    for line in &lines {
+        if line.number == number {
+            if let Some(fault) = soak_line_fault(&line.words) {
+                let told = format_args!("mtp2_play: line {number}: {fault}");
+                let _told = write_line(alloc, errors, &told);
+                return Ok(());
+            }
+        }
+    }
+    let told = format_args!("mtp2_play: line {number}: no line 'links N' stands before it");
+    let _told = write_line(alloc, errors, &told);
+    Ok(())
+}
+
+/// Tells why a text is no script of `soak`.
+pub fn explain<E: Write>(alloc: Global, text: &str, fault: ScriptFault, errors: &mut E) {
+    if let ScriptFault::BadLine(number) = fault {
+        let _told = explain_line(alloc, text, number, errors);
+    }
+}
+
+/// Tells that a text is too long for a script.
+pub fn explain_length<E: Write>(alloc: Global, number: usize, errors: &mut E) {
+    let told = format_args!("mtp2_play: line {number}: a script has {MOST_BYTES} octets at most");
+    let _told = write_line(alloc, errors, &told);
+}

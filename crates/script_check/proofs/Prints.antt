@@ -1,0 +1,30 @@
+-- What was printed, put together.
+use Rattle.std.proofs.Common.{◌≡◌, ℕ, List, Option, None, Some, IfSome, subst}
+use Rattle.std.specs.Io.KnownBytes.{Appends}
+use Rattle.turn_code.specs.declared.draft.Draft.{Draft}
+use Rattle.script_check.specs.declared.sets.SetFault.{SetFault}
+use Rattle.script_check.specs.Printed.{refusal_line, set_lines}
+use Rattle.script_check.specs.Checked.{IsGiven, IsAccepted, IsNotAccepted, IsSetOf, IsRefusal, IsRefusalOf, PrintsCosts, PrintsRefusal}
+
+-- what is known of the text of an accepted set
+pub is_accepted : (bytes : List ℕ) (d : Draft) → IsSetOf bytes d → IsAccepted bytes
+is_accepted bytes d s = record { utf8 = s.utf8; sound = record { tokens = s.loaded.tokens; block = s.loaded.block; is_so = s.loaded.sound } }
+
+held_of : (known : Option (List ℕ)) (bytes : List ℕ) (P : List ℕ → Type 0) → IfSome known (λ all. bytes ≡ all) → P bytes → IfSome known P
+held_of None bytes P is holds = tt
+held_of (Some all) bytes P is holds = subst P is holds
+
+pub accepted_bytes : (known : Option (List ℕ)) (d : Draft) → IsGiven known (λ bytes. IsSetOf bytes d) → IfSome known IsAccepted
+accepted_bytes known d g = held_of known g.bytes IsAccepted g.are_known (is_accepted g.bytes d g.holds)
+
+pub refused_bytes : (known : Option (List ℕ)) (fault : SetFault) → IsGiven known (λ bytes. IsRefusalOf bytes fault) → IfSome known IsNotAccepted
+refused_bytes known fault g = held_of known g.bytes IsNotAccepted g.are_known g.holds.refused
+
+pub costs_printed : (known old new : Option (List ℕ)) (d : Draft) → IsGiven known (λ bytes. IsSetOf bytes d) → Appends old new (set_lines d) → IsGiven known (PrintsCosts old new)
+costs_printed known old new d g printed =
+    record { bytes = g.bytes; are_known = g.are_known; holds = record { draft = d; is_set = g.holds; printed = printed } }
+
+pub refusal_printed : (known old new : Option (List ℕ)) (fault : SetFault) → IsRefusal fault → IsGiven known (λ bytes. IsRefusalOf bytes fault)
+    → Appends old new (refusal_line fault) → IsGiven known (PrintsRefusal old new)
+refusal_printed known old new fault judged g printed =
+    record { bytes = g.bytes; are_known = g.are_known; holds = record { fault = fault; judged = judged; is_so = g.holds.is_so; printed = printed } }

@@ -1,0 +1,155 @@
+//! Sets of processes, as commands name them.
+ghost use Rattle.std.specs.Prelude.{◌≡◌, ◌↔◌, List, ℕ, IfOk, IfErr, IsFalse};
+ghost use Rattle.plain_text.specs.Reading.{Keeps};
+ghost use Rattle.mtp2_text.specs.Loaded.{IsRefused};
+ghost use Rattle.script_check.specs.Checked.{given, IsGiven, IsRefusal, IsRefusalOf, IsSetOf, IsText, IsTooLong};
+ghost use Rattle.script_check.specs.declared.sets.SetFault.TheVariants.{NotRead};
+
+use mtp2_text::{LexFault, LoadFault, MONITORS, STANDARD, Verified, load, monitors, standard};
+use plain_text::{MOST_BYTES, TextRead, line_at_limit, read_text};
+use std::alloc::Global;
+use std::io::Read;
+use std::{fmt, str};
+use thiserror::Error;
+
+/// A set of processes, as a command names it.
+#[derive(Drop)]
+pub enum SetWord<R> {
+    /// `standard`: the signalling link terminal, a text of the program's own.
+    Standard,
+    /// `monitors`: the two error rate monitors, a text of the program's own.
+    Monitors,
+    /// The set of the text that a reader gives.
+    Text(R),
+}
+
+/// Why there is no set.
+#[derive(Debug, Drop, Error)]
+pub enum SetFault {
+    /// A read failed, the text had no end within 1,000,000 reads, or there was no memory for what was read.
+    NotRead,
+    /// The bytes are not UTF-8.
+    NotText,
+    /// The text is refused.
+    Load(LoadFault),
+}
+
+impl fmt::Display for SetFault {
+    ghost use Rattle.std.specs.Prelude.{Some};
+    ghost use Rattle.script_check.specs.Printed.{fault_text};
+
+    ghost output = { λ e. Some (fault_text e) };
+
+    fn fmt<W: fmt::Write>(&self, f: &mut fmt::Formatter<W>) -> fmt::Result {
+        match self {
+            Self::NotRead => f.write_str("not read"),
+            Self::NotText => f.write_str("F1 NotText"),
+            Self::Load(fault) => fmt::Display::fmt(fault, f),
+        }
+    }
+}
+
+impl SetFault {
+    /// Whether it was memory or a read that failed, and no text is refused.
+    pub fn is_failure(&self) -> bool
+        ensures { IsFalse result ↔ IsRefusal self.now }
+    {
+        match self {
+            SetFault::Load(fault) => fault.wants_memory(),
+            SetFault::NotRead => true,
+            SetFault::NotText => false,
+        }
+    }
+}
+
+/// The fault of a text that is too long, of which these are the first bytes.
+fn too_long(kept: &[u8]) -> LoadFault
+    ensures { (bytes : List ℕ) → IsTooLong bytes kept.now → IsRefused bytes result }
+{
+    LoadFault::Lex {
+        fault: LexFault::TooLong(MOST_BYTES as u32),
+        line: line_at_limit(kept),
+    }
+}
+
+/// The set of a text that was read, or why it has none.
+fn set_in(alloc: Global, read: &TextRead) -> Result<Verified, SetFault>
+    ensures set { IfOk result (λ v. (bytes : List ℕ) → Keeps bytes read.now → IsSetOf bytes v) }
+    ensures fault { IfErr result (λ e. IsRefusal e → (bytes : List ℕ) → Keeps bytes read.now → IsRefusalOf bytes e) }
+{
+    if !read.is_text {
+        return Err(SetFault::NotText);
+    }
+    if read.is_too_long() {
+        return Err(SetFault::Load(too_long(&read.kept)));
+    }
+    match str::from_utf8(&read.kept) {
+        Ok(text) => text_set(alloc, text),
+        Err(_) => Err(SetFault::NotText),
+    }
+}
+
+/// The set of a text, or why it has none.
+fn text_set(alloc: Global, text: &str) -> Result<Verified, SetFault>
+    ensures set { IfOk result (IsSetOf text.now) }
+    ensures fault { IfErr result (λ e. IsRefusal e → IsRefusalOf text.now e) }
+{
+    match load(alloc, text) {
+        Ok(set) => Ok(set),
+        Err(fault) => Err(SetFault::Load(fault)),
+    }
+}
+
+/// The set of the text that a reader gives, or why it has none.
+fn read_set<R: Read>(alloc: Global, reader: &mut R) -> Result<Verified, SetFault>
+    ensures set { IfOk result (λ v. IsGiven (R.remaining reader.old) (λ bytes. IsSetOf bytes v)) }
+    ensures fault { IfErr result (λ e. IsRefusal e → IsGiven (R.remaining reader.old) (λ bytes. IsRefusalOf bytes e)) }
+{
+    match read_text(alloc, reader) {
+        Ok(read) => set_in(alloc, &read),
+        Err(_) => Err(SetFault::NotRead),
+    }
+}
+
+/// The set of `standard`.
+fn standard_set(alloc: Global) -> Result<Verified, SetFault>
+    ensures set { IfOk result (IsSetOf STANDARD.now) }
+    ensures fault { IfErr result (λ e. IsRefusal e → IsRefusalOf STANDARD.now e) }
+    ensures own { IfErr result (λ e. e ≡ NotRead → ⊥) }
+{
+    match standard(alloc) {
+        Ok(set) => Ok(set),
+        Err(fault) => Err(SetFault::Load(fault)),
+    }
+}
+
+/// The set of `monitors`.
+fn monitors_set(alloc: Global) -> Result<Verified, SetFault>
+    ensures set { IfOk result (IsSetOf MONITORS.now) }
+    ensures fault { IfErr result (λ e. IsRefusal e → IsRefusalOf MONITORS.now e) }
+    ensures own { IfErr result (λ e. e ≡ NotRead → ⊥) }
+{
+    match monitors(alloc) {
+        Ok(set) => Ok(set),
+        Err(fault) => Err(SetFault::Load(fault)),
+    }
+}
+
+/// The set that a command names, or why there is none. A text is read whole, to its end: bytes that are no text come
+/// before a text that is too long. No more than 262,145 bytes of it are kept.
+///
+/// # Errors
+///
+/// [`SetFault::NotText`] (F1) where the bytes aren't UTF-8, [`SetFault::Load`] with what `load` says of the text, or
+/// [`SetFault::NotRead`] where a read of the text failed, so never of the program's own sets. Any call may answer [`LoadFault::NoMemory`] instead.
+pub fn load_set<R: Read + Drop>(alloc: Global, set: SetWord<R>) -> Result<Verified, SetFault>
+    ensures set { IfOk result (λ v. IsGiven (given R.remaining set) (λ bytes. IsSetOf bytes v)) }
+    ensures fault { IfErr result (λ e. IsRefusal e → IsGiven (given R.remaining set) (λ bytes. IsRefusalOf bytes e)) }
+    ensures read { IfErr result (λ e. e ≡ NotRead → IsText set) }
+{
+    match set {
+        SetWord::Standard => standard_set(alloc),
+        SetWord::Monitors => monitors_set(alloc),
+        SetWord::Text(mut reader) => read_set(alloc, &mut reader),
+    }
+}

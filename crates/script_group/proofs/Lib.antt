@@ -1,0 +1,7 @@
+mod CallAnswers
+mod GroupRuns
+mod RetrievalAnswers
+mod Keeping
+mod LineAnswers
+mod Openings
+mod ShownAnswers

@@ -1,0 +1,6 @@
+-- The terminals so far.
+use Rattle.script_group.proofs.Openings.{AreSoFar}
+use Rattle.script_group.proofs.opening.terminals.Given as goal
+
+abbrev pub invariant-loop-made : goal.invariant-loop-made
+invariant-loop-made l = AreSoFar l.set l.head.mode l.made l.terminals.items

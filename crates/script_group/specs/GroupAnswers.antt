@@ -1,0 +1,401 @@
+-- What each command of a link set's script makes of the set and of the retrieved messages, and the
+-- lines that it prints.
+use Rattle.std.specs.Prelude.{◌≡◌, ℕ, ◌<◌, ◌≤◌, zero, suc, ◌==◌, ◌||◌, nat_lt, nat_le, is_some}
+use Rattle.std.specs.Prelude.{Bool, true, false, List, [], ◌∷◌, ◌++◌, length, map, drop, Option}
+use Rattle.std.specs.Prelude.{None, Some, slice_get, codes}
+use Rattle.std.specs.List.{list_any}
+use Rattle.std.specs.Fmt.{decimal}
+use Rattle.hex.specs.Hex.{encode_upper}
+use Rattle.resend_store.specs.declared.messages.Msu.{Msu}
+use Rattle.su_octets.specs.Printed.{unit_text}
+use Rattle.su_octets.specs.declared.units.Unit as units
+use Rattle.actor_machine.specs.declared.reply.Refusal.{Refusal}
+use Rattle.script_terminal.specs.link_processes_types.commands.Command.{Command}
+use Rattle.link_transceiver.specs.declared.signals.Report.{Report}
+use Rattle.group_changeover.specs.declared.changeover.Changeover.{Changeover}
+use Rattle.su_octets.specs.Bits.{AreOctets}
+use Rattle.group_changeover.specs.Changeovers.{Says}
+use Rattle.group_changeover.specs.Sharing.{link_of}
+use Rattle.link_group.specs.group_members_types.link.Link.{Link}
+use Rattle.link_group.specs.group_changeover_types.errors.CommandError.{CommandError}
+use Rattle.link_group.specs.group_changeover_types.errors.CommandError.TheVariants as barring
+use Rattle.link_group.specs.group_changeover_types.errors.FailError.{FailError}
+use Rattle.link_group.specs.group_changeover_types.errors.RetrieveError.{RetrieveError}
+use Rattle.link_group.specs.group_changeover_types.errors.AbandonError.{AbandonError}
+use Rattle.link_group.specs.group_changeover_types.errors.AbandonError.TheVariants as abandoning
+use Rattle.link_group.specs.group_changeover_types.errors.DivertFault.{DivertFault}
+use Rattle.link_group.specs.declared.retrieved.Kept.{Kept}
+use Rattle.link_group.specs.declared.retrievals.Retrievals.{Retrievals}
+use Rattle.link_group.specs.Set.{LinkSet, send_fault, sent}
+use Rattle.link_group.specs.Changing.{fail_fault, after_failure, order_at, IsRead, after_message}
+use Rattle.link_group.specs.Changing.{reply_to, retrieve_fault_at, after_retrieve, messages_for}
+use Rattle.link_group.specs.Changing.{abandon_fault_at, after_abandon, unsent_at}
+use Rattle.link_group.specs.Diverting.{diverted, after_divert}
+use Rattle.link_group.specs.Placing.{rebalance_fault, rebalanced}
+use Rattle.link_group.specs.Lines.{ByLink, Alone}
+use Rattle.link_group.specs.Moving.{retrieval_of}
+use Rattle.link_group.specs.Doing.{Listened, Sent, Reported}
+use Rattle.link_group.specs.Commanding.{Commanded, Refused, is_barred}
+use Rattle.link_group.specs.OneLink.{but_memory}
+use Rattle.link_group.specs.Ticking.{all_due}
+use Rattle.link_group.specs.Ticks.{with_room, tick_fault, after_ticks}
+use Rattle.link_group.specs.Reading.{held_count, sent_count}
+use Rattle.link_group.specs.Printed.{send_error_text, fail_error_text, retrieve_error_text}
+use Rattle.link_group.specs.Printed.{abandon_error_text, divert_fault_text, rebalance_error_text}
+use Rattle.script_links.specs.declared.words.GroupWord.{GroupWord}
+use Rattle.script_links.specs.declared.words.GroupWord.TheVariants as words
+use Rattle.script_links.specs.GroupCommands.{PlainGroupCommand}
+use Rattle.script_links.specs.GroupCommands as commands
+use Rattle.script_terminal.specs.Refused.{refused_text}
+use Rattle.script_terminal.specs.Answers.{actor_named, state_line, value_line}
+use Rattle.script_terminal.specs.TermAnswers.{command_of, IsMessageOf}
+use Rattle.script_terminal.specs.UnitLines.{IsLineOf}
+
+-- messages that a link handed out and that are not diverted yet
+pub record Retrieval : Type 0 where
+  pub link : ℕ
+  pub messages : List Msu
+
+-- Of a script that runs: the set, the retrievals that are out, and the link that lines speak of.
+pub record Playing : Type 0 where
+  pub set : LinkSet
+  pub retrievals : List Retrieval
+  pub on : ℕ
+
+abbrev pub plain_retrieval : Kept → Retrieval
+plain_retrieval k = record { link = k.link; messages = k.messages.items }
+
+abbrev pub retrievals_of : Retrievals → List Retrieval
+retrievals_of h = map plain_retrieval h.kept.items
+
+abbrev pub at : LinkSet → Retrievals → ℕ → Playing
+at c h l = record { set = c; retrievals = retrievals_of h; on = l }
+
+-- ---- lines
+
+abbrev pub NO_LINK : List ℕ
+NO_LINK = codes "refused K1 NoLink"
+
+-- `ok`, or a refusal
+abbrev pub said_by : {E : Type 0} → (E → List ℕ) → Option E → List ℕ
+said_by text None = codes "ok"
+said_by text (Some e) = codes "refused " ++ text e
+
+-- what a call that isn't refused makes of a set; one that is refused changes nothing
+abbrev pub set_by : {E : Type 0} → Option E → LinkSet → LinkSet → LinkSet
+set_by None new old = new
+set_by (Some e) new old = old
+
+abbrev pub octets_line : List ℕ → List ℕ
+octets_line octets = codes "ok " ++ encode_upper octets
+
+abbrev pub count_line : ℕ → List ℕ
+count_line n = codes "ok " ++ decimal n
+
+-- ---- commands to the terminal of a link
+
+-- The actors of the link's terminal are asked; Start waits while a changeover of the link hasn't
+-- handed its messages out. Only room in the journal is made where they refuse.
+pub data IsTold (e : Command) (l : ℕ) (c : LinkSet) : List ℕ → LinkSet → Type 0 where
+  told_nowhere : length c.links ≤ l → IsTold e l c NO_LINK c
+  told_waits :
+      (k : Link) → slice_get c.links l ≡ Some k → is_barred e k ≡ true
+      → IsTold e l c (codes "refused K2 Waiting") c
+  told_refused :
+      (r : Refusal) (d : LinkSet) → Alone (Refused e r) l c d → IsTold e l c (refused_text r) d
+  told_taken : (d : LinkSet) → ByLink (Commanded e) l c d → IsTold e l c (codes "ok") d
+
+-- the line of a refused order; want of memory has none
+abbrev pub IsBarredLine : CommandError → List ℕ → Type 0
+IsBarredLine barring.NoLink text = text ≡ NO_LINK
+IsBarredLine barring.Waiting text = text ≡ codes "refused K2 Waiting"
+IsBarredLine (barring.Refused r) text = text ≡ refused_text r
+IsBarredLine barring.NoMemory text = ⊥
+
+-- ---- octets of the line
+
+-- whether a report of a link was taken out
+pub data HasReported (l : ℕ) (c d : LinkSet) : Bool → Type 0 where
+  was_one : (r : Report) → ByLink (Reported (Some r)) l c d → HasReported l c d true
+  was_none : ByLink (Reported None) l c d → HasReported l c d false
+
+-- all reports of a link are taken out, one after another
+pub data GivesReports (l : ℕ) : LinkSet → LinkSet → Type 0 where
+  last_given : (c d : LinkSet) → ByLink (Reported None) l c d → GivesReports l c d
+  one_given :
+      (c m d : LinkSet) (r : Report) → ByLink (Reported (Some r)) l c m → GivesReports l m d
+      → GivesReports l c d
+
+-- Octets of the line come in, part after part, and behind each part all reports are taken out. A
+-- part has one octet at least; it has all that is left, or ends where the terminal takes no more.
+pub data Listens (l : ℕ) : LinkSet → List ℕ → LinkSet → Type 0 where
+  heard_all : (c : LinkSet) → Listens l c [] c
+  heard_part :
+      (c m w d : LinkSet) (octets : List ℕ) (taken : ℕ) → 0 < taken
+      → ByLink (Listened octets taken) l c m → GivesReports l m w
+      → Listens l w (drop taken octets) d → Listens l c octets d
+
+-- a part, and the reports behind it
+pub record TakesPart (l : ℕ) (octets : List ℕ) (taken : ℕ) (c d : LinkSet) : Type 0 where
+  pub some : 0 < taken
+  pub few : taken ≤ length octets
+  pub between : LinkSet
+  pub heard : ByLink (Listened octets taken) l c between
+  pub reports : GivesReports l between d
+
+pub data TakesLine (l : ℕ) (octets : List ℕ) (c : LinkSet) : List ℕ → LinkSet → Type 0 where
+  line_nowhere : length c.links ≤ l → TakesLine l octets c NO_LINK c
+  line_heard :
+      (d : LinkSet) → l < length c.links → Listens l c octets d
+      → TakesLine l octets c (codes "ok") d
+
+-- what comes in of a signal unit, whose octets without the check octets these are
+pub record TakesUnit (l : ℕ) (octets : List ℕ) (c : LinkSet) (text : List ℕ) (d : LinkSet) :
+    Type 0 where
+  pub come : List ℕ
+  pub are : IsLineOf octets come
+  pub takes : TakesLine l come c text d
+
+-- ---- units that go out
+
+-- So many units are asked of a link, and each that goes out has a line. Where none goes out, the
+-- line `silent` says so, and no more are asked for.
+pub data GoOut (l : ℕ) : ℕ → LinkSet → List (List ℕ) → LinkSet → Type 0 where
+  none_goes : (c : LinkSet) → GoOut l zero c [] c
+  silent : (n : ℕ) (c d : LinkSet) → ByLink (Sent None) l c d
+      → GoOut l (suc n) c (codes "silent" ∷ []) d
+  one_goes : (n : ℕ) (c m d : LinkSet) (x : units.Unit) (lines : List (List ℕ))
+      → ByLink (Sent (Some x)) l c m → GoOut l n m lines d
+      → GoOut l (suc n) c (unit_text x ∷ lines) d
+
+-- a refusal is one line, however many are asked for
+pub data GivesOut (l n : ℕ) (c : LinkSet) : List (List ℕ) → LinkSet → Type 0 where
+  out_nowhere : length c.links ≤ l → GivesOut l n c (NO_LINK ∷ []) c
+  out_goes : (lines : List (List ℕ)) (d : LinkSet) → l < length c.links → GoOut l n c lines d
+      → GivesOut l n c lines d
+
+-- ---- ticks
+
+-- They pass on all links, or on none.
+pub data Passes (n : ℕ) (c : LinkSet) : List ℕ → LinkSet → Type 0 where
+  passed : tick_fault n c ≡ None
+      → Passes n c (codes "ok due " ++ decimal (all_due n (with_room c.links))) (after_ticks n c)
+  held_up : (r : Refusal) → tick_fault n c ≡ Some r
+      → Passes n c (refused_text r) (record c { links = with_room c.links })
+
+-- ---- messages to send, and changeover
+
+pub record IsSent (octets : List ℕ) (c : LinkSet) (text : List ℕ) (d : LinkSet) : Type 0 where
+  pub msu : Msu
+  pub octets_are : IsMessageOf octets msu
+  pub says : text ≡ said_by send_error_text (send_fault c msu)
+  pub makes : d ≡ set_by (send_fault c msu) (sent c msu) c
+
+-- a changeover begins, and the octets of the order for it are printed
+pub data Fails (l : ℕ) (c : LinkSet) : List ℕ → LinkSet → Type 0 where
+  fails_refused :
+      (e : FailError) → fail_fault c l ≡ Some e
+      → Fails l c (codes "refused " ++ fail_error_text e) c
+  fails_begins :
+      (sif : List ℕ) → fail_fault c l ≡ None → AreOctets sif → Says sif (order_at c l)
+      → Fails l c (octets_line sif) (after_failure c l)
+
+-- the octets of an answer, if there is one
+abbrev pub IsReplied : Option Changeover → List ℕ → Type 0
+IsReplied None text = text ≡ codes "ok"
+IsReplied (Some m) text = (sif : List ℕ) × AreOctets sif × Says sif m × (text ≡ octets_line sif)
+
+-- what came is read, and what it is the message of, if any, is taken
+pub record IsHeard (octets : List ℕ) (c : LinkSet) (text : List ℕ) (d : LinkSet) : Type 0 where
+  pub makes : (m : Option Changeover) → IsRead octets m → d ≡ after_message c m
+  pub says : (m : Option Changeover) → IsRead octets m → IsReplied (reply_to c m) text
+
+-- a link has one retrieval at most
+abbrev pub MOST_RETRIEVALS : ℕ
+MOST_RETRIEVALS = 16
+
+-- Of so many retrievals that are kept: there is room for one more, or the link gives none, since it
+-- isn't there or its messages are retrieved.
+abbrev pub can_keep : LinkSet → ℕ → ℕ → Bool
+can_keep c kept l =
+    nat_lt kept MOST_RETRIEVALS
+    || (nat_le (length c.links) l || is_some (retrieval_of (slice_get c.links l)))
+
+abbrev pub with_retrieval : List Retrieval → ℕ → List Msu → List Retrieval
+with_retrieval retrievals l messages = retrievals ++ record { link = l; messages = messages } ∷ []
+
+-- the lines of refusals; want of memory has none
+abbrev pub IsRetrieveLine : RetrieveError → List ℕ → Type 0
+IsRetrieveLine e text = (but_memory e ≡ Some e) × (text ≡ codes "refused " ++ retrieve_error_text e)
+
+abbrev pub IsAbandonLine : AbandonError → List ℕ → Type 0
+IsAbandonLine abandoning.NoMemory text = ⊥
+IsAbandonLine abandoning.NoLink text =
+    text ≡ codes "refused " ++ abandon_error_text abandoning.NoLink
+IsAbandonLine abandoning.Waiting text =
+    text ≡ codes "refused " ++ abandon_error_text abandoning.Waiting
+
+-- messages are handed out, and kept behind the other retrievals
+pub data Retrieves (l : ℕ) (c : LinkSet) (retrievals : List Retrieval) :
+    List ℕ → LinkSet → List Retrieval → Type 0 where
+  retrieves_refused :
+      (e : RetrieveError) → retrieve_fault_at c l ≡ Some e
+      → Retrieves l c retrievals (codes "refused " ++ retrieve_error_text e) c retrievals
+  retrieves_given : retrieve_fault_at c l ≡ None
+      → Retrieves l c retrievals (count_line (length (messages_for c l))) (after_retrieve c l)
+      (with_retrieval retrievals l (messages_for c l))
+
+pub data Abandons (l : ℕ) (c : LinkSet) (retrievals : List Retrieval) :
+    List ℕ → LinkSet → List Retrieval → Type 0 where
+  abandons_refused :
+      (e : AbandonError) → abandon_fault_at c l ≡ Some e
+      → Abandons l c retrievals (codes "refused " ++ abandon_error_text e) c retrievals
+  abandons_given : abandon_fault_at c l ≡ None
+      → Abandons l c retrievals (count_line (length (unsent_at c l))) (after_abandon c l)
+      (with_retrieval retrievals l (unsent_at c l))
+
+-- The messages of a retrieval are diverted. Of one that isn't wholly diverted the rest is kept
+-- behind the other retrievals.
+pub data DivertsRetrieval (l : ℕ) (c : LinkSet) (messages : List Msu) (others : List Retrieval) :
+    List ℕ → LinkSet → List Retrieval → Type 0 where
+  diverts_whole :
+      (diverted c l messages).fault ≡ None
+      → DivertsRetrieval l c messages others (codes "ok") (after_divert c l messages) others
+  diverts_part : (e : DivertFault) → (diverted c l messages).fault ≡ Some e
+      → DivertsRetrieval l c messages others
+      (codes "refused " ++ divert_fault_text e ++ codes " left "
+      ++ decimal (length (diverted c l messages).at.rest)) (after_divert c l messages)
+      (with_retrieval others l (diverted c l messages).at.rest)
+
+abbrev pub is_of : ℕ → Retrieval → Bool
+is_of l h = h.link == l
+
+-- the retrieval of a link among all, the first if there were several, and the others
+pub record IsFound (l : ℕ) (retrievals : List Retrieval) (h : Retrieval) (others : List Retrieval) :
+    Type 0 where
+  pub front : List Retrieval
+  pub back : List Retrieval
+  pub stood : retrievals ≡ front ++ h ∷ back
+  pub link : h.link ≡ l
+  pub first : list_any (is_of l) front ≡ false
+  pub left : others ≡ front ++ back
+
+pub data Diverts (l : ℕ) (c : LinkSet) (retrievals : List Retrieval) :
+    List ℕ → LinkSet → List Retrieval → Type 0 where
+  diverts_nowhere : length c.links ≤ l → Diverts l c retrievals NO_LINK c retrievals
+  diverts_none :
+      l < length c.links → list_any (is_of l) retrievals ≡ false
+      → Diverts l c retrievals (codes "refused K2 Waiting") c retrievals
+  diverts_one :
+      (h : Retrieval) (others next : List Retrieval) (text : List ℕ) (d : LinkSet)
+      → l < length c.links → IsFound l retrievals h others
+      → DivertsRetrieval l c h.messages others text d next → Diverts l c retrievals text d next
+
+pub record Rebalances (c : LinkSet) (text : List ℕ) (d : LinkSet) : Type 0 where
+  pub says : text ≡ said_by rebalance_error_text (rebalance_fault c)
+  pub makes : d ≡ set_by (rebalance_fault c) (rebalanced c) c
+
+-- ---- what is shown
+
+abbrev pub entry_text : ℕ → Option ℕ → List ℕ
+entry_text s None = decimal s ++ codes " -"
+entry_text s (Some l) = decimal s ++ codes " " ++ decimal l
+
+-- a selection and its link
+abbrev pub entry_at : List (Option ℕ) → ℕ → List ℕ
+entry_at ts s = entry_text s (link_of ts s)
+
+-- those from 0 to one
+unfoldable pub entries_to : List (Option ℕ) → ℕ → List ℕ
+entries_to ts zero = entry_at ts zero
+entries_to ts (suc s) = entries_to ts s ++ codes ", " ++ entry_at ts (suc s)
+
+abbrev pub table_line : List (Option ℕ) → List ℕ
+table_line ts = entries_to ts 15
+
+abbrev pub held_line : Option Link → List ℕ
+held_line None = NO_LINK
+held_line (Some k) = decimal (held_count k) ++ codes " sent " ++ decimal (sent_count k)
+
+abbrev pub state_at : List ℕ → Option Link → List ℕ
+state_at process None = NO_LINK
+state_at process (Some k) =
+    state_line k.terminal.processes.book (actor_named k.terminal.processes.book process)
+
+abbrev pub value_at : List ℕ → List ℕ → Option Link → List ℕ
+value_at process variable None = NO_LINK
+value_at process variable (Some k) =
+    value_line k.terminal.processes.book variable (actor_named k.terminal.processes.book process)
+
+-- ---- all commands
+
+-- the set alone changes
+pub record OnSet (P : List ℕ → LinkSet → Type 0) (p : Playing) (text : List ℕ) (q : Playing) :
+    Type 0 where
+  pub set : P text q.set
+  pub retrievals : q.retrievals ≡ p.retrievals
+  pub on : q.on ≡ p.on
+
+-- the set and the retrievals
+pub record OnRetrievals (P : List ℕ → LinkSet → List Retrieval
+    → Type 0) (p : Playing) (text : List ℕ) (q : Playing) : Type 0 where
+  pub both : P text q.set q.retrievals
+  pub on : q.on ≡ p.on
+
+-- nothing changes
+pub record Shows (shown : List ℕ) (p : Playing) (text : List ℕ) (q : Playing) : Type 0 where
+  pub says : text ≡ shown
+  pub same : q ≡ p
+
+abbrev pub WordAnswers : GroupWord → Playing → List ℕ → Playing → Type 0
+WordAnswers words.Fail p text q = OnSet (Fails p.on p.set) p text q
+WordAnswers words.Retrieve p text q = OnRetrievals (Retrieves p.on p.set p.retrievals) p text q
+WordAnswers words.Abandon p text q = OnRetrievals (Abandons p.on p.set p.retrievals) p text q
+WordAnswers words.Divert p text q = OnRetrievals (Diverts p.on p.set p.retrievals) p text q
+WordAnswers words.Rebalance p text q = OnSet (Rebalances p.set) p text q
+WordAnswers words.Table p text q = Shows (table_line p.set.table) p text q
+WordAnswers words.Held p text q = Shows (held_line (slice_get p.set.links p.on)) p text q
+WordAnswers words.Unsure p text q = Shows (decimal p.set.unsure) p text q
+
+-- What a command that prints one line makes of what there is, and that line. `out`, `on` and
+-- `expect` are none of these: nothing is done for them here.
+abbrev pub Answers : PlainGroupCommand → Playing → List ℕ → Playing → Type 0
+Answers (commands.order o) p text q = OnSet (IsTold (command_of o) p.on p.set) p text q
+Answers (commands.unit octets) p text q = OnSet (TakesUnit p.on octets p.set) p text q
+Answers (commands.line octets) p text q = OnSet (TakesLine p.on octets p.set) p text q
+Answers (commands.out n) p text q = (text ≡ []) × (q ≡ p)
+Answers (commands.ticks n) p text q = OnSet (Passes n p.set) p text q
+Answers (commands.state process) p text q =
+    Shows (state_at process (slice_get p.set.links p.on)) p text q
+Answers (commands.shown process variable) p text q =
+    Shows (value_at process variable (slice_get p.set.links p.on)) p text q
+Answers (commands.expected said) p text q = (text ≡ []) × (q ≡ p)
+Answers (commands.on l) p text q = (text ≡ []) × (q ≡ p)
+Answers (commands.sending octets) p text q = OnSet (IsSent octets p.set) p text q
+Answers (commands.message octets) p text q = OnSet (IsHeard octets p.set) p text q
+Answers (commands.own word) p text q = WordAnswers word p text q
+
+pub record AnswersOne (c : PlainGroupCommand) (p : Playing) (lines : List (List ℕ)) (q : Playing) :
+    Type 0 where
+  pub text : List ℕ
+  pub one : lines ≡ text ∷ []
+  pub answers : Answers c p text q
+
+-- so many units are asked of the link
+pub record Outputs (n : ℕ) (p : Playing) (lines : List (List ℕ)) (q : Playing) : Type 0 where
+  pub goes : GivesOut p.on n p.set lines q.set
+  pub retrievals : q.retrievals ≡ p.retrievals
+  pub on : q.on ≡ p.on
+
+-- the lines below speak of another link, which may or may not be there; nothing is printed
+pub record TurnsTo (l : ℕ) (p : Playing) (lines : List (List ℕ)) (q : Playing) : Type 0 where
+  pub none : lines ≡ []
+  pub makes : q ≡ record p { on = l }
+
+-- a command was obeyed: what it makes of what there is, and the lines that it prints; `expect` is
+-- no command to a link set
+abbrev pub Obeys : PlainGroupCommand → Playing → List (List ℕ) → Playing → Type 0
+Obeys (commands.out n) p lines q = Outputs n p lines q
+Obeys (commands.on l) p lines q = TurnsTo l p lines q
+Obeys (commands.expected text) p lines q = ⊥
+Obeys c p lines q = AnswersOne c p lines q

@@ -1,0 +1,145 @@
+-- What a run of a link set's script has printed, and what it made of the set and of the retrieved
+-- messages.
+use Rattle.std.specs.Prelude.{◌≡◌, ℕ, Bool, is_some, List, [], ◌∷◌, ◌++◌, All, length, Option, None}
+use Rattle.std.specs.Prelude.{Some}
+use Rattle.std.specs.List.{flat_map}
+use Rattle.std.specs.Io.KnownBytes.{Appends}
+use Rattle.turn_code.specs.declared.draft.Draft.{Draft}
+use Rattle.script_terminal.specs.Term.{Term}
+use Rattle.script_terminal.specs.Opening.{IsOver}
+use Rattle.script_terminal.specs.Wanted.{wanted, IsFirstLacking}
+use Rattle.script_terminal.specs.link_term_types.opening.OpenError.{OpenError}
+use Rattle.script_terminal.specs.link_term_types.opening.OpenError.TheVariants.{NoName, NoMemory}
+use Rattle.link_group.specs.Set.{LinkSet}
+use Rattle.link_group.specs.New.{new_set}
+use Rattle.script_links.specs.declared.heads.GroupHead.{GroupHead}
+use Rattle.script_links.specs.GroupCommands.{expected}
+use Rattle.script_links.specs.GroupScripts.{PlainGroupSaid}
+use Rattle.script_terminal.specs.Lines.{line_of}
+use Rattle.script_terminal.specs.Played.{last_in, Misses}
+use Rattle.script_terminal.specs.TermRuns.{latest, HasPrinted}
+use Rattle.su_octets.specs.declared.units.Unit.{Unit as Unit_out}
+use Rattle.link_group.specs.Lines.{ByLink}
+use Rattle.link_group.specs.Doing.{Sent}
+use Rattle.script_terminal.specs.TermAnswers.{unit_line}
+use Rattle.script_group.specs.GroupAnswers.{Playing, at, GoOut, GivesOut, Obeys}
+use Rattle.script_group.specs.declared.player.GroupPlayer.{GroupPlayer}
+
+-- ---- where a script begins
+
+-- this end's point code in a script, and the other end's
+abbrev pub OWN_POINT : ℕ
+OWN_POINT = 1
+
+abbrev pub OTHER_POINT : ℕ
+OTHER_POINT = 2
+
+-- no message is retrieved, and lines speak of link 0
+abbrev pub begun : LinkSet → Playing
+begun c = record { set = c; retrievals = []; on = 0 }
+
+-- as many new terminals over a set of processes as a script's first line says, with its error
+-- correction
+pub record AreNew (d : Draft) (head : GroupHead) (terminals : List Term) : Type 0 where
+  pub number : length terminals ≡ head.links
+  pub are_new : All (IsOver d head.mode) terminals
+
+-- links with such terminals between this point and the other
+pub record IsNewSet (d : Draft) (head : GroupHead) (c : LinkSet) : Type 0 where
+  pub terminals : List Term
+  pub new : AreNew d head terminals
+  pub set : c ≡ new_set OWN_POINT OTHER_POINT terminals
+
+-- the name is the first that the set of processes lacks of those that a terminal wants; want of
+-- memory says nothing
+abbrev pub LacksOne : Draft → OpenError → Type 0
+LacksOne d (NoName name) = IsFirstLacking d name wanted
+LacksOne d NoMemory = Unit {0}
+
+-- P holds of the beginning of a script: links with so many terminals over a set of processes, all
+-- new, with this error correction
+pub record IsOfNewSet (d : Draft) (head : GroupHead) (P : Playing → Type 0) : Type 0 where
+  pub terminals : List Term
+  pub new : AreNew d head terminals
+  pub holds : P (begun (new_set OWN_POINT OTHER_POINT terminals))
+
+-- ---- runs
+
+-- A run: the commands that were obeyed, the lines that they printed, what there is now, and the
+-- line printed last. `expect` prints nothing, and holds where the line before is the one that it
+-- names.
+pub data Goes (first : Playing) :
+    List PlainGroupSaid → List (List ℕ) → Playing → Option (List ℕ) → Type 0 where
+  begins : Goes first [] [] first None
+  prints : {commands : List PlainGroupSaid} {lines : List (List ℕ)} {now : Playing} {last : Option
+      (List ℕ)} (said : PlainGroupSaid)
+      (more : List (List ℕ)) (next : Playing) → Obeys said.command now more next
+      → Goes first commands lines now last
+      → Goes first (commands ++ said ∷ []) (lines ++ more) next (latest last more)
+  holds : {commands : List PlainGroupSaid} {lines : List (List ℕ)} {now : Playing} {text : List ℕ}
+      (said : PlainGroupSaid)
+      → said.command ≡ expected text → Goes first commands lines now (Some text)
+      → Goes first (commands ++ said ∷ []) lines now (Some text)
+
+-- these commands were obeyed, one after another, and what is written grew by their lines, each with
+-- its end
+pub record IsGroupRun (first : Playing) (commands : List PlainGroupSaid) (old new : Option (List ℕ))
+    (now : Playing) (last : Option (List ℕ)) :
+    Type 0 where
+  pub lines : List (List ℕ)
+  pub goes : Goes first commands lines now last
+  pub written : Appends old new (flat_map line_of lines)
+
+abbrev pub playing_of : GroupPlayer → Playing
+playing_of p = at p.group p.retrievals p.on
+
+abbrev pub last_of : GroupPlayer → Option (List ℕ)
+last_of p = last_in p.printer
+
+-- a unit was asked of a link, and its line printed, or `silent`
+pub record HasGone (went : Bool) (l : ℕ) (old new last next : Option (List ℕ)) (c d : LinkSet) :
+    Type 0 where
+  pub unit : Option Unit_out
+  pub some : went ≡ is_some unit
+  pub sent : ByLink (Sent unit) l c d
+  pub printed : HasPrinted old new last next (unit_line unit ∷ [])
+
+-- so many units were asked of a link that is there, and their lines printed
+pub record HasGoneOut (l units : ℕ) (old new last next : Option (List ℕ)) (c d : LinkSet) :
+    Type 0 where
+  pub lines : List (List ℕ)
+  pub out : GoOut l units c lines d
+  pub printed : HasPrinted old new last next lines
+
+-- the same of a link that may not be there
+pub record HasGivenOut (l units : ℕ) (old new last next : Option (List ℕ)) (c d : LinkSet) :
+    Type 0 where
+  pub lines : List (List ℕ)
+  pub out : GivesOut l units c lines d
+  pub printed : HasPrinted old new last next lines
+
+-- the commands were obeyed, whatever there is now, and was printed last
+pub record IsGroupWritten (commands : List PlainGroupSaid) (old new : Option (List ℕ))
+    (first : Playing) : Type 0 where
+  pub now : Playing
+  pub last : Option (List ℕ)
+  pub run : IsGroupRun first commands old new now last
+
+-- an expectation of a link set's script fails
+abbrev pub IsGroupMissedBy :
+    PlainGroupSaid → Option (List ℕ) → Option (List ℕ) → Option (List ℕ) → Type 0
+IsGroupMissedBy said last old new =
+    Misses said.line (λ text. said.command ≡ expected text) last old new
+
+-- the commands up to an expectation were obeyed, and that fails; nothing else is written
+pub record IsGroupMissed (commands : List PlainGroupSaid) (old new : Option (List ℕ))
+    (first : Playing) : Type 0 where
+  pub before : List PlainGroupSaid
+  pub said : PlainGroupSaid
+  pub after : List PlainGroupSaid
+  pub stands : commands ≡ before ++ said ∷ after
+  pub middle : Option (List ℕ)
+  pub now : Playing
+  pub last : Option (List ℕ)
+  pub run : IsGroupRun first before old middle now last
+  pub missed : IsGroupMissedBy said last middle new

@@ -1,0 +1,5 @@
+pub mod GroupAnswers
+pub mod GroupRuns
+pub use Rattle.script_terminal.specs.Lines
+pub use Rattle.script_terminal.specs.Played
+pub use Rattle.script_terminal.specs.TermRuns

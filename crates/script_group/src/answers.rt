@@ -1,0 +1,60 @@
+//! The line that is printed for a command.
+ghost use Rattle.std.specs.Prelude.{IfOk};
+ghost use Rattle.script_links.specs.GroupCommands.{plain_group_command};
+ghost use Rattle.script_group.specs.GroupAnswers.{at, WordAnswers, Answers};
+
+use crate::calls::{fail, hear, rebalance, send, tell, tick};
+use crate::lines::{take_line, take_unit};
+use crate::retrievals::{abandon, divert, retrieve};
+use crate::shown::{held, state, table, unsure, value};
+use link_group::{Group, Retrievals};
+use script_links::{GroupCommand, GroupWord};
+use std::alloc::{AllocError, Global};
+
+/// The line of a command that is one word.
+fn word_answer(
+    alloc: Global,
+    group: &mut Group,
+    retrievals: &mut Retrievals,
+    link: usize,
+    word: GroupWord,
+) -> Result<Vec<u8>, AllocError>
+    ensures { IfOk result (λ v. WordAnswers word (at group.old retrievals.old link) v.items (at group.new retrievals.new link)) }
+{
+    match word {
+        GroupWord::Fail => fail(alloc, group, link),
+        GroupWord::Retrieve => retrieve(alloc, group, retrievals, link),
+        GroupWord::Abandon => abandon(alloc, group, retrievals, link),
+        GroupWord::Divert => divert(alloc, group, retrievals, link),
+        GroupWord::Rebalance => rebalance(alloc, group),
+        GroupWord::Table => table(alloc, group),
+        GroupWord::Held => held(alloc, group, link),
+        GroupWord::Unsure => unsure(alloc, group),
+    }
+}
+
+/// The line that a command prints, but for `out`, `on` and `expect`, for which there is none.
+pub(crate) fn answer(
+    alloc: Global,
+    group: &mut Group,
+    retrievals: &mut Retrievals,
+    link: usize,
+    command: &GroupCommand<'_>,
+) -> Result<Vec<u8>, AllocError>
+    ensures { IfOk result (λ v. Answers (plain_group_command command.now) (at group.old retrievals.old link) v.items (at group.new retrievals.new link)) }
+{
+    match command {
+        GroupCommand::Order(order) => tell(alloc, group, link, *order),
+        GroupCommand::Unit(octets) => take_unit(alloc, group, link, octets),
+        GroupCommand::Line(octets) => take_line(alloc, group, link, octets),
+        GroupCommand::Tick(ticks) => tick(alloc, group, *ticks),
+        GroupCommand::State(process) => state(alloc, group, link, process),
+        GroupCommand::Value(process, variable) => value(alloc, group, link, process, variable),
+        GroupCommand::Send(octets) => send(alloc, group, octets),
+        GroupCommand::Message(octets) => hear(alloc, group, octets),
+        GroupCommand::Own(word) => word_answer(alloc, group, retrievals, link, *word),
+        GroupCommand::Out(_) | GroupCommand::On(_) | GroupCommand::Expect(_) => {
+            Ok(Vec::new(alloc))
+        }
+    }
+}

@@ -1,0 +1,111 @@
+//! Calls of the set that are told or answered by one line.
+ghost use Rattle.std.specs.Prelude.{◌≡◌, IfOk};
+ghost use Rattle.script_terminal.specs.TermAnswers.{command_of, IsRefusedLine};
+ghost use Rattle.script_group.specs.GroupAnswers.{IsTold, Passes, IsSent, Fails, IsHeard, Rebalances, IsBarredLine};
+
+use crate::saying::{done, no_link, octets_law, octets_line, refused};
+use group_changeover::label_of;
+use link_group::{CallError, CommandError, Group};
+use script_links::Order;
+use script_terminal::{command_of, message, refused_line, text_line};
+use std::alloc::{AllocError, Global};
+
+/// The line of a refused order; none where memory is wanting.
+fn barred(alloc: Global, error: CommandError) -> Result<Vec<u8>, AllocError>
+    ensures { IfOk result (λ v. IsBarredLine error v.items) }
+{
+    match error {
+        CommandError::NoLink => no_link(alloc),
+        CommandError::Waiting => Vec::from_slice(alloc, b"refused K2 Waiting"),
+        CommandError::Refused(refusal) => refused_line(alloc, refusal),
+        CommandError::NoMemory => Err(AllocError),
+    }
+}
+
+/// `command W`.
+pub(crate) fn tell(
+    alloc: Global,
+    group: &mut Group,
+    link: usize,
+    order: Order,
+) -> Result<Vec<u8>, AllocError>
+    ensures { IfOk result (λ v. IsTold (command_of order) link group.old v.items group.new) }
+{
+    match group.command(link, command_of(order)) {
+        Ok(()) => done(alloc),
+        Err(error) => barred(alloc, error),
+    }
+}
+
+/// The line of refused ticks; none where memory is wanting.
+fn held_up(alloc: Global, error: CallError) -> Result<Vec<u8>, AllocError>
+    ensures { IfOk result (λ v. IsRefusedLine error v.items) }
+{
+    match error {
+        CallError::Refused(refusal) => refused_line(alloc, refusal),
+        CallError::NoMemory => Err(AllocError),
+    }
+}
+
+/// `tick N`.
+pub(crate) fn tick(alloc: Global, group: &mut Group, ticks: u32) -> Result<Vec<u8>, AllocError>
+    ensures { IfOk result (λ v. Passes ticks group.old v.items group.new) }
+{
+    match group.tick(u64::from(ticks)) {
+        Ok(due) => text_line(alloc, &format_args!("ok due {due}")),
+        Err(error) => held_up(alloc, error),
+    }
+}
+
+/// `send HEX`. Octets that are no message with a label would be told as want of memory, but none comes here: a script with such a line is
+/// refused as it is read.
+pub(crate) fn send(alloc: Global, group: &mut Group, octets: &[u8]) -> Result<Vec<u8>, AllocError>
+    ensures { IfOk result (λ v. IsSent octets.now group.old v.items group.new) }
+{
+    let Some(msu) = message(octets) else {
+        return Err(AllocError);
+    };
+    let Some(label) = label_of(&msu) else {
+        return Err(AllocError);
+    };
+    match group.send(label, msu) {
+        Ok(()) => done(alloc),
+        Err(error) => refused(alloc, &error),
+    }
+}
+
+/// `fail`.
+pub(crate) fn fail(alloc: Global, group: &mut Group, link: usize) -> Result<Vec<u8>, AllocError>
+    ensures { IfOk result (λ v. Fails link group.old v.items group.new) }
+{
+    match group.fail(link) {
+        Ok(sif) => {
+            octets_law(sif.as_slice());
+            octets_line(alloc, sif.as_slice())
+        }
+        Err(error) => refused(alloc, &error),
+    }
+}
+
+/// `message HEX`.
+pub(crate) fn hear(alloc: Global, group: &mut Group, octets: &[u8]) -> Result<Vec<u8>, AllocError>
+    ensures { IfOk result (λ v. IsHeard octets.now group.old v.items group.new) }
+{
+    match group.changeover_message(octets) {
+        Some(sif) => {
+            octets_law(sif.as_slice());
+            octets_line(alloc, sif.as_slice())
+        }
+        None => done(alloc),
+    }
+}
+
+/// `rebalance`.
+pub(crate) fn rebalance(alloc: Global, group: &mut Group) -> Result<Vec<u8>, AllocError>
+    ensures { IfOk result (λ v. Rebalances group.old v.items group.new) }
+{
+    match group.rebalance() {
+        Ok(()) => done(alloc),
+        Err(error) => refused(alloc, &error),
+    }
+}

@@ -1,0 +1,83 @@
+//! What comes in on a link.
+ghost use Rattle.std.specs.Prelude.{◌≡◌, ◌<◌, IfOk, OnOk, length};
+ghost use Rattle.script_group.specs.GroupAnswers.{HasReported, GivesReports, TakesPart, Listens, TakesLine, TakesUnit};
+
+use crate::saying::{done, no_link};
+use link_group::{Group, LinkError};
+use script_terminal::line_of_unit;
+use std::alloc::{AllocError, Global};
+
+/// Takes a report of a link out. Whether there was one.
+fn drop_report(group: &mut Group, link: usize) -> Result<bool, LinkError>
+    ensures { IfOk result (HasReported link group.old group.new) }
+{
+    match group.report(link) {
+        Ok(report) => Ok(report.is_some()),
+        Err(error) => Err(error),
+    }
+}
+
+/// Takes all reports of a link out: a script doesn't print them.
+fn drop_reports(group: &mut Group, link: usize) -> Result<(), LinkError>
+    ensures { OnOk result (GivesReports link group.old group.new) }
+{
+    'reports: loop {
+        if !drop_report(group, link)? {
+            return Ok(());
+        }
+    }
+}
+
+/// Takes part of the octets of the line, and then all reports out. How many were taken. A link that isn't there would be told as want of
+/// memory, as where there is none, but none comes here.
+fn take_part(group: &mut Group, link: usize, octets: &[u8]) -> Result<usize, AllocError>
+    ensures { IfOk result (λ taken. TakesPart link octets.now taken group.old group.new) }
+{
+    let Ok(taken) = group.line_in(link, octets) else {
+        return Err(AllocError);
+    };
+    if taken == 0 || drop_reports(group, link).is_err() {
+        return Err(AllocError);
+    }
+    Ok(taken)
+}
+
+/// Takes octets of the line, all of them.
+fn listen(group: &mut Group, link: usize, octets: &[u8]) -> Result<(), AllocError>
+    ensures { OnOk result (Listens link group.old octets.now group.new) }
+{
+    let mut from = 0;
+    while from < octets.len() {
+        from += take_part(group, link, &octets[from..])?;
+    }
+    Ok(())
+}
+
+/// `line HEX`.
+pub(crate) fn take_line(
+    alloc: Global,
+    group: &mut Group,
+    link: usize,
+    octets: &[u8],
+) -> Result<Vec<u8>, AllocError>
+    ensures { IfOk result (λ v. TakesLine link octets.now group.old v.items group.new) }
+{
+    if link >= group.len() {
+        return no_link(alloc);
+    }
+    listen(group, link, octets)?;
+    done(alloc)
+}
+
+/// `unit HEX`.
+pub(crate) fn take_unit(
+    alloc: Global,
+    group: &mut Group,
+    link: usize,
+    octets: &[u8],
+) -> Result<Vec<u8>, AllocError>
+    ensures { IfOk result (λ v. TakesUnit link octets.now group.old v.items group.new) }
+{
+    let line = line_of_unit(alloc, octets)?;
+    take_line(alloc, group, link, &line)
+}

@@ -1,0 +1,70 @@
+//! The set in which a script begins.
+ghost use Rattle.std.specs.Prelude.{◌≡◌, ◌++◌, ◌∷◌, [], IfOk, IfErr, OnOk};
+ghost use Rattle.script_terminal.specs.Opening.{IsOver};
+ghost use Rattle.script_terminal.specs.Term.{Term};
+ghost use Rattle.script_links.specs.GroupScripts.{IsFew};
+ghost use Rattle.script_group.specs.GroupRuns.{AreNew, IsNewSet, LacksOne};
+
+use link_group::{Group, Mode, Terminal};
+use script_links::GroupHead;
+use script_terminal::OpenError;
+use std::alloc::Global;
+use turn_check::Verified;
+
+/// This end's point code, and the other end's.
+const OWN_POINT: u16 = 1;
+
+const OTHER_POINT: u16 = 2;
+
+/// One terminal more over a set of processes.
+fn push_terminal(
+    alloc: Global,
+    set: &Verified,
+    mode: Mode,
+    terminals: &mut Vec<Terminal>,
+) -> Result<(), OpenError>
+    ensures ok { OnOk result ((t : Term) × IsOver set.now mode t × (terminals.new.items ≡ terminals.old.items ++ t ∷ [])) }
+    ensures err { IfErr result (LacksOne set.now) }
+{
+    if terminals.reserve(1).is_err() {
+        return Err(OpenError::NoMemory);
+    }
+    match Terminal::of_set(alloc, mode, set) {
+        Ok(terminal) => {
+            terminals.push_reserved(terminal);
+            Ok(())
+        }
+        Err(error) => Err(error),
+    }
+}
+
+/// So many.
+fn terminals(alloc: Global, set: &Verified, head: GroupHead) -> Result<Vec<Terminal>, OpenError>
+    ensures ok { IfOk result (λ v. AreNew set.now head v.items) }
+    ensures err { IfErr result (LacksOne set.now) }
+{
+    let mut terminals = Vec::new(alloc);
+    for made in 0..head.links {
+        match push_terminal(alloc, set, head.mode, &mut terminals) {
+            Ok(()) => {}
+            Err(error) => return Err(error),
+        }
+    }
+    Ok(terminals)
+}
+
+/// Links with so many new terminals over a set of processes, between this point and the other.
+pub(crate) fn open_set(alloc: Global, set: &Verified, head: GroupHead) -> Result<Group, OpenError>
+    requires { IsFew head.links }
+    ensures ok { IfOk result (IsNewSet set.now head) }
+    ensures err { IfErr result (LacksOne set.now) }
+{
+    let terminals = match terminals(alloc, set, head) {
+        Ok(terminals) => terminals,
+        Err(error) => return Err(error),
+    };
+    match Group::new(alloc, OWN_POINT, OTHER_POINT, terminals) {
+        Ok(group) => Ok(group),
+        Err(_) => Err(OpenError::NoMemory),
+    }
+}

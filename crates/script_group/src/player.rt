@@ -1,0 +1,101 @@
+//! A link set's script as it runs.
+ghost use Rattle.std.specs.Prelude.{◌≡◌, ◌⊎◌, ◌++◌, ◌∷◌, [], List, ℕ, Option, map, IfOk, true, false};
+ghost use Rattle.script_links.specs.GroupScripts.{PlainGroupSaid, plain_group_said};
+ghost use Rattle.script_group.specs.GroupAnswers.{Playing};
+ghost use Rattle.script_group.specs.GroupRuns.{playing_of, last_of, IsGroupRun, IsGroupMissed, IsGroupMissedBy};
+
+use crate::answers::answer;
+use crate::outputs::give_out;
+use link_group::{Group, Retrievals};
+use script_links::{GroupCommand, GroupSaid};
+use script_terminal::{HELD, MISSED, Printer, write_line};
+use std::alloc::Global;
+use std::io::{self, Write};
+
+/// A set, the retrieved messages, the link that lines speak of, and what is printed for it.
+pub struct GroupPlayer {
+    pub group: Group,
+    pub retrievals: Retrievals,
+    pub on: usize,
+    pub printer: Printer,
+}
+
+impl GroupPlayer {
+    /// Does what a command says. Whether the run goes on.
+    fn obey<W: Write>(
+        &mut self,
+        alloc: Global,
+        said: &GroupSaid<'_>,
+        writer: &mut W,
+    ) -> io::Result<bool>
+        ensures goes { IfOk result (λ on. on ≡ true → (p : Playing) (before : List PlainGroupSaid) (first : Option (List ℕ))
+            → IsGroupRun p before first (W.contents writer.old) (playing_of self.old) (last_of self.old)
+            → IsGroupRun p (before ++ plain_group_said said.now ∷ []) first (W.contents writer.new) (playing_of self.new) (last_of self.new)) }
+        ensures missed { IfOk result (λ on. on ≡ false
+            → IsGroupMissedBy (plain_group_said said.now) (last_of self.old) (W.contents writer.old) (W.contents writer.new)) }
+    {
+        match &said.command {
+            GroupCommand::Expect(text) => {
+                if self.printer.has_printed(text) {
+                    return Ok(true);
+                }
+                let line = said.line;
+                write_line(alloc, writer, &format_args!("failed line {line}"))?;
+                Ok(false)
+            }
+            GroupCommand::On(link) => {
+                self.on = *link as usize;
+                Ok(true)
+            }
+            GroupCommand::Out(units) => {
+                give_out(
+                    alloc,
+                    &mut self.group,
+                    self.on,
+                    *units,
+                    &mut self.printer,
+                    writer,
+                )?;
+                Ok(true)
+            }
+            command => {
+                let line = answer(
+                    alloc,
+                    &mut self.group,
+                    &mut self.retrievals,
+                    self.on,
+                    command,
+                )?;
+                self.printer.print(line, writer)?;
+                Ok(true)
+            }
+        }
+    }
+
+    /// Does what the commands say, in order, up to an expectation that fails. Gives the exit status, 0 or 1 where one failed.
+    ///
+    /// # Errors
+    ///
+    /// Where a write fails, or memory is wanting.
+    pub(crate) fn run<W: Write>(
+        &mut self,
+        alloc: Global,
+        commands: &[GroupSaid<'_>],
+        writer: &mut W,
+    ) -> io::Result<u8>
+        ensures held { IfOk result (λ status. status ≡ 0 → (p : Playing) (before : List PlainGroupSaid) (first : Option (List ℕ))
+            → IsGroupRun p before first (W.contents writer.old) (playing_of self.old) (last_of self.old)
+            → IsGroupRun p (before ++ map plain_group_said commands.now) first (W.contents writer.new) (playing_of self.new) (last_of self.new)) }
+        ensures missed { IfOk result (λ status. status ≡ 1 → (p : Playing) (before : List PlainGroupSaid) (first : Option (List ℕ))
+            → IsGroupRun p before first (W.contents writer.old) (playing_of self.old) (last_of self.old)
+            → IsGroupMissed (before ++ map plain_group_said commands.now) first (W.contents writer.new) p) }
+        ensures status { IfOk result (λ status. (status ≡ 0) ⊎ (status ≡ 1)) }
+    {
+        for said in commands {
+            if !self.obey(alloc, said, writer)? {
+                return Ok(MISSED);
+            }
+        }
+        Ok(HELD)
+    }
+}

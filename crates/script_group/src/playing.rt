@@ -1,0 +1,106 @@
+//! Whole scripts of link sets.
+ghost use Rattle.std.specs.Prelude.{◌≡◌, ◌⊎◌, ◌++◌, [], List, ℕ, Option, map};
+ghost use Rattle.script_links.specs.GroupScripts.{PlainGroupSaid, plain_group_said, IsFew};
+ghost use Rattle.script_terminal.specs.TermRuns.{LacksName};
+ghost use Rattle.script_group.specs.GroupAnswers.{Playing};
+ghost use Rattle.script_group.specs.GroupRuns.{begun, playing_of, last_of, IsGroupRun, IsGroupWritten, IsGroupMissed, IsOfNewSet};
+
+use crate::opening::open_set;
+use crate::player::GroupPlayer;
+use link_group::{Group, Retrievals};
+use script_links::{GroupSaid, GroupScript};
+use script_terminal::{FAILED, Printer, refuse_set};
+use std::alloc::Global;
+use std::io::Write;
+use turn_check::Verified;
+
+/// Does what commands say, in order, up to an expectation that fails. Gives the exit status, 4 where memory or a write fails.
+fn run_all<W: Write>(
+    alloc: Global,
+    player: &mut GroupPlayer,
+    commands: &[GroupSaid<'_>],
+    writer: &mut W,
+) -> u8
+    ensures held { result ≡ 0 → (p : Playing) (before : List PlainGroupSaid) (first : Option (List ℕ))
+        → IsGroupRun p before first (W.contents writer.old) (playing_of player.old) (last_of player.old)
+        → IsGroupRun p (before ++ map plain_group_said commands.now) first (W.contents writer.new) (playing_of player.new) (last_of player.new) }
+    ensures missed { result ≡ 1 → (p : Playing) (before : List PlainGroupSaid) (first : Option (List ℕ))
+        → IsGroupRun p before first (W.contents writer.old) (playing_of player.old) (last_of player.old)
+        → IsGroupMissed (before ++ map plain_group_said commands.now) first (W.contents writer.new) p }
+    ensures status { (result ≡ 0) ⊎ (result ≡ 1) ⊎ (result ≡ 4) }
+{
+    match player.run(alloc, commands, writer) {
+        Ok(status) => status,
+        Err(_) => FAILED,
+    }
+}
+
+/// Runs commands on a set, and ends it, with the retrievals that are still out. Gives the exit status.
+fn play_set<W: Write>(
+    alloc: Global,
+    group: Group,
+    retrievals: Retrievals,
+    commands: &[GroupSaid<'_>],
+    writer: &mut W,
+) -> u8
+    requires { retrievals.kept.items ≡ [] }
+    ensures held { result ≡ 0 → IsGroupWritten (map plain_group_said commands.now) (W.contents writer.old) (W.contents writer.new) (begun group) }
+    ensures missed { result ≡ 1 → IsGroupMissed (map plain_group_said commands.now) (W.contents writer.old) (W.contents writer.new) (begun group) }
+    ensures status { (result ≡ 0) ⊎ (result ≡ 1) ⊎ (result ≡ 4) }
+{
+    let printer = Printer { last: None };
+    let mut player = GroupPlayer {
+        group,
+        retrievals,
+        on: 0,
+        printer,
+    };
+    let status = run_all(alloc, &mut player, commands, writer);
+    let GroupPlayer {
+        group,
+        retrievals,
+        on: _,
+        printer: _printer,
+    } = player;
+    let _ended = group.end(retrievals);
+    status
+}
+
+/// Runs commands on a new set, with no retrieval out. Gives the exit status.
+fn play_new<W: Write>(alloc: Global, group: Group, commands: &[GroupSaid<'_>], writer: &mut W) -> u8
+    ensures held { result ≡ 0 → IsGroupWritten (map plain_group_said commands.now) (W.contents writer.old) (W.contents writer.new) (begun group) }
+    ensures missed { result ≡ 1 → IsGroupMissed (map plain_group_said commands.now) (W.contents writer.old) (W.contents writer.new) (begun group) }
+    ensures status { (result ≡ 0) ⊎ (result ≡ 1) ⊎ (result ≡ 4) }
+{
+    match Retrievals::new(alloc) {
+        Ok(retrievals) => play_set(alloc, group, retrievals, commands, writer),
+        Err(_) => FAILED,
+    }
+}
+
+/// Runs a link set's script on links with terminals over a set of processes, and prints what each command but `on` and `expect` gives: one
+/// line, but for `out`, which prints one for each unit. There are as many new terminals as the script's first line says, with its error
+/// correction; this end's point code is 1, the other end's 2. At every end the set ends, with the messages that are not diverted yet.
+///
+/// Gives the exit status: 0 where each command ran and its lines were written, 1 after `failed line N` where an expectation failed, 2 after
+/// `refused X2 NoName NAME` alone where the set lacks a name that a terminal speaks to or hears, 4 where memory or a write fails. Nothing is
+/// written after a write that failed.
+pub fn play_group<W: Write>(
+    alloc: Global,
+    set: &Verified,
+    script: &GroupScript<'_>,
+    writer: &mut W,
+) -> u8
+    requires { IsFew script.now.head.links }
+    ensures held { result ≡ 0
+        → IsOfNewSet set.now script.now.head (IsGroupWritten (map plain_group_said script.now.commands.items) (W.contents writer.old) (W.contents writer.new)) }
+    ensures missed { result ≡ 1
+        → IsOfNewSet set.now script.now.head (IsGroupMissed (map plain_group_said script.now.commands.items) (W.contents writer.old) (W.contents writer.new)) }
+    ensures refused { result ≡ 2 → LacksName set.now (W.contents writer.old) (W.contents writer.new) }
+    ensures status { (result ≡ 0) ⊎ (result ≡ 1) ⊎ (result ≡ 2) ⊎ (result ≡ 4) }
+{
+    match open_set(alloc, set, script.head) {
+        Ok(group) => play_new(alloc, group, &script.commands, writer),
+        Err(error) => refuse_set(alloc, writer, error),
+    }
+}

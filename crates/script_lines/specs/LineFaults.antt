@@ -1,0 +1,26 @@
+-- What is told of a line that is none of a script.
+use Rattle.std.specs.Prelude.{◌≡◌, ◌⊎◌, ◌<◌, ◌+◌, ℕ, List, length, Option, None, Some}
+use Rattle.script_lines.specs.Commands.{verb_of}
+use Rattle.script_lines.specs.Numbers.{count_of, value_of}
+use Rattle.script_lines.specs.declared.line_faults.LineFault.{LineFault}
+use Rattle.script_lines.specs.declared.line_faults.LineFault.TheVariants.{NoCommand, Late, Words}
+use Rattle.script_lines.specs.declared.line_faults.LineFault.TheVariants.{NoNumber, NoValue}
+
+-- a word that begins no command of a book script
+abbrev pub IsNoVerb : List ℕ → Type 0
+IsNoVerb word = verb_of word ≡ None
+
+-- a number of a word that isn't there, or isn't between two others
+abbrev pub IsOutside : ℕ → ℕ → Option ℕ → Type 0
+IsOutside least most None = Unit {0}
+IsOutside least most (Some n) = (n < least) ⊎ (most < n)
+
+-- Such a fault of the words of a line is so; P is what it is to begin no command. Of `Late` nothing
+-- is said.
+abbrev pub IsSo : (List ℕ → Type 0) → List (List ℕ) → LineFault → Type 0
+IsSo P words (NoCommand word script) = P word.now
+IsSo P words (Late word) = Unit {0}
+IsSo P words (Words word least most there) =
+    (length words ≡ there + 1) × ((there < least) ⊎ (most < there))
+IsSo P words (NoNumber word least most) = IsOutside least most (count_of word.now)
+IsSo P words (NoValue word) = value_of word.now ≡ None

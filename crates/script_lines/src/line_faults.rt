@@ -1,0 +1,190 @@
+//! Why a line is none of a script, for a person to read.
+ghost use Rattle.std.specs.Prelude.{◌≤◌, ◌∷◌, ℕ, List, IfSome, IsNone, length};
+ghost use Rattle.script_lines.specs.Lines.{texts};
+ghost use Rattle.script_lines.specs.LineFaults.{IsSo, IsNoVerb};
+
+use crate::numbers::{count, value};
+use crate::settings::setting_in;
+use crate::verbs::{Verb, verb_in};
+use std::fmt;
+
+/// How many words are as many as there may be.
+pub const MANY: usize = 1_000_000;
+
+/// The greatest count.
+const MOST: u32 = 2_147_483_647;
+
+/// Why the words of a line are none of a script's.
+#[derive(Clone, Copy, PartialEq, Eq, Debug)]
+pub enum LineFault<'a> {
+    /// The first word begins no line of such a script.
+    NoCommand {
+        word: &'a str,
+        script: &'static str,
+    },
+    /// It is a first line, and stands behind another one.
+    Late {
+        word: &'a str,
+    },
+    /// Behind the first word stand fewer words than `least`, or more than `most`.
+    Words {
+        word: &'a str,
+        least: usize,
+        most: usize,
+        there: usize,
+    },
+    /// The word is no count from `least` to `most`.
+    NoNumber {
+        word: &'a str,
+        least: u32,
+        most: u32,
+    },
+    /// The word is no value.
+    NoValue {
+        word: &'a str,
+    },
+}
+
+impl fmt::Display for LineFault<'_> {
+    fn fmt<W: fmt::Write>(&self, f: &mut fmt::Formatter<W>) -> fmt::Result {
+        match self {
+            Self::NoCommand { word, script } => write!(f, "unknown command '{word}' in {script}"),
+            Self::Late { word } => write!(f, "'{word}' belongs to the first lines"),
+            Self::Words {
+                word,
+                least,
+                most,
+                there,
+            } => {
+                let more = if least == most { "" } else { " or more" };
+                let words = if *least == 1 { "word" } else { "words" };
+                write!(
+                    f,
+                    "'{word}' wants {least} {words}{more} behind it, and has {there}",
+                )
+            }
+            Self::NoNumber { word, least, most } => {
+                write!(f, "'{word}' is no number from {least} to {most}")
+            }
+            Self::NoValue { word } => write!(
+                f,
+                "'{word}' is no value: true, false, or a number from -2147483648 to 2147483647",
+            ),
+        }
+    }
+}
+
+/// Why there is another number of words than this behind the first one.
+pub fn words_fault<'a>(
+    word: &'a str,
+    more: &[&'a str],
+    least: usize,
+    most: usize,
+) -> Option<LineFault<'a>>
+    ensures so { (P : List ℕ → Type 0) → IfSome result (IsSo P (word.now ∷ texts more.now)) }
+    ensures least { IsNone result → least ≤ length more.now }
+    ensures most { IsNone result → length more.now ≤ most }
+{
+    let there = more.len();
+    if there < least || most < there {
+        return Some(LineFault::Words {
+            word,
+            least,
+            most,
+            there,
+        });
+    }
+    None
+}
+
+/// Why a word is no count from one number to another.
+pub fn number_fault<'a>(word: &'a str, least: u32, most: u32) -> Option<LineFault<'a>>
+    ensures { (P : List ℕ → Type 0) → (words : List (List ℕ)) → IfSome result (IsSo P words) }
+{
+    match count(word) {
+        Some(number) if least <= number && number <= most => None,
+        _ => Some(LineFault::NoNumber { word, least, most }),
+    }
+}
+
+/// Why one of the words is no value: of several the first.
+fn value_fault<'a>(words: &[&'a str]) -> Option<LineFault<'a>>
+    ensures { (P : List ℕ → Type 0) → (line : List (List ℕ)) → IfSome result (IsSo P line) }
+{
+    for word in words {
+        if value(word).is_none() {
+            return Some(LineFault::NoValue { word });
+        }
+    }
+    None
+}
+
+/// Why the words behind a verb are none of its, where it is told.
+pub fn verb_fault<'a>(verb: Verb, word: &'a str, more: &[&'a str]) -> Option<LineFault<'a>>
+    ensures { (P : List ℕ → Type 0) → IfSome result (IsSo P (word.now ∷ texts more.now)) }
+{
+    let (least, most) = match verb {
+        Verb::Offer => (2, MANY),
+        Verb::Flood => (3, MANY),
+        Verb::Call(_) | Verb::Tick => (1, 1),
+        Verb::Env | Verb::Rest => (0, 0),
+        Verb::Value => (2, 2),
+        Verb::Expect => (1, MANY),
+    };
+    if let Some(fault) = words_fault(word, more, least, most) {
+        return Some(fault);
+    }
+    match (verb, more) {
+        (Verb::Offer, [_, _, values @ ..]) => value_fault(values),
+        (Verb::Flood, [number, _, _, values @ ..]) => match number_fault(number, 0, MOST) {
+            Some(fault) => Some(fault),
+            None => value_fault(values),
+        },
+        (Verb::Tick, [number]) => number_fault(number, 0, MOST),
+        _ => None,
+    }
+}
+
+/// The least and the greatest number that a first line with this word sets.
+fn range_of(word: &str) -> Option<(u32, u32)> {
+    match word {
+        "ports" => Some((1, 64)),
+        "env" => Some((1, 1024)),
+        "journal" => Some((16, 65536)),
+        _ => None,
+    }
+}
+
+/// Why a line that begins with this word sets no number.
+fn setting_fault<'a>(word: &'a str, more: &[&'a str]) -> Option<LineFault<'a>>
+    ensures { (P : List ℕ → Type 0) → IfSome result (IsSo P (word.now ∷ texts more.now)) }
+{
+    let (least, most) = range_of(word)?;
+    match more {
+        [number] => number_fault(number, least, most),
+        _ => words_fault(word, more, 1, 1),
+    }
+}
+
+/// Why the words of a line are no line of a book script, where it is told: of two reasons the first.
+pub fn book_line_fault<'a>(words: &[&'a str]) -> Option<LineFault<'a>>
+    ensures { IfSome result (IsSo IsNoVerb (texts words.now)) }
+{
+    let [word, more @ ..] = words else {
+        return None;
+    };
+    if setting_in(words).is_some() {
+        return Some(LineFault::Late { word });
+    }
+    match verb_in(word) {
+        Some(Verb::Env) if !more.is_empty() => setting_fault(word, more),
+        Some(verb) => verb_fault(verb, word, more),
+        None => match range_of(word) {
+            Some(_) => setting_fault(word, more),
+            None => Some(LineFault::NoCommand {
+                word,
+                script: "a script of processes",
+            }),
+        },
+    }
+}

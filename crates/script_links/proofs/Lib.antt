@@ -1,0 +1,2 @@
+mod GroupReadings
+mod Readings

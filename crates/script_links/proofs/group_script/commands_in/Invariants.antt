@@ -1,0 +1,13 @@
+-- The commands so far, and the lines to come.
+use Rattle.std.proofs.Common.{◌≡◌, ◌++◌, drop, map}
+use Rattle.std.specs.Prelude.{find}
+use Rattle.std.specs.List.{filter_map}
+use Rattle.script_lines.specs.Lines.{plain_line}
+use Rattle.script_links.specs.GroupScripts.{plain_group_said, is_bad_group, group_said_of}
+use Rattle.script_links.proofs.group_script.commands_in.Given as goal
+
+abbrev pub invariant-loop-line : goal.invariant-loop-line
+invariant-loop-line l = record {
+  bad : find is_bad_group (map plain_line (drop l.line-index l.lines)) ≡ find is_bad_group (map plain_line l.lines);
+  commands : map plain_group_said l.commands.items ++ filter_map group_said_of (map plain_line (drop l.line-index l.lines)) ≡ filter_map group_said_of (map plain_line l.lines);
+}

@@ -1,0 +1,46 @@
+use Rattle.std.proofs.Common.{◌≡◌, ℕ, List, None, refl}
+use Rattle.std.specs.Prelude.{◌≢◌, codes}
+use Rattle.script_links.specs.TermCommands.{term_verb_of}
+use Rattle.script_lines.proofs.NumberLemmas.{bytes_ne}
+use Rattle.script_links.proofs.verbs.term_verb_in.Goals as goal
+
+pub returns-in-command : goal.returns-in-command
+unfolding term_verb_of
+returns-in-command c = rw c.in-command.is refl
+
+pub returns-in-unit : goal.returns-in-unit
+unfolding term_verb_of
+returns-in-unit c = rw c.in-unit.is refl
+
+pub returns-in-line : goal.returns-in-line
+unfolding term_verb_of
+returns-in-line c = rw c.in-line.is refl
+
+pub returns-in-msu : goal.returns-in-msu
+unfolding term_verb_of
+returns-in-msu c = rw c.in-msu.is refl
+
+pub returns-in-out : goal.returns-in-out
+unfolding term_verb_of
+returns-in-out c = rw c.in-out.is refl
+
+-- a word that is none of these
+no_verb : (word : List ℕ)
+    → word ≢ codes "command"
+    → word ≢ codes "unit"
+    → word ≢ codes "line"
+    → word ≢ codes "msu"
+    → word ≢ codes "out"
+    → None ≡ term_verb_of word
+unfolding term_verb_of
+no_verb word n_command n_unit n_line n_msu n_out =
+    rw (
+      bytes_ne word (codes "command") n_command,
+      bytes_ne word (codes "unit") n_unit,
+      bytes_ne word (codes "line") n_line,
+      bytes_ne word (codes "msu") n_msu,
+      bytes_ne word (codes "out") n_out,
+    ) refl
+
+pub returns-in_default : goal.returns-in_default
+returns-in_default c = no_verb c.args.word.now c.in_default.not-command c.in_default.not-unit c.in_default.not-line c.in_default.not-msu c.in_default.not-out

@@ -1,0 +1,8 @@
+pub mod GroupCommands
+pub mod GroupScripts
+pub mod Heads
+pub mod Octets
+pub mod Orders
+pub mod PlayFaults
+pub mod TermCommands
+pub mod TermScripts

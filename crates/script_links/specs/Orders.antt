@@ -1,0 +1,43 @@
+-- What single words tell a terminal.
+use Rattle.std.specs.Prelude.{ℕ, if◌then◌else◌, List, [], ◌∷◌, Option, None, Some, codes}
+use Rattle.std.specs.Str.{bytes_eq}
+use Rattle.resend_store.specs.declared.messages.Mode.{Mode}
+use Rattle.resend_store.specs.declared.messages.Mode.TheVariants.{Basic, Cyclic}
+use Rattle.script_links.specs.declared.orders.Order.{Order}
+use Rattle.script_links.specs.declared.orders.Order.TheVariants.{Power, Start, Stop, Emergency}
+use Rattle.script_links.specs.declared.orders.Order.TheVariants.{Calm, Outage, Back, Busy, Free}
+
+abbrev pub order_text : Order → List ℕ
+order_text Power = codes "power"
+order_text Start = codes "start"
+order_text Stop = codes "stop"
+order_text Emergency = codes "emergency"
+order_text Calm = codes "calm"
+order_text Outage = codes "outage"
+order_text Back = codes "back"
+order_text Busy = codes "busy"
+order_text Free = codes "free"
+
+-- the first of these that has the text
+abbrev pub order_among : List ℕ → List Order → Option Order
+order_among word [] = None
+order_among word (order ∷ more) =
+    if bytes_eq word (order_text order) then Some order else order_among word more
+
+unfoldable pub order_of : List ℕ → Option Order
+order_of word =
+    order_among word (Power ∷ Start ∷ Stop ∷ Emergency ∷ Calm ∷ Outage ∷ Back ∷ Busy ∷ Free ∷ [])
+
+-- the kinds of error correction (Q.703, 1.4)
+abbrev pub mode_named : List ℕ → Option Mode
+mode_named word =
+    if bytes_eq word (codes "basic") then Some Basic
+    else (if bytes_eq word (codes "cyclic") then Some Cyclic else None)
+
+-- the first line of a terminal's script: `terminal`, and the kind
+abbrev pub mode_by : List ℕ → List ℕ → Option Mode
+mode_by word mode = if bytes_eq word (codes "terminal") then mode_named mode else None
+
+abbrev pub mode_of : List (List ℕ) → Option Mode
+mode_of (word ∷ mode ∷ []) = mode_by word mode
+mode_of _ = None

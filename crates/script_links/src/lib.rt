@@ -1,0 +1,24 @@
+//! The lines of terminals' and link sets' scripts.
+#![tactic(auto)]
+
+mod commands;
+mod group_commands;
+mod group_script;
+mod heads;
+mod octets;
+mod orders;
+mod play_faults;
+mod script;
+mod verbs;
+mod words;
+
+pub use commands::{TermCommand, term_command_in};
+pub use group_commands::GroupCommand;
+pub use group_script::{GroupSaid, GroupScript, PlayScript, play_script_in};
+pub use heads::GroupHead;
+pub use octets::octets_in;
+pub use orders::{Order, mode_in, mode_named, order_in};
+pub use play_faults::play_fault;
+pub use script::{AnyScript, TermSaid, TermScript, any_script};
+pub use verbs::{TermVerb, term_verb_in};
+pub use words::GroupWord;

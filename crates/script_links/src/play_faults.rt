@@ -1,0 +1,368 @@
+//! Why a line is none of a script that `play` runs, for a person to read.
+ghost use Rattle.std.specs.Prelude.{◌∷◌, ℕ, List, IfOk, IfSome};
+ghost use Rattle.script_lines.specs.Lines.{texts};
+ghost use Rattle.script_lines.specs.LineFaults.{IsNoVerb, IsSo};
+ghost use Rattle.script_links.specs.PlayFaults.{shared_verb, IsNoSharedWord, IsNoTermWord, IsPlaySo, IsFaultIn, IsFaultAt};
+
+use crate::heads::head_in;
+use crate::octets::octets_in;
+use crate::orders::{mode_in, mode_named, order_in};
+use crate::verbs::{TermVerb, term_verb_in};
+use crate::words::{GroupVerb, group_verb_in, group_word_in};
+use script_lines::{
+    Call, LineFault, MANY, Verb, book_line_fault, lines_in, number_fault, verb_fault, verb_in,
+    words_fault,
+};
+use std::alloc::{AllocError, Global};
+use std::fmt;
+
+/// The greatest count.
+const MOST: u32 = 2_147_483_647;
+
+/// Why the words of a line are none of a script's.
+#[derive(Clone, Copy, PartialEq, Eq, Debug)]
+pub enum PlayFault<'a> {
+    /// A reason that scripts of all kinds have.
+    Line(LineFault<'a>),
+    /// The word isn't made of pairs of hexadecimal digits.
+    NoOctets {
+        word: &'a str,
+    },
+    /// Behind the first word stand fewer octets than `least`, or more than `most`.
+    Octets {
+        word: &'a str,
+        least: usize,
+        most: usize,
+        there: usize,
+    },
+    /// The length indicator of a unit says this number, and so many octets follow it.
+    Indicator {
+        says: u8,
+        there: usize,
+    },
+    /// The word tells a terminal nothing.
+    NoOrder {
+        word: &'a str,
+    },
+    /// The word is no kind of error correction.
+    NoMode {
+        word: &'a str,
+    },
+}
+
+impl fmt::Display for PlayFault<'_> {
+    fn fmt<W: fmt::Write>(&self, f: &mut fmt::Formatter<W>) -> fmt::Result {
+        match self {
+            Self::Line(fault) => fmt::Display::fmt(fault, f),
+            Self::NoOctets { word } => {
+                write!(f, "'{word}' isn't made of pairs of hexadecimal digits")
+            }
+            Self::Octets {
+                word,
+                least,
+                most,
+                there,
+            } => write!(
+                f,
+                "'{word}' wants {least} to {most} octets, and has {there}"
+            ),
+            Self::Indicator { says, there } => write!(
+                f,
+                "the length indicator says {says}, and {there} octets follow it",
+            ),
+            Self::NoOrder { word } => write!(
+                f,
+                "'{word}' is none of power, start, stop, emergency, calm, outage, back, busy and free",
+            ),
+            Self::NoMode { word } => write!(f, "'{word}' is neither basic nor cyclic"),
+        }
+    }
+}
+
+/// A reason that scripts of all kinds have.
+fn of_line<'a>(fault: Option<LineFault<'a>>) -> Option<PlayFault<'a>>
+    ensures { (P : List ℕ → Type 0) → (words : List (List ℕ)) → IfSome fault.entry (IsSo P words) → IfSome result (IsPlaySo P words) }
+{
+    match fault {
+        Some(fault) => Some(PlayFault::Line(fault)),
+        None => None,
+    }
+}
+
+/// Why a word isn't so many octets in hexadecimal digits.
+fn octets_fault<'a>(
+    alloc: Global,
+    word: &'a str,
+    hex: &'a str,
+    least: usize,
+    most: usize,
+) -> Result<Option<PlayFault<'a>>, AllocError>
+    ensures { (P : List ℕ → Type 0) → (words : List (List ℕ)) → IfOk result (λ r. IfSome r (IsPlaySo P words)) }
+{
+    let Some(octets) = octets_in(alloc, hex)? else {
+        return Ok(Some(PlayFault::NoOctets { word: hex }));
+    };
+    let there = octets.len();
+    if least <= there && there <= most {
+        return Ok(None);
+    }
+    Ok(Some(PlayFault::Octets {
+        word,
+        least,
+        most,
+        there,
+    }))
+}
+
+/// Why the length indicator of a unit without its check octets is wrong.
+fn indicator_fault<'a>(octets: &[u8]) -> Option<PlayFault<'a>>
+    ensures { (P : List ℕ → Type 0) → (words : List (List ℕ)) → IfSome result (IsPlaySo P words) }
+{
+    match octets {
+        [_, _, third, more @ ..] => {
+            let says = third % 64;
+            let there = more.len();
+            if usize::from(says) == there.min(63) {
+                return None;
+            }
+            Some(PlayFault::Indicator { says, there })
+        }
+        _ => None,
+    }
+}
+
+/// Why a word is no unit without its check octets.
+fn unit_fault<'a>(
+    alloc: Global,
+    word: &'a str,
+    hex: &'a str,
+) -> Result<Option<PlayFault<'a>>, AllocError>
+    ensures { (P : List ℕ → Type 0) → (words : List (List ℕ)) → IfOk result (λ r. IfSome r (IsPlaySo P words)) }
+{
+    if let Some(fault) = octets_fault(alloc, word, hex, 3, 276)? {
+        return Ok(Some(fault));
+    }
+    match octets_in(alloc, hex)? {
+        Some(octets) => Ok(indicator_fault(&octets)),
+        None => Ok(None),
+    }
+}
+
+/// Why a word is no order.
+fn order_fault<'a>(word: &'a str) -> Option<PlayFault<'a>>
+    ensures { (P : List ℕ → Type 0) → (words : List (List ℕ)) → IfSome result (IsPlaySo P words) }
+{
+    match order_in(word) {
+        Some(_) => None,
+        None => Some(PlayFault::NoOrder { word }),
+    }
+}
+
+/// Why a word is no kind of error correction.
+fn mode_fault<'a>(word: &'a str) -> Option<PlayFault<'a>>
+    ensures { (P : List ℕ → Type 0) → (words : List (List ℕ)) → IfSome result (IsPlaySo P words) }
+{
+    match mode_named(word) {
+        Some(_) => None,
+        None => Some(PlayFault::NoMode { word }),
+    }
+}
+
+/// Why the word behind a terminal's verb is none of its.
+fn behind_term_verb<'a>(
+    alloc: Global,
+    verb: TermVerb,
+    word: &'a str,
+    next: &'a str,
+) -> Result<Option<PlayFault<'a>>, AllocError>
+    ensures { (P : List ℕ → Type 0) → (words : List (List ℕ)) → IfOk result (λ r. IfSome r (IsPlaySo P words)) }
+{
+    match verb {
+        TermVerb::Order => Ok(order_fault(next)),
+        TermVerb::Unit => unit_fault(alloc, word, next),
+        TermVerb::Line => octets_fault(alloc, word, next, 0, MANY),
+        TermVerb::Msu => octets_fault(alloc, word, next, 3, 273),
+        TermVerb::Out => Ok(of_line(number_fault(next, 0, MOST))),
+    }
+}
+
+/// Why the word behind a link set's verb is none of its.
+fn behind_group_verb<'a>(
+    alloc: Global,
+    verb: GroupVerb,
+    word: &'a str,
+    next: &'a str,
+) -> Result<Option<PlayFault<'a>>, AllocError>
+    ensures { (P : List ℕ → Type 0) → (words : List (List ℕ)) → IfOk result (λ r. IfSome r (IsPlaySo P words)) }
+{
+    match verb {
+        GroupVerb::On => Ok(of_line(number_fault(next, 0, MOST))),
+        GroupVerb::Send => octets_fault(alloc, word, next, 5, 273),
+        GroupVerb::Message => octets_fault(alloc, word, next, 0, MANY),
+    }
+}
+
+/// The verb of a book script that a word is, where a terminal's script has it too.
+fn shared_verb(word: &str) -> Option<Verb>
+    ensures { result ≡ shared_verb word.now }
+{
+    match verb_in(word) {
+        Some(Verb::Tick) => Some(Verb::Tick),
+        Some(Verb::Call(Call::State)) => Some(Verb::Call(Call::State)),
+        Some(Verb::Value) => Some(Verb::Value),
+        Some(Verb::Expect) => Some(Verb::Expect),
+        _ => None,
+    }
+}
+
+/// Why the words of a line are none of a terminal's script; `script` is what a script of this kind is called.
+fn term_fault<'a>(
+    alloc: Global,
+    word: &'a str,
+    more: &[&'a str],
+    script: &'static str,
+) -> Result<Option<PlayFault<'a>>, AllocError>
+    ensures { IfOk result (λ r. IfSome r (IsPlaySo IsNoTermWord (word.now ∷ texts more.now))) }
+{
+    if let Some(verb) = shared_verb(word) {
+        return Ok(of_line(verb_fault(verb, word, more)));
+    }
+    let Some(verb) = term_verb_in(word) else {
+        return Ok(Some(PlayFault::Line(LineFault::NoCommand { word, script })));
+    };
+    match more {
+        [next] => behind_term_verb(alloc, verb, word, next),
+        _ => Ok(of_line(words_fault(word, more, 1, 1))),
+    }
+}
+
+/// Why the words of a line are none of a terminal's script, behind its first line.
+pub fn term_line_fault<'a>(
+    alloc: Global,
+    words: &[&'a str],
+) -> Result<Option<PlayFault<'a>>, AllocError>
+    ensures { IfOk result (λ r. IfSome r (IsPlaySo IsNoTermWord (texts words.now))) }
+{
+    match words {
+        [word, more @ ..] => {
+            if mode_in(words).is_some() {
+                return Ok(Some(PlayFault::Line(LineFault::Late { word })));
+            }
+            term_fault(alloc, word, more, "a terminal's script")
+        }
+        [] => Ok(None),
+    }
+}
+
+/// Why the words of a line that don't begin with a word of a link set's own are none of its script.
+fn shared_fault<'a>(
+    alloc: Global,
+    word: &'a str,
+    more: &[&'a str],
+) -> Result<Option<PlayFault<'a>>, AllocError>
+    ensures { IfOk result (λ r. IfSome r (IsPlaySo IsNoSharedWord (word.now ∷ texts more.now))) }
+{
+    let script = "a link set's script";
+    if word == "msu" {
+        return Ok(Some(PlayFault::Line(LineFault::NoCommand { word, script })));
+    }
+    term_fault(alloc, word, more, script)
+}
+
+/// Why the words of a line are none of a link set's script, behind its first line.
+pub fn group_line_fault<'a>(
+    alloc: Global,
+    words: &[&'a str],
+) -> Result<Option<PlayFault<'a>>, AllocError>
+    ensures { IfOk result (λ r. IfSome r (IsPlaySo IsNoSharedWord (texts words.now))) }
+{
+    let [word, more @ ..] = words else {
+        return Ok(None);
+    };
+    if group_word_in(word).is_some() {
+        return Ok(of_line(words_fault(word, more, 0, 0)));
+    }
+    if head_in(words).is_some() {
+        return Ok(Some(PlayFault::Line(LineFault::Late { word })));
+    }
+    let Some(verb) = group_verb_in(word) else {
+        return shared_fault(alloc, word, more);
+    };
+    match more {
+        [next] => behind_group_verb(alloc, verb, word, next),
+        _ => Ok(of_line(words_fault(word, more, 1, 1))),
+    }
+}
+
+/// Why words that begin with `terminal` or `group` are no first line.
+fn head_fault<'a>(word: &'a str, more: &[&'a str]) -> Option<PlayFault<'a>>
+    ensures { (P : List ℕ → Type 0) → IfSome result (IsPlaySo P (word.now ∷ texts more.now)) }
+{
+    match more {
+        [mode] if word == "terminal" => mode_fault(mode),
+        [mode, links] if word == "group" => match mode_fault(mode) {
+            Some(fault) => Some(fault),
+            None => of_line(number_fault(links, 1, 16)),
+        },
+        _ => {
+            let wanted = if word == "group" { 2 } else { 1 };
+            of_line(words_fault(word, more, wanted, wanted))
+        }
+    }
+}
+
+/// Why the words of a line are none of a book script; a line that should have been the first of another kind counts as one.
+pub fn other_line_fault<'a>(words: &[&'a str]) -> Option<PlayFault<'a>>
+    ensures { IfSome result (IsPlaySo IsNoVerb (texts words.now)) }
+{
+    match words {
+        [word, more @ ..] if *word == "terminal" || *word == "group" => {
+            if mode_in(words).is_some() || head_in(words).is_some() {
+                return Some(PlayFault::Line(LineFault::Late { word }));
+            }
+            head_fault(word, more)
+        }
+        _ => of_line(book_line_fault(words)),
+    }
+}
+
+/// Why a line is none of a script whose first line has these words.
+fn line_fault<'a>(
+    alloc: Global,
+    first: &[&'a str],
+    words: &[&'a str],
+) -> Result<Option<PlayFault<'a>>, AllocError>
+    ensures { IfOk result (λ r. IfSome r (IsFaultIn (texts first.now) (texts words.now))) }
+{
+    if head_in(first).is_some() {
+        group_line_fault(alloc, words)
+    } else if mode_in(first).is_some() {
+        term_line_fault(alloc, words)
+    } else {
+        Ok(other_line_fault(words))
+    }
+}
+
+/// Why the line of this number is none of the script that a text is, where there is something to tell.
+///
+/// # Errors
+///
+/// Where there is no memory.
+pub fn play_fault<'a>(
+    alloc: Global,
+    text: &'a str,
+    number: usize,
+) -> Result<Option<PlayFault<'a>>, AllocError>
+    ensures { IfOk result (λ r. IfSome r (IsFaultAt text.now number)) }
+{
+    let lines = lines_in(alloc, text)?;
+    let Some(first) = lines.first() else {
+        return Ok(None);
+    };
+    for line in &lines {
+        if line.number == number {
+            return line_fault(alloc, &first.words, &line.words);
+        }
+    }
+    Ok(None)
+}

@@ -1,0 +1,132 @@
+//! Scripts of either kind.
+ghost use Rattle.std.specs.Prelude.{◌≡◌, ◌≤◌, IfOk, IfErr, Ok, map, find, None, length};
+ghost use Rattle.std.specs.List.{filter_map};
+ghost use Rattle.script_lines.specs.Lines.{plain_line, lines_of};
+ghost use Rattle.script_lines.specs.Scripts.{script_of};
+ghost use Rattle.script_links.specs.TermScripts.{plain_term_said, plain_any_script, is_bad_term, term_said_of, as_book, term_by, any_in, any_script_of, IsInRange, Tells, IsBadTermLine};
+
+use crate::commands::{TermCommand, term_command_in};
+use crate::orders::mode_in;
+use plain_text::{MOST_BYTES, line_at_limit};
+use resend_store::Mode;
+use script_lines::{Line, Script, ScriptFault, book_script, lines_in};
+use std::alloc::{AllocError, Global};
+
+/// A command and where it stands.
+#[derive(Drop)]
+pub struct TermSaid<'a> {
+    /// The number of its line, from 1.
+    pub line: usize,
+    /// The command.
+    pub command: TermCommand<'a>,
+}
+
+/// A terminal's script.
+#[derive(Drop)]
+pub struct TermScript<'a> {
+    /// The kind of error correction that its first line names.
+    pub mode: Mode,
+    /// Its commands, in order.
+    pub commands: Vec<TermSaid<'a>>,
+}
+
+/// A script of either kind.
+#[derive(Drop)]
+pub enum AnyScript<'a> {
+    /// For the actors of a link.
+    Book(Script<'a>),
+    /// For a terminal.
+    Terminal(TermScript<'a>),
+}
+
+/// The commands that the lines read as.
+fn commands_in<'a>(alloc: Global, lines: &[Line<'a>]) -> Result<Vec<TermSaid<'a>>, ScriptFault>
+    ensures good { IfOk result (λ v. find is_bad_term (map plain_line lines.now) ≡ None) }
+    ensures commands { IfOk result (λ v. map plain_term_said v.items ≡ filter_map term_said_of (map plain_line lines.now)) }
+    ensures bad { IfErr result (IsBadTermLine (map plain_line lines.now)) }
+{
+    let mut commands = Vec::new(alloc);
+    for line in lines {
+        match term_command_in(alloc, &line.words)? {
+            Some(command) => commands
+                .push(TermSaid {
+                    line: line.number,
+                    command,
+                })
+                .map_err(AllocError::from)?,
+            None => return Err(ScriptFault::BadLine(line.number)),
+        }
+    }
+    Ok(commands)
+}
+
+/// Reads a script: a terminal's, where the first line that says something is `terminal basic` or `terminal cyclic`, else a book's.
+///
+/// # Errors
+///
+/// [`ScriptFault::BadLine`] (X1) with the number of the first line that is none of a script of that kind; of a text of more than
+/// 262,144 bytes with that of the first byte too many, before any line is looked at. [`ScriptFault::NoMemory`] may stand in place
+/// of any answer.
+pub fn any_script<'a>(alloc: Global, text: &'a str) -> Result<AnyScript<'a>, ScriptFault>
+    ensures script { IfOk result (λ s. any_script_of text.now ≡ Ok (plain_any_script s)) }
+    ensures within { IfOk result IsInRange }
+    ensures fault { IfErr result (Tells (any_script_of text.now)) }
+{
+    if text.len() > MOST_BYTES {
+        return Err(ScriptFault::BadLine(line_at_limit(text.as_bytes())));
+    }
+    script_in(alloc, text)
+}
+
+/// The script of a text that isn't too long.
+fn script_in<'a>(alloc: Global, text: &'a str) -> Result<AnyScript<'a>, ScriptFault>
+    ensures script { IfOk result (λ s. any_in (lines_of text.now) (script_of text.now) ≡ Ok (plain_any_script s)) }
+    ensures within { IfOk result IsInRange }
+    ensures fault { IfErr result (Tells (any_in (lines_of text.now) (script_of text.now))) }
+{
+    let lines = lines_in(alloc, text)?;
+    script_by(alloc, text, &lines)
+}
+
+/// The script of a text that has these lines.
+fn script_by<'a>(
+    alloc: Global,
+    text: &'a str,
+    lines: &[Line<'a>],
+) -> Result<AnyScript<'a>, ScriptFault>
+    ensures script { IfOk result (λ s. any_in (map plain_line lines.now) (script_of text.now) ≡ Ok (plain_any_script s)) }
+    ensures within { IfOk result IsInRange }
+    ensures fault { IfErr result (Tells (any_in (map plain_line lines.now) (script_of text.now))) }
+{
+    match lines {
+        [first, more @ ..] => match mode_in(&first.words) {
+            Some(mode) => terminal(alloc, mode, more),
+            None => book(alloc, text),
+        },
+        [] => book(alloc, text),
+    }
+}
+
+/// The terminal's script of the lines behind the first.
+fn terminal<'a>(alloc: Global, mode: Mode, lines: &[Line<'a>]) -> Result<AnyScript<'a>, ScriptFault>
+    ensures script { IfOk result (λ s. term_by mode (map plain_line lines.now) (find is_bad_term (map plain_line lines.now)) ≡ Ok (plain_any_script s)) }
+    ensures within { IfOk result IsInRange }
+    ensures fault { IfErr result (Tells (term_by mode (map plain_line lines.now) (find is_bad_term (map plain_line lines.now)))) }
+{
+    match commands_in(alloc, lines) {
+        Ok(commands) => Ok(AnyScript::Terminal(TermScript { mode, commands })),
+        Err(fault) => Err(fault),
+    }
+}
+
+/// The book script of a text.
+fn book<'a>(alloc: Global, text: &'a str) -> Result<AnyScript<'a>, ScriptFault>
+    ensures script { IfOk result (λ s. as_book (script_of text.now) ≡ Ok (plain_any_script s)) }
+    ensures within { IfOk result IsInRange }
+    ensures fault { IfErr result (Tells (as_book (script_of text.now))) }
+{
+    match book_script(alloc, text) {
+        Ok(script) => Ok(AnyScript::Book(script)),
+        Err(fault) => Err(fault),
+    }
+}

@@ -1,7 +1,0 @@
--- The lines of a link's refusals.
-use Rattle.std.specs.Prelude.{ℕ, List, ◌++◌, codes}
-use Rattle.link_machine.specs.declared.reply.Refusal.{Refusal}
-use Rattle.link_machine.specs.Printed.{refusal_text}
-
-abbrev pub refused_text : Refusal → List ℕ
-refused_text r = codes "refused " ++ refusal_text r

@@ -1,0 +1,203 @@
+-- What commands make of a terminal.
+use Rattle.std.proofs.Common.{◌≡◌, ℕ, zero, suc, ◌+◌, ◌<◌, ◌≤◌, List, [], ◌∷◌, ◌++◌, length, take, drop, Option, None, Some, Result, Ok, Err, Bool, true, false, inl, inr, refl, sym, ap, subst, arith, ◌∙◌}
+use Rattle.std.specs.Prelude.{◌⊎◌, ◌↔◌, codes, if◌then◌else◌, slice_get, is_some}
+use Rattle.std.specs.Fmt.{decimal}
+use Rattle.std.proofs.Math.Seq.{drop-nil}
+use Rattle.std.proofs.lemmas.Bool.{cases_lt}
+use Rattle.std.proofs.lemmas.List.{take-append-drop, drop-drop}
+use Rattle.resend_store.specs.Limits.{MOST_WAITING}
+use Rattle.resend_store.specs.Window.{waiting, with_put}
+use Rattle.resend_store.specs.declared.refusals.PutError.{PutError}
+use Rattle.resend_store.specs.declared.refusals.PutError.TheVariants.{Full}
+use Rattle.resend_store.specs.declared.messages.Msu.{Msu}
+use Rattle.actor_machine.specs.Ledger.{ask, rebased}
+use Rattle.actor_machine.specs.Step.{Says}
+use Rattle.actor_machine.specs.declared.event.Event.{Event}
+use Rattle.actor_machine.specs.declared.reply.Reply.{Reply}
+use Rattle.actor_machine.specs.declared.reply.Reply.TheVariants as reply
+use Rattle.link_transceiver.specs.TransceiverState.{TransceiverState}
+use Rattle.link_transceiver.specs.Reporting.{Reported, status_reported, message_reported, reported}
+use Rattle.link_transceiver.specs.declared.signals.LinkStatus.{LinkStatus}
+use Rattle.link_transceiver.specs.declared.signals.Report.{Report}
+use Rattle.link_term.specs.Offering.{command_event}
+use Rattle.link_term.specs.link_processes_types.commands.Command.{Command}
+use Rattle.link_term.specs.link_processes_types.names.Names.{Names}
+use Rattle.link_term.specs.Machine.{with_book, offered, tidied, is_low}
+use Rattle.link_term.specs.link_processes_types.processes.Processes.{Processes}
+use Rattle.link_term.specs.Term.{Term, with_processes, term_with_transceiver, IsAnswer, Leaves}
+use Rattle.link_term.specs.Hearing.{Heard}
+use Rattle.link_term.specs.declared.answers.CallError.{CallError}
+use Rattle.link_term.specs.declared.answers.CallError.TheVariants.{Refused, NoMemory}
+use Rattle.script_book.specs.Answers.{answer_text}
+use Rattle.script_terminal.specs.TermAnswers.{after_answer, IsAsked, IsRefusedLine, Puts, taken, full, IsMessageOf, IsPut, without_reports, TakesNoMore, Listens, done, part}
+
+-- ---- events
+
+pub asked_ok : (e : Event) (t u : Term) (text : List ℕ) → text ≡ codes "ok" → Says reply.Offered ≡ (ask (tidied t.processes).book e).answer
+    → u ≡ with_processes t (offered e (tidied t.processes)) → IsAsked e t text u
+asked_ok e t u text is says goes =
+    record {
+      says = is ∙ ap (λ a. answer_text t.processes.book.set 0 a) says;
+      makes = goes ∙ ap (λ a. with_processes t (after_answer a e t.processes)) says;
+    }
+
+pub asked_due : (e : Event) (t u : Term) (text : List ℕ) (due : ℕ) → text ≡ codes "ok due " ++ decimal due
+    → Says (reply.Passed due) ≡ (ask (tidied t.processes).book e).answer → u ≡ with_processes t (offered e (tidied t.processes)) → IsAsked e t text u
+asked_due e t u text due is says goes =
+    record {
+      says = is ∙ ap (λ a. answer_text t.processes.book.set 0 a) says;
+      makes = goes ∙ ap (λ a. with_processes t (after_answer a e t.processes)) says;
+    }
+
+pub asked_refused : {A : Type 0} (f : A → Reply) (e : Event) (t u : Term) (text : List ℕ) (error : CallError) → IsRefusedLine error text
+    → IsAnswer f (Err error) (ask (tidied t.processes).book e).answer → Leaves t u error → IsAsked e t text u
+asked_refused f e t u text (Refused r) is says leaves =
+    record {
+      says = is ∙ ap (λ a. answer_text t.processes.book.set 0 a) says;
+      makes = leaves ∙ ap (λ a. with_processes t (after_answer a e t.processes)) says;
+    }
+asked_refused f e t u text NoMemory is says leaves = absurd is
+
+names_by : (b : Bool) (x y : Processes) → x.names ≡ y.names → (if b then x else y).names ≡ y.names
+names_by true x y same = same
+names_by false x y same = refl
+
+-- room in the journal changes no numbers of names
+pub names_stay : (h : Processes) → (tidied h).names ≡ h.names
+unfolding tidied
+names_stay h = names_by (is_low h) (with_book h (rebased h.book)) h refl
+
+-- the same event, by other names of its command
+pub asked_same : (n m : Names) (c d : Command) (t u : Term) (text : List ℕ) → n ≡ m → c ≡ d → IsAsked (command_event n c) t text u
+    → IsAsked (command_event m d) t text u
+asked_same n m c d t u text names commands asked =
+    let P : Names → Type 0 = λ x. IsAsked (command_event x c) t text u in
+    let Q : Command → Type 0 = λ x. IsAsked (command_event m x) t text u in
+    subst Q commands (subst P names asked)
+
+-- ---- messages to send
+
+below : (n m : ℕ) → (n < m) ⊎ (m ≤ n) → (m ≤ n → ⊥) → n < m
+below n m (inl less) never = less
+below n m (inr many) never = absurd (never many)
+
+put_text : (octets : List ℕ) (t u : Term) (m : Msu) (text said : List ℕ) (v : Term) → IsMessageOf octets m → text ≡ said → u ≡ v → Puts m t said v
+    → IsPut octets t text u
+put_text octets t u m text said v are says makes puts =
+    let P : List ℕ → Type 0 = λ x. Puts m t x u in
+    let Q : Term → Type 0 = λ x. Puts m t said x in
+    record { message = m; octets_are = are; puts = subst P (sym says) (subst Q (sym makes) puts) }
+
+pub put_taken : (octets : List ℕ) (t u : Term) (m : Msu) (text : List ℕ) (x : Unit {0}) → IsMessageOf octets m → text ≡ codes "ok"
+    → (◌≡◌ {A = Result (Unit {0}) PutError} (Ok x) (Err Full)) ↔ (MOST_WAITING ≤ length (waiting t.processes.transceiver.sender))
+    → u ≡ term_with_transceiver t (record t.processes.transceiver { sender = with_put t.processes.transceiver.sender m }) → IsPut octets t text u
+put_taken octets t u m text x are says many makes =
+    put_text octets t u m text (codes "ok") _ are says makes
+    (taken
+    (below (length (waiting t.processes.transceiver.sender)) MOST_WAITING (cases_lt (length (waiting t.processes.transceiver.sender)) MOST_WAITING)
+    (λ so. let e : ◌≡◌ {A = Result (Unit {0}) PutError} (Ok x) (Err Full) = many.1 so in cc)))
+
+pub put_full : (octets : List ℕ) (t u : Term) (m : Msu) (text : List ℕ) (e : PutError) → IsMessageOf octets m → text ≡ codes "refused E1 Full"
+    → (◌≡◌ {A = Result (Unit {0}) PutError} (Err e) (Err Full)) ↔ (MOST_WAITING ≤ length (waiting t.processes.transceiver.sender)) → u ≡ t
+    → IsPut octets t text u
+put_full octets t u m text Full are says many makes = put_text octets t u m text (codes "refused E1 Full") t are says makes (full (many.0 refl))
+
+-- ---- reports
+
+nothing_first : {A : Type 0} (xs : List A) → slice_get xs 0 ≡ None → xs ≡ []
+nothing_first [] none = refl
+nothing_first (x ∷ xs) none = absurd (cc)
+
+one_less : {A : Type 0} (xs : List A) (x : A) → slice_get xs 0 ≡ Some x → length (drop 1 xs) < length xs
+one_less [] x some = absurd (cc)
+one_less (y ∷ xs) x some = omega arith
+
+-- how many reports wait
+abbrev pub reports : TransceiverState → ℕ
+reports h = length h.messages + length h.statuses
+
+abbrev cleared : TransceiverState → TransceiverState
+cleared h = record h { messages = []; statuses = [] }
+
+-- what a report leaves
+record Handed (h : TransceiverState) (r : Reported) : Type 0 where
+  pub same : cleared r.transceiver ≡ cleared h
+  pub less : (x : Report) → r.report ≡ Some x → reports r.transceiver < reports h
+  pub none : r.report ≡ None → r.transceiver ≡ cleared h
+
+cleared_same : (h : TransceiverState) → h.messages ≡ [] → h.statuses ≡ [] → h ≡ cleared h
+cleared_same h messages statuses =
+    ap (λ ms. record h { messages = ms; statuses = h.statuses }) messages ∙ ap (λ ss. record h { messages = []; statuses = ss }) statuses
+
+status_handed : (h : TransceiverState) (o : Option LinkStatus) → h.messages ≡ [] → slice_get h.statuses 0 ≡ o → Handed h (status_reported h o)
+status_handed h None messages is =
+    record { same = refl; less = λ x some. absurd (cc); none = λ n. cleared_same h messages (nothing_first h.statuses is) }
+status_handed h (Some s) messages is =
+    let fewer : length (drop 1 h.statuses) < length h.statuses = one_less h.statuses s is in
+    record { same = refl; less = λ x some. omega (arith, fewer); none = λ n. absurd (cc) }
+
+message_handed : (h : TransceiverState) (o : Option Msu) → slice_get h.messages 0 ≡ o → Handed h (message_reported h o)
+message_handed h None is = status_handed h (slice_get h.statuses 0) (nothing_first h.messages is) refl
+message_handed h (Some m) is =
+    let fewer : length (drop 1 h.messages) < length h.messages = one_less h.messages m is in
+    record { same = refl; less = λ x some. omega (arith, fewer); none = λ n. absurd (cc) }
+
+handed : (h : TransceiverState) → Handed h (reported h)
+unfolding reported
+handed h = message_handed h (slice_get h.messages 0) refl
+
+-- no report is left
+pub none_left : (first t u : Term) (r : Option Report) → without_reports t ≡ without_reports first → is_some r ≡ false
+    → r ≡ (reported t.processes.transceiver).report → u ≡ term_with_transceiver t (reported t.processes.transceiver).transceiver → u ≡ without_reports first
+none_left first t u None same none is transceiver = transceiver ∙ (ap (term_with_transceiver t) ((handed t.processes.transceiver).none (sym is)) ∙ same)
+none_left first t u (Some x) same none is transceiver = absurd (let e : true ≡ false = none in cc)
+
+-- one was taken out
+pub one_handed : (first t u : Term) → without_reports t ≡ without_reports first → u ≡ term_with_transceiver t (reported t.processes.transceiver).transceiver
+    → without_reports u ≡ without_reports first
+one_handed first t u same transceiver = ap without_reports transceiver ∙ (ap (term_with_transceiver t) (handed t.processes.transceiver).same ∙ same)
+
+pub fewer_reports : (t u : Term) (r : Option Report) → is_some r ≡ true → r ≡ (reported t.processes.transceiver).report → u ≡ term_with_transceiver t (reported t.processes.transceiver).transceiver
+    → reports u.processes.transceiver < reports t.processes.transceiver
+fewer_reports t u None some is transceiver = absurd (let e : false ≡ true = some in cc)
+fewer_reports t u (Some x) some is transceiver =
+    let less : reports (reported t.processes.transceiver).transceiver < reports t.processes.transceiver = (handed t.processes.transceiver).less x (sym is) in
+    let P : Term → Type 0 = λ v. reports v.processes.transceiver < reports t.processes.transceiver in
+    subst P (sym transceiver) less
+
+-- ---- octets of the line
+
+nothing_behind : (n : ℕ) (xs : List ℕ) → length xs ≤ n → drop n xs ≡ []
+nothing_behind n [] long = drop-nil n
+nothing_behind zero (x ∷ xs) long = absurd (omega (arith, long))
+nothing_behind (suc n) (x ∷ xs) long = nothing_behind n xs (omega (arith, long))
+
+where_less : (n : ℕ) (xs : List ℕ) → (drop n xs ≡ [] → ⊥) → (n < length xs) ⊎ (length xs ≤ n) → n < length xs
+where_less n xs more (inl less) = less
+where_less n xs more (inr long) = absurd (more (nothing_behind n xs long))
+
+-- one part more
+pub part_taken : (t m u : Term) (octets : List ℕ) (n : ℕ) → (n ≡ 0 → ⊥) → n ≤ length octets → Heard t (take n octets) m
+    → (n < length octets → TakesNoMore m) → Listens (without_reports m) (drop n octets) u → Listens t octets u
+part_taken t m u octets zero some within heard stops others = absurd (some refl)
+part_taken t m u [] (suc n) some within heard stops others = absurd (omega (arith, within))
+part_taken t m u (x ∷ xs) (suc n) some within heard stops others =
+    let P : List ℕ → Type 0 = λ all. Listens t (x ∷ all) u in
+    subst P (take-append-drop n xs)
+    (part t m u x (take n xs) (drop n xs) heard
+    (λ more. let less : n < length xs = where_less n xs more (cases_lt n (length xs)) in stops (omega (arith, less)))
+    others)
+
+-- a part of what is left
+pub part_more : (t m w u : Term) (octets xs : List ℕ) (from n : ℕ) → xs ≡ drop from octets → (n ≡ 0 → ⊥) → n ≤ length xs → Heard t (take n xs) m
+    → (n < length xs → TakesNoMore m) → w ≡ without_reports m → Listens w (drop (from + n) octets) u → Listens t (drop from octets) u
+part_more t m w u octets xs from n same some within heard stops without others =
+    let P : Term → Type 0 = λ v. Listens v (drop (from + n) octets) u in
+    let Q : List ℕ → Type 0 = λ ys. Listens (without_reports m) ys u in
+    let R : List ℕ → Type 0 = λ ys. Listens t ys u in
+    let rest : drop (from + n) octets ≡ drop n xs = sym (drop-drop n from octets) ∙ ap (drop n) (sym same) in
+    subst R same (part_taken t m u xs n some within heard stops (subst Q rest (subst P without others)))
+
+-- nothing is left
+pub listens_end : (t : Term) (octets : List ℕ) (from : ℕ) → length octets ≤ from → Listens t (drop from octets) t
+listens_end t octets from over = let P : List ℕ → Type 0 = λ xs. Listens t xs t in subst P (sym (nothing_behind from octets over)) (done t)

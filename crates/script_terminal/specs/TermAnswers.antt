@@ -1,0 +1,176 @@
+-- What each command of a terminal's script makes of the terminal, and the lines that it prints.
+use Rattle.std.specs.Prelude.{◌≡◌, ◌⊎◌, ℕ, ◌<◌, ◌≤◌, zero, suc, true, List, [], ◌∷◌, ◌++◌, length}
+use Rattle.std.specs.Prelude.{Option, None, Some, codes}
+use Rattle.resend_store.specs.Limits.{MOST_WAITING}
+use Rattle.resend_store.specs.Window.{waiting, with_put}
+use Rattle.resend_store.specs.declared.messages.Msu.{Msu}
+use Rattle.su_octets.specs.Printed.{unit_text}
+use Rattle.su_octets.specs.declared.units.Unit as units
+use Rattle.actor_machine.specs.Ledger.{ask}
+use Rattle.actor_machine.specs.Step.{Answer, Stuck, Says}
+use Rattle.actor_machine.specs.declared.event.Event.{Event}
+use Rattle.actor_machine.specs.declared.event.Event.TheVariants.{Advance}
+use Rattle.actor_machine.specs.declared.reply.Reply.{Reply}
+use Rattle.actor_machine.specs.declared.reply.Reply.TheVariants as reply
+use Rattle.link_transceiver.specs.Limits.{KEPT_MESSAGES}
+use Rattle.link_term.specs.Machine.{Sent, offered, sent, tidied, is_low}
+use Rattle.link_term.specs.Offering.{command_event}
+use Rattle.link_term.specs.link_processes_types.commands.Command.{Command}
+use Rattle.link_term.specs.link_processes_types.commands.Command.TheVariants as command
+use Rattle.link_term.specs.link_processes_types.processes.Processes.{Processes}
+use Rattle.link_term.specs.Term.{Term, with_processes, term_with_transceiver}
+use Rattle.link_term.specs.Hearing.{Heard}
+use Rattle.link_term.specs.declared.answers.CallError.{CallError}
+use Rattle.link_term.specs.declared.answers.CallError.TheVariants.{Refused, NoMemory}
+use Rattle.script_links.specs.declared.orders.Order.{Order}
+use Rattle.script_links.specs.declared.orders.Order.TheVariants as word
+use Rattle.script_links.specs.TermCommands.{PlainTermCommand, order, unit, line, msu, out, ticks}
+use Rattle.script_links.specs.TermCommands.{state, shown, expected}
+use Rattle.script_book.specs.Refused.{refused_text}
+use Rattle.script_book.specs.Answers.{answer_text, actor_named, state_line, value_line}
+use Rattle.script_terminal.specs.UnitLines.{IsLineOf}
+
+-- ---- calls that are one event of the book
+
+-- what a word tells a terminal
+abbrev pub command_of : Order → Command
+command_of word.Power = command.PowerOn
+command_of word.Start = command.Start
+command_of word.Stop = command.Stop
+command_of word.Emergency = command.Emergency
+command_of word.Calm = command.Calm
+command_of word.Outage = command.Outage
+command_of word.Back = command.Back
+command_of word.Busy = command.Busy
+command_of word.Free = command.Free
+
+-- Behind an event that the book takes the actors come to rest; one that it refuses changes nothing.
+-- Room is made in the journal before either, where fewer than half of its places are free.
+abbrev pub after_reply : Reply → Event → Processes → Processes
+after_reply (reply.Refused r) e h = tidied h
+after_reply _ e h = offered e (tidied h)
+
+-- no turn of a book gets stuck
+abbrev pub after_answer : Answer → Event → Processes → Processes
+after_answer (Stuck x) e h = tidied h
+after_answer (Says r) e h = after_reply r e h
+
+-- the event is asked of the book, and what the book answers is printed as for a book script
+pub record IsAsked (e : Event) (t : Term) (text : List ℕ) (u : Term) : Type 0 where
+  pub says : text ≡ answer_text t.processes.book.set 0 (ask (tidied t.processes).book e).answer
+  pub makes :
+      u ≡ with_processes t (after_answer (ask (tidied t.processes).book e).answer e t.processes)
+
+-- the line of a refused call; want of memory has none
+abbrev pub IsRefusedLine : CallError → List ℕ → Type 0
+IsRefusedLine (Refused r) text = text ≡ refused_text r
+IsRefusedLine NoMemory text = ⊥
+
+-- ---- messages to send
+
+-- a message waits behind all others, unless there are so many that it is refused
+pub data Puts (m : Msu) (t : Term) : List ℕ → Term → Type 0 where
+  taken : length (waiting t.processes.transceiver.sender) < MOST_WAITING
+      → Puts m t (codes "ok")
+      (term_with_transceiver t
+      (record t.processes.transceiver {
+        sender = with_put t.processes.transceiver.sender
+            m;
+      }))
+  full : MOST_WAITING ≤ length (waiting t.processes.transceiver.sender)
+      → Puts m t (codes "refused E1 Full") t
+
+-- octets are a message: its service information octet, and behind it its signalling information
+-- field
+abbrev pub IsMessageOf : List ℕ → Msu → Type 0
+IsMessageOf octets m = octets ≡ m.sio ∷ m.sif.items
+
+-- octets are no message: there are no octets, or more than 273, which are one and the 272 of a
+-- signalling information field
+abbrev pub AreNoMessage : List ℕ → Type 0
+AreNoMessage octets = (octets ≡ []) ⊎ (273 < length octets)
+
+pub record IsPut (octets : List ℕ) (t : Term) (text : List ℕ) (u : Term) : Type 0 where
+  pub message : Msu
+  pub octets_are : IsMessageOf octets message
+  pub puts : Puts message t text u
+
+-- ---- octets of the line
+
+-- nothing waits to be handed out any more, neither a message nor what was told of the link
+abbrev pub without_reports : Term → Term
+without_reports t =
+    term_with_transceiver t (record t.processes.transceiver { messages = []; statuses = [] })
+
+-- why a terminal takes no further octet: as many messages wait as may, or there is no memory to
+-- make room in the journal
+abbrev pub TakesNoMore : Term → Type 0
+TakesNoMore t =
+    (KEPT_MESSAGES ≤ length t.processes.transceiver.messages) ⊎ (is_low t.processes ≡ true)
+
+-- Octets of the line come in, part after part, and behind each part all reports are taken out. A
+-- part has all that is left, or ends where the terminal takes no more.
+pub data Listens : Term → List ℕ → Term → Type 0 where
+  done : (t : Term) → Listens t [] t
+  part : (t m u : Term) (first : ℕ) (octets more : List ℕ) → Heard t (first ∷ octets) m
+      → ((more ≡ [] → ⊥) → TakesNoMore m)
+      → Listens (without_reports m) more u → Listens t (first ∷ (octets ++ more)) u
+
+-- what comes in of a signal unit, whose octets without the check octets these are
+pub record Receives (octets : List ℕ) (t u : Term) : Type 0 where
+  pub come : List ℕ
+  pub are : IsLineOf octets come
+  pub listens : Listens t come u
+
+-- ---- units that go out
+
+-- the unit that goes out next, if one does, and the terminal behind it
+abbrev pub next_of : Term → Sent
+next_of t = sent (tidied t.processes)
+
+abbrev pub behind_next : Term → Term
+behind_next t = with_processes t (next_of t).processes
+
+abbrev pub unit_line : Option units.Unit → List ℕ
+unit_line None = codes "silent"
+unit_line (Some u) = unit_text u
+
+-- So many units are asked for, and each that goes out has a line. Where none goes out, the line
+-- `silent` says so, and no more are asked for.
+pub data GoOut : ℕ → Term → List (List ℕ) → Term → Type 0 where
+  nothing : (t : Term) → GoOut zero t [] t
+  silent : (n : ℕ) (t : Term) → (next_of t).unit ≡ None
+      → GoOut (suc n) t (codes "silent" ∷ []) (behind_next t)
+  one_goes : (n : ℕ) (t u : Term) (x : units.Unit) (lines : List (List ℕ))
+      → (next_of t).unit ≡ Some x → GoOut n (behind_next t) lines u
+      → GoOut (suc n) t (unit_text x ∷ lines) u
+
+-- ---- all commands
+
+-- What a command that prints one line makes of a terminal, and that line. `out` and `expect` are
+-- none of these: nothing is done for them here.
+abbrev pub Answers : PlainTermCommand → Term → List ℕ → Term → Type 0
+Answers (order o) t text u = IsAsked (command_event t.processes.names (command_of o)) t text u
+Answers (unit octets) t text u = (text ≡ codes "ok") × Receives octets t u
+Answers (line octets) t text u = (text ≡ codes "ok") × Listens t octets u
+Answers (msu octets) t text u = IsPut octets t text u
+Answers (out n) t text u = (text ≡ []) × (u ≡ t)
+Answers (ticks n) t text u = IsAsked (Advance n) t text u
+Answers (state process) t text u =
+    (text ≡ state_line t.processes.book (actor_named t.processes.book process)) × (u ≡ t)
+Answers (shown process variable) t text u =
+    (text ≡ value_line t.processes.book variable (actor_named t.processes.book process)) × (u ≡ t)
+Answers (expected text) t said u = (said ≡ []) × (u ≡ t)
+
+pub record AnswersOne (c : PlainTermCommand) (t : Term) (lines : List (List ℕ)) (u : Term) :
+    Type 0 where
+  pub text : List ℕ
+  pub one : lines ≡ text ∷ []
+  pub answers : Answers c t text u
+
+-- a command was obeyed: what it makes of a terminal, and the lines that it prints; `expect` is no
+-- command to a terminal
+abbrev pub Obeys : PlainTermCommand → Term → List (List ℕ) → Term → Type 0
+Obeys (out n) t lines u = GoOut n t lines u
+Obeys (expected text) t lines u = ⊥
+Obeys c t lines u = AnswersOne c t lines u

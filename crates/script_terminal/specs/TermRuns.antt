@@ -1,0 +1,108 @@
+-- What a run of a terminal's script has printed, and what it made of its terminal.
+use Rattle.std.specs.Prelude.{◌≡◌, ℕ, List, [], ◌∷◌, ◌++◌, Option, None, Some, codes}
+use Rattle.std.specs.List.{flat_map}
+use Rattle.std.specs.Io.KnownBytes.{Appends}
+use Rattle.turn_code.specs.declared.draft.Draft.{Draft}
+use Rattle.resend_store.specs.declared.messages.Mode.{Mode}
+use Rattle.link_term.specs.Term.{Term}
+use Rattle.link_term.specs.Opening.{IsOver}
+use Rattle.link_term.specs.Wanted.{wanted, IsFirstLacking}
+use Rattle.link_term.specs.WantedText.{wanted_text}
+use Rattle.link_term.specs.declared.opening.OpenError.{OpenError}
+use Rattle.link_term.specs.declared.opening.OpenError.TheVariants.{NoName, NoMemory}
+use Rattle.link_term.specs.link_processes_types.wanted.Wanted.{Wanted}
+use Rattle.script_book.specs.Lines.{line_of}
+use Rattle.script_book.specs.Played.{last_in, Misses}
+use Rattle.script_links.specs.TermCommands.{expected}
+use Rattle.script_links.specs.TermScripts.{PlainTermSaid}
+use Rattle.script_terminal.specs.TermAnswers.{GoOut, Obeys}
+use Rattle.script_terminal.specs.declared.terminals.TermPlayer.{TermPlayer}
+
+-- the line printed last, when these are printed behind it
+abbrev pub latest : Option (List ℕ) → List (List ℕ) → Option (List ℕ)
+latest last [] = last
+latest last (l ∷ ls) = latest (Some l) ls
+
+-- A run from a terminal on: the commands that were obeyed, the lines that they printed, the
+-- terminal now, and the line printed last. `expect` prints nothing, and holds where the line before
+-- is the one that it names.
+pub data Goes (first : Term) :
+    List PlainTermSaid → List (List ℕ) → Term → Option (List ℕ) → Type 0 where
+  begins : Goes first [] [] first None
+  prints : {commands : List PlainTermSaid} {lines : List (List ℕ)} {now : Term} {last : Option
+      (List ℕ)} (said : PlainTermSaid) (more : List (List ℕ))
+      (next : Term) → Obeys said.command now more next → Goes first commands lines now last
+      → Goes first (commands ++ said ∷ []) (lines ++ more) next (latest last more)
+  holds : {commands : List PlainTermSaid} {lines : List (List ℕ)} {now : Term} {text : List ℕ}
+      (said : PlainTermSaid)
+      → said.command ≡ expected text → Goes first commands lines now (Some text)
+      → Goes first (commands ++ said ∷ []) lines now (Some text)
+
+-- these commands were obeyed, one after another, and what is written grew by their lines, each with
+-- its end
+pub record IsTermRun (first : Term) (commands : List PlainTermSaid) (old new : Option (List ℕ))
+    (now : Term) (last : Option (List ℕ)) : Type 0 where
+  pub lines : List (List ℕ)
+  pub goes : Goes first commands lines now last
+  pub written : Appends old new (flat_map line_of lines)
+
+-- these lines were printed behind what was there
+pub record HasPrinted (old new last next : Option (List ℕ)) (lines : List (List ℕ)) : Type 0 where
+  pub latest_is : next ≡ latest last lines
+  pub written : Appends old new (flat_map line_of lines)
+
+abbrev pub last_of : TermPlayer → Option (List ℕ)
+last_of p = last_in p.printer
+
+-- so many units were asked of a terminal, and their lines printed
+pub record HasGivenOut (units : ℕ) (old new last next : Option (List ℕ)) (t u : Term) : Type 0 where
+  pub lines : List (List ℕ)
+  pub out : GoOut units t lines u
+  pub printed : HasPrinted old new last next lines
+
+-- the commands were obeyed, whatever the terminal is now, and was printed last
+pub record IsTermWritten (commands : List PlainTermSaid) (old new : Option (List ℕ))
+    (first : Term) : Type 0 where
+  pub now : Term
+  pub last : Option (List ℕ)
+  pub run : IsTermRun first commands old new now last
+
+-- an expectation of a terminal's script fails
+abbrev pub IsTermMissedBy :
+    PlainTermSaid → Option (List ℕ) → Option (List ℕ) → Option (List ℕ) → Type 0
+IsTermMissedBy said last old new =
+    Misses said.line (λ text. said.command ≡ expected text) last old new
+
+-- the commands up to an expectation were obeyed, and that fails; nothing else is written
+pub record IsTermMissed (commands : List PlainTermSaid) (old new : Option (List ℕ)) (first : Term) :
+    Type 0 where
+  pub before : List PlainTermSaid
+  pub said : PlainTermSaid
+  pub after : List PlainTermSaid
+  pub stands : commands ≡ before ++ said ∷ after
+  pub middle : Option (List ℕ)
+  pub now : Term
+  pub last : Option (List ℕ)
+  pub run : IsTermRun first before old middle now last
+  pub missed : IsTermMissedBy said last middle new
+
+-- P holds of a terminal over the set that is new, with this error correction
+pub record IsOfNew (d : Draft) (mode : Mode) (P : Term → Type 0) : Type 0 where
+  pub terminal : Term
+  pub is_new : IsOver d mode terminal
+  pub holds : P terminal
+
+-- ---- no terminal
+
+-- the line that names what is lacking is all that is written; want of memory is no refusal
+abbrev pub PrintsLacking : OpenError → Option (List ℕ) → Option (List ℕ) → Type 0
+PrintsLacking (NoName name) old new =
+    Appends old new (line_of (codes "refused X2 NoName " ++ wanted_text name))
+PrintsLacking NoMemory old new = ⊥
+
+-- the set lacks a name that a terminal wants, and the line that says the first of them is all that
+-- was written
+pub record LacksName (d : Draft) (old new : Option (List ℕ)) : Type 0 where
+  pub name : Wanted
+  pub lacks : IsFirstLacking d name wanted
+  pub printed : Appends old new (line_of (codes "refused X2 NoName " ++ wanted_text name))

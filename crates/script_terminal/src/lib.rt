@@ -1,0 +1,17 @@
+//! A terminal's script as it runs: what each command makes of the terminal, and the lines that are printed for it.
+#![tactic(auto)]
+
+mod answers;
+mod orders;
+mod terminals;
+mod unit_line;
+
+pub use answers::{answer, message};
+pub use link_term::OpenError;
+pub use orders::command_of;
+pub use script_book::{
+    FAILED, HELD, MISSED, Printer, play_book, refuse, refused_line, state_line, text_line,
+    value_line, write_line,
+};
+pub use terminals::{play_terminal, refuse_set};
+pub use unit_line::line_of_unit;

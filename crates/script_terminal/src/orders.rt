@@ -1,0 +1,23 @@
+//! What the words of a script tell a terminal.
+ghost use Rattle.std.specs.Prelude.{◌≡◌};
+ghost use Rattle.script_terminal.specs.TermAnswers.{command_of};
+
+use link_term::Command;
+use script_links::Order;
+
+/// The command of a word.
+pub fn command_of(order: Order) -> Command
+    ensures { result ≡ command_of order }
+{
+    match order {
+        Order::Power => Command::PowerOn,
+        Order::Start => Command::Start,
+        Order::Stop => Command::Stop,
+        Order::Emergency => Command::Emergency,
+        Order::Calm => Command::Calm,
+        Order::Outage => Command::Outage,
+        Order::Back => Command::Back,
+        Order::Busy => Command::Busy,
+        Order::Free => Command::Free,
+    }
+}

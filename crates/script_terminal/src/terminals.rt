@@ -1,0 +1,175 @@
+//! A terminal's script as it runs.
+ghost use Rattle.std.specs.Prelude.{◌≡◌, ◌⊎◌, ◌++◌, ◌∷◌, [], List, ℕ, Option, map, is_some, OnOk, IfOk, true, false};
+ghost use Rattle.link_term.specs.Term.{Term};
+ghost use Rattle.script_links.specs.TermScripts.{PlainTermSaid, plain_term_said};
+ghost use Rattle.script_terminal.specs.TermAnswers.{next_of, behind_next, unit_line};
+ghost use Rattle.script_terminal.specs.TermRuns.{last_of, HasPrinted, HasGivenOut, IsTermRun, IsTermWritten, IsTermMissed, IsTermMissedBy, IsOfNew, PrintsLacking, LacksName};
+
+use crate::answers::answer;
+use link_term::{OpenError, Terminal};
+use script_book::{FAILED, HELD, MISSED, Printer, refuse, text_line, write_line};
+use script_links::{TermCommand, TermSaid, TermScript};
+use std::alloc::Global;
+use std::io::{self, Write};
+use turn_check::Verified;
+
+/// A terminal, and what is printed for it.
+#[derive(Drop)]
+pub struct TermPlayer {
+    pub terminal: Terminal,
+    pub printer: Printer,
+}
+
+impl TermPlayer {
+    /// Prints the unit that goes out next, or `silent`. Whether it was a unit.
+    fn print_unit<W: Write>(&mut self, alloc: Global, writer: &mut W) -> io::Result<bool>
+        ensures unit { IfOk result (λ on. on ≡ is_some (next_of self.old.terminal).unit) }
+        ensures goes { OnOk result (self.new.terminal ≡ behind_next self.old.terminal) }
+        ensures printed { OnOk result (HasPrinted (W.contents writer.old) (W.contents writer.new) (last_of self.old) (last_of self.new)
+            (unit_line (next_of self.old.terminal).unit ∷ [])) }
+    {
+        match self.terminal.unit_out()? {
+            Some(unit) => {
+                let line = text_line(alloc, &unit)?;
+                self.printer.print(line, writer)?;
+                Ok(true)
+            }
+            None => {
+                let line = Vec::from_slice(alloc, b"silent")?;
+                self.printer.print(line, writer)?;
+                Ok(false)
+            }
+        }
+    }
+
+    /// Prints the units that go out next, so many; one line `silent` where none goes out.
+    fn print_units<W: Write>(&mut self, alloc: Global, units: u32, writer: &mut W) -> io::Result<()>
+        ensures { OnOk result (HasGivenOut units (W.contents writer.old) (W.contents writer.new) (last_of self.old) (last_of self.new)
+            self.old.terminal self.new.terminal) }
+    {
+        for gone in 0..units {
+            if !self.print_unit(alloc, writer)? {
+                return Ok(());
+            }
+        }
+        Ok(())
+    }
+
+    /// Does what a command says. Whether the run goes on.
+    fn obey<W: Write>(
+        &mut self,
+        alloc: Global,
+        said: &TermSaid<'_>,
+        writer: &mut W,
+    ) -> io::Result<bool>
+        ensures goes { IfOk result (λ on. on ≡ true → (t : Term) (before : List PlainTermSaid) (first : Option (List ℕ))
+            → IsTermRun t before first (W.contents writer.old) self.old.terminal (last_of self.old)
+            → IsTermRun t (before ++ plain_term_said said.now ∷ []) first (W.contents writer.new) self.new.terminal (last_of self.new)) }
+        ensures missed { IfOk result (λ on. on ≡ false
+            → IsTermMissedBy (plain_term_said said.now) (last_of self.old) (W.contents writer.old) (W.contents writer.new)) }
+    {
+        match &said.command {
+            TermCommand::Expect(text) => {
+                if self.printer.has_printed(text) {
+                    return Ok(true);
+                }
+                let line = said.line;
+                write_line(alloc, writer, &format_args!("failed line {line}"))?;
+                Ok(false)
+            }
+            TermCommand::Out(units) => {
+                self.print_units(alloc, *units, writer)?;
+                Ok(true)
+            }
+            command => {
+                let line = answer(alloc, &mut self.terminal, command)?;
+                self.printer.print(line, writer)?;
+                Ok(true)
+            }
+        }
+    }
+
+    /// Does what the commands say, in order, up to an expectation that fails. Gives the exit status, 0 or 1 where one failed.
+    ///
+    /// # Errors
+    ///
+    /// Where a write fails, or memory is wanting.
+    fn run<W: Write>(
+        &mut self,
+        alloc: Global,
+        commands: &[TermSaid<'_>],
+        writer: &mut W,
+    ) -> io::Result<u8>
+        ensures held { IfOk result (λ status. status ≡ 0 → (t : Term) (before : List PlainTermSaid) (first : Option (List ℕ))
+            → IsTermRun t before first (W.contents writer.old) self.old.terminal (last_of self.old)
+            → IsTermRun t (before ++ map plain_term_said commands.now) first (W.contents writer.new) self.new.terminal (last_of self.new)) }
+        ensures missed { IfOk result (λ status. status ≡ 1 → (t : Term) (before : List PlainTermSaid) (first : Option (List ℕ))
+            → IsTermRun t before first (W.contents writer.old) self.old.terminal (last_of self.old)
+            → IsTermMissed (before ++ map plain_term_said commands.now) first (W.contents writer.new) t) }
+        ensures status { IfOk result (λ status. (status ≡ 0) ⊎ (status ≡ 1)) }
+    {
+        for said in commands {
+            if !self.obey(alloc, said, writer)? {
+                return Ok(MISSED);
+            }
+        }
+        Ok(HELD)
+    }
+}
+
+/// Runs the commands of a script on a new terminal. Gives the exit status.
+fn play_on<W: Write>(
+    alloc: Global,
+    terminal: Terminal,
+    script: &TermScript<'_>,
+    writer: &mut W,
+) -> u8
+    ensures held { result ≡ 0
+        → IsTermWritten (map plain_term_said script.now.commands.items) (W.contents writer.old) (W.contents writer.new) terminal }
+    ensures missed { result ≡ 1
+        → IsTermMissed (map plain_term_said script.now.commands.items) (W.contents writer.old) (W.contents writer.new) terminal }
+    ensures status { (result ≡ 0) ⊎ (result ≡ 1) ⊎ (result ≡ 4) }
+{
+    let printer = Printer { last: None };
+    let mut player = TermPlayer { terminal, printer };
+    match player.run(alloc, &script.commands, writer) {
+        Ok(status) => status,
+        Err(_) => FAILED,
+    }
+}
+
+/// Writes why there is no terminal over a set: `refused X2 NoName NAME`. Gives the exit status, 2, or 4 where memory or a write fails.
+pub fn refuse_set<W: Write>(alloc: Global, writer: &mut W, error: OpenError) -> u8
+    ensures printed { result ≡ 2 → PrintsLacking error (W.contents writer.old) (W.contents writer.new) }
+    ensures status { (result ≡ 2) ⊎ (result ≡ 4) }
+{
+    match error {
+        OpenError::NoName(_) => refuse(alloc, writer, &format_args!("refused {error}")),
+        OpenError::NoMemory => FAILED,
+    }
+}
+
+/// Runs a terminal's script on a terminal over a set, and prints what each command but `expect` gives: one line, but for `out`, which prints
+/// one for each unit.
+///
+/// Gives the exit status: 0 where each command ran and its lines were written, 1 after `failed line N` where an expectation failed, 2 after
+/// `refused X2 NoName NAME` alone where the set lacks a name that a terminal speaks to or hears, 4 where memory or a write fails. Nothing is
+/// written after a write that failed.
+pub fn play_terminal<W: Write>(
+    alloc: Global,
+    set: &Verified,
+    script: &TermScript<'_>,
+    writer: &mut W,
+) -> u8
+    ensures held { result ≡ 0
+        → IsOfNew set.now script.now.mode (IsTermWritten (map plain_term_said script.now.commands.items) (W.contents writer.old) (W.contents writer.new)) }
+    ensures missed { result ≡ 1
+        → IsOfNew set.now script.now.mode (IsTermMissed (map plain_term_said script.now.commands.items) (W.contents writer.old) (W.contents writer.new)) }
+    ensures refused { result ≡ 2 → LacksName set.now (W.contents writer.old) (W.contents writer.new) }
+    ensures status { (result ≡ 0) ⊎ (result ≡ 1) ⊎ (result ≡ 2) ⊎ (result ≡ 4) }
+{
+    match Terminal::of_set(alloc, script.mode, set) {
+        Ok(terminal) => play_on(alloc, terminal, script, writer),
+        Err(error) => refuse_set(alloc, writer, error),
+    }
+}

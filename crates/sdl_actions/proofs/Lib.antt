@@ -1,1 +1,0 @@
-pub use Rattle.sdl_landing.proofs.Picking

@@ -1,0 +1,124 @@
+//! The piece of a transition.
+ghost use Rattle.std.specs.Prelude.{◌≡◌, ◌≤◌, length, Option, IfOk};
+ghost use Rattle.sdl_ast.specs.declared.expression.Identifier as tree_identifier;
+ghost use Rattle.sdl_ast.specs.Views.{text_of};
+ghost use Rattle.sdl_compile.specs.Bodies.{IsBody};
+ghost use Rattle.sdl_compile.specs.Scopes.{scope_in, piece_in};
+ghost use Rattle.sdl_meaning.specs.Named.{AnswersAll};
+ghost use Rattle.sdl_sound.specs.Longest.{places_cost};
+ghost use Rattle.sdl_compile.specs.Drafts.{Means};
+ghost use Rattle.sdl_compile.specs.Made.{IsPieceOf};
+ghost use Rattle.sdl_compile.specs.Settings.{IsSetting, IsReadyPiece, count_from, effects_from};
+ghost use Rattle.plain_limits.specs.Limits.{MOST_PARAMETERS};
+
+use sdl_ast::{Identifier, Transition};
+use sdl_facts::{
+    Body, Layout, Marks, Setting, Standing, connection_places, emit_piece, greatest_depth,
+    piece_counts, place_connections, place_facts, place_sets, text_size,
+};
+use std::alloc::{AllocError, Global};
+use turn_code::{Cert, DraftPiece, PlaceFacts, Sequence};
+
+/// How many instructions INPUT's places have.
+fn places_length(places: &[Option<Identifier>]) -> usize
+    requires { length places.now ≤ MOST_PARAMETERS }
+    ensures { result ≡ places_cost places.now }
+{
+    let mut length = 0;
+    for place in places {
+        if place.is_some() {
+            length += 2;
+        }
+    }
+    length
+}
+
+/// The count of the first place, and so of the whole.
+fn first_count(facts: &[PlaceFacts]) -> u32
+    ensures { result ≡ count_from facts.now }
+{
+    match facts.first() {
+        Some(place) => place.count,
+        None => 0,
+    }
+}
+
+/// The effects of the first place, and so of the whole.
+fn first_effects(facts: &[PlaceFacts]) -> u32
+    ensures { result ≡ effects_from facts.now }
+{
+    match facts.first() {
+        Some(place) => place.effects,
+        None => 0,
+    }
+}
+
+/// The piece of a transition: INPUT's places (START has none), and then its text.
+fn make_piece(
+    alloc: Global,
+    setting: &Setting,
+    places: &[Option<Identifier>],
+    body: &Body,
+) -> Result<DraftPiece, AllocError>
+    requires body { IsBody body.now }
+    requires setting { IsSetting setting.now }
+    requires ready { IsReadyPiece (scope_in setting.now.names.now) (piece_in places.now body.now.whole.now) setting.now.parameters.now }
+    ensures { IfOk result (λ d. IsPieceOf (scope_in setting.now.names.now) setting.now.parameters.now setting.now.entry (piece_in places.now body.now.whole.now) d) }
+{
+    let names = setting.names;
+    let copies = setting.copies;
+    let numbers = place_connections(alloc, names, copies, body)?;
+    let start = places_length(places) + text_size(names.process, body);
+    let targets = connection_places(alloc, names, setting.measures, start, &numbers)?;
+    let code = emit_piece(alloc, names, copies, places, body, &numbers, &targets)?;
+    let standing = Standing {
+        places,
+        entry: setting.entry,
+        order: setting.order,
+        copies,
+        numbers: &numbers,
+    };
+    let sets = place_sets(alloc, names, &standing, body)?;
+    let layout = Layout {
+        numbers: &numbers,
+        targets: &targets,
+    };
+    let counted = piece_counts(alloc, setting, places, body.whole, &layout, &code)?;
+    let marks = Marks {
+        sets: &sets,
+        counts: &counted.counts,
+        effects: &counted.effects,
+    };
+    let facts = place_facts(alloc, setting, &code, &marks)?;
+    let certificate = Cert {
+        budget: first_count(&facts),
+        depth: greatest_depth(&facts) as u32,
+        effects: first_effects(&facts),
+    };
+    Ok(DraftPiece {
+        code: Sequence::from(code),
+        facts: Sequence::from(facts),
+        certificate,
+    })
+}
+
+/// Compiles a transition: INPUT's places (START has none), and then its text.
+///
+/// On every input that comes from who may have sent it, the run of the piece is what the transition
+/// means: its effects, its variables, its end and its count. The certificate names the longest path.
+/// Want of memory is the only error.
+pub fn compile_transition(
+    alloc: Global,
+    setting: &Setting,
+    places: &[Option<Identifier>],
+    body: &Body,
+) -> Result<DraftPiece, AllocError>
+    requires body { IsBody body.now }
+    requires setting { IsSetting setting.now }
+    requires ready { IsReadyPiece (scope_in setting.now.names.now) (piece_in places.now body.now.whole.now) setting.now.parameters.now }
+    ensures means { IfOk result (λ d. (from : Option tree_identifier.Identifier) → AnswersAll (scope_in setting.now.names.now) from (text_of body.now.whole.now) → Means (scope_in setting.now.names.now) from (piece_in places.now body.now.whole.now) d) }
+    ensures made { IfOk result (λ d. IsPieceOf (scope_in setting.now.names.now) setting.now.parameters.now setting.now.entry (piece_in places.now body.now.whole.now) d) }
+{
+    let piece = make_piece(alloc, setting, places, body)?;
+    Ok(piece)
+}

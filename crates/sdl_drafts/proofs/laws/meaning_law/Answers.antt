@@ -1,5 +1,0 @@
-use Rattle.sdl_drafts.proofs.Meaning.{runs_as_meant}
-use Rattle.sdl_drafts.proofs.laws.meaning_law.Goals as goal
-
-pub returns : goal.returns
-returns c = runs_as_meant

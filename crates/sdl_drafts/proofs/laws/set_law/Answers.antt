@@ -1,5 +1,0 @@
-use Rattle.sdl_drafts.proofs.Meant.{set_of_block}
-use Rattle.sdl_drafts.proofs.laws.set_law.Goals as goal
-
-pub returns : goal.returns
-returns c = set_of_block

@@ -1,4 +1,0 @@
-pub mod MachineLemmas
-pub mod SoundLemmas
-pub mod Lowering
-pub mod Rests

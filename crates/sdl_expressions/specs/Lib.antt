@@ -1,4 +1,0 @@
-pub mod Expressions
-pub mod Machine
-pub mod Parts
-pub mod Stacks

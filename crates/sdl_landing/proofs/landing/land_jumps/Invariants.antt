@@ -1,6 +1,0 @@
-use Rattle.std.proofs.Common.{◌≡◌, drop}
-use Rattle.sdl_landing.specs.Landing.{landed}
-use Rattle.sdl_landing.proofs.landing.land_jumps.Given as goal
-
-abbrev pub invariant-loop-place : goal.invariant-loop-place
-invariant-loop-place l = landed l.after l.code.items (drop l.place-index l.jumps) ≡ landed l.after l.initial.code.items l.jumps

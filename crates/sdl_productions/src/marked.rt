@@ -1,0 +1,93 @@
+//! What was read, or the place of what is too high in it.
+ghost use Rattle.std.specs.Prelude.{◌≡◌, map, List, IfOk, IfErr};
+ghost use Rattle.sdl_ast.specs.Plain.{PlainStatement, PlainAnswer, PlainClause, PlainState, PlainConnection, PlainEntity};
+ghost use Rattle.sdl_ast.specs.Views.{plain_statement, plain_answer, clause_of, state_of, connection_of, entity_of};
+ghost use Rattle.sdl_productions.specs.BodyViews.{marked_view};
+ghost use Rattle.sdl_productions.specs.Marks.{more, gathered};
+
+use crate::stop::{Stop, push};
+use sdl_ast::{Answer, Connection, Entity, StateClause, StatePart, Statement};
+use std::alloc::Global;
+
+/// What was read, or the place of the first TASK, OUTPUT, SET or DECISION in it that is too high.
+#[derive(Drop)]
+pub enum Marked<T> {
+    /// Nothing in it is too high.
+    Kept(T),
+    /// What stands at this place is.
+    TooHigh(u32),
+}
+
+/// A part of the tree that may be marked.
+pub trait Part: Drop {
+    ghost Plain: { Type 0 };
+
+    ghost view: { Self → Plain };
+}
+
+impl Part for Statement {
+    ghost Plain = { PlainStatement };
+
+    ghost view = { plain_statement };
+}
+
+impl Part for Answer {
+    ghost Plain = { PlainAnswer };
+
+    ghost view = { plain_answer };
+}
+
+impl Part for StateClause {
+    ghost Plain = { PlainClause };
+
+    ghost view = { clause_of };
+}
+
+impl Part for StatePart {
+    ghost Plain = { PlainState };
+
+    ghost view = { state_of };
+}
+
+impl Part for Connection {
+    ghost Plain = { PlainConnection };
+
+    ghost view = { connection_of };
+}
+
+impl Part for Entity {
+    ghost Plain = { PlainEntity };
+
+    ghost view = { entity_of };
+}
+
+/// One more part behind others; the first mark stays.
+pub fn more<'a, T: Part>(parts: Marked<Vec<T>>, part: Marked<T>) -> Result<Marked<Vec<T>>, Stop<'a>>
+    ensures ok { IfOk result (λ found. marked_view (λ v. map T.view v.items) found ≡ more (marked_view (λ v. map T.view v.items) parts) (marked_view T.view part)) }
+    ensures err { IfErr result (λ stop. stop ≡ Stop.NoMemory) }
+{
+    let mut parts = match parts {
+        Marked::Kept(parts) => parts,
+        Marked::TooHigh(at) => return Ok(Marked::TooHigh(at)),
+    };
+    match part {
+        Marked::Kept(part) => push(&mut parts, part)?,
+        Marked::TooHigh(at) => return Ok(Marked::TooHigh(at)),
+    }
+    Ok(Marked::Kept(parts))
+}
+
+/// All of several parts; the first mark stays.
+pub fn gathered<'a, T: Part>(
+    alloc: Global,
+    parts: Vec<Marked<T>>,
+) -> Result<Marked<Vec<T>>, Stop<'a>>
+    ensures ok { IfOk result (λ found. marked_view (λ v. map T.view v.items) found ≡ gathered (map (marked_view T.view) parts.items)) }
+    ensures err { IfErr result (λ stop. stop ≡ Stop.NoMemory) }
+{
+    let mut found = Marked::Kept(Vec::new(alloc));
+    'rows: for part in parts {
+        found = more(found, part)?;
+    }
+    Ok(found)
+}

@@ -1,0 +1,11 @@
+-- What a search for receivers tells.
+use Rattle.std.specs.Prelude.{◌≡◌, ◌<◌, List, [], ◌∷◌, length}
+use Rattle.sdl_ast.specs.declared.tree.Party.{Party}
+use Rattle.sdl_scopes.specs.declared.recipients.Recipients.{Recipients}
+use Rattle.sdl_scopes.specs.declared.recipients.Recipients.TheVariants.{Nobody, One, Several}
+
+-- these are the receivers, each once
+abbrev pub Counts : Recipients → List Party → Type 0
+Counts Nobody parties = parties ≡ []
+Counts (One q) parties = parties ≡ q ∷ []
+Counts Several parties = 1 < length parties

@@ -1,0 +1,30 @@
+//! Who gets a signal by the routes.
+ghost use Rattle.sdl_ast.specs.Views.{block_of};
+ghost use Rattle.sdl_sound.specs.Receivers.{receivers};
+ghost use Rattle.sdl_scopes.specs.Founds.{Counts};
+
+use sdl_ast::Party;
+use sdl_lex::Name;
+use sdl_tables::BlockTable;
+
+/// Who gets a signal by the routes.
+#[derive(Clone, Copy, Debug, PartialEq, Eq)]
+pub enum Recipients {
+    /// No path brings it to anybody.
+    Nobody,
+    /// One party, however many paths bring it there.
+    One(Party),
+    /// Two parties or more.
+    Several,
+}
+
+/// Who gets a signal that a party sends to nobody in particular.
+pub fn find_receivers(block: &BlockTable, from: &Party, signal: Name) -> Recipients
+    ensures { Counts result (receivers (block_of block.now) from.now signal) }
+{
+    match block.receivers(from, signal) {
+        [] => Recipients::Nobody,
+        [one] => Recipients::One(*one),
+        _ => Recipients::Several,
+    }
+}

@@ -1,4 +1,0 @@
-pub mod Founds
-pub mod Known
-pub mod Parties
-pub mod Reaches

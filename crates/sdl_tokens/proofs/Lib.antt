@@ -1,4 +1,0 @@
-pub mod Decides
-pub mod Rows
-pub mod RowLemmas
-pub mod Rests

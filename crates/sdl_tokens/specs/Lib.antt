@@ -1,4 +1,0 @@
-pub mod Tokens
-pub mod Grammar
-pub mod Readings
-pub mod Mirrors

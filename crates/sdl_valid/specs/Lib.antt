@@ -1,9 +1,0 @@
-pub use Rattle.sdl_facts.specs.Bodies
-pub use Rattle.sdl_facts.specs.Entries
-pub use Rattle.sdl_facts.specs.Facts
-pub use Rattle.sdl_facts.specs.Made
-pub use Rattle.sdl_facts.specs.Measures
-pub use Rattle.sdl_facts.specs.Reads
-pub use Rattle.sdl_facts.specs.Scopes
-pub use Rattle.sdl_facts.specs.Settings
-pub use Rattle.sdl_facts.specs.Uses

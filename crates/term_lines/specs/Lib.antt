@@ -1,4 +1,0 @@
-pub mod Orders
-pub mod Octets
-pub mod TermCommands
-pub mod TermScripts

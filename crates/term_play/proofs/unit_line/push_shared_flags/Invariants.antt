@@ -1,7 +1,0 @@
--- The flags so far.
-use Rattle.std.proofs.Common.{◌≡◌, ◌++◌}
-use Rattle.term_play.specs.UnitLines.{shared_flags}
-use Rattle.term_play.proofs.unit_line.push_shared_flags.Given as goal
-
-abbrev pub invariant-loop-shared : goal.invariant-loop-shared
-invariant-loop-shared l = l.line.items ≡ l.initial.line.items ++ shared_flags l.shared

@@ -1,3 +1,0 @@
-pub mod Prints
-mod Written
-pub mod Long

@@ -1,5 +1,0 @@
-use Rattle.text_check.proofs.Long.{unlexed}
-use Rattle.text_check.proofs.sets.too_long.Goals as goal
-
-pub returns : goal.returns
-returns c bytes long = unlexed bytes c.args.kept.now _ long c.line_at_limit.ensures

@@ -1,6 +1,0 @@
--- What was read so far.
-use Rattle.text_reader.proofs.SoFar.{SoFar}
-use Rattle.text_reader.proofs.reading.read_text.Given as goal
-
-abbrev pub invariant-loop : goal.invariant-loop
-invariant-loop g l = SoFar (g.R.Read.remaining l.initial.reader) (g.R.Read.remaining l.reader) l.kept.items l.check

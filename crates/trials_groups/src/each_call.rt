@@ -1,0 +1,252 @@
+//! Each public call of a set, through unacknowledged messages with the numbers 126, 127, 0 and 1, and what it answers.
+
+use crate::calls::{Stopped, pass, serves, speak, tell};
+use crate::far_end::{FarEnd, fill_in, status};
+use crate::keeping::{Given, Went, divert, give_up, hand_out};
+use crate::messages::{Way, message, place_of};
+use group_changeover::label_of;
+use link_group::{Command, Group, LineError, Retrievals};
+use std::alloc::AllocError;
+use su_octets::Unit;
+
+/// From the set to the other point.
+pub const WAY: Way = Way { from: 1, to: 2 };
+
+/// How many ticks proving takes.
+const PROVING: u64 = 8_200;
+
+/// Gives a set the message of a number and selection, and writes why it isn't taken, if it isn't.
+fn give(
+    text: &mut String,
+    group: &mut Group,
+    selection: u8,
+    number: u32,
+) -> Result<(), AllocError> {
+    let msu = message(WAY, selection, number);
+    let Some(label) = label_of(&msu) else {
+        return Ok(());
+    };
+    match group.send(label, msu) {
+        Ok(()) => Ok(()),
+        Err(error) => writeln!(text, "send: {error}"),
+    }
+}
+
+/// Messages of numbers from one up to another.
+fn give_all(text: &mut String, group: &mut Group, from: u32, to: u32) -> Result<(), AllocError> {
+    for number in from..to {
+        give(text, group, 0, number)?;
+    }
+    Ok(())
+}
+
+/// Writes what a link holds, whether it is in changeover, and whether messages of it are retrieved.
+fn write_link(text: &mut String, group: &Group, link: usize) -> Result<(), AllocError> {
+    let held = group.held(link).unwrap_or(0);
+    let sent = group.sent(link).unwrap_or(0);
+    let changing = group.in_changeover(link);
+    let has_retrieval = group.has_retrieval(link);
+    writeln!(
+        text,
+        "link {link}: {held} held, {sent} sent, in changeover {changing}, in hand {has_retrieval}"
+    )
+}
+
+/// Writes which messages a link holds, by their numbers.
+fn write_held(text: &mut String, group: &Group, link: usize) -> Result<(), AllocError> {
+    text.push_str("holds")?;
+    for place in 0..group.held(link).unwrap_or(0) {
+        match group.held_at(link, place) {
+            Some(msu) => write_number(text, place_of(WAY, msu))?,
+            None => {}
+        }
+    }
+    text.push_str("\n")
+}
+
+/// Writes the number of a message.
+fn write_number(text: &mut String, place: Option<(u8, u32)>) -> Result<(), AllocError> {
+    match place {
+        Some((_, number)) => write!(text, " {number}"),
+        None => text.push_str(" ?"),
+    }
+}
+
+/// The unit that goes out next on a link, and once more where there was no memory.
+fn unit_out(group: &mut Group, link: usize) -> Result<Option<Unit>, LineError> {
+    match group.unit_out(link) {
+        Err(LineError::NoMemory) => group.unit_out(link),
+        gone => gone,
+    }
+}
+
+/// Writes the number with which the next message goes out.
+fn write_unit(text: &mut String, group: &mut Group, link: usize) -> Result<(), Stopped> {
+    match unit_out(group, link) {
+        Ok(Some(Unit::Msu(head, _, _))) => {
+            let fsn = head.fsn;
+            write!(text, " {fsn}")?;
+            Ok(())
+        }
+        Ok(_) => {
+            text.push_str(" -")?;
+            Ok(())
+        }
+        Err(LineError::NoMemory) => Err(Stopped::NoMemory),
+        Err(LineError::NoLink) => Err(Stopped::Refused),
+    }
+}
+
+/// Writes how many reports a link has.
+fn write_reports(text: &mut String, group: &mut Group, link: usize) -> Result<(), AllocError> {
+    let mut reports = 0u32;
+    for _ in 0..1000u32 {
+        match group.report(link) {
+            Ok(Some(_report)) => reports = reports.wrapping_add(1),
+            Ok(None) => break,
+            Err(_) => break,
+        }
+    }
+    writeln!(text, "{reports} reports")
+}
+
+/// Has a link say that it is proving.
+fn align(group: &mut Group, far: &mut FarEnd, link: usize) -> Result<(), Stopped> {
+    tell(group, link, Command::PowerOn)?;
+    tell(group, link, Command::Start)?;
+    far.say(group, link, &status(0))?;
+    far.say(group, link, &status(1))
+}
+
+/// Has both links come into service.
+pub fn bring_up(
+    text: &mut String,
+    group: &mut Group,
+    first: &mut FarEnd,
+    second: &mut FarEnd,
+) -> Result<(), Stopped> {
+    align(group, first, 0)?;
+    align(group, second, 1)?;
+    pass(group, PROVING)?;
+    first.say(group, 0, &fill_in(127))?;
+    second.say(group, 1, &fill_in(127))?;
+    let links = group.len();
+    let serve = serves(group, 0) && serves(group, 1);
+    let turns = group.book(0).is_some();
+    writeln!(text, "{links} links, in service {serve}, actors {turns}")?;
+    let (even, odd) = (group.link_of(0), group.link_of(1));
+    writeln!(
+        text,
+        "selection 0 on {}, 1 on {}",
+        even.unwrap_or(99),
+        odd.unwrap_or(99)
+    )?;
+    write_reports(text, group, 0)?;
+    Ok(())
+}
+
+/// Messages 126 to 129 go out with the numbers 126, 127, 0 and 1, and two more wait.
+pub fn fill(text: &mut String, group: &mut Group, far: &mut FarEnd) -> Result<(), Stopped> {
+    give_all(text, group, 0, 126)?;
+    let _octets = speak(group, 0, 126)?;
+    write_link(text, group, 0)?;
+    far.say(group, 0, &fill_in(125))?;
+    give_all(text, group, 126, 130)?;
+    text.push_str("units")?;
+    for _ in 0..4u8 {
+        write_unit(text, group, 0)?;
+    }
+    text.push_str("\n")?;
+    give_all(text, group, 130, 132)?;
+    write_link(text, group, 0)?;
+    write_held(text, group, 0)?;
+    Ok(())
+}
+
+/// Writes what a message of changeover is answered by.
+fn write_answer(text: &mut String, group: &mut Group, sif: &[u8]) -> Result<(), AllocError> {
+    match group.changeover_message(sif) {
+        Some(answer) => write_sif(text, answer.as_slice()),
+        None => text.push_str("no answer\n"),
+    }
+}
+
+/// Writes a field.
+fn write_sif(text: &mut String, sif: &[u8]) -> Result<(), AllocError> {
+    text.push_str("answer")?;
+    for octet in sif {
+        write!(text, " {octet:02X}")?;
+    }
+    text.push_str("\n")
+}
+
+/// Writes whether messages were handed out.
+fn write_given(text: &mut String, given: Given) -> Result<(), AllocError> {
+    match given {
+        Given::Out(count) => writeln!(text, "{count} in hand"),
+        Given::Refused(error) => writeln!(text, "retrieve: {error}"),
+    }
+}
+
+/// Writes whether a retrieval went on.
+fn write_went(text: &mut String, went: Went) -> Result<(), AllocError> {
+    match went {
+        Went::On => text.push_str("diverted\n"),
+        Went::Left(left) => writeln!(text, "{left} left in hand"),
+        Went::Nowhere => text.push_str("no hand\n"),
+    }
+}
+
+/// Writes whether selections were shared out anew.
+fn write_rebalanced(text: &mut String, group: &mut Group) -> Result<(), AllocError> {
+    match group.rebalance() {
+        Ok(()) => text.push_str("rebalanced\n"),
+        Err(error) => writeln!(text, "rebalance: {error}"),
+    }
+}
+
+/// The first link fails; there message 127 came, the number of which is 127.
+pub fn change_over(
+    text: &mut String,
+    group: &mut Group,
+    retrievals: &mut Retrievals,
+) -> Result<(), Stopped> {
+    match group.fail(0) {
+        Ok(sif) => write_sif(text, sif.as_slice())?,
+        Err(error) => writeln!(text, "fail: {error}")?,
+    }
+    give(text, group, 0, 132)?;
+    write_rebalanced(text, group)?;
+    let given = hand_out(group, retrievals, 0)?;
+    write_given(text, given)?;
+    write_answer(text, group, &[0x01, 0x80, 0, 0, 0x21, 127])?;
+    let given = hand_out(group, retrievals, 0)?;
+    write_given(text, given)?;
+    let went = divert(group, retrievals, 0);
+    write_went(text, went)?;
+    write_link(text, group, 0)?;
+    write_link(text, group, 1)?;
+    write_held(text, group, 1)?;
+    Ok(())
+}
+
+/// The second link fails too, with three messages sent, and it isn't known there which came.
+pub fn give_them_up(
+    text: &mut String,
+    group: &mut Group,
+    retrievals: &mut Retrievals,
+) -> Result<(), Stopped> {
+    let _octets = speak(group, 1, 3)?;
+    tell(group, 1, Command::Stop)?;
+    write_answer(text, group, &[0x01, 0x80, 0, 0x10, 0x12])?;
+    let given = hand_out(group, retrievals, 1)?;
+    write_given(text, given)?;
+    let count = give_up(group, retrievals, 1)?.unwrap_or(99);
+    let unsure = group.unsure();
+    let kept = retrievals.len();
+    writeln!(text, "{count} in hand, {unsure} unsure, {kept} hands")?;
+    let went = divert(group, retrievals, 1);
+    write_went(text, went)?;
+    write_link(text, group, 1)?;
+    Ok(())
+}

@@ -1,0 +1,89 @@
+//! A set whose first link holds as many messages as may be.
+
+use crate::calls::{Stopped, speak};
+use crate::each_call::{WAY, bring_up};
+use crate::far_end::FarEnd;
+use crate::keeping::{Given, Went, divert, hand_out};
+use crate::messages::message;
+use crate::opening::open_set;
+use group_changeover::label_of;
+use link_group::{Group, Mode, Retrievals};
+use std::alloc::Global;
+use turn_check::Verified;
+
+/// How many messages may be sent and not acknowledged, and how many may wait.
+const SENT: u32 = 127;
+
+const WAITING: u32 = 1_024;
+
+/// Two links in service. It can't be dropped: its set ends with what is retrieved.
+pub struct FullSet {
+    group: Group,
+    retrievals: Retrievals,
+}
+
+/// Has two new links come into service.
+fn begin(alloc: Global, group: &mut Group) -> Result<(), Stopped> {
+    let mut text = String::new(alloc);
+    let mut first = FarEnd::new();
+    let mut second = FarEnd::new();
+    bring_up(&mut text, group, &mut first, &mut second)
+}
+
+impl FullSet {
+    /// Two links with terminals over a set of processes, in service.
+    pub fn open(alloc: Global, set: &Verified) -> Result<FullSet, Stopped> {
+        let mut group = open_set(alloc, set, Mode::Basic, 2, WAY)?;
+        begin(alloc, &mut group)?;
+        let retrievals = Retrievals::new(alloc)?;
+        Ok(FullSet { group, retrievals })
+    }
+
+    /// Gives the first link so many messages of its eight selections. How many it took.
+    fn give(&mut self, count: u32) -> u32 {
+        let mut taken = 0u32;
+        for number in 0..count {
+            let selection = (number % 8) as u8 * 2;
+            let msu = message(WAY, selection, number);
+            if let Some(label) = label_of(&msu) {
+                taken = taken.wrapping_add(self.group.send(label, msu).is_ok() as u32);
+            }
+        }
+        taken
+    }
+
+    /// 127 messages are taken and go out.
+    pub fn send_window(&mut self) -> Result<u32, Stopped> {
+        let taken = self.give(SENT);
+        let _octets = speak(&mut self.group, 0, SENT as usize)?;
+        Ok(taken)
+    }
+
+    /// 1,024 messages more are taken, and wait.
+    pub fn send_more(&mut self) -> u32 {
+        self.give(WAITING)
+    }
+
+    /// The first link fails, the far side accepted none of its messages, and all of them go to the second. How many that holds then.
+    pub fn divert(&mut self) -> Result<usize, Stopped> {
+        let _order = self.group.fail(0).is_ok();
+        let _answer = self
+            .group
+            .changeover_message(&[0x01, 0x80, 0, 0, 0x21, 127]);
+        match hand_out(&mut self.group, &mut self.retrievals, 0)? {
+            Given::Out(_) => {}
+            Given::Refused(_) => return Err(Stopped::Refused),
+        }
+        match divert(&mut self.group, &mut self.retrievals, 0) {
+            Went::On => Ok(self.group.held(1).unwrap_or(0)),
+            Went::Left(_) => Err(Stopped::Refused),
+            Went::Nowhere => Err(Stopped::Refused),
+        }
+    }
+
+    /// Ends the set.
+    pub fn end(self) {
+        let FullSet { group, retrievals } = self;
+        let _ended = group.end(retrievals);
+    }
+}

@@ -1,0 +1,155 @@
+//! The rules by which lines are cut and healed.
+//!
+//! - While messages are to be sent, one link in service at both ends, of which no changeover goes on, is cut now and then.
+//! - A link that goes down at one end is cut too, for whatever reason it does.
+//! - What a cut link sends is lost, both ways; each end hears 1s.
+//! - An end calls `fail` for a link, and hears what is said of its changeover, only while that is down there.
+//! - A cut is healed some rounds after both ends have their retrieval out and no message of changeover about it is under way. Then both ends start the
+//!   link.
+//! - An end shares selections out anew once a link came into service, as soon as that isn't refused.
+
+use crate::calls::{Stopped, serves};
+use crate::dice::Dice;
+use crate::set_end::{MOST_MAIL, SetEnd};
+use link_group::Sif;
+
+/// In how many rounds one link is cut, and one cut is healed.
+const CUTS: u32 = 12;
+
+const HEALS: u32 = 6;
+
+/// What happened to the links.
+#[derive(Clone, Copy)]
+pub struct Schedule {
+    /// Whether each link is cut.
+    cut: [bool; 16],
+    /// One in so many messages of changeover is lost; 0 for none.
+    lost: u32,
+    pub cuts: u32,
+    /// How many messages of changeover were sent, and how many of them were lost.
+    pub orders: u32,
+    pub losses: u32,
+}
+
+/// The link that a message of changeover speaks of.
+fn link_in(sif: &Sif) -> usize {
+    match sif.as_slice() {
+        [_, _, _, selection, ..] => usize::from(*selection / 16),
+        _ => 0,
+    }
+}
+
+/// Whether a message about a link is under way to an end.
+fn has_mail(end: &SetEnd, link: usize) -> bool {
+    for place in 0..end.mail.len() {
+        if link_in(&end.mail[place]) == link {
+            return true;
+        }
+    }
+    false
+}
+
+impl Schedule {
+    /// No link is cut.
+    pub fn new(lost: u32) -> Schedule {
+        Schedule {
+            cut: [false; 16],
+            lost,
+            cuts: 0,
+            orders: 0,
+            losses: 0,
+        }
+    }
+
+    /// Whether a link is cut.
+    pub fn is_cut(&self, link: usize) -> bool {
+        self.cut[link % 16]
+    }
+
+    /// Cuts a link, which has to be handed out at both ends.
+    fn cut(&mut self, near: &mut SetEnd, far: &mut SetEnd, link: usize) {
+        let place = link % 16;
+        self.cut[place] = true;
+        self.cuts = self.cuts.wrapping_add(1);
+        near.due[place] = true;
+        far.due[place] = true;
+    }
+
+    /// Cuts a link now and then.
+    pub fn cut_one(&mut self, near: &mut SetEnd, far: &mut SetEnd, links: usize, dice: &mut Dice) {
+        let link = (dice.draw() % (links as u64).max(1)) as usize;
+        if !dice.one_in(CUTS) || self.is_cut(link) {
+            return;
+        }
+        if near.is_free(link) && far.is_free(link) {
+            self.cut(near, far, link);
+        }
+    }
+
+    /// Looks whether a link went down.
+    pub fn look(&mut self, near: &mut SetEnd, far: &mut SetEnd, link: usize) {
+        let place = link % 16;
+        if !self.is_cut(link) && (near.due[place] || far.due[place]) {
+            self.cut(near, far, link);
+        }
+    }
+
+    /// Heals a link some rounds after both ends have their retrieval out.
+    pub fn heal(&mut self, near: &SetEnd, far: &SetEnd, link: usize, dice: &mut Dice) {
+        let place = link % 16;
+        if !self.is_cut(link) || near.due[place] || far.due[place] {
+            return;
+        }
+        if !has_mail(near, link) && !has_mail(far, link) && dice.one_in(HEALS) {
+            self.cut[place] = false;
+        }
+    }
+
+    /// Sends a message of changeover to an end, or loses it.
+    pub fn send(&mut self, to: &mut SetEnd, sif: Sif, dice: &mut Dice) {
+        self.orders = self.orders.wrapping_add(1);
+        if dice.one_in(self.lost) || to.mail.len() >= MOST_MAIL {
+            self.losses = self.losses.wrapping_add(1);
+            return;
+        }
+        if to.mail.push_back(sif).is_err() {
+            self.losses = self.losses.wrapping_add(1);
+        }
+    }
+
+    /// Hands an end the next message that is under way to it, if the link is down there, and sends the answer to the other; else it goes back to
+    /// those that are under way.
+    fn deliver_one(&mut self, to: &mut SetEnd, from: &mut SetEnd, dice: &mut Dice) {
+        let Some(sif) = to.mail.pop_front() else {
+            return;
+        };
+        if serves(&to.group, link_in(&sif)) {
+            let _kept = to.mail.push_back(sif).is_ok();
+            return;
+        }
+        if let Some(answer) = to.group.changeover_message(sif.as_slice()) {
+            self.send(from, answer, dice);
+        }
+    }
+
+    /// Hands an end all that is under way to it.
+    pub fn deliver(&mut self, to: &mut SetEnd, from: &mut SetEnd, dice: &mut Dice) {
+        for _ in 0..to.mail.len() {
+            self.deliver_one(to, from, dice);
+        }
+    }
+
+    /// What an end does for a link that is down or in changeover.
+    pub fn tend(
+        &mut self,
+        end: &mut SetEnd,
+        other: &mut SetEnd,
+        link: usize,
+        dice: &mut Dice,
+    ) -> Result<(), Stopped> {
+        if let Some(order) = end.tend(link, dice)? {
+            self.send(other, order, dice);
+        }
+        Ok(())
+    }
+}

@@ -1,0 +1,101 @@
+//! Runs of two sets.
+
+use crate::calls::Stopped;
+use crate::messages::Way;
+use crate::opening::open_set;
+use crate::pair::make_rounds;
+use crate::run::{Run, run_of};
+use crate::schedule::Schedule;
+use crate::set_end::{MOST_MAIL, SetEnd};
+use crate::shown::write_run;
+use link_group::Retrievals;
+use std::alloc::Global;
+use std::collections::VecDeque;
+use turn_check::Verified;
+
+/// The points at the two ends.
+const NEAR: u16 = 1;
+
+const FAR: u16 = 16_383;
+
+/// An end with a new set of a run.
+fn open_end(alloc: Global, set: &Verified, run: Run, way: Way) -> Result<SetEnd, Stopped> {
+    let mail = VecDeque::with_capacity(alloc, MOST_MAIL)?;
+    let group = open_set(alloc, set, run.mode, run.links, way)?;
+    match Retrievals::new(alloc) {
+        Ok(retrievals) => Ok(SetEnd::new(group, retrievals, way, mail)),
+        Err(_) => Err(Stopped::NoMemory),
+    }
+}
+
+/// Makes a run, and writes what came of it.
+fn make_run(
+    text: &mut String,
+    near: &mut SetEnd,
+    far: &mut SetEnd,
+    run: Run,
+) -> Result<(), Stopped> {
+    let mut schedule = Schedule::new(run.lost);
+    make_rounds(&mut schedule, near, far, run)?;
+    write_run(text, run, &schedule, near, far)?;
+    Ok(())
+}
+
+/// Makes a run with one end, and the other made anew.
+fn run_with(
+    alloc: Global,
+    text: &mut String,
+    set: &Verified,
+    near: &mut SetEnd,
+    run: Run,
+) -> Result<(), Stopped> {
+    let way = Way {
+        from: FAR,
+        to: NEAR,
+    };
+    match open_end(alloc, set, run, way) {
+        Ok(mut far) => {
+            let made = make_run(text, near, &mut far, run);
+            far.end();
+            made
+        }
+        Err(stopped) => Err(stopped),
+    }
+}
+
+/// Makes the run of a line with two new sets.
+fn run_line(alloc: Global, text: &mut String, set: &Verified, line: &str) -> Result<(), Stopped> {
+    let Some(run) = run_of(line) else {
+        return Err(Stopped::BadLine);
+    };
+    let way = Way {
+        from: NEAR,
+        to: FAR,
+    };
+    match open_end(alloc, set, run, way) {
+        Ok(mut near) => {
+            let made = run_with(alloc, text, set, &mut near, run);
+            near.end();
+            made
+        }
+        Err(stopped) => Err(stopped),
+    }
+}
+
+/// Makes the run of each line, and writes what came of it: `basic` or `cyclic`, how many links, the seed, how many messages each end takes, and one in how
+/// many messages of changeover is lost, 0 for none.
+///
+/// # Errors
+///
+/// Where there is no memory, a line is no run, or a terminal isn't made over the set or refuses what it is told.
+pub fn run_sets(
+    alloc: Global,
+    text: &mut String,
+    set: &Verified,
+    runs: &str,
+) -> Result<(), Stopped> {
+    for line in runs.lines() {
+        run_line(alloc, text, set, line)?;
+    }
+    Ok(())
+}

@@ -1,0 +1,275 @@
+//! Exchanges of a link, as the recommendation's procedures have them.
+ghost use Rattle.std.specs.Prelude.{◌≡◌, length};
+
+use arrayvec::ArrayVec;
+use link_transceiver::*;
+use resend_store::{Mode, Msu, RetrieveError};
+use std::alloc::Global;
+use su_octets::{Head, Unit};
+
+/// One line of an exchange.
+#[derive(Clone, Copy)]
+enum Step {
+    /// An actor tells that.
+    Tell(EnvSignal),
+    /// A message with this service information octet is to be sent.
+    Put(u8),
+    /// A unit with these first two octets comes, a message where the third word says so. Messages were acknowledged of which
+    /// some are left, or all; two units were at fault.
+    Hear(u8, u8, bool, Option<bool>, bool),
+    /// A unit goes out that is printed so.
+    Out(&'static str),
+    /// That is reported.
+    Report(LinkStatus),
+    /// Such a message is delivered.
+    Deliver(u8),
+    /// Nothing is reported.
+    Rest,
+}
+
+/// A message of 4 octets.
+fn message(sio: u8) -> Msu
+    ensures { length result.sif.items ≡ 3 }
+{
+    let mut sif = ArrayVec::new();
+    sif.push(1);
+    sif.push(2);
+    sif.push(3);
+    Msu { sio, sif }
+}
+
+/// The unit that begins so.
+fn unit(first: u8, second: u8, has_msu: bool) -> Unit {
+    let head = Head {
+        bsn: first % 128,
+        bib: first / 128,
+        fsn: second % 128,
+        fib: second / 128,
+    };
+    if has_msu {
+        let Msu { sio, sif } = message(0x80);
+        Unit::Msu(head, sio, sif)
+    } else {
+        Unit::Fisu(head)
+    }
+}
+
+fn told(to: Party, notice: Notice) -> Offer {
+    Offer { to, notice }
+}
+
+/// What is offered for a unit.
+fn offered(seen: Option<bool>, bad: bool) -> Offers {
+    let mut offers = Offers::new();
+    offers.push(told(Party::Aerm, Notice::Good));
+    offers.push(told(Party::Suerm, Notice::Good));
+    if let Some(some_left) = seen {
+        offers.push(told(Party::Txc, Notice::AckSeen(some_left)));
+    }
+    if bad {
+        offers.push(told(Party::Rc, Notice::Bad));
+    }
+    offers.push(told(Party::Rc, Notice::Unit(8)));
+    offers
+}
+
+/// Whether that is offered for a unit, which is whole and for which there is room.
+fn hears(transceiver: &mut Transceiver, unit: Unit, offers: &[Offer]) -> bool {
+    unit.whole() && transceiver.has_room() && transceiver.on_unit(unit).as_slice() == offers
+}
+
+/// The next unit as it is printed, and whether something is offered with it.
+fn given(alloc: Global, transceiver: &mut Transceiver) -> Option<String> {
+    match transceiver.unit_out() {
+        Some(UnitOut { unit, offer }) => format!(in alloc; "{unit} {}", offer.is_some()).ok(),
+        None => format!(in alloc; "silent").ok(),
+    }
+}
+
+/// Whether the next unit is printed so.
+fn gives(alloc: Global, transceiver: &mut Transceiver, text: &str) -> bool {
+    match given(alloc, transceiver) {
+        Some(printed) => printed.as_str() == text,
+        None => false,
+    }
+}
+
+/// Whether a side does what a step says.
+fn does(alloc: Global, transceiver: &mut Transceiver, step: Step) -> bool {
+    match step {
+        Step::Tell(signal) => {
+            transceiver.on_signal(signal);
+            true
+        }
+        Step::Put(sio) => transceiver.put(message(sio)).is_ok(),
+        Step::Hear(first, second, has_msu, seen, bad) => {
+            let unit = unit(first, second, has_msu);
+            hears(transceiver, unit, offered(seen, bad).as_slice())
+        }
+        Step::Out(text) => gives(alloc, transceiver, text),
+        Step::Report(status) => transceiver.report() == Some(Report::Status(status)),
+        Step::Deliver(sio) => transceiver.report() == Some(Report::Message(message(sio))),
+        Step::Rest => transceiver.report().is_none(),
+    }
+}
+
+/// The number of the first step at which a side does something else.
+fn first_other(alloc: Global, transceiver: &mut Transceiver, steps: &[Step]) -> Option<usize> {
+    for (number, step) in steps.iter().enumerate() {
+        if !does(alloc, transceiver, *step) {
+            return Some(number);
+        }
+    }
+    None
+}
+
+/// What the actors tell until the link is in service.
+const COMES_UP: [Step; 11] = [
+    Step::Out("silent"),
+    Step::Tell(EnvSignal::Line(3)),
+    Step::Out("LSSU bsn 127 bib 1 fsn 127 fib 1 status SIOS false"),
+    Step::Tell(EnvSignal::Fresh),
+    Step::Tell(EnvSignal::Line(1)),
+    Step::Out("LSSU bsn 127 bib 1 fsn 127 fib 1 status SIN false"),
+    Step::Tell(EnvSignal::Take(true)),
+    Step::Tell(EnvSignal::Line(8)),
+    Step::Out("FISU bsn 127 bib 1 fsn 127 fib 1 false"),
+    Step::Tell(EnvSignal::InServiceNow),
+    Step::Tell(EnvSignal::Line(9)),
+];
+
+const LOSES_ONE_EACH_WAY: [Step; 15] = [
+    Step::Put(0x80),
+    Step::Out("MSU bsn 127 bib 1 fsn 0 fib 1 sio 80 octets 3 true"),
+    Step::Out("FISU bsn 127 bib 1 fsn 0 fib 1 false"),
+    Step::Hear(0x7f, 0xff, false, None, false),
+    Step::Out("MSU bsn 127 bib 1 fsn 0 fib 0 sio 80 octets 3 true"),
+    Step::Hear(0x00, 0xff, false, Some(false), false),
+    Step::Out("FISU bsn 127 bib 1 fsn 0 fib 0 false"),
+    Step::Hear(0x00, 0x80, true, None, false),
+    Step::Out("FISU bsn 0 bib 1 fsn 0 fib 0 false"),
+    Step::Hear(0x00, 0x82, true, None, false),
+    Step::Out("FISU bsn 0 bib 0 fsn 0 fib 0 false"),
+    Step::Tell(EnvSignal::Down(2)),
+    Step::Deliver(0x80),
+    Step::Report(LinkStatus::InService),
+    Step::Report(LinkStatus::Down(2)),
+];
+
+/// One fault of each kind is none; two of one kind are told; a fresh start forgets them.
+const HAS_FAULTS: [Step; 10] = [
+    Step::Hear(0x85, 0xff, false, None, false),
+    Step::Hear(0xff, 0x7f, false, None, false),
+    Step::Put(1),
+    Step::Put(2),
+    Step::Out("MSU bsn 127 bib 1 fsn 0 fib 1 sio 01 octets 3 true"),
+    Step::Out("MSU bsn 127 bib 1 fsn 1 fib 1 sio 02 octets 3 true"),
+    Step::Hear(0x80, 0x7f, false, Some(true), true),
+    Step::Tell(EnvSignal::Fresh),
+    Step::Hear(0xff, 0x7f, false, None, false),
+    Step::Hear(0x85, 0x7f, false, None, false),
+];
+
+/// What is lost meanwhile is asked for at the end. Asked for again, number and bit are read anew; a fresh start makes them 127 and 1.
+const IS_CONGESTED: [Step; 22] = [
+    Step::Tell(EnvSignal::Line(5)),
+    Step::Tell(EnvSignal::Withhold(true)),
+    Step::Out("LSSU bsn 127 bib 1 fsn 127 fib 1 status SIB false"),
+    Step::Hear(0xff, 0x80, true, None, false),
+    Step::Hear(0xff, 0x82, true, None, false),
+    Step::Out("FISU bsn 127 bib 1 fsn 127 fib 1 false"),
+    Step::Tell(EnvSignal::Withhold(true)),
+    Step::Out("FISU bsn 0 bib 0 fsn 127 fib 1 false"),
+    Step::Tell(EnvSignal::Fresh),
+    Step::Out("FISU bsn 127 bib 1 fsn 127 fib 1 false"),
+    Step::Hear(0xff, 0x80, true, None, false),
+    Step::Hear(0xff, 0x82, true, None, false),
+    Step::Out("FISU bsn 127 bib 1 fsn 127 fib 1 false"),
+    Step::Tell(EnvSignal::Withhold(false)),
+    Step::Out("FISU bsn 0 bib 0 fsn 127 fib 1 false"),
+    Step::Tell(EnvSignal::Line(5)),
+    Step::Tell(EnvSignal::Line(-1)),
+    Step::Tell(EnvSignal::Line(264)),
+    Step::Out("LSSU bsn 0 bib 0 fsn 127 fib 1 status SIB false"),
+    Step::Deliver(0x80),
+    Step::Deliver(0x80),
+    Step::Report(LinkStatus::InService),
+];
+
+/// The numbers of the first steps at which a new side does something else as it comes up, and then; nothing where it can't be made.
+fn first_others(alloc: Global, steps: &[Step]) -> Option<[Option<usize>; 2]> {
+    let mut transceiver = Transceiver::new(alloc, Mode::Basic).ok()?;
+    let coming = first_other(alloc, &mut transceiver, &COMES_UP);
+    Some([coming, first_other(alloc, &mut transceiver, steps)])
+}
+
+#[test]
+fn exchanges_units(rt: HostRuntime) {
+    let well = Some([None; 2]);
+    assert_eq!(rt; first_others(rt.alloc(), &LOSES_ONE_EACH_WAY), well);
+    assert_eq!(rt; first_others(rt.alloc(), &HAS_FAULTS), well);
+    assert_eq!(rt; first_others(rt.alloc(), &IS_CONGESTED), well);
+}
+
+/// Whether the next reports are that the link went down for each of these reasons, and then there is none.
+fn reports_down(transceiver: &mut Transceiver, first: i32, end: i32) -> bool {
+    for reason in first..end {
+        if transceiver.report() != Some(Report::Status(LinkStatus::Down(reason))) {
+            return false;
+        }
+    }
+    transceiver.report().is_none()
+}
+
+/// Whether of seventy statuses the latest 64 are kept; nothing where there is no side.
+fn keeps_latest(alloc: Global) -> Option<bool> {
+    let mut transceiver = Transceiver::new(alloc, Mode::Cyclic).ok()?;
+    for reason in 0..70 {
+        transceiver.on_signal(EnvSignal::Down(reason));
+    }
+    Some(reports_down(&mut transceiver, 6, 70))
+}
+
+#[test]
+fn keeps_the_latest_statuses(rt: HostRuntime) {
+    assert_eq!(rt; keeps_latest(rt.alloc()), Some(true));
+}
+
+/// A side; where memory is refused once, one that is asked for again.
+fn made(alloc: Global) -> Option<Transceiver> {
+    match Transceiver::new(alloc, Mode::Basic) {
+        Ok(transceiver) => Some(transceiver),
+        Err(_) => Transceiver::new(alloc, Mode::Basic).ok(),
+    }
+}
+
+/// How many messages are handed out.
+fn handed(transceiver: &mut Transceiver) -> Result<usize, RetrieveError> {
+    match transceiver.retrieve(Some(127)) {
+        Ok(messages) => Ok(messages.len()),
+        Err(error) => Err(error),
+    }
+}
+
+/// The same; where memory is refused once and one is kept, when they are asked for again.
+fn handed_at_last(transceiver: &mut Transceiver) -> Option<usize> {
+    match handed(transceiver) {
+        Ok(count) => Some(count),
+        Err(RetrieveError::NoMemory) if transceiver.held() == 1 => handed(transceiver).ok(),
+        Err(_) => None,
+    }
+}
+
+/// How many messages a side hands out that took one, and how many it keeps then.
+fn hands_out(alloc: Global) -> Option<(usize, usize)> {
+    let mut transceiver = made(alloc)?;
+    transceiver.put_diverted(message(7)).ok()?;
+    let count = handed_at_last(&mut transceiver)?;
+    Some((count, transceiver.held()))
+}
+
+/// Where memory is refused nothing has changed, and the next call succeeds.
+#[test]
+fn keeps_all_where_memory_is_refused(rt: HostRuntime) {
+    assert_eq!(rt; hands_out(rt.alloc()), Some((1, 0)));
+}

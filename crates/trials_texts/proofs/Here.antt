@@ -1,0 +1,73 @@
+-- Words that stand for values at a place of a set's transition.
+use Rattle.std.proofs.Common.{◌≡◌, ℕ, zero, suc, List, Option, Some, None, option_map, slice_get, refl, sym, ap, ◌∙◌, subst}
+use Rattle.turn_code.specs.Run.{begun}
+use Rattle.turn_code.specs.Transitions.{Transition, transition_at, process_at, start_of, start_at, input_at, input_of}
+use Rattle.turn_code.specs.Valid.{IsValid}
+use Rattle.turn_code.specs.Fits.{Fits, FitsTransition}
+use Rattle.turn_code.specs.declared.value.Value.{Value}
+use Rattle.turn_code.specs.declared.input.Input.{Input}
+use Rattle.turn_code.specs.declared.input.Place.{Place}
+use Rattle.turn_code.specs.declared.input.Place.TheVariants.{Start, State}
+use Rattle.turn_code.specs.declared.draft.Draft.{Draft}
+use Rattle.turn_code.specs.declared.draft.DraftSignal.{DraftSignal}
+use Rattle.turn_code.specs.declared.draft.DraftProcess.{DraftProcess}
+use Rattle.turn_code.specs.declared.draft.DraftState.{DraftState}
+use Rattle.turn_code.specs.declared.draft.DraftInput.{DraftInput}
+use Rattle.turn_check.specs.turn_words_types.piece.Piece.{Piece}
+use Rattle.turn_check.specs.turn_words_types.words.Words.{Words}
+use Rattle.turn_check.specs.Bare.{bare_of}
+use Rattle.turn_check.specs.Meant.{AreWordsOf}
+use Rattle.turn_check.specs.Sorts.{AreSortsOf}
+use Rattle.turn_check.specs.Steps.{StandAt}
+use Rattle.turn_check.proofs.Whole.{start_small}
+use Rattle.trials_texts.specs.Holding.{HoldAt}
+
+-- ---- the process of a transition
+of_input : (ss : List DraftSignal) (n : ℕ) (p : DraftProcess) (q : DraftState) (o : Option DraftInput) (t : Transition)
+    → option_map (input_of ss n p q) o ≡ Some t → p ≡ t.process
+of_input ss n p q None t e = cc
+of_input ss n p q (Some x) t e = let same : input_of ss n p q x ≡ t = cc in ap (λ (t : Transition). t.process) same
+
+of_state : (ss : List DraftSignal) (n : ℕ) (p : DraftProcess) (i : ℕ) (o : Option DraftState) (t : Transition) → input_at ss n p i o ≡ Some t → p ≡ t.process
+of_state ss n p i None t e = cc
+of_state ss n p i (Some q) t e = of_input ss n p q (slice_get q.inputs i) t e
+
+of_start : (n : ℕ) (p : DraftProcess) (i : ℕ) (t : Transition) → start_at n p i ≡ Some t → p ≡ t.process
+of_start n p zero t e = let same : start_of n p ≡ t = cc in ap (λ (t : Transition). t.process) same
+of_start n p (suc i) t e = cc
+
+of_process : (ss : List DraftSignal) (n : ℕ) (s : Place) (i : ℕ) (o : Option DraftProcess) (t : Transition) → process_at ss n s i o ≡ Some t → o ≡ Some t.process
+of_process ss n s i None t e = cc
+of_process ss n Start i (Some p) t e = ap Some (of_start n p i t e)
+of_process ss n (State q) i (Some p) t e = ap Some (of_state ss n p i (slice_get p.states q.0) t e)
+
+same_there : (o : Option Transition) (t u : Transition) → Some t ≡ o → o ≡ Some u → u ≡ t
+same_there o t u e h = let both : Some t ≡ Some u = e ∙ h in cc
+
+pub stand_here : (d : Draft) (p : ℕ) (s : Place) (i k : ℕ) (x : Input) (t : Transition) (q : Piece) (w : Words) (os : List Value) → IsValid d
+    → Some t ≡ transition_at d p s i → Fits d p s i x → q.code.now ≡ t.piece.code → q.sender ≡ x.sender
+    → ((y : DraftProcess) → slice_get d.processes p ≡ Some y → AreSortsOf d.signals y.variables q.sorts.now)
+    → HoldAt t.piece k os x.variables.items → AreWordsOf (bare_of w) os x.variables.items x.parameters.items → StandAt q k w
+stand_here d p s i k x t q w os valid e fits same from own hold words =
+    let is : fits.transition ≡ t = same_there (transition_at d p s i) t fits.transition e fits.there in
+    let there : slice_get d.processes p ≡ Some t.process = of_process d.signals p s i (slice_get d.processes p) t (sym e) in
+    let right : FitsTransition d t x = subst (λ u. FitsTransition d u x) is fits.fits in
+    record {
+      draft = d;
+      transition = t;
+      input = x;
+      operands = os;
+      progress = begun x;
+      stand = record {
+        limits = valid.limits;
+        variables = start_small d p t.process valid there;
+        valid = valid.each p s i t (sym e);
+        code = sym same;
+        sorts = own t.process there;
+        sender = sym from;
+        brought = right.brought;
+        parameters = right.parameters;
+        at = record { facts = hold.0; is = hold.1; shape = hold.2; variables = right.variables; set = hold.3 };
+        words = words;
+      };
+    }

@@ -1,0 +1,45 @@
+//! Tests that want a text which is loaded, over public calls: of the layers that it goes through, of `check`, of turns, books and pools.
+//! They stand in a crate of their own so that these aren't proved a second time with them, and in one, so that they are loaded and compiled once.
+#![tactic(auto)]
+
+mod alike;
+mod inputs;
+#[cfg(test)]
+mod links;
+#[cfg(test)]
+mod of_books;
+#[cfg(test)]
+mod of_checks;
+#[cfg(test)]
+mod of_closing;
+#[cfg(test)]
+mod of_compile;
+#[cfg(test)]
+mod of_gates;
+#[cfg(test)]
+mod of_pools;
+#[cfg(test)]
+mod of_rebases;
+#[cfg(test)]
+mod of_refusals;
+#[cfg(test)]
+mod of_rules;
+#[cfg(test)]
+mod of_runs;
+#[cfg(test)]
+mod of_soak;
+#[cfg(test)]
+mod of_steppers;
+#[cfg(test)]
+mod of_strangers;
+#[cfg(test)]
+mod of_tree;
+#[cfg(test)]
+mod of_workers;
+mod sorted;
+mod standing;
+mod stepping;
+mod tally;
+#[cfg(test)]
+mod texts;
+mod wording;

@@ -1,0 +1,5 @@
+pub mod Bare
+pub mod Meant
+pub mod Sorts
+pub mod Steps
+pub use Rattle.plain_limits.specs.Limits

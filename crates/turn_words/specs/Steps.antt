@@ -1,0 +1,62 @@
+-- A step on words is the step on the values that they stand for.
+use Rattle.std.specs.Prelude.{◌≡◌, ℕ, ◌≤◌, List, length, map}
+use Rattle.plain_limits.specs.Limits.{MOST_VARIABLES}
+use Rattle.turn_code.specs.Values.{sort_of}
+use Rattle.turn_code.specs.Run.{Progress, After as Tagged, goes, ends, stuck, step}
+use Rattle.turn_code.specs.Transitions.{Transition}
+use Rattle.turn_code.specs.Rules.{KeepsSetLimits}
+use Rattle.turn_code.specs.Valid.{IsValidTransition}
+use Rattle.turn_code.specs.Fits.{IsBrought}
+use Rattle.turn_code.specs.At.{IsAt}
+use Rattle.turn_code.specs.declared.value.Value.{Value}
+use Rattle.turn_code.specs.declared.input.Input.{Input}
+use Rattle.turn_code.specs.declared.draft.Draft.{Draft}
+use Rattle.turn_words.specs.declared.piece.Piece.{Piece}
+use Rattle.turn_words.specs.declared.words.Words.{Words}
+use Rattle.turn_words.specs.declared.after.After.{After}
+use Rattle.turn_words.specs.declared.after.Next.TheVariants.{Goes, Ends}
+use Rattle.turn_words.specs.Bare.{bare_of}
+use Rattle.turn_words.specs.Meant.{AreWordsOf, Grow}
+use Rattle.turn_words.specs.Sorts.{AreSortsOf}
+
+-- The code is a valid transition's, with parameters of its sorts, and its signal came from who is
+-- known to have sent it. The words at its place k stand for operands, variables and parameters that
+-- may be there.
+pub record Stand (d : Draft) (t : Transition) (p : Piece) (k : ℕ) (w : Words) (x : Input)
+    (os : List Value) (s : Progress) : Type 0 where
+  pub limits : KeepsSetLimits d
+  pub variables : length t.process.variables ≤ MOST_VARIABLES
+  pub valid : IsValidTransition d t
+  pub code : t.piece.code ≡ p.code.now
+  pub sorts : AreSortsOf d.signals t.process.variables p.sorts.now
+  pub sender : x.sender ≡ p.sender
+  pub brought : IsBrought d t.number t.trigger x.sender
+  pub parameters : map sort_of x.parameters.items ≡ t.parameters
+  pub at : IsAt t k os s.variables
+  pub words : AreWordsOf (bare_of w) os s.variables x.parameters.items
+
+-- there are such values
+pub record StandAt (p : Piece) (k : ℕ) (w : Words) : Type 0 where
+  pub draft : Draft
+  pub transition : Transition
+  pub input : Input
+  pub operands : List Value
+  pub progress : Progress
+  pub stand : Stand draft transition p k w input operands progress
+
+-- what the step on values gave is what the step on words gave: the words at the next place stand
+-- for its values
+abbrev pub Follows : Draft → Transition → Piece → Input → Progress → After → Words → Tagged → Type 0
+Follows d t p x s a w (goes k os s') =
+    (a.next ≡ Goes k) × Grow x.sender a.effect s.effects s'.effects × Stand d t p k w x os s'
+Follows d t p x s a w (ends e s') =
+    (a.next ≡ Ends e) × Grow x.sender a.effect s.effects s'.effects
+    × ((os : List Value) × AreWordsOf (bare_of w) os s'.variables x.parameters.items)
+Follows d t p x s a w (stuck trouble) = ⊥
+
+-- whichever values the words stood for
+abbrev pub IsStep : Piece → ℕ → Words → After → Words → Type 0
+IsStep p k old a new =
+    (d : Draft) (t : Transition) (x : Input) (os : List Value) (s : Progress)
+    → Stand d t p k old x os s
+    → Follows d t p x s a new (step t.piece.code x k os s)

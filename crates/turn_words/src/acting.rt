@@ -1,0 +1,285 @@
+//! What an instruction does on words.
+ghost use Rattle.std.specs.Prelude.{◌≡◌, ◌<◌, ◌≤◌, ◌≤ℤ◌, pos, Some, None, slice_index_or};
+ghost use Rattle.turn_code.specs.Values.{holds, is_between};
+ghost use Rattle.turn_code.specs.Operation.{meaning_of, truth_of};
+ghost use Rattle.turn_code.specs.Division.{division_of};
+ghost use Rattle.plain_limits.specs.Limits.{MOST_OPERANDS, MOST_PARAMETERS, MOST_VARIABLES};
+ghost use Rattle.turn_words.specs.declared.after.Next.TheVariants.{Goes, Ends};
+ghost use Rattle.turn_words.specs.Bare.{bare_of, did, Takes, HasRoom, HasWords, bare_act, pushed, put, loaded, stored, given, combined, divided, negated_word, inverted, joined, compared, tested, picked, dropped, sent, timed, words_taken};
+
+use crate::after::{After, Given, Next};
+use crate::words::Words;
+use turn_code::{
+    CodePlace, Connective, Division, End, Instruction, Operation, Receiver, Relation, SignalNumber,
+    TimerNumber, VariableNumber, negated,
+};
+
+/// The code goes on at a place, and nothing is given out.
+fn go(place: usize) -> After
+    ensures { result ≡ record { effect = None; next = Goes place } }
+{
+    After {
+        effect: None,
+        next: Next::Goes(place),
+    }
+}
+
+/// The code goes on at a place, and this is given out.
+fn give(effect: Given, next: usize) -> After
+    ensures { result ≡ record { effect = Some effect; next = Goes next } }
+{
+    After {
+        effect: Some(effect),
+        next: Next::Goes(next),
+    }
+}
+
+/// The transition ends so.
+fn end(end: End) -> After
+    ensures { result ≡ record { effect = None; next = Ends end } }
+{
+    After {
+        effect: None,
+        next: Next::Ends(end),
+    }
+}
+
+impl Words {
+    /// What an instruction does, where `next` is the place behind it.
+    pub(crate) fn act(&mut self, instruction: Instruction, next: usize) -> After
+        requires { HasWords instruction (bare_of self.old) }
+        ensures { did result self.new ≡ bare_act instruction next (bare_of self.old) }
+    {
+        match instruction {
+            Instruction::Int(number) => self.put(number, next),
+            Instruction::Bool(truth) => self.put(i32::from(truth), next),
+            Instruction::Load(variable) => self.load(variable, next),
+            Instruction::Store(variable) => self.store(variable, next),
+            Instruction::Param(place) => self.parameter(place, next),
+            Instruction::Add => self.combine(Operation::Add, next),
+            Instruction::Sub => self.combine(Operation::Subtract, next),
+            Instruction::Mul => self.combine(Operation::Multiply, next),
+            Instruction::Div(divisor) => self.divide(Division::Quotient, divisor, next),
+            Instruction::Mod(divisor) => self.divide(Division::Modulo, divisor, next),
+            Instruction::Rem(divisor) => self.divide(Division::Remainder, divisor, next),
+            Instruction::Neg => self.negate(next),
+            Instruction::Not => self.invert(next),
+            Instruction::And => self.connect(Connective::And, next),
+            Instruction::Or => self.connect(Connective::Or, next),
+            Instruction::Xor => self.connect(Connective::Xor, next),
+            Instruction::Same => self.connect(Connective::Same, next),
+            Instruction::Compare(relation) => self.compare(relation, next),
+            Instruction::Case(relation, to, place) => self.case(relation, to, place, next),
+            Instruction::CaseWithin(place, least, most) => self.within(least, most, place, next),
+            Instruction::Pick(no, yes) => self.pick(no, yes),
+            Instruction::Drop => self.throw_away(next),
+            Instruction::Jump(place) => go(usize::from(place.0)),
+            Instruction::Output(signal, to, count) => self.output(signal, to, count, next),
+            Instruction::Set(timer) => self.set_timer(timer, next),
+            Instruction::Reset(timer) => give(Given::Reset(timer), next),
+            Instruction::Next(state) => end(End::State(state)),
+            Instruction::Stop => end(End::Stop),
+        }
+    }
+
+    /// A word more on top.
+    fn push(&mut self, word: i32)
+        requires { HasRoom (bare_of self.old) }
+        ensures { bare_of self.new ≡ pushed (bare_of self.old) word }
+    {
+        self.operands[usize::from(self.depth)] = word;
+        self.depth += 1;
+    }
+
+    /// The topmost word, which is taken away.
+    fn pop(&mut self) -> i32
+        requires { Takes 1 (bare_of self.old) }
+        ensures { bare_of self.old ≡ pushed (bare_of self.new) result }
+    {
+        self.depth -= 1;
+        self.operands[usize::from(self.depth)]
+    }
+
+    /// Puts a word on top.
+    fn put(&mut self, word: i32, next: usize) -> After
+        requires { HasRoom (bare_of self.old) }
+        ensures { did result self.new ≡ put word next (bare_of self.old) }
+    {
+        self.push(word);
+        go(next)
+    }
+
+    /// Puts the word of a variable on top.
+    fn load(&mut self, variable: VariableNumber, next: usize) -> After
+        requires room { HasRoom (bare_of self.old) }
+        requires there { variable.0 < MOST_VARIABLES }
+        ensures { did result self.new ≡ loaded variable next (bare_of self.old) }
+    {
+        self.put(self.variables[usize::from(variable.0)], next)
+    }
+
+    /// Takes a word, which is the variable's from then on; it is set.
+    fn store(&mut self, variable: VariableNumber, next: usize) -> After
+        requires some { Takes 1 (bare_of self.old) }
+        requires there { variable.0 < MOST_VARIABLES }
+        ensures { did result self.new ≡ stored variable next (bare_of self.old) }
+    {
+        let word = self.pop();
+        self.variables[usize::from(variable.0)] = word;
+        self.set |= 1 << variable.0;
+        go(next)
+    }
+
+    /// Puts the word of a parameter on top.
+    fn parameter(&mut self, place: u8, next: usize) -> After
+        requires room { HasRoom (bare_of self.old) }
+        requires there { place < MOST_PARAMETERS }
+        ensures { did result self.new ≡ given place next (bare_of self.old) }
+    {
+        self.put(self.params[usize::from(place)], next)
+    }
+
+    /// What an operation makes of two words.
+    fn combine(&mut self, operation: Operation, next: usize) -> After
+        requires { Takes 2 (bare_of self.old) }
+        ensures { did result self.new ≡ combined (meaning_of operation) next (bare_of self.old) }
+    {
+        let right = self.pop();
+        let left = self.pop();
+        self.put(operation.apply(left, right), next)
+    }
+
+    /// What a division makes of a word.
+    fn divide(&mut self, division: Division, divisor: i32, next: usize) -> After
+        requires some { Takes 1 (bare_of self.old) }
+        requires divisor { pos 1 ≤ℤ divisor }
+        ensures { did result self.new ≡ divided (division_of division) divisor next (bare_of self.old) }
+    {
+        let number = self.pop();
+        self.put(division.apply(number, divisor), next)
+    }
+
+    /// The word with the other sign.
+    fn negate(&mut self, next: usize) -> After
+        requires { Takes 1 (bare_of self.old) }
+        ensures { did result self.new ≡ negated_word next (bare_of self.old) }
+    {
+        let number = self.pop();
+        self.put(negated(number), next)
+    }
+
+    /// The word of the other Boolean.
+    fn invert(&mut self, next: usize) -> After
+        requires { Takes 1 (bare_of self.old) }
+        ensures { did result self.new ≡ inverted next (bare_of self.old) }
+    {
+        let word = self.pop();
+        self.put(i32::from(word == 0), next)
+    }
+
+    /// What a connective makes of the words of two Booleans.
+    fn connect(&mut self, connective: Connective, next: usize) -> After
+        requires { Takes 2 (bare_of self.old) }
+        ensures { did result self.new ≡ joined (truth_of connective) next (bare_of self.old) }
+    {
+        let right = self.pop();
+        let left = self.pop();
+        self.put(i32::from(connective.apply(left != 0, right != 0)), next)
+    }
+
+    /// Whether two words stand so to each other.
+    fn compare(&mut self, relation: Relation, next: usize) -> After
+        requires { Takes 2 (bare_of self.old) }
+        ensures { did result self.new ≡ compared relation next (bare_of self.old) }
+    {
+        let right = self.pop();
+        let left = self.pop();
+        self.put(i32::from(relation.holds(left, right)), next)
+    }
+
+    /// Takes a word away where it passes, and goes on at a place; else it stays.
+    fn case(&mut self, relation: Relation, to: i32, place: CodePlace, next: usize) -> After
+        requires { Takes 1 (bare_of self.old) }
+        ensures { did result self.new ≡ tested (λ x. holds relation x to) place.0 next (bare_of self.old) }
+    {
+        let number = self.pop();
+        if relation.holds(number, to) {
+            return go(usize::from(place.0));
+        }
+        self.put(number, next)
+    }
+
+    /// The same where it is from the least number to the greatest.
+    fn within(&mut self, least: i32, most: i32, place: CodePlace, next: usize) -> After
+        requires { Takes 1 (bare_of self.old) }
+        ensures { did result self.new ≡ tested (is_between least most) place.0 next (bare_of self.old) }
+    {
+        let number = self.pop();
+        if least <= number && number <= most {
+            return go(usize::from(place.0));
+        }
+        self.put(number, next)
+    }
+
+    /// Takes the word of a Boolean, and goes on at the first place where it is 0, else at the second one.
+    fn pick(&mut self, no: CodePlace, yes: CodePlace) -> After
+        requires { Takes 1 (bare_of self.old) }
+        ensures { did result self.new ≡ picked no.0 yes.0 (bare_of self.old) }
+    {
+        let word = self.pop();
+        let place = if word == 0 { no } else { yes };
+        go(usize::from(place.0))
+    }
+
+    /// Takes a word and throws it away.
+    fn throw_away(&mut self, next: usize) -> After
+        requires { Takes 1 (bare_of self.old) }
+        ensures { did result self.new ≡ dropped next (bare_of self.old) }
+    {
+        let _ = self.pop();
+        go(next)
+    }
+
+    /// The word at a place from the bottom.
+    fn operand(&self, place: usize) -> i32
+        requires { place < MOST_OPERANDS }
+        ensures { result ≡ slice_index_or self.now.operands place (pos 0) }
+    {
+        self.operands[place]
+    }
+
+    /// The topmost words, so many of 4 at most, the topmost last, and 0 behind them.
+    fn taken(&self, count: u8) -> [i32; 4]
+        requires few { count ≤ MOST_PARAMETERS }
+        requires there { Takes count (bare_of self.now) }
+        ensures { result ≡ words_taken count (bare_of self.now) }
+    {
+        let first = usize::from(self.depth - count);
+        let mut words = [0; 4];
+        for place in 0..usize::from(count) {
+            let word = self.operand(first + place);
+            words[place] = word;
+        }
+        words
+    }
+
+    /// Takes so many words, and gives a signal out with them.
+    fn output(&mut self, signal: SignalNumber, to: Receiver, count: u8, next: usize) -> After
+        requires few { count ≤ MOST_PARAMETERS }
+        requires there { Takes count (bare_of self.old) }
+        ensures { did result self.new ≡ sent signal to count next (bare_of self.old) }
+    {
+        let words = self.taken(count);
+        self.depth -= count;
+        give(Given::Output(signal, to, count, words), next)
+    }
+
+    /// Takes a word, and sets a timer to so long after the clock.
+    fn set_timer(&mut self, timer: TimerNumber, next: usize) -> After
+        requires { Takes 1 (bare_of self.old) }
+        ensures { did result self.new ≡ timed timer next (bare_of self.old) }
+    {
+        let delay = self.pop();
+        give(Given::Set(timer, delay), next)
+    }
+}

@@ -1,5 +1,0 @@
-pub mod Firsts
-pub mod Levels
-pub mod Orders
-pub mod Seen
-pub mod Walking
