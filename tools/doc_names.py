@@ -1,15 +1,12 @@
 """What the documents name and the repository lacks: files, definitions, functions and clauses; and what they leave out. `tools/ready` asks it.
 
-- docs/definitions.md: each file, definition and function of its tables is there, and each file of specs of each crate has its place.
 - docs/architecture.md: each crate has its row in the table of the rooms, and each row its crate.
-- docs/claims.md: each contract that a claim cites, as (`function`: clause; `Type::function`), stands in a crate of its heading.
+- docs/standards.md: each definition, function, edit, quoted word of examples/ and heading of docs/ is there.
 - README.md and docs/*.md: each path that they write is there."""
 import functools
 import re
 
-CITED = re.compile(r"\((`[\w:]+`(?:: \w+(?:, \w+)*)?(?:; `[\w:]+`(?:: \w+(?:, \w+)*)?)*)\)")
 PATH = re.compile(r"(?<![\w/.])((?:docs|examples|tools|bench|bin|crates)/[\w./-]*\w)")
-OWN = re.compile(r"^((?:[A-Z]\w+(?:, | and )?)+) of `(\w+)` (?:is|are) read by", re.M)
 
 
 @functools.cache
@@ -30,7 +27,7 @@ def sections(text):
 
 class Look:
     def __init__(self, root):
-        self.crates, self.found, self.named = root / "crates", [], set()
+        self.crates, self.found = root / "crates", []
 
     def say(self, document, what):
         self.found.append(f"docs/{document}.md: {what}")
@@ -40,48 +37,9 @@ class Look:
         for crate in crates:
             text = text_of(self.crates / crate / "specs" / f"{module}.antt")
             if text is not None:
-                self.named.add((crate, module))
                 return [name for name in names if not re.search(rf"(?<!\w){re.escape(name)}(?!\w)", text)]
         self.say(document, f"no file {module} in the specs of {', '.join(crates)}")
         return []
-
-    def code(self, crates, cell, document):
-        """Files of code with functions or types, `file.rt: a, b; crate/file.rt: c`."""
-        for part in cell.replace("`", "").split(";"):
-            files, _, names = part.partition(": ")
-            for file in re.findall(r"[\w/]+\.rt", files):
-                crate, _, name = file.replace("/src/", "/").rpartition("/")
-                texts = [text_of(self.crates / it / "src" / name) for it in ([crate] if crate else crates)]
-                texts = [it for it in texts if it is not None]
-                if not texts:
-                    self.say(document, f"no file {file}")
-                for word in re.findall(r"\w+", re.sub(r"\(.*?\)", "", names)) if texts else []:
-                    if not any(re.search(rf"\b(fn|struct|enum|trait|type|const|impl) ([\w<>' ]+ for )?{word}\b", it) for it in texts):
-                        self.say(document, f"no {word} in {file}")
-
-
-def definitions(look, text):
-    for heading, section in sections(text):
-        of_heading = re.findall(r"`(\w+)`", heading)
-        for cells in rows(section):
-            if len(cells) != 5 or cells[0] == "Name":
-                continue
-            lacking, crates = re.findall(r"`(\w+)`", cells[0]), of_heading
-            for file in re.split("[,;]", cells[2]):
-                crate, _, module = file.strip().rpartition(": ")
-                crates = [crate] if crate else crates
-                lacking = look.spec(crates, module, lacking, "definitions")
-            for name in lacking:
-                look.say("definitions", f"no {name} in {cells[2]} of {', '.join(crates)}")
-            if cells[4] != "-":
-                look.code(crates, cells[4], "definitions")
-    for modules, crate in OWN.findall(text):
-        for module in re.split(r", | and ", modules):
-            look.spec([crate], module, [], "definitions")
-    for path in sorted(look.crates.glob("*/specs/*.antt")):
-        crate, module = path.parent.parent.name, path.stem
-        if module != "Lib" and (crate, module) not in look.named:
-            look.say("definitions", f"says nothing of {module} of {crate}")
 
 
 def architecture(look, text):
@@ -94,37 +52,34 @@ def architecture(look, text):
         look.say("architecture", f"no crate {name}")
 
 
-def contracts(folder):
-    """The clauses of each function of a crate, and of each by its type: `f` and `Type::f`."""
-    known = {}
-    for path in sorted((folder / "src").rglob("*.rt")):
-        kind, name = "", None
-        for line in path.read_text().split("\n"):
-            if begun := re.match(r"impl\b.*?(\w+)(?:<[^{]*)? \{$", line):
-                kind = begun[1]
-            elif line == "}":
-                kind, name = "", None
-            if begun := re.match(r"\s*(?:pub(?:\(crate\))? )?(?:const )?fn (\w+)", line):
-                name = begun[1]
-            if clause := re.match(r"\s*(?:ensures (\w*) ?\{|ghost (output) = )", line):
-                for it in {name or kind, f"{kind}::{name}" if kind else name} if clause[1] is not None else {kind}:
-                    known.setdefault(it, set()).add(clause[1] if clause[1] is not None else clause[2])
-    return known
-
-
-def claims(look, text):
-    for heading, section in sections(text):
-        crates = [it for it in re.findall(r"`(\w+)`", heading) if (look.crates / it).is_dir()]
-        known = {}
-        for crate in crates:
-            for name, clauses in contracts(look.crates / crate).items():
-                known.setdefault(name, set()).update(clauses)
-        for group in CITED.findall(re.sub(r"\s+", " ", section)) if crates else []:
-            for cited in group.split("; "):
-                name, _, clauses = cited.replace("`", "").partition(": ")
-                for clause in clauses.split(", ") if clauses else [None]:
-                    if name not in known or clause is not None and clause not in known[name]:
-                        look.say("claims", f"{heading}: no contract {cited}")
+def standards(look, text):
+    root = look.crates.parent
+    for cells in rows(text):
+        if not cells[0].startswith("**") and (len(cells) != 4 or not all(cells)):
+            look.say("standards", f"not four cells: {cells[0]}")
+    for rule, defined, decided, tested in [it for it in rows(text) if len(it) == 4]:
+        for crate, module, names in re.findall(r"`(\w+)/specs/(\w+)`: ([\w, ]+)", defined):
+            for name in look.spec([crate], module, re.findall(r"\w+", names), "standards"):
+                look.say("standards", f"no {name} in {crate}/specs/{module}")
+        for crate, file, names in re.findall(r"`(\w+)/src/([\w/]+\.rt)(?:: ([\w, ]+))?`", f"{decided} {tested}"):
+            code = text_of(look.crates / crate / "src" / file)
+            if code is None:
+                look.say("standards", f"no file {crate}/src/{file}")
+            for name in re.findall(r"\w+", names) if code else []:
+                if not re.search(rf"\b(fn|struct|enum|trait|type|const|impl) {name}\b", code):
+                    look.say("standards", f"no {name} in {crate}/src/{file}")
+        for path, quoted in re.findall(r"`(examples/[\w./]+)`: ((?:\"[^\"]+\"(?:, )?)+)", f"{defined}; {tested}"):
+            held = text_of(root / path) or ""
+            entries = re.findall(r"^== .*$", held, re.M) or [held]
+            for words in re.findall(r"\"([^\"]+)\"", quoted):
+                if not any(words in it for it in entries):
+                    look.say("standards", f"no \"{words}\" in {path}")
+        for name in re.findall(r"`(\w+)`", " ".join(re.findall(r"\bedits? ((?:`\w+`(?:, )?)+)", tested))):
+            if not any(root.glob(f"crates/*/must-fail/{name}.edit")) and not any(root.glob(f"edits/*/{name}.edit")):
+                look.say("standards", f"no edit {name}")
+        for document, heading in re.findall(r"\(([\w-]+\.md)#([\w-]+)\)", rule):
+            if heading not in [re.sub(r"[^\w -]", "", it).lower().replace(" ", "-") for it, _ in sections(text_of(root / "docs" / document) or "")]:
+                look.say("standards", f"no heading {heading} in docs/{document}")
 
 
 def paths(root):
@@ -139,7 +94,6 @@ def paths(root):
 def lacking(root):
     """What is to be mended, a line each."""
     look = Look(root)
-    definitions(look, (root / "docs" / "definitions.md").read_text())
     architecture(look, (root / "docs" / "architecture.md").read_text())
-    claims(look, (root / "docs" / "claims.md").read_text())
+    standards(look, (root / "docs" / "standards.md").read_text())
     return look.found + paths(root)

@@ -21,5 +21,6 @@ pub use group_members::{
     AbandonError, CallError, Command, CommandError, DivertFault, FailError, LineError, LinkError,
     LinkStatus, Mode, Msu, RebalanceError, Report, RetrieveError, SendError, Terminal,
 };
+pub use laws::{each_message_stands_in_one_place, unsure_messages_are_counted};
 pub use retrievals::{Ended, Retrievals};
 pub use retrieved::Retrieved;
