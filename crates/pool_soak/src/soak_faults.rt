@@ -1,9 +1,9 @@
 //! Why a line is none of a script of `soak`, for a person to read.
-ghost use Rattle.std.specs.Prelude.{◌≡◌, ◌∷◌, ℕ, List, None, IfSome, codes};
+ghost use Rattle.std.specs.Prelude.{◌≡◌, ◌∷◌, ℕ, Bool, List, None, IfSome, codes};
 ghost use Rattle.script_lines.specs.Commands.{verb_of};
 ghost use Rattle.script_lines.specs.Lines.{texts};
 ghost use Rattle.script_lines.specs.LineFaults.{IsSo};
-ghost use Rattle.pool_soak.specs.Faults.{IsNoStep};
+ghost use Rattle.pool_soak.specs.Faults.{is_no_step};
 
 use crate::script::links_in;
 use plain_text::MOST_BYTES;
@@ -19,7 +19,7 @@ const MOST: u32 = 2_147_483_647;
 
 /// Why a line with one number behind its word is none.
 fn count_fault<'a>(word: &'a str, more: &[&'a str], least: u32, most: u32) -> Option<LineFault<'a>>
-    ensures { (P : List ℕ → Type 0) → IfSome result (IsSo P (word.now ∷ texts more.now)) }
+    ensures { (p : List ℕ → Bool) → IfSome result (IsSo p (word.now ∷ texts more.now)) }
 {
     match more {
         [number] => number_fault(number, least, most),
@@ -29,7 +29,7 @@ fn count_fault<'a>(word: &'a str, more: &[&'a str], least: u32, most: u32) -> Op
 
 /// Why the words of a line are none of a script of `soak`, where it is told.
 pub fn soak_line_fault<'a>(words: &[&'a str]) -> Option<LineFault<'a>>
-    ensures { IfSome result (IsSo IsNoStep (texts words.now)) }
+    ensures { IfSome result (IsSo is_no_step (texts words.now)) }
 {
     let [word, more @ ..] = words else {
         return None;
@@ -37,17 +37,19 @@ pub fn soak_line_fault<'a>(words: &[&'a str]) -> Option<LineFault<'a>>
     if links_in(words).is_some() {
         return Some(LineFault::Late { word });
     }
-    match *word {
-        "links" => count_fault(word, more, 1, 16),
-        "on" => count_fault(word, more, 0, MOST),
-        _ => match verb_in(word) {
-            Some(Verb::Offer) => verb_fault(Verb::Offer, word, more),
-            Some(Verb::Tick) => verb_fault(Verb::Tick, word, more),
-            _ => Some(LineFault::NoCommand {
-                word,
-                script: "a script of soak",
-            }),
-        },
+    if *word == "links" {
+        return count_fault(word, more, 1, 16);
+    }
+    if *word == "on" {
+        return count_fault(word, more, 0, MOST);
+    }
+    match verb_in(word) {
+        Some(Verb::Offer) => verb_fault(Verb::Offer, word, more),
+        Some(Verb::Tick) => verb_fault(Verb::Tick, word, more),
+        _ => Some(LineFault::NoCommand {
+            word,
+            script: "a script of soak",
+        }),
     }
 }
 

@@ -1,5 +1,6 @@
-pub mod Lookups
 mod Loops
-pub mod NumberLemmas
 mod Parts
 mod Ranges
+pub mod FirstWords
+pub mod Lookups
+pub mod NumberLemmas

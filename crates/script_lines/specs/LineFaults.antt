@@ -1,5 +1,19 @@
 -- What is told of a line that is none of a script.
-use Rattle.std.specs.Prelude.{◌≡◌, ◌⊎◌, ◌<◌, ◌+◌, ℕ, List, length, Option, None, Some}
+use Rattle.std.specs.Prelude.{
+  ◌≡◌,
+  ◌⊎◌,
+  ◌<◌,
+  ◌+◌,
+  ℕ,
+  Bool,
+  List,
+  length,
+  Option,
+  None,
+  Some,
+  is_none,
+  IsTrue,
+}
 use Rattle.script_lines.specs.Commands.{verb_of}
 use Rattle.script_lines.specs.Numbers.{count_of, value_of}
 use Rattle.script_lines.specs.declared.line_faults.LineFault.{LineFault}
@@ -7,20 +21,20 @@ use Rattle.script_lines.specs.declared.line_faults.LineFault.TheVariants.{NoComm
 use Rattle.script_lines.specs.declared.line_faults.LineFault.TheVariants.{NoNumber, NoValue}
 
 -- a word that begins no command of a book script
-abbrev pub IsNoVerb : List ℕ → Type 0
-IsNoVerb word = verb_of word ≡ None
+abbrev pub is_no_verb : List ℕ → Bool
+is_no_verb word = is_none (verb_of word)
 
 -- a number of a word that isn't there, or isn't between two others
 abbrev pub IsOutside : ℕ → ℕ → Option ℕ → Type 0
 IsOutside least most None = Unit {0}
 IsOutside least most (Some n) = (n < least) ⊎ (most < n)
 
--- Such a fault of the words of a line is so; P is what it is to begin no command. Of `Late` nothing
+-- Such a fault of the words of a line is so; p is what it is to begin no command. Of `Late` nothing
 -- is said.
-abbrev pub IsSo : (List ℕ → Type 0) → List (List ℕ) → LineFault → Type 0
-IsSo P words (NoCommand word script) = P word.now
-IsSo P words (Late word) = Unit {0}
-IsSo P words (Words word least most there) =
+abbrev pub IsSo : (List ℕ → Bool) → List (List ℕ) → LineFault → Type 0
+IsSo p words (NoCommand word script) = IsTrue (p word.now)
+IsSo p words (Late word) = Unit {0}
+IsSo p words (Words word least most there) =
     (length words ≡ there + 1) × ((there < least) ⊎ (most < there))
-IsSo P words (NoNumber word least most) = IsOutside least most (count_of word.now)
-IsSo P words (NoValue word) = value_of word.now ≡ None
+IsSo p words (NoNumber word least most) = IsOutside least most (count_of word.now)
+IsSo p words (NoValue word) = value_of word.now ≡ None

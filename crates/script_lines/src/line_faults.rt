@@ -1,7 +1,7 @@
 //! Why a line is none of a script, for a person to read.
-ghost use Rattle.std.specs.Prelude.{◌≤◌, ◌∷◌, ℕ, List, IfSome, IsNone, length};
+ghost use Rattle.std.specs.Prelude.{◌≤◌, ◌∷◌, ℕ, Bool, List, IfSome, IsNone, length};
 ghost use Rattle.script_lines.specs.Lines.{texts};
-ghost use Rattle.script_lines.specs.LineFaults.{IsSo, IsNoVerb};
+ghost use Rattle.script_lines.specs.LineFaults.{IsSo, is_no_verb};
 
 use crate::numbers::{count, value};
 use crate::settings::setting_in;
@@ -81,7 +81,7 @@ pub fn words_fault<'a>(
     least: usize,
     most: usize,
 ) -> Option<LineFault<'a>>
-    ensures so { (P : List ℕ → Type 0) → IfSome result (IsSo P (word.now ∷ texts more.now)) }
+    ensures so { (p : List ℕ → Bool) → IfSome result (IsSo p (word.now ∷ texts more.now)) }
     ensures least { IsNone result → least ≤ length more.now }
     ensures most { IsNone result → length more.now ≤ most }
 {
@@ -99,7 +99,7 @@ pub fn words_fault<'a>(
 
 /// Why a word is no count from one number to another.
 pub fn number_fault<'a>(word: &'a str, least: u32, most: u32) -> Option<LineFault<'a>>
-    ensures { (P : List ℕ → Type 0) → (words : List (List ℕ)) → IfSome result (IsSo P words) }
+    ensures { (p : List ℕ → Bool) → (words : List (List ℕ)) → IfSome result (IsSo p words) }
 {
     match count(word) {
         Some(number) if least <= number && number <= most => None,
@@ -109,7 +109,7 @@ pub fn number_fault<'a>(word: &'a str, least: u32, most: u32) -> Option<LineFaul
 
 /// Why one of the words is no value: of several the first.
 fn value_fault<'a>(words: &[&'a str]) -> Option<LineFault<'a>>
-    ensures { (P : List ℕ → Type 0) → (line : List (List ℕ)) → IfSome result (IsSo P line) }
+    ensures { (p : List ℕ → Bool) → (line : List (List ℕ)) → IfSome result (IsSo p line) }
 {
     for word in words {
         if value(word).is_none() {
@@ -121,7 +121,7 @@ fn value_fault<'a>(words: &[&'a str]) -> Option<LineFault<'a>>
 
 /// Why the words behind a verb are none of its, where it is told.
 pub fn verb_fault<'a>(verb: Verb, word: &'a str, more: &[&'a str]) -> Option<LineFault<'a>>
-    ensures { (P : List ℕ → Type 0) → IfSome result (IsSo P (word.now ∷ texts more.now)) }
+    ensures { (p : List ℕ → Bool) → IfSome result (IsSo p (word.now ∷ texts more.now)) }
 {
     let (least, most) = match verb {
         Verb::Offer => (2, MANY),
@@ -157,7 +157,7 @@ fn range_of(word: &str) -> Option<(u32, u32)> {
 
 /// Why a line that begins with this word sets no number.
 fn setting_fault<'a>(word: &'a str, more: &[&'a str]) -> Option<LineFault<'a>>
-    ensures { (P : List ℕ → Type 0) → IfSome result (IsSo P (word.now ∷ texts more.now)) }
+    ensures { (p : List ℕ → Bool) → IfSome result (IsSo p (word.now ∷ texts more.now)) }
 {
     let (least, most) = range_of(word)?;
     match more {
@@ -168,7 +168,7 @@ fn setting_fault<'a>(word: &'a str, more: &[&'a str]) -> Option<LineFault<'a>>
 
 /// Why the words of a line are no line of a book script, where it is told: of two reasons the first.
 pub fn book_line_fault<'a>(words: &[&'a str]) -> Option<LineFault<'a>>
-    ensures { IfSome result (IsSo IsNoVerb (texts words.now)) }
+    ensures { IfSome result (IsSo is_no_verb (texts words.now)) }
 {
     let [word, more @ ..] = words else {
         return None;

@@ -1,11 +1,12 @@
 -- What is told of a line that is none of a script that `play` runs.
 use Rattle.std.specs.Prelude.{◌≡◌, ◌⊎◌, ◌<◌, ℕ, List, Option, None, Some, option_and_then}
-use Rattle.std.specs.Prelude.{slice_get, codes}
+use Rattle.std.specs.Prelude.{slice_get, codes, Bool, ◌&&◌, ◌||◌, is_none}
+use Rattle.std.specs.Str.{bytes_eq}
 use Rattle.resend_store.specs.declared.messages.Mode.{Mode}
 use Rattle.su_octets.specs.Frame.{length_indicator}
 use Rattle.script_lines.specs.Commands.{verb_of}
 use Rattle.script_lines.specs.Lines.{PlainLine, lines_of}
-use Rattle.script_lines.specs.LineFaults.{IsNoVerb, IsSo}
+use Rattle.script_lines.specs.LineFaults.{is_no_verb, IsSo}
 use Rattle.script_lines.specs.declared.verbs.Call.TheVariants.{Begin, Finish, Skip, State}
 use Rattle.script_lines.specs.declared.verbs.Verb.{Verb}
 use Rattle.script_lines.specs.declared.verbs.Verb.TheVariants as verbs
@@ -37,27 +38,27 @@ abbrev pub shared_verb : List ℕ → Option Verb
 shared_verb word = option_and_then shared (verb_of word)
 
 -- a word that begins no command of a terminal's script
-abbrev pub IsNoTermWord : List ℕ → Type 0
-IsNoTermWord word = (shared_verb word ≡ None) × (term_verb_of word ≡ None)
+abbrev pub is_no_term_word : List ℕ → Bool
+is_no_term_word word = is_none (shared_verb word) && is_none (term_verb_of word)
 
 -- one that begins no command which a link set's script has in common with it
-abbrev pub IsNoSharedWord : List ℕ → Type 0
-IsNoSharedWord word = (word ≡ codes "msu") ⊎ IsNoTermWord word
+abbrev pub is_no_shared_word : List ℕ → Bool
+is_no_shared_word word = bytes_eq word (codes "msu") || is_no_term_word word
 
--- Such a fault of the words of a line is so; P is what it is to begin no command.
-abbrev pub IsPlaySo : (List ℕ → Type 0) → List (List ℕ) → PlayFault → Type 0
-IsPlaySo P words (Line fault) = IsSo P words fault
-IsPlaySo P words (NoOctets hex) = octets_of hex.now ≡ None
-IsPlaySo P words (Octets word least most there) = (there < least) ⊎ (most < there)
-IsPlaySo P words (Indicator says there) = says ≡ length_indicator there → ⊥
-IsPlaySo P words (NoOrder word) = order_of word.now ≡ None
-IsPlaySo P words (NoMode word) = mode_named word.now ≡ None
+-- Such a fault of the words of a line is so; p is what it is to begin no command.
+abbrev pub IsPlaySo : (List ℕ → Bool) → List (List ℕ) → PlayFault → Type 0
+IsPlaySo p words (Line fault) = IsSo p words fault
+IsPlaySo p words (NoOctets hex) = octets_of hex.now ≡ None
+IsPlaySo p words (Octets word least most there) = (there < least) ⊎ (most < there)
+IsPlaySo p words (Indicator says there) = says ≡ length_indicator there → ⊥
+IsPlaySo p words (NoOrder word) = order_of word.now ≡ None
+IsPlaySo p words (NoMode word) = mode_named word.now ≡ None
 
 -- what it is to begin no command, by what the words of the first line say
-abbrev pub begins_none : Option GroupHead → Option Mode → List ℕ → Type 0
-begins_none (Some head) mode word = IsNoSharedWord word
-begins_none None (Some mode) word = IsNoTermWord word
-begins_none None None word = IsNoVerb word
+abbrev pub begins_none : Option GroupHead → Option Mode → List ℕ → Bool
+begins_none (Some head) mode word = is_no_shared_word word
+begins_none None (Some mode) word = is_no_term_word word
+begins_none None None word = is_no_verb word
 
 -- it is so of a line behind a first line of these words
 abbrev pub IsFaultIn : List (List ℕ) → List (List ℕ) → PlayFault → Type 0

@@ -1,8 +1,8 @@
 //! Why a line is none of a script that `play` runs, for a person to read.
-ghost use Rattle.std.specs.Prelude.{◌∷◌, ℕ, List, IfOk, IfSome};
+ghost use Rattle.std.specs.Prelude.{◌∷◌, ℕ, Bool, List, IfOk, IfSome};
 ghost use Rattle.script_lines.specs.Lines.{texts};
-ghost use Rattle.script_lines.specs.LineFaults.{IsNoVerb, IsSo};
-ghost use Rattle.script_links.specs.PlayFaults.{shared_verb, IsNoSharedWord, IsNoTermWord, IsPlaySo, IsFaultIn, IsFaultAt};
+ghost use Rattle.script_lines.specs.LineFaults.{is_no_verb, IsSo};
+ghost use Rattle.script_links.specs.PlayFaults.{shared_verb, is_no_shared_word, is_no_term_word, IsPlaySo, IsFaultIn, IsFaultAt};
 
 use crate::heads::head_in;
 use crate::octets::octets_in;
@@ -81,7 +81,7 @@ impl fmt::Display for PlayFault<'_> {
 
 /// A reason that scripts of all kinds have.
 fn of_line<'a>(fault: Option<LineFault<'a>>) -> Option<PlayFault<'a>>
-    ensures { (P : List ℕ → Type 0) → (words : List (List ℕ)) → IfSome fault.entry (IsSo P words) → IfSome result (IsPlaySo P words) }
+    ensures { (p : List ℕ → Bool) → (words : List (List ℕ)) → IfSome fault.entry (IsSo p words) → IfSome result (IsPlaySo p words) }
 {
     match fault {
         Some(fault) => Some(PlayFault::Line(fault)),
@@ -97,7 +97,7 @@ fn octets_fault<'a>(
     least: usize,
     most: usize,
 ) -> Result<Option<PlayFault<'a>>, AllocError>
-    ensures { (P : List ℕ → Type 0) → (words : List (List ℕ)) → IfOk result (λ r. IfSome r (IsPlaySo P words)) }
+    ensures { (p : List ℕ → Bool) → (words : List (List ℕ)) → IfOk result (λ r. IfSome r (IsPlaySo p words)) }
 {
     let Some(octets) = octets_in(alloc, hex)? else {
         return Ok(Some(PlayFault::NoOctets { word: hex }));
@@ -116,7 +116,7 @@ fn octets_fault<'a>(
 
 /// Why the length indicator of a unit without its check octets is wrong.
 fn indicator_fault<'a>(octets: &[u8]) -> Option<PlayFault<'a>>
-    ensures { (P : List ℕ → Type 0) → (words : List (List ℕ)) → IfSome result (IsPlaySo P words) }
+    ensures { (p : List ℕ → Bool) → (words : List (List ℕ)) → IfSome result (IsPlaySo p words) }
 {
     match octets {
         [_, _, third, more @ ..] => {
@@ -137,7 +137,7 @@ fn unit_fault<'a>(
     word: &'a str,
     hex: &'a str,
 ) -> Result<Option<PlayFault<'a>>, AllocError>
-    ensures { (P : List ℕ → Type 0) → (words : List (List ℕ)) → IfOk result (λ r. IfSome r (IsPlaySo P words)) }
+    ensures { (p : List ℕ → Bool) → (words : List (List ℕ)) → IfOk result (λ r. IfSome r (IsPlaySo p words)) }
 {
     if let Some(fault) = octets_fault(alloc, word, hex, 3, 276)? {
         return Ok(Some(fault));
@@ -150,7 +150,7 @@ fn unit_fault<'a>(
 
 /// Why a word is no order.
 fn order_fault<'a>(word: &'a str) -> Option<PlayFault<'a>>
-    ensures { (P : List ℕ → Type 0) → (words : List (List ℕ)) → IfSome result (IsPlaySo P words) }
+    ensures { (p : List ℕ → Bool) → (words : List (List ℕ)) → IfSome result (IsPlaySo p words) }
 {
     match order_in(word) {
         Some(_) => None,
@@ -160,7 +160,7 @@ fn order_fault<'a>(word: &'a str) -> Option<PlayFault<'a>>
 
 /// Why a word is no kind of error correction.
 fn mode_fault<'a>(word: &'a str) -> Option<PlayFault<'a>>
-    ensures { (P : List ℕ → Type 0) → (words : List (List ℕ)) → IfSome result (IsPlaySo P words) }
+    ensures { (p : List ℕ → Bool) → (words : List (List ℕ)) → IfSome result (IsPlaySo p words) }
 {
     match mode_named(word) {
         Some(_) => None,
@@ -175,7 +175,7 @@ fn behind_term_verb<'a>(
     word: &'a str,
     next: &'a str,
 ) -> Result<Option<PlayFault<'a>>, AllocError>
-    ensures { (P : List ℕ → Type 0) → (words : List (List ℕ)) → IfOk result (λ r. IfSome r (IsPlaySo P words)) }
+    ensures { (p : List ℕ → Bool) → (words : List (List ℕ)) → IfOk result (λ r. IfSome r (IsPlaySo p words)) }
 {
     match verb {
         TermVerb::Order => Ok(order_fault(next)),
@@ -193,7 +193,7 @@ fn behind_group_verb<'a>(
     word: &'a str,
     next: &'a str,
 ) -> Result<Option<PlayFault<'a>>, AllocError>
-    ensures { (P : List ℕ → Type 0) → (words : List (List ℕ)) → IfOk result (λ r. IfSome r (IsPlaySo P words)) }
+    ensures { (p : List ℕ → Bool) → (words : List (List ℕ)) → IfOk result (λ r. IfSome r (IsPlaySo p words)) }
 {
     match verb {
         GroupVerb::On => Ok(of_line(number_fault(next, 0, MOST))),
@@ -222,7 +222,7 @@ fn term_fault<'a>(
     more: &[&'a str],
     script: &'static str,
 ) -> Result<Option<PlayFault<'a>>, AllocError>
-    ensures { IfOk result (λ r. IfSome r (IsPlaySo IsNoTermWord (word.now ∷ texts more.now))) }
+    ensures { IfOk result (λ r. IfSome r (IsPlaySo is_no_term_word (word.now ∷ texts more.now))) }
 {
     if let Some(verb) = shared_verb(word) {
         return Ok(of_line(verb_fault(verb, word, more)));
@@ -241,7 +241,7 @@ pub fn term_line_fault<'a>(
     alloc: Global,
     words: &[&'a str],
 ) -> Result<Option<PlayFault<'a>>, AllocError>
-    ensures { IfOk result (λ r. IfSome r (IsPlaySo IsNoTermWord (texts words.now))) }
+    ensures { IfOk result (λ r. IfSome r (IsPlaySo is_no_term_word (texts words.now))) }
 {
     match words {
         [word, more @ ..] => {
@@ -260,7 +260,7 @@ fn shared_fault<'a>(
     word: &'a str,
     more: &[&'a str],
 ) -> Result<Option<PlayFault<'a>>, AllocError>
-    ensures { IfOk result (λ r. IfSome r (IsPlaySo IsNoSharedWord (word.now ∷ texts more.now))) }
+    ensures { IfOk result (λ r. IfSome r (IsPlaySo is_no_shared_word (word.now ∷ texts more.now))) }
 {
     let script = "a link set's script";
     if word == "msu" {
@@ -274,7 +274,7 @@ pub fn group_line_fault<'a>(
     alloc: Global,
     words: &[&'a str],
 ) -> Result<Option<PlayFault<'a>>, AllocError>
-    ensures { IfOk result (λ r. IfSome r (IsPlaySo IsNoSharedWord (texts words.now))) }
+    ensures { IfOk result (λ r. IfSome r (IsPlaySo is_no_shared_word (texts words.now))) }
 {
     let [word, more @ ..] = words else {
         return Ok(None);
@@ -296,7 +296,7 @@ pub fn group_line_fault<'a>(
 
 /// Why words that begin with `terminal` or `group` are no first line.
 fn head_fault<'a>(word: &'a str, more: &[&'a str]) -> Option<PlayFault<'a>>
-    ensures { (P : List ℕ → Type 0) → IfSome result (IsPlaySo P (word.now ∷ texts more.now)) }
+    ensures { (p : List ℕ → Bool) → IfSome result (IsPlaySo p (word.now ∷ texts more.now)) }
 {
     match more {
         [mode] if word == "terminal" => mode_fault(mode),
@@ -313,7 +313,7 @@ fn head_fault<'a>(word: &'a str, more: &[&'a str]) -> Option<PlayFault<'a>>
 
 /// Why the words of a line are none of a book script; a line that should have been the first of another kind counts as one.
 pub fn other_line_fault<'a>(words: &[&'a str]) -> Option<PlayFault<'a>>
-    ensures { IfSome result (IsPlaySo IsNoVerb (texts words.now)) }
+    ensures { IfSome result (IsPlaySo is_no_verb (texts words.now)) }
 {
     match words {
         [word, more @ ..] if *word == "terminal" || *word == "group" => {
