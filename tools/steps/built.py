@@ -9,12 +9,12 @@ import shutil
 import subprocess
 import sys
 
-ROOT = pathlib.Path(__file__).resolve().parent.parent
+ROOT = pathlib.Path(__file__).resolve().parents[2]
 # The programs that `rt ci` leaves, or others in their place.
 PLAY = pathlib.Path(os.environ.get("MTP2_PLAY", ROOT / "crates" / "mtp2_play" / "out" / "mtp2_play"))
 TRIALS = pathlib.Path(os.environ.get("TRIALS", ROOT / "crates" / "trials" / "out" / "trials"))
 # The tests that want a loaded text, each run by its name.
-TESTS = pathlib.Path(os.environ.get("TEXT_TESTS", ROOT / "crates" / "trials_texts" / "out" / "text_tests_tests"))
+TESTS = pathlib.Path(os.environ.get("TEXT_TESTS", ROOT / "crates" / "trials_texts" / "out" / "trials_texts_tests"))
 # Seconds that one run may take: few take more than one, and this is for a machine that has much else to do.
 LIMIT = 600
 
@@ -82,8 +82,9 @@ def side_by_side(call, given, jobs=None):
 
 
 def tool(name):
-    """A tool of this folder as a module."""
-    loader = importlib.machinery.SourceFileLoader(name, str(ROOT / "tools" / name))
+    """A tool as a module, in whichever folder it stands."""
+    found = next(it for it in (ROOT / "tools").rglob(name) if it.is_file())
+    loader = importlib.machinery.SourceFileLoader(name, str(found))
     module = importlib.util.module_from_spec(importlib.util.spec_from_loader(name, loader))
     loader.exec_module(module)
     return module
@@ -122,11 +123,11 @@ def loads(compiler, folder):
 
 
 def library(folder, name):
-    """Compiles a library of tools/ into a folder; None where there is no C compiler, or nothing that it makes can be loaded before a program."""
+    """Compiles a library of tools/c/ into a folder; None where there is no C compiler, or nothing that it makes can be loaded before a program."""
     made = pathlib.Path(folder) / f"{name}.so"
     for compiler in filter(None, map(shutil.which, ["cc", "clang", "gcc"])):
         if loads(compiler, pathlib.Path(folder)):
-            subprocess.run([compiler, "-O1", "-shared", "-fPIC", "-o", made, ROOT / "tools" / f"{name}.c", "-ldl"], check=True)
+            subprocess.run([compiler, "-O1", "-shared", "-fPIC", "-o", made, ROOT / "tools" / "c" / f"{name}.c", "-ldl"], check=True)
             return str(made)
     return None
 

@@ -1,8 +1,8 @@
 #!/usr/bin/env python3
 """A plain player of link sets' scripts, written apart from the program: to hold `mtp2_play play standard` against.
 
-usage: tools/plain_group.py SCRIPT            prints the lines that play prints for it on the set `standard`, and ends with its status
-       tools/plain_group.py --table FILE      plays each entry of a table of scripts, and ends with status 1 where one prints something else
+usage: tools/oracles/plain_group.py SCRIPT            prints the lines that play prints for it on the set `standard`, and ends with its status
+       tools/oracles/plain_group.py --table FILE      plays each entry of a table of scripts, and ends with status 1 where one prints something else
 
 The terminals are those of plain_term.py, which plays the scripts of other kinds too. Load sharing and changeover (Q.704) are on whole lists: what a link
 holds is counted anew each time that it is asked for.
@@ -10,6 +10,8 @@ holds is counted anew each time that it is asked for.
 A table is written as plain_term.py says. `<UP N>` as a line is the way into service of links 0 to N - 1, all at once; link 0 is spoken of behind it."""
 import pathlib
 import sys
+
+sys.path += map(str, pathlib.Path(__file__).resolve().parents[1].glob("*"))
 
 import plain_term
 from plain_term import ROOT, BadLine, Failed, Refused, Terminal, copied, do, is_terminal, octets_in, spoken, wanted, whole

@@ -2,16 +2,18 @@
 """A plain terminal on a line, written apart from the program: to hold `mtp2_play line` against. Its terminal is that of plain_term.py; the octets, the orders and
 the reports are as docs/links.md says them, on whole lists.
 
-usage: tools/plain_tied.py MODE [--orders FILE] [--reports FILE] [--bits low|high] [--ahead N]      a filter, as `mtp2_play line` is; it reads all before it writes
-       tools/plain_tied.py --two MODE MILLISECONDS FIRST SECOND     two of them tied crosswise, by their files of orders: what each tells, and how many octets
+usage: tools/oracles/plain_tied.py MODE [--orders FILE] [--reports FILE] [--bits low|high] [--ahead N]      a filter, as `mtp2_play line` is; it reads all before it writes
+       tools/oracles/plain_tied.py --two MODE MILLISECONDS FIRST SECOND     two of them tied crosswise, by their files of orders: what each tells, and how many octets
                                                                       each sent, with their CRC-32
-       tools/plain_tied.py --tied [--check]                        examples/line/tied.txt with its lives worked out; with --check nothing is printed, and the
+       tools/oracles/plain_tied.py --tied [--check]                        examples/line/tied.txt with its lives worked out; with --check nothing is printed, and the
                                                                       status is 1 where it differs"""
 import argparse
 import pathlib
 import re
 import sys
 import zlib
+
+sys.path += map(str, pathlib.Path(__file__).resolve().parents[1].glob("*"))
 
 from plain_lines import TEXT, Far
 from plain_play import Refused, shown

@@ -1,5 +1,5 @@
 /* Asks the kernel for large pages where a program maps a large block of its own memory. The prover maps its memory a gigabyte at a time and walks all over it, so most
-   of what it waits for is the look-up of small pages. tools/gate and tools/build have this loaded in front of it where there is a C compiler; all else is
+   of what it waits for is the look-up of small pages. tools/gate and tools/building/build have this loaded in front of it where there is a C compiler; all else is
    as it was, and where the kernel has no large pages nothing changes. */
 #define _GNU_SOURCE
 #include <stddef.h>

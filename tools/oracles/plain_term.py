@@ -1,8 +1,8 @@
 #!/usr/bin/env python3
 """A plain player of terminal scripts, written apart from the program: to hold `mtp2_play play` against.
 
-usage: tools/plain_term.py SET SCRIPT      prints the lines that play prints for them, and ends with its status
-       tools/plain_term.py --table FILE    plays each entry of a table of scripts, and ends with status 1 where one prints something else
+usage: tools/oracles/plain_term.py SET SCRIPT      prints the lines that play prints for them, and ends with its status
+       tools/oracles/plain_term.py --table FILE    plays each entry of a table of scripts, and ends with status 1 where one prints something else
 
 SET is `standard`, `monitors` or the file of a text; ` | OLD -> NEW` behind it is an edit, made everywhere in the text, and there may be several.
 Its actors are those of plain_play.py, which plays book scripts too. The line, the stores and the terminal
@@ -16,11 +16,13 @@ import pathlib
 import re
 import sys
 
+sys.path += map(str, pathlib.Path(__file__).resolve().parents[1].glob("*"))
+
 from plain_check import Refusal, check
 from plain_play import LONGEST, BadLine, Book, Failed, Refused, number, play as play_book, shown
 from plain_units import FLAG, Line, Receiver, Sender, bits_of, check_octets, decoded, octets_of, stuffed
 
-ROOT = pathlib.Path(__file__).resolve().parent.parent
+ROOT = pathlib.Path(__file__).resolve().parents[2]
 SETS = {"standard": "standard.sdl", "monitors": "monitors.sdl"}
 STATUSES = ["SIO", "SIN", "SIE", "SIOS", "SIPO", "SIB", "6", "7"]
 COPIES = re.compile(r"%(?:(\d+)-)?(\d+)\{([^}]*)\}")

@@ -1,10 +1,13 @@
 #!/usr/bin/env python3
 """A plain checker of process texts, written apart from the program: to hold `mtp2_play check` against.
 
-usage: tools/plain_check.py FILE ..     prints the lines that check prints for each
+usage: tools/oracles/plain_check.py FILE ..     prints the lines that check prints for each
 
 It knows the whole language, has no proofs, and takes a Python process for each run."""
+import pathlib
 import sys
+
+sys.path += map(str, pathlib.Path(__file__).resolve().parents[1].glob("*"))
 
 from plain_reader import P, Refusal, lex, line_of
 

@@ -1,4 +1,16 @@
-"""The kit's own `rt` as a module, for the tools that call its functions."""
+"""The kit's own `rt` as a module, for the tools that call its functions.
+
+What it replaces in `rt`, why, and what of the kit would make that needless:
+
+- `Crate.below` and `Crate.stamp`: `rt` asks for the sum of each library on every way down crates.txt, which takes minutes in an upper crate. Here each is asked once a
+  run. Needless once `rt` keeps the sums of a run.
+- `Crate.is_built` and `Crate.build_rlib`: `rt check` builds the libraries below with all their proofs, and an upper crate then loads these, minutes and gigabytes. Here
+  they are built with their statements alone, as `rt ci` does. Needless once `rt check` builds libraries with `--statements`.
+- `Crate.front_end`: before a check `rt` looks through the sources of all crates below, ten minutes and 10 GB in an upper crate. Here it doesn't; the build of each
+  library finds what that would. Needless once `rt` looks only at what isn't built.
+- LD_PRELOAD and MIMALLOC_PURGE_DELAY of what it starts: the prover takes a sixth less of processor with large pages. Needless once the prover asks for them itself.
+
+The gate is `rt ci`, in which nothing is replaced."""
 import importlib.machinery
 import importlib.util
 import os
@@ -11,13 +23,13 @@ import threading
 
 from built import library
 
-ROOT = pathlib.Path(__file__).resolve().parent.parent
+ROOT = pathlib.Path(__file__).resolve().parents[2]
 
 
 def large_pages():
-    """A library to load before the prover, by which it asks for large pages (tools/pages.c): made once, where that can be had. A check takes a sixth less
+    """A library to load before the prover, by which it asks for large pages (tools/c/pages.c): made once, where that can be had. A check takes a sixth less
     of processor so."""
-    source, made = ROOT / "tools" / "pages.c", ROOT / "out" / "pages.so"
+    source, made = ROOT / "tools" / "c" / "pages.c", ROOT / "out" / "pages.so"
     # (LD_PRELOAD has no way to write these)
     if any(it in str(made) for it in " :"):
         return None

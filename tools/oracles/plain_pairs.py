@@ -2,9 +2,12 @@
 """Two plain link sets (plain_group.py) back to back: makes the runs of examples/links/pairs.txt by the rules of crates/trials_groups/src/schedule.rt, and prints the
 lines that the program `trials` has to print for them. What was sent and what came stands in lists, from which all is counted at the end.
 
-usage: tools/plain_pairs.py                                    the runs of examples/links/pairs.txt
-       tools/plain_pairs.py MODE LINKS SEED MESSAGES LOST      one run"""
+usage: tools/oracles/plain_pairs.py                                    the runs of examples/links/pairs.txt
+       tools/oracles/plain_pairs.py MODE LINKS SEED MESSAGES LOST      one run"""
+import pathlib
 import sys
+
+sys.path += map(str, pathlib.Path(__file__).resolve().parents[1].glob("*"))
 
 from plain_group import Group, Link, label_of, labelled
 from plain_lines import Far

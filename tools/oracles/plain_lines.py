@@ -2,11 +2,13 @@
 """Two plain terminals (plain_term.py) whose lines are tied together: makes the runs of examples/links/runs.txt on the same bits of noise, and prints the lines that
 the program `trials` has to print for them. Nothing of the program is read but the octets of a message.
 
-usage: tools/plain_lines.py                                             the runs of examples/links/runs.txt
-       tools/plain_lines.py MODE SEED RATE MESSAGES GIVEN UNITS         one run"""
+usage: tools/oracles/plain_lines.py                                             the runs of examples/links/runs.txt
+       tools/oracles/plain_lines.py MODE SEED RATE MESSAGES GIVEN UNITS         one run"""
 import pathlib
 import re
 import sys
+
+sys.path += map(str, pathlib.Path(__file__).resolve().parents[1].glob("*"))
 
 from plain_play import Refused
 from plain_term import FLAG, ROOT, Terminal, bits_of, check_octets, octets_of, stuffed

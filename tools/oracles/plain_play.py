@@ -1,13 +1,15 @@
 #!/usr/bin/env python3
 """A plain player of book scripts, written apart from the program: to hold `mtp2_play play` against.
 
-usage: tools/plain_play.py TEXT SCRIPT     prints the lines that play prints for them, and ends with its status
+usage: tools/oracles/plain_play.py TEXT SCRIPT     prints the lines that play prints for them, and ends with its status
 
 It goes through the statements of the text themselves, knows no instruction, and has no proofs. It reads texts by plain_check.py. A set is
 a text alone, and scripts of terminals aren't played (plain_term.py does)."""
 import pathlib
 import re
 import sys
+
+sys.path += map(str, pathlib.Path(__file__).resolve().parents[1].glob("*"))
 
 from plain_check import P, Refusal, check, lex, lo
 from plain_turn import GREATEST, LEAST, Refused, constant, Turn

@@ -2,9 +2,9 @@
 """A plain terminal on a line as a filter, written apart from the program: to hold `mtp2_play line` against. An octet goes out for each that comes in, and eight
 of them are a millisecond. The terminal is that of plain_term.py.
 
-usage: tools/plain_filter.py [LIFE ..]              plays the lives of examples/line/lives.txt, all or those that are named, and ends with status 1 where one differs
-       tools/plain_filter.py --octets LIFE         writes the octets that come in during a life
-       tools/plain_filter.py MODE ORDERS           reads octets from standard input, writes those that go out, and tells to standard error
+usage: tools/oracles/plain_filter.py [LIFE ..]              plays the lives of examples/line/lives.txt, all or those that are named, and ends with status 1 where one differs
+       tools/oracles/plain_filter.py --octets LIFE         writes the octets that come in during a life
+       tools/oracles/plain_filter.py MODE ORDERS           reads octets from standard input, writes those that go out, and tells to standard error
 
 In lives.txt `== NAME` begins an entry, and its first line has the mode. Lines `MS WHAT ..` say what comes in from that millisecond on, each up to the next one's:
 `ones`, `flags` (each shares its 0 with the next), `unit HEX` (over and over, check octets are put on), `once HEX` (and behind it flags), `bad HEX` (once, with its
@@ -12,6 +12,8 @@ last bit the other way round), and `end`. What comes at a millisecond begins beh
 line `--`, the orders, a line `--`, and what has to be told."""
 import pathlib
 import sys
+
+sys.path += map(str, pathlib.Path(__file__).resolve().parents[1].glob("*"))
 
 from plain_play import Refused
 from plain_term import COMMANDS, ROOT, SETS, Terminal, command, shown
