@@ -27,18 +27,12 @@ struct Streams<'a, H: Eprint> {
     reports: ReportStream<Errors<'a, H>>,
 }
 
-/// What was opened. Where it wasn't, that is told by its name.
-fn told<T, H: Eprint>(
-    teller: &Teller<'_, H>,
-    path: Option<&str>,
-    opened: io::Result<T>,
-) -> io::Result<T>
-    ensures { result ≡ opened.entry }
-{
-    if let (Some(path), Err(error)) = (path, &opened) {
-        teller.tell(path, error);
+/// Tells by its name that something couldn't be opened.
+fn told<H: Eprint>(teller: &Teller<'_, H>, path: Option<&str>, error: io::Error) -> io::Error {
+    if let Some(path) = path {
+        teller.tell(path, &error);
     }
-    opened
+    error
 }
 
 /// Opens what orders come from, and where reports go. What can't be opened is told by its name.
@@ -50,13 +44,15 @@ fn open_streams<'a, H: Files<File = File> + Threads + Eprint + AllocGlobal>(
     ensures { IfOk result (λ s. AreOrdered end.now.orders (left_of known_of s.orders)) }
 {
     let alloc = host.alloc();
-    let orders = told(teller, end.orders, open_orders(host, alloc, end.orders))?;
+    let orders = match open_orders(host, alloc, end.orders) {
+        Ok(orders) => orders,
+        Err(error) => return Err(told(teller, end.orders, error)),
+    };
     let errors = Errors { rt: host };
-    let reports = told(
-        teller,
-        end.reports,
-        open_reports(host, alloc, end.reports, errors),
-    )?;
+    let reports = match open_reports(host, alloc, end.reports, errors) {
+        Ok(reports) => reports,
+        Err(error) => return Err(told(teller, end.reports, error)),
+    };
     Ok(Streams {
         orders: LineOrders::new(alloc, orders),
         reports,
