@@ -106,8 +106,8 @@ fn script_in<'a>(alloc: Global, text: &'a str) -> Result<Script<'a>, ScriptFault
 /// # Errors
 ///
 /// [`ScriptFault::BadLine`] (X1) with the number of the first line that is none of these; of a text of more than 262,144
-/// bytes with that of the first byte too many, before any line is looked at. [`ScriptFault::NoMemory`] may stand in place
-/// of any answer.
+/// bytes with that of the first byte too many, before any line is looked at. Any call may answer
+/// [`ScriptFault::NoMemory`] instead.
 pub fn book_script<'a>(alloc: Global, text: &'a str) -> Result<Script<'a>, ScriptFault>
     ensures script { IfOk result (λ s. script_of text.now ≡ Ok (plain_script s)) }
     ensures within { IfOk result (λ s. AreInRange s.settings) }

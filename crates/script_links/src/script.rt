@@ -65,8 +65,8 @@ fn commands_in<'a>(alloc: Global, lines: &[Line<'a>]) -> Result<Vec<TermSaid<'a>
 /// # Errors
 ///
 /// [`ScriptFault::BadLine`] (X1) with the number of the first line that is none of a script of that kind; of a text of more than
-/// 262,144 bytes with that of the first byte too many, before any line is looked at. [`ScriptFault::NoMemory`] may stand in place
-/// of any answer.
+/// 262,144 bytes with that of the first byte too many, before any line is looked at. Any call may answer
+/// [`ScriptFault::NoMemory`] instead.
 pub fn any_script<'a>(alloc: Global, text: &'a str) -> Result<AnyScript<'a>, ScriptFault>
     ensures script { IfOk result (λ s. any_script_of text.now ≡ Ok (plain_any_script s)) }
     ensures within { IfOk result IsInRange }

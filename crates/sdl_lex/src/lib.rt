@@ -30,7 +30,7 @@ pub const MAX_TEXT: usize = 262_144;
 /// only white space and comments.
 ///
 /// A fault is the first in the text, but a text of more than 262,144 bytes is L3 at the first byte
-/// too many, whatever it holds. `LexFault::NoMemory` may stand in place of any answer.
+/// too many, whatever it holds. Any call may answer `LexFault::NoMemory` instead.
 pub fn tokens(alloc: Global, text: &str) -> Result<Vec<Token>, LexFault>
     ensures lexed { IfOk result (λ v. Answers text.now (Ok v.items)) }
     ensures fault { IfErr result (λ e. IsAnswer text.now e) }

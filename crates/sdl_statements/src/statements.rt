@@ -384,7 +384,7 @@ pub fn doubtful_output(alloc: Global, block: &BlockTable) -> Option<u32>
     in_processes(alloc, StatementRule::OneReceiver, block, block.tables())
 }
 
-/// The place of a DECISION in which some value has no answer, or more than one.
+/// The place of a DECISION of Integers without ELSE, or of one of Booleans that doesn't answer each of TRUE and FALSE once. (S8; Z.100: decision.)
 pub fn missing_answer(alloc: Global, block: &BlockTable) -> Option<u32>
     ensures { Marks result (unanswered (block_of block.now)) }
 {
