@@ -474,5 +474,7 @@ int main(int argc, char **argv) {
     cycle(standard, "standard_own", turn_by_book, rounds, asked);
     cycle(standard, "standard_job", turn_by_job, rounds, asked);
     run_long(longs, "straight", rounds, asked);
+    count(counter, "counter_room", turn_by_job, rounds, asked);
+    cycle(standard, "standard_room", turn_by_job, rounds, asked);
     return 0;
 }

@@ -1,13 +1,5 @@
 """Texts made to be slow: words, statements, names, sorts and ways of a text (L1 to L3, F1, P1, P2, S1 to S4, S7)."""
-import os
-import pathlib
-import shutil
-import subprocess
-import tempfile
-
-from slow_texts import fill, in_start, process, text
-
-FOLDER = pathlib.Path(__file__).resolve().parent
+from slow_texts import fill, in_start, process, searched, text
 
 
 # ---- words (L1, L2, L3, F1)
@@ -141,19 +133,23 @@ def _(size):
 
 
 def colliding(count):
-    """So many names that the tables' hash puts into one group, with half of what a group keeps of a name the same; none where there is no C compiler. (With
+    """So many names that a table by the kit's own hash, whose seed is fixed, puts into one group, with half of what a group keeps of a name the same. (With
     all of that the same a look-up compares sixteen times as many names; to find those takes a minute: collide 14500 11 8.)"""
-    if not shutil.which("cc"):
-        return []
-    with tempfile.TemporaryDirectory() as folder:
-        program = os.path.join(folder, "collide")
-        subprocess.run(["cc", "-O2", "-o", program, str(FOLDER / "collide.c")], check=True)
-        return subprocess.run([program, str(count), "11", "4"], stdout=subprocess.PIPE, check=True, text=True).stdout.split()
+    return searched("collide.c", count, 11, 4)
 
 
-@text("S1 signals whose names collide")
+def named(names):
+    return f"BLOCK B; SIGNAL {','.join(names + ['s', 's'])}; PROCESS P; START; STOP; ENDPROCESS; ENDBLOCK;"
+
+
+@text("S1 signals whose names collide by a fixed hash")
 def _(size):
-    return f"BLOCK B; SIGNAL {','.join(colliding(size // 18) + ['s', 's'])}; PROCESS P; START; STOP; ENDPROCESS; ENDBLOCK;"
+    return named(colliding(size // 18))
+
+
+@text("S1 as many signals whose names don't")
+def _(size):
+    return named([f"s{i:06d}" for i in range(size // 18)])
 
 
 @text("S2 states far away")

@@ -1,5 +1,8 @@
 """Texts made to be slow: who sends and who gets a signal (S5, S6), DECISIONs and divisors (S8, S9)."""
-from slow_texts import fill, in_start, text
+import hashlib
+import random
+
+from slow_texts import MOST, fill, in_start, searched, text
 
 
 # ---- routes (S5, S6)
@@ -212,6 +215,37 @@ def _(size):
         for other in range(count):
             text += f"SIGNALROUTE r{one}x{other} FROM P{one} TO P{other} WITH n;\n"
     return text + "PROCESS L; START; OUTPUT n; STOP; ENDPROCESS; ENDBLOCK;"
+
+
+def from_all_to_all(size, collide):
+    """Paths between all of some processes, so many signals each as a table puts into one group whose key is a digest of the declared names alone; or as many
+    others."""
+    processes, signals, bits = int(64 * (size / MOST) ** 0.5), 6000 * size // MOST, (size // 128).bit_length() - 1
+    ends = [(one, other) for one in range(processes) for other in range(processes)]
+    declared = [f"s{i}" for i in range(signals)] + [f"r{i}" for i in range(len(ends) // 2)] + [f"p{i}" for i in range(processes)]
+    key = hashlib.sha256("".join(name + "," for name in declared).encode()).digest()
+    words = [key[at : at + 8][::-1].hex() for at in (0, 8)]
+    brought = {it: [] for it in ends}
+    for line in searched("collide_routes.c", *words, processes, signals, bits, 0):
+        one, other, signal = map(int, line.split())
+        brought[one, other].append(signal)
+    if not collide:
+        other_signals = random.Random(1)
+        brought = {it: other_signals.sample(range(signals), len(has)) for it, has in brought.items()}
+    paths = [f"FROM p{one} TO p{other} WITH {','.join(f's{i}' for i in has or [0])};" for (one, other), has in brought.items()]
+    text = f"BLOCK B;SIGNAL {','.join(declared[:signals])};\n"
+    text += "".join(f"SIGNALROUTE r{i} {paths[2 * i]}{paths[2 * i + 1]}\n" for i in range(len(paths) // 2))
+    return text + "".join(f"PROCESS p{i};START;STOP;ENDPROCESS;\n" for i in range(processes)) + "ENDBLOCK;"
+
+
+@text("S5 paths that collide by a key of the declared names")
+def _(size):
+    return from_all_to_all(size, True)
+
+
+@text("S5 as many paths that don't")
+def _(size):
+    return from_all_to_all(size, False)
 
 
 @text("S6 many receivers")

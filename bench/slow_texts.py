@@ -1,4 +1,11 @@
 """How a text that is made to be slow is written and kept: by its name, a function of its size (octets)."""
+import os
+import pathlib
+import shutil
+import subprocess
+import tempfile
+
+FOLDER = pathlib.Path(__file__).resolve().parent
 MOST = 262144
 TEXTS = {}
 
@@ -37,3 +44,13 @@ def in_start(size, part, head="", tail="", most=10**9, join=""):
     mark = "@@"
     before, behind = process(f"START; {head}{mark}{tail} STOP;").split(mark)
     return fill(size, before, part, behind, most, join)
+
+
+def searched(source, *words):
+    """The lines that a program in C of this folder prints; none where there is no C compiler."""
+    if not shutil.which("cc"):
+        return []
+    with tempfile.TemporaryDirectory() as folder:
+        program = os.path.join(folder, "search")
+        subprocess.run(["cc", "-O2", "-o", program, str(FOLDER / source)], check=True)
+        return subprocess.run([program, *map(str, words)], stdout=subprocess.PIPE, check=True, text=True).stdout.splitlines()

@@ -1,6 +1,8 @@
 /* A library to load before a program: its reads, its writes to standard output and the threads that it starts go as these variables say.
        READ_FAILS, WRITE_FAILS     the number, from 1, of the read or write that fails, once
        READ_PART, WRITE_PART       how many octets one takes at most
+       READS_OF, WRITES_OF         the descriptor, or how the path of the file ends, of which reads or writes are meant; else all reads, and
+                                   writes to standard output
        INTERRUPTED                 each is interrupted once before it is made
        THREADS_FAIL                the number, from 1, of the thread from which on none can be started
        TELL                        how many reads, writes and threads there were is told on standard error at the end */
@@ -8,12 +10,15 @@
 #include <dlfcn.h>
 #include <errno.h>
 #include <pthread.h>
+#include <limits.h>
 #include <stdio.h>
 #include <stdlib.h>
+#include <string.h>
 #include <sys/syscall.h>
 #include <unistd.h>
 
 struct stream {
+    const char *of;
     long fails, part, made;
     int is_next;
 };
@@ -27,6 +32,8 @@ static long said(const char *name) {
 }
 
 __attribute__((constructor)) static void begin(void) {
+    reads.of = getenv("READS_OF");
+    writes.of = getenv("WRITES_OF");
     reads.fails = said("READ_FAILS");
     reads.part = said("READ_PART");
     writes.fails = said("WRITE_FAILS");
@@ -51,10 +58,24 @@ static int goes(struct stream *it, size_t *size) {
     return 1;
 }
 
-ssize_t read(int file, void *room, size_t size) { return goes(&reads, &size) ? syscall(SYS_read, file, room, size) : -1; }
+/* Whether a descriptor is the one that is said, by its number or by how the path of its file ends. */
+static int is_meant(const char *of, int file) {
+    char link[32], path[PATH_MAX];
+    char *end;
+    long number = strtol(of, &end, 10);
+    if (!*end) return number == file;
+    snprintf(link, sizeof link, "/proc/self/fd/%d", file);
+    ssize_t size = readlink(link, path, sizeof path), tail = (ssize_t)strlen(of);
+    return size >= tail && !memcmp(path + size - tail, of, tail);
+}
+
+ssize_t read(int file, void *room, size_t size) {
+    if ((!reads.of || is_meant(reads.of, file)) && !goes(&reads, &size)) return -1;
+    return syscall(SYS_read, file, room, size);
+}
 
 ssize_t write(int file, const void *octets, size_t size) {
-    if (file == 1 && !goes(&writes, &size)) return -1;
+    if ((writes.of ? is_meant(writes.of, file) : file == 1) && !goes(&writes, &size)) return -1;
     return syscall(SYS_write, file, octets, size);
 }
 

@@ -9,7 +9,7 @@ import sys
 
 sys.path += map(str, pathlib.Path(__file__).resolve().parents[1].glob("*"))
 
-from plain_reader import P, Refusal, lex, line_of
+from plain_reader import P, Refusal, lex, refusal
 
 def first(x): return (x[4] if len(x) > 4 else first(x[2])) if x[0] == 'bin' else x[3] if x[0] == 'un' else x[2]
 def cost(x):
@@ -44,7 +44,7 @@ def joins(tr):
     return r
 def check(b):
     ps = P(b, lex(b)); ents = ps.block()
-    if ps.high is not None: raise Refusal('P2 TooDeep line %d' % line_of(b, ps.high))
+    if ps.high is not None: raise refusal('P2 TooDeep', b, ps.high)
     bad = []  # (number, place)
     def twice(ns, num=1):
         seen = set()
@@ -210,7 +210,7 @@ def check(b):
         num, at = min(bad)
         nm = {1: 'DoubleName', 2: 'UnknownName', 3: 'WrongSort', 4: 'NoState', 5: 'NoReceiver', 6: 'TwoReceivers', 7: 'JoinCycle',
               8: 'NoAnswer', 9: 'BadDivisor'}[num]
-        raise Refusal('S%d %s line %d' % (num, nm, line_of(b, at)))
+        raise refusal('S%d %s' % (num, nm), b, at)
     rows = []
     for number, (p, vs, ts, states, V, conn, truth) in enumerate(info):
         tn = {lo(t): t[0] for t in ts}

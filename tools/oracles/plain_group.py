@@ -45,8 +45,8 @@ def selection_of(message):
 
 def changeover_in(sif):
     """The label of a message of changeover, its heading and, but for the emergency ones, the number; None for anything else."""
-    if len(sif) == 6 and sif[4] in (COO, COA) and sif[5] < 128:
-        return label_of(sif), sif[4], sif[5]
+    if len(sif) == 6 and sif[4] in (COO, COA):
+        return label_of(sif), sif[4], sif[5] % 128
     if len(sif) == 5 and sif[4] in (ECO, ECA):
         return label_of(sif), sif[4], None
     return None
@@ -60,14 +60,27 @@ class Link(Terminal):
 
     def __init__(self, text, cyclic):
         super().__init__(text, cyclic)
-        self.serves = self.came = self.served = self.anew = self.failed = False
-        self.changing, self.answer, self.waited, self.out = False, None, 0, False
+        self.serves = self.came = self.served = self.anew = self.failed = self.far_out = False
+        self.admitted = True
+        # Its changeover: the place up to which messages were accepted as the other end told, whether any answer came, and ticks since it began.
+        self.changing, self.told, self.answered, self.waited, self.out = False, None, False, 0, False
+        # Behind the beginning of its last changeover: whether there was one, and the ticks since it first came into service then.
+        self.had_one, self.since = False, None
 
     def hear(self, sender, signal, values):
         super().hear(sender, signal, values)
         if signal in ("InServiceNow", "Down"):
             self.serves = signal == "InServiceNow"
             self.came = self.came or self.serves
+        if signal in ("RemoteOut", "RemoteBack", "Down"):
+            self.far_out = signal == "RemoteOut"
+
+    def is_able(self):
+        """Whether it may carry messages: in service, and not held."""
+        return self.serves and not self.is_held
+
+    def has_outage(self):
+        return self.far_out or self.kind == 4
 
     def held(self):
         """The messages that aren't acknowledged, and those that aren't sent."""
@@ -79,13 +92,23 @@ class Link(Terminal):
     def holds(self, selection):
         return any(selection_of(it) == selection for it in self.held())
 
+    def hold(self):
+        """No message goes or comes until both directions begin anew, and not before the hand of a changeover that goes on was taken out."""
+        self.is_held, self.stays_held = True, self.changing and not self.out
+
     def begin(self):
         if not self.changing:
-            self.changing, self.answer, self.waited, self.out, self.failed = True, None, 0, False, True
+            self.changing, self.told, self.answered, self.waited, self.out, self.failed = True, None, False, 0, False, True
+            self.had_one, self.since = True, None
+            self.hold()
 
-    def tell(self, answer):
+    def tell(self, fsn):
+        """An answer came, with a number or without one: the first number that can be stays, as the place in the store that it means now."""
         if self.changing and not self.out:
-            self.answer = answer
+            self.answered = True
+            count = None if fsn is None else self.acknowledged_by(fsn)
+            if self.told is None and count is not None:
+                self.told = self.sender.acknowledged + count
 
     def acknowledged_by(self, fsn):
         """How many messages a number acknowledges; None where that is more than are sent."""
@@ -94,14 +117,14 @@ class Link(Terminal):
         return count if count <= self.sent() else None
 
     def known(self):
-        """How many messages the other end's last answer acknowledges, where it tells a number that can be."""
-        return self.acknowledged_by(self.answer) if isinstance(self.answer, int) else None
+        """How many messages the other end's answer acknowledges, where it told a number that can be."""
+        return None if self.told is None else max(0, self.told - self.sender.acknowledged)
 
     def why_not(self):
         """Why messages aren't retrieved, if they aren't."""
         if not self.changing:
             return "K1 NoLink"
-        if self.out or (self.answer is None and self.waited < PATIENCE):
+        if self.out or (not self.answered and self.waited < PATIENCE):
             return "K2 Waiting"
         if self.known() is None and self.sent():
             return f"K4 Unsure {self.sent()}"
@@ -114,7 +137,8 @@ class Link(Terminal):
         sender.acknowledged += count or 0
         del sender.all[sender.acknowledged :]
         sender.sent = sender.again = sender.turn = sender.acknowledged
-        self.out = True
+        sender.forced = False
+        self.out, self.stays_held = True, False
         return hand
 
     def takes(self, messages):
@@ -136,26 +160,44 @@ class Group:
             raise Refused("K1 NoLink")
         return self.links[at]
 
-    def may(self, failed):
-        return [at for at, link in enumerate(self.links) if link.serves and (failed or not link.failed)]
+    def chosen(self, ways):
+        """The links of the first of these ways that has one: first of those without an outage, then of those with one."""
+        for outage in (False, True):
+            for way in ways:
+                found = [at for at, link in enumerate(self.links) if link.admitted and link.is_able() and link.has_outage() == outage and way(at, link)]
+                if found:
+                    return found
+        return []
+
+    def for_hand(self, failed):
+        """The links that take the hand of one that failed: others that never failed, others out of changeover, itself."""
+        return self.chosen([lambda at, link: not link.failed and not link.changing, lambda at, link: at != failed and not link.changing,
+                            lambda at, link: at == failed])
 
     def pick(self, links, selection):
         return links[selection % len(links)] if links else None
 
     def see(self, *links):
-        """Links that came into service for the first time have the table made anew."""
+        """Links that came into service, and are admitted, for the first time have the table made anew."""
         first = False
         for link in links:
             if link.came:
-                first = first or not link.served
-                link.came, link.served, link.anew = False, True, False
+                link.came, link.anew = False, False
+                if link.had_one and link.since is None:
+                    link.since = 0
+            if link.serves and link.admitted and not link.served:
+                first, link.served = True, True
         if not first:
             return
-        able = self.may(False)
+        able = self.chosen([lambda at, link: not link.failed])
         for selection, was in enumerate(self.table):
             waits = was is not None and self.links[was].changing
             if not waits and not any(link.holds(selection) for link in self.links):
                 self.table[selection] = self.pick(able, selection)
+
+    def admit(self, at, way):
+        self.link(at).admitted = way
+        self.see(self.links[at])
 
     def command(self, at, actor, signal):
         link = self.link(at)
@@ -173,7 +215,8 @@ class Group:
             raise Refused("W1 TooFar")
         due = sum(link.tick(ticks) for link in self.links)
         for link in self.links:
-            link.waited = min(PATIENCE, link.waited + ticks)
+            link.waited += ticks
+            link.since = None if link.since is None else link.since + ticks
         self.see(*self.links)
         return due
 
@@ -197,7 +240,7 @@ class Group:
             raise Refused("K1 NoLink")
         if self.links[at].changing:
             raise Refused("K2 Waiting")
-        if not self.links[at].serves:
+        if not self.links[at].is_able() or not self.links[at].admitted:
             raise Refused("K1 NoLink")
         self.links[at].sender.put(octets)
 
@@ -219,12 +262,20 @@ class Group:
             return None
         (_, _, at), heading, fsn = message
         link = self.links[at]
-        if heading in (COO, ECO):
+        if heading in (COA, ECA):
+            link.tell(None if link.anew else fsn)
+            return None
+        emergency = labelled(self.peer, self.own, at, [ECA])
+        if not link.changing and link.had_one and link.since is None:
+            return emergency
+        is_late = not link.changing and link.since is not None and link.since <= PATIENCE
+        if not is_late:
             link.begin()
-        link.tell("unknown" if fsn is None or link.anew else fsn)
-        if heading == COO:
-            return self.message(at, COA, ECA)
-        return labelled(self.peer, self.own, at, [ECA]) if heading == ECO else None
+            link.tell(None if link.anew else fsn)
+        answer = self.message(at, COA, ECA) if heading == COO else emergency
+        if is_late or answer[4] == COA:
+            link.hold()
+        return answer
 
     def retrieve(self, at):
         why = self.link(at).why_not()
@@ -244,10 +295,10 @@ class Group:
 
     def divert(self, at, hand):
         """Diverts a hand, taking out of it what goes."""
-        link, able = self.links[at], self.may(False)
+        link, able = self.links[at], self.for_hand(at)
         if hand and not able:
-            if not link.serves:
-                raise Refused("K1 NoLink")
+            raise Refused("K1 NoLink")
+        if able == [at]:
             link.takes(hand)
             hand.clear()
         for selection in range(16):
@@ -258,14 +309,15 @@ class Group:
                 self.table[selection] = to
                 hand[:] = [it for it in hand if selection_of(it) != selection]
         for selection, was in enumerate(self.table):
-            if was == at and not link.holds(selection):
+            if was == at:
                 self.table[selection] = self.pick(able, selection)
         link.changing = link.out = False
 
     def rebalance(self):
         if any(link.changing for link in self.links):
             raise Refused("K2 Waiting")
-        new = [self.pick(self.may(True), selection) for selection in range(16)]
+        able = self.chosen([lambda at, link: True])
+        new = [self.pick(able, selection) for selection in range(16)]
         for selection, was in enumerate(self.table):
             if was is not None and was != new[selection] and self.links[was].holds(selection):
                 raise Refused("K3 NotEmpty")
@@ -273,10 +325,17 @@ class Group:
         for link in self.links:
             link.failed = False
 
+    def shown(self, at):
+        """What a link is."""
+        link = self.link(at)
+        words = ["in service" if link.serves else "out of service", *(["failed"] if link.failed else []), *(["held"] if link.is_held else []),
+                 *([f"changeover {link.waited}"] if link.changing else []), *([] if link.admitted else ["not admitted"])]
+        return ", ".join(words)
+
 
 # Scripts.
 
-ALONE = ["fail", "retrieve", "abandon", "divert", "rebalance", "table", "held", "unsure"]
+ALONE = ["fail", "retrieve", "abandon", "divert", "rebalance", "table", "held", "unsure", "link"]
 
 
 def command(words):
@@ -290,6 +349,8 @@ def command(words):
         return word, octets_in(rest[0])
     if word == "message" and len(rest) == 1:
         return word, octets_in(rest[0])
+    if word == "admit" and rest in (["yes"], ["no"]):
+        return word, rest == ["yes"]
     if word in ("send", "msu"):
         raise BadLine
     return terminal_command(words)
@@ -320,6 +381,8 @@ class Player:
             return do(group.link(at), word, *rest)
         elif word == "send":
             group.send(rest[0])
+        elif word == "admit":
+            group.admit(at, rest[0])
         elif word == "rebalance":
             group.rebalance()
         else:
@@ -341,6 +404,8 @@ class Player:
             return self.divert()
         if word == "table":
             return ", ".join(f"{selection} {'-' if link is None else link}" for selection, link in enumerate(group.table))
+        if word == "link":
+            return group.shown(at)
         if word == "held":
             return f"{len(group.link(at).held())} sent {group.link(at).sent()}"
         return str(group.unsure)

@@ -4,25 +4,30 @@ sys.setrecursionlimit(100000)
 RES = set("""BLOCK ENDBLOCK SIGNAL SIGNALROUTE FROM TO WITH ENV CONNECT PROCESS ENDPROCESS DCL TIMER START STATE ENDSTATE INPUT SAVE
 CONNECTION ENDCONNECTION TASK OUTPUT SENDER SET RESET NOW DECISION ELSE ENDDECISION NEXTSTATE STOP JOIN COMMENT NOT AND OR XOR MOD REM
 INTEGER BOOLEAN TRUE FALSE PROCEDURE ENDPROCEDURE CALL FPAR IN RETURN""".split())
-class Refusal(Exception): pass
+class Refusal(Exception):
+    """The line of a refusal without its first word, and the place of what is refused, if it has one."""
+    at = None
+def refusal(name, b, at):
+    why = Refusal('%s line %d' % (name, line_of(b, at))); why.at = at
+    return why
 def line_of(b, at): return b[:at].count(b'\n') + 1
 def isalpha(c): return 65 <= c <= 90 or 97 <= c <= 122
 def isdig(c): return 48 <= c <= 57
 def lex(b):
-    if len(b) > 262144: raise Refusal('L3 TooLong line %d' % line_of(b, 262144))
+    if len(b) > 262144: raise refusal('L3 TooLong', b, 262144)
     i = 0; out = []; n = len(b)
     while i < n:
         c = b[i]
         if c in b' \t\r\n': i += 1; continue
         if b[i:i+2] == b'/*':
             j = b.find(b'*/', i + 2)
-            if j < 0: raise Refusal('L2 OpenComment line %d' % line_of(b, i))
+            if j < 0: raise refusal('L2 OpenComment', b, i)
             i = j + 2; continue
         if c == 39:
             j = i + 1
             while True:
                 j = b.find(b"'", j)
-                if j < 0: raise Refusal('L2 OpenComment line %d' % line_of(b, i))
+                if j < 0: raise refusal('L2 OpenComment', b, i)
                 if b[j+1:j+2] == b"'": j += 2; continue
                 break
             out.append(('text', None, i)); i = j + 1; continue
@@ -31,19 +36,19 @@ def lex(b):
             while j < n and (isalpha(b[j]) or isdig(b[j]) or b[j] == 95): j += 1
             s = b[i:j].decode()
             if s.upper() in RES: out.append((s.upper(), s, i))
-            elif len(s) > 32: raise Refusal('L3 TooLong line %d' % line_of(b, i))
+            elif len(s) > 32: raise refusal('L3 TooLong', b, i)
             else: out.append(('name', s, i))
             i = j; continue
         if isdig(c):
             j = i
             while j < n and isdig(b[j]): j += 1
             v = int(b[i:j])
-            if v > 2147483647: raise Refusal('L3 TooLong line %d' % line_of(b, i))
+            if v > 2147483647: raise refusal('L3 TooLong', b, i)
             out.append(('num', v, i)); i = j; continue
         two = b[i:i+2].decode('latin1')
         if two in (':=', '/=', '<=', '>='): out.append((two, None, i)); i += 2; continue
         if chr(c) in ';,:()+-*/=<>': out.append((chr(c), None, i)); i += 1; continue
-        raise Refusal('L1 BadCharacter line %d' % line_of(b, i))
+        raise refusal('L1 BadCharacter', b, i)
     return out
 def height(x):
     if x[0] == 'bin': return 1 + max(height(x[2]), height(x[3]))
@@ -54,8 +59,8 @@ class P:
     def k(s): return s.t[s.i][0] if s.i < len(s.t) else 'end'
     def at(s): return s.t[s.i][2] if s.i < len(s.t) else None
     def fail(s):
-        if s.i < len(s.t): raise Refusal('P1 Unexpected line %d' % line_of(s.b, s.t[s.i][2]))
-        raise Refusal('P1 Unexpected line %d' % (line_of(s.b, s.t[-1][2]) if s.t else 1))
+        if s.i < len(s.t): raise refusal('P1 Unexpected', s.b, s.t[s.i][2])
+        raise refusal('P1 Unexpected', s.b, s.t[-1][2] if s.t else 0)
     def take(s, k):
         if s.k() != k: s.fail()
         s.i += 1; return s.t[s.i-1]

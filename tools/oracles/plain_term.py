@@ -34,7 +34,14 @@ WANTED = """LSC AERM SUERM TXC RC CC
 LSC/PowerOn LSC/StartLink LSC/StopLink LSC/Emergency LSC/Calm LSC/LocalOut LSC/LocalBack CC/Busy CC/Free
 AERM/Good SUERM/Good AERM/Errored SUERM/Errored TXC/AckSeen RC/Bad RC/Unit TXC/MsuSent
 ENV/Fresh ENV/Take ENV/Line ENV/Withhold ENV/InServiceNow ENV/Down ENV/RemoteOut ENV/RemoteBack""".split()
-SORTS = {"AckSeen": "BOOLEAN", "Unit": "INTEGER", "Take": "BOOLEAN", "Line": "INTEGER", "Withhold": "BOOLEAN", "Down": "INTEGER"}
+SORTS = {
+    "AckSeen": "BOOLEAN", "Unit": "INTEGER", "Take": "BOOLEAN", "Line": "INTEGER", "Withhold": "BOOLEAN", "Down": "INTEGER", "Deliver": "BOOLEAN",
+    "Odd": "INTEGER", "Counting": "BOOLEAN",
+}
+# Whether scripts have the words, and texts the names, that tools/q781 knows beside those of `play`.
+ALL_WORDS = False
+# What a text may have besides.
+OPTIONAL = "ENV/Deliver RC/Odd ENV/Clear ENV/Cleared LSC/Flush LSC/Continue CC/Overload AERM/Counting SUERM/Counting".split()
 
 
 def text_of(word):
@@ -52,11 +59,15 @@ def text_of(word):
 
 
 class Terminal:
-    def __init__(self, text, cyclic):
+    def __init__(self, text, cyclic, *limits):
         self.book = Book(text, 64, 1024, 65536)
-        self.line, self.sender, self.receiver = Line(), Sender(cyclic), Receiver(cyclic)
+        self.line, self.sender, self.receiver = Line(), Sender(cyclic, *limits), Receiver(cyclic)
         self.take, self.withheld, self.kind, self.busy, self.faults = False, None, None, False, []
+        # Whether a link set holds it, and whether it does so behind the next beginning of both directions too.
+        self.is_held = self.stays_held = False
         self.messages, self.statuses = [], []
+        self.names = {it for it in OPTIONAL if ALL_WORDS and has(self.book, it)}
+        self.deliver, self.behind_odd, self.spare, self.cleared, self.left, self.keeps = True, False, 0, 0, False, False
 
     def rebase(self):
         if self.book.journal - self.book.events < 32768:
@@ -71,6 +82,12 @@ class Terminal:
                     self.hear(*self.book.take_env())
                 except Refused:
                     break
+                if self.left:
+                    self.left = False
+                    try:
+                        self.book.offer("TXC", "AckSeen", [False])
+                    except Refused:
+                        pass
 
     def turn(self):
         """Whether the first actor that can made its turn, or skipped."""
@@ -90,16 +107,32 @@ class Terminal:
             self.sender.fresh()
             self.receiver.fresh()
             self.faults, self.withheld = [], None if self.withheld is None else (127, 1)
+            self.deliver, self.behind_odd, self.spare = True, False, 0
+            self.is_held = self.stays_held
+        elif signal == "Deliver" and "ENV/Deliver" in self.names:
+            self.deliver = values[0]
+        elif signal == "Clear" and "ENV/Clear" in self.names:
+            self.clear()
         elif signal == "Take":
             self.take = values[0]
         elif signal == "Withhold":
             self.withheld = (self.receiver.last, self.receiver.bib) if values[0] else None
-        elif signal != "Line":
+        elif signal in TOLD and (signal != "Cleared" or "ENV/Cleared" in self.names):
             self.statuses = [*self.statuses, (signal, *values)][-64:]
+        elif signal != "Line":
+            pass
         elif values[0] == 5:
             self.busy = True
         elif values[0] in (0, 1, 2, 3, 4, 8, 9):
             self.kind, self.busy = values[0], False
+
+    def clear(self):
+        """Nothing waits and nothing is unacknowledged any more; the next new message has the number behind the last acknowledged one."""
+        out, sender = self.sender.sent - self.sender.acknowledged, self.sender
+        self.spare, self.cleared = out or self.spare, self.cleared + len(sender.all) - sender.acknowledged
+        del sender.all[sender.acknowledged :]
+        sender.sent = sender.again = sender.turn = sender.acknowledged
+        sender.forced, self.left = False, True
 
     def offer(self, actor, signal, *values):
         """An offer for a unit: it doesn't matter whether it was refused."""
@@ -127,7 +160,11 @@ class Terminal:
                 return taken
             self.rebase()
             for bit in bits_of([octet]):
-                for unit in self.line.bit(bit):
+                counting, units = self.line.counting, self.line.bit(bit)
+                if self.line.counting != counting and {"AERM/Counting", "SUERM/Counting"} <= self.names:
+                    self.offer("AERM", "Counting", not counting)
+                    self.offer("SUERM", "Counting", not counting)
+                for unit in units:
                     self.received(unit)
         return len(octets)
 
@@ -137,6 +174,8 @@ class Terminal:
             self.offer("SUERM", "Errored")
             return
         head, status, message = unit
+        if status is None and self.take and "RC/Odd" in self.names:
+            return self.judged(head, message)
         count, bad = self.stored(head, message) if status is None and self.take else (0, False)
         left = self.sender.sent > self.sender.acknowledged
         self.offer("AERM", "Good")
@@ -147,17 +186,56 @@ class Terminal:
             self.offer("RC", "Bad")
         self.offer("RC", "Unit", 8 if status is None else status)
 
+    def judged(self, head, message):
+        """A unit where the text has the name Odd."""
+        behind = self.behind_odd
+        if behind:
+            count, bad = 0, self.remember(self.fault_of(head))
+        else:
+            count, bad = self.stored(head, message)
+        fault = self.faults[-1]
+        self.behind_odd = fault is not None
+        left = self.sender.sent > self.sender.acknowledged
+        self.offer("AERM", "Good")
+        self.offer("SUERM", "Good")
+        if count:
+            self.offer("TXC", "AckSeen", left)
+        if bad and fault:
+            self.offer("RC", "Bad")
+        if fault:
+            self.offer("RC", "Odd", 1 if fault == "number" else 2)
+        elif not behind:
+            self.offer("RC", "Unit", 8)
+
+    def fault_of(self, head):
+        """What is wrong with a unit."""
+        if (head["bsn"] - (self.sender.acknowledged - self.sender.origin - 1)) % 128 > max(self.sender.sent - self.sender.acknowledged, self.spare):
+            return "number"
+        return self.odd_bit(head)
+
+    def odd_bit(self, head):
+        receiver = self.receiver
+        return "indicator" if not receiver.cyclic and head["fib"] != receiver.bib and not receiver.asked else None
+
+    def remember(self, fault):
+        """Whether the last three had two faults of one kind."""
+        self.faults = [*self.faults, fault][-3:]
+        return self.faults.count("number") > 1 or self.faults.count("indicator") > 1
+
     def stored(self, head, message):
         """How many messages a unit acknowledges, and whether the last three had two faults of one kind."""
-        count, fault = self.sender.on_back(head["bsn"], head["bib"]), None
+        last = (self.sender.acknowledged - self.sender.origin - 1) % 128
+        bsn = last if self.spare and (head["bsn"] - last) % 128 <= self.spare else head["bsn"]
+        count, fault = self.sender.on_back(bsn, head["bib"]), None
         if count is None:
             fault = "number"
+        elif not self.deliver or self.is_held:
+            fault = self.odd_bit(head)
         else:
             accepted = self.receiver.on_unit(head["fsn"], head["fib"], message is not None)
             fault = "indicator" if accepted is None else None
             self.messages += [message] if accepted else []
-        self.faults = [*self.faults, fault][-3:]
-        return count or 0, self.faults.count("number") > 1 or self.faults.count("indicator") > 1
+        return count or 0, self.remember(fault)
 
     def backward(self):
         """The number and the bit that tell the other end what was accepted."""
@@ -169,10 +247,11 @@ class Terminal:
         if self.kind is None and not self.busy:
             return None
         kind, self.busy = 5 if self.busy else self.kind, False
-        fsn, fib, message = self.sender.next_unit() if kind == 9 else self.sender.idle()
+        fsn, fib, message = self.sender.next_unit() if kind == 9 and not self.is_held else self.sender.idle()
         bsn, bib = self.backward()
         head = f"bsn {bsn} bib {bib} fsn {fsn} fib {fib}"
         if message is not None:
+            self.spare = 0
             self.offer("TXC", "MsuSent")
             return f"MSU {head} sio {message[0]:02X} octets {len(message) - 1}"
         return f"FISU {head}" if kind in (8, 9) else f"LSSU {head} status {STATUSES[kind]}"
@@ -191,10 +270,13 @@ def has(book, wanted):
 
 # Scripts.
 
+TOLD = {"InServiceNow": "in service", "Down": "down", "RemoteOut": "far out", "RemoteBack": "far back", "Cleared": "cleared"}
 COMMANDS = {
     "power": ("LSC", "PowerOn"), "start": ("LSC", "StartLink"), "stop": ("LSC", "StopLink"), "emergency": ("LSC", "Emergency"), "calm": ("LSC", "Calm"),
     "outage": ("LSC", "LocalOut"), "back": ("LSC", "LocalBack"), "busy": ("CC", "Busy"), "free": ("CC", "Free"),
 }
+# Those that a text may have besides.
+MORE = {"flush": ("LSC", "Flush"), "continue": ("LSC", "Continue"), "overload": ("CC", "Overload")}
 
 
 def octets_in(word):
@@ -221,14 +303,28 @@ def command(words):
         return word, " ".join(rest)
     if word == "value" and len(rest) == 2:
         return word, *rest
+    if not ALL_WORDS and (word in ("told", "accepted", "retrieve", "units", "errors") or word == "unit" and len(rest) > 1):
+        raise BadLine
+    if word in ("told", "accepted", "retrieve") and not rest:
+        return word, None
+    if word == "units" and len(rest) == 2:
+        return "lines", times(rest[0]), framed(octets_in(rest[1]))
+    if word == "unit" and len(rest) > 1:
+        return "line", framed(octets_of_words(rest))
     if len(rest) != 1:
         raise BadLine
     if word in ("tick", "out"):
+        return word, number(rest[0])
+    if word == "errors":
+        return "lines", times(rest[0]), bytes.fromhex("7E007E")
+    if word == "retrieve" and number(rest[0]) < 128:
         return word, number(rest[0])
     if word == "state":
         return word, rest[0]
     if word == "command" and rest[0] in COMMANDS:
         return word, COMMANDS[rest[0]]
+    if word == "command" and ALL_WORDS and rest[0] in MORE:
+        return word, MORE[rest[0]]
     if word == "unit":
         return "line", framed(octets_in(rest[0]))
     if word == "line":
@@ -238,10 +334,76 @@ def command(words):
     raise BadLine
 
 
+def times(word):
+    """How many times, 1 to 1,000,000."""
+    if not 1 <= number(word) <= 1000000:
+        raise BadLine
+    return number(word)
+
+
+def octets_of_words(words):
+    """The octets of a unit that is written as `out` prints it, but for a message's field, which stands behind `sif`."""
+    kind, names, values = words[0], words[1::2], words[2::2]
+    wanted = {"FISU": [], "LSSU": ["status"], "MSU": ["sio", "sif"]}
+    if kind not in wanted or names != ["bsn", "bib", "fsn", "fib", *wanted[kind]] or len(values) != len(names):
+        raise BadLine
+    bsn, bib, fsn, fib = map(number, values[:4])
+    if bsn > 127 or fsn > 127 or bib > 1 or fib > 1:
+        raise BadLine
+    rest = b""
+    if kind == "LSSU":
+        if values[4] not in STATUSES:
+            raise BadLine
+        rest = bytes([STATUSES.index(values[4])])
+    elif kind == "MSU":
+        rest = octets_in(values[4]) + octets_in(values[5])
+        if len(values[4]) != 2 or not 3 <= len(rest) <= 273:
+            raise BadLine
+    return bytes([bsn + 128 * bib, fsn + 128 * fib, min(len(rest), 63)]) + rest
+
+
+def told(terminal):
+    """What the terminal tells next."""
+    if terminal.messages:
+        return "message " + bytes(terminal.messages.pop(0)).hex().upper()
+    if not terminal.statuses:
+        return "nothing"
+    signal, *values = terminal.statuses.pop(0)
+    return " ".join([TOLD[signal], *map(str, values)])
+
+
+def retrieved(terminal, behind):
+    """Hands out what comes behind a number, or what was never sent; a text hears of it where messages were out."""
+    sender = terminal.sender
+    out = sender.sent - sender.acknowledged
+    count = out if behind is None else (behind - (sender.acknowledged - sender.origin - 1)) % 128
+    if count > out:
+        raise Refused("E2 BadAck")
+    handed = len(sender.all) - sender.acknowledged - count
+    del sender.all[sender.acknowledged + (0 if behind is None else count) :]
+    sender.acknowledged = len(sender.all)
+    sender.sent = sender.again = sender.turn = sender.acknowledged
+    sender.forced = False
+    if out:
+        terminal.offer("TXC", "AckSeen", False)
+    return handed
+
+
 def do(terminal, word, *rest):
     """Does a command, and gives the lines to print for it."""
     book = terminal.book
-    if word == "command":
+    if word == "told":
+        return [told(terminal)]
+    if word == "accepted":
+        return [f"ok {terminal.receiver.last}"]
+    if word == "retrieve":
+        return [f"ok {retrieved(terminal, rest[0])}"]
+    if word == "lines":
+        for _ in range(rest[0]):
+            do(terminal, "line", rest[1])
+    elif word == "command":
+        if rest[0][1] in ("Flush", "Continue", "Overload") and "/".join(rest[0]) not in terminal.names:
+            raise Refused("B3 NoRoute")
         terminal.command(*rest[0])
     elif word == "msu":
         terminal.sender.put(rest[0])
@@ -249,7 +411,9 @@ def do(terminal, word, *rest):
         octets = rest[0]
         while octets:
             octets = octets[terminal.line_in(octets) :]
-            terminal.messages.clear()
+            if octets or not terminal.keeps:
+                terminal.messages.clear()
+                terminal.statuses.clear()
     elif word == "tick":
         return [f"ok due {terminal.tick(rest[0])}"]
     elif word == "out":
@@ -280,7 +444,20 @@ def is_terminal(script):
         first = spoken(script)[:1]
     except UnicodeDecodeError:
         return False
-    return len(script) <= LONGEST and first != [] and first[0][1] in (["terminal", "basic"], ["terminal", "cyclic"])
+    return len(script) <= LONGEST and first != [] and limits_of(first[0][1]) is not None
+
+
+def limits_of(words):
+    """The limits N1 and N2 that the first line of a terminal script says, if it is one."""
+    if words in (["terminal", "basic"], ["terminal", "cyclic"]):
+        return []
+    if not ALL_WORDS or words[:2] != ["terminal", "cyclic"] or len(words) != 4:
+        return None
+    try:
+        messages, octets = map(number, words[2:])
+    except BadLine:
+        return None
+    return [messages, octets] if 1 <= messages <= 127 and 300 <= octets <= 8192 else None
 
 
 def run(terminal, commands, say):
@@ -294,8 +471,6 @@ def run(terminal, commands, say):
             lines = do(terminal, word, *rest)
         except Refused as why:
             lines = [f"refused {why}"]
-        terminal.messages.clear()
-        terminal.statuses.clear()
         for last in lines:
             say(last)
 
@@ -309,7 +484,7 @@ def play_text(text, script, say):
     """Plays a script on a text, and gives the status."""
     if not is_terminal(script):
         return play_book(text, script, say)
-    (_, (_, mode)), *lines = spoken(script)
+    (_, first), *lines = spoken(script)
     try:
         text.decode()
         check(text)
@@ -323,7 +498,8 @@ def play_text(text, script, say):
         except BadLine:
             say(f"refused X1 BadLine line {at}")
             return 2
-    terminal = Terminal(text, mode == "cyclic")
+    terminal = Terminal(text, first[1] == "cyclic", *limits_of(first))
+    terminal.keeps = any(it[0] == "told" for _, it in commands)
     lacking = [it for it in WANTED if not has(terminal.book, it)]
     if lacking:
         say(f"refused X2 NoName {lacking[0]}")

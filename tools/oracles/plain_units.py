@@ -111,8 +111,9 @@ class Sender:
     """All messages put, and places among them: where the numbers begin, the first that isn't acknowledged, the first that isn't sent, the one to repeat
     next in a retransmission, and the one that is next in the ordinary cycle."""
 
-    def __init__(self, cyclic):
+    def __init__(self, cyclic, messages=127, octets=8192):
         self.cyclic, self.all, self.fib, self.forced = cyclic, [], 1, False
+        self.limits = messages, octets
         self.origin = self.acknowledged = self.sent = self.again = self.turn = 0
 
     def put(self, message):
@@ -129,7 +130,7 @@ class Sender:
 
     def is_limit_reached(self):
         out = self.all[self.acknowledged : self.sent]
-        return self.cyclic and (len(out) >= 127 or sum(map(len, out)) >= 8192)
+        return self.cyclic and (len(out) >= self.limits[0] or sum(map(len, out)) >= self.limits[1])
 
     def next_unit(self):
         if self.forced and self.again == self.sent:
@@ -173,6 +174,10 @@ class Receiver:
 
     def fresh(self):
         self.last, self.bib, self.asked = 127, 1, False
+
+    def aside(self, fib):
+        """Whether the indicator is one that can be, of a unit of which nothing else counts."""
+        return self.cyclic or fib == self.bib or self.asked
 
     def on_unit(self, fsn, fib, has_message):
         """Whether the message is accepted; None where the indicator is none that can be."""

@@ -39,14 +39,16 @@ def differs(name, make, seed, number):
     run = Run(words, given)
     is_octets = isinstance(lines, bytes)
     wrote = lines if is_octets else "".join(f"{it}\n" for it in lines).encode()
-    if (run.wrote, run.status) == (wrote, status) and told in ([], [run.said]):
+    wrong = [it(run.said) if callable(it) else it != run.said for it in told]
+    if (run.wrote, run.status) == (wrote, status) and not any(wrong):
         last = lines[-1].split(" ") if lines and not is_octets else [""]
         return " ".join(last[:2]) if last[0] == "refused" and status == 2 else f"status {status}", None
     room = ROOT / "out" / name
     room.mkdir(parents=True, exist_ok=True)
     (room / f"{number}.given").write_bytes(given)
     (room / f"{number}.program").write_bytes(run.wrote + f"exit {run.status}\n".encode() + run.said)
-    (room / f"{number}.plain").write_bytes(wrote + f"exit {status}\n".encode() + b"".join(told))
+    expected = [f"{why}\n".encode() if callable(it) else it for it, why in zip(told, wrong)]
+    (room / f"{number}.plain").write_bytes(wrote + f"exit {status}\n".encode() + b"".join(expected))
     return "differs", f"{number}: {shown}"
 
 
@@ -62,7 +64,7 @@ def several(name, make, seed, numbers):
 
 def hold(name, make, words, count):
     """Makes so many cases, and tells which differ and what the others came to. `make` gives for dice the words of a command line, what stands in standard
-    input, the lines or the octets and the status that are wanted (and what has to be told on standard error, where that is compared), or none where they aren't known,
+    input, the lines or the octets and the status that are wanted (and what has to be told on standard error, where that is compared, or what says what is wrong there), or none where they aren't known,
     and what is shown of the case. Gives the exit status."""
     asked = Asked(words, count)
     if missing(PLAY):

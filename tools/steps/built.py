@@ -70,15 +70,16 @@ def called(given):
 
 
 def side_by_side(call, given, jobs=None):
-    """What `call` gives for each of these, in their order, asked on all processors, or in so many processes."""
+    """What `call` gives for each of these, in their order and as each is there, asked on all processors, or in so many processes."""
     how = {"max_workers": jobs or len(os.sched_getaffinity(0)), "mp_context": multiprocessing.get_context("fork")}
     try:
         processes = concurrent.futures.ProcessPoolExecutor(**how)
     except (ImportError, OSError):
         # (a machine without shared memory has no queue for them)
-        return [call(*it) for it in given]
+        yield from (call(*it) for it in given)
+        return
     with processes as pool:
-        return list(pool.map(called, [(call, it) for it in given], chunksize=max(1, min(16, len(given) // 40))))
+        yield from pool.map(called, [(call, it) for it in given], chunksize=max(1, min(16, len(given) // 40)))
 
 
 def tool(name):

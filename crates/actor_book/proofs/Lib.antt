@@ -6,6 +6,7 @@ pub mod Meant
 pub mod Offering
 pub mod Owned
 pub mod Passing
+pub mod Putting
 pub mod Taking
 pub mod Turning
 pub mod Wholes

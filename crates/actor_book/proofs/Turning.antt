@@ -52,7 +52,7 @@ ends_with d n p s g e m h = record {
 pub same_turn : (o p : Option Turn) (e : End) (m : Machine) → o ≡ p → IsEnding o e m → IsEnding p e m
 same_turn o p e m h ends = subst (λ (x : Option Turn). IsEnding x e m) h ends
 
-turn_is : (b old : Ledger) (w : Core) (c : ℕ) → b ≡ old → IsBook b w c → (xs : List Actor) (n : ℕ) → xs ≡ w.actors
+pub turn_is : (b old : Ledger) (w : Core) (c : ℕ) → b ≡ old → IsBook b w c → (xs : List Actor) (n : ℕ) → xs ≡ w.actors
     → turn_at b.set n (slice_get xs n) ≡ turn_out old n
 unfolding turn_out
 turn_is b old w c view inside xs n h =

@@ -4,6 +4,7 @@ pub mod Inside
 pub mod Laws
 pub mod Limits
 pub mod Meant
+pub mod Roomed
 pub mod Running
 pub mod Shown
 pub mod Turns

@@ -10,7 +10,7 @@ ghost use Rattle.actor_machine.specs.declared.actor.Actor.{Actor as PlainActor};
 use actor_machine::{Actor, Given, Standing};
 use turn_check::Verified;
 use turn_code::{Place, ProcessNumber};
-use turn_machine::{Job, Received, is_turn, runs_piece};
+use turn_machine::{Job, Received, Work, is_turn, runs_piece};
 
 /// The job of a turn.
 fn job_with(set: &Verified, number: u16, process: ProcessNumber, place: Place, given: &Given) -> Job
@@ -58,46 +58,46 @@ pub(crate) fn job_at(set: &Verified, actors: &[Actor], number: u16) -> Option<Jo
     }
 }
 
-/// Whether a job is that of a turn.
+/// Whether it is that of a turn.
 fn is_job_with(
     set: &Verified,
     number: u16,
     process: ProcessNumber,
     place: Place,
     given: &Given,
-    job: &Job,
+    work: &Work,
 ) -> bool
-    ensures { IsTrue result ↔ (turn_with number process place given.now (transition_at set.now process.0 place given.now.number) ≡ Some job.now) }
+    ensures { IsTrue result ↔ (turn_with number process place given.now (transition_at set.now process.0 place given.now.number) ≡ Some work.now) }
 {
     match set.transition(process, place, given.number) {
         Some(transition) => {
-            is_turn(job, number, given.turn, place, given.number, &given.input)
-                && runs_piece(job, process, transition.piece)
+            is_turn(work, number, given.turn, place, given.number, &given.input)
+                && runs_piece(work, process, transition.piece)
         }
         None => false,
     }
 }
 
-/// Whether a job is that of an actor with a turn out.
-fn is_job_of(set: &Verified, number: u16, actor: &Actor, job: &Job) -> bool
-    ensures { IsTrue result ↔ (turn_given set.now number actor.now.name.process actor.now.standing actor.now.given ≡ Some job.now) }
+/// Whether it is that of an actor with a turn out.
+fn is_job_of(set: &Verified, number: u16, actor: &Actor, work: &Work) -> bool
+    ensures { IsTrue result ↔ (turn_given set.now number actor.now.name.process actor.now.standing actor.now.given ≡ Some work.now) }
 {
     match actor.standing {
         Standing::Stopped => false,
         Standing::At(place) => match &actor.given {
-            Some(given) => is_job_with(set, number, actor.name.process, place, given, job),
+            Some(given) => is_job_with(set, number, actor.name.process, place, given, work),
             None => false,
         },
     }
 }
 
-/// Whether a job is the one that its actor has out. The code is compared with that of the set.
-pub(crate) fn is_job_out(set: &Verified, actors: &[Actor], job: &Job) -> bool
-    ensures { IsTrue result ↔ (turn_at set.now job.now.actor (slice_get actors.now job.now.actor) ≡ Some job.now) }
+/// Whether it is the work of the turn that its actor has out. The code is compared with that of the set.
+pub(crate) fn is_job_out(set: &Verified, actors: &[Actor], work: &Work) -> bool
+    ensures { IsTrue result ↔ (turn_at set.now work.now.actor (slice_get actors.now work.now.actor) ≡ Some work.now) }
 {
-    let number = job.actor();
+    let number = work.actor();
     match actors.get(usize::from(number)) {
-        Some(found) => is_job_of(set, number, found, job),
+        Some(found) => is_job_of(set, number, found, work),
         None => false,
     }
 }

@@ -12,7 +12,7 @@ use crate::book::Book;
 use crate::jobs::{is_job_out, job_at};
 use actor_machine::laws::{fits_law, keeps_law, set_law, state_law, text_law};
 use actor_machine::{Event, Refusal, Report};
-use turn_machine::{Done, Job};
+use turn_machine::{Done, Job, Work};
 
 impl Book {
     /// An actor begins a turn: it takes the first item that its state doesn't save, or runs START.
@@ -78,10 +78,17 @@ impl Book {
     }
 
     /// Whether the job that ran is the one that its actor has out.
-    #[tactic(auto, unfolding(actor_machine::specs::Ledger::turn_out))]
     fn has_out(&self, done: &Done) -> bool
         ensures { IsTrue result ↔ (turn_out self.now done.now.actor ≡ Some done.now) }
     {
-        is_job_out(&self.set, self.link.actors(), done.job())
+        self.has_work_out(done.job().work())
+    }
+
+    /// Whether it is the work of the turn that its actor has out.
+    #[tactic(auto, unfolding(actor_machine::specs::Ledger::turn_out))]
+    pub(crate) fn has_work_out(&self, work: &Work) -> bool
+        ensures { IsTrue result ↔ (turn_out self.now work.now.actor ≡ Some work.now) }
+    {
+        is_job_out(&self.set, self.link.actors(), work)
     }
 }

@@ -1,8 +1,13 @@
 -- What a link set marks at each of its links.
-use Rattle.std.specs.Prelude.{ℕ, ◌+◌, true, false, min, List, Option, Some, None}
+use Rattle.std.specs.Prelude.{ℕ, ◌+◌, ◌-◌, ◌^◌, nat_le, ◌&&◌, ◌||◌, Bool, true, false, min}
+use Rattle.std.specs.Prelude.{if◌then◌else◌, List, Option}
+use Rattle.std.specs.Prelude.{Some, None}
 use Rattle.group_changeover.specs.declared.availability.Availability.{Availability}
 use Rattle.group_changeover.specs.declared.availability.Changing.{Changing}
 use Rattle.group_changeover.specs.declared.availability.Answer.{Answer}
+use Rattle.group_changeover.specs.declared.availability.Answer.TheVariants as answer
+use Rattle.group_changeover.specs.declared.availability.Behind.{Behind}
+use Rattle.group_changeover.specs.declared.availability.Behind.TheVariants as behind
 use Rattle.group_changeover.specs.Limits.{T2}
 
 -- a changeover that has just begun
@@ -11,7 +16,7 @@ just_begun = record { answer = None; waited = 0; retrieval = None }
 
 -- The changeover of a link begins: from then on it is one that failed.
 abbrev pub begun : Availability → Availability
-begun m = record m { failed = true; changing = Some just_begun }
+begun m = record m { failed = true; behind = behind.Out; changing = Some just_begun }
 
 abbrev pub begun_by : Option Changing → Availability → Availability
 begun_by None m = begun m
@@ -21,9 +26,16 @@ begun_by (Some c) m = m
 abbrev pub changeover_begins : Availability → Availability
 changeover_begins m = begun_by m.changing m
 
--- While no retrieval is out the last answer counts.
+-- The first answer that tells how much was accepted counts; one that doesn't counts only while
+-- there is none that does.
+abbrev pub first_known : Option Answer → Answer → Answer
+first_known None a = a
+first_known (Some answer.Unknown) a = a
+first_known (Some (answer.Accepted n)) a = answer.Accepted n
+
+-- No answer counts while a retrieval is out.
 abbrev pub told_by : Option (List ℕ) → Answer → Changing → Changing
-told_by None a c = record c { answer = Some a }
+told_by None a c = record c { answer = Some (first_known c.answer a) }
 told_by (Some counts) a c = c
 
 abbrev pub told_in : Option Changing → Answer → Option Changing
@@ -34,13 +46,33 @@ told_in (Some c) a = Some (told_by c.retrieval a c)
 abbrev pub told : Answer → Availability → Availability
 told a m = record m { changing = told_in m.changing a }
 
--- Ticks since a changeover began are counted, no further than is waited.
+-- Of the messages that the link holds so many have left, from the front: what was told speaks of so
+-- many fewer.
+abbrev pub fewer_by : ℕ → Option Answer → Option Answer
+fewer_by n None = None
+fewer_by n (Some answer.Unknown) = Some answer.Unknown
+fewer_by n (Some (answer.Accepted m)) = Some (answer.Accepted (m - n))
+
+abbrev pub fewer_in : ℕ → Option Changing → Option Changing
+fewer_in n None = None
+fewer_in n (Some c) = Some (record c { answer = fewer_by n c.answer })
+
+abbrev pub fewer : ℕ → Availability → Availability
+fewer n m = record m { changing = fewer_in n m.changing }
+
+-- Ticks since a changeover began are counted; the count stays at its greatest value.
 abbrev pub waited_in : ℕ → Option Changing → Option Changing
 waited_in n None = None
-waited_in n (Some c) = Some (record c { waited = min T2 (c.waited + n) })
+waited_in n (Some c) = Some (record c { waited = min (2 ^ 64 - 1) (c.waited + n) })
+
+-- So are those since a link came into service again behind the beginning of one.
+abbrev pub waited_behind : ℕ → Behind → Behind
+waited_behind n behind.Nothing = behind.Nothing
+waited_behind n behind.Out = behind.Out
+waited_behind n (behind.Back m) = if nat_le (m + n) T2 then behind.Back (m + n) else behind.Nothing
 
 abbrev pub waits : ℕ → Availability → Availability
-waits n m = record m { changing = waited_in n m.changing }
+waits n m = record m { behind = waited_behind n m.behind; changing = waited_in n m.changing }
 
 -- A retrieval goes out, or what is left of it comes back to the caller, with so many messages of
 -- each selection.
@@ -55,6 +87,20 @@ with_retrieval counts m = record m { changing = retrieval_in counts m.changing }
 abbrev pub ended : Availability → Availability
 ended m = record m { changing = None }
 
+-- the first time behind the beginning of a changeover
+abbrev pub back_again : Behind → Behind
+back_again behind.Nothing = behind.Nothing
+back_again behind.Out = behind.Back 0
+back_again (behind.Back n) = behind.Back n
+
 -- The link comes into service.
 abbrev pub serves : Availability → Availability
-serves m = record m { served = true; anew = false }
+serves m = record m {
+  served = m.served || m.admitted;
+  anew = false;
+  behind = back_again m.behind;
+}
+
+-- Level 3 admits it, or does no longer; it may be in service then.
+abbrev pub admits : Bool → Bool → Availability → Availability
+admits way serving m = record m { served = m.served || way && serving; admitted = way }

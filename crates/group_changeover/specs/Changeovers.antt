@@ -1,5 +1,5 @@
--- The messages of changeover (Q.704), in this profile's own layout.
-use Rattle.std.specs.Prelude.{◌≡◌, ℕ, ◌<◌, Some, List, [], ◌∷◌, drop}
+-- The messages of changeover (Q.704, 15.4).
+use Rattle.std.specs.Prelude.{◌≡◌, ℕ, ◌%◌, ◌<◌, Some, List, [], ◌∷◌, drop}
 use Rattle.group_changeover.specs.declared.changeover.Changeover.{Changeover}
 use Rattle.group_changeover.specs.declared.changeover.Kind.{Kind}
 use Rattle.group_changeover.specs.declared.changeover.Kind.TheVariants.{Order, Acknowledgement}
@@ -21,6 +21,19 @@ IsKind (Order accepted) = accepted < 128
 IsKind (Acknowledgement accepted) = accepted < 128
 IsKind EmergencyOrder = Unit {0}
 IsKind EmergencyAcknowledgement = Unit {0}
+
+-- In a message that comes the spare bit of the number's octet is ignored.
+abbrev pub without_spare : List ℕ → List ℕ
+without_spare [] = []
+without_spare (heading ∷ []) = heading ∷ []
+without_spare (heading ∷ number ∷ []) = heading ∷ number % 128 ∷ []
+without_spare (heading ∷ number ∷ more ∷ others) = heading ∷ number ∷ more ∷ others
+
+-- Octets are just those of a message, but for the spare bit.
+pub record Reads (octets : List ℕ) (m : Changeover) : Type 0 where
+  pub kind : IsKind m.kind
+  pub label : label_in octets ≡ Some m.label
+  pub rest : without_spare (drop 4 octets) ≡ behind_label m.kind
 
 -- octets are just those of a message
 pub record Says (octets : List ℕ) (m : Changeover) : Type 0 where

@@ -1,11 +1,16 @@
 -- What the marks of a link say of it in a changeover (Q.704).
-use Rattle.std.specs.Prelude.{ℕ, ◌&&◌, nat_lt, Bool, not, if◌then◌else◌, Option, Some, None}
-use Rattle.std.specs.Prelude.{is_some}
+use Rattle.std.specs.Prelude.{ℕ, ◌&&◌, ◌||◌, nat_lt, Bool, true, false, not, if◌then◌else◌, Option}
+use Rattle.std.specs.Prelude.{Some, None, is_some}
 use Rattle.group_changeover.specs.declared.changeover.Kind.{Kind}
 use Rattle.group_changeover.specs.declared.changeover.Kind.TheVariants as kind
+use Rattle.group_changeover.specs.declared.saying.Hearing.{Hearing}
+use Rattle.group_changeover.specs.declared.saying.Hearing.TheVariants as hearing
 use Rattle.group_changeover.specs.Limits.{T2}
+use Rattle.group_changeover.specs.Availability.{changeover_begins}
 use Rattle.group_changeover.specs.declared.availability.Answer.{Answer}
 use Rattle.group_changeover.specs.declared.availability.Answer.TheVariants as answer
+use Rattle.group_changeover.specs.declared.availability.Behind.{Behind}
+use Rattle.group_changeover.specs.declared.availability.Behind.TheVariants as behind
 use Rattle.group_changeover.specs.declared.availability.Changing.{Changing}
 use Rattle.group_changeover.specs.declared.availability.Availability.{Availability}
 
@@ -21,31 +26,94 @@ is_out c = is_some c.retrieval
 abbrev pub is_waiting : Changing → Bool
 is_waiting c = not (is_some c.answer) && nat_lt c.waited T2
 
--- the number that the far side told, where it told one; sequence numbers have 7 bits
-abbrev pub number_in : Option Answer → Option ℕ
-number_in None = None
-number_in (Some answer.Unknown) = None
-number_in (Some (answer.Accepted fsn)) = if nat_lt fsn 128 then Some fsn else None
+-- so many of the messages that the link holds the far side told of, where it told that
+abbrev pub count_in : Option Answer → Option ℕ
+count_in None = None
+count_in (Some answer.Unknown) = None
+count_in (Some (answer.Accepted n)) = Some n
+
+-- ---- orders behind a changeover
+
+abbrev pub is_out_behind : Behind → Bool
+is_out_behind behind.Nothing = false
+is_out_behind behind.Out = true
+is_out_behind (behind.Back n) = false
+
+abbrev pub is_any_behind : Behind → Bool
+is_any_behind behind.Nothing = false
+is_any_behind behind.Out = true
+is_any_behind (behind.Back n) = true
+
+-- Its changeover is over, and it hasn't come into service again.
+abbrev pub is_over : Availability → Bool
+is_over m = not (is_changing m) && is_out_behind m.behind
+
+-- Its changeover is over, and it hasn't come into service again, or no more than T2 ticks ago. An
+-- order that is heard then may be a late one of that changeover.
+abbrev pub is_late : Availability → Bool
+is_late m = not (is_changing m) && is_any_behind m.behind
+
+abbrev pub is_order : Kind → Bool
+is_order (kind.Order fsn) = true
+is_order (kind.Acknowledgement fsn) = false
+is_order kind.EmergencyOrder = true
+is_order kind.EmergencyAcknowledgement = false
+
+-- the number that a message tells
+abbrev pub number_in : Kind → Option ℕ
+number_in (kind.Order fsn) = Some fsn
+number_in (kind.Acknowledgement fsn) = Some fsn
+number_in kind.EmergencyOrder = None
+number_in kind.EmergencyAcknowledgement = None
+
+-- An order begins a changeover where none goes on, unless it may be a late one.
+abbrev pub begun_by_message : Kind → Availability → Availability
+begun_by_message what m = if is_order what && not (is_late m) then changeover_begins m else m
+
+-- Whether an order holds the link: it begins a changeover, or may be a late one for a link that
+-- came into service again, or what is answered tells the link's number. So no message is accepted
+-- behind that number.
+abbrev pub is_held_by : Kind → Availability → Bool
+is_held_by what m =
+    is_order what && not (is_over m)
+    && (not (is_changing m) || is_some (number_in what) && not m.anew)
+
+-- ---- what a message was
+
+-- An acknowledgement counts while nothing is handed out, and it wasn't told yet how many are
+-- accepted.
+abbrev pub counts_in : Changing → Bool
+counts_in c = not (is_out c) && not (is_some (count_in c.answer))
+
+abbrev pub answer_heard : Option Changing → Hearing
+answer_heard None = hearing.Answer
+answer_heard (Some c) = if counts_in c then hearing.Counted else hearing.Answer
+
+abbrev pub hearing_of : Kind → Availability → Hearing
+hearing_of what m =
+    if is_order what then (if is_late m || is_changing m then hearing.Order else hearing.Began)
+    else answer_heard m.changing
+
+-- ---- what is said and told
 
 -- An order for a link that was started anew is an emergency one: the numbers of which it would
 -- speak are gone.
 abbrev pub order_after : Availability → ℕ → Kind
 order_after m accepted = if m.anew then kind.EmergencyOrder else kind.Order accepted
 
+-- so is an acknowledgement, and one for a link whose changeover is over and that is out of service
 abbrev pub acknowledgement_after : Availability → ℕ → Kind
 acknowledgement_after m accepted =
-    if m.anew then kind.EmergencyAcknowledgement else kind.Acknowledgement accepted
+    if m.anew || is_over m then kind.EmergencyAcknowledgement else kind.Acknowledgement accepted
 
--- A number is none for a link that was started anew.
-abbrev pub number_told : Availability → ℕ → Answer
-number_told m fsn = if m.anew then answer.Unknown else answer.Accepted fsn
+abbrev pub answer_by : Option ℕ → Answer
+answer_by None = answer.Unknown
+answer_by (Some n) = answer.Accepted n
 
--- what a message tells
-abbrev pub answer_in : Kind → Availability → Answer
-answer_in (kind.Order fsn) m = number_told m fsn
-answer_in (kind.Acknowledgement fsn) m = number_told m fsn
-answer_in kind.EmergencyOrder m = answer.Unknown
-answer_in kind.EmergencyAcknowledgement m = answer.Unknown
+-- What is told of so many messages, where that is known. It is nothing for a link that was started
+-- anew.
+abbrev pub answer_after : Availability → Option ℕ → Answer
+answer_after m count = if m.anew then answer.Unknown else answer_by count
 
 -- an order is answered, an emergency order by an emergency acknowledgement
 abbrev pub reply_after : Kind → Availability → ℕ → Option Kind

@@ -1,6 +1,6 @@
 //! What is marked at each link.
 ghost use Rattle.std.specs.Prelude.{◌≡◌};
-ghost use Rattle.group_changeover.specs.Availability.{changeover_begins, told, waits, with_retrieval, ended, serves};
+ghost use Rattle.group_changeover.specs.Availability.{changeover_begins, first_known, told, fewer_by, fewer, waited_behind, back_again, waits, with_retrieval, ended, serves, admits};
 
 /// How many selections of a link there are.
 pub const SELECTIONS: usize = 16;
@@ -11,18 +11,60 @@ pub const T2: u64 = 1_400;
 /// What the far side told of a link that failed.
 #[derive(Clone, Copy, Debug, PartialEq, Eq)]
 pub enum Answer {
-    /// The number of the message that it accepted last.
-    Accepted(u8),
-    /// That it doesn't know this number.
+    /// It accepted so many of the messages that the link holds.
+    Accepted(usize),
+    /// It isn't known how many.
     Unknown,
+}
+
+/// Where a link stands behind the beginning of its last changeover.
+#[derive(Clone, Copy, Debug, PartialEq, Eq)]
+pub enum Behind {
+    /// None has begun, or more than T2 ticks have passed since the link came into service again.
+    Nothing,
+    /// It hasn't come into service again.
+    Out,
+    /// It came into service again so many ticks ago, T2 at most.
+    Back(u64),
+}
+
+impl Behind {
+    /// Ticks pass.
+    fn waits(self, ticks: u64) -> Behind
+        ensures { result ≡ waited_behind ticks self }
+    {
+        match self {
+            Behind::Back(since) => {
+                let passed = since.saturating_add(ticks);
+                if passed <= T2 {
+                    Behind::Back(passed)
+                } else {
+                    Behind::Nothing
+                }
+            }
+            Behind::Out => Behind::Out,
+            Behind::Nothing => Behind::Nothing,
+        }
+    }
+
+    /// The link comes into service.
+    fn serves(self) -> Behind
+        ensures { result ≡ back_again self }
+    {
+        match self {
+            Behind::Out => Behind::Back(0),
+            Behind::Back(since) => Behind::Back(since),
+            Behind::Nothing => Behind::Nothing,
+        }
+    }
 }
 
 /// The changeover of a link.
 #[derive(Clone, Copy, Debug, PartialEq, Eq)]
 pub struct Changing {
-    /// What the far side told last.
+    /// What the far side told: the first that told how much it accepted, else the last.
     pub answer: Option<Answer>,
-    /// For how many ticks it has gone on, Q.704's T2 at most.
+    /// For how many ticks it has gone on; it stays at its greatest value.
     pub waited: u64,
     /// Where its messages were handed out, how many of each selection are not yet diverted.
     pub retrieval: Option<[usize; SELECTIONS]>,
@@ -31,14 +73,38 @@ pub struct Changing {
 /// What is marked at a link.
 #[derive(Clone, Copy, Debug, PartialEq, Eq)]
 pub struct Availability {
-    /// It has been in service.
+    /// It has been in service while it was admitted.
     pub served: bool,
+    /// Level 3 admits it to selections and to what other links hand out.
+    pub admitted: bool,
     /// It was started while it was out of service, and hasn't come into service since.
     pub anew: bool,
     /// Its changeover began, and nothing was rebalanced since.
     pub failed: bool,
+    /// Whether it came into service again since its last changeover began.
+    pub behind: Behind,
     /// Its changeover, while that goes on.
     pub changing: Option<Changing>,
+}
+
+/// The first answer that told how much was accepted, else this one.
+fn first_known(was: Option<Answer>, answer: Answer) -> Answer
+    ensures { result ≡ first_known was answer }
+{
+    match was {
+        Some(Answer::Accepted(count)) => Answer::Accepted(count),
+        _ => answer,
+    }
+}
+
+/// An answer that speaks of so many messages fewer.
+fn fewer_by(answer: Option<Answer>, left: usize) -> Option<Answer>
+    ensures { result ≡ fewer_by left answer }
+{
+    match answer {
+        Some(Answer::Accepted(count)) => Some(Answer::Accepted(count.saturating_sub(left))),
+        _ => answer,
+    }
 }
 
 impl Availability {
@@ -50,6 +116,7 @@ impl Availability {
             Some(_) => self,
             None => Availability {
                 failed: true,
+                behind: Behind::Out,
                 changing: Some(Changing {
                     answer: None,
                     waited: 0,
@@ -67,7 +134,7 @@ impl Availability {
         match self.changing {
             Some(changing) if changing.retrieval.is_none() => Availability {
                 changing: Some(Changing {
-                    answer: Some(answer),
+                    answer: Some(first_known(changing.answer, answer)),
                     ..changing
                 }),
                 ..self
@@ -76,19 +143,37 @@ impl Availability {
         }
     }
 
-    /// Ticks pass.
-    pub fn waits(self, ticks: u64) -> Availability
-        ensures { result ≡ waits ticks self }
+    /// So many of the link's messages have left, from the front.
+    pub fn fewer(self, left: usize) -> Availability
+        ensures { result ≡ fewer left self }
     {
         match self.changing {
             Some(changing) => Availability {
                 changing: Some(Changing {
-                    waited: changing.waited.saturating_add(ticks).min(T2),
+                    answer: fewer_by(changing.answer, left),
                     ..changing
                 }),
                 ..self
             },
             None => self,
+        }
+    }
+
+    /// Ticks pass.
+    pub fn waits(self, ticks: u64) -> Availability
+        ensures { result ≡ waits ticks self }
+    {
+        let behind = self.behind.waits(ticks);
+        match self.changing {
+            Some(changing) => Availability {
+                behind,
+                changing: Some(Changing {
+                    waited: changing.waited.saturating_add(ticks),
+                    ..changing
+                }),
+                ..self
+            },
+            None => Availability { behind, ..self },
         }
     }
 
@@ -123,8 +208,20 @@ impl Availability {
         ensures { result ≡ serves self }
     {
         Availability {
-            served: true,
+            served: self.served || self.admitted,
             anew: false,
+            behind: self.behind.serves(),
+            ..self
+        }
+    }
+
+    /// Level 3 admits the link, or does no longer; it may be in service then.
+    pub fn admits(self, way: bool, serving: bool) -> Availability
+        ensures { result ≡ admits way serving self }
+    {
+        Availability {
+            served: self.served || (way && serving),
+            admitted: way,
             ..self
         }
     }

@@ -1,7 +1,7 @@
 //! Messages of changeover.
 ghost use Rattle.std.specs.Prelude.{◌≡◌, ◌↔◌, ◌≤◌, Some, IfSome, length};
 ghost use Rattle.group_changeover.specs.Labels.{IsLabel};
-ghost use Rattle.group_changeover.specs.Changeovers.{IsKind, behind_label, Says};
+ghost use Rattle.group_changeover.specs.Changeovers.{IsKind, behind_label, without_spare, Reads, Says};
 
 use crate::labels::{Label, label_of_octets};
 use arrayvec::ArrayVec;
@@ -30,20 +30,20 @@ pub struct Changeover {
 
 /// What stands behind the label.
 fn kind_of(octets: &[u8]) -> Option<Kind>
-    ensures { (k : Kind) → (result ≡ Some k) ↔ (IsKind k × (octets.now ≡ behind_label k)) }
+    ensures { (k : Kind) → (result ≡ Some k) ↔ (IsKind k × (without_spare octets.now ≡ behind_label k)) }
 {
     match octets {
-        [0x11, accepted] if *accepted < 128 => Some(Kind::Order(*accepted)),
-        [0x21, accepted] if *accepted < 128 => Some(Kind::Acknowledgement(*accepted)),
+        [0x11, accepted] => Some(Kind::Order(*accepted % 128)),
+        [0x21, accepted] => Some(Kind::Acknowledgement(*accepted % 128)),
         [0x12] => Some(Kind::EmergencyOrder),
         [0x22] => Some(Kind::EmergencyAcknowledgement),
         _ => None,
     }
 }
 
-/// The message that octets are, and none where they are not just those of one.
+/// The message that octets are, and none where they are not just those of one. The spare bit of the number's octet is ignored.
 pub fn read_changeover(octets: &[u8]) -> Option<Changeover>
-    ensures exact { (m : Changeover) → (result ≡ Some m) ↔ Says octets.now m }
+    ensures exact { (m : Changeover) → (result ≡ Some m) ↔ Reads octets.now m }
     ensures whole { IfSome result (λ m. IsLabel m.label) }
 {
     let label = label_of_octets(octets)?;

@@ -11,7 +11,7 @@ mod saying;
 mod sharing;
 mod table;
 
-pub use availability::{Answer, Availability, Changing, SELECTIONS, T2};
+pub use availability::{Answer, Availability, Behind, Changing, SELECTIONS, T2};
 pub use changeover::{Changeover, Kind, read_changeover};
 pub use errors::{
     AbandonError, CommandError, DivertFault, FailError, LineError, LinkError, RebalanceError,
@@ -19,5 +19,6 @@ pub use errors::{
 };
 pub use labels::{Label, label_of};
 pub use laws::steps_keep_places;
+pub use saying::Hearing;
 pub use sharing::{Counts, count_on, counts_of, pick, selection_of};
 pub use table::Table;

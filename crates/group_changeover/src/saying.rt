@@ -1,12 +1,34 @@
 //! What the marks of a link say of it in a changeover.
 ghost use Rattle.std.specs.Prelude.{◌≡◌, ◌<◌, IfSome};
 ghost use Rattle.group_changeover.specs.Changeovers.{IsKind};
-ghost use Rattle.group_changeover.specs.Saying.{is_changing, is_out, is_waiting, number_in, order_after, acknowledgement_after, answer_in, reply_after};
+ghost use Rattle.group_changeover.specs.Saying.{is_changing, is_out, is_waiting, count_in, counts_in, hearing_of, is_over, is_late, is_order, begun_by_message, is_held_by, number_in, order_after, acknowledgement_after, answer_after, reply_after};
 
-use crate::availability::{Answer, Availability, Changing, T2};
+use crate::availability::{Answer, Availability, Behind, Changing, T2};
 use crate::changeover::Kind;
 
+/// What a message of changeover that came was.
+#[derive(Clone, Copy, Debug, PartialEq, Eq)]
+pub enum Hearing {
+    /// An order that began a changeover.
+    Began,
+    /// An order that began none.
+    Order,
+    /// An acknowledgement that counts as the answer of the far side.
+    Counted,
+    /// An acknowledgement that doesn't.
+    Answer,
+    /// None, or none of a link that is there.
+    Nothing,
+}
+
 impl Changing {
+    /// Whether an acknowledgement counts: its messages aren't handed out, and the far side hasn't told yet how many it accepted.
+    fn counts(self) -> bool
+        ensures { result ≡ counts_in self }
+    {
+        !self.is_out() && self.count().is_none()
+    }
+
     /// Whether its messages are handed out.
     pub fn is_out(self) -> bool
         ensures { result ≡ is_out self }
@@ -21,14 +43,34 @@ impl Changing {
         self.answer.is_none() && self.waited < T2
     }
 
-    /// The number that the far side told last, where it told one.
-    pub fn number(self) -> Option<u8>
-        ensures value { result ≡ number_in self.answer }
-        ensures within { IfSome result (λ fsn. fsn < 128) }
+    /// How many of the messages that the link holds the far side accepted, where that is known.
+    pub fn count(self) -> Option<usize>
+        ensures { result ≡ count_in self.answer }
     {
         match self.answer {
-            Some(Answer::Accepted(fsn)) if fsn < 128 => Some(fsn),
+            Some(Answer::Accepted(count)) => Some(count),
             _ => None,
+        }
+    }
+}
+
+impl Kind {
+    /// The number that it tells.
+    pub fn number(self) -> Option<u8>
+        ensures { result ≡ number_in self }
+    {
+        match self {
+            Kind::Order(accepted) | Kind::Acknowledgement(accepted) => Some(accepted),
+            Kind::EmergencyOrder | Kind::EmergencyAcknowledgement => None,
+        }
+    }
+
+    fn is_order(self) -> bool
+        ensures { result ≡ is_order self }
+    {
+        match self {
+            Kind::Order(_) | Kind::EmergencyOrder => true,
+            Kind::Acknowledgement(_) | Kind::EmergencyAcknowledgement => false,
         }
     }
 }
@@ -39,6 +81,71 @@ impl Availability {
         ensures { result ≡ is_changing self }
     {
         self.changing.is_some()
+    }
+
+    /// Whether its changeover is over, and it hasn't come into service again.
+    fn is_over(self) -> bool
+        ensures { result ≡ is_over self }
+    {
+        if self.is_changing() {
+            return false;
+        }
+        match self.behind {
+            Behind::Out => true,
+            Behind::Back(_) | Behind::Nothing => false,
+        }
+    }
+
+    /// Whether its changeover is over, and it hasn't come into service again, or no more than T2 ticks ago: an order may be a late one then.
+    pub fn is_late(self) -> bool
+        ensures { result ≡ is_late self }
+    {
+        if self.is_changing() {
+            return false;
+        }
+        match self.behind {
+            Behind::Out | Behind::Back(_) => true,
+            Behind::Nothing => false,
+        }
+    }
+
+    /// A message comes from the other point: an order begins the changeover where none goes on, unless it may be a late one.
+    pub fn begun_by(self, kind: Kind) -> Availability
+        ensures { result ≡ begun_by_message kind self }
+    {
+        if kind.is_order() && !self.is_late() {
+            self.changeover_begins()
+        } else {
+            self
+        }
+    }
+
+    /// Whether the other point's message holds the link: an order that begins a changeover, or may be a late one for a link that came into
+    /// service again, or whose answer tells the link's number.
+    pub fn is_held_by(self, kind: Kind) -> bool
+        ensures { result ≡ is_held_by kind self }
+    {
+        if !kind.is_order() || self.is_over() {
+            return false;
+        }
+        !self.is_changing() || (kind.number().is_some() && !self.anew)
+    }
+
+    /// What a message from the other point is.
+    pub fn hearing(self, kind: Kind) -> Hearing
+        ensures { result ≡ hearing_of kind self }
+    {
+        if kind.is_order() {
+            return if self.is_late() || self.is_changing() {
+                Hearing::Order
+            } else {
+                Hearing::Began
+            };
+        }
+        match self.changing {
+            Some(changing) if changing.counts() => Hearing::Counted,
+            _ => Hearing::Answer,
+        }
     }
 
     /// The order to send for this link, which accepted the message of this number last; an emergency one where it was started anew.
@@ -54,33 +161,26 @@ impl Availability {
         }
     }
 
-    /// The acknowledgement to send for it, an emergency one where it was started anew.
+    /// The acknowledgement to send for it, an emergency one where it was started anew, or its changeover is over and it hasn't come into service again.
     fn acknowledgement(self, accepted: u8) -> Kind
         requires { accepted < 128 }
         ensures value { result ≡ acknowledgement_after self accepted }
         ensures whole { IsKind result }
     {
-        if self.anew {
+        if self.anew || self.is_over() {
             Kind::EmergencyAcknowledgement
         } else {
             Kind::Acknowledgement(accepted)
         }
     }
 
-    /// What the other point's message tells of this link: the number that it accepted last, but nothing where the link was started anew
-    /// or the message is an emergency one.
-    pub fn answer_in(self, kind: Kind) -> Answer
-        ensures { result ≡ answer_in kind self }
+    /// What is told by a number that acknowledges so many of its messages, and by none: nothing where the link was started anew.
+    pub fn answer(self, count: Option<usize>) -> Answer
+        ensures { result ≡ answer_after self count }
     {
-        match kind {
-            Kind::Order(fsn) | Kind::Acknowledgement(fsn) => {
-                if self.anew {
-                    Answer::Unknown
-                } else {
-                    Answer::Accepted(fsn)
-                }
-            }
-            Kind::EmergencyOrder | Kind::EmergencyAcknowledgement => Answer::Unknown,
+        match count {
+            Some(count) if !self.anew => Answer::Accepted(count),
+            _ => Answer::Unknown,
         }
     }
 

@@ -24,10 +24,11 @@ next_place may ks n k ls new whole b h e test grown is =
     ∙ append_assoc ls (if may k then n ∷ [] else []) (places_from may (n + 1) (drop (n + 1) ks))
     ∙ sym (ap (λ (xs : List ℕ). ls ++ xs) (ap (places_from may n) (drop_more ks n k h ∙ ap (λ (x : Link). x ∷ drop (n + 1) ks) (sym e)) ∙ one_place may n k (drop (n + 1) ks))) ∙ is
 
-pub last_place : (failed : Bool) (ks : List Link) (n : ℕ) (ls : List ℕ) → n ≡ length ks → ls ++ places_from (is_open failed) n (drop n ks) ≡ places_from (is_open failed) 0 ks → ls ≡ open_links failed ks
+pub last_place : (failed outage : Bool) (ks : List Link) (n : ℕ) (ls : List ℕ) → n ≡ length ks → ls ++ places_from (is_open failed outage) n (drop n ks) ≡ places_from (is_open failed outage) 0 ks
+    → ls ≡ open_links failed outage ks
 unfolding open_links places_from
-last_place failed ks n ls e is =
-    sym (append-nil ls) ∙ sym (ap (λ (xs : List Link). ls ++ places_from (is_open failed) n xs) (ap (λ (i : ℕ). drop i ks) e ∙ none ks)) ∙ is
+last_place failed outage ks n ls e is =
+    sym (append-nil ls) ∙ sym (ap (λ (xs : List Link). ls ++ places_from (is_open failed outage) n xs) (ap (λ (i : ℕ). drop i ks) e ∙ none ks)) ∙ is
   where
     none : (xs : List Link) → drop (length xs) xs ≡ []
     none [] = refl

@@ -1,5 +1,6 @@
 -- What a link does by its terminal, and that it comes into service.
-use Rattle.std.specs.Prelude.{◌≡◌, ℕ, ◌<◌, ◌≤◌, ◌&&◌, ◌⊎◌, Bool, true, false, not, if◌then◌else◌}
+use Rattle.std.specs.Prelude.{◌≡◌, ℕ, ◌-◌, ◌<◌, ◌≤◌, ◌&&◌, ◌⊎◌, Bool, true, false, not}
+use Rattle.std.specs.Prelude.{if◌then◌else◌}
 use Rattle.std.specs.Prelude.{List, length, take, Option, Some, None, slice_get, slice_set}
 use Rattle.link_transceiver.specs.Limits.{KEPT_MESSAGES}
 use Rattle.link_term.specs.Machine.{is_low, sent, tidied}
@@ -10,16 +11,32 @@ use Rattle.link_term.specs.Speaking.{IsSpoken}
 use Rattle.link_transceiver.specs.Reporting.{reported}
 use Rattle.link_transceiver.specs.declared.signals.Report.{Report}
 use Rattle.su_octets.specs.declared.units.Unit.{Unit}
-use Rattle.group_changeover.specs.Availability.{serves}
+use Rattle.group_changeover.specs.Availability.{fewer, serves, admits}
 use Rattle.group_members.specs.declared.link.Link.{Link}
+use Rattle.group_members.specs.OneLink.{held, is_serving}
 
 -- it came into service since that was last asked
 abbrev pub came : Link → Bool
 came k = k.terminal.processes.transceiver.came
 
--- for the first time
+-- for the first time while it is admitted
 abbrev pub came_first : Link → Bool
-came_first k = came k && not k.availability.served
+came_first k = came k && (k.availability.admitted && not k.availability.served)
+
+-- ---- level 3 admits it
+
+abbrev pub admits_at : Bool → Link → Link
+admits_at way k = record k { availability = admits way (is_serving k) k.availability }
+
+-- It is in service and admitted for the first time.
+abbrev pub admits_first : Bool → Link → Bool
+admits_first way k = way && (is_serving k && not k.availability.served)
+
+abbrev pub admits_by : Bool → Option Link → Bool
+admits_by way None = false
+admits_by way (Some k) = admits_first way k
+
+-- ---- what it does by its terminal
 
 -- It counts as one that has been in service, and no longer as started anew.
 abbrev pub asked : Link → Link
@@ -46,7 +63,8 @@ pub record AtLink (did : Link → Link → Type 0) (l : ℕ) (old new : List Lin
   pub links : new ≡ slice_set old l after
   pub was : did before after
 
--- so much of the octets was taken
+-- So much of the octets was taken. What the far side told of the messages that were kept it told of
+-- those that are kept still.
 pub record Listened (octets : List ℕ) (taken : ℕ) (old new : Link) : Type 0 where
   pub few : taken ≤ length octets
   pub heard : Heard old.terminal (take taken octets) new.terminal
@@ -55,7 +73,8 @@ pub record Listened (octets : List ℕ) (taken : ℕ) (old new : Link) : Type 0 
       → (KEPT_MESSAGES ≤ length new.terminal.processes.transceiver.messages)
       ⊎ (is_low new.terminal.processes ≡ true)
   pub took : Took old.terminal new.terminal
-  pub availability : new.availability ≡ old.availability
+  pub availability :
+      new.availability ≡ fewer (length (held old) - length (held new)) old.availability
 
 -- so many units were asked for, and these octets went out
 pub record Spoken (units : ℕ) (octets : List ℕ) (old new : Link) : Type 0 where

@@ -1,5 +1,5 @@
 -- How retrieved messages go to links (Q.704, diversion).
-use Rattle.std.specs.Prelude.{ℕ, ◌+◌, ◌==◌, ◌&&◌, ◌||◌, zero, suc, nat_lt, Bool, false, not}
+use Rattle.std.specs.Prelude.{ℕ, ◌+◌, ◌==◌, ◌&&◌, zero, suc, nat_lt, Bool, true, false, not}
 use Rattle.std.specs.Prelude.{if◌then◌else◌, List, [], ◌∷◌, ◌++◌, length, Option, Some, None}
 use Rattle.std.specs.Prelude.{slice_get, slice_set}
 use Rattle.std.specs.List.{list_any}
@@ -13,7 +13,7 @@ use Rattle.group_changeover.specs.Limits.{SELECTIONS}
 use Rattle.group_members.specs.declared.link.Link.{Link}
 use Rattle.group_changeover.specs.declared.errors.DivertFault.{DivertFault}
 use Rattle.group_changeover.specs.declared.errors.DivertFault.TheVariants as divert
-use Rattle.group_members.specs.OneLink.{held, is_serving, with_availability}
+use Rattle.group_members.specs.OneLink.{held, shares, has_outage, is_changing, with_availability}
 use Rattle.group_members.specs.Links.{change}
 
 abbrev pub retrieval_by : Option Changing → Option (List ℕ)
@@ -24,9 +24,16 @@ abbrev pub retrieval_of : Option Link → Option (List ℕ)
 retrieval_of None = None
 retrieval_of (Some k) = retrieval_by k.availability.changing
 
--- in service, and none that failed; those that failed too where they are asked for
-abbrev pub is_open : Bool → Link → Bool
-is_open failed k = is_serving k && (failed || not k.availability.failed)
+-- It has an outage of a processor, or has none, as is asked.
+abbrev pub is_so_out : Bool → Link → Bool
+is_so_out outage k = if outage then has_outage k else not (has_outage k)
+
+-- It hasn't failed; or, where those that failed are asked for too, no changeover goes on there.
+abbrev pub is_still : Bool → Link → Bool
+is_still failed k = if failed then not (is_changing k) else not k.availability.failed
+
+abbrev pub is_open : Bool → Bool → Link → Bool
+is_open failed outage k = shares k && (is_so_out outage k && is_still failed k)
 
 -- the places of those that may, from a place on
 unfoldable pub places_from : (Link → Bool) → ℕ → List Link → List ℕ
@@ -34,8 +41,38 @@ places_from may n [] = []
 places_from may n (k ∷ ks) =
     if may k then n ∷ places_from may (n + 1) ks else places_from may (n + 1) ks
 
-unfoldable pub open_links : Bool → List Link → List ℕ
-open_links failed ks = places_from (is_open failed) 0 ks
+unfoldable pub open_links : Bool → Bool → List Link → List ℕ
+open_links failed outage ks = places_from (is_open failed outage) 0 ks
+
+abbrev pub first_some : List ℕ → List ℕ → List ℕ
+first_some [] others = others
+first_some (l ∷ ls) others = l ∷ ls
+
+-- The links that selections may have: those without an outage, or where there are none, those with
+-- one (Q.704, 3.2.4).
+unfoldable pub able_links : Bool → List Link → List ℕ
+able_links failed ks = first_some (open_links failed false ks) (open_links failed true ks)
+
+abbrev pub own_place : ℕ → Bool → Option Link → List ℕ
+own_place l outage None = []
+own_place l outage (Some k) = if shares k && is_so_out outage k then l ∷ [] else []
+
+-- Of the links with an outage, or of those without, those that take what a link handed out: others
+-- that never failed; where there are none, others whose changeover doesn't go on; and where there
+-- are none of these either, itself.
+unfoldable pub way : ℕ → Bool → List Link → List ℕ
+way l outage ks =
+    first_some (open_links false outage ks)
+    (first_some (open_links true outage ks) (own_place l outage (slice_get ks l)))
+
+-- Those with an outage take it only where there are no others.
+unfoldable pub takers : ℕ → List Link → List ℕ
+takers l ks = first_some (way l false ks) (way l true ks)
+
+-- Itself takes it.
+abbrev pub is_own : ℕ → List ℕ → Bool
+is_own l [] = false
+is_own l (t ∷ ts) = t == l
 
 abbrev pub on_by : ℕ → Option Msu → Bool
 on_by s None = false
@@ -118,13 +155,11 @@ unfoldable pub moves : List ℕ → ℕ → ℕ → Diversion → Diverted
 moves ls zero s d = record { at = d; fault = None }
 moves ls (suc k) s d = goes_on (moves ls k (s + 1)) d (moved ls s d) (move_fault ls s d)
 
--- the retrieval goes back to its own link, as a whole and in order
-abbrev pub back_fault_by : Option Link → List Msu → Option DivertFault
-back_fault_by None ms = Some divert.NoLink
-back_fault_by (Some k) ms = if is_serving k then room_fault (length ms) k else Some divert.NoLink
+-- ---- the retrieval goes back to its own link, as a whole and in order
 
 unfoldable pub back_fault : ℕ → Diversion → Option DivertFault
-back_fault l d = if length d.rest == 0 then None else back_fault_by (slice_get d.links l) d.rest
+back_fault l d =
+    if length d.rest == 0 then None else take_fault (length d.rest) (slice_get d.links l)
 
 unfoldable pub back : ℕ → Diversion → Diversion
 back l d = if length d.rest == 0 then d
@@ -136,7 +171,7 @@ gives_back l d (Some fault) = record { at = d; fault = Some fault }
 
 unfoldable pub hands_over : List ℕ → ℕ → Diversion → Diverted
 hands_over ls l d =
-    if length ls == 0 then gives_back l d (back_fault l d) else moves ls SELECTIONS 0 d
+    if is_own l ls then gives_back l d (back_fault l d) else moves ls SELECTIONS 0 d
 
 -- As a changeover ends, each selection that is still the link's, and of which it holds nothing,
 -- gets its link among those that may take it.

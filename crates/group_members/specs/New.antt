@@ -1,7 +1,8 @@
 -- A link of a new set.
-use Rattle.std.specs.Prelude.{◌≡◌, false, [], None}
+use Rattle.std.specs.Prelude.{◌≡◌, true, false, [], None}
 use Rattle.link_term.specs.Term.{Term, term_with_transceiver}
 use Rattle.link_term.specs.Kept.{window_of}
+use Rattle.group_changeover.specs.declared.availability.Behind.TheVariants as behind
 use Rattle.group_members.specs.declared.link.Link.{Link}
 
 -- a terminal that holds no message
@@ -16,8 +17,10 @@ fresh t =
       availability =
           record {
             served = t.processes.transceiver.in_service;
+            admitted = true;
             anew = false;
             failed = false;
+            behind = behind.Nothing;
             changing = None;
           };
     }

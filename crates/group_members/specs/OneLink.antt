@@ -1,16 +1,23 @@
 -- One link of a set: its terminal, and what is marked there.
-use Rattle.std.specs.Prelude.{ℕ, ◌==◌, nat_le, Bool, if◌then◌else◌, List, length, Option, Some}
-use Rattle.std.specs.Prelude.{None, is_some, Result, Ok, Err}
+use Rattle.std.specs.Prelude.{ℕ, ◌==◌, ◌&&◌, ◌||◌, nat_le, min, Bool, true, false, not}
+use Rattle.std.specs.Prelude.{if◌then◌else◌, List, [], length}
+use Rattle.std.specs.Prelude.{drop, Option, Some, None, is_some, Result, Ok, Err}
 use Rattle.resend_store.specs.declared.messages.Msu.{Msu}
 use Rattle.resend_store.specs.Limits.{MOST_WAITING}
-use Rattle.resend_store.specs.Window.{Window, waiting, with_put, retrieved, emptied, count_by}
-use Rattle.link_term.specs.Term.{term_with_transceiver}
+use Rattle.resend_store.specs.Numbers.{plus}
+use Rattle.resend_store.specs.Window.{Window, waiting, with_put, count_by}
+use Rattle.link_transceiver.specs.TransceiverState.{is_held}
+use Rattle.link_transceiver.specs.declared.signals.LineKind.{LineKind}
+use Rattle.link_transceiver.specs.declared.signals.LineKind.TheVariants as kind
+use Rattle.link_transceiver.specs.declared.signals.Hold.{Hold}
+use Rattle.link_transceiver.specs.declared.signals.Hold.TheVariants as hold
+use Rattle.link_term.specs.Term.{Term, term_with_transceiver}
 use Rattle.link_term.specs.Kept.{window_of}
 use Rattle.group_changeover.specs.declared.availability.Availability.{Availability}
 use Rattle.group_changeover.specs.declared.availability.Changing.{Changing}
 use Rattle.group_changeover.specs.Sharing.{counts_of}
 use Rattle.group_changeover.specs.Availability.{with_retrieval}
-use Rattle.group_changeover.specs.Saying.{is_out, is_waiting, number_in}
+use Rattle.group_changeover.specs.Saying.{is_out, is_waiting, count_in}
 use Rattle.group_members.specs.declared.link.Link.{Link}
 use Rattle.group_changeover.specs.declared.errors.SendError.{SendError}
 use Rattle.group_changeover.specs.declared.errors.SendError.TheVariants as send
@@ -35,6 +42,45 @@ held k = (window k).kept
 abbrev pub is_serving : Link → Bool
 is_serving k = k.terminal.processes.transceiver.in_service
 
+-- how its terminal is held
+abbrev pub hold_of : Link → Hold
+hold_of k = k.terminal.processes.transceiver.hold
+
+-- It may take messages: it is in service, and not held.
+abbrev pub carries : Link → Bool
+carries k = is_serving k && not (is_held (hold_of k))
+
+-- Selections and what other links hand out may be given to it: level 3 admits it too.
+abbrev pub shares : Link → Bool
+shares k = carries k && k.availability.admitted
+
+-- what says that the processor here is out: status 4 goes out (Q.703, 8)
+abbrev pub is_outage : Option LineKind → Bool
+is_outage None = false
+is_outage (Some (kind.Status code)) = code == 4
+is_outage (Some kind.FillIn) = false
+is_outage (Some kind.Messages) = false
+
+-- what says that messages may go out
+abbrev pub is_messages : Option LineKind → Bool
+is_messages None = false
+is_messages (Some (kind.Status code)) = false
+is_messages (Some kind.FillIn) = false
+is_messages (Some kind.Messages) = true
+
+abbrev pub gives_messages : Link → Bool
+gives_messages k = is_messages k.terminal.processes.transceiver.line
+
+abbrev pub is_far_out : Link → Bool
+is_far_out k = k.terminal.processes.transceiver.far_out
+
+abbrev pub is_own_out : Link → Bool
+is_own_out k = is_outage k.terminal.processes.transceiver.line
+
+-- the processor there is out, or that here
+abbrev pub has_outage : Link → Bool
+has_outage k = is_far_out k || is_own_out k
+
 -- the number of the last message that was accepted there
 abbrev pub accepted_at : Link → ℕ
 accepted_at k = k.terminal.processes.transceiver.receiver.last
@@ -52,13 +98,26 @@ with_window w k =
 abbrev pub with_availability : Availability → Link → Link
 with_availability m k = record k { availability = m }
 
+abbrev pub with_hold : Hold → Link → Link
+with_hold hold k =
+    record k {
+      terminal = term_with_transceiver k.terminal
+          (record k.terminal.processes.transceiver { hold = hold });
+    }
+
+-- Where a changeover goes on a link is held until both its directions begin anew behind the moment
+-- when its messages are handed out, else until they begin anew.
+abbrev pub hold_by : Option Changing → Hold
+hold_by None = hold.UntilAnew
+hold_by (Some c) = if is_out c then hold.UntilAnew else hold.Kept
+
 -- ---- a message for it
 
--- K2 in changeover, K1 out of service, E1 where as many wait as may
+-- K2 in changeover, K1 out of service, held or not admitted, E1 where as many wait as may
 unfoldable pub put_fault : Link → Option SendError
 put_fault k =
     if is_changing k then Some send.Waiting
-    else (if is_serving k
+    else (if shares k
     then (if nat_le MOST_WAITING (length (waiting (window k))) then Some send.Full
     else None)
     else Some send.NoLink)
@@ -68,17 +127,19 @@ puts m k = with_window (with_put (window k) m) k
 
 -- ---- its messages for a changeover
 
--- A number that would acknowledge more than is sent counts as none.
-abbrev pub known_by : Window → Option ℕ → Option ℕ
-known_by w None = None
-known_by w (Some fsn) = if nat_le (count_by w fsn) w.sent then Some fsn else None
+-- How many of the messages that are kept a number acknowledges: none is known where that would be
+-- more than are sent.
+abbrev pub count_of : Window → ℕ → Option ℕ
+count_of w fsn = if nat_le (count_by w fsn) w.sent then Some (count_by w fsn) else None
 
-unfoldable pub known : Link → Changing → Option ℕ
-known k c = known_by (window k) (number_in c.answer)
+abbrev pub count_told : Window → Option ℕ → Option ℕ
+count_told w None = None
+count_told w (Some fsn) = count_of w fsn
 
--- without a number it isn't known which of those that were sent have arrived
+-- where the far side didn't tell how many it accepted it isn't known which of those that were sent
+-- have arrived
 abbrev pub unsure_by : ℕ → Option ℕ → Option RetrieveError
-unsure_by sent (Some fsn) = None
+unsure_by sent (Some n) = None
 unsure_by sent None = if sent == 0 then None else Some (retrieve.Unsure sent)
 
 -- K2 while its retrieval is out, and before an answer for as long as is waited; then K4
@@ -86,7 +147,7 @@ unfoldable pub retrieve_fault_in : Link → Changing → Option RetrieveError
 retrieve_fault_in k c =
     if is_out c then Some retrieve.Waiting
     else (if is_waiting c then Some retrieve.Waiting
-    else unsure_by (window k).sent (known k c))
+    else unsure_by (window k).sent (count_in c.answer))
 
 -- K1 where no changeover goes on
 abbrev pub retrieve_fault_by : Link → Option Changing → Option RetrieveError
@@ -96,22 +157,49 @@ retrieve_fault_by k (Some c) = retrieve_fault_in k c
 unfoldable pub retrieve_fault : Link → Option RetrieveError
 retrieve_fault k = retrieve_fault_by k k.availability.changing
 
-abbrev pub known_at : Link → Option Changing → Option ℕ
-known_at k None = None
-known_at k (Some c) = known k c
+abbrev pub accepted_in : Option Changing → Option ℕ
+accepted_in None = None
+accepted_in (Some c) = count_in c.answer
 
--- the number by which messages are retrieved
-unfoldable pub number_of : Link → Option ℕ
-number_of k = known_at k k.availability.changing
+-- how many of the messages that are kept the far side accepted, where it told that
+unfoldable pub accepted_of : Link → Option ℕ
+accepted_of k = accepted_in k.availability.changing
 
--- Messages are handed out that may be lacking by a number, or by none the unsent; of what is handed
--- out it is kept how many there are of each selection.
+-- What stands behind so many accepted ones; what was never sent, where it isn't known how many are.
+abbrev pub lacking : Window → Option ℕ → List Msu
+lacking w (Some n) = drop n w.kept
+lacking w None = waiting w
+
+-- how many of those that are sent are acknowledged by that
+abbrev pub acknowledged_by : Window → Option ℕ → ℕ
+acknowledged_by w (Some n) = min n w.sent
+acknowledged_by w None = 0
+
+-- Nothing is kept then, and the numbers go on behind what is acknowledged.
+abbrev pub left_empty : Window → Option ℕ → Window
+left_empty w n = record w {
+  kept = [];
+  sent = 0;
+  first = plus w.first (acknowledged_by w n);
+  again = 0;
+  forced = false;
+  turn = 0;
+}
+
+abbrev pub emptied_behind : Option ℕ → Term → Term
+emptied_behind n t =
+    term_with_transceiver t
+    (record t.processes.transceiver { sender = left_empty (window_of t) n })
+
+-- Messages are handed out, by how many are accepted, or where that isn't known the unsent; of what
+-- is handed out it is kept how many there are of each selection. The link is held no longer than
+-- until its directions begin anew.
 unfoldable pub hands_out : Option ℕ → Link → Link
-hands_out fsn k =
-    with_availability (with_retrieval (counts_of (retrieved (window k) fsn)) k.availability)
-    (with_window (emptied (window k) fsn) k)
+hands_out n k =
+    with_availability (with_retrieval (counts_of (lacking (window k) n)) k.availability)
+    (with_hold hold.UntilAnew (with_window (left_empty (window k) n) k))
 
--- Without a number that is known K2, unless K4 would be answered. K1 where no changeover goes on.
+-- K2 unless K4 would be answered. K1 where no changeover goes on.
 abbrev pub abandon_by : Option RetrieveError → Option AbandonError
 abandon_by None = Some abandon.Waiting
 abandon_by (Some retrieve.NoLink) = Some abandon.NoLink

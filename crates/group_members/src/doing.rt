@@ -3,7 +3,7 @@ ghost use Rattle.std.specs.List.{list_any};
 ghost use Rattle.std.specs.Prelude.{◌≡◌, ◌||◌, map, ◌<◌, length, slice_get, true, IfOk, OnErr, Err};
 ghost use Rattle.link_term.specs.Machine.{is_low};
 ghost use Rattle.group_members.specs.Links.{change};
-ghost use Rattle.group_members.specs.Doing.{AtLink, Listened, Spoken, Sent, Reported, low_at, asked, came_first, came_by};
+ghost use Rattle.group_members.specs.Doing.{AtLink, Listened, Spoken, Sent, Reported, low_at, asked, came_first, came_by, admits_first, admits_at, admits_by};
 
 use crate::link::Link;
 use link_term::Report;
@@ -16,18 +16,33 @@ impl Link {
         ensures first { result ≡ came_first self.old }
         ensures link { self.new ≡ asked self.old }
     {
-        let served = self.availability.served;
+        let first = self.availability.admitted && !self.availability.served;
         if !self.terminal.came_into_service() {
             return false;
         }
         self.availability = self.availability.serves();
-        !served
+        first
+    }
+
+    /// Level 3 admits it, or does no longer. Whether it is in service and admitted for the first time.
+    fn admit(&mut self, way: bool) -> bool
+        ensures first { result ≡ admits_first way self.old }
+        ensures link { self.new ≡ admits_at way self.old }
+    {
+        let serving = self.terminal.in_service();
+        let first = way && serving && !self.availability.served;
+        self.availability = self.availability.admits(way, serving);
+        first
     }
 
     fn listen(&mut self, octets: &[u8]) -> usize
         ensures { Listened octets.now result self.old self.new }
     {
-        self.terminal.line_in(octets)
+        let held = self.terminal.held();
+        let taken = self.terminal.line_in(octets);
+        let left = held.saturating_sub(self.terminal.held());
+        self.availability = self.availability.fewer(left);
+        taken
     }
 
     fn speak(&mut self, units: usize) -> Result<Vec<u8>, AllocError>
@@ -60,6 +75,19 @@ pub fn see_at(links: &mut [Link], at: usize) -> bool
 {
     if at < links.len() {
         links[at].see()
+    } else {
+        false
+    }
+}
+
+/// Level 3 admits the link at a place, or does no longer. Whether it is in service and admitted for the first time.
+#[tactic(auto, unfolding(crate::specs::Links::change))]
+pub fn admit_at(links: &mut [Link], at: usize, way: bool) -> bool
+    ensures first { result ≡ admits_by way (slice_get links.old at) }
+    ensures links { links.new ≡ change links.old at (admits_at way) }
+{
+    if at < links.len() {
+        links[at].admit(way)
     } else {
         false
     }

@@ -13,7 +13,7 @@ mod tables;
 mod ticking;
 
 pub use commanding::command_at;
-pub use doing::{listen_at, see_all, see_at, send_at, speak_at, tell_at};
+pub use doing::{admit_at, listen_at, see_all, see_at, send_at, speak_at, tell_at};
 pub use ending::{end_at, end_table, keep_at, retrieval_of};
 pub use group_changeover::{
     AbandonError, CommandError, DivertFault, FailError, LineError, LinkError, RebalanceError,
@@ -21,9 +21,9 @@ pub use group_changeover::{
 };
 pub use link::Link;
 pub use link_term::{CallError, Command, LinkStatus, Mode, Msu, Report, Terminal};
-pub use links::{abandon_at, fail_at, hear_at, put_at, retrieve_at};
+pub use links::{abandon_at, fail_at, hear_at, heard_at, put_at, retrieve_at};
 pub use moving::divert_all;
 pub use new::all_fresh;
-pub use open::open_links;
+pub use open::{able_links, takers};
 pub use tables::{any_changing, any_in_way, forgive_all, table_anew, table_of};
 pub use ticking::{make_room_all, pass_all, tick_refusal};

@@ -1,15 +1,16 @@
 //! One link of a set.
-ghost use Rattle.std.specs.Prelude.{◌≡◌, ◌<◌, ◌≤◌, All, length, IfSome, IfOk, OnOk, OnErr, None};
+ghost use Rattle.std.specs.Prelude.{◌≡◌, ◌≤◌, All, drop, length, IfSome, IfOk, OnOk, OnErr, Some, None};
 ghost use Rattle.resend_store.specs.Messages.{IsMessage};
-ghost use Rattle.resend_store.specs.Window.{retrieved};
 ghost use Rattle.group_changeover.specs.Changeovers.{IsKind};
-ghost use Rattle.group_members.specs.Failing.{fail_fault_of, changeover_begins_at, order_of, replies, hears};
-ghost use Rattle.group_members.specs.OneLink.{fault_of, put_fault, puts, window, known, unsure_by, retrieve_fault, retrieve_refusal, number_of, hands_out, abandon_fault, abandon_refusal};
+ghost use Rattle.link_term.specs.Kept.{window_of};
+ghost use Rattle.group_changeover.specs.Saying.{count_in};
+ghost use Rattle.group_members.specs.Failing.{fail_fault_of, changeover_begins_at, order_of, count_heard, replies, hears};
+ghost use Rattle.group_members.specs.OneLink.{fault_of, carries, shares, gives_messages, is_own_out, has_outage, put_fault, puts, window, count_of, hold_by, unsure_by, retrieve_fault, retrieve_refusal, accepted_of, lacking, emptied_behind, hands_out, abandon_fault, abandon_refusal};
 
 use group_changeover::{
     AbandonError, Availability, Changing, FailError, Kind, RetrieveError, SendError, counts_of,
 };
-use link_term::{Msu, RetrieveError as StoreError, Terminal};
+use link_term::{Hold, LineKind, Msu, Terminal};
 use std::alloc::AllocError;
 use std::collections::VecDeque;
 
@@ -20,7 +21,116 @@ pub struct Link {
     pub availability: Availability,
 }
 
+/// Drops the first message, if there is one.
+fn drop_one(messages: &mut VecDeque<Msu>)
+    requires { All IsMessage messages.old.items }
+    ensures items { messages.new.items ≡ drop 1 messages.old.items }
+    ensures whole { All IsMessage messages.new.items }
+{
+    match messages.pop_front() {
+        Some(_first) => {}
+        None => {}
+    }
+}
+
+/// Drops so many messages from the front, or all where they are fewer.
+fn drop_front(messages: &mut VecDeque<Msu>, count: usize)
+    requires { All IsMessage messages.old.items }
+    ensures items { messages.new.items ≡ drop count messages.old.items }
+    ensures whole { All IsMessage messages.new.items }
+{
+    for _front in 0..count {
+        drop_one(messages);
+    }
+}
+
+/// Takes out of a terminal what stands behind so many accepted messages.
+fn take_behind(terminal: &mut Terminal, accepted: usize) -> Result<VecDeque<Msu>, AllocError>
+    ensures messages { IfOk result (λ messages. messages.items ≡ lacking (window_of terminal.old) (Some accepted)) }
+    ensures whole { IfOk result (λ messages. All IsMessage messages.items) }
+    ensures ok { OnOk result (terminal.new ≡ emptied_behind (Some accepted) terminal.old) }
+    ensures err { OnErr result (terminal.new ≡ terminal.old) }
+{
+    let _window = terminal.held();
+    let known = accepted.min(terminal.sent());
+    let number = (usize::from(terminal.acknowledged()) + known) % 128;
+    match terminal.retrieve(Some(number as u8)) {
+        Ok(mut messages) => {
+            drop_front(&mut messages, accepted - known);
+            Ok(messages)
+        }
+        Err(_) => Err(AllocError),
+    }
+}
+
+/// The same, or where it isn't known how many were accepted what was never sent.
+fn take_out(terminal: &mut Terminal, accepted: Option<usize>) -> Result<VecDeque<Msu>, AllocError>
+    ensures messages { IfOk result (λ messages. messages.items ≡ lacking (window_of terminal.old) accepted) }
+    ensures whole { IfOk result (λ messages. All IsMessage messages.items) }
+    ensures ok { OnOk result (terminal.new ≡ emptied_behind accepted terminal.old) }
+    ensures err { OnErr result (terminal.new ≡ terminal.old) }
+{
+    if let Some(accepted) = accepted {
+        return take_behind(terminal, accepted);
+    }
+    match terminal.retrieve(None) {
+        Ok(messages) => Ok(messages),
+        Err(_) => Err(AllocError),
+    }
+}
+
+/// How long a link is held.
+fn hold_by(changing: Option<Changing>) -> Hold
+    ensures { result ≡ hold_by changing }
+{
+    match changing {
+        Some(changing) if !changing.is_out() => Hold::Kept,
+        _ => Hold::UntilAnew,
+    }
+}
+
 impl Link {
+    /// Whether it may take messages: it is in service, and not held.
+    pub fn carries(&self) -> bool
+        ensures { result ≡ carries self.now }
+    {
+        self.terminal.in_service() && !self.terminal.holding().is_held()
+    }
+
+    /// Whether selections, and what other links hand out, may be given to it: level 3 admits it too.
+    pub(crate) fn shares(&self) -> bool
+        ensures { result ≡ shares self.now }
+    {
+        self.carries() && self.availability.admitted
+    }
+
+    /// Whether the processor here is out: status 4 goes out.
+    pub fn is_own_out(&self) -> bool
+        ensures { result ≡ is_own_out self.now }
+    {
+        match self.terminal.goes_out() {
+            Some(LineKind::Status(code)) => code == 4,
+            _ => false,
+        }
+    }
+
+    /// Whether its actors say that messages may go out.
+    pub fn gives_messages(&self) -> bool
+        ensures { result ≡ gives_messages self.now }
+    {
+        match self.terminal.goes_out() {
+            Some(LineKind::Messages) => true,
+            _ => false,
+        }
+    }
+
+    /// Whether the processor there is out, or that here.
+    pub(crate) fn has_outage(&self) -> bool
+        ensures { result ≡ has_outage self.now }
+    {
+        self.terminal.far_out() || self.is_own_out()
+    }
+
     /// Takes a message to send.
     #[tactic(auto, unfolding(crate::specs::OneLink::put_fault, crate::specs::OneLink::puts))]
     pub(crate) fn put(&mut self, msu: Msu) -> Result<(), SendError>
@@ -32,7 +142,7 @@ impl Link {
         if self.availability.is_changing() {
             return Err(SendError::Waiting);
         }
-        if !self.terminal.in_service() {
+        if !self.shares() {
             return Err(SendError::NoLink);
         }
         match self.terminal.put(msu) {
@@ -41,25 +151,33 @@ impl Link {
         }
     }
 
-    /// The number that the far side told, where it acknowledges no more than was sent.
-    #[tactic(auto, unfolding(crate::specs::OneLink::known))]
-    fn known(&self, changing: Changing) -> Option<u8>
-        ensures value { result ≡ known self.now changing }
-        ensures within { IfSome result (λ fsn. fsn < 128) }
+    /// How many of the messages that are kept a number acknowledges, where they are no more than are sent.
+    fn count_of(&self, fsn: u8) -> Option<usize>
+        ensures { result ≡ count_of (window self.now) fsn }
     {
-        let fsn = changing.number()?;
-        if self.terminal.knows(fsn) {
-            Some(fsn)
+        let count = (usize::from(fsn) + 128 - usize::from(self.terminal.acknowledged())) % 128;
+        if count <= self.terminal.sent() {
+            Some(count)
         } else {
             None
         }
     }
 
+    /// How many of them a message acknowledges.
+    fn count_heard(&self, kind: Kind) -> Option<usize>
+        ensures { result ≡ count_heard kind self.now }
+    {
+        match kind.number() {
+            Some(fsn) => self.count_of(fsn),
+            None => None,
+        }
+    }
+
     /// Why it isn't known which of those that were sent have arrived.
     fn unsure(&self, changing: Changing) -> Option<RetrieveError>
-        ensures { result ≡ unsure_by (window self.now).sent (known self.now changing) }
+        ensures { result ≡ unsure_by (window self.now).sent (count_in changing.answer) }
     {
-        if self.known(changing).is_some() {
+        if changing.count().is_some() {
             return None;
         }
         let sent = self.terminal.sent();
@@ -87,29 +205,28 @@ impl Link {
         self.unsure(changing)
     }
 
-    /// The number by which its messages are retrieved.
-    #[tactic(auto, unfolding(crate::specs::OneLink::number_of))]
-    fn number(&self) -> Option<u8>
-        ensures value { result ≡ number_of self.now }
-        ensures within { IfSome result (λ fsn. fsn < 128) }
+    /// How many of the messages that are kept the far side accepted, where it told that.
+    #[tactic(auto, unfolding(crate::specs::OneLink::accepted_of))]
+    fn accepted(&self) -> Option<usize>
+        ensures { result ≡ accepted_of self.now }
     {
         match self.availability.changing {
-            Some(changing) => self.known(changing),
+            Some(changing) => changing.count(),
             None => None,
         }
     }
 
     /// Hands out its messages.
     #[tactic(auto, unfolding(crate::specs::OneLink::hands_out))]
-    fn hand_out(&mut self, fsn: Option<u8>) -> Result<VecDeque<Msu>, AllocError>
-        requires { IfSome fsn (λ fsn. fsn < 128) }
-        ensures messages { IfOk result (λ messages. messages.items ≡ retrieved (window self.old) fsn) }
+    fn hand_out(&mut self, accepted: Option<usize>) -> Result<VecDeque<Msu>, AllocError>
+        ensures messages { IfOk result (λ messages. messages.items ≡ lacking (window self.old) accepted) }
         ensures whole { IfOk result (λ messages. All IsMessage messages.items) }
-        ensures ok { OnOk result (self.new ≡ hands_out fsn self.old) }
+        ensures ok { OnOk result (self.new ≡ hands_out accepted self.old) }
         ensures err { OnErr result (self.new ≡ self.old) }
     {
-        match self.terminal.retrieve(fsn) {
+        match take_out(&mut self.terminal, accepted) {
             Ok(messages) => {
+                self.terminal.hold(Hold::UntilAnew);
                 self.availability = self.availability.with_retrieval(counts_of(&messages));
                 Ok(messages)
             }
@@ -120,16 +237,16 @@ impl Link {
     /// Hands out what the far side may lack.
     pub(crate) fn retrieve(&mut self) -> Result<VecDeque<Msu>, RetrieveError>
         ensures fault { retrieve_refusal result ≡ retrieve_fault self.old }
-        ensures messages { IfOk result (λ messages. messages.items ≡ retrieved (window self.old) (number_of self.old)) }
+        ensures messages { IfOk result (λ messages. messages.items ≡ lacking (window self.old) (accepted_of self.old)) }
         ensures whole { IfOk result (λ messages. All IsMessage messages.items) }
-        ensures ok { OnOk result (self.new ≡ hands_out (number_of self.old) self.old) }
+        ensures ok { OnOk result (self.new ≡ hands_out (accepted_of self.old) self.old) }
         ensures err { OnErr result (self.new ≡ self.old) }
     {
         if let Some(fault) = self.retrieve_fault() {
             return Err(fault);
         }
-        let number = self.number();
-        match self.hand_out(number) {
+        let accepted = self.accepted();
+        match self.hand_out(accepted) {
             Ok(messages) => Ok(messages),
             Err(_) => Err(RetrieveError::NoMemory),
         }
@@ -139,7 +256,7 @@ impl Link {
     #[tactic(auto, unfolding(crate::specs::OneLink::abandon_fault))]
     pub(crate) fn abandon(&mut self) -> Result<VecDeque<Msu>, AbandonError>
         ensures fault { abandon_refusal result ≡ abandon_fault self.old }
-        ensures messages { IfOk result (λ messages. messages.items ≡ retrieved (window self.old) None) }
+        ensures messages { IfOk result (λ messages. messages.items ≡ lacking (window self.old) None) }
         ensures whole { IfOk result (λ messages. All IsMessage messages.items) }
         ensures ok { OnOk result (self.new ≡ hands_out None self.old) }
         ensures err { OnErr result (self.new ≡ self.old) }
@@ -154,7 +271,7 @@ impl Link {
         }
     }
 
-    /// Its changeover begins, unless it goes on. What is to be said of it to the other point.
+    /// Its changeover begins, unless it goes on; it is held from then on. What is to be said of it to the other point.
     pub(crate) fn fail(&mut self) -> Result<Kind, FailError>
         ensures fault { fault_of result ≡ fail_fault_of self.old }
         ensures order { IfOk result (λ kind. kind ≡ order_of self.old) }
@@ -167,6 +284,7 @@ impl Link {
         }
         let kind = self.availability.order(self.terminal.accepted());
         self.availability = self.availability.changeover_begins();
+        self.terminal.hold(Hold::Kept);
         Ok(kind)
     }
 
@@ -176,12 +294,13 @@ impl Link {
         ensures whole { IfSome result IsKind }
         ensures heard { self.new ≡ hears kind self.old }
     {
-        let answer = self.availability.answer_in(kind);
+        let answer = self.availability.answer(self.count_heard(kind));
         let reply = self.availability.reply(kind, self.terminal.accepted());
-        if reply.is_some() {
-            self.availability = self.availability.changeover_begins();
+        let holds = self.availability.is_held_by(kind);
+        self.availability = self.availability.begun_by(kind).told(answer);
+        if holds {
+            self.terminal.hold(hold_by(self.availability.changing));
         }
-        self.availability = self.availability.told(answer);
         reply
     }
 }

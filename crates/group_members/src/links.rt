@@ -2,12 +2,12 @@
 ghost use Rattle.std.specs.Prelude.{◌≡◌, ◌<◌, ◌≤◌, All, length, slice_get, IfSome, IfOk, OnOk, OnErr, Some, None};
 ghost use Rattle.resend_store.specs.Messages.{IsMessage};
 ghost use Rattle.group_changeover.specs.Changeovers.{IsKind};
-ghost use Rattle.group_members.specs.OneLink.{fault_of, put_fault, puts, number_of, retrieve_fault, retrieve_refusal, abandon_fault, abandon_refusal};
+ghost use Rattle.group_members.specs.OneLink.{fault_of, put_fault, puts, accepted_of, retrieve_fault, retrieve_refusal, abandon_fault, abandon_refusal};
 ghost use Rattle.group_members.specs.Links.{change, fault_at, read_at};
-ghost use Rattle.group_members.specs.Failing.{changeover_begins_at, fail_fault_of, hears, replies_at, order_of, handed, given_up, messages_by, none_known, sent_by};
+ghost use Rattle.group_members.specs.Failing.{changeover_begins_at, fail_fault_of, heard_at, hears, replies_at, order_of, handed, given_up, messages_by, none_known, sent_by};
 
 use crate::link::Link;
-use group_changeover::{AbandonError, FailError, Kind, RetrieveError, SendError};
+use group_changeover::{AbandonError, FailError, Hearing, Kind, RetrieveError, SendError};
 use link_term::Msu;
 use std::collections::VecDeque;
 
@@ -52,6 +52,16 @@ pub fn fail_at(links: &mut [Link], at: usize) -> Result<Kind, FailError>
     }
 }
 
+/// What a message of the other point is to the link at a place, if it is there.
+pub fn heard_at(links: &[Link], at: usize, kind: Kind) -> Hearing
+    ensures { result ≡ heard_at kind (slice_get links.now at) }
+{
+    match links.get(at) {
+        Some(link) => link.availability.hearing(kind),
+        None => Hearing::Nothing,
+    }
+}
+
 /// The other point says something of a link. What is answered.
 #[tactic(auto, unfolding(crate::specs::Links::change))]
 pub fn hear_at(links: &mut [Link], at: usize, kind: Kind) -> Option<Kind>
@@ -75,7 +85,7 @@ pub fn hear_at(links: &mut [Link], at: usize, kind: Kind) -> Option<Kind>
 #[tactic(auto, unfolding(crate::specs::Links::change))]
 pub fn retrieve_at(links: &mut [Link], at: usize) -> Result<VecDeque<Msu>, RetrieveError>
     ensures fault { retrieve_refusal result ≡ fault_at RetrieveError.NoLink retrieve_fault (slice_get links.old at) }
-    ensures messages { IfOk result (λ messages. messages.items ≡ messages_by number_of (slice_get links.old at)) }
+    ensures messages { IfOk result (λ messages. messages.items ≡ messages_by accepted_of (slice_get links.old at)) }
     ensures whole { IfOk result (λ messages. All IsMessage messages.items) }
     ensures ok { OnOk result (links.new ≡ change links.old at handed) }
     ensures err { OnErr result (links.new ≡ links.old) }

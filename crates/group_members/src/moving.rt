@@ -5,7 +5,7 @@ ghost use Rattle.resend_store.specs.Messages.{IsMessage};
 ghost use Rattle.group_changeover.specs.Limits.{SELECTIONS};
 ghost use Rattle.group_changeover.specs.Sharing.{of, off};
 ghost use Rattle.group_members.specs.OneLink.{fault_of, held};
-ghost use Rattle.group_members.specs.Moving.{term_takes, takes_on, division, room_fault, take_fault, move_fault, moved, moves, back_fault_by, back_fault, back, hands_over};
+ghost use Rattle.group_members.specs.Moving.{term_takes, takes_on, division, room_fault, take_fault, move_fault, moved, moves, back_fault, back, is_own, hands_over};
 ghost use Rattle.group_members.specs.Links.{change};
 
 use crate::link::Link;
@@ -168,19 +168,16 @@ fn share_all(
     Ok(())
 }
 
-/// Puts all messages behind those of a link in service that has room for them.
+/// Puts all messages behind those of a link that has room for them.
 #[tactic(auto, unfolding(crate::specs::Moving::takes_on))]
 fn take_back(link: &mut Link, messages: &mut VecDeque<Msu>) -> Result<(), DivertFault>
     requires { All IsMessage messages.old.items }
-    ensures fault { fault_of result ≡ back_fault_by (Some link.old) messages.old.items }
+    ensures fault { fault_of result ≡ room_fault (length messages.old.items) link.old }
     ensures link { OnOk result (link.new ≡ takes_on messages.old.items link.old) }
     ensures messages { OnOk result (messages.new.items ≡ []) }
     ensures err { OnErr result (link.new ≡ link.old) }
     ensures same { OnErr result (messages.new.items ≡ messages.old.items) }
 {
-    if !link.terminal.in_service() {
-        return Err(DivertFault::NoLink);
-    }
     if MAX_KEPT - link.terminal.held() < messages.len() {
         return Err(DivertFault::Full);
     }
@@ -213,11 +210,21 @@ fn give_back(
     }
 }
 
-/// Diverts a retrieval to the links that may take it, or gives it back where there are none.
+/// Whether the first of these links is this one.
+fn is_own(able: &[usize], at: usize) -> bool
+    ensures { result ≡ is_own at able.now }
+{
+    match able {
+        [first, ..] => *first == at,
+        [] => false,
+    }
+}
+
+/// Diverts a retrieval to the links that take it, or gives it back where that is its own.
 ///
 /// # Errors
 ///
-/// `K1 NoLink` where no link may take it, `E1 Full` where the link of a selection would hold more than 1,151: what didn't go stays in `messages`.
+/// `K1 NoLink` where none takes it, `E1 Full` where the link of a selection would hold more than 1,151: what didn't go stays in `messages`.
 #[tactic(auto, unfolding(crate::specs::Moving::hands_over))]
 pub fn divert_all(
     links: &mut [Link],
@@ -231,7 +238,7 @@ pub fn divert_all(
     ensures moved { division links.new table.new.links messages.new.items ≡ (hands_over able.now at (division links.old table.old.links messages.old.items)).at }
     ensures whole { All IsMessage messages.new.items }
 {
-    if able.is_empty() {
+    if is_own(able, at) {
         give_back(links, at, table, messages)
     } else {
         share_all(links, table, able, messages)

@@ -3,7 +3,7 @@ ghost use Rattle.std.specs.Prelude.{◌≡◌, ◌<◌, ◌≤◌, [], map, vec_
 ghost use Rattle.group_members.specs.New.{fresh};
 
 use crate::link::Link;
-use group_changeover::Availability;
+use group_changeover::{Availability, Behind};
 use link_term::Terminal;
 
 /// A link over a terminal.
@@ -16,8 +16,10 @@ fn fresh(mut terminal: Terminal) -> Link
         terminal,
         availability: Availability {
             served,
+            admitted: true,
             anew: false,
             failed: false,
+            behind: Behind::Nothing,
             changing: None,
         },
     }

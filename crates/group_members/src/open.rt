@@ -4,24 +4,40 @@ ghost use Rattle.arrayvec.specs.ArrayVec.{array_vec_len};
 ghost use Rattle.group_changeover.specs.Sharing.{selection_of};
 ghost use Rattle.group_members.specs.Limits.{MOST_LINKS};
 ghost use Rattle.group_members.specs.OneLink.{held};
-ghost use Rattle.group_members.specs.Moving.{is_open, open_links, on_by, holds, holds_at};
+ghost use Rattle.group_members.specs.Moving.{is_so_out, is_still, is_open, open_links, able_links, own_place, way, takers, on_by, holds, holds_at};
 ghost use Rattle.group_members.specs.Tables.{changing_at, held_by_any};
 
 use crate::link::Link;
 use arrayvec::ArrayVec;
 use group_changeover::selection_of;
 
-/// Whether a link may take messages: it is in service, and hasn't failed unless those that failed are asked for too.
-pub(crate) fn is_open(link: &Link, failed: bool) -> bool
-    ensures { result ≡ is_open failed link.now }
+/// Whether a link has an outage of a processor, or has none, as is asked.
+fn is_so_out(link: &Link, outage: bool) -> bool
+    ensures { result ≡ is_so_out outage link.now }
 {
-    if !link.terminal.in_service() {
-        return false;
+    if outage {
+        link.has_outage()
+    } else {
+        !link.has_outage()
     }
+}
+
+/// Whether a link hasn't failed, or, where those that failed are asked for too, whether it isn't in changeover.
+fn is_still(link: &Link, failed: bool) -> bool
+    ensures { result ≡ is_still failed link.now }
+{
     if failed {
-        return true;
+        !link.availability.is_changing()
+    } else {
+        !link.availability.failed
     }
-    !link.availability.failed
+}
+
+/// Whether a link is one of those that are asked for.
+pub(crate) fn is_open(link: &Link, failed: bool, outage: bool) -> bool
+    ensures { result ≡ is_open failed outage link.now }
+{
+    link.shares() && is_so_out(link, outage) && is_still(link, failed)
 }
 
 /// Puts the number of a link behind those of others that may, if it may.
@@ -36,15 +52,74 @@ fn note(able: &mut ArrayVec<usize, 16>, at: usize, may: bool)
 }
 
 /// The numbers of the links that may.
-pub fn open_links(links: &[Link], failed: bool) -> ArrayVec<usize, 16>
+fn open_links(links: &[Link], failed: bool, outage: bool) -> ArrayVec<usize, 16>
     requires { length links.now ≤ MOST_LINKS }
-    ensures { result.items ≡ open_links failed links.now }
+    ensures { result.items ≡ open_links failed outage links.now }
 {
     let mut able = ArrayVec::new();
     for at in 0..links.len() {
-        note(&mut able, at, is_open(&links[at], failed));
+        note(&mut able, at, is_open(&links[at], failed, outage));
     }
     able
+}
+
+/// The numbers of the links that selections may have: in service, not held and admitted, and none that failed, unless those are asked for too.
+/// Those with an outage of a processor only where there are no others.
+#[tactic(auto, unfolding(crate::specs::Moving::able_links))]
+pub fn able_links(links: &[Link], failed: bool) -> ArrayVec<usize, 16>
+    requires { length links.now ≤ MOST_LINKS }
+    ensures { result.items ≡ able_links failed links.now }
+{
+    let able = open_links(links, failed, false);
+    if able.is_empty() {
+        open_links(links, failed, true)
+    } else {
+        able
+    }
+}
+
+/// The number of a link itself, if it may.
+fn own_place(links: &[Link], at: usize, outage: bool) -> ArrayVec<usize, 16>
+    ensures { result.items ≡ own_place at outage (slice_get links.now at) }
+{
+    let mut able = ArrayVec::new();
+    match links.get(at) {
+        Some(link) => note(&mut able, at, link.shares() && is_so_out(link, outage)),
+        None => {}
+    }
+    able
+}
+
+/// The numbers of the links that take what a link handed out, with an outage or without: others that never failed, else others that aren't in
+/// changeover, else itself.
+#[tactic(auto, unfolding(crate::specs::Moving::way))]
+fn way(links: &[Link], at: usize, outage: bool) -> ArrayVec<usize, 16>
+    requires { length links.now ≤ MOST_LINKS }
+    ensures { result.items ≡ way at outage links.now }
+{
+    let able = open_links(links, false, outage);
+    if !able.is_empty() {
+        return able;
+    }
+    let able = open_links(links, true, outage);
+    if !able.is_empty() {
+        return able;
+    }
+    own_place(links, at, outage)
+}
+
+/// The numbers of the links that take what a link handed out: those with an outage only where there are no others.
+#[tactic(auto, unfolding(crate::specs::Moving::takers))]
+pub fn takers(links: &[Link], at: usize) -> ArrayVec<usize, 16>
+    requires { length links.now ≤ MOST_LINKS }
+    ensures { result.items ≡ takers at links.now }
+{
+    let able = way(links, at, false);
+    if able.is_empty() {
+        way(links, at, true)
+    } else {
+        able
+    }
 }
 
 /// Whether the message that a link holds at a place has a selection.

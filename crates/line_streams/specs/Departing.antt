@@ -1,5 +1,6 @@
 -- What goes on of the lines that are told where nothing may wait.
-use Rattle.std.specs.Prelude.{◌≡◌, ℕ, ◌+◌, ◌<◌, ◌==◌, false, List, [], ◌∷◌, ◌++◌, length, codes}
+use Rattle.std.specs.Prelude.{◌≡◌, ℕ, ◌+◌, ◌<◌, ◌==◌, min, false, List, [], ◌∷◌, ◌++◌, length}
+use Rattle.std.specs.Prelude.{codes}
 use Rattle.std.specs.Fmt.{decimal}
 use Rattle.std.specs.List.{list_any}
 use Rattle.rtrb.specs.Ring.{sent, known_free}
@@ -34,6 +35,16 @@ pub data TellsOn (line : List ℕ) (old new : Outlet) : Type 0 where
   is_lost : (text : List ℕ) → IsToGo old.lost line text → known_free new.ring < length text
       → sent new.ring ≡ sent old.ring → new.lost ≡ old.lost + 1
       → TellsOn line old new
+
+-- as many as 64 bits count
+abbrev pub MOST_LOST : ℕ
+MOST_LOST = 18446744073709551615
+
+-- Octets go on whole, or there was no room, and they are counted as one that is lost.
+pub data GoesWhole (octets : List ℕ) (old new : Outlet) : Type 0 where
+  whole : sent new.ring ≡ sent old.ring ++ octets → new.lost ≡ old.lost → GoesWhole octets old new
+  is_counted : known_free new.ring < length octets → sent new.ring ≡ sent old.ring
+      → new.lost ≡ min (old.lost + 1) MOST_LOST → GoesWhole octets old new
 
 -- At the end it was told how many lines were lost behind the last that went on, or there was no
 -- room for that.

@@ -5,6 +5,9 @@ use Rattle.line_streams.specs.declared.opening.OrderStream.{OrderStream}
 use Rattle.line_streams.specs.declared.opening.OrderStream.TheVariants.{Nothing, File as from_file}
 use Rattle.line_streams.specs.declared.opening.OrderStream.TheVariants.{Fifo as from_fifo}
 use Rattle.line_streams.specs.declared.opening.ReportStream.{ReportStream}
+use Rattle.line_streams.specs.declared.records.RecordStream.{RecordStream}
+use Rattle.line_streams.specs.declared.records.RecordStream.TheVariants.{File as record_file}
+use Rattle.line_streams.specs.declared.records.RecordStream.TheVariants.{Fifo as record_fifo}
 use Rattle.line_streams.specs.declared.opening.ReportStream.TheVariants.{Errors, File as to_file}
 use Rattle.line_streams.specs.declared.opening.ReportStream.TheVariants.{Fifo as to_fifo}
 
@@ -36,3 +39,8 @@ EndsTold now (to_file file) new = new ≡ to_file file
 EndsTold now (to_fifo old) (Errors errors) = ⊥
 EndsTold now (to_fifo old) (to_file file) = ⊥
 EndsTold now (to_fifo old) (to_fifo new) = TellsLost now old.outlet new.outlet
+
+-- how many records were lost: what goes to a file isn't
+abbrev pub lost_of : RecordStream → ℕ
+lost_of (record_file file) = 0
+lost_of (record_fifo departures) = departures.outlet.lost

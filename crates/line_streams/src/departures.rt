@@ -1,7 +1,7 @@
 //! Lines that a thread has go on.
 ghost use Rattle.std.specs.Prelude.{◌≡◌, OnOk};
 ghost use Rattle.rtrb.specs.Ring.{sent};
-ghost use Rattle.line_streams.specs.Departing.{TellsOn, TellsLost};
+ghost use Rattle.line_streams.specs.Departing.{GoesWhole, TellsOn, TellsLost};
 
 use crate::outlet::Outlet;
 use rtrb::{Consumer, RingBuffer};
@@ -98,13 +98,54 @@ impl Departures {
         Ok(())
     }
 
+    /// Has octets go on whole, or counts them as one that is lost.
+    ///
+    /// # Errors
+    ///
+    /// Where a write of the thread's failed, or it can't be waked (then the octets have gone on, or are counted, all the same).
+    pub fn put_whole(&mut self, octets: &[u8]) -> io::Result<()>
+        ensures { OnOk result (GoesWhole octets.now self.old.outlet self.new.outlet) }
+    {
+        let count = self.outlet.put_whole(octets);
+        self.put = self.put.wrapping_add(count as u64);
+        self.wake()?;
+        Ok(())
+    }
+
+    /// How many were lost since what was lost was last told.
+    pub fn lost(&self) -> u64
+        ensures { result ≡ self.now.outlet.lost }
+    {
+        self.outlet.lost
+    }
+
+    /// Waits at the end until all has gone on, a second at most.
+    ///
+    /// # Errors
+    ///
+    /// Where a write of the thread's failed.
+    pub fn settle<R: Clock>(&mut self, rt: &R) -> io::Result<()>
+        ensures { self.new.outlet.lost ≡ self.old.outlet.lost }
+    {
+        for _wait in 0..MOST_WAITS {
+            if self.are_gone() {
+                return Ok(());
+            }
+            if self.has_failed() {
+                return Err(io::Error::from(ErrorKind::BrokenPipe));
+            }
+            thread::sleep(rt, Duration::from_millis(1));
+        }
+        Ok(())
+    }
+
     /// Whether all that was put has gone on.
     pub fn are_gone(&self) -> bool {
         self.gone.load(Ordering::SeqCst) == self.put
     }
 
     /// Whether the thread has ended, which it does where a write of its own failed.
-    fn has_failed(&mut self) -> bool
+    pub fn has_failed(&mut self) -> bool
         ensures sent { sent self.new.outlet.ring ≡ sent self.old.outlet.ring }
         ensures lost { self.new.outlet.lost ≡ self.old.outlet.lost }
     {

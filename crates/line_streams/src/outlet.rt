@@ -1,7 +1,7 @@
 //! Lines that go on as far as there is room.
 ghost use Rattle.std.specs.Prelude.{◌≡◌, ◌<◌, ◌++◌, ◌+◌, length, true, false, OnOk, OnErr, IfOk, IfSome};
 ghost use Rattle.rtrb.specs.Ring.{sent, known_free};
-ghost use Rattle.line_streams.specs.Departing.{Begins, IsLossTold, IsToGo, TellsOn, TellsLost};
+ghost use Rattle.line_streams.specs.Departing.{Begins, GoesWhole, IsLossTold, IsToGo, TellsOn, TellsLost};
 
 use rtrb::Producer;
 use std::alloc::Global;
@@ -84,6 +84,19 @@ impl Outlet {
         } else {
             self.lost = more;
             Ok(0)
+        }
+    }
+
+    /// Has octets go on whole if there is room for them; else they are lost, and counted, as far as 64 bits count. How many octets go on.
+    pub fn put_whole(&mut self, octets: &[u8]) -> usize
+        ensures whole { GoesWhole octets.now self.old self.new }
+        ensures count { length (sent self.new.ring) ≡ length (sent self.old.ring) + result }
+    {
+        if self.send(octets) {
+            octets.len()
+        } else {
+            self.lost = self.lost.saturating_add(1);
+            0
         }
     }
 

@@ -1,12 +1,12 @@
 -- Messages to send, and messages handed out.
-use Rattle.std.proofs.Common.{◌≡◌, ◌≢◌, ℕ, ◌<◌, ◌==◌, Bool, true, false, cond, List, [], ◌∷◌, ◌++◌, Option, Some, None, take, drop, refl, sym, ap, ◌∙◌, subst, inl, inr}
+use Rattle.std.proofs.Common.{◌≡◌, ◌≢◌, ℕ, ◌<◌, ◌==◌, Bool, true, false, cond, List, [], ◌∷◌, ◌++◌, Option, Some, None, drop, refl, sym, ap, ◌∙◌, subst, inl, inr}
 use Rattle.std.specs.Prelude.{◌⊎◌, All, is_some, if◌then◌else◌, slice_get}
 use Rattle.std.proofs.lemmas.Bool.Decides.{eqb_tells}
 use Rattle.std.proofs.lemmas.List.{append-nil, take-append-drop}
 use Rattle.std.proofs.lemmas.List.Elements.{All-push, All-drop}
 use Rattle.plain_laws.proofs.Options.{some_none, row_passes}
 use Rattle.resend_store.specs.declared.messages.Msu.{Msu}
-use Rattle.resend_store.specs.Window.{Window, retrieved, count_known, unacknowledged}
+use Rattle.resend_store.specs.Window.{Window, unacknowledged}
 use Rattle.group_changeover.specs.declared.availability.Changing.{Changing}
 use Rattle.group_changeover.specs.declared.availability.Availability.{Availability}
 use Rattle.group_changeover.specs.Laws.{StepsKeepPlaces}
@@ -18,14 +18,14 @@ use Rattle.group_changeover.specs.declared.errors.RetrieveError.{RetrieveError}
 use Rattle.group_changeover.specs.declared.errors.RetrieveError.TheVariants as retrieve
 use Rattle.group_changeover.specs.declared.errors.AbandonError.TheVariants as abandon
 use Rattle.group_members.specs.declared.link.Link.{Link}
-use Rattle.group_members.specs.OneLink.{window, held, is_changing, put_fault, puts, known_at, unsure_by, retrieve_fault, retrieve_fault_by, retrieve_fault_in, number_of, hands_out, abandon_by, abandon_fault}
+use Rattle.group_members.specs.OneLink.{window, held, is_changing, put_fault, puts, unsure_by, retrieve_fault, retrieve_fault_by, retrieve_fault_in, accepted_in, accepted_of, lacking, hands_out, abandon_by, abandon_fault}
 use Rattle.group_members.specs.Links.{change, fault_at}
 use Rattle.group_members.specs.Failing.{handed, given_up, messages_by, none_known}
 use Rattle.group_members.specs.Moving.{retrieval_by}
 use Rattle.link_group.specs.Set.{LinkSet, send_fault, send_fault_by, change_by, sent}
 use Rattle.link_group.specs.Changing.{retrieve_fault_at, after_retrieve, messages_for, abandon_fault_at, after_abandon, unsent_at}
 use Rattle.link_group.specs.Laws.{held_by, held_at}
-use Rattle.link_group.specs.Reached.{Gone, acknowledged, unsure, messages_gone, with_retrieval_of, told_front, unacknowledged_at}
+use Rattle.link_group.specs.Reached.{Gone, acknowledged, unsure, messages_gone, with_retrieval_of, told_front, unacknowledged_at, first_of}
 use Rattle.link_group.proofs.Getting.{change_here, change_other}
 use Rattle.link_group.proofs.Fitting.{IsSmall, none_small, FitsAvailability, FitsLink, fits_there, fits_change, fits_changed}
 use Rattle.link_group.proofs.Staying.{Stays, gone_marked, at_one, leaves}
@@ -125,7 +125,7 @@ fits_given counts m ms new some fits = record {
   failed = λ e. fits.failed some;
 }
 
-small_given : (w : Window) (fsn : Option ℕ) → All IsSmall w.kept → All IsSmall (retrieved w fsn)
+small_given : (w : Window) (fsn : Option ℕ) → All IsSmall w.kept → All IsSmall (lacking w fsn)
 small_given w (Some n) small = All-drop IsSmall _ w.kept small
 small_given w None small = All-drop IsSmall w.sent w.kept small
 
@@ -133,10 +133,10 @@ given_held : (fsn : Option ℕ) (k : Link) → held (hands_out fsn k) ≡ []
 unfolding hands_out
 given_held fsn k = refl
 
-given_fits : (fsn : Option ℕ) (k : Link) (ms : List Msu) → is_some k.availability.changing ≡ true → FitsLink k ms → FitsLink (hands_out fsn k) (retrieved (window k) fsn)
+given_fits : (fsn : Option ℕ) (k : Link) (ms : List Msu) → is_some k.availability.changing ≡ true → FitsLink k ms → FitsLink (hands_out fsn k) (lacking (window k) fsn)
 unfolding hands_out
 given_fits fsn k ms some fits = record {
-  availability = fits_given (counts_of (retrieved (window k) fsn)) k.availability ms (retrieved (window k) fsn) some fits.availability;
+  availability = fits_given (counts_of (lacking (window k) fsn)) k.availability ms (lacking (window k) fsn) some fits.availability;
   small = none_small;
   small_retrieval = small_given (window k) fsn fits.small;
 }
@@ -149,11 +149,11 @@ same_link a b e = cc
 
 give_at : (laws : StepsKeepPlaces) (c : LinkSet) (retrievals : ℕ → List Msu) (accepted : List Msu) (gone more : List Gone) (l unsure : ℕ) (k : Link) (fsn : Option ℕ) (left : List Msu)
     (f : Link → Link) → Stays c retrievals accepted gone → slice_get c.links l ≡ Some k → retrieval_by k.availability.changing ≡ None → is_some k.availability.changing ≡ true
-    → left ++ retrieved (window k) fsn ≡ held k → messages_gone more ≡ messages_gone gone ++ left → f k ≡ hands_out fsn k
-    → Stays (record c { links = change c.links l f; unsure = unsure }) (with_retrieval_of retrievals l (retrieved (window k) fsn)) accepted more
+    → left ++ lacking (window k) fsn ≡ held k → messages_gone more ≡ messages_gone gone ++ left → f k ≡ hands_out fsn k
+    → Stays (record c { links = change c.links l f; unsure = unsure }) (with_retrieval_of retrievals l (lacking (window k) fsn)) accepted more
 give_at laws c retrievals accepted gone more l unsure k fsn left f stays there free some parts marked is =
     let d : LinkSet = record c { links = change c.links l f; unsure = unsure } in
-    let ms : List Msu = retrieved (window k) fsn in
+    let ms : List Msu = lacking (window k) fsn in
     let fits : FitsLink k (retrievals l) = fits_there c.links retrievals l k stays.fits there in
     let none : retrievals l ≡ [] = fits.availability.idle free in
     let empty : held_at d l ≡ [] = ap held_by (change_here f c.links l (Some k) there) ∙ ap held is ∙ given_held fsn k in
@@ -176,20 +176,20 @@ none_by n b is (inl x) e = x.1
 none_by n true is (inr x) e = let f : false ≡ true = sym x.0 ∙ is in cc
 none_by n false is (inr x) e = absurd (some_none e)
 
-told_parts : (w : Window) (n : Option ℕ) → unsure_by w.sent n ≡ None → take (count_known w n) w.kept ++ retrieved w n ≡ w.kept
-told_parts w (Some fsn) e = take-append-drop (count_known w (Some fsn)) w.kept
+told_parts : (w : Window) (n : Option ℕ) → unsure_by w.sent n ≡ None → first_of n w.kept ++ lacking w n ≡ w.kept
+told_parts w (Some n) e = take-append-drop n w.kept
 told_parts w None e = ap (λ (i : ℕ). drop i w.kept) (none_by w.sent (w.sent == 0) refl (eqb_tells w.sent 0) e)
 
 abbrev pub Told : Link → Type 0
-Told k = (retrieval_by k.availability.changing ≡ None) × (is_some k.availability.changing ≡ true) × (unsure_by (window k).sent (number_of k) ≡ None)
+Told k = (retrieval_by k.availability.changing ≡ None) × (is_some k.availability.changing ≡ true) × (unsure_by (window k).sent (accepted_of k) ≡ None)
 
 told_by : (k : Link) (o : Option Changing) → k.availability.changing ≡ o → retrieve_fault_by k o ≡ None → Told k
-unfolding retrieve_fault_in number_of
+unfolding retrieve_fault_in accepted_of
 told_by k None is e = absurd (some_none e)
 told_by k (Some c) is e =
     let first = row_passes (is_some c.retrieval) retrieve.Waiting _ e in
     let second = row_passes _ retrieve.Waiting _ first.1 in
-    (ap retrieval_by is ∙ retrieval_none c.retrieval first.0, ap is_some is, ap (λ (x : Option Changing). unsure_by (window k).sent (known_at k x)) is ∙ second.1)
+    (ap retrieval_by is ∙ retrieval_none c.retrieval first.0, ap is_some is, ap (λ (x : Option Changing). unsure_by (window k).sent (accepted_in x)) is ∙ second.1)
   where
     retrieval_none : (h : Option (List ℕ)) → is_some h ≡ false → h ≡ None
     retrieval_none None x = refl
@@ -201,13 +201,13 @@ told_of k e = told_by k k.availability.changing refl e
 
 retrieves_by : (laws : StepsKeepPlaces) (c : LinkSet) (retrievals : ℕ → List Msu) (accepted : List Msu) (gone : List Gone) (l : ℕ) (o : Option Link) → Stays c retrievals accepted gone
     → slice_get c.links l ≡ o → fault_at retrieve.NoLink retrieve_fault o ≡ None
-    → Stays (record c { links = change c.links l handed }) (with_retrieval_of retrievals l (messages_by number_of o)) accepted (gone ++ acknowledged (told_front o))
+    → Stays (record c { links = change c.links l handed }) (with_retrieval_of retrievals l (messages_by accepted_of o)) accepted (gone ++ acknowledged (told_front o))
 retrieves_by laws c retrievals accepted gone l None stays there e = absurd (some_none e)
 retrieves_by laws c retrievals accepted gone l (Some k) stays there e =
     let told : Told k = told_of k e in
-    let left : List Msu = take (count_known (window k) (number_of k)) (held k) in
-    give_at laws c retrievals accepted gone (gone ++ acknowledged left) l c.unsure k (number_of k) left handed stays there told.0 told.1
-    (told_parts (window k) (number_of k) told.2) (gone_marked false gone left) refl
+    let left : List Msu = first_of (accepted_of k) (held k) in
+    give_at laws c retrievals accepted gone (gone ++ acknowledged left) l c.unsure k (accepted_of k) left handed stays there told.0 told.1
+    (told_parts (window k) (accepted_of k) told.2) (gone_marked false gone left) refl
 
 pub stays_retrieved : (laws : StepsKeepPlaces) (c : LinkSet) (retrievals : ℕ → List Msu) (accepted : List Msu) (gone : List Gone) (l : ℕ) → Stays c retrievals accepted gone
     → retrieve_fault_at c l ≡ None

@@ -1,5 +1,5 @@
 -- Over every list of calls a set counts those of its messages that are unsure.
-use Rattle.std.proofs.Common.{◌≡◌, ◌+◌, ◌-◌, ◌^◌, ℕ, cond, List, [], ◌∷◌, ◌++◌, Option, Some, None, length, map, refl, sym, ap, ◌∙◌, arith}
+use Rattle.std.proofs.Common.{◌≡◌, ◌+◌, ◌-◌, ◌^◌, ℕ, Bool, cond, List, [], ◌∷◌, ◌++◌, Option, Some, None, length, map, refl, sym, ap, ◌∙◌, arith}
 use Rattle.std.specs.Prelude.{min, slice_get}
 use Rattle.std.specs.List.{list_any}
 use Rattle.std.proofs.lemmas.List.Sums.{sum_by-append}
@@ -12,17 +12,17 @@ use Rattle.group_members.specs.declared.link.Link.{Link}
 use Rattle.group_members.specs.Failing.{hears as heard_at, sent_by}
 use Rattle.group_members.specs.Links.{change}
 use Rattle.group_members.specs.Moving.{Diversion}
-use Rattle.group_members.specs.Doing.{asked, came_by, came_first}
+use Rattle.group_members.specs.Doing.{asked, came_by, came_first, admits_at, admits_by}
 use Rattle.group_members.specs.Ticking.{passed}
 use Rattle.link_group.specs.Set.{LinkSet, sent}
 use Rattle.link_group.specs.Changing.{is_for, after_failure, after_message, after_retrieve, after_abandon}
 use Rattle.link_group.specs.Diverting.{diverted, after_by, after_divert}
 use Rattle.link_group.specs.Placing.{placed_anew, rebalanced}
-use Rattle.link_group.specs.Lines.{seen, all_seen, ByLink, Alone}
+use Rattle.link_group.specs.Lines.{seen, all_seen, after_admission, ByLink, Alone}
 use Rattle.link_group.specs.Ticks.{with_room, after_ticks}
 use Rattle.link_group.specs.New.{new_set}
 use Rattle.link_group.specs.Laws.{unsure_in, UnsureAreCounted}
-use Rattle.link_group.specs.Reached.{Gone, acknowledged, unsure, unacknowledged_at, told_front, Reached, opens, sends, fails, hears, retrieves, abandons, diverts, rebalances, listens, speaks, gives, reports, commands, refuses, ticks, makes_room, lacks_room}
+use Rattle.link_group.specs.Reached.{Gone, acknowledged, unsure, unacknowledged_at, told_front, Reached, opens, sends, fails, hears, retrieves, abandons, diverts, rebalances, listens, speaks, gives, reports, commands, refuses, ticks, makes_room, lacks_room, admits}
 
 -- ---- messages that have left
 
@@ -91,6 +91,12 @@ all_seen_same c =
     let d : LinkSet = record c { links = map asked c.links } in
     by_test (λ (x : LinkSet). x.unsure ≡ c.unsure) (list_any came_first c.links) (placed_anew d) d (λ e. placed_same d) (λ e. refl)
 
+admitted_same : (c : LinkSet) (l : ℕ) (way : Bool) → (after_admission c l way).unsure ≡ c.unsure
+unfolding after_admission
+admitted_same c l way =
+    let d : LinkSet = record c { links = change c.links l (admits_at way) } in
+    by_test (λ (x : LinkSet). x.unsure ≡ c.unsure) (admits_by way (slice_get c.links l)) (placed_anew d) d (λ e. placed_same d) (λ e. refl)
+
 link_same : (did : Link → Link → Type 0) (l : ℕ) (c d : LinkSet) → ByLink did l c d → d.unsure ≡ c.unsure
 link_same did l c d by = ap (λ (x : LinkSet). x.unsure) by.set ∙ seen_same l (record c { links = by.links })
 
@@ -154,6 +160,7 @@ counted _ _ _ _ (refuses c d retrievals accepted gone l command refusal r did) =
 counted _ _ _ _ (ticks c retrievals accepted gone n r) = ticked_same n c ∙ counted c retrievals accepted gone r
 counted _ _ _ _ (makes_room c retrievals accepted gone r) = counted c retrievals accepted gone r
 counted _ _ _ _ (lacks_room c d retrievals accepted gone r lacks) = ap (λ (x : LinkSet). x.unsure) lacks.set ∙ counted c retrievals accepted gone r
+counted _ _ _ _ (admits c retrievals accepted gone l way r) = admitted_same c l way ∙ counted c retrievals accepted gone r
 
 pub unsure_are_counted : UnsureAreCounted
 unsure_are_counted = λ c retrievals accepted gone r. counted c retrievals accepted gone r

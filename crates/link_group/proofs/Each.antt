@@ -1,5 +1,5 @@
 -- Over every list of calls each message stands in its one place.
-use Rattle.std.proofs.Common.{◌≡◌, ℕ, Bool, true, false, List, [], Option, Some, None, refl, sym, ap, ◌∙◌, subst}
+use Rattle.std.proofs.Common.{◌≡◌, ℕ, ◌-◌, Bool, true, false, List, [], length, Option, Some, None, refl, sym, ap, ◌∙◌, subst}
 use Rattle.std.specs.Prelude.{All, if◌then◌else◌, slice_get, get_or, option_map}
 use Rattle.std.proofs.lemmas.Option.{slice_get-map, slice_get_within, get_or_from_slice_get}
 use Rattle.resend_store.specs.declared.messages.Msu.{Msu}
@@ -19,13 +19,13 @@ use Rattle.group_members.specs.New.{IsUnused, fresh}
 use Rattle.link_group.specs.New.{new_set}
 use Rattle.link_group.specs.Set.{LinkSet}
 use Rattle.link_group.specs.Laws.{held_by, EachInOnePlace}
-use Rattle.link_group.specs.Reached.{Gone, Reached, opens, sends, fails, hears, retrieves, abandons, diverts, rebalances, listens, speaks, gives, reports, commands, refuses, ticks, makes_room, lacks_room}
+use Rattle.link_group.specs.Reached.{Gone, Reached, opens, sends, fails, hears, retrieves, abandons, diverts, rebalances, listens, speaks, gives, reports, commands, refuses, ticks, makes_room, lacks_room, admits}
 use Rattle.link_group.proofs.Calling.{stays_sent, stays_retrieved, stays_abandoned}
 use Rattle.link_group.proofs.EndingLaws.{stays_diverted}
-use Rattle.link_group.proofs.Fitting.{IsSmall, none_small, FitsAt}
+use Rattle.link_group.proofs.Fitting.{IsSmall, none_small, FitsAt, fits_fewer}
 use Rattle.link_group.proofs.PlacingLaws.{stays_rebalanced}
 use Rattle.link_group.proofs.Staying.{Stays}
-use Rattle.link_group.proofs.Working.{stays_failed, stays_heard, link_works, link_keeps, alone_keeps, transceiver_tidied, stays_roomy, stays_ticked, stays_lacking}
+use Rattle.link_group.proofs.Working.{stays_failed, stays_heard, stays_admitted, link_works, link_keeps, alone_keeps, transceiver_tidied, stays_roomy, stays_ticked, stays_lacking}
 
 -- ---- a new set
 
@@ -92,7 +92,7 @@ stays_reached laws law _ _ _ _ (rebalances c retrievals accepted gone r free) = 
 stays_reached laws law _ _ _ _ (listens c d retrievals accepted gone l octets taken r did) =
     let was = did.at.was in
     link_works laws (Listened octets taken) c d retrievals accepted gone l was.took.gone (stays_reached laws law c retrievals accepted gone r) did was.took.loses.kept
-    (same_changing did.at.after.availability did.at.before.availability was.availability) (same_failed did.at.after.availability did.at.before.availability was.availability)
+    (λ ms x. rw was.availability (fits_fewer (length (held did.at.before) - length (held did.at.after)) did.at.before.availability ms x))
 stays_reached laws law _ _ _ _ (speaks c d retrievals accepted gone l units octets r did) =
     let was = did.at.was in
     link_keeps laws (Spoken units octets) c d retrievals accepted gone l (stays_reached laws law c retrievals accepted gone r) did (sym was.sends.kept)
@@ -118,6 +118,7 @@ stays_reached laws law _ _ _ _ (refuses c d retrievals accepted gone l command r
 stays_reached laws law _ _ _ _ (ticks c retrievals accepted gone n r) = stays_ticked laws law c retrievals accepted gone n (stays_reached laws law c retrievals accepted gone r)
 stays_reached laws law _ _ _ _ (makes_room c retrievals accepted gone r) = stays_roomy laws c retrievals accepted gone (stays_reached laws law c retrievals accepted gone r)
 stays_reached laws law _ _ _ _ (lacks_room c d retrievals accepted gone r lacks) = stays_lacking laws c d retrievals accepted gone (stays_reached laws law c retrievals accepted gone r) lacks
+stays_reached laws law _ _ _ _ (admits c retrievals accepted gone l way r) = stays_admitted laws c retrievals accepted gone l way (stays_reached laws law c retrievals accepted gone r)
 
 pub each_in_one_place : StepsKeepPlaces → KeptLaw → EachInOnePlace
 each_in_one_place laws law = λ c retrievals accepted gone r. (stays_reached laws law c retrievals accepted gone r).places

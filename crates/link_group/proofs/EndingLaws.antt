@@ -1,5 +1,5 @@
 -- The end of a diversion.
-use Rattle.std.proofs.Common.{◌≡◌, ◌≢◌, ℕ, ◌+◌, ◌==◌, ◌&&◌, ◌||◌, zero, suc, Bool, true, false, not, List, [], ◌∷◌, ◌++◌, Option, Some, None, length, refl, sym, ap, ◌∙◌, subst, inl, inr, arith}
+use Rattle.std.proofs.Common.{◌≡◌, ◌≢◌, ℕ, ◌+◌, ◌==◌, ◌&&◌, zero, suc, Bool, true, false, not, List, [], ◌∷◌, ◌++◌, Option, Some, None, length, refl, sym, ap, ◌∙◌, subst, inl, inr, arith}
 use Rattle.std.specs.Prelude.{◌⊎◌, is_some, if◌then◌else◌, slice_get}
 use Rattle.std.proofs.lemmas.Bool.Decides.{eqb_tells}
 use Rattle.std.proofs.lemmas.List.{append-nil, nil_from_length}
@@ -15,9 +15,9 @@ use Rattle.group_changeover.specs.Places.{standing}
 use Rattle.group_changeover.specs.Sharing.{counts_of, link_of, pick}
 use Rattle.group_changeover.specs.declared.errors.DivertFault.{DivertFault}
 use Rattle.group_members.specs.declared.link.Link.{Link}
-use Rattle.group_members.specs.OneLink.{is_serving}
+use Rattle.group_members.specs.OneLink.{shares}
 use Rattle.group_members.specs.Links.{change}
-use Rattle.group_members.specs.Moving.{retrieval_by, retrieval_of, is_open, places_from, open_links, holds_at, takes_on, Diversion, division, Diverted, moves, back_fault, back, gives_back, hands_over, ends_on, ends_at, keeps_at}
+use Rattle.group_members.specs.Moving.{retrieval_by, retrieval_of, is_so_out, is_still, is_open, places_from, open_links, own_place, way, first_some, takers, is_own, holds_at, takes_on, Diversion, division, Diverted, moves, back_fault, back, gives_back, hands_over, ends_on, ends_at, keeps_at}
 use Rattle.link_group.specs.Set.{LinkSet}
 use Rattle.link_group.specs.Diverting.{Owns, diverted, after_by, after_divert}
 use Rattle.link_group.specs.Laws.{held_by, held_at, places_of}
@@ -65,12 +65,9 @@ unfolding places_from
 places_open may n [] i t e = absurd (none_some e)
 places_open may n (k ∷ ks) i t e = found_by may n k ks (places_from may (n + 1) ks) i t (may k) refl e (λ j x. places_open may (n + 1) ks j t x)
 
-not_failed : (k : Link) → is_open false k ≡ true → k.availability.failed ≡ false
-not_failed k e = flip k.availability.failed (and_second (is_serving k) (false || not k.availability.failed) e)
-  where
-    flip : (b : Bool) → (false || not b) ≡ true → b ≡ false
-    flip true x = let f : false ≡ true = x in cc
-    flip false x = refl
+turned : (b : Bool) → not b ≡ true → b ≡ false
+turned true e = let f : false ≡ true = e in cc
+turned false e = refl
 
 unfailed : (k : Link) (ms : List Msu) → k.availability.failed ≡ false → FitsAvailability k.availability ms → is_some k.availability.changing ≡ false
 unfailed k ms e fits = by (is_some k.availability.changing) refl
@@ -79,25 +76,70 @@ unfailed k ms e fits = by (is_some k.availability.changing) refl
     by true is = let f : true ≡ false = sym (fits.failed is) ∙ e in cc
     by false is = refl
 
-open_other : (ks : List Link) (retrievals : ℕ → List Msu) (l t : ℕ) (own k : Link) → Fits ks retrievals → slice_get ks l ≡ Some own → own.availability.failed ≡ true → slice_get ks t ≡ Some k → is_open false k ≡ true
-    → IsOther l retrievals t
-open_other ks retrievals l t own k fits there failed here able =
+still_by : (b : Bool) (k : Link) (ms : List Msu) → is_still b k ≡ true → FitsAvailability k.availability ms → is_some k.availability.changing ≡ false
+still_by true k ms e fits = turned (is_some k.availability.changing) e
+still_by false k ms e fits = unfailed k ms (turned k.availability.failed e) fits
+
+-- No changeover goes on at a link that may be given something.
+still : (b outage : Bool) (k : Link) (ms : List Msu) → is_open b outage k ≡ true → FitsAvailability k.availability ms → is_some k.availability.changing ≡ false
+still b outage k ms e fits = still_by b k ms (and_second (is_so_out outage k) (is_still b k) (and_second (shares k) (is_so_out outage k && is_still b k) e)) fits
+
+open_other : (b outage : Bool) (ks : List Link) (retrievals : ℕ → List Msu) (l t : ℕ) (own k : Link) → Fits ks retrievals → slice_get ks l ≡ Some own → is_some own.availability.changing ≡ true
+    → slice_get ks t ≡ Some k → is_open b outage k ≡ true → IsOther l retrievals t
+open_other b outage ks retrievals l t own k fits there changing here able =
     let fit : FitsLink k (retrievals t) = fits_there ks retrievals t k fits here in
+    let idle : is_some k.availability.changing ≡ false = still b outage k (retrievals t) able fit.availability in
     record {
       other = λ e. let same : own ≡ k = one own k (sym there ∙ ap (slice_get ks) (sym e) ∙ here) in
-          let f : true ≡ false = sym failed ∙ ap (λ (x : Link). x.availability.failed) same ∙ not_failed k able in cc;
-      free = fit.availability.idle (no_retrieval k.availability.changing (unfailed k (retrievals t) (not_failed k able) fit.availability));
+          let f : true ≡ false = sym changing ∙ ap (λ (x : Link). is_some x.availability.changing) same ∙ idle in cc;
+      free = fit.availability.idle (no_retrieval k.availability.changing idle);
     }
   where
     one : (a b : Link) → Some a ≡ Some b → a ≡ b
     one a b e = cc
 
-others : (ks : List Link) (retrievals : ℕ → List Msu) (l : ℕ) (own : Link) → Fits ks retrievals → slice_get ks l ≡ Some own → own.availability.failed ≡ true → Others l retrievals (open_links false ks)
+others : (b outage : Bool) (ks : List Link) (retrievals : ℕ → List Msu) (l : ℕ) (own : Link) → Fits ks retrievals → slice_get ks l ≡ Some own → is_some own.availability.changing ≡ true
+    → Others l retrievals (open_links b outage ks)
 unfolding open_links
-others ks retrievals l own fits there failed = λ i t e.
-    let r = places_open (is_open false) 0 ks i t e in
+others b outage ks retrievals l own fits there changing = λ i t e.
+    let r = places_open (is_open b outage) 0 ks i t e in
     let at : t ≡ r.0 = omega (arith, r.2) in
-    open_other ks retrievals l t own r.1 fits there failed (ap (slice_get ks) at ∙ r.3) r.4
+    open_other b outage ks retrievals l t own r.1 fits there changing (ap (slice_get ks) at ∙ r.3) r.4
+
+-- others, unless the link itself stands first
+abbrev pub OthersOrOwn : ℕ → (ℕ → List Msu) → List ℕ → Type 0
+OthersOrOwn l retrievals ls = is_own l ls ≡ false → Others l retrievals ls
+
+first_others : (l : ℕ) (retrievals : ℕ → List Msu) (xs ys : List ℕ) → OthersOrOwn l retrievals xs → OthersOrOwn l retrievals ys → OthersOrOwn l retrievals (first_some xs ys)
+first_others l retrievals [] ys first second = second
+first_others l retrievals (x ∷ xs) ys first second = first
+
+itself : (l : ℕ) → ((l == l) ≡ true) × (l ≡ l) ⊎ ((l == l) ≡ false) × (l ≢ l) → (l == l) ≡ false → ⊥
+itself l (inl x) e = let f : true ≡ false = sym x.0 ∙ e in cc
+itself l (inr x) e = x.1 refl
+
+own_by_test : (l : ℕ) (retrievals : ℕ → List Msu) (b : Bool) → OthersOrOwn l retrievals (if b then l ∷ [] else [])
+own_by_test l retrievals true = λ e. absurd (itself l (eqb_tells l l) e)
+own_by_test l retrievals false = λ e i t h. absurd (none_some h)
+
+own_others : (l : ℕ) (retrievals : ℕ → List Msu) (outage : Bool) (o : Option Link) → OthersOrOwn l retrievals (own_place l outage o)
+own_others l retrievals outage None = λ e i t h. absurd (none_some h)
+own_others l retrievals outage (Some k) = own_by_test l retrievals (shares k && is_so_out outage k)
+
+way_others : (ks : List Link) (retrievals : ℕ → List Msu) (l : ℕ) (outage : Bool) (own : Link) → Fits ks retrievals → slice_get ks l ≡ Some own → is_some own.availability.changing ≡ true
+    → OthersOrOwn l retrievals (way l outage ks)
+unfolding way
+way_others ks retrievals l outage own fits there changing =
+    first_others l retrievals (open_links false outage ks) (first_some (open_links true outage ks) (own_place l outage (slice_get ks l))) (λ e. others false outage ks retrievals l own fits there changing)
+    (first_others l retrievals (open_links true outage ks) (own_place l outage (slice_get ks l)) (λ e. others true outage ks retrievals l own fits there changing)
+    (own_others l retrievals outage (slice_get ks l)))
+
+-- Where the link itself isn't the one that takes its messages others are, if any does.
+takers_others : (ks : List Link) (retrievals : ℕ → List Msu) (l : ℕ) (own : Link) → Fits ks retrievals → slice_get ks l ≡ Some own → is_some own.availability.changing ≡ true
+    → OthersOrOwn l retrievals (takers l ks)
+unfolding takers
+takers_others ks retrievals l own fits there changing =
+    first_others l retrievals (way l false ks) (way l true ks) (way_others ks retrievals l false own fits there changing) (way_others ks retrievals l true own fits there changing)
 
 -- ---- whose retrieval it is
 
@@ -108,14 +150,14 @@ out_by (Some c) counts e = (refl, λ x. none_some (sym x ∙ e))
 pub record Holder (c : LinkSet) (retrievals : ℕ → List Msu) (l : ℕ) : Type 0 where
   pub link : Link
   pub there : slice_get c.links l ≡ Some link
-  pub failed : link.availability.failed ≡ true
+  pub changing : is_some link.availability.changing ≡ true
   pub out : retrieval_by link.availability.changing ≡ None → ⊥
 
 holder_by : (c : LinkSet) (retrievals : ℕ → List Msu) (l : ℕ) (o : Option Link) (counts : List ℕ) → Fits c.links retrievals → slice_get c.links l ≡ o → retrieval_of o ≡ Some counts → Holder c retrievals l
 holder_by c retrievals l None counts fits there e = absurd (none_some e)
 holder_by c retrievals l (Some k) counts fits there e =
     let out = out_by k.availability.changing counts e in
-    record { link = k; there = there; failed = (fits_there c.links retrievals l k fits there).availability.failed out.0; out = out.1 }
+    record { link = k; there = there; changing = out.0; out = out.1 }
 
 holder : (c : LinkSet) (retrievals : ℕ → List Msu) (l : ℕ) → Fits c.links retrievals → Owns c l (retrievals l) → Holder c retrievals l
 unfolding Owns
@@ -174,8 +216,8 @@ unfolding back
 gives laws c retrievals accepted gone l d None m = back_by laws c retrievals accepted gone l d (length d.rest == 0) refl m
 gives laws c retrievals accepted gone l d (Some fault) m = record { moving = m; whole = λ e. absurd (some_none e) }
 
-shares : (c : LinkSet) (retrievals : ℕ → List Msu) (accepted : List Msu) (gone : List Gone) (l : ℕ) (w : Diverted) → Gone_on c retrievals accepted gone l w → Went c retrievals accepted gone l w
-shares c retrievals accepted gone l w on = record {
+all_shared : (c : LinkSet) (retrievals : ℕ → List Msu) (accepted : List Msu) (gone : List Gone) (l : ℕ) (w : Diverted) → Gone_on c retrievals accepted gone l w → Went c retrievals accepted gone l w
+all_shared c retrievals accepted gone l w on = record {
   moving = on.moving;
   whole = λ e. all_gone w.at.rest (rest_small c retrievals accepted gone l w.at on.moving) (on.whole e);
 }
@@ -211,7 +253,7 @@ ends : (laws : StepsKeepPlaces) (c : LinkSet) (retrievals : ℕ → List Msu) (a
     → Stays (after_by c l d None) (with_retrieval_of retrievals l []) accepted gone
 ends laws c retrievals accepted gone l d none m =
     let now : Stays (within c d) (with_retrieval_of retrievals l []) accepted gone = subst (λ (ms : List Msu). Stays (within c d) (with_retrieval_of retrievals l ms) accepted gone) none m.stays in
-    let ls : List ℕ = open_links false c.links in
+    let ls : List ℕ = takers l c.links in
     record {
       places = placed laws (within c d) (after_by c l d None) (with_retrieval_of retrievals l []) accepted gone (λ j. held_changed ends_at d.links l j (λ k. refl))
           (λ s lt. with_first _ _ (link_of d.table s) _ (link_at (λ r. ends_on ls l (slice_get d.links l) (link_of d.table r) r) s lt)
@@ -245,16 +287,16 @@ pub stays_diverted : (laws : StepsKeepPlaces) (c : LinkSet) (retrievals : ℕ �
 unfolding after_divert diverted hands_over
 stays_diverted laws c retrievals accepted gone l stays own =
     let h : Holder c retrievals l = holder c retrievals l stays.fits own in
-    let ls : List ℕ = open_links false c.links in
+    let ls : List ℕ = takers l c.links in
     let d : Diversion = division c.links c.table (retrievals l) in
     let start : Moving c retrievals accepted gone l d = record {
       stays = same_retrievals laws c retrievals (with_retrieval_of retrievals l (retrievals l)) accepted gone (λ j. own_by retrievals l j (eqb_tells j l)) stays;
       out = out_at (slice_get c.links l) h.link h.there h.out;
     } in
-    let w : Diverted = if length ls == 0 then gives_back l d (back_fault l d) else moves ls SELECTIONS 0 d in
+    let w : Diverted = if is_own l ls then gives_back l d (back_fault l d) else moves ls SELECTIONS 0 d in
     let went : Went c retrievals accepted gone l w =
-    by_test (λ (x : Diverted). Went c retrievals accepted gone l x) (length ls == 0) (gives_back l d (back_fault l d)) (moves ls SELECTIONS 0 d)
+    by_test (λ (x : Diverted). Went c retrievals accepted gone l x) (is_own l ls) (gives_back l d (back_fault l d)) (moves ls SELECTIONS 0 d)
     (λ e. gives laws c retrievals accepted gone l d (back_fault l d) start)
-    (λ e. shares c retrievals accepted gone l (moves ls SELECTIONS 0 d)
-    (moves_stay laws c retrievals accepted gone l SELECTIONS 0 ls d refl (others c.links retrievals l h.link stays.fits h.there h.failed) (λ r lt. absurd (omega (arith, lt))) start)) in
+    (λ e. all_shared c retrievals accepted gone l (moves ls SELECTIONS 0 d)
+    (moves_stay laws c retrievals accepted gone l SELECTIONS 0 ls d refl (takers_others c.links retrievals l h.link stays.fits h.there h.changing e) (λ r lt. absurd (omega (arith, lt))) start)) in
     finish laws c retrievals accepted gone l w.at w.fault went.whole went.moving

@@ -6,7 +6,7 @@ use Rattle.group_changeover.specs.declared.labels.Label.{Label}
 use Rattle.group_changeover.specs.declared.changeover.Changeover.{Changeover}
 use Rattle.group_changeover.specs.declared.changeover.Kind.{Kind}
 use Rattle.group_changeover.specs.Labels.{label_in}
-use Rattle.group_changeover.specs.Changeovers.{Says}
+use Rattle.group_changeover.specs.Changeovers.{Reads, Says}
 use Rattle.group_members.specs.declared.link.Link.{Link}
 use Rattle.link_group.specs.Set.{LinkSet}
 use Rattle.group_members.specs.Links.{read_at}
@@ -35,7 +35,7 @@ order_says octets c own peer l k says e o p =
 
 -- ---- what a message reads as
 
-pub one_reading : (octets : List ℕ) (r m : Option Changeover) → ((x : Changeover) → (r ≡ Some x) ↔ Says octets x) → IsRead octets m → m ≡ r
+pub one_reading : (octets : List ℕ) (r m : Option Changeover) → ((x : Changeover) → (r ≡ Some x) ↔ Reads octets x) → IsRead octets m → m ≡ r
 one_reading octets r (Some x) exact is = sym ((exact x).1 is)
 one_reading octets None None exact is = refl
 one_reading octets (Some x) None exact is = absurd (is x ((exact x).0 refl))

@@ -8,7 +8,7 @@ use Rattle.group_changeover.specs.declared.availability.Availability.{Availabili
 use Rattle.group_changeover.specs.declared.availability.Changing.{Changing}
 use Rattle.group_changeover.specs.declared.availability.Answer.{Answer}
 use Rattle.group_changeover.specs.Limits.{SELECTIONS}
-use Rattle.group_changeover.specs.Availability.{begun_by, changeover_begins, told_by, told_in, told, waited_in, waits}
+use Rattle.group_changeover.specs.Availability.{begun_by, changeover_begins, told_by, told_in, told, fewer_in, fewer, waited_in, waits}
 use Rattle.group_changeover.specs.Sharing.{selection_of}
 use Rattle.group_changeover.proofs.Equal.{Same, same}
 use Rattle.group_members.specs.declared.link.Link.{Link}
@@ -116,6 +116,20 @@ pub fits_told : (a : Answer) (m : Availability) (ms : List Msu) → FitsAvailabi
 fits_told a m ms fits = record {
   idle = λ e. fits.idle (sym (told_retrieval_by m.changing a) ∙ e);
   failed = λ e. fits.failed (sym (told_some m.changing a) ∙ e);
+}
+
+fewer_retrieval : (n : ℕ) (o : Option Changing) → retrieval_by (fewer_in n o) ≡ retrieval_by o
+fewer_retrieval n None = refl
+fewer_retrieval n (Some c) = refl
+
+fewer_some : (n : ℕ) (o : Option Changing) → is_some (fewer_in n o) ≡ is_some o
+fewer_some n None = refl
+fewer_some n (Some c) = refl
+
+pub fits_fewer : (n : ℕ) (m : Availability) (ms : List Msu) → FitsAvailability m ms → FitsAvailability (fewer n m) ms
+fits_fewer n m ms fits = record {
+  idle = λ e. fits.idle (sym (fewer_retrieval n m.changing) ∙ e);
+  failed = λ e. fits.failed (sym (fewer_some n m.changing) ∙ e);
 }
 
 waited_retrieval : (n : ℕ) (o : Option Changing) → retrieval_by (waited_in n o) ≡ retrieval_by o

@@ -17,7 +17,7 @@ use Rattle.group_changeover.proofs.Lists.{of-nil}
 use Rattle.group_changeover.specs.declared.errors.RebalanceError.TheVariants as rebalance
 use Rattle.group_members.specs.declared.link.Link.{Link}
 use Rattle.group_members.specs.OneLink.{held, is_changing}
-use Rattle.group_members.specs.Moving.{holds, holds_at, open_links}
+use Rattle.group_members.specs.Moving.{holds, holds_at, able_links}
 use Rattle.group_members.specs.Tables.{changing_by, changing_at, held_by_any, anew_on, stands_in_way, in_way, any_below, forgiven}
 use Rattle.link_group.specs.Set.{LinkSet}
 use Rattle.link_group.specs.Placing.{placed_anew, rebalance_fault, rebalanced}
@@ -97,7 +97,7 @@ pub stays_placed : (laws : StepsKeepPlaces) (c : LinkSet) (retrievals : ℕ → 
     → Stays (placed_anew c) retrievals accepted gone
 unfolding placed_anew
 stays_placed laws c retrievals accepted gone stays =
-    let ls : List ℕ = open_links false c.links in
+    let ls : List ℕ = able_links false c.links in
     record {
       places = placed laws c (placed_anew c) retrievals accepted gone (λ l. refl)
           (λ s lt. with_first _ _ (link_of c.table s) _ (link_at (anew_on c.links c.table ls) s lt)
@@ -154,7 +154,7 @@ pub stays_rebalanced : (laws : StepsKeepPlaces) (c : LinkSet) (retrievals : ℕ 
     → rebalance_fault c ≡ None → Stays (rebalanced c) retrievals accepted gone
 unfolding rebalance_fault rebalanced
 stays_rebalanced laws c retrievals accepted gone stays e =
-    let ls : List ℕ = open_links true c.links in
+    let ls : List ℕ = able_links true c.links in
     let first = row_passes (list_any is_changing c.links) rebalance.Waiting _ e in
     let second = row_passes (any_below (in_way c.links c.table ls) SELECTIONS) rebalance.NotEmpty None first.1 in
     let none : (l : ℕ) → retrievals l ≡ [] = all_idle c.links retrievals stays.fits first.0 in

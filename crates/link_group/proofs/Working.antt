@@ -1,6 +1,6 @@
 -- Changeovers that begin and are heard of, calls of one terminal, and ticks.
-use Rattle.std.proofs.Common.{◌≡◌, ℕ, zero, suc, Bool, true, false, List, [], ◌∷◌, ◌++◌, Option, Some, None, map, take, drop, slice_set, refl, sym, ap, ◌∙◌, subst, inl, inr}
-use Rattle.std.specs.Prelude.{◌⊎◌, if◌then◌else◌, slice_get, option_map}
+use Rattle.std.proofs.Common.{◌≡◌, ℕ, zero, suc, Bool, true, false, not, List, [], ◌∷◌, ◌++◌, Option, Some, None, map, take, drop, slice_set, refl, sym, ap, ◌∙◌, subst, inl, inr}
+use Rattle.std.specs.Prelude.{◌⊎◌, ◌&&◌, if◌then◌else◌, slice_get, option_map}
 use Rattle.std.specs.List.{list_any}
 use Rattle.plain_laws.proofs.Lists.{append-nil_right}
 use Rattle.plain_laws.proofs.Truths.{by_test}
@@ -14,19 +14,19 @@ use Rattle.link_processes.specs.Laws.{KeptLaw}
 use Rattle.link_processes.specs.Machine.{with_book, is_low, tidied}
 use Rattle.group_changeover.specs.declared.availability.Availability.{Availability}
 use Rattle.group_changeover.specs.Laws.{StepsKeepPlaces}
-use Rattle.group_changeover.specs.Availability.{changeover_begins, serves}
-use Rattle.group_changeover.specs.Saying.{answer_in}
+use Rattle.group_changeover.specs.Availability.{changeover_begins, serves, admits}
+use Rattle.group_changeover.specs.Saying.{is_late, is_order, begun_by_message, is_held_by, answer_after}
 use Rattle.group_changeover.proofs.Equal.{same}
 use Rattle.group_members.specs.declared.link.Link.{Link}
-use Rattle.group_members.specs.OneLink.{held}
+use Rattle.group_members.specs.OneLink.{held, is_serving, with_hold, hold_by}
 use Rattle.group_members.specs.Links.{set_at, change}
-use Rattle.group_members.specs.Failing.{changeover_begins_at, is_order, hears}
-use Rattle.group_members.specs.Doing.{came, came_first, asked, came_by, AtLink}
+use Rattle.group_members.specs.Failing.{changeover_begins_at, count_heard, marked, hears}
+use Rattle.group_members.specs.Doing.{came, came_first, asked, came_by, admits_at, admits_by, AtLink}
 use Rattle.group_members.specs.Ticking.{roomy, passed}
 use Rattle.link_group.specs.Set.{LinkSet}
 use Rattle.link_group.specs.Changing.{after_failure, is_for, after_message}
 use Rattle.link_group.specs.Placing.{placed_anew}
-use Rattle.link_group.specs.Lines.{seen, all_seen, ByLink, Alone}
+use Rattle.link_group.specs.Lines.{seen, all_seen, after_admission, ByLink, Alone}
 use Rattle.link_group.specs.Ticks.{with_room, after_ticks, NoRoom}
 use Rattle.link_group.specs.Laws.{held_by, held_at}
 use Rattle.link_group.specs.Reached.{Gone, acknowledged}
@@ -61,15 +61,20 @@ stays_failed laws c retrievals accepted gone l stays = one_changes laws c retrie
 
 fits_heard : (what : Kind) (k : Link) (ms : List Msu) → FitsAvailability k.availability ms → FitsAvailability (hears what k).availability ms
 fits_heard what k ms fits =
-    fits_told (answer_in what k.availability) (if is_order what then changeover_begins k.availability else k.availability) ms
-    (by_test (λ (m : Availability). FitsAvailability m ms) (is_order what) (changeover_begins k.availability) k.availability (λ e. fits_begins k.availability ms fits) (λ e. fits))
+    fits_told (answer_after k.availability (count_heard what k)) (begun_by_message what k.availability) ms
+    (by_test (λ (m : Availability). FitsAvailability m ms) (is_order what && not (is_late k.availability)) (changeover_begins k.availability) k.availability
+    (λ e. fits_begins k.availability ms fits) (λ e. fits))
+
+held_heard : (what : Kind) (k : Link) → held (hears what k) ≡ held k
+held_heard what k =
+    by_test (λ (x : Link). held x ≡ held k) (is_held_by what k.availability) (with_hold (hold_by (marked what k).changing) k) k (λ e. refl) (λ e. refl)
 
 pub stays_heard : (laws : StepsKeepPlaces) (c : LinkSet) (retrievals : ℕ → List Msu) (accepted : List Msu) (gone : List Gone) (m : Option Changeover) → Stays c retrievals accepted gone
     → Stays (after_message c m) retrievals accepted gone
 stays_heard laws c retrievals accepted gone None stays = stays
 stays_heard laws c retrievals accepted gone (Some m) stays =
     by_test (λ (x : LinkSet). Stays x retrievals accepted gone) (is_for c m) (record c { links = change c.links m.label.sls (hears m.kind) }) c
-    (λ e. one_changes laws c retrievals accepted gone m.label.sls (hears m.kind) (λ k. refl) (fits_heard m.kind) stays) (λ e. stays)
+    (λ e. one_changes laws c retrievals accepted gone m.label.sls (hears m.kind) (held_heard m.kind) (fits_heard m.kind) stays) (λ e. stays)
 
 -- ---- a link comes into service
 
@@ -91,6 +96,17 @@ stays_all_seen laws c retrievals accepted gone stays =
     let looked : Stays d retrievals accepted gone = all_change laws c retrievals accepted gone asked (λ k. refl) fits_asked stays in
     by_test (λ (x : LinkSet). Stays x retrievals accepted gone) (list_any came_first c.links) (placed_anew d) d (λ e. stays_placed laws d retrievals accepted gone looked) (λ e. looked)
 
+-- ---- level 3 admits a link
+
+pub stays_admitted : (laws : StepsKeepPlaces) (c : LinkSet) (retrievals : ℕ → List Msu) (accepted : List Msu) (gone : List Gone) (l : ℕ) (way : Bool) → Stays c retrievals accepted gone
+    → Stays (after_admission c l way) retrievals accepted gone
+unfolding after_admission
+stays_admitted laws c retrievals accepted gone l way stays =
+    let d : LinkSet = record c { links = change c.links l (admits_at way) } in
+    let said : Stays d retrievals accepted gone =
+    one_changes laws c retrievals accepted gone l (admits_at way) (λ k. refl) (λ k ms x. fits_alike k.availability (admits way (is_serving k) k.availability) ms refl refl x) stays in
+    by_test (λ (x : LinkSet). Stays x retrievals accepted gone) (admits_by way (slice_get c.links l)) (placed_anew d) d (λ e. stays_placed laws d retrievals accepted gone said) (λ e. said)
+
 -- ---- a call of one terminal
 
 changed_is : (ks : List Link) (l : ℕ) (before after : Link) → slice_get ks l ≡ Some before → slice_set ks l after ≡ change ks l (λ k. after)
@@ -105,9 +121,9 @@ order_left : (h x g left before after : List Msu) → h ≡ before → before �
 order_left h x g left before after e loses is = rw (e, loses, is) refl
 
 one_works : (laws : StepsKeepPlaces) (c : LinkSet) (retrievals : ℕ → List Msu) (accepted : List Msu) (gone : List Gone) (l : ℕ) (before after : Link) (left : List Msu) → Stays c retrievals accepted gone
-    → slice_get c.links l ≡ Some before → held before ≡ left ++ held after → after.availability.changing ≡ before.availability.changing → after.availability.failed ≡ before.availability.failed
+    → slice_get c.links l ≡ Some before → held before ≡ left ++ held after → ((ms : List Msu) → FitsAvailability before.availability ms → FitsAvailability after.availability ms)
     → Stays (record c { links = change c.links l (λ k. after) }) retrievals accepted (gone ++ acknowledged left)
-one_works laws c retrievals accepted gone l before after left stays there kept changing failed =
+one_works laws c retrievals accepted gone l before after left stays there kept alike =
     let d : LinkSet = record c { links = change c.links l (λ k. after) } in
     let here : held_at c l ≡ held before = ap held_by there in
     let now : held_at d l ≡ held after = ap held_by (change_here (λ k. after) c.links l (Some before) there) in
@@ -117,7 +133,7 @@ one_works laws c retrievals accepted gone l before after left stays there kept c
           (order_left (held_at c l) (retrievals l) (held_at d l) left (held before) (held after) here kept now)
           (apart_by (held_at c l) (retrievals l) (held_at d l) left (here ∙ kept ∙ ap (λ (x : List Msu). left ++ x) (sym now)) (stays.places.alone l))
           (λ j h. ap held_by (change_other (λ k. after) c.links l j h)) (λ j h. refl) refl;
-      fits = fits_change (λ k. after) c.links retrievals l stays.fits (λ k e x. less_fits before after (retrievals l) left kept (fits_alike before.availability after.availability (retrievals l) changing failed fits.availability) fits);
+      fits = fits_change (λ k. after) c.links retrievals l stays.fits (λ k e x. less_fits before after (retrievals l) left kept (alike (retrievals l) fits.availability) fits);
       table = stays.table;
     }
 
@@ -127,18 +143,18 @@ same_set c ks new l before after there is = ap (λ (xs : List Link). record c { 
 
 -- whatever it did, some of what it held left from the front, and no mark of a changeover changed
 pub alone_works : (laws : StepsKeepPlaces) (did : Link → Link → Type 0) (c : LinkSet) (retrievals : ℕ → List Msu) (accepted : List Msu) (gone : List Gone) (l : ℕ) (new : List Link) (left : List Msu)
-    → Stays c retrievals accepted gone → (at : AtLink did l c.links new) → held at.before ≡ left ++ held at.after → at.after.availability.changing ≡ at.before.availability.changing
-    → at.after.availability.failed ≡ at.before.availability.failed → Stays (record c { links = new }) retrievals accepted (gone ++ acknowledged left)
-alone_works laws did c retrievals accepted gone l new left stays at kept changing failed =
+    → Stays c retrievals accepted gone → (at : AtLink did l c.links new) → held at.before ≡ left ++ held at.after
+    → ((ms : List Msu) → FitsAvailability at.before.availability ms → FitsAvailability at.after.availability ms) → Stays (record c { links = new }) retrievals accepted (gone ++ acknowledged left)
+alone_works laws did c retrievals accepted gone l new left stays at kept alike =
     subst (λ (x : LinkSet). Stays x retrievals accepted (gone ++ acknowledged left)) (same_set c c.links new l at.before at.after at.there at.links)
-    (one_works laws c retrievals accepted gone l at.before at.after left stays at.there kept changing failed)
+    (one_works laws c retrievals accepted gone l at.before at.after left stays at.there kept alike)
 
 pub link_works : (laws : StepsKeepPlaces) (did : Link → Link → Type 0) (c d : LinkSet) (retrievals : ℕ → List Msu) (accepted : List Msu) (gone : List Gone) (l : ℕ) (left : List Msu)
-    → Stays c retrievals accepted gone → (by : ByLink did l c d) → held by.at.before ≡ left ++ held by.at.after → by.at.after.availability.changing ≡ by.at.before.availability.changing
-    → by.at.after.availability.failed ≡ by.at.before.availability.failed → Stays d retrievals accepted (gone ++ acknowledged left)
-link_works laws did c d retrievals accepted gone l left stays by kept changing failed =
+    → Stays c retrievals accepted gone → (by : ByLink did l c d) → held by.at.before ≡ left ++ held by.at.after
+    → ((ms : List Msu) → FitsAvailability by.at.before.availability ms → FitsAvailability by.at.after.availability ms) → Stays d retrievals accepted (gone ++ acknowledged left)
+link_works laws did c d retrievals accepted gone l left stays by kept alike =
     subst (λ (x : LinkSet). Stays x retrievals accepted (gone ++ acknowledged left)) (sym by.set)
-    (stays_seen laws (record c { links = by.links }) retrievals accepted (gone ++ acknowledged left) l (alone_works laws did c retrievals accepted gone l by.links left stays by.at kept changing failed))
+    (stays_seen laws (record c { links = by.links }) retrievals accepted (gone ++ acknowledged left) l (alone_works laws did c retrievals accepted gone l by.links left stays by.at kept alike))
 
 -- none left
 pub alone_keeps : (laws : StepsKeepPlaces) (did : Link → Link → Type 0) (c d : LinkSet) (retrievals : ℕ → List Msu) (accepted : List Msu) (gone : List Gone) (l : ℕ) → Stays c retrievals accepted gone
@@ -147,13 +163,13 @@ pub alone_keeps : (laws : StepsKeepPlaces) (did : Link → Link → Type 0) (c d
 alone_keeps laws did c d retrievals accepted gone l stays by kept changing failed =
     subst (λ (x : LinkSet). Stays x retrievals accepted gone) (sym by.set)
     (subst (λ (g : List Gone). Stays (record c { links = by.links }) retrievals accepted g) (gone_none gone)
-    (alone_works laws did c retrievals accepted gone l by.links [] stays by.at kept changing failed))
+    (alone_works laws did c retrievals accepted gone l by.links [] stays by.at kept (λ ms x. fits_alike by.at.before.availability by.at.after.availability ms changing failed x)))
 
 pub link_keeps : (laws : StepsKeepPlaces) (did : Link → Link → Type 0) (c d : LinkSet) (retrievals : ℕ → List Msu) (accepted : List Msu) (gone : List Gone) (l : ℕ) → Stays c retrievals accepted gone
     → (by : ByLink did l c d) → held by.at.before ≡ held by.at.after → by.at.after.availability.changing ≡ by.at.before.availability.changing → by.at.after.availability.failed ≡ by.at.before.availability.failed
     → Stays d retrievals accepted gone
 link_keeps laws did c d retrievals accepted gone l stays by kept changing failed =
-    subst (λ (g : List Gone). Stays d retrievals accepted g) (gone_none gone) (link_works laws did c d retrievals accepted gone l [] stays by kept changing failed)
+    subst (λ (g : List Gone). Stays d retrievals accepted g) (gone_none gone) (link_works laws did c d retrievals accepted gone l [] stays by kept (λ ms x. fits_alike by.at.before.availability by.at.after.availability ms changing failed x))
 
 -- ---- ticks
 

@@ -7,7 +7,9 @@ use Rattle.resend_store.specs.declared.messages.Msu.{Msu}
 use Rattle.group_changeover.specs.declared.changeover.Changeover.{Changeover}
 use Rattle.group_changeover.specs.declared.changeover.Kind.{Kind}
 use Rattle.group_changeover.specs.declared.changeover.Kind.TheVariants as kind
-use Rattle.group_changeover.specs.Changeovers.{Says}
+use Rattle.group_changeover.specs.declared.saying.Hearing.{Hearing}
+use Rattle.group_changeover.specs.declared.saying.Hearing.TheVariants as hearing
+use Rattle.group_changeover.specs.Changeovers.{Reads, Says}
 use Rattle.group_members.specs.declared.link.Link.{Link}
 use Rattle.group_changeover.specs.declared.errors.FailError.{FailError}
 use Rattle.group_changeover.specs.declared.errors.FailError.TheVariants as fail
@@ -15,10 +17,11 @@ use Rattle.group_changeover.specs.declared.errors.RetrieveError.{RetrieveError}
 use Rattle.group_changeover.specs.declared.errors.RetrieveError.TheVariants as retrieve
 use Rattle.group_changeover.specs.declared.errors.AbandonError.{AbandonError}
 use Rattle.group_changeover.specs.declared.errors.AbandonError.TheVariants as abandon
-use Rattle.group_members.specs.OneLink.{retrieve_fault, number_of, abandon_fault}
+use Rattle.group_members.specs.OneLink.{retrieve_fault, accepted_of, abandon_fault}
 use Rattle.link_group.specs.Set.{LinkSet}
 use Rattle.group_members.specs.Links.{change, fault_at}
 use Rattle.group_members.specs.Failing.{fail_fault_of, changeover_begins_at, order_of, hears}
+use Rattle.group_members.specs.Failing.{heard_at}
 use Rattle.group_members.specs.Failing.{replies_at, handed, messages_by, given_up, sent_by}
 use Rattle.group_members.specs.Failing.{none_known}
 
@@ -58,6 +61,12 @@ after_message c None = c
 after_message c (Some m) =
     if is_for c m then record c { links = change c.links m.label.sls (hears m.kind) } else c
 
+-- what it was
+abbrev pub hearing_of : LinkSet → Option Changeover → Hearing
+hearing_of c None = hearing.Nothing
+hearing_of c (Some m) =
+    if is_for c m then heard_at m.kind (slice_get c.links m.label.sls) else hearing.Nothing
+
 abbrev pub reply_by : LinkSet → ℕ → Option Kind → Option Changeover
 reply_by c l None = None
 reply_by c l (Some what) = Some (to_peer c l what)
@@ -70,8 +79,8 @@ reply_to c (Some m) =
 
 -- octets as the message that they are, or none
 abbrev pub IsRead : List ℕ → Option Changeover → Type 0
-IsRead octets None = (m : Changeover) → Says octets m → ⊥
-IsRead octets (Some m) = Says octets m
+IsRead octets None = (m : Changeover) → Reads octets m → ⊥
+IsRead octets (Some m) = Reads octets m
 
 abbrev pub IsReply : Option Changeover → Option (ArrayVec ℕ) → Type 0
 IsReply None None = Unit {0}
@@ -87,10 +96,10 @@ retrieve_fault_at c l = fault_at retrieve.NoLink retrieve_fault (slice_get c.lin
 unfoldable pub after_retrieve : LinkSet → ℕ → LinkSet
 after_retrieve c l = record c { links = change c.links l handed }
 
--- exactly those behind the one of which the number was told, and without one those that were never
--- sent
+-- exactly those behind the ones that the far side told of, and where it told of none those that
+-- were never sent
 unfoldable pub messages_for : LinkSet → ℕ → List Msu
-messages_for c l = messages_by number_of (slice_get c.links l)
+messages_for c l = messages_by accepted_of (slice_get c.links l)
 
 -- ---- those that were sent are given up
 

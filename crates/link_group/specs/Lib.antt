@@ -9,6 +9,7 @@ pub mod Placing
 pub mod Reached
 pub mod Reading
 pub mod Set
+pub mod Stating
 pub mod Ticks
 pub use Rattle.group_changeover.specs.Printed
 pub use Rattle.group_changeover.specs.declared as group_changeover_types

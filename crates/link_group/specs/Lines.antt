@@ -1,5 +1,5 @@
 -- What a set does by one of its terminals, and what it makes of a link that comes into service.
-use Rattle.std.specs.Prelude.{◌≡◌, ℕ, ◌≤◌, if◌then◌else◌, List, length, map, slice_get}
+use Rattle.std.specs.Prelude.{◌≡◌, ℕ, ◌≤◌, Bool, if◌then◌else◌, List, length, map, slice_get}
 use Rattle.std.specs.List.{list_any}
 use Rattle.group_members.specs.declared.link.Link.{Link}
 use Rattle.link_group.specs.Set.{LinkSet}
@@ -9,7 +9,7 @@ use Rattle.group_changeover.specs.declared.errors.CommandError.{CommandError}
 use Rattle.group_changeover.specs.declared.errors.CommandError.TheVariants as error
 use Rattle.group_members.specs.Commanding.{Barred, Refused, Lacks}
 use Rattle.link_group.specs.Placing.{placed_anew}
-use Rattle.group_members.specs.Doing.{AtLink, asked, came_first, came_by}
+use Rattle.group_members.specs.Doing.{AtLink, asked, came_first, came_by, admits_at, admits_by}
 
 -- ---- a link comes into service
 
@@ -23,6 +23,16 @@ unfoldable pub all_seen : LinkSet → LinkSet
 all_seen c =
     if list_any came_first c.links then placed_anew (record c { links = map asked c.links })
     else record c { links = map asked c.links }
+
+-- ---- level 3 admits a link
+
+-- It is admitted, or is no longer; as it is in service and admitted for the first time the table is
+-- made anew.
+unfoldable pub after_admission : LinkSet → ℕ → Bool → LinkSet
+after_admission c l way =
+    if admits_by way (slice_get c.links l)
+    then placed_anew (record c { links = change c.links l (admits_at way) })
+    else record c { links = change c.links l (admits_at way) }
 
 -- ---- a call of one terminal
 

@@ -3,7 +3,7 @@
 use Rattle.std.specs.Prelude.{◌≡◌, ℕ, ◌<◌, ◌==◌, if◌then◌else◌, Bool, true, false, List, [], ◌∷◌}
 use Rattle.std.specs.Prelude.{◌++◌, All, map, take, Option, Some, None, slice_get}
 use Rattle.resend_store.specs.declared.messages.Msu.{Msu}
-use Rattle.resend_store.specs.Window.{count_known, unacknowledged}
+use Rattle.resend_store.specs.Window.{unacknowledged}
 use Rattle.su_octets.specs.declared.units.Unit.{Unit}
 use Rattle.link_transceiver.specs.declared.signals.Report.{Report}
 use Rattle.group_changeover.specs.declared.changeover.Changeover.{Changeover}
@@ -14,7 +14,7 @@ use Rattle.link_processes.specs.declared.commands.Command.{Command}
 use Rattle.group_members.specs.Term.{Term}
 use Rattle.group_changeover.specs.declared.errors.DivertFault.{DivertFault}
 use Rattle.group_members.specs.declared.link.Link.{Link}
-use Rattle.group_members.specs.OneLink.{window, held, number_of}
+use Rattle.group_members.specs.OneLink.{window, held, accepted_of}
 use Rattle.group_members.specs.New.{IsUnused}
 use Rattle.group_members.specs.Moving.{Diverted}
 use Rattle.group_members.specs.Doing.{Listened, Spoken, Sent, Reported}
@@ -25,7 +25,7 @@ use Rattle.link_group.specs.Changing.{after_retrieve, messages_for, abandon_faul
 use Rattle.link_group.specs.Changing.{unsent_at}
 use Rattle.link_group.specs.Diverting.{Owns, diverted, after_divert}
 use Rattle.link_group.specs.Placing.{rebalance_fault, rebalanced}
-use Rattle.link_group.specs.Lines.{ByLink, Alone}
+use Rattle.link_group.specs.Lines.{ByLink, Alone, after_admission}
 use Rattle.link_group.specs.Ticks.{with_room, after_ticks, NoRoom}
 use Rattle.link_group.specs.New.{new_set}
 
@@ -47,10 +47,14 @@ messages_gone gone = map (λ g. g.message) gone
 abbrev pub with_retrieval_of : (ℕ → List Msu) → ℕ → List Msu → ℕ → List Msu
 with_retrieval_of retrievals l ms j = if j == l then ms else retrievals j
 
--- those that the far side told of, by the number by which messages are retrieved
+abbrev pub first_of : Option ℕ → List Msu → List Msu
+first_of None ms = []
+first_of (Some n) ms = take n ms
+
+-- those that the far side told of
 abbrev pub told_front : Option Link → List Msu
 told_front None = []
-told_front (Some k) = take (count_known (window k) (number_of k)) (held k)
+told_front (Some k) = first_of (accepted_of k) (held k)
 
 abbrev pub unacknowledged_at : Option Link → List Msu
 unacknowledged_at None = []
@@ -143,3 +147,8 @@ pub data Reached : LinkSet → (ℕ → List Msu) → List Msu → List Gone →
       (c d : LinkSet) (retrievals : ℕ → List Msu) (accepted : List Msu) (gone : List Gone)
       → Reached c retrievals accepted gone
       → NoRoom c d → Reached d retrievals accepted gone
+  admits :
+      (c : LinkSet) (retrievals : ℕ
+      → List Msu) (accepted : List Msu) (gone : List Gone) (l : ℕ) (way : Bool)
+      → Reached c retrievals accepted gone
+      → Reached (after_admission c l way) retrievals accepted gone

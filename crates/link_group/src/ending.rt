@@ -2,7 +2,7 @@
 ghost use Rattle.std.specs.Prelude.{◌≡◌, ◌↔◌, ◌<◌, IsTrue, All, IfErr, Some, None};
 ghost use Rattle.resend_store.specs.Messages.{IsMessage};
 ghost use Rattle.group_members.specs.OneLink.{fault_of};
-ghost use Rattle.group_members.specs.Moving.{retrieval_of, open_links};
+ghost use Rattle.group_members.specs.Moving.{retrieval_of, takers};
 ghost use Rattle.link_group.specs.Diverting.{Owns, diverted, after_divert};
 ghost use Rattle.link_group.specs.Ending.{fault_in};
 
@@ -10,7 +10,7 @@ use crate::group::Group;
 use crate::retrieved::Retrieved;
 use group_changeover::counts_of;
 use group_members::{
-    DivertFault, Msu, divert_all, end_at, end_table, keep_at, open_links, retrieval_of,
+    DivertFault, Msu, divert_all, end_at, end_table, keep_at, retrieval_of, takers,
 };
 use std::collections::VecDeque;
 
@@ -43,7 +43,7 @@ impl Group {
         ensures set { self.new ≡ after_divert self.old at messages.old.items }
         ensures whole { All IsMessage messages.new.items }
     {
-        let able = open_links(self.links.as_slice(), false);
+        let able = takers(self.links.as_slice(), at);
         match divert_all(
             self.links.as_mut_slice(),
             &mut self.table,
@@ -64,8 +64,10 @@ impl Group {
     }
 
     /// Diverts retrieved messages (Q.704, diversion of traffic): of one selection after another, from 0 up, all go in order to the link that the
-    /// selection has among the other links in service that didn't fail; `send` takes the selection's messages there from then on. Where all have
-    /// gone, the changeover ends. Where no such link is left and their own link is in service, all go back to that. It takes no memory.
+    /// selection has among the other links in service that didn't fail; `send` takes the selection's messages there from then on. Where no such
+    /// link is left they go so to those in service that failed and aren't in changeover, and where none of these is left either, all go back to
+    /// their own link, if that is in service. Where all have gone, the changeover ends: selections that are still that link's, and of which it
+    /// holds nothing, get a link among those then. It takes no memory.
     ///
     /// # Errors
     ///

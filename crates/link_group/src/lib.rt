@@ -12,11 +12,12 @@ mod reading;
 mod retrievals;
 mod retrieved;
 mod sending;
+mod state;
 mod ticks;
 
 pub use ending::DivertError;
 pub use group::{Group, Sif};
-pub use group_changeover::Label;
+pub use group_changeover::{Answer, Counts, Hearing, Label};
 pub use group_members::{
     AbandonError, CallError, Command, CommandError, DivertFault, FailError, LineError, LinkError,
     LinkStatus, Mode, Msu, RebalanceError, Report, RetrieveError, SendError, Terminal,
@@ -24,3 +25,5 @@ pub use group_members::{
 pub use laws::{each_message_stands_in_one_place, unsure_messages_are_counted};
 pub use retrievals::{Ended, Retrievals};
 pub use retrieved::Retrieved;
+pub use sending::Heard;
+pub use state::LinkState;

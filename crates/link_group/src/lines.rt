@@ -1,13 +1,13 @@
 //! What a set does by one of its terminals.
 ghost use Rattle.std.specs.Prelude.{◌≡◌, ◌↔◌, ◌≤◌, ◌<◌, length, true, slice_get, IfOk, IfErr, OnOk, OnErr, Err};
-ghost use Rattle.link_group.specs.Lines.{ByLink, seen, IsCommandError};
+ghost use Rattle.link_group.specs.Lines.{ByLink, seen, after_admission, IsCommandError};
 ghost use Rattle.group_members.specs.Doing.{Listened, Spoken, Sent, Reported, low_at};
 ghost use Rattle.group_members.specs.Commanding.{Commanded};
 
 use crate::group::Group;
 use group_members::{
-    Command, CommandError, LineError, LinkError, Report, command_at, listen_at, see_at, send_at,
-    speak_at, tell_at,
+    Command, CommandError, LineError, LinkError, Report, admit_at, command_at, listen_at, see_at,
+    send_at, speak_at, tell_at,
 };
 use su_octets::Unit;
 
@@ -20,6 +20,27 @@ impl Group {
         if see_at(self.links.as_mut_slice(), at) {
             self.place_anew();
         }
+    }
+
+    /// Level 3 admits a link to selections and to what other links hand out, or does no longer; all are admitted at first. What it has stays. As it
+    /// is in service and admitted for the first time, the table is made anew.
+    ///
+    /// # Errors
+    ///
+    /// `K1 NoLink` where it isn't there: nothing changes.
+    #[tactic(auto, unfolding(crate::specs::Lines::after_admission))]
+    pub fn admit(&mut self, link: usize, way: bool) -> Result<(), LinkError>
+        ensures ok { OnOk result (self.new ≡ after_admission self.old link way) }
+        ensures fault { (result ≡ Err LinkError.NoLink) ↔ (length self.old.links ≤ link) }
+        ensures err { OnErr result (self.new ≡ self.old) }
+    {
+        if link >= self.links.len() {
+            return Err(LinkError::NoLink);
+        }
+        if admit_at(self.links.as_mut_slice(), link, way) {
+            self.place_anew();
+        }
+        Ok(())
     }
 
     /// `Terminal::line_in` of a link.

@@ -5,7 +5,7 @@ ghost use Rattle.group_members.specs.New.{IsUnused};
 ghost use Rattle.link_group.specs.New.{new_set};
 
 use crate::group::Group;
-use group_members::{Terminal, all_fresh, open_links, table_of};
+use group_members::{Terminal, able_links, all_fresh, table_of};
 use std::alloc::Global;
 
 impl Group {
@@ -35,7 +35,7 @@ impl Group {
             Err(_) => return Err(terminals),
         };
         let links = all_fresh(terminals, links);
-        let table = table_of(open_links(links.as_slice(), false).as_slice());
+        let table = table_of(able_links(links.as_slice(), false).as_slice());
         Ok(Group {
             own,
             peer,

@@ -2,12 +2,12 @@
 ghost use Rattle.std.specs.Prelude.{◌≡◌, ◌<◌, false, OnOk, OnErr};
 ghost use Rattle.group_changeover.specs.Sharing.{selections};
 ghost use Rattle.group_members.specs.OneLink.{fault_of};
-ghost use Rattle.group_members.specs.Moving.{open_links};
+ghost use Rattle.group_members.specs.Moving.{able_links};
 ghost use Rattle.link_group.specs.Placing.{placed_anew, rebalance_fault, rebalanced};
 
 use crate::group::Group;
 use group_members::{
-    RebalanceError, any_changing, any_in_way, forgive_all, open_links, table_anew, table_of,
+    RebalanceError, able_links, any_changing, any_in_way, forgive_all, table_anew, table_of,
 };
 
 impl Group {
@@ -16,7 +16,7 @@ impl Group {
     pub(crate) fn place_anew(&mut self)
         ensures { self.new ≡ placed_anew self.old }
     {
-        let able = open_links(self.links.as_slice(), false);
+        let able = able_links(self.links.as_slice(), false);
         self.table = table_anew(self.links.as_slice(), &self.table, able.as_slice());
     }
 
@@ -34,7 +34,7 @@ impl Group {
         if any_changing(self.links.as_slice()) {
             return Err(RebalanceError::Waiting);
         }
-        let able = open_links(self.links.as_slice(), true);
+        let able = able_links(self.links.as_slice(), true);
         if any_in_way(self.links.as_slice(), &self.table, able.as_slice()) {
             return Err(RebalanceError::NotEmpty);
         }

@@ -1,7 +1,9 @@
 //! Retrieved messages.
 ghost use Rattle.std.specs.Prelude.{◌≡◌, All, length};
 ghost use Rattle.resend_store.specs.Messages.{IsMessage};
+ghost use Rattle.group_changeover.specs.Sharing.{counts_of};
 
+use group_changeover::{Counts, counts_of};
 use group_members::Msu;
 use std::collections::VecDeque;
 
@@ -18,6 +20,13 @@ impl Retrieved {
         ensures { result ≡ self.now.link }
     {
         self.link
+    }
+
+    /// How many there are of each selection.
+    pub fn counts(&self) -> Counts
+        ensures { result ≡ counts_of self.now.messages.items }
+    {
+        counts_of(&self.messages)
     }
 
     /// How many there are.

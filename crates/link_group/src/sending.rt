@@ -7,15 +7,24 @@ ghost use Rattle.group_changeover.specs.Changeovers.{Says};
 ghost use Rattle.group_changeover.specs.declared.changeover.Changeover.{Changeover as PlainChangeover};
 ghost use Rattle.group_members.specs.OneLink.{fault_of, retrieve_refusal, abandon_refusal};
 ghost use Rattle.link_group.specs.Set.{send_fault, sent};
-ghost use Rattle.link_group.specs.Changing.{fail_fault, after_failure, order_at, IsReply, IsRead, after_message, reply_to, retrieve_fault_at, after_retrieve, messages_for, abandon_fault_at, after_abandon, unsent_at};
+ghost use Rattle.link_group.specs.Changing.{fail_fault, after_failure, order_at, is_for, IsReply, IsRead, after_message, hearing_of, reply_to, retrieve_fault_at, after_retrieve, messages_for, abandon_fault_at, after_abandon, unsent_at};
 
 use crate::group::{Group, Sif, sif_of};
 use crate::retrieved::Retrieved;
-use group_changeover::{Changeover, Label, read_changeover, selection_of};
+use group_changeover::{Changeover, Hearing, Label, read_changeover, selection_of};
 use group_members::{
-    AbandonError, FailError, Msu, RetrieveError, SendError, abandon_at, fail_at, hear_at, put_at,
-    retrieve_at,
+    AbandonError, FailError, Msu, RetrieveError, SendError, abandon_at, fail_at, hear_at, heard_at,
+    put_at, retrieve_at,
 };
+
+/// What a message that came was, and the field of the answer to send.
+#[derive(Debug, Drop)]
+pub struct Heard {
+    /// What it was.
+    pub hearing: Hearing,
+    /// The answer, to an order.
+    pub reply: Option<Sif>,
+}
 
 impl Group {
     /// Takes a message to send, whose field begins with this label. It waits behind all others with the link of its selection.
@@ -54,16 +63,31 @@ impl Group {
         Ok(sif_of(self.own, self.peer, link, kind))
     }
 
+    /// Whether a message is for this point, from the other.
+    fn is_for(&self, message: Changeover) -> bool
+        ensures { result ≡ is_for self.now message }
+    {
+        message.label.dpc == self.own && message.label.opc == self.peer
+    }
+
+    /// What a message is to this set.
+    fn hearing(&self, message: Changeover) -> Hearing
+        ensures { result ≡ hearing_of self.now (Some message) }
+    {
+        if !self.is_for(message) {
+            return Hearing::Nothing;
+        }
+        let link = usize::from(message.label.sls);
+        heard_at(self.links.as_slice(), link, message.kind)
+    }
+
     /// What a message leads to.
     fn hear(&mut self, message: Changeover) -> Option<Sif>
         requires { IsLabel message.label }
         ensures set { self.new ≡ after_message self.old (Some message) }
         ensures reply { IsReply (reply_to self.old (Some message)) result }
     {
-        if message.label.dpc != self.own {
-            return None;
-        }
-        if message.label.opc != self.peer {
+        if !self.is_for(message) {
             return None;
         }
         let link = usize::from(message.label.sls);
@@ -73,20 +97,29 @@ impl Group {
         }
     }
 
-    /// Takes the field of a message that came, and gives that of the answer to send, if any. Octets that aren't just a message of changeover,
-    /// from the other point to this one and of a link that is there, change nothing and get no answer.
-    pub fn changeover_message(&mut self, sif: &[u8]) -> Option<Sif>
+    /// Takes the field of a message that came, and tells what it was, with that of the answer to send, if any. Octets that aren't just a message
+    /// of changeover, from the other point to this one and of a link that is there, change nothing and get no answer.
+    pub fn changeover_message(&mut self, sif: &[u8]) -> Heard
         ensures set { (m : Option PlainChangeover) → IsRead sif.now m → self.new ≡ after_message self.old m }
-        ensures reply { (m : Option PlainChangeover) → IsRead sif.now m → IsReply (reply_to self.old m) result }
+        ensures hearing { (m : Option PlainChangeover) → IsRead sif.now m → result.hearing ≡ hearing_of self.old m }
+        ensures reply { (m : Option PlainChangeover) → IsRead sif.now m → IsReply (reply_to self.old m) result.reply }
     {
         match read_changeover(sif) {
-            Some(message) => self.hear(message),
-            None => None,
+            Some(message) => {
+                let hearing = self.hearing(message);
+                let reply = self.hear(message);
+                Heard { hearing, reply }
+            }
+            None => Heard {
+                hearing: Hearing::Nothing,
+                reply: None,
+            },
         }
     }
 
-    /// Hands out the messages of a link in changeover that the far side may lack: those behind the one of which it told the number last, the
-    /// unacknowledged ones first, and where it told none, those that were never sent (Q.704, retrieval).
+    /// Hands out the messages of a link in changeover that the far side may lack: those behind the ones that it told that it accepted, the
+    /// unacknowledged ones first, and where it told no number, those that were never sent (Q.704, retrieval). The first number that it told
+    /// counts, for the messages of which it spoke as it was heard; one that would acknowledge more than was sent then is none.
     ///
     /// # Errors
     ///

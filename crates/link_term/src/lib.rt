@@ -12,7 +12,7 @@ mod terminal;
 pub use answers::CallError;
 pub use laws::{accepted_messages_are_delivered, cuttings_agree, unacknowledged_messages_stay};
 pub use link_processes::{Command, Names, Wanted};
-pub use link_transceiver::{LinkStatus, Report};
+pub use link_transceiver::{Hold, LineKind, LinkStatus, Report};
 pub use opening::OpenError;
 pub use resend_store::{Mode, Msu, PutError, RetrieveError};
 pub use terminal::Terminal;

@@ -2,7 +2,7 @@
 ghost use Rattle.std.specs.Prelude.{◌≡◌, ◌↔◌, ◌<◌, ◌≤◌, [], IsTrue, false, length, All, IfOk, OnOk, OnErr, IfSome, Err, slice_get};
 ghost use Rattle.std.specs.Option.{option_copied};
 ghost use Rattle.resend_store.specs.Messages.{IsMessage};
-ghost use Rattle.resend_store.specs.Window.{IsWindow, waiting, with_put, retrieved, emptied, count_by, count_known};
+ghost use Rattle.resend_store.specs.Window.{IsWindow, waiting, with_put, retrieved, emptied, count_known, last_acknowledged};
 ghost use Rattle.bit_line.specs.Deframing.{Stands};
 ghost use Rattle.bit_line.specs.Stuffers.{Gave};
 ghost use Rattle.link_transceiver.specs.TransceiverState.{first_transceiver};
@@ -14,7 +14,7 @@ ghost use Rattle.link_term.specs.Term.{term_with_transceiver};
 
 use bit_line::{Deframer, Stuffer};
 use link_processes::{Book, Names, Processes};
-use link_transceiver::{Report, Transceiver};
+use link_transceiver::{Hold, LineKind, Report, Transceiver};
 use resend_store::{Mode, Msu, PutError, RetrieveError};
 use std::alloc::{AllocError, Global};
 use std::collections::VecDeque;
@@ -141,6 +141,36 @@ impl Terminal {
         self.processes.transceiver.in_service()
     }
 
+    /// Holds the link, or holds it no more, as level 3 says (Q.704, changeover). While it is held it gives no message for the line (fill-in
+    /// units go in their place, and what is to be sent or sent once more waits), and accepts none; units are judged as ever, acknowledgements
+    /// obeyed, and status units sent.
+    pub fn hold(&mut self, hold: Hold)
+        ensures { self.new ≡ term_with_transceiver self.old (record self.old.processes.transceiver { hold = hold }) }
+    {
+        self.processes.transceiver.hold(hold);
+    }
+
+    /// Whether level 3 holds the link.
+    pub fn holding(&self) -> Hold
+        ensures { result ≡ self.now.processes.transceiver.hold }
+    {
+        self.processes.transceiver.holding()
+    }
+
+    /// What goes out, by what was last said of the line; none before that.
+    pub fn goes_out(&self) -> Option<LineKind>
+        ensures { result ≡ self.now.processes.transceiver.line }
+    {
+        self.processes.transceiver.line()
+    }
+
+    /// Whether the far side's processor is out, by what was told last; not while the link is down.
+    pub fn far_out(&self) -> bool
+        ensures { result ≡ self.now.processes.transceiver.far_out }
+    {
+        self.processes.transceiver.far_out()
+    }
+
     /// How many messages are kept to send: unacknowledged and waiting ones.
     pub fn held(&self) -> usize
         ensures value { result ≡ length self.now.processes.transceiver.sender.kept }
@@ -171,12 +201,12 @@ impl Terminal {
         self.processes.transceiver.accepted()
     }
 
-    /// Whether a number, below 128, can be that of the message that the far side accepted last: `retrieve` doesn't answer E2 to it.
-    pub fn knows(&self, fsn: u8) -> bool
-        requires { fsn < 128 }
-        ensures { IsTrue result ↔ (count_by self.now.processes.transceiver.sender fsn ≤ self.now.processes.transceiver.sender.sent) }
+    /// The forward sequence number, 0 to 127, of the message that was acknowledged last; 127 where the numbers began anew since.
+    pub fn acknowledged(&self) -> u8
+        ensures value { result ≡ last_acknowledged self.now.processes.transceiver.sender }
+        ensures within { result < 128 }
     {
-        self.processes.transceiver.knows(fsn)
+        self.processes.transceiver.acknowledged()
     }
 
     /// Whether a further message can be accepted. `line_in` takes no octet where none can: reports make room.

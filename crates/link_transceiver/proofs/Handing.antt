@@ -11,7 +11,7 @@ use Rattle.su_octets.specs.declared.units.Unit.TheVariants as unit
 use Rattle.link_transceiver.specs.declared.signals.LinkStatus.{LinkStatus}
 use Rattle.link_transceiver.specs.TransceiverState.{TransceiverState}
 use Rattle.link_transceiver.specs.Effects.{effect, directed, is_busy_named}
-use Rattle.link_transceiver.specs.Judging.{judged, by_stores, through, left_aside, Stored, stored, refused, taken, delivered, hears, is_abnormal}
+use Rattle.link_transceiver.specs.Judging.{judged, by_stores, through, left_aside, Stored, stored, refused, taken, delivered, accepts, hearing, is_abnormal}
 use Rattle.link_transceiver.specs.Going.{gone}
 use Rattle.link_transceiver.specs.Reporting.{reported, message_reported, status_reported}
 use Rattle.link_transceiver.specs.Laws.{Call, Told, Came, Went, Asked, is_accept, accepted_by, accepted_of, handed_by, after_call, after, accepted, handed, message_of, HandsOutInOrder, BusyGoesOutOnce}
@@ -37,16 +37,16 @@ stored-none : (h : TransceiverState) (head : Head) → (stored h head None).tran
 unfolding stored
 stored-none h head = elim (is_abnormal h.sender head.bsn)
     as (λ b. (if◌then◌else◌ {A = Stored} b (refused h) (taken h head None)).transceiver.messages ≡ h.messages)
-    [ true ↦ refl | false ↦ none-delivered (hears h.receiver head.fsn head.fib false).verdict h.messages ]
+    [ true ↦ refl | false ↦ none-delivered (hearing (accepts h) h.receiver head false).verdict h.messages ]
 
 stored-some : (h : TransceiverState) (head : Head) (m : Msu) → (stored h head (Some m)).transceiver.messages
-    ≡ h.messages ++ (if not (is_abnormal h.sender head.bsn) && is_accept (hears h.receiver head.fsn head.fib true).verdict then m ∷ [] else [])
+    ≡ h.messages ++ (if not (is_abnormal h.sender head.bsn) && is_accept (hearing (accepts h) h.receiver head true).verdict then m ∷ [] else [])
 unfolding stored
 stored-some h head m = elim (is_abnormal h.sender head.bsn)
     as (λ b. (if◌then◌else◌ {A = Stored} b (refused h) (taken h head (Some m))).transceiver.messages
-    ≡ h.messages ++ (if not b && is_accept (hears h.receiver head.fsn head.fib true).verdict then m ∷ [] else [])) [
+    ≡ h.messages ++ (if not b && is_accept (hearing (accepts h) h.receiver head true).verdict then m ∷ [] else [])) [
       | true ↦ sym (append-nil h.messages)
-      | false ↦ some-delivered (hears h.receiver head.fsn head.fib true).verdict m h.messages
+      | false ↦ some-delivered (hearing (accepts h) h.receiver head true).verdict m h.messages
     ]
 
 by_stores-none : (h : TransceiverState) (head : Head) → (by_stores h head None).transceiver.messages ≡ h.messages
@@ -56,11 +56,11 @@ by_stores-none h head = elim h.take
     [ true ↦ stored-none h head | false ↦ refl ]
 
 by_stores-some : (h : TransceiverState) (head : Head) (m : Msu) → (by_stores h head (Some m)).transceiver.messages
-    ≡ h.messages ++ (if h.take && not (is_abnormal h.sender head.bsn) && is_accept (hears h.receiver head.fsn head.fib true).verdict then m ∷ [] else [])
+    ≡ h.messages ++ (if h.take && not (is_abnormal h.sender head.bsn) && is_accept (hearing (accepts h) h.receiver head true).verdict then m ∷ [] else [])
 unfolding by_stores
 by_stores-some h head m = elim h.take
     as (λ b. (if b then through (stored h head (Some m)) else left_aside h).transceiver.messages
-    ≡ h.messages ++ (if b && not (is_abnormal h.sender head.bsn) && is_accept (hears h.receiver head.fsn head.fib true).verdict then m ∷ [] else []))
+    ≡ h.messages ++ (if b && not (is_abnormal h.sender head.bsn) && is_accept (hearing (accepts h) h.receiver head true).verdict then m ∷ [] else []))
     [ true ↦ stored-some h head m | false ↦ sym (append-nil h.messages) ]
 
 judged-messages : (h : TransceiverState) (u : Unit) → (judged h u).transceiver.messages ≡ h.messages ++ accepted_of h u

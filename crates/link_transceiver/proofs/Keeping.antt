@@ -11,9 +11,9 @@ use Rattle.link_transceiver.specs.declared.signals.LineKind.{LineKind}
 use Rattle.link_transceiver.specs.declared.signals.LineKind.TheVariants as kind
 use Rattle.link_transceiver.specs.declared.signals.LinkStatus.{LinkStatus}
 use Rattle.link_transceiver.specs.Limits.{BUSY_CODE}
-use Rattle.link_transceiver.specs.TransceiverState.{TransceiverState}
+use Rattle.link_transceiver.specs.TransceiverState.{TransceiverState, is_held}
 use Rattle.link_transceiver.specs.Effects.{effect, renewed, directed, told, sends, kind_named, is_busy_named}
-use Rattle.link_transceiver.specs.Going.{gone, gone_by, gives, status_gone}
+use Rattle.link_transceiver.specs.Going.{Gone, gone, gone_by, gives, status_gone, fill_in_gone, sender_gone}
 use Rattle.link_transceiver.specs.Reporting.{reported, message_reported, status_reported}
 use Rattle.link_transceiver.specs.Laws.{Loses}
 
@@ -109,11 +109,15 @@ gives-kept : (w : Window) → (gives w).left.kept ≡ w.kept
 unfolding gives
 gives-kept w = next_by-kept w.mode w
 
+message-kept : (h : TransceiverState) (b : Bool) → (if◌then◌else◌ {A = Gone} b (fill_in_gone h) (sender_gone h (gives h.sender))).transceiver.sender.kept ≡ h.sender.kept
+message-kept h true = refl
+message-kept h false = gives-kept h.sender
+
 gone_by-kept : (h : TransceiverState) (line : Option LineKind) → (gone_by h line).transceiver.sender.kept ≡ h.sender.kept
 gone_by-kept h None = refl
 gone_by-kept h (Some (kind.Status code)) = refl
 gone_by-kept h (Some kind.FillIn) = refl
-gone_by-kept h (Some kind.Messages) = gives-kept h.sender
+gone_by-kept h (Some kind.Messages) = message-kept h (is_held h.hold)
 
 pub gone-kept : (h : TransceiverState) → (gone h).transceiver.sender.kept ≡ h.sender.kept
 unfolding gone
@@ -167,11 +171,15 @@ gives-sent : (w : Window) → (gives w).left.sent ≤ w.sent + 1
 unfolding gives
 gives-sent w = next_by-sent w.mode w
 
+message-sent : (h : TransceiverState) (b : Bool) → (if◌then◌else◌ {A = Gone} b (fill_in_gone h) (sender_gone h (gives h.sender))).transceiver.sender.sent ≤ h.sender.sent + 1
+message-sent h true = no_more h.sender.sent
+message-sent h false = gives-sent h.sender
+
 gone_by-sent : (h : TransceiverState) (line : Option LineKind) → (gone_by h line).transceiver.sender.sent ≤ h.sender.sent + 1
 gone_by-sent h None = no_more h.sender.sent
 gone_by-sent h (Some (kind.Status code)) = no_more h.sender.sent
 gone_by-sent h (Some kind.FillIn) = no_more h.sender.sent
-gone_by-sent h (Some kind.Messages) = gives-sent h.sender
+gone_by-sent h (Some kind.Messages) = message-sent h (is_held h.hold)
 
 pub gone-sent : (h : TransceiverState) → (gone h).transceiver.sender.sent ≤ h.sender.sent + 1
 unfolding gone
@@ -181,11 +189,15 @@ gone-sent h = elim h.busy
 
 -- ---- what waits to be handed out
 
+message-messages : (h : TransceiverState) (b : Bool) → (if◌then◌else◌ {A = Gone} b (fill_in_gone h) (sender_gone h (gives h.sender))).transceiver.messages ≡ h.messages
+message-messages h true = refl
+message-messages h false = refl
+
 gone_by-messages : (h : TransceiverState) (line : Option LineKind) → (gone_by h line).transceiver.messages ≡ h.messages
 gone_by-messages h None = refl
 gone_by-messages h (Some (kind.Status code)) = refl
 gone_by-messages h (Some kind.FillIn) = refl
-gone_by-messages h (Some kind.Messages) = refl
+gone_by-messages h (Some kind.Messages) = message-messages h (is_held h.hold)
 
 pub gone-messages : (h : TransceiverState) → (gone h).transceiver.messages ≡ h.messages
 unfolding gone

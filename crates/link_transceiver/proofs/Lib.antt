@@ -1,5 +1,7 @@
 pub mod Acknowledging
+pub mod Aside
 pub mod Handing
+pub mod Holding
 pub mod Keeping
 pub mod Latest
 pub mod Withholding

@@ -1,5 +1,5 @@
 -- What goes out while acknowledgement is withheld.
-use Rattle.std.proofs.Common.{◌≡◌, ℕ, true, false, Option, Some, None, refl, ap}
+use Rattle.std.proofs.Common.{◌≡◌, ℕ, Bool, true, false, Option, Some, None, refl, ap}
 use Rattle.std.specs.Prelude.{if◌then◌else◌, unwrap_or}
 use Rattle.resend_store.specs.declared.messages.Msu.{Msu}
 use Rattle.resend_store.specs.Window.{Sending}
@@ -10,10 +10,10 @@ use Rattle.link_transceiver.specs.declared.signals.Backward.{Backward}
 use Rattle.link_transceiver.specs.declared.signals.LineKind.{LineKind}
 use Rattle.link_transceiver.specs.declared.signals.LineKind.TheVariants as kind
 use Rattle.link_transceiver.specs.Limits.{BUSY_CODE}
-use Rattle.link_transceiver.specs.TransceiverState.{TransceiverState}
+use Rattle.link_transceiver.specs.TransceiverState.{TransceiverState, is_held}
 use Rattle.link_transceiver.specs.Effects.{effect, backward_of}
 use Rattle.link_transceiver.specs.Judging.{judged, by_stores, through, left_aside, Stored, stored, refused, taken, is_abnormal}
-use Rattle.link_transceiver.specs.Going.{gone, gone_by, gives, head_with, idle_head, idle_fsn, filled, status_gone}
+use Rattle.link_transceiver.specs.Going.{Gone, gone, gone_by, gives, head_with, idle_head, idle_fsn, filled, status_gone, fill_in_gone, sender_gone}
 use Rattle.link_transceiver.specs.Laws.{Tells, Withholds}
 
 -- ---- units that come
@@ -38,11 +38,15 @@ judged-withheld h (unit.Lssu head status second) = refl
 
 -- ---- units that go out
 
+message-withheld : (h : TransceiverState) (b : Bool) → (if◌then◌else◌ {A = Gone} b (fill_in_gone h) (sender_gone h (gives h.sender))).transceiver.withheld ≡ h.withheld
+message-withheld h true = refl
+message-withheld h false = refl
+
 gone_by-withheld : (h : TransceiverState) (line : Option LineKind) → (gone_by h line).transceiver.withheld ≡ h.withheld
 gone_by-withheld h None = refl
 gone_by-withheld h (Some (kind.Status code)) = refl
 gone_by-withheld h (Some kind.FillIn) = refl
-gone_by-withheld h (Some kind.Messages) = refl
+gone_by-withheld h (Some kind.Messages) = message-withheld h (is_held h.hold)
 
 gone-withheld : (h : TransceiverState) → (gone h).transceiver.withheld ≡ h.withheld
 unfolding gone
@@ -72,13 +76,21 @@ filled-tells b head None h = (h.number, h.indicator)
 status-tells : (h : TransceiverState) (b : Backward) (code : ℕ) → h.withheld ≡ Some b → Tells b (status_gone h code).out
 status-tells h b code e = let k = idle-heads h b e in (k.number, k.indicator)
 
+fill_in-tells : (h : TransceiverState) (b : Backward) → h.withheld ≡ Some b → Tells b (fill_in_gone h).out
+fill_in-tells h b e = let k = idle-heads h b e in (k.number, k.indicator)
+
+message-tells : (h : TransceiverState) (b : Backward) (held : Bool) → h.withheld ≡ Some b →
+    Tells b (if◌then◌else◌ {A = Gone} held (fill_in_gone h) (sender_gone h (gives h.sender))).out
+message-tells h b true e = fill_in-tells h b e
+message-tells h b false e =
+    let s : Sending = gives h.sender in
+    filled-tells b (head_with h s.unit.fsn s.unit.fib) s.unit.msu (heads h b s.unit.fsn s.unit.fib e)
+
 gone_by-tells : (h : TransceiverState) (b : Backward) (line : Option LineKind) → h.withheld ≡ Some b → Tells b (gone_by h line).out
 gone_by-tells h b None e = tt
 gone_by-tells h b (Some (kind.Status code)) e = status-tells h b code e
-gone_by-tells h b (Some kind.FillIn) e = let k = idle-heads h b e in (k.number, k.indicator)
-gone_by-tells h b (Some kind.Messages) e =
-    let s : Sending = gives h.sender in
-    filled-tells b (head_with h s.unit.fsn s.unit.fib) s.unit.msu (heads h b s.unit.fsn s.unit.fib e)
+gone_by-tells h b (Some kind.FillIn) e = fill_in-tells h b e
+gone_by-tells h b (Some kind.Messages) e = message-tells h b (is_held h.hold) e
 
 gone-tells : (h : TransceiverState) (b : Backward) → h.withheld ≡ Some b → Tells b (gone h).out
 unfolding gone

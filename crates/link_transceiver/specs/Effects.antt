@@ -6,6 +6,8 @@ use Rattle.resend_store.specs.Intake.{Intake, first_intake}
 use Rattle.link_transceiver.specs.declared.signals.Backward.{Backward}
 use Rattle.link_transceiver.specs.declared.signals.EnvSignal.{EnvSignal}
 use Rattle.link_transceiver.specs.declared.signals.EnvSignal.TheVariants as signal
+use Rattle.link_transceiver.specs.declared.signals.Hold.{Hold}
+use Rattle.link_transceiver.specs.declared.signals.Hold.TheVariants as hold
 use Rattle.link_transceiver.specs.declared.signals.LineKind.{LineKind}
 use Rattle.link_transceiver.specs.declared.signals.LineKind.TheVariants as kind
 use Rattle.link_transceiver.specs.declared.signals.LinkStatus.{LinkStatus}
@@ -23,12 +25,19 @@ abbrev pub renewed_backward : Option Backward → Option Backward
 renewed_backward (Some b) = Some (record { bsn = 127; bib = 1 })
 renewed_backward None = None
 
+-- a link that is held until both directions begin anew is held no more
+abbrev pub renewed_hold : Hold → Hold
+renewed_hold hold.Free = hold.Free
+renewed_hold hold.UntilAnew = hold.Free
+renewed_hold hold.Kept = hold.Kept
+
 -- The link is aligned anew: both stores begin anew, and units before that tell of no fault.
 unfoldable pub renewed : TransceiverState → TransceiverState
 renewed h = record h {
   sender = refreshed h.sender;
   receiver = first_intake h.receiver.mode;
   withheld = renewed_backward h.withheld;
+  hold = renewed_hold h.hold;
   faults = no_faults;
 }
 
@@ -78,6 +87,7 @@ effect (signal.Take on) h = record h { take = on }
 effect (signal.Line number) h = directed number h
 effect (signal.Withhold on) h = withheld_by on h
 effect signal.InServiceNow h = told status.InService (record h { in_service = true; came = true })
-effect (signal.Down reason) h = told (status.Down reason) (record h { in_service = false })
-effect signal.RemoteOut h = told status.RemoteOut h
-effect signal.RemoteBack h = told status.RemoteBack h
+effect (signal.Down reason) h =
+    told (status.Down reason) (record h { in_service = false; far_out = false })
+effect signal.RemoteOut h = told status.RemoteOut (record h { far_out = true })
+effect signal.RemoteBack h = told status.RemoteBack (record h { far_out = false })

@@ -10,7 +10,7 @@ use Rattle.link_transceiver.specs.declared.signals.Backward.{Backward}
 use Rattle.link_transceiver.specs.declared.signals.LineKind.{LineKind}
 use Rattle.link_transceiver.specs.declared.signals.LineKind.TheVariants as kind
 use Rattle.link_transceiver.specs.Limits.{BUSY_CODE}
-use Rattle.link_transceiver.specs.TransceiverState.{TransceiverState}
+use Rattle.link_transceiver.specs.TransceiverState.{TransceiverState, is_held}
 use Rattle.link_transceiver.specs.Effects.{backward_of}
 use Rattle.link_transceiver.specs.Offers.{message_sent}
 
@@ -63,11 +63,17 @@ sender_gone h s = record {
   out = Some (filled (head_with h s.unit.fsn s.unit.fib) s.unit.msu);
 }
 
+-- Where messages are to go out, one does, or a fill-in unit where there is none. While level 3
+-- holds the link a fill-in unit goes in its place, with the numbers that stand, and what is to be
+-- sent, or sent once more, waits.
+abbrev pub message_gone : TransceiverState → Gone
+message_gone h = if is_held h.hold then fill_in_gone h else sender_gone h (gives h.sender)
+
 abbrev pub gone_by : TransceiverState → Option LineKind → Gone
 gone_by h None = record { transceiver = h; out = None }
 gone_by h (Some (kind.Status code)) = status_gone h code
 gone_by h (Some kind.FillIn) = fill_in_gone h
-gone_by h (Some kind.Messages) = sender_gone h (gives h.sender)
+gone_by h (Some kind.Messages) = message_gone h
 
 unfoldable pub gone : TransceiverState → Gone
 gone h = if h.busy then status_gone (record h { busy = false }) BUSY_CODE else gone_by h h.line

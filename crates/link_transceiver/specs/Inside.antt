@@ -11,10 +11,12 @@ transceiver_state_of s = record {
   withheld = s.withheld;
   line = s.line;
   busy = s.busy;
+  hold = s.hold;
   faults = s.faults;
   messages = s.messages;
   statuses = s.statuses;
   in_service = s.in_service;
+  far_out = s.far_out;
   came = s.came;
 }
 

@@ -1,8 +1,8 @@
 -- What a signal unit without errors leads to.
-use Rattle.std.specs.Prelude.{ℕ, ◌%◌, nat_lt, Bool, if◌then◌else◌, Option, Some, None, is_some}
+use Rattle.std.specs.Prelude.{ℕ, ◌%◌, nat_lt, Bool, not, if◌then◌else◌, Option, Some, None, is_some}
 use Rattle.std.specs.Prelude.{Result, Ok, Err, List, [], ◌∷◌, ◌++◌}
 use Rattle.resend_store.specs.Window.{Window, count_by, after_back}
-use Rattle.resend_store.specs.Intake.{Intake, Hearing, hear}
+use Rattle.resend_store.specs.Intake.{Intake, Hearing, hear, hear_aside}
 use Rattle.resend_store.specs.declared.messages.Msu.{Msu}
 use Rattle.resend_store.specs.declared.messages.Verdict.{Verdict}
 use Rattle.resend_store.specs.declared.messages.Verdict.TheVariants.{Accept, Discard, Nack}
@@ -15,7 +15,7 @@ use Rattle.link_transceiver.specs.declared.faults.Fault.TheVariants.{AbnormalBsn
 use Rattle.link_transceiver.specs.declared.offers.Offer.{Offer}
 use Rattle.link_transceiver.specs.declared.offers.Notice.TheVariants as notice
 use Rattle.link_transceiver.specs.Faults.{with_newest, is_failing}
-use Rattle.link_transceiver.specs.TransceiverState.{TransceiverState}
+use Rattle.link_transceiver.specs.TransceiverState.{TransceiverState, is_held}
 use Rattle.link_transceiver.specs.Offers.{to_monitors, acknowledgement_seen, two_bad, unit_seen}
 
 -- what the far side's backward number and bit make of a sender
@@ -25,6 +25,19 @@ acknowledged w bsn bib = after_back w bsn bib
 -- what a unit's forward number and bit make of a receiver
 unfoldable pub hears : Intake → ℕ → ℕ → Bool → Hearing
 hears r fsn fib has_msu = hear r fsn fib has_msu
+
+-- the same while messages are set aside
+unfoldable pub sets_aside : Intake → ℕ → Hearing
+sets_aside r fib = hear_aside r.mode r fib
+
+-- Whether messages that come are accepted: not while level 3 holds the link.
+abbrev pub accepts : TransceiverState → Bool
+accepts h = not (is_held h.hold)
+
+-- What a receiver makes of a unit, by whether messages are accepted.
+unfoldable pub hearing : Bool → Intake → Head → Bool → Hearing
+hearing accepting r head has_msu =
+    if accepting then hears r head.fsn head.fib has_msu else sets_aside r head.fib
 
 -- a number that acknowledges more than was sent
 abbrev pub is_abnormal : Window → ℕ → Bool
@@ -65,7 +78,7 @@ refused h = record { transceiver = remembered (Some AbnormalBsn) h; count = 0 }
 -- one whose backward number is taken
 abbrev pub taken : TransceiverState → Head → Option Msu → Stored
 taken h head msu = record {
-  transceiver = received (hears h.receiver head.fsn head.fib (is_some msu)) msu
+  transceiver = received (hearing (accepts h) h.receiver head (is_some msu)) msu
       (record h { sender = acknowledged h.sender head.bsn head.bib });
   count = count_by h.sender head.bsn;
 }

@@ -3,6 +3,7 @@ use Rattle.std.specs.Prelude.{◌≡◌, ℕ, pos, ◌+◌, ◌≤◌, ◌&&◌,
 use Rattle.std.specs.Prelude.{Option, Some, None, Result, Ok, Err, List, [], ◌∷◌, ◌++◌, length}
 use Rattle.std.specs.Prelude.{take}
 use Rattle.resend_store.specs.Window.{Window, unacknowledged, waiting, count_by}
+use Rattle.resend_store.specs.Intake.{Intake}
 use Rattle.resend_store.specs.declared.messages.Msu.{Msu}
 use Rattle.resend_store.specs.declared.messages.Verdict.{Verdict}
 use Rattle.resend_store.specs.declared.messages.Verdict.TheVariants.{Accept, Discard, Nack}
@@ -15,11 +16,13 @@ use Rattle.link_transceiver.specs.declared.offers.UnitOut.{UnitOut}
 use Rattle.link_transceiver.specs.declared.signals.Backward.{Backward}
 use Rattle.link_transceiver.specs.declared.signals.EnvSignal.{EnvSignal}
 use Rattle.link_transceiver.specs.declared.signals.EnvSignal.TheVariants as signal
+use Rattle.link_transceiver.specs.declared.signals.Hold.{Hold}
 use Rattle.link_transceiver.specs.declared.signals.Report.{Report}
 use Rattle.link_transceiver.specs.declared.signals.Report.TheVariants as report
-use Rattle.link_transceiver.specs.TransceiverState.{TransceiverState}
-use Rattle.link_transceiver.specs.Effects.{effect, backward_of}
-use Rattle.link_transceiver.specs.Judging.{hears, is_abnormal, judged}
+use Rattle.link_transceiver.specs.TransceiverState.{TransceiverState, is_held}
+use Rattle.link_transceiver.specs.Effects.{effect, renewed_hold, backward_of}
+use Rattle.link_transceiver.specs.Judging.{hears, sets_aside, accepts, hearing, fault_in}
+use Rattle.link_transceiver.specs.Judging.{is_abnormal, judged}
 use Rattle.link_transceiver.specs.Going.{gone}
 use Rattle.link_transceiver.specs.Reporting.{reported}
 
@@ -70,7 +73,7 @@ is_accept (Err e) = false
 abbrev pub is_accepted : TransceiverState → Head → Bool
 is_accepted h head =
     h.take && not (is_abnormal h.sender head.bsn)
-    && is_accept (hears h.receiver head.fsn head.fib true).verdict
+    && is_accept (hearing (accepts h) h.receiver head true).verdict
 
 -- the message of a unit, where it is accepted
 abbrev pub accepted_of : TransceiverState → Unit → List Msu
@@ -78,6 +81,12 @@ accepted_of h (unit.Fisu head) = []
 accepted_of h (unit.Lssu head status second) = []
 accepted_of h (unit.Msu head sio sif) =
     if is_accepted h head then record { sio = sio; sif = sif } ∷ [] else []
+
+-- the message of a unit, where it carries one
+abbrev pub message_in : Unit → List Msu
+message_in (unit.Fisu head) = []
+message_in (unit.Lssu head status second) = []
+message_in (unit.Msu head sio sif) = record { sio = sio; sif = sif } ∷ []
 
 -- what a report hands out of them
 abbrev pub message_of : Option Report → List Msu
@@ -151,3 +160,36 @@ abbrev pub BusyGoesOutOnce : Type 0
 BusyGoesOutOnce =
     (h : TransceiverState) → h.busy ≡ false
     → (gone (effect (signal.Line (pos 5)) h)).transceiver ≡ h
+
+-- no message goes out, and nobody is told of one
+abbrev pub BearsNone : Option UnitOut → Type 0
+BearsNone None = Prim.Unit {0}
+BearsNone (Some out) = (message_in out.unit ≡ []) × (out.offer ≡ None)
+
+-- whether a link is held behind a signal: only a new beginning of both directions changes that
+abbrev pub hold_after : EnvSignal → Hold → Hold
+hold_after signal.Fresh x = renewed_hold x
+hold_after _ x = x
+
+-- While level 3 holds a link no message goes out and none is accepted. What is to be sent, or sent
+-- once more, waits. What was accepted last, the bit that goes out and what is asked for stay. A
+-- unit is at fault just where it is else. Nothing ends this but what level 3 says, or a new
+-- beginning of both directions where it was held until that.
+pub record HoldsBack : Type 0 where
+  pub unit_out : (h : TransceiverState) → is_held h.hold ≡ true → BearsNone (gone h).out
+  pub sender :
+      (h : TransceiverState) → is_held h.hold ≡ true → (gone h).transceiver.sender ≡ h.sender
+  pub on_unit :
+      (h : TransceiverState) (u : Unit) → is_held h.hold ≡ true → accepted_of h u ≡ []
+  pub receiver :
+      (h : TransceiverState) (u : Unit) → is_held h.hold ≡ true
+      → (judged h u).transceiver.receiver ≡ h.receiver
+  pub faults :
+      (r : Intake) (head : Head) (has_msu : Bool)
+      → fault_in (sets_aside r head.fib).verdict
+      ≡ fault_in (hears r head.fsn head.fib has_msu).verdict
+  pub stays_in : (h : TransceiverState) (u : Unit) → (judged h u).transceiver.hold ≡ h.hold
+  pub stays_out : (h : TransceiverState) → (gone h).transceiver.hold ≡ h.hold
+  pub stays_told : (h : TransceiverState) → (reported h).transceiver.hold ≡ h.hold
+  pub on_signal :
+      (s : EnvSignal) (h : TransceiverState) → (effect s h).hold ≡ hold_after s h.hold

@@ -1,10 +1,12 @@
 -- What a signalling link terminal keeps beside its actors and its line.
-use Rattle.std.specs.Prelude.{◌<◌, Bool, false, Option, None, List, []}
+use Rattle.std.specs.Prelude.{◌<◌, Bool, true, false, not, Option, None, List, []}
 use Rattle.resend_store.specs.Window.{Window, start}
 use Rattle.resend_store.specs.Intake.{Intake, first_intake}
 use Rattle.resend_store.specs.declared.messages.Mode.{Mode}
 use Rattle.resend_store.specs.declared.messages.Msu.{Msu}
 use Rattle.link_transceiver.specs.declared.faults.Fault.{Fault}
+use Rattle.link_transceiver.specs.declared.signals.Hold.{Hold}
+use Rattle.link_transceiver.specs.declared.signals.Hold.TheVariants as hold
 use Rattle.link_transceiver.specs.declared.signals.LineKind.{LineKind}
 use Rattle.link_transceiver.specs.declared.signals.LinkStatus.{LinkStatus}
 use Rattle.link_transceiver.specs.declared.signals.Backward.{Backward}
@@ -14,6 +16,12 @@ use Rattle.link_transceiver.specs.Faults.{no_faults}
 pub record IsBackward (b : Backward) : Type 0 where
   pub number : b.bsn < 128
   pub indicator : b.bib < 2
+
+-- whether a link is held: until both its directions begin anew, or until level 3 says otherwise
+unfoldable pub is_held : Hold → Bool
+is_held hold.Free = false
+is_held hold.UntilAnew = true
+is_held hold.Kept = true
 
 pub record TransceiverState : Type 0 where
   -- the messages to send, and the numbers that they go out with
@@ -28,6 +36,8 @@ pub record TransceiverState : Type 0 where
   pub line : Option LineKind
   -- whether one unit that tells of congestion goes out first
   pub busy : Bool
+  -- whether level 3 holds the link: it gives no message for the line then, and accepts none
+  pub hold : Hold
   -- what was wrong with the last three units that went through the stores, the newest first
   pub faults : List (Option Fault)
   -- messages that were accepted and not handed out yet, the oldest first
@@ -36,6 +46,8 @@ pub record TransceiverState : Type 0 where
   pub statuses : List LinkStatus
   -- whether the link is in service, by what was told last
   pub in_service : Bool
+  -- whether the far side's processor is out, by what was told last
+  pub far_out : Bool
   -- whether it came into service since that was last asked
   pub came : Bool
 
@@ -48,9 +60,11 @@ first_transceiver mode = record {
   withheld = None;
   line = None;
   busy = false;
+  hold = hold.Free;
   faults = no_faults;
   messages = [];
   statuses = [];
   in_service = false;
+  far_out = false;
   came = false;
 }

@@ -5,7 +5,7 @@ ghost use Rattle.arrayvec.specs.ArrayVec.{array_vec_len};
 ghost use Rattle.resend_store.specs.Window.{count_by};
 ghost use Rattle.su_octets.specs.Whole.{IsWhole, IsWholeHead};
 ghost use Rattle.link_transceiver.specs.Limits.{KEPT_MESSAGES};
-ghost use Rattle.link_transceiver.specs.Judging.{acknowledged, hears, is_abnormal, fault_in, received, stored, through, by_stores, judged, acknowledgement_offers, fault_offers, of_kind};
+ghost use Rattle.link_transceiver.specs.Judging.{acknowledged, accepts, hears, sets_aside, hearing, is_abnormal, fault_in, received, stored, through, by_stores, judged, acknowledgement_offers, fault_offers, of_kind};
 ghost use Rattle.link_transceiver.specs.Offers.{to_monitors, unit_seen};
 
 use crate::faults::Fault;
@@ -27,7 +27,7 @@ impl Transceiver {
     /// abnormal backward number, or two an abnormal forward indicator; `Unit` with its kind.
     ///
     /// While units are taken (`EnvSignal::Take`) a fill-in or message signal unit first goes through the stores, and a message
-    /// that is accepted waits to be handed out.
+    /// that is accepted waits to be handed out. While level 3 holds the link a message is discarded once the unit was judged.
     #[tactic(auto, unfolding(crate::specs::Judging::judged))]
     pub fn on_unit(&mut self, unit: Unit) -> Offers
         requires whole { IsWhole unit }
@@ -119,9 +119,14 @@ impl Transceiver {
     /// The receiver's part of it.
     fn receive(&mut self, head: &Head, msu: Option<Msu>)
         requires room { length self.old.messages < KEPT_MESSAGES }
-        ensures { self.new ≡ received (hears self.old.receiver head.now.fsn head.now.fib (is_some msu)) msu self.old }
+        ensures { self.new ≡ received (hearing (accepts self.old) self.old.receiver head.now (is_some msu)) msu self.old }
     {
-        let heard = hear(&mut self.receiver, head, msu.is_some());
+        let heard = hear_by(
+            !self.hold.is_held(),
+            &mut self.receiver,
+            head,
+            msu.is_some(),
+        );
         self.faults.remember(fault_in(heard));
         if let (Ok(Verdict::Accept), Some(msu)) = (heard, msu) {
             self.messages.push(msu);
@@ -140,6 +145,33 @@ fn acknowledge(sender: &mut Sender, head: &Head) -> Result<usize, AckError>
     ensures ok { OnOk result (sender.new ≡ acknowledged sender.old head.now.bsn head.now.bib) }
 {
     sender.on_back(head.bsn, head.bib)
+}
+
+/// What the receiver makes of a unit, by whether messages are accepted.
+#[tactic(auto, unfolding(crate::specs::Judging::hearing))]
+fn hear_by(
+    accepting: bool,
+    receiver: &mut Receiver,
+    head: &Head,
+    has_msu: bool,
+) -> Result<Verdict, UnitError>
+    ensures verdict { result ≡ (hearing accepting receiver.old head.now has_msu).verdict }
+    ensures known { receiver.new ≡ (hearing accepting receiver.old head.now has_msu).known }
+{
+    if accepting {
+        hear(receiver, head, has_msu)
+    } else {
+        set_aside(receiver, head)
+    }
+}
+
+/// What the receiver makes of a unit while messages are set aside: nothing that it knows changes.
+#[tactic(auto, unfolding(crate::specs::Judging::sets_aside), using(crate::proofs::Aside::known_stays))]
+fn set_aside(receiver: &Receiver, head: &Head) -> Result<Verdict, UnitError>
+    ensures verdict { result ≡ (sets_aside receiver.now head.now.fib).verdict }
+    ensures known { receiver.now ≡ (sets_aside receiver.now head.now.fib).known }
+{
+    receiver.set_aside(head.fib)
 }
 
 /// What the receiver makes of a unit.

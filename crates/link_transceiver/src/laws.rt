@@ -1,5 +1,5 @@
 //! Laws over every list of calls.
-ghost use Rattle.link_transceiver.specs.Laws.{KeepsUnacknowledged, HandsOutInOrder, BusyGoesOutOnce, Withholds};
+ghost use Rattle.link_transceiver.specs.Laws.{KeepsUnacknowledged, HandsOutInOrder, BusyGoesOutOnce, Withholds, HoldsBack};
 
 /// Of the messages that are kept to send a unit from the far side takes away those that it acknowledges, the oldest of those that
 /// were sent. Nothing else takes any but `retrieve`, which hands out what stands behind the number that it is given or, without one,
@@ -23,4 +23,10 @@ pub fn withheld_acknowledgement_stays()
 /// A busy status that is asked for goes out once, and then what went out before.
 pub fn busy_goes_out_once()
     ensures { BusyGoesOutOnce }
+{}
+
+/// While level 3 holds a link no message goes out and none is accepted; what is to be sent and what was accepted last stay, and faults are
+/// counted as ever. That ends as level 3 says so, or, where it was held until then, as both directions begin anew.
+pub fn held_messages_stay()
+    ensures { HoldsBack }
 {}

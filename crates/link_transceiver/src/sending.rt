@@ -3,7 +3,7 @@ ghost use Rattle.std.specs.Prelude.{◌≡◌, ◌<◌, IfSome};
 ghost use Rattle.resend_store.specs.Messages.{IsMessage};
 ghost use Rattle.su_octets.specs.Whole.{IsWhole, IsWholeHead};
 ghost use Rattle.link_transceiver.specs.TransceiverState.{IsBackward};
-ghost use Rattle.link_transceiver.specs.Going.{gives, backward_out, head_with, idle_head, quiet, filled, status_gone, sender_gone, gone};
+ghost use Rattle.link_transceiver.specs.Going.{gives, backward_out, head_with, idle_head, quiet, filled, status_gone, fill_in_gone, sender_gone, message_gone, gone};
 
 use crate::offers::{Notice, Offer, Party, UnitOut};
 use crate::signals::{BUSY, Backward, LineKind};
@@ -16,7 +16,7 @@ impl Transceiver {
     ///
     /// One link status signal unit of congestion goes out first where that was asked for; then by the last other
     /// `EnvSignal::Line`: link status signal units with its code, fill-in units, or what the sender gives (Q.703, 11.1.3 and
-    /// sections 5, 6 and 9). The numbers of a unit without a message are those of a fill-in unit.
+    /// sections 5, 6 and 9), and fill-in units in place of all that while level 3 holds the link. The numbers of a unit without a message are those of a fill-in unit.
     #[tactic(auto, unfolding(crate::specs::Going::gone))]
     pub fn unit_out(&mut self) -> Option<UnitOut>
         ensures out { result ≡ (gone self.old).out }
@@ -30,8 +30,8 @@ impl Transceiver {
         match self.line {
             None => None,
             Some(LineKind::Status(code)) => Some(self.status(code)),
-            Some(LineKind::FillIn) => Some(quiet(Unit::Fisu(self.idle_head()))),
-            Some(LineKind::Messages) => Some(self.next_unit()),
+            Some(LineKind::FillIn) => Some(self.fill_in()),
+            Some(LineKind::Messages) => Some(self.message()),
         }
     }
 
@@ -41,6 +41,27 @@ impl Transceiver {
         ensures whole { IsWhole result.unit }
     {
         quiet(Unit::Lssu(self.idle_head(), code, None))
+    }
+
+    /// A fill-in unit.
+    fn fill_in(&self) -> UnitOut
+        ensures out { Some result ≡ (fill_in_gone self.now).out }
+        ensures whole { IsWhole result.unit }
+    {
+        quiet(Unit::Fisu(self.idle_head()))
+    }
+
+    /// A message, or a fill-in unit where none goes out.
+    fn message(&mut self) -> UnitOut
+        ensures out { Some result ≡ (message_gone self.old).out }
+        ensures transceiver { self.new ≡ (message_gone self.old).transceiver }
+        ensures whole { IsWhole result.unit }
+    {
+        if self.hold.is_held() {
+            self.fill_in()
+        } else {
+            self.next_unit()
+        }
     }
 
     /// The head of a unit that the sender has no part in.

@@ -1,4 +1,7 @@
 //! What the actors of a link tell its environment, and what the environment hands on.
+ghost use Rattle.std.specs.Prelude.{◌≡◌};
+ghost use Rattle.link_transceiver.specs.Effects.{renewed_hold};
+ghost use Rattle.link_transceiver.specs.TransceiverState.{is_held};
 
 use resend_store::Msu;
 
@@ -43,6 +46,18 @@ pub struct Backward {
     pub bib: u8,
 }
 
+/// Whether level 3 holds a link. A held one gives no message for the line, and accepts none; units are judged as ever, and acknowledgements
+/// obeyed.
+#[derive(Clone, Copy, Debug, PartialEq, Eq)]
+pub enum Hold {
+    /// It isn't held.
+    Free,
+    /// It is held until both its directions begin anew (`EnvSignal::Fresh`).
+    UntilAnew,
+    /// It is held, also behind a new beginning, until level 3 says otherwise.
+    Kept,
+}
+
 /// What goes out on the line, one unit after another.
 #[derive(Clone, Copy, Debug, PartialEq, Eq)]
 pub enum LineKind {
@@ -74,4 +89,27 @@ pub enum Report {
     Message(Msu),
     /// What became of the link.
     Status(LinkStatus),
+}
+
+impl Hold {
+    /// Whether a link is held so.
+    #[tactic(auto, unfolding(crate::specs::TransceiverState::is_held))]
+    pub fn is_held(self) -> bool
+        ensures { result ≡ is_held self }
+    {
+        match self {
+            Hold::Free => false,
+            Hold::UntilAnew | Hold::Kept => true,
+        }
+    }
+
+    /// What is left of it as both directions begin anew.
+    pub(crate) fn renewed(self) -> Hold
+        ensures { result ≡ renewed_hold self }
+    {
+        match self {
+            Hold::Free | Hold::UntilAnew => Hold::Free,
+            Hold::Kept => Hold::Kept,
+        }
+    }
 }

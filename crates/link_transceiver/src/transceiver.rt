@@ -3,7 +3,7 @@ ghost use Rattle.std.specs.Prelude.{◌≡◌, ◌<◌, ◌≤◌, ◌↔◌, �
 ghost use Rattle.std.specs.Option.{option_copied};
 ghost use Rattle.resend_store.specs.Limits.{MOST_WAITING, MOST_KEPT};
 ghost use Rattle.resend_store.specs.Messages.{IsMessage};
-ghost use Rattle.resend_store.specs.Window.{IsWindow, waiting, with_put, retrieved, emptied, count_by, count_known};
+ghost use Rattle.resend_store.specs.Window.{IsWindow, waiting, with_put, retrieved, emptied, count_known, last_acknowledged};
 ghost use Rattle.link_transceiver.specs.Effects.{effect, backward_of, renewed, directed, kind_named, kind_by, is_busy_named, withheld_by, told, latest};
 ghost use Rattle.link_transceiver.specs.TransceiverState.{IsBackward, first_transceiver};
 ghost use Rattle.link_transceiver.specs.Limits.{KEPT_MESSAGES};
@@ -11,7 +11,9 @@ ghost use Rattle.link_transceiver.specs.Reporting.{reported};
 
 use crate::faults::LastThree;
 use crate::kept::KeptQueue;
-use crate::signals::{BUSY, Backward, EnvSignal, LineKind, LinkStatus, MESSAGES, Report, STATUSES};
+use crate::signals::{
+    BUSY, Backward, EnvSignal, Hold, LineKind, LinkStatus, MESSAGES, Report, STATUSES,
+};
 use resend_store::{Mode, Msu, PutError, Receiver, RetrieveError, Sender};
 use std::alloc::{AllocError, Global};
 use std::collections::VecDeque;
@@ -30,10 +32,12 @@ pub struct Transceiver {
     pub(crate) line: Option<LineKind>,
     /// Whether one unit of status 'busy' goes out first.
     pub(crate) busy: bool,
+    pub(crate) hold: Hold,
     pub(crate) faults: LastThree,
     pub(crate) messages: KeptQueue<Msu, MESSAGES>,
     statuses: KeptQueue<LinkStatus, STATUSES>,
     in_service: bool,
+    far_out: bool,
     /// Whether it came into service since that was last asked.
     came: bool,
 }
@@ -66,10 +70,12 @@ impl Transceiver {
             withheld: None,
             line: None,
             busy: false,
+            hold: Hold::Free,
             faults: LastThree::new(),
             messages,
             statuses,
             in_service: false,
+            far_out: false,
             came: false,
         })
     }
@@ -91,10 +97,17 @@ impl Transceiver {
             }
             EnvSignal::Down(reason) => {
                 self.in_service = false;
+                self.far_out = false;
                 self.tell(LinkStatus::Down(reason));
             }
-            EnvSignal::RemoteOut => self.tell(LinkStatus::RemoteOut),
-            EnvSignal::RemoteBack => self.tell(LinkStatus::RemoteBack),
+            EnvSignal::RemoteOut => {
+                self.far_out = true;
+                self.tell(LinkStatus::RemoteOut);
+            }
+            EnvSignal::RemoteBack => {
+                self.far_out = false;
+                self.tell(LinkStatus::RemoteBack);
+            }
         }
     }
 
@@ -167,15 +180,14 @@ impl Transceiver {
         self.receiver.bsn()
     }
 
-    /// Whether a number, below 128, acknowledges no more than is sent.
-    pub fn knows(&self, fsn: u8) -> bool
-        requires { fsn < 128 }
-        ensures { IsTrue result ↔ (count_by self.now.sender fsn ≤ self.now.sender.sent) }
+    /// The forward sequence number, 0 to 127, of the message that was acknowledged last; 127 where the numbers began anew since.
+    pub fn acknowledged(&self) -> u8
+        ensures value { result ≡ last_acknowledged self.now.sender }
+        ensures within { result < 128 }
     {
         let _window = self.sender.held();
         let sent = self.sender.sent();
-        let acknowledged = (usize::from(self.sender.fsn()) + 128 - sent) % 128;
-        (usize::from(fsn) + 128 - acknowledged) % 128 <= sent
+        ((usize::from(self.sender.fsn()) + 128 - sent) % 128) as u8
     }
 
     /// Whether a further message that is accepted can be kept.
@@ -215,6 +227,34 @@ impl Transceiver {
         came
     }
 
+    /// Whether the far side's processor is out, by what was told last; not while the link is down.
+    pub fn far_out(&self) -> bool
+        ensures { result ≡ self.now.far_out }
+    {
+        self.far_out
+    }
+
+    /// What goes out, by what was last said of the line; none before that.
+    pub fn line(&self) -> Option<LineKind>
+        ensures { result ≡ self.now.line }
+    {
+        self.line
+    }
+
+    /// Holds the link, or holds it no more, as level 3 says (Q.704, changeover). A message that is under way ends.
+    pub fn hold(&mut self, hold: Hold)
+        ensures { self.new ≡ record self.old { hold = hold } }
+    {
+        self.hold = hold;
+    }
+
+    /// Whether level 3 holds the link.
+    pub fn holding(&self) -> Hold
+        ensures { result ≡ self.now.hold }
+    {
+        self.hold
+    }
+
     /// Both stores begin anew.
     #[tactic(auto, unfolding(crate::specs::Effects::renewed))]
     fn renew(&mut self)
@@ -223,6 +263,7 @@ impl Transceiver {
         self.sender.fresh();
         self.receiver.fresh();
         self.faults = LastThree::new();
+        self.hold = self.hold.renewed();
         if self.withheld.is_some() {
             self.withheld = Some(self.backward());
         }

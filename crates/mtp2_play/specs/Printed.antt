@@ -1,6 +1,6 @@
 -- What each command prints, by the exit status that it gives. Of a text that isn't the program's
 -- own it is said of some bytes, since none are known of a file or of standard input.
-use Rattle.std.specs.Prelude.{◌≡◌, ◌≢◌, ◌⊎◌, ◌≤◌, ℕ, List, Option, None}
+use Rattle.std.specs.Prelude.{◌≡◌, ◌≢◌, ◌⊎◌, ◌≤◌, ℕ, List, [], ◌∷◌, Option, None}
 use Rattle.clap.specs.declared.error.kind.ErrorKind.{ErrorKind}
 use Rattle.clap.specs.declared.error.kind.ErrorKind.TheVariants.{DisplayHelp, DisplayVersion}
 use Rattle.plain_limits.specs.Limits.{LEAST_WORKERS, MOST_WORKERS}
@@ -16,6 +16,7 @@ use Rattle.mtp2_play.specs.Sets.{own_text_of}
 use Rattle.mtp2_words.specs.declared.words.Named.{Named}
 use Rattle.mtp2_words.specs.declared.words.Request.{Request}
 use Rattle.mtp2_words.specs.declared.words.Request.TheVariants.{Check, Play, Soak, Line, Frame}
+use Rattle.mtp2_words.specs.declared.words.Request.TheVariants.{Draw}
 
 -- the exit statuses: done, an expectation failed or something differs, refused, usage, failed
 abbrev pub IsStatus : ℕ → Type 0
@@ -33,6 +34,12 @@ IsDone status = (status ≡ 0) ⊎ (status ≡ 2) ⊎ (status ≡ 4)
 pub record IsChecked (set : Named) (status : ℕ) (old new : Option (List ℕ)) : Type 0 where
   pub costs : status ≡ 0 → IsGiven (own_text_of set) (PrintsCosts old new)
   pub refusal : status ≡ 2 → IsGiven (own_text_of set) (PrintsRefusal old new)
+  pub ends : IsDone status
+
+-- What it prints of the sets that are named: of one alone its costs, or why it is refused. Of
+-- several the status alone is said.
+pub record AreCheckedAll (sets : List Named) (status : ℕ) (old new : Option (List ℕ)) : Type 0 where
+  pub one : (set : Named) → sets ≡ set ∷ [] → IsChecked set status old new
   pub ends : IsDone status
 
 -- what `play` prints of a script on a set: what came of its commands, of those before one whose
@@ -70,8 +77,10 @@ pub record IsSpoken (known : Option (List ℕ)) (end : LineEnd) (status : ℕ) (
 -- what a request has printed, and with which exit status; only `line` reads what is handed to it
 -- here
 abbrev pub IsAnswered : Request → ℕ → Octets → Octets → Type 0
-IsAnswered (Check set) status old new = IsChecked set status old.written new.written
+IsAnswered (Check sets) status old new =
+    AreCheckedAll sets.items status old.written new.written
 IsAnswered (Play set script) status old new = IsPlayedOn set status old.written new.written
 IsAnswered (Soak script workers) status old new = IsServed workers status old.written new.written
 IsAnswered (Line set end) status old new = IsSpoken (own_text_of set) end status old new
 IsAnswered (Frame octets) status old new = IsFramed octets.now status old.written new.written
+IsAnswered (Draw set process states) status old new = IsDone status

@@ -17,6 +17,12 @@ pub record IsTold (kind : ErrorKind) (status : ℕ) : Type 0 where
   pub usage : status ≡ 3 → IsFault kind × (kind ≢ OutOfMemory)
   pub ends : (status ≡ 0) ⊎ (status ≡ 3) ⊎ (status ≡ 4)
 
+-- a request was run, from what was there to read and was written, to what is
+pub record WasAnswered (request : Request) (status : ℕ) : Type 0 where
+  pub old : Octets
+  pub new : Octets
+  pub answered : IsAnswered request status old new
+
 -- They have no fault, and what they ask for is run, from what was there to read and was written, to
 -- what is; or they are turned down.
 pub data ComesTo (words : List Text) (status : ℕ) : Type 0 where

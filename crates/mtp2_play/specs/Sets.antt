@@ -1,5 +1,5 @@
 -- The sets of the program's own, by the words that name them.
-use Rattle.std.specs.Prelude.{ℕ, List, Option, Some, None}
+use Rattle.std.specs.Prelude.{ℕ, List, Option, Some, None, codes}
 use Rattle.script_check.specs.mtp2_text_types.standard_text.TheConstants.{STANDARD}
 use Rattle.script_check.specs.mtp2_text_types.monitors_text.TheConstants.{MONITORS}
 use Rattle.script_check.specs.declared.sets.SetWord.{SetWord}
@@ -21,3 +21,10 @@ own_text_of Standard = Some STANDARD.now
 own_text_of Monitors = Some MONITORS.now
 own_text_of Stdin = None
 own_text_of (File path) = None
+
+-- the word that names a set
+abbrev pub word_text : Named → List ℕ
+word_text Standard = codes "standard"
+word_text Monitors = codes "monitors"
+word_text Stdin = codes "stdin"
+word_text (File path) = path.now

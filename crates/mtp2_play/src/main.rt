@@ -5,21 +5,29 @@
 ghost use Rattle.std.specs.Prelude.{◌≡◌, ◌≢◌, ◌⊎◌, None, IfOk, map, string_bytes};
 ghost use Rattle.clap.specs.Words.{kind_of};
 ghost use Rattle.clap.specs.declared.error.kind.ErrorKind.TheVariants.{OutOfMemory};
-ghost use Rattle.script_check.specs.Checked.{given, IsGiven, PrintsCosts, PrintsRefusal};
+ghost use Rattle.script_check.specs.Checked.{given};
 ghost use Rattle.script_play.specs.Played.{IsOnSet, IsPlayed, IsPlayedInPart, IsRefused};
-ghost use Rattle.mtp2_play.specs.Printed.{IsAnswered, IsChecked, IsFault, IsPlayedOn, IsServed, IsStatus};
-ghost use Rattle.mtp2_play.specs.Served.{ComesTo};
+ghost use Rattle.mtp2_play.specs.Printed.{IsAnswered, IsFault, IsPlayedOn, IsServed, IsStatus};
+ghost use Rattle.mtp2_play.specs.Served.{ComesTo, WasAnswered};
 
+mod captures;
+mod checks;
 mod lines;
+mod pictures;
 mod sets;
 
+use crate::captures::{capture_of, end_capture};
+use crate::checks::run_checks;
 use crate::lines::run_line;
-use crate::sets::own_set;
+use crate::pictures::{picture_of, run_draw};
+use crate::sets::{STDIN, own_set, set_word};
+use line_capture::{Plan, tap};
+use line_streams::open_records;
 use mtp2_frame::frame;
 use mtp2_words::{Error, ErrorKind, Named, Request, Source, read};
 use plain_text::{NamedReader, Teller};
 use pool_soak::soak;
-use script_check::{FAILED, HELD, SetWord, USAGE, check};
+use script_check::{FAILED, HELD, SetWord, USAGE};
 use script_play::play;
 use std::alloc::Global;
 use std::fs::File;
@@ -31,11 +39,12 @@ use std::thread::Threads;
 use std::time::Clock;
 use std::{env, fs};
 
-/// What standard input is called where a read of it fails.
-const STDIN: &str = "standard input";
+/// What stands in the place of a standard stream that is closed: a folder, of which each read and each write fails.
+const CLOSED: &str = "/";
 
 /// Runs one command, and gives the exit status. What it prints goes to the writer; the octets of a line come from the reader. A file that can't be
 /// opened or read is told by its name.
+#[tactic(auto, using(crate::proofs::InTurn::of_same))]
 fn run<
     R: Runtime + AllocGlobal + Threads + Wait + Sync,
     H: Files<File = File> + Threads + Eprint + Clock + AllocGlobal,
@@ -55,55 +64,16 @@ fn run<
     ensures status { (result ≡ 0) ⊎ (result ≡ 1) ⊎ (result ≡ 2) ⊎ (result ≡ 4) }
 {
     match request {
-        Request::Check { set } => run_check(rt, teller, *set, writer),
+        Request::Check { sets } => run_checks(rt, teller, sets, writer),
         Request::Play { set, script } => run_play(rt, teller, *set, *script, writer),
         Request::Soak { script, workers } => run_soak(rt, teller, *script, *workers, writer),
         Request::Line { set, end } => run_line(host, teller, set, end, reader, writer),
         Request::Frame { octets } => frame(rt.alloc(), octets, writer),
-    }
-}
-
-/// Runs `check` on a set of the program's own.
-fn check_own<W: Write>(alloc: Global, set: &Named<'_>, writer: &mut W) -> u8
-    ensures printed { IsChecked set.now result (W.contents writer.old) (W.contents writer.new) }
-    ensures status { (result ≡ 0) ⊎ (result ≡ 2) ⊎ (result ≡ 4) }
-{
-    match own_set(set) {
-        Some(own) => check(alloc, own, writer),
-        None => FAILED,
-    }
-}
-
-/// Runs `check` on a text that comes from a reader.
-#[tactic(auto, using(crate::proofs::Known::costs, crate::proofs::Known::refusal))]
-fn check_text<S: Read + Drop, W: Write>(alloc: Global, text: S, writer: &mut W) -> u8
-    ensures costs { result ≡ 0 → IsGiven None (PrintsCosts (W.contents writer.old) (W.contents writer.new)) }
-    ensures refusal { result ≡ 2 → IsGiven None (PrintsRefusal (W.contents writer.old) (W.contents writer.new)) }
-    ensures status { (result ≡ 0) ⊎ (result ≡ 2) ⊎ (result ≡ 4) }
-{
-    check(alloc, SetWord::Text(text), writer)
-}
-
-/// Runs `check` on the set that the command line names.
-fn run_check<R: Runtime + AllocGlobal, H: Eprint, W: Write>(
-    rt: &R,
-    teller: &Teller<'_, H>,
-    set: Named<'_>,
-    writer: &mut W,
-) -> u8
-    ensures printed { IsChecked set.entry result (W.contents writer.old) (W.contents writer.new) }
-    ensures status { (result ≡ 0) ⊎ (result ≡ 2) ⊎ (result ≡ 4) }
-{
-    match set {
-        Named::Standard | Named::Monitors => check_own(rt.alloc(), &set, writer),
-        Named::Stdin => {
-            let text = NamedReader::new(teller, STDIN, rt.reader());
-            check_text(rt.alloc(), text, writer)
-        }
-        Named::File(path) => match fs::open(rt, path) {
-            Ok(file) => check_text(rt.alloc(), NamedReader::new(teller, path, file), writer),
-            Err(error) => teller.fail(path, &error),
-        },
+        Request::Draw {
+            set,
+            process,
+            states,
+        } => run_draw(rt, teller, *set, &picture_of(*process, *states), writer),
     }
 }
 
@@ -113,6 +83,7 @@ fn play_on<H: Eprint, S: Read + Drop, T: Read + Drop, W: Write>(
     alloc: Global,
     teller: &Teller<'_, H>,
     set: SetWord<S>,
+    name: &str,
     script: T,
     writer: &mut W,
 ) -> u8
@@ -121,7 +92,7 @@ fn play_on<H: Eprint, S: Read + Drop, T: Read + Drop, W: Write>(
     ensures refused { result ≡ 2 → IsRefused (given S.remaining set) None (W.contents writer.old) (W.contents writer.new) }
     ensures status { (result ≡ 0) ⊎ (result ≡ 1) ⊎ (result ≡ 2) ⊎ (result ≡ 4) }
 {
-    play(alloc, set, script, writer, &mut teller.errors())
+    play(alloc, set, name, script, writer, &mut teller.errors())
 }
 
 /// Runs a script of a file, or of standard input, on a set.
@@ -129,6 +100,7 @@ fn play_source<R: Runtime + AllocGlobal, H: Eprint, S: Read + Drop, W: Write>(
     rt: &R,
     teller: &Teller<'_, H>,
     set: SetWord<S>,
+    name: &str,
     script: Source<'_>,
     writer: &mut W,
 ) -> u8
@@ -140,13 +112,14 @@ fn play_source<R: Runtime + AllocGlobal, H: Eprint, S: Read + Drop, W: Write>(
     match script {
         Source::Stdin => {
             let script = NamedReader::new(teller, STDIN, rt.reader());
-            play_on(rt.alloc(), teller, set, script, writer)
+            play_on(rt.alloc(), teller, set, name, script, writer)
         }
         Source::File(path) => match fs::open(rt, path) {
             Ok(file) => play_on(
                 rt.alloc(),
                 teller,
                 set,
+                name,
                 NamedReader::new(teller, path, file),
                 writer,
             ),
@@ -167,7 +140,7 @@ fn play_own<R: Runtime + AllocGlobal, H: Eprint, W: Write>(
     ensures status { (result ≡ 0) ⊎ (result ≡ 1) ⊎ (result ≡ 2) ⊎ (result ≡ 4) }
 {
     match own_set(&set) {
-        Some(own) => play_source(rt, teller, own, script, writer),
+        Some(own) => play_source(rt, teller, own, set_word(&set), script, writer),
         None => FAILED,
     }
 }
@@ -177,6 +150,7 @@ fn play_own<R: Runtime + AllocGlobal, H: Eprint, W: Write>(
 fn play_text<R: Runtime + AllocGlobal, H: Eprint, S: Read + Drop, W: Write>(
     rt: &R,
     teller: &Teller<'_, H>,
+    name: &str,
     text: S,
     script: Source<'_>,
     writer: &mut W,
@@ -186,7 +160,7 @@ fn play_text<R: Runtime + AllocGlobal, H: Eprint, S: Read + Drop, W: Write>(
     ensures refused { result ≡ 2 → IsRefused None None (W.contents writer.old) (W.contents writer.new) }
     ensures status { (result ≡ 0) ⊎ (result ≡ 1) ⊎ (result ≡ 2) ⊎ (result ≡ 4) }
 {
-    play_source(rt, teller, SetWord::Text(text), script, writer)
+    play_source(rt, teller, SetWord::Text(text), name, script, writer)
 }
 
 /// Runs `play` on the set and the script that the command line names. A file that can't be opened is a failure, whatever there is to say
@@ -205,12 +179,12 @@ fn run_play<R: Runtime + AllocGlobal, H: Eprint, W: Write>(
         Named::Standard | Named::Monitors => play_own(rt, teller, set, script, writer),
         Named::Stdin => {
             let text = NamedReader::new(teller, STDIN, rt.reader());
-            play_text(rt, teller, text, script, writer)
+            play_text(rt, teller, set_word(&set), text, script, writer)
         }
         Named::File(path) => match fs::open(rt, path) {
             Ok(file) => {
                 let text = NamedReader::new(teller, path, file);
-                play_text(rt, teller, text, script, writer)
+                play_text(rt, teller, path, text, script, writer)
             }
             Err(error) => teller.fail(path, &error),
         },
@@ -281,6 +255,49 @@ fn answer<R: Runtime + AllocGlobal>(rt: &R, error: &Error) -> u8
     if error.use_stderr() { USAGE } else { HELD }
 }
 
+/// Runs a command on a line that is tapped: the octets of standard input and output go through as they are, and a capture has what is seen there.
+#[tactic(auto, using(crate::proofs::Failing::failed_before, crate::proofs::Failing::over_or_failed))]
+fn run_tapped<
+    R: Runtime + AllocGlobal + Threads + Wait + Sync,
+    H: Files<File = File> + Threads + Eprint + Clock + AllocGlobal,
+>(rt: &R, host: &H, teller: &Teller<'_, H>, request: &Request<'_>, path: &str, plan: Plan) -> u8
+    ensures printed { WasAnswered request.now result }
+    ensures status { (result ≡ 0) ⊎ (result ≡ 1) ⊎ (result ≡ 2) ⊎ (result ≡ 4) }
+{
+    let sink = match open_records(host, host.alloc(), path) {
+        Ok(sink) => sink,
+        Err(error) => return teller.fail(path, &error),
+    };
+    let (mut input, mut output) = match tap(host.alloc(), rt.reader(), io::writer(rt), sink, plan) {
+        Ok(taps) => taps,
+        Err(error) => return teller.fail(path, &error),
+    };
+    let status = run(rt, host, teller, request, &mut input, &mut output);
+    end_capture(host, teller, path, status, &mut output)
+}
+
+/// Runs a command on standard input and output.
+#[tactic(auto, using(crate::proofs::Failing::was_run))]
+fn run_here<
+    R: Runtime + AllocGlobal + Threads + Wait + Sync,
+    H: Files<File = File> + Threads + Eprint + Clock + AllocGlobal,
+>(rt: &R, host: &H, teller: &Teller<'_, H>, request: &Request<'_>) -> u8
+    ensures printed { WasAnswered request.now result }
+    ensures status { (result ≡ 0) ⊎ (result ≡ 1) ⊎ (result ≡ 2) ⊎ (result ≡ 4) }
+{
+    match capture_of(request) {
+        Some((path, plan)) => run_tapped(rt, host, teller, request, path, plan),
+        None => run(
+            rt,
+            host,
+            teller,
+            request,
+            &mut rt.reader(),
+            &mut io::writer(rt),
+        ),
+    }
+}
+
 /// Does what the words of a command line say, the program's own name first. Gives the exit status.
 fn serve<
     R: Runtime + AllocGlobal + Threads + Wait + Sync,
@@ -290,25 +307,23 @@ fn serve<
     ensures status { IsStatus result }
 {
     match read(rt.alloc(), given) {
-        Ok(request) => run(
-            rt,
-            host,
-            teller,
-            &request,
-            &mut rt.reader(),
-            &mut io::writer(rt),
-        ),
+        Ok(request) => run_here(rt, host, teller, &request),
         Err(error) => answer(rt, &error),
     }
 }
 
 /// Reads the command line, and does what it says. A command on a line has the host itself, whose files are those of the system.
+///
+/// A file that is opened takes the least number that is free. So that none takes that of a standard stream that is closed, three are taken first.
 fn start<
     R: Runtime + AllocGlobal + Threads + Wait + Sync,
     H: Files<File = File> + Threads + Eprint + Clock + AllocGlobal,
 >(rt: &R, host: &H, teller: &Teller<'_, H>) -> io::Result<u8>
     ensures { IfOk result IsStatus }
 {
+    let _first = fs::open(host, CLOSED)?;
+    let _second = fs::open(host, CLOSED)?;
+    let _third = fs::open(host, CLOSED)?;
     let given: Vec<String> = env::args(rt)?.collect(rt.alloc())?;
     Ok(serve(rt, host, teller, given.as_slice()))
 }

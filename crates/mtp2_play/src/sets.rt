@@ -1,9 +1,12 @@
-//! The sets of the program's own.
+//! The sets of the program's own, and what sets are called.
 ghost use Rattle.std.specs.Prelude.{◌≡◌};
-ghost use Rattle.mtp2_play.specs.Sets.{own_set_of};
+ghost use Rattle.mtp2_play.specs.Sets.{own_set_of, word_text};
 
 use mtp2_words::Named;
 use script_check::SetWord;
+
+/// What standard input is called where a read of it fails.
+pub const STDIN: &str = "standard input";
 
 /// The set of the program's own that is named; none for a text.
 pub fn own_set<'a>(set: &Named<'_>) -> Option<SetWord<&'a [u8]>>
@@ -14,5 +17,17 @@ pub fn own_set<'a>(set: &Named<'_>) -> Option<SetWord<&'a [u8]>>
         Named::Monitors => Some(SetWord::Monitors),
         Named::Stdin => None,
         Named::File(_) => None,
+    }
+}
+
+/// The word that names a set.
+pub fn set_word<'a>(set: &Named<'a>) -> &'a str
+    ensures { result.now ≡ word_text set.now }
+{
+    match set {
+        Named::Standard => "standard",
+        Named::Monitors => "monitors",
+        Named::Stdin => "stdin",
+        Named::File(path) => path,
     }
 }

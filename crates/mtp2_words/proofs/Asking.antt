@@ -1,27 +1,44 @@
 -- What the words of a command's matches ask for, by what single words say.
-use Rattle.std.proofs.Common.{◌≡◌, ◌∙◌, List, Option, Some, None, IfSome, IsSomeAnd, refl, sym, ap, subst, inr, option_map, option_and_then, box_value, codes}
+use Rattle.std.proofs.Common.{◌≡◌, ◌∙◌, ℕ, ◌+◌, ◌<◌, [], ◌∷◌, ◌++◌, Bor, map, take, length, get_or, List, Option, Some, None, Result, Ok, Err, IfOk, IsNone, IfSome, IsSomeAnd, refl, sym, ap, subst, inr, option_map, option_and_then, box_value, codes, Bool}
 use Rattle.std.proofs.lemmas.Option.{none-some, same_Some}
-use Rattle.clap.specs.Words.{Row, Text, found_of, rows_of, subcommand_name_of, subcommand_rows_of}
+use Rattle.std.proofs.lemmas.List.{take_more, map-append}
+use Rattle.plain_laws.proofs.Pairwise.{zip_push}
+use Rattle.clap.specs.Words.{Row, Text, all_of, found_of, matched_of, raw_values, rows_of, subcommand_name_of, subcommand_rows_of}
 use Rattle.clap.specs.declared.parser.matches.ArgMatches.{ArgMatches}
 use Rattle.clap.specs.declared.parser.matches.ArgMatches.TheViews.{out-ArgMatches, out-SubCommand}
-use Rattle.clap.proofs.WalkLemmas.{first_value-rows}
+use Rattle.std.specs.declared.alloc.AllocError.{AllocError}
+use Rattle.clap.proofs.WalkLemmas.{first_value-rows, raw_values-rows}
 use Rattle.mtp2_words.specs.Ends.{IsEndOf}
 use Rattle.mtp2_words.specs.declared.ends.LineEnd.{LineEnd}
 use Rattle.mtp2_words.specs.declared.ends.LineWords.{LineWords}
-use Rattle.mtp2_words.specs.Words.{command_of, workers_of, AreStdin, IsNamed, IsPlay, IsSoak, IsSource}
-use Rattle.mtp2_words.specs.Asked.{Given, given_by, given_in, AreBothStdin, AreUnderIds, AsksEnd, AsksNothing, IsAsked, IsAskedBy, IsNoPlay, IsNoSoak, SaysNothing}
+use Rattle.mtp2_words.specs.Words.{command_of, workers_of, AreStdin, IsNamed, IsPlay, IsSoak, IsSource, says_true}
+use Rattle.mtp2_words.specs.Asked.{Given, given_by, given_in, AreAllAsked, AreNamed, AreBothStdin, AreUnderIds, AsksEnd, AsksNothing, IsAsked, IsAskedBy, IsNoPlay, IsNoSoak, SaysNothing, AsksDraw}
 use Rattle.mtp2_words.specs.declared.words.Named.{Named}
 use Rattle.mtp2_words.specs.declared.words.Request.{Request}
-use Rattle.mtp2_words.specs.declared.words.Request.TheVariants.{Check, Play, Soak, Line, Frame}
+use Rattle.mtp2_words.specs.declared.words.Request.TheVariants.{Check, Play, Soak, Line, Frame, Draw}
 
 -- ---- words under their ids
 
 some_word : (o : Option Text) (word : Text) (P : Text → Type 0) → Some word ≡ o → P word → IsSomeAnd o P
 some_word o word P e h = let Q : Option Text → Type 0 = λ x. IsSomeAnd x P in subst Q e h
 
-pub named : (given : Given) (word : Text) (set : Named) → Some word ≡ given (codes "SET") → IsNamed set word
-    → IsSomeAnd (given (codes "SET")) (IsNamed set)
-named given word set e h = some_word (given (codes "SET")) word (IsNamed set) e h
+-- one word more that names its set
+pub named_more : (words : List (Bor Text)) (i : ℕ) (d : Bor Text) (sets new : List Named) (set : Named) → new ≡ sets ++ set ∷ [] → i < length words
+    → IsNamed set (get_or words i d).now → AreNamed sets (map (λ w. w.now) (take i words)) → AreNamed new (map (λ w. w.now) (take (i + 1) words))
+named_more words i d sets new set is within h before =
+    let more : map (λ (w : Bor Text). w.now) (take (i + 1) words) ≡ map (λ (w : Bor Text). w.now) (take i words) ++ (get_or words i d).now ∷ [] =
+    ap (map (λ (w : Bor Text). w.now)) (take_more words i d within) ∙ map-append (λ (w : Bor Text). w.now) (take i words) (get_or words i d ∷ []) in
+    let P : List Named → Type 0 = λ l. AreNamed l (map (λ w. w.now) (take (i + 1) words)) in
+    let Q : List Text → Type 0 = λ l. AreNamed (sets ++ set ∷ []) l in
+    subst P (sym is) (subst Q (sym more) (zip_push IsNamed sets (map (λ w. w.now) (take i words)) set (get_or words i d).now before h))
+
+-- sets that all words of SET name
+pub all_named : (given : ArgMatches) (words : List Text) (sets : List Named)
+    → Some words ≡ option_map raw_values (matched_of (found_of given) (codes "SET")) → AreNamed sets words
+    → IsSomeAnd (all_of (codes "SET") (rows_of (found_of given))) (AreNamed sets)
+all_named given words sets e h =
+    let P : Option (List Text) → Type 0 = λ o. IsSomeAnd o (AreNamed sets) in
+    subst P (e ∙ raw_values-rows (found_of given) (codes "SET")) h
 
 -- standard input under both ids is standard input as both words
 both_words : (given : Given) (set_word script_word : Text) → Some set_word ≡ given (codes "SET") → Some script_word ≡ given (codes "SCRIPT")
@@ -30,7 +47,7 @@ both_words given set_word script_word e f b = (same_Some set_word _ (e ∙ b.set
 
 pub plays : (given : Given) (set_word script_word : Text) (request : Request) → Some set_word ≡ given (codes "SET")
     → Some script_word ≡ given (codes "SCRIPT") → IsPlay set_word script_word request → IsAsked given request
-plays given set_word script_word (Check set) e f h = absurd h
+plays given set_word script_word (Check sets) e f h = absurd h
 plays given set_word script_word (Play set script) e f h = record {
   set_is = some_word (given (codes "SET")) set_word (IsNamed set) e h.set_is;
   script_is = some_word (given (codes "SCRIPT")) script_word (IsSource script) f h.script_is;
@@ -39,13 +56,31 @@ plays given set_word script_word (Play set script) e f h = record {
 plays given set_word script_word (Soak script workers) e f h = absurd h
 plays given set_word script_word (Line set end) e f h = absurd h
 plays given set_word script_word (Frame octets) e f h = absurd h
+plays given set_word script_word (Draw set process states) e f h = absurd h
 
 pub is_play : (set_word script_word : Text) (request : Request) → IsPlay set_word script_word request → command_of request ≡ codes "play"
-is_play set_word script_word (Check set) h = absurd h
+is_play set_word script_word (Check sets) h = absurd h
 is_play set_word script_word (Play set script) h = refl
 is_play set_word script_word (Soak script workers) h = absurd h
 is_play set_word script_word (Line set end) h = absurd h
 is_play set_word script_word (Frame octets) h = absurd h
+is_play set_word script_word (Draw set process states) h = absurd h
+
+pub play_all : (rows : List Row) (set_word script_word : Text) (request : Request) → IsPlay set_word script_word request → AreAllAsked rows request
+play_all rows set_word script_word (Check sets) h = absurd h
+play_all rows set_word script_word (Play set script) h = tt
+play_all rows set_word script_word (Soak script workers) h = tt
+play_all rows set_word script_word (Line set end) h = tt
+play_all rows set_word script_word (Frame octets) h = tt
+play_all rows set_word script_word (Draw set process states) h = tt
+
+pub soak_all : (rows : List Row) (script_word workers_word : Text) (request : Request) → IsSoak script_word workers_word request → AreAllAsked rows request
+soak_all rows script_word workers_word (Check sets) h = absurd h
+soak_all rows script_word workers_word (Play set script) h = tt
+soak_all rows script_word workers_word (Soak script workers) h = tt
+soak_all rows script_word workers_word (Line set end) h = tt
+soak_all rows script_word workers_word (Frame octets) h = tt
+soak_all rows script_word workers_word (Draw set process states) h = tt
 
 pub plays_nothing : (given : Given) (set_word script_word : Text) → Some set_word ≡ given (codes "SET")
     → Some script_word ≡ given (codes "SCRIPT") → AreStdin set_word script_word → IsNoPlay given
@@ -56,7 +91,7 @@ plays_nothing given set_word script_word e f h = inr (inr (record {
 
 pub soaks : (given : Given) (script_word workers_word : Text) (request : Request) → Some script_word ≡ given (codes "SCRIPT")
     → Some workers_word ≡ given (codes "workers") → IsSoak script_word workers_word request → IsAsked given request
-soaks given script_word workers_word (Check set) e f h = absurd h
+soaks given script_word workers_word (Check sets) e f h = absurd h
 soaks given script_word workers_word (Play set script) e f h = absurd h
 soaks given script_word workers_word (Soak script workers) e f h = record {
   script_is = some_word (given (codes "SCRIPT")) script_word (IsSource script) e h.0;
@@ -64,13 +99,15 @@ soaks given script_word workers_word (Soak script workers) e f h = record {
 }
 soaks given script_word workers_word (Line set end) e f h = absurd h
 soaks given script_word workers_word (Frame octets) e f h = absurd h
+soaks given script_word workers_word (Draw set process states) e f h = absurd h
 
 pub is_soak : (script_word workers_word : Text) (request : Request) → IsSoak script_word workers_word request → command_of request ≡ codes "soak"
-is_soak script_word workers_word (Check set) h = absurd h
+is_soak script_word workers_word (Check sets) h = absurd h
 is_soak script_word workers_word (Play set script) h = absurd h
 is_soak script_word workers_word (Soak script workers) h = refl
 is_soak script_word workers_word (Line set end) h = absurd h
 is_soak script_word workers_word (Frame octets) h = absurd h
+is_soak script_word workers_word (Draw set process states) h = absurd h
 
 pub soaks_nothing : (given : Given) (workers_word : Text) → Some workers_word ≡ given (codes "workers") → workers_of workers_word ≡ None
     → IsNoSoak given
@@ -108,12 +145,18 @@ asked_in_rows : (given : ArgMatches) (request : Request) → IsAsked (given_by g
     → IsAsked (given_in (rows_of (found_of given))) request
 asked_in_rows given request h = let P : Given → Type 0 = λ g. IsAsked g request in subst P (in_rows given) h
 
-pub asked_by : (matches given : ArgMatches) (name : Text) → subcommand_rows_of matches ≡ Some (name, rows_of (found_of given))
+asked_by_one : (matches given : ArgMatches) (name : Text) → subcommand_rows_of matches ≡ Some (name, rows_of (found_of given))
     → (request : Option Request) → IfSome request (λ r. command_of r ≡ name) → IfSome request (IsAsked (given_by given))
-    → IfSome request (IsAskedBy (subcommand_rows_of matches))
-asked_by matches given name e None n h = tt
-asked_by matches given name e (Some request) n h =
-    let P : Option (Text × List Row) → Type 0 = λ o. IsAskedBy o request in subst P (sym e) (n, asked_in_rows given request h)
+    → IfSome request (AreAllAsked (rows_of (found_of given))) → IfSome request (IsAskedBy (subcommand_rows_of matches))
+asked_by_one matches given name e None n h all = tt
+asked_by_one matches given name e (Some request) n h all =
+    let P : Option (Text × List Row) → Type 0 = λ o. IsAskedBy o request in subst P (sym e) (n, asked_in_rows given request h, all)
+
+pub asked_by : (matches given : ArgMatches) (name : Text) → subcommand_rows_of matches ≡ Some (name, rows_of (found_of given))
+    → (r : Result (Option Request) AllocError) → IfOk r (λ o. IfSome o (λ q. command_of q ≡ name)) → IfOk r (λ o. IfSome o (IsAsked (given_by given)))
+    → IfOk r (λ o. IfSome o (AreAllAsked (rows_of (found_of given)))) → IfOk r (λ o. IfSome o (IsAskedBy (subcommand_rows_of matches)))
+asked_by matches given name e (Ok request) n h all = asked_by_one matches given name e request n h all
+asked_by matches given name e (Err wanting) n h all = tt
 
 pub asks_nothing : (matches given : ArgMatches) (name : Text) → subcommand_rows_of matches ≡ Some (name, rows_of (found_of given))
     → AsksNothing name (given_by given) → SaysNothing (subcommand_rows_of matches)
@@ -121,3 +164,29 @@ asks_nothing matches given name e h =
     let P : Given → Type 0 = λ g. AsksNothing name g in
     let Q : Option (Text × List Row) → Type 0 = λ o. SaysNothing o in
     subst Q (sym e) (subst P (in_rows given) h)
+
+pub all_ask_nothing : (matches given : ArgMatches) (name : Text) → subcommand_rows_of matches ≡ Some (name, rows_of (found_of given))
+    → (r : Result (Option Request) AllocError) → IfOk r (λ o. IsNone o → AsksNothing name (given_by given))
+    → IfOk r (λ o. IsNone o → SaysNothing (subcommand_rows_of matches))
+all_ask_nothing matches given name e (Ok request) h = λ n. asks_nothing matches given name e (h n)
+all_ask_nothing matches given name e (Err wanting) h = tt
+
+-- ---- the request, out of its result
+
+pub asked_some : (o : Option Request) (request : Request) (all : Option (Text × List Row)) → o ≡ Some request → IfSome o (IsAskedBy all) → IsAskedBy all request
+asked_some o request all e h = let P : Option Request → Type 0 = λ x. IfSome x (IsAskedBy all) in subst P e h
+
+pub said_none : (o : Option Request) (all : Option (Text × List Row)) → o ≡ None → (IsNone o → SaysNothing all) → SaysNothing all
+said_none o all e h = let P : Option Request → Type 0 = λ x. IsNone x in h (subst P (sym e) refl)
+
+-- ---- pictures
+
+pub draws_process : (given : Given) (word : Text) (set : Named) (flag : Option Text) (states : Bool) (process : Text) → Some word ≡ given (codes "SET")
+    → IsNamed set word → flag ≡ given (codes "states") → states ≡ says_true flag → Some process ≡ given (codes "PROCESS")
+    → AsksDraw given set (Some process) states
+draws_process given word set flag states process e h f t p = record {
+  set_is = some_word (given (codes "SET")) word (IsNamed set) e h;
+  process_is = sym p;
+  states_are = ap says_true (sym f) ∙ sym t;
+  of_process = λ b. none-some process (sym (p ∙ b.process_is));
+}

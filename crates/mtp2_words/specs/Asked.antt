@@ -1,17 +1,20 @@
 -- What the words of a command line ask for, by the ids under which they stand in its matches, and
 -- why they ask for nothing.
-use Rattle.std.specs.Prelude.{◌≡◌, ◌⊎◌, ℕ, List, Option, Some, None, IsSomeAnd, option_map}
+use Rattle.std.specs.Prelude.{◌≡◌, ◌⊎◌, ℕ, Bool, true, List, Option, Some, None, IsSomeAnd}
+use Rattle.std.specs.Prelude.{option_map}
 use Rattle.std.specs.Prelude.{option_and_then, codes}
-use Rattle.clap.specs.Words.{Row, Text, first_of, first_value, found_of}
+use Rattle.std.specs.List.{AllZip}
+use Rattle.clap.specs.Words.{Row, Text, all_of, first_of, first_value, found_of}
 use Rattle.clap.specs.declared.parser.matches.ArgMatches.{ArgMatches}
 use Rattle.mtp2_words.specs.Ends.{IsEndOf, IsNoEnd}
 use Rattle.mtp2_words.specs.declared.ends.LineEnd.{LineEnd}
 use Rattle.mtp2_words.specs.declared.ends.LineWords.{LineWords}
-use Rattle.mtp2_words.specs.Words.{command_of, workers_of, IsNamed, IsSource, IsText}
+use Rattle.mtp2_words.specs.Words.{command_of, says_true, workers_of, IsNamed, IsSource, IsText}
 use Rattle.mtp2_words.specs.declared.words.Named.{Named}
 use Rattle.mtp2_words.specs.declared.words.Source.{Source}
 use Rattle.mtp2_words.specs.declared.words.Request.{Request}
 use Rattle.mtp2_words.specs.declared.words.Request.TheVariants.{Check, Play, Soak, Line, Frame}
+use Rattle.mtp2_words.specs.declared.words.Request.TheVariants.{Draw}
 
 -- the first word under each id, if there is one
 abbrev pub Given : Type 0
@@ -50,8 +53,10 @@ pub record AreUnderIds (given : Given) (words : LineWords) : Type 0 where
   pub reports : given (codes "reports") ≡ option_map (λ w. w.now) words.reports
   pub bits : given (codes "bits") ≡ option_map (λ w. w.now) words.bits
   pub ahead : given (codes "ahead") ≡ option_map (λ w. w.now) words.ahead
+  pub capture : given (codes "capture") ≡ option_map (λ w. w.now) words.capture
+  pub every : says_true (given (codes "every")) ≡ words.every
 
--- the end of a link that MODE, --orders, --reports, --bits and --ahead say
+-- the end of a link that MODE, --orders, --reports, --bits, --ahead, --capture and --every say
 pub record AsksEnd (given : Given) (end : LineEnd) : Type 0 where
   pub words : LineWords
   pub under_ids : AreUnderIds given words
@@ -62,13 +67,44 @@ pub record AsksLine (given : Given) (set : Named) (end : LineEnd) : Type 0 where
   pub set_is : IsText (given (codes "text")) set
   pub asks_end : AsksEnd given end
 
--- the words of a command ask for this; `check`: the set that SET names; `frame`: the octets of HEX
+-- --states without a PROCESS
+pub record AreStatesOfNothing (given : Given) : Type 0 where
+  pub process_is : given (codes "PROCESS") ≡ None
+  pub states_are : says_true (given (codes "states")) ≡ true
+
+-- `draw`: the set that SET names, the process that PROCESS names, if it is there, and its states
+-- where
+-- --states is
+pub record AsksDraw (given : Given) (set : Named) (process : Option Text) (states : Bool) :
+    Type 0 where
+  pub set_is : IsSomeAnd (given (codes "SET")) (IsNamed set)
+  pub process_is : given (codes "PROCESS") ≡ process
+  pub states_are : says_true (given (codes "states")) ≡ states
+  pub of_process : AreStatesOfNothing given → ⊥
+
+-- the words of a command ask for this, by the first of each id; `check` asks by all of them, and
+-- `frame` for the octets of HEX
 abbrev pub IsAsked : Given → Request → Type 0
-IsAsked given (Check set) = IsSomeAnd (given (codes "SET")) (IsNamed set)
+IsAsked given (Check sets) = Unit {0}
 IsAsked given (Play set script) = AsksPlay given set script
 IsAsked given (Soak script workers) = AsksSoak given script workers
 IsAsked given (Line set end) = AsksLine given set end
 IsAsked given (Frame octets) = given (codes "HEX") ≡ Some octets.now
+IsAsked given (Draw set process states) =
+    AsksDraw given set (option_map (λ w. w.now) process) states
+
+-- the sets that words name, each one its own, in their order
+abbrev pub AreNamed : List Named → List Text → Type 0
+AreNamed sets words = AllZip IsNamed sets words
+
+-- `check` asks for the sets of all words of SET
+abbrev pub AreAllAsked : List Row → Request → Type 0
+AreAllAsked rows (Check sets) = IsSomeAnd (all_of (codes "SET") rows) (AreNamed sets.items)
+AreAllAsked rows (Play set script) = Unit {0}
+AreAllAsked rows (Soak script workers) = Unit {0}
+AreAllAsked rows (Line set end) = Unit {0}
+AreAllAsked rows (Frame octets) = Unit {0}
+AreAllAsked rows (Draw set process states) = Unit {0}
 
 -- the command that was entered, and its rows: its name is that of the request, and its words ask
 -- for it
@@ -76,6 +112,7 @@ abbrev pub IsAskedBy : Option (Text × List Row) → Request → Type 0
 IsAskedBy None request = ⊥
 IsAskedBy (Some entered) request =
     (command_of request ≡ entered.0) × IsAsked (given_in entered.1) request
+    × AreAllAsked entered.1 request
 
 -- ---- why they ask for nothing
 
@@ -109,6 +146,10 @@ IsNoLine given =
 abbrev pub IsNoFrame : Given → Type 0
 IsNoFrame given = given (codes "HEX") ≡ None
 
+-- `draw`: no SET, or the states of nothing
+abbrev pub IsNoDraw : Given → Type 0
+IsNoDraw given = (given (codes "SET") ≡ None) ⊎ AreStatesOfNothing given
+
 -- the name of none of the commands
 pub record IsNoCommand (name : Text) : Type 0 where
   pub not_check : name ≡ codes "check" → ⊥
@@ -116,6 +157,7 @@ pub record IsNoCommand (name : Text) : Type 0 where
   pub not_soak : name ≡ codes "soak" → ⊥
   pub not_line : name ≡ codes "line" → ⊥
   pub not_frame : name ≡ codes "frame" → ⊥
+  pub not_draw : name ≡ codes "draw" → ⊥
 
 -- the words of a command of this name ask for nothing
 pub data AsksNothing (name : Text) (given : Given) : Type 0 where
@@ -125,6 +167,7 @@ pub data AsksNothing (name : Text) (given : Given) : Type 0 where
   no_soak : name ≡ codes "soak" → IsNoSoak given → AsksNothing name given
   no_line : name ≡ codes "line" → IsNoLine given → AsksNothing name given
   no_frame : name ≡ codes "frame" → IsNoFrame given → AsksNothing name given
+  no_draw : name ≡ codes "draw" → IsNoDraw given → AsksNothing name given
 
 -- no command was entered, or its words ask for nothing
 abbrev pub SaysNothing : Option (Text × List Row) → Type 0

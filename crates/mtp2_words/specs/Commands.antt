@@ -2,6 +2,7 @@
 use Rattle.std.specs.Prelude.{◌≡◌, Bool, true, false, Some, codes}
 use Rattle.clap.specs.Words.{App, Rule, Text, app_of, new_app, new_rule, with_rule, with_subcommand}
 use Rattle.clap.specs.Simple.{new_shape}
+use Rattle.clap.specs.declared.builder.action.ArgAction.TheVariants.{Append, SetTrue}
 use Rattle.clap.specs.declared.builder.command.Command.{Command}
 use Rattle.clap.specs.declared.builder.command.Command.TheViews.{out-Command}
 
@@ -13,9 +14,17 @@ plain_word id = record (new_rule id) { required = true }
 abbrev pub option_word : Text → Rule
 option_word id = record (new_rule id) { long = Some id; value_names = 1 }
 
--- `check SET`
+-- `--ID`, which may be there
+abbrev pub flag_word : Text → Rule
+flag_word id = record (new_rule id) { long = Some id; action = Some SetTrue }
+
+-- a word that has to be there, and may be there more than once
+abbrev pub plain_words : Text → Rule
+plain_words id = record (plain_word id) { action = Some Append }
+
+-- `check SET ..`
 abbrev pub check_command : App
-check_command = with_rule (new_app (codes "check")) (plain_word (codes "SET"))
+check_command = with_rule (new_app (codes "check")) (plain_words (codes "SET"))
 
 -- `play SET SCRIPT`
 abbrev pub play_command : App
@@ -44,13 +53,25 @@ with_line_options command =
     (option_word (codes "reports")))
     (option_word (codes "bits"))) (option_word (codes "ahead"))
 
+-- a command with the options that say what is captured of a line
+abbrev pub with_capture_options : App → App
+with_capture_options command =
+    with_rule (with_rule command (option_word (codes "capture"))) (flag_word (codes "every"))
+
 -- `line MODE`, with all options
 abbrev pub line_command : App
-line_command = with_line_options line_begun
+line_command = with_capture_options (with_line_options line_begun)
 
 -- `frame HEX`
 abbrev pub frame_command : App
 frame_command = with_rule (new_app (codes "frame")) (plain_word (codes "HEX"))
+
+-- `draw SET`, with a PROCESS that may be there, and --states
+abbrev pub draw_command : App
+draw_command =
+    with_rule
+    (with_rule (with_rule (new_app (codes "draw")) (plain_word (codes "SET")))
+    (new_rule (codes "PROCESS"))) (flag_word (codes "states"))
 
 -- the program without its commands, of which one has to be named; it has a version
 abbrev pub program_begun : App
@@ -64,8 +85,9 @@ all_commands =
     with_subcommand
     (with_subcommand
     (with_subcommand
+    (with_subcommand
     (with_subcommand (with_subcommand program_begun check_command.top) play_command.top)
-    soak_command.top) line_command.top) frame_command.top
+    soak_command.top) line_command.top) frame_command.top) draw_command.top
 
 -- a word of the command is one of its commands' too
 abbrev pub has_globals : Command → Bool

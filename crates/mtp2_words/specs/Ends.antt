@@ -39,6 +39,8 @@ pub record IsEndOf (words : LineWords) (end : LineEnd) : Type 0 where
   pub ahead_is : ahead_of (option_map (λ w. w.now) words.ahead) ≡ Some end.ahead
   pub orders_are : option_map (λ w. w.now) end.orders ≡ option_map (λ w. w.now) words.orders
   pub reports_are : option_map (λ w. w.now) end.reports ≡ option_map (λ w. w.now) words.reports
+  pub capture_is : option_map (λ w. w.now) end.capture ≡ option_map (λ w. w.now) words.capture
+  pub every_is : end.every ≡ words.every
 
 -- one of them says nothing
 abbrev pub IsNoEnd : LineWords → Type 0

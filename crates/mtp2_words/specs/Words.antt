@@ -1,6 +1,6 @@
 -- What a command line asks for.
 use Rattle.std.specs.Prelude.{◌≡◌, ℕ, if◌then◌else◌, List, Option, Some, None, option_and_then}
-use Rattle.std.specs.Prelude.{codes}
+use Rattle.std.specs.Prelude.{codes, Bool, false, bytes_eq}
 use Rattle.std.specs.Int.{is_in_range}
 use Rattle.plain_limits.specs.Limits.{LEAST_WORKERS, MOST_WORKERS}
 use Rattle.script_lines.specs.Numbers.{count_of}
@@ -10,6 +10,7 @@ use Rattle.mtp2_words.specs.declared.words.Source.{Source}
 use Rattle.mtp2_words.specs.declared.words.Source.TheVariants.{Stdin as stdin, File as script_file}
 use Rattle.mtp2_words.specs.declared.words.Request.{Request}
 use Rattle.mtp2_words.specs.declared.words.Request.TheVariants.{Check, Play, Soak, Line, Frame}
+use Rattle.mtp2_words.specs.declared.words.Request.TheVariants.{Draw}
 
 -- a file may have any name but these
 pub record IsFileName (word : List ℕ) : Type 0 where
@@ -40,11 +41,12 @@ pub record IsPlayOf (set_word script_word : List ℕ) (set : Named) (script : So
   pub one_input : AreStdin set_word script_word → ⊥
 
 abbrev pub IsPlay : List ℕ → List ℕ → Request → Type 0
-IsPlay set_word script_word (Check set) = ⊥
+IsPlay set_word script_word (Check sets) = ⊥
 IsPlay set_word script_word (Play set script) = IsPlayOf set_word script_word set script
 IsPlay set_word script_word (Soak script workers) = ⊥
 IsPlay set_word script_word (Line set end) = ⊥
 IsPlay set_word script_word (Frame octets) = ⊥
+IsPlay set_word script_word (Draw set process states) = ⊥
 
 -- as many workers as may serve
 abbrev pub as_many : ℕ → Option ℕ
@@ -56,12 +58,13 @@ workers_of word = option_and_then as_many (count_of word)
 
 -- what `soak` asks for by two words
 abbrev pub IsSoak : List ℕ → List ℕ → Request → Type 0
-IsSoak script_word workers_word (Check set) = ⊥
+IsSoak script_word workers_word (Check sets) = ⊥
 IsSoak script_word workers_word (Play set script) = ⊥
 IsSoak script_word workers_word (Soak script workers) =
     IsSource script script_word × (workers_of workers_word ≡ Some workers)
 IsSoak script_word workers_word (Line set end) = ⊥
 IsSoak script_word workers_word (Frame octets) = ⊥
+IsSoak script_word workers_word (Draw set process states) = ⊥
 
 -- the set that a word names for a terminal on a line: standard input is the line, and no text
 abbrev pub IsTextNamed : Named → List ℕ → Type 0
@@ -75,10 +78,16 @@ abbrev pub IsText : Option (List ℕ) → Named → Type 0
 IsText None set = set ≡ Standard
 IsText (Some word) set = IsTextNamed set word
 
+-- an option without a word behind it was entered
+abbrev pub says_true : Option (List ℕ) → Bool
+says_true None = false
+says_true (Some word) = bytes_eq word (codes "true")
+
 -- the word that names the command
 abbrev pub command_of : Request → List ℕ
-command_of (Check set) = codes "check"
+command_of (Check sets) = codes "check"
 command_of (Play set script) = codes "play"
 command_of (Soak script workers) = codes "soak"
 command_of (Line set end) = codes "line"
 command_of (Frame octets) = codes "frame"
+command_of (Draw set process states) = codes "draw"

@@ -1,9 +1,9 @@
 //! The commands of the program, and the words that they take.
 ghost use Rattle.std.specs.Prelude.{◌≡◌, IfOk, false};
-ghost use Rattle.clap.specs.Words.{rule_of, new_app, app_of};
-ghost use Rattle.mtp2_words.specs.Commands.{plain_word, option_word, check_command, play_command, soak_command, line_begun, line_command, frame_command, all_commands, program_begun, with_line_options, has_globals, IsCommand};
+ghost use Rattle.clap.specs.Words.{rule_of, new_app, new_rule, app_of};
+ghost use Rattle.mtp2_words.specs.Commands.{plain_word, option_word, flag_word, check_command, play_command, soak_command, line_begun, line_command, frame_command, draw_command, all_commands, program_begun, with_line_options, with_capture_options, has_globals, IsCommand};
 
-use clap::{Arg, Command};
+use clap::{Arg, ArgAction, Command};
 use std::alloc::{AllocError, Global};
 
 /// The program's commands.
@@ -15,7 +15,8 @@ pub fn all_commands<'a>(alloc: Global) -> Result<Command<'a>, AllocError>
         .subcommand(play_command(alloc)?)?
         .subcommand(soak_command(alloc)?)?
         .subcommand(line_command(alloc)?)?
-        .subcommand(frame_command(alloc)?)
+        .subcommand(frame_command(alloc)?)?
+        .subcommand(draw_command(alloc)?)
 }
 
 /// The program without its commands.
@@ -58,6 +59,25 @@ fn option_word<'a>(alloc: Global, name: &'a str, value: &'a str, help: &'a str) 
         .help(help)
 }
 
+/// A word that may be there.
+fn optional_word<'a>(alloc: Global, id: &'a str, help: &'a str) -> Arg<'a>
+    ensures rule { rule_of result ≡ new_rule id.entry.now }
+    ensures local { result.global ≡ false }
+{
+    Arg::new(alloc, id).help(help)
+}
+
+/// An option without a word behind it.
+fn flag_word<'a>(alloc: Global, name: &'a str, help: &'a str) -> Arg<'a>
+    ensures rule { rule_of result ≡ flag_word name.entry.now }
+    ensures local { result.global ≡ false }
+{
+    Arg::new(alloc, name)
+        .long(name)
+        .action(ArgAction::SetTrue)
+        .help(help)
+}
+
 /// The command `check`.
 fn check_command<'a>(alloc: Global) -> Result<Command<'a>, AllocError>
     ensures { IfOk result (IsCommand check_command) }
@@ -66,12 +86,13 @@ fn check_command<'a>(alloc: Global) -> Result<Command<'a>, AllocError>
         alloc,
         "SET",
         "standard, monitors, a file with the text of a set of processes, or stdin for standard input",
-    );
+    )
+    .action(ArgAction::Append);
     bare_command(
         alloc,
         "check",
         "Checks a set of processes, and prints what each of its transitions costs",
-        "Prints for START and for each input of each process PROCESS START or PROCESS STATE/INPUT, and then\nbudget (the most steps of a turn), depth (the most operands at once) and effects (the most effects of\na turn). Then it prints accepted. Exits with 0, or with 2 after a line refused CODE Name where the text\nis refused (F1, L1 to L3, P1, P2, S1 to S11), 4 where memory, a file, a read or a write fails.",
+        "Prints for START and for each input of each process PROCESS START or PROCESS STATE/INPUT, and then\nbudget (the most steps of a turn), depth (the most operands at once) and effects (the most effects of\na turn). Then it prints accepted. Exits with 0, or with 2 after a line refused CODE Name where the text\nis refused (F1, L1 to L3, P1, P2, S1 to S11), 4 where memory, a file, a read or a write fails.\nThe place of a refusal is told on standard error: FILE:LINE:COLUMN, the line, and carets under the word.\nOf several sets each line has the name of its set in front, and the exit status is the greatest one.",
     )
     .arg(set)
 }
@@ -157,6 +178,20 @@ fn with_line_options<'a>(alloc: Global, command: Command<'a>) -> Result<Command<
     command.arg(orders)?.arg(reports)?.arg(bits)?.arg(ahead)
 }
 
+/// The options that say what is captured of a line.
+fn with_capture_options<'a>(alloc: Global, command: Command<'a>) -> Result<Command<'a>, AllocError>
+    ensures { has_globals command.entry ≡ false → IfOk result (IsCommand (with_capture_options (app_of command.entry))) }
+{
+    let capture = option_word(
+        alloc,
+        "capture",
+        "PATH",
+        "A file or a FIFO for the units that go out and come in, in pcap's format; those that say nothing new are left out",
+    );
+    let every = flag_word(alloc, "every", "Has every unit captured");
+    command.arg(capture)?.arg(every)
+}
+
 /// The command `line`, without what its end does on its line.
 fn line_begun<'a>(alloc: Global) -> Result<Command<'a>, AllocError>
     ensures { IfOk result (IsCommand line_begun) }
@@ -172,7 +207,7 @@ fn line_begun<'a>(alloc: Global) -> Result<Command<'a>, AllocError>
         alloc,
         "line",
         "Puts one end of a signalling link on a channel of 64 kbit/s: line octets come on standard input and go to standard output",
-        "Writes one octet for each that it reads; 8 octets are a millisecond, and no clock is read. Orders: power, start, stop, emergency, calm,\noutage, back, busy, free, msu HEX, at MS (what follows waits until that millisecond), state P, value P x, quit; # begins a comment,\nand a report MS ok ORDER is obeyed as at MS and that order. Reports, each behind its millisecond: in service, down R, far out,\nfar back, message HEX, state P S, value P x V, ok ORDER, refused CODE Name, lost N (what a FIFO had no room for).\nExits with 0 at the end of input or after quit, 2 after refused CODE Name on standard error where the text is refused, 4 where memory,\na file, a read or a write fails.",
+        "Writes one octet for each that it reads; 8 octets are a millisecond, and no clock is read. Orders: power, start, stop, emergency, calm,\noutage, back, busy, free, msu HEX, at MS (what follows waits until that millisecond), state P, value P x, quit; # begins a comment,\nand a report MS ok ORDER is obeyed as at MS and that order. Reports, each behind its millisecond: in service, down R, far out,\nfar back, message HEX, state P S, value P x V, ok ORDER, refused CODE Name, lost N (what a FIFO had no room for).\nUnits that a capture's FIFO had no room for are told at the end on standard error: MS lost N capture.\nExits with 0 at the end of input or after quit, 2 after refused CODE Name on standard error where the text is refused, 4 where memory,\na file, a read or a write fails.",
     )
     .arg(mode)?
     .arg(text)
@@ -182,7 +217,8 @@ fn line_begun<'a>(alloc: Global) -> Result<Command<'a>, AllocError>
 fn line_command<'a>(alloc: Global) -> Result<Command<'a>, AllocError>
     ensures { IfOk result (IsCommand line_command) }
 {
-    with_line_options(alloc, line_begun(alloc)?)
+    let command = with_line_options(alloc, line_begun(alloc)?)?;
+    with_capture_options(alloc, command)
 }
 
 /// The command `frame`.
@@ -201,4 +237,30 @@ fn frame_command<'a>(alloc: Global) -> Result<Command<'a>, AllocError>
         "Prints FISU, LSSU or MSU with the unit's fields, then the number of its bits on the line.\nExits with 0, or with 2 where the octets are refused (H1, U1 to U4), 4 where memory or a write fails.",
     )
     .arg(octets)
+}
+
+/// The command `draw`.
+fn draw_command<'a>(alloc: Global) -> Result<Command<'a>, AllocError>
+    ensures { IfOk result (IsCommand draw_command) }
+{
+    let set = plain_word(
+        alloc,
+        "SET",
+        "standard, monitors, a file with the text of a set of processes, or stdin for standard input",
+    );
+    let process = optional_word(alloc, "PROCESS", "The name of one of its processes");
+    let states = flag_word(
+        alloc,
+        "states",
+        "Draws the states of the process, and the ways from one to another",
+    );
+    bare_command(
+        alloc,
+        "draw",
+        "Draws a set of processes, or one of them",
+        "Writes a picture to standard output: of a set its block diagram in Graphviz's language, of a process SDL-GR in SVG,\nor with --states its state diagram in Graphviz's language (dot -Tsvg makes a picture of these).\nExits with 0, or with 2 after a line refused CODE Name where the text is refused (as for check) or no process\nhas that name (B10 NoActor), 4 where memory, a file, a read or a write fails.",
+    )
+    .arg(set)?
+    .arg(process)?
+    .arg(states)
 }

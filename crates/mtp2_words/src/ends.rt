@@ -21,6 +21,10 @@ pub struct LineEnd<'a> {
     pub bits: Bits,
     /// How many octets of 1s go out before any octet came in, 0 to 8,000.
     pub ahead: usize,
+    /// Where a capture of its line goes; none is made, where nothing is said.
+    pub capture: Option<&'a str>,
+    /// Whether every unit is captured; else repeats are left out.
+    pub every: bool,
 }
 
 /// The words that say it.
@@ -36,6 +40,10 @@ pub struct LineWords<'a> {
     pub bits: Option<&'a str>,
     /// Digits, of 8,000 at most; 0, where nothing is said.
     pub ahead: Option<&'a str>,
+    /// A file or a FIFO for a capture.
+    pub capture: Option<&'a str>,
+    /// Whether every unit is captured.
+    pub every: bool,
 }
 
 /// Which bit of an octet a word names.
@@ -95,5 +103,7 @@ pub fn line_end<'a>(words: &LineWords<'a>) -> Option<LineEnd<'a>>
         reports: words.reports,
         bits,
         ahead,
+        capture: words.capture,
+        every: words.every,
     })
 }

@@ -3,6 +3,7 @@
 
 mod commands;
 mod ends;
+mod flags;
 mod words;
 
 pub use clap::Error;

@@ -1,17 +1,18 @@
 //! The command line.
 ghost use Rattle.std.specs.Prelude.{◌≡◌, ◌↔◌, ◌⊎◌, Some, None, [], true, map, string_bytes, IfSome, IfOk, IfErr, IsNone, IsTrue, option_map, codes};
-ghost use Rattle.clap.specs.Words.{fault_of, kind_of, subcommand_name_of, subcommand_of, subcommand_rows_of, takes};
+ghost use Rattle.clap.specs.Words.{fault_of, found_of, kind_of, rows_of, subcommand_name_of, subcommand_of, subcommand_rows_of, takes};
 ghost use Rattle.mtp2_words.specs.Words.{command_of, workers_of, IsNamed, IsSource, AreStdin, IsPlay, IsSoak, IsTextNamed, IsText};
-ghost use Rattle.mtp2_words.specs.Asked.{given_by, AsksEnd, AsksNothing, IsAsked, IsAskedBy, IsNoCheck, IsNoFrame, IsNoLine, IsNoPlay, IsNoSoak, SaysNoEnd, SaysNothing};
+ghost use Rattle.mtp2_words.specs.Asked.{given_by, AreAllAsked, AreNamed, AsksEnd, AsksNothing, IsAsked, IsAskedBy, IsNoCheck, IsNoFrame, IsNoLine, IsNoPlay, IsNoSoak, SaysNoEnd, SaysNothing, IsNoDraw};
 ghost use Rattle.mtp2_words.specs.Commands.{all_commands};
 ghost use Rattle.mtp2_words.specs.TurnedDown.{IsTurnedDown};
 
 use crate::commands::all_commands;
 use crate::ends::{LineEnd, LineWords, line_end};
+use crate::flags::is_given;
 use clap::error::ErrorKind;
 use clap::{ArgMatches, Error};
 use script_lines::count;
-use std::alloc::Global;
+use std::alloc::{AllocError, Global};
 
 /// A text or a set, as a word of the command line names it.
 #[derive(Clone, Copy, PartialEq, Eq, Debug)]
@@ -38,16 +39,35 @@ pub enum Source<'a> {
 /// What the command line asks for.
 #[derive(Debug, Drop)]
 pub enum Request<'a> {
-    /// `check SET`: a set of the program's own, a file with the text of a set, or standard input.
-    Check { set: Named<'a> },
+    /// `check SET ..`: sets of the program's own, files with the text of a set, or standard input, one or more.
+    Check {
+        sets: Vec<Named<'a>>,
+    },
     /// `play SET SCRIPT`: a set as for `check`, and a file with a script, or standard input.
-    Play { set: Named<'a>, script: Source<'a> },
+    Play {
+        set: Named<'a>,
+        script: Source<'a>,
+    },
     /// `soak SCRIPT --workers N`: a file with a script, or standard input, and the number of threads, 1 to 16.
-    Soak { script: Source<'a>, workers: usize },
+    Soak {
+        script: Source<'a>,
+        workers: usize,
+    },
     /// `line basic|cyclic`: one end of a link on a line, with a set as for `check`, but never standard input, which is the line.
-    Line { set: Named<'a>, end: LineEnd<'a> },
+    Line {
+        set: Named<'a>,
+        end: LineEnd<'a>,
+    },
+    /// `draw SET`: a set as for `check`; `draw SET PROCESS`, with `--states` or without: one of its processes.
+    Draw {
+        set: Named<'a>,
+        process: Option<&'a str>,
+        states: bool,
+    },
     /// `frame HEX`: the octets of a signal unit in hexadecimal digits, with its check octets.
-    Frame { octets: &'a str },
+    Frame {
+        octets: &'a str,
+    },
 }
 
 /// The set that a word names.
@@ -153,6 +173,8 @@ fn line_of<'a>(given: &ArgMatches<'a>) -> Option<LineEnd<'a>>
         reports: given.get_str("reports"),
         bits: given.get_str("bits"),
         ahead: given.get_str("ahead"),
+        capture: given.get_str("capture"),
+        every: is_given(given.get_str("every")),
     })
 }
 
@@ -160,6 +182,7 @@ fn line_of<'a>(given: &ArgMatches<'a>) -> Option<LineEnd<'a>>
 fn lined<'a>(given: &ArgMatches<'a>) -> Option<Request<'a>>
     ensures named { IfSome result (λ r. command_of r ≡ codes "line") }
     ensures asked { IfSome result (IsAsked (given_by given.now)) }
+    ensures all { IfSome result (AreAllAsked (rows_of (found_of given.now))) }
     ensures none { IsNone result → IsNoLine (given_by given.now) }
 {
     let set = text_of(given.get_str("text"))?;
@@ -167,20 +190,38 @@ fn lined<'a>(given: &ArgMatches<'a>) -> Option<Request<'a>>
     Some(Request::Line { set, end })
 }
 
-/// What the matches of `check` ask for.
-fn checked<'a>(given: &ArgMatches<'a>) -> Option<Request<'a>>
-    ensures named { IfSome result (λ r. command_of r ≡ codes "check") }
-    ensures asked { IfSome result (IsAsked (given_by given.now)) }
-    ensures none { IsNone result → IsNoCheck (given_by given.now) }
+/// The sets that these words name, in their order.
+fn sets_named<'a>(alloc: Global, words: &[&'a str]) -> Result<Vec<Named<'a>>, AllocError>
+    ensures { IfOk result (λ v. AreNamed v.items (map (λ w. w.now) words.now)) }
 {
-    let set = set_named(given.get_str("SET")?);
-    Some(Request::Check { set })
+    let mut sets = Vec::new(alloc);
+    for word in words {
+        sets.push(set_named(word))?;
+    }
+    Ok(sets)
+}
+
+/// What the matches of `check` ask for.
+fn checked<'a>(alloc: Global, given: &ArgMatches<'a>) -> Result<Option<Request<'a>>, AllocError>
+    ensures named { IfOk result (λ o. IfSome o (λ r. command_of r ≡ codes "check")) }
+    ensures asked { IfOk result (λ o. IfSome o (IsAsked (given_by given.now))) }
+    ensures all { IfOk result (λ o. IfSome o (AreAllAsked (rows_of (found_of given.now)))) }
+    ensures none { IfOk result (λ o. IsNone o → IsNoCheck (given_by given.now)) }
+{
+    match given.get_strs("SET") {
+        Some(words) => {
+            let sets = sets_named(alloc, words)?;
+            Ok(Some(Request::Check { sets }))
+        }
+        None => Ok(None),
+    }
 }
 
 /// What the matches of `play` ask for.
 fn asked_play<'a>(given: &ArgMatches<'a>) -> Option<Request<'a>>
     ensures named { IfSome result (λ r. command_of r ≡ codes "play") }
     ensures asked { IfSome result (IsAsked (given_by given.now)) }
+    ensures all { IfSome result (AreAllAsked (rows_of (found_of given.now))) }
     ensures none { IsNone result → IsNoPlay (given_by given.now) }
 {
     let set = given.get_str("SET")?;
@@ -192,6 +233,7 @@ fn asked_play<'a>(given: &ArgMatches<'a>) -> Option<Request<'a>>
 fn asked_soak<'a>(given: &ArgMatches<'a>) -> Option<Request<'a>>
     ensures named { IfSome result (λ r. command_of r ≡ codes "soak") }
     ensures asked { IfSome result (IsAsked (given_by given.now)) }
+    ensures all { IfSome result (AreAllAsked (rows_of (found_of given.now))) }
     ensures none { IsNone result → IsNoSoak (given_by given.now) }
 {
     let script = given.get_str("SCRIPT")?;
@@ -203,25 +245,62 @@ fn asked_soak<'a>(given: &ArgMatches<'a>) -> Option<Request<'a>>
 fn framed<'a>(given: &ArgMatches<'a>) -> Option<Request<'a>>
     ensures named { IfSome result (λ r. command_of r ≡ codes "frame") }
     ensures asked { IfSome result (IsAsked (given_by given.now)) }
+    ensures all { IfSome result (AreAllAsked (rows_of (found_of given.now))) }
     ensures none { IsNone result → IsNoFrame (given_by given.now) }
 {
     let octets = given.get_str("HEX")?;
     Some(Request::Frame { octets })
 }
 
-/// What the matches of the command of this name ask for.
-fn asked<'a>(name: &str, given: &ArgMatches<'a>) -> Option<Request<'a>>
-    ensures named { IfSome result (λ r. command_of r ≡ name.now) }
+/// What the matches of `draw` ask for.
+fn drawn<'a>(given: &ArgMatches<'a>) -> Option<Request<'a>>
+    ensures named { IfSome result (λ r. command_of r ≡ codes "draw") }
     ensures asked { IfSome result (IsAsked (given_by given.now)) }
-    ensures none { IsNone result → AsksNothing name.now (given_by given.now) }
+    ensures all { IfSome result (AreAllAsked (rows_of (found_of given.now))) }
+    ensures none { IsNone result → IsNoDraw (given_by given.now) }
+{
+    let word = given.get_str("SET")?;
+    let set = set_named(word);
+    let states = is_given(given.get_str("states"));
+    match given.get_str("PROCESS") {
+        Some(name) => Some(Request::Draw {
+            set,
+            process: Some(name),
+            states,
+        }),
+        None => {
+            if states {
+                None
+            } else {
+                Some(Request::Draw {
+                    set,
+                    process: None,
+                    states,
+                })
+            }
+        }
+    }
+}
+
+/// What the matches of the command of this name ask for.
+fn asked<'a>(
+    alloc: Global,
+    name: &str,
+    given: &ArgMatches<'a>,
+) -> Result<Option<Request<'a>>, AllocError>
+    ensures named { IfOk result (λ o. IfSome o (λ r. command_of r ≡ name.now)) }
+    ensures asked { IfOk result (λ o. IfSome o (IsAsked (given_by given.now))) }
+    ensures all { IfOk result (λ o. IfSome o (AreAllAsked (rows_of (found_of given.now)))) }
+    ensures none { IfOk result (λ o. IsNone o → AsksNothing name.now (given_by given.now)) }
 {
     match name {
-        "check" => checked(given),
-        "play" => asked_play(given),
-        "soak" => asked_soak(given),
-        "line" => lined(given),
-        "frame" => framed(given),
-        _ => None,
+        "check" => checked(alloc, given),
+        "play" => Ok(asked_play(given)),
+        "soak" => Ok(asked_soak(given)),
+        "line" => Ok(lined(given)),
+        "frame" => Ok(framed(given)),
+        "draw" => Ok(drawn(given)),
+        _ => Ok(None),
     }
 }
 
@@ -240,7 +319,8 @@ pub fn read<'a>(alloc: Global, given: &'a [String]) -> Result<Request<'a>, Error
 {
     let mut commands = all_commands(alloc)?;
     let matches = commands.try_get_matches_from_mut(given)?;
-    match request_of(&matches) {
+    let request = request_of(alloc, &matches)?;
+    match request {
         Some(request) => Ok(request),
         None => Err(commands.error(ErrorKind::InvalidSubcommand, complaint_of(&matches))?),
     }
@@ -257,16 +337,22 @@ fn complaint_of(matches: &ArgMatches<'_>) -> &'static str {
         "line" => {
             "MODE is basic or cyclic, --bits low or high, --ahead a number up to 8000; standard input is the line, so it can't be --text"
         }
+        "draw" => "--states is for a PROCESS",
         _ => "no such command",
     }
 }
 
 /// The request that the matches stand for.
-fn request_of<'a>(matches: &ArgMatches<'a>) -> Option<Request<'a>>
-    ensures named { IfSome result (λ r. subcommand_name_of matches.now ≡ Some (command_of r)) }
-    ensures asked { IfSome result (IsAskedBy (subcommand_rows_of matches.now)) }
-    ensures none { IsNone result → SaysNothing (subcommand_rows_of matches.now) }
+fn request_of<'a>(
+    alloc: Global,
+    matches: &ArgMatches<'a>,
+) -> Result<Option<Request<'a>>, AllocError>
+    ensures named { IfOk result (λ o. IfSome o (λ r. subcommand_name_of matches.now ≡ Some (command_of r))) }
+    ensures asked { IfOk result (λ o. IfSome o (IsAskedBy (subcommand_rows_of matches.now))) }
+    ensures none { IfOk result (λ o. IsNone o → SaysNothing (subcommand_rows_of matches.now)) }
 {
-    let (name, given) = matches.subcommand()?;
-    asked(name, given)
+    match matches.subcommand() {
+        Some((name, given)) => asked(alloc, name, given),
+        None => Ok(None),
+    }
 }

@@ -67,6 +67,13 @@ hear_by Basic r fsn fib has_msu =
     else hear_unlike r
 hear_by Cyclic r fsn fib has_msu = if is_in_turn r fsn has_msu then accepts r else discards r
 
+-- What a unit gives while no message is to be accepted: it is judged as ever, by its forward
+-- indicator, and then discarded. What is known stays: the number accepted last, the indicator that
+-- goes out, and what is asked for.
+abbrev pub hear_aside : Mode → Intake → ℕ → Hearing
+hear_aside Basic r fib = if fib == r.bib then discards r else hear_unlike r
+hear_aside Cyclic r fib = discards r
+
 -- What a unit gives.
 abbrev pub hear : Intake → ℕ → ℕ → Bool → Hearing
 hear r fsn fib has_msu = hear_by r.mode r fsn fib has_msu

@@ -1,6 +1,6 @@
 //! The receiving side.
 ghost use Rattle.std.specs.Prelude.{◌≡◌, ◌<◌};
-ghost use Rattle.resend_store.specs.Intake.{first_intake, hear, hear_unlike};
+ghost use Rattle.resend_store.specs.Intake.{first_intake, hear, hear_aside, hear_unlike};
 
 use crate::messages::{Mode, Verdict};
 use crate::refusals::UnitError;
@@ -91,6 +91,19 @@ impl Receiver {
         self.bib = 1 - self.bib;
         self.nack_out = true;
         Ok(Verdict::Nack)
+    }
+
+    /// Judges a unit by its forward bit, 0 or 1, while no message is to be accepted: a message is discarded, and nothing changes, whatever
+    /// the unit carries.
+    ///
+    /// `BadIndicator` as `on_unit` answers it.
+    pub fn set_aside(&self, fib: u8) -> Result<Verdict, UnitError>
+        ensures { result ≡ (hear_aside self.now.mode self.now fib).verdict }
+    {
+        if self.mode == Mode::Basic && fib != self.bib {
+            return self.unlike();
+        }
+        Ok(Verdict::Discard)
     }
 
     /// What a unit gives whose bit differs from the one that goes out.

@@ -1,5 +1,5 @@
 -- Texts of which no more is kept than a text may have.
-use Rattle.std.proofs.Common.{◌≡◌, ℕ, ◌+◌, ◌<◌, ◌≤◌, ◌==◌, nat_lt, true, false, List, length, take, Option, Some, Result, Ok, Err, IfOk, IfErr, refl, ap, ◌∙◌, arith, subst, length-take}
+use Rattle.std.proofs.Common.{◌≡◌, ℕ, min, codes, inl, inr, IfSome, ◌+◌, ◌<◌, ◌≤◌, ◌==◌, nat_lt, true, false, List, length, take, Option, Some, Result, Ok, Err, IfOk, IfErr, refl, ap, ◌∙◌, arith, subst, length-take}
 use Rattle.std.specs.Prelude.{count_by}
 use borrow.Author.Tests.{ltb-true, ltb-false}
 use Rattle.std.proofs.lemmas.List.{take_all}
@@ -7,11 +7,14 @@ use Rattle.sdl_lex.specs.Lexed.{Answers, over_long, in_room}
 use Rattle.sdl_lex.specs.declared.lexemes.Token.{Token}
 use Rattle.sdl_lex.specs.declared.lexemes.LexFault.TheVariants.{TooLong}
 use Rattle.turn_code.specs.declared.draft.Draft.{Draft}
-use Rattle.mtp2_text.specs.Loaded.{IsUnlexed}
+use Rattle.script_point.specs.Loaded.{IsUnlexed}
 use Rattle.plain_text.specs.Reading.{LONGEST, Keeps, IsReading}
 use Rattle.plain_text.specs.declared.reading.TextRead.{TextRead}
 use Rattle.script_check.specs.declared.sets.SetFault.{SetFault}
-use Rattle.script_check.specs.Checked.{IsGiven, IsNotAccepted, IsSetOf, IsRefusal, IsRefusalOf, IsTooLong}
+use Rattle.script_check.specs.declared.sets.Refusal.{Refusal}
+use Rattle.script_check.specs.Checked.{AreFirst, IsGiven, IsNotAccepted, IsSetOf, IsRefusal, IsRefusalOf, IsRefusedAt, IsTooLong, PointsIn, PointsOut}
+use Rattle.script_point.specs.Pointed.{IsHead}
+use Rattle.script_point.specs.turn_verify_types.loading.LoadFault.{LoadFault}
 use Rattle.plain_laws.proofs.Lists.{take_twice}
 
 -- the fault of a text that is too long
@@ -71,3 +74,59 @@ pub fault_own : (r : Result Draft SetFault) (text : List ℕ) → IfErr r (λ e.
     → IfErr r (λ e. IsRefusal e → IsGiven (Some text) (λ bytes. IsRefusalOf bytes e))
 fault_own (Ok v) text fault = tt
 fault_own (Err e) text fault = λ judged. record { bytes = text; are_known = refl; holds = fault judged }
+
+-- ---- with their places
+
+pub set_passed : (loaded : Result Draft SetFault) (r : Result Draft Refusal) (P : Draft → Type 0) → IfOk r (λ v. loaded ≡ Ok v) → IfOk loaded P → IfOk r P
+set_passed (Ok w) (Ok v) P same set = let is : w ≡ v = cc in subst P is set
+set_passed (Err e) (Ok v) P same set = absurd (let bad : ⊥ = cc in bad)
+set_passed loaded (Err x) P same set = tt
+
+fault_placed : (loaded : Result Draft SetFault) (r : Result Draft Refusal) (kept : List ℕ) (known : Option (List ℕ)) (bytes : List ℕ)
+    → IfSome known (λ all. bytes ≡ all) → AreFirst bytes kept
+    → IfErr r (λ x. IsRefusal x.fault → (loaded ≡ Err x.fault) × PointsOut kept x.fault x.pointed.items)
+    → IfErr loaded (λ e. IsRefusal e → IsRefusalOf bytes e) → IfErr r (λ x. IsRefusal x.fault → IsGiven known (λ all. IsRefusedAt all x))
+fault_placed loaded (Ok v) kept known bytes is first points fault = tt
+fault_placed loaded (Err x) kept known bytes is first points fault = λ judged.
+    let P : Result Draft SetFault → Type 0 = λ l. IfErr l (λ e. IsRefusal e → IsRefusalOf bytes e) in
+    let there = points judged in
+    record {
+      bytes = bytes;
+      are_known = is;
+      holds = record {
+        refused = subst P there.0 fault judged;
+        kept = kept;
+        first = first;
+        points = there.1;
+      };
+    }
+
+pub fault_placed_own : (loaded : Result Draft SetFault) (r : Result Draft Refusal) (text kept : List ℕ) → kept ≡ text
+    → IfErr r (λ x. IsRefusal x.fault → (loaded ≡ Err x.fault) × PointsOut kept x.fault x.pointed.items)
+    → IfErr loaded (λ e. IsRefusal e → IsRefusalOf text e) → IfErr r (λ x. IsRefusal x.fault → IsGiven (Some text) (λ all. IsRefusedAt all x))
+fault_placed_own loaded r text kept is points fault = fault_placed loaded r kept (Some text) text refl (inl is) points fault
+
+fault_at : (loaded : Result Draft SetFault) (read : TextRead) (bytes : List ℕ) → Keeps bytes read
+    → IfErr loaded (λ e. IsRefusal e → (all : List ℕ) → Keeps all read → IsRefusalOf all e) → IfErr loaded (λ e. IsRefusal e → IsRefusalOf bytes e)
+fault_at (Ok v) read bytes keeps fault = tt
+fault_at (Err e) read bytes keeps fault = λ judged. fault judged bytes keeps
+
+pub fault_placed_read : (loaded : Result Draft SetFault) (r : Result Draft Refusal) (known : Option (List ℕ)) (read : TextRead) (kept : List ℕ) → kept ≡ read.kept.items
+    → IsReading known read
+    → IfErr r (λ x. IsRefusal x.fault → (loaded ≡ Err x.fault) × PointsOut kept x.fault x.pointed.items)
+    → IfErr loaded (λ e. IsRefusal e → (bytes : List ℕ) → Keeps bytes read → IsRefusalOf bytes e)
+    → IfErr r (λ x. IsRefusal x.fault → IsGiven known (λ all. IsRefusedAt all x))
+fault_placed_read loaded r known read kept is reading points fault =
+    fault_placed loaded r kept known reading.bytes reading.are_known (inr (is ∙ reading.keeps.first)) points
+    (fault_at loaded read reading.bytes reading.keeps fault)
+
+-- a text that is too long is pointed at where it is cut
+pub at_limit : (kept : List ℕ) (fault : LoadFault) (lines : List ℕ) → LONGEST < length kept
+    → IsHead kept (min LONGEST (length kept)) (codes "L3 TooLong") (codes "a text has 262144 octets at most") lines → PointsIn kept fault lines
+at_limit kept fault lines long h = record {
+  whole = λ short utf8. let no : ⊥ = omega (arith, short, long) in absurd no;
+  cut = λ _.
+      let same : min LONGEST (length kept) ≡ LONGEST = omega (arith, long) in
+      let P : ℕ → Type 0 = λ n. IsHead kept n (codes "L3 TooLong") (codes "a text has 262144 octets at most") lines in
+      subst P same h;
+}

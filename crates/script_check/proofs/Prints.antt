@@ -1,10 +1,11 @@
 -- What was printed, put together.
-use Rattle.std.proofs.Common.{◌≡◌, ℕ, List, Option, None, Some, IfSome, subst}
+use Rattle.std.proofs.Common.{◌≡◌, ℕ, List, ◌++◌, Option, None, Some, IfSome, subst}
 use Rattle.std.specs.Io.KnownBytes.{Appends}
 use Rattle.turn_code.specs.declared.draft.Draft.{Draft}
 use Rattle.script_check.specs.declared.sets.SetFault.{SetFault}
 use Rattle.script_check.specs.Printed.{refusal_line, set_lines}
-use Rattle.script_check.specs.Checked.{IsGiven, IsAccepted, IsNotAccepted, IsSetOf, IsRefusal, IsRefusalOf, PrintsCosts, PrintsRefusal}
+use Rattle.script_check.specs.declared.sets.Refusal.{Refusal}
+use Rattle.script_check.specs.Checked.{IsGiven, IsAccepted, IsNotAccepted, IsSetOf, IsRefusal, IsRefusalOf, IsRefusedAt, PrintsCosts, PrintsPointed, PrintsRefusal}
 
 -- what is known of the text of an accepted set
 pub is_accepted : (bytes : List ℕ) (d : Draft) → IsSetOf bytes d → IsAccepted bytes
@@ -28,3 +29,15 @@ pub refusal_printed : (known old new : Option (List ℕ)) (fault : SetFault) →
     → Appends old new (refusal_line fault) → IsGiven known (PrintsRefusal old new)
 refusal_printed known old new fault judged g printed =
     record { bytes = g.bytes; are_known = g.are_known; holds = record { fault = fault; judged = judged; is_so = g.holds.is_so; printed = printed } }
+
+-- the same of a refusal with its place
+pub of_refusal : (known : Option (List ℕ)) (r : Refusal) → IsGiven known (λ bytes. IsRefusedAt bytes r) → IsGiven known (λ bytes. IsRefusalOf bytes r.fault)
+of_refusal known r g = record { bytes = g.bytes; are_known = g.are_known; holds = g.holds.refused }
+
+pub pointed_printed : (known old new told tells : Option (List ℕ)) (name : List ℕ) (r : Refusal) → IsRefusal r.fault → IsGiven known (λ bytes. IsRefusedAt bytes r)
+    → Appends old new (refusal_line r.fault) → Appends told tells (name ++ r.pointed.items) → IsGiven known (PrintsPointed name old new told tells)
+pointed_printed known old new told tells name r judged g printed pointed = record {
+  bytes = g.bytes;
+  are_known = g.are_known;
+  holds = record { refusal = r; judged = judged; is_so = g.holds; printed = printed; pointed = pointed };
+}

@@ -1,12 +1,17 @@
 -- What the status of a check says of the text that was read, and of what was written.
-use Rattle.std.specs.Prelude.{◌≡◌, ℕ, ◌+◌, ◌<◌, List, length, take, Option, Some, IfSome, IsUtf8}
+use Rattle.std.specs.Prelude.{◌≡◌, ◌⊎◌, ℕ, ◌+◌, ◌<◌, ◌≤◌, List, [], ◌++◌, length, take}
+use Rattle.std.specs.Prelude.{Option, Some, IfSome, IsUtf8, codes}
 use Rattle.std.specs.Io.KnownBytes.{Appends}
-use Rattle.mtp2_text.specs.declared.standard_text.TheConstants.{STANDARD}
-use Rattle.mtp2_text.specs.declared.monitors_text.TheConstants.{MONITORS}
+use Rattle.script_point.specs.mtp2_text_types.standard_text.TheConstants.{STANDARD}
+use Rattle.script_point.specs.mtp2_text_types.monitors_text.TheConstants.{MONITORS}
 use Rattle.plain_text.specs.Reading.{LONGEST}
 use Rattle.turn_code.specs.declared.draft.Draft.{Draft}
-use Rattle.mtp2_text.specs.Loaded.{IsSound, IsLoaded, IsRefused}
-use Rattle.mtp2_text.specs.turn_verify_types.loading.LoadFault.TheVariants.{NoMemory}
+use Rattle.script_point.specs.Loaded.{IsSound, IsLoaded, IsRefused}
+use Rattle.script_point.specs.turn_verify_types.loading.LoadFault.{LoadFault}
+use Rattle.script_point.specs.turn_verify_types.loading.LoadFault.TheVariants.{NoMemory}
+use Rattle.script_point.specs.Pointing.{IsPointedOut}
+use Rattle.script_point.specs.Pointed.{bare_text, IsHead}
+use Rattle.script_check.specs.declared.sets.Refusal.{Refusal}
 use Rattle.script_check.specs.declared.sets.SetFault.{SetFault}
 use Rattle.script_check.specs.declared.sets.SetFault.TheVariants.{NotRead, NotText, Load}
 use Rattle.script_check.specs.declared.sets.SetWord.{SetWord}
@@ -66,6 +71,32 @@ pub record IsTooLong (bytes kept : List ℕ) : Type 0 where
   pub long : LONGEST < length bytes
   pub first : kept ≡ take (LONGEST + 1) bytes
 
+-- ---- where a text is refused
+
+-- The lines point at a fault of a text that begins with these bytes; where they are more than a
+-- text may have the first byte too many is told by its line and column.
+pub record PointsIn (kept : List ℕ) (fault : LoadFault) (lines : List ℕ) : Type 0 where
+  pub whole : length kept ≤ LONGEST → IsUtf8 kept → IsPointedOut kept fault lines
+  pub cut : LONGEST < length kept
+      → IsHead kept LONGEST (codes "L3 TooLong") (codes "a text has 262144 octets at most") lines
+
+-- the same of any fault; bytes that are no text have no place
+abbrev pub PointsOut : List ℕ → SetFault → List ℕ → Type 0
+PointsOut kept NotRead lines = Unit {0}
+PointsOut kept NotText lines = lines ≡ bare_text (codes "F1 NotText") []
+PointsOut kept (Load fault) lines = PointsIn kept fault lines
+
+-- all bytes, or the first of too many
+abbrev pub AreFirst : List ℕ → List ℕ → Type 0
+AreFirst bytes kept = (kept ≡ bytes) ⊎ (kept ≡ take (LONGEST + 1) bytes)
+
+-- the bytes have this fault, and its lines point at it there
+pub record IsRefusedAt (bytes : List ℕ) (refusal : Refusal) : Type 0 where
+  pub refused : IsRefusalOf bytes refusal.fault
+  pub kept : List ℕ
+  pub first : AreFirst bytes kept
+  pub points : PointsOut kept refusal.fault refusal.pointed.items
+
 -- what is written grows by the lines of the set of the bytes, all of them
 pub record PrintsCosts (old new : Option (List ℕ)) (bytes : List ℕ) : Type 0 where
   pub draft : Draft
@@ -78,3 +109,13 @@ pub record PrintsRefusal (old new : Option (List ℕ)) (bytes : List ℕ) : Type
   pub judged : IsRefusal fault
   pub is_so : IsFaultOf bytes fault
   pub printed : Appends old new (refusal_line fault)
+
+-- What is written grows by the line of a fault that the bytes have, and what is told by a name and
+-- the lines that point at it there; both by nothing else.
+pub record PrintsPointed (name : List ℕ) (old new told tells : Option (List ℕ)) (bytes : List ℕ) :
+    Type 0 where
+  pub refusal : Refusal
+  pub judged : IsRefusal refusal.fault
+  pub is_so : IsRefusedAt bytes refusal
+  pub printed : Appends old new (refusal_line refusal.fault)
+  pub pointed : Appends told tells (name ++ refusal.pointed.items)

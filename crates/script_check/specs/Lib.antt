@@ -1,4 +1,5 @@
 pub mod Checked
 pub mod Printed
-pub use Rattle.mtp2_text.specs.Loaded
-pub use Rattle.mtp2_text.specs.declared as mtp2_text_types
+pub use Rattle.script_point.specs.Loaded
+pub use Rattle.script_point.specs.mtp2_text_types
+pub use Rattle.script_point.specs.Fronts

@@ -4,8 +4,8 @@ ghost use Rattle.std.specs.Io.KnownBytes.{Appends};
 ghost use Rattle.std.specs.List.{flat_map};
 ghost use Rattle.script_check.specs.Printed.{trigger_text, start_line, input_line, state_lines, process_lines, set_lines};
 
-use mtp2_text::Verified;
 use plain_text::write_line;
+use script_point::Verified;
 use std::alloc::{AllocError, Global};
 use std::fmt;
 use std::io::{self, Write};

@@ -5,7 +5,7 @@ mod checking;
 mod costs;
 mod sets;
 
-pub use checking::{check, write_refusal};
-pub use mtp2_text::standard;
+pub use checking::{check, refuse_set, tell_refusal, write_refusal};
 pub use plain_text::{FAILED, HELD, REFUSED, USAGE, refuse, write_line};
-pub use sets::{SetFault, SetWord, load_set};
+pub use script_point::{in_front, standard};
+pub use sets::{Refusal, SetFault, SetWord, find_set, load_set};

@@ -1,13 +1,16 @@
 //! Sets of processes, as commands name them.
-ghost use Rattle.std.specs.Prelude.{◌≡◌, ◌↔◌, List, ℕ, IfOk, IfErr, IsFalse};
+ghost use Rattle.std.specs.Prelude.{◌≡◌, ◌↔◌, List, ℕ, Ok, Err, IfOk, IfErr, IsFalse};
 ghost use Rattle.plain_text.specs.Reading.{Keeps};
-ghost use Rattle.mtp2_text.specs.Loaded.{IsRefused};
-ghost use Rattle.script_check.specs.Checked.{given, IsGiven, IsRefusal, IsRefusalOf, IsSetOf, IsText, IsTooLong};
+ghost use Rattle.script_point.specs.Loaded.{IsRefused};
+ghost use Rattle.script_check.specs.Checked.{given, IsGiven, IsRefusal, IsRefusalOf, IsRefusedAt, IsSetOf, IsText, IsTooLong, PointsIn, PointsOut};
 ghost use Rattle.script_check.specs.declared.sets.SetFault.TheVariants.{NotRead};
 
-use mtp2_text::{LexFault, LoadFault, MONITORS, STANDARD, Verified, load, monitors, standard};
 use plain_text::{MOST_BYTES, TextRead, line_at_limit, read_text};
-use std::alloc::Global;
+use script_point::{
+    LexFault, LoadFault, MONITORS, STANDARD, Verified, load, monitors, point_head, point_nowhere,
+    point_out, standard,
+};
+use std::alloc::{AllocError, Global};
 use std::io::Read;
 use std::{fmt, str};
 use thiserror::Error;
@@ -62,6 +65,15 @@ impl SetFault {
     }
 }
 
+/// Why there is no set, and where in its text.
+#[derive(Debug, Drop)]
+pub struct Refusal {
+    /// Why there is none.
+    pub fault: SetFault,
+    /// The lines that point at it, behind the name of the text's file; none where no text is refused.
+    pub pointed: Vec<u8>,
+}
+
 /// The fault of a text that is too long, of which these are the first bytes.
 fn too_long(kept: &[u8]) -> LoadFault
     ensures { (bytes : List ℕ) → IsTooLong bytes kept.now → IsRefused bytes result }
@@ -100,17 +112,6 @@ fn text_set(alloc: Global, text: &str) -> Result<Verified, SetFault>
     }
 }
 
-/// The set of the text that a reader gives, or why it has none.
-fn read_set<R: Read>(alloc: Global, reader: &mut R) -> Result<Verified, SetFault>
-    ensures set { IfOk result (λ v. IsGiven (R.remaining reader.old) (λ bytes. IsSetOf bytes v)) }
-    ensures fault { IfErr result (λ e. IsRefusal e → IsGiven (R.remaining reader.old) (λ bytes. IsRefusalOf bytes e)) }
-{
-    match read_text(alloc, reader) {
-        Ok(read) => set_in(alloc, &read),
-        Err(_) => Err(SetFault::NotRead),
-    }
-}
-
 /// The set of `standard`.
 fn standard_set(alloc: Global) -> Result<Verified, SetFault>
     ensures set { IfOk result (IsSetOf STANDARD.now) }
@@ -135,21 +136,110 @@ fn monitors_set(alloc: Global) -> Result<Verified, SetFault>
     }
 }
 
-/// The set that a command names, or why there is none. A text is read whole, to its end: bytes that are no text come
+/// Points at a fault of a text that begins so: with its first bytes, up to one more than a text may have.
+fn point_at(alloc: Global, kept: &[u8], fault: &SetFault) -> Result<Vec<u8>, AllocError>
+    ensures { IfOk result (λ v. PointsOut kept.now fault.now v.items) }
+{
+    match fault {
+        SetFault::Load(fault) => point_in(alloc, kept, fault),
+        SetFault::NotText => point_nowhere(alloc, "F1 NotText", ""),
+        SetFault::NotRead => Ok(Vec::new(alloc)),
+    }
+}
+
+/// Points at what `load` says of a text; where that is too long, at the first byte too many.
+fn point_in(alloc: Global, kept: &[u8], fault: &LoadFault) -> Result<Vec<u8>, AllocError>
+    ensures { IfOk result (λ v. PointsIn kept.now fault.now v.items) }
+{
+    if kept.len() > MOST_BYTES {
+        return point_head(
+            alloc,
+            kept,
+            MOST_BYTES,
+            "L3 TooLong",
+            "a text has 262144 octets at most",
+        );
+    }
+    match str::from_utf8(kept) {
+        Ok(text) => point_out(alloc, text, fault),
+        Err(_) => Ok(Vec::new(alloc)),
+    }
+}
+
+/// A fault with the lines that point at it; want of memory in place of it, where there is none for these.
+fn refusal_of(alloc: Global, kept: &[u8], fault: SetFault) -> Refusal
+    ensures refused { IsRefusal result.fault → (result.fault ≡ fault) × PointsOut kept.now result.fault result.pointed.items }
+    ensures read { result.fault ≡ NotRead → fault ≡ NotRead }
+{
+    match point_at(alloc, kept, &fault) {
+        Ok(pointed) => Refusal { fault, pointed },
+        Err(_) => Refusal {
+            fault: SetFault::Load(LoadFault::NoMemory),
+            pointed: Vec::new(alloc),
+        },
+    }
+}
+
+/// The set of a text that begins so, or why it has none, and where.
+fn pointed_set(
+    alloc: Global,
+    kept: &[u8],
+    loaded: Result<Verified, SetFault>,
+) -> Result<Verified, Refusal>
+    ensures set { IfOk result (λ v. loaded ≡ Ok v) }
+    ensures fault { IfErr result (λ r. IsRefusal r.fault → (loaded ≡ Err r.fault) × PointsOut kept.now r.fault r.pointed.items) }
+    ensures read { IfErr result (λ r. r.fault ≡ NotRead → loaded ≡ Err NotRead) }
+{
+    match loaded {
+        Ok(set) => Ok(set),
+        Err(fault) => Err(refusal_of(alloc, kept, fault)),
+    }
+}
+
+/// The set of the text that a reader gives, or why it has none, and where.
+fn read_set<R: Read>(alloc: Global, reader: &mut R) -> Result<Verified, Refusal>
+    ensures set { IfOk result (λ v. IsGiven (R.remaining reader.old) (λ bytes. IsSetOf bytes v)) }
+    ensures fault { IfErr result (λ r. IsRefusal r.fault → IsGiven (R.remaining reader.old) (λ bytes. IsRefusedAt bytes r)) }
+{
+    match read_text(alloc, reader) {
+        Ok(read) => {
+            let loaded = set_in(alloc, &read);
+            pointed_set(alloc, &read.kept, loaded)
+        }
+        Err(_) => Err(Refusal {
+            fault: SetFault::NotRead,
+            pointed: Vec::new(alloc),
+        }),
+    }
+}
+
+/// The set that a command names, or why there is none, and where in its text. A text is read whole, to its end: bytes that are no text come
 /// before a text that is too long. No more than 262,145 bytes of it are kept.
 ///
 /// # Errors
 ///
-/// [`SetFault::NotText`] (F1) where the bytes aren't UTF-8, [`SetFault::Load`] with what `load` says of the text, or
+/// Of the fault [`SetFault::NotText`] (F1) where the bytes aren't UTF-8, [`SetFault::Load`] with what `load` says of the text, or
 /// [`SetFault::NotRead`] where a read of the text failed, so never of the program's own sets. Any call may answer [`LoadFault::NoMemory`] instead.
+pub fn find_set<R: Read + Drop>(alloc: Global, set: SetWord<R>) -> Result<Verified, Refusal>
+    ensures set { IfOk result (λ v. IsGiven (given R.remaining set) (λ bytes. IsSetOf bytes v)) }
+    ensures fault { IfErr result (λ r. IsRefusal r.fault → IsGiven (given R.remaining set) (λ bytes. IsRefusedAt bytes r)) }
+    ensures read { IfErr result (λ r. r.fault ≡ NotRead → IsText set) }
+{
+    match set {
+        SetWord::Standard => pointed_set(alloc, STANDARD.as_bytes(), standard_set(alloc)),
+        SetWord::Monitors => pointed_set(alloc, MONITORS.as_bytes(), monitors_set(alloc)),
+        SetWord::Text(mut reader) => read_set(alloc, &mut reader),
+    }
+}
+
+/// The set that a command names, or why there is none, as `find_set` gives it, without its place.
 pub fn load_set<R: Read + Drop>(alloc: Global, set: SetWord<R>) -> Result<Verified, SetFault>
     ensures set { IfOk result (λ v. IsGiven (given R.remaining set) (λ bytes. IsSetOf bytes v)) }
     ensures fault { IfErr result (λ e. IsRefusal e → IsGiven (given R.remaining set) (λ bytes. IsRefusalOf bytes e)) }
     ensures read { IfErr result (λ e. e ≡ NotRead → IsText set) }
 {
-    match set {
-        SetWord::Standard => standard_set(alloc),
-        SetWord::Monitors => monitors_set(alloc),
-        SetWord::Text(mut reader) => read_set(alloc, &mut reader),
+    match find_set(alloc, set) {
+        Ok(set) => Ok(set),
+        Err(Refusal { fault, pointed: _ }) => Err(fault),
     }
 }

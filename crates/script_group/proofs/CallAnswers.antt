@@ -1,6 +1,6 @@
 -- What calls make of a set.
-use Rattle.std.proofs.Common.{◌≡◌, ℕ, ◌<◌, suc, List, [], ◌∷◌, ◌++◌, get_or, Option, None, Some, refl, sym, ap, subst, ◌∙◌}
-use Rattle.std.specs.Prelude.{codes}
+use Rattle.std.proofs.Common.{◌≡◌, ℕ, ◌<◌, ◌≤◌, zero, suc, Bool, List, [], ◌∷◌, ◌++◌, length, get_or, Option, None, Some, refl, sym, ap, subst, ◌∙◌, arith, inl, inr}
+use Rattle.std.specs.Prelude.{◌⊎◌, ◌↔◌, Result, Ok, Err, codes}
 use Rattle.std.specs.Fmt.{decimal}
 use Rattle.arrayvec.specs.ArrayVec.{ArrayVec}
 use Rattle.resend_store.specs.declared.messages.Msu.{Msu}
@@ -13,18 +13,20 @@ use Rattle.group_changeover.specs.Changeovers.{Says}
 use Rattle.link_group.specs.Set.{LinkSet, send_fault, sent}
 use Rattle.link_group.specs.Changing.{fail_fault, after_failure, order_at, IsReply}
 use Rattle.link_group.specs.Commanding.{Commanded}
-use Rattle.link_group.specs.Lines.{ByLink, IsCommandError}
+use Rattle.link_group.specs.Lines.{ByLink, IsCommandError, after_admission}
 use Rattle.link_group.specs.Placing.{rebalance_fault, rebalanced}
 use Rattle.link_group.specs.Printed.{send_error_text, fail_error_text, rebalance_error_text}
 use Rattle.link_group.specs.Ticking.{all_due}
 use Rattle.link_group.specs.Ticks.{with_room, tick_fault, after_ticks, IsTickError}
 use Rattle.link_group.specs.group_changeover_types.errors.CommandError.{CommandError}
 use Rattle.link_group.specs.group_changeover_types.errors.CommandError.TheVariants as barring
+use Rattle.link_group.specs.group_changeover_types.errors.LinkError.{LinkError}
+use Rattle.link_group.specs.group_changeover_types.errors.LinkError.TheVariants as linking
 use Rattle.link_group.specs.group_changeover_types.errors.SendError.{SendError}
 use Rattle.link_group.specs.group_changeover_types.errors.FailError.{FailError}
 use Rattle.link_group.specs.group_changeover_types.errors.RebalanceError.{RebalanceError}
 use Rattle.script_terminal.specs.TermAnswers.{IsMessageOf, IsRefusedLine}
-use Rattle.script_group.specs.GroupAnswers.{said_by, set_by, octets_line, IsTold, IsBarredLine, Passes, IsSent, Fails, IsReplied, Rebalances}
+use Rattle.script_group.specs.GroupAnswers.{NO_LINK, said_by, set_by, octets_line, IsTold, IsBarredLine, Passes, IsSent, Fails, IsReplied, Rebalances, Admits}
 use Rattle.script_group.specs.GroupAnswers as answers
 
 -- ---- lines
@@ -153,3 +155,39 @@ rebalanced_why c d e text is fault makes =
       says = says_why rebalance_error_text (rebalance_fault c) e text is fault;
       makes = makes_none (rebalance_fault c) e d (rebalanced c) c makes fault;
     }
+
+-- ---- level 3 admits a link
+
+admits_at : (way : Bool) (l : ℕ) (c d w : LinkSet) (text said : List ℕ) → text ≡ said → d ≡ w → Admits way l c said w → Admits way l c text d
+admits_at way l c d w text said is makes was =
+    let P : List ℕ → Type 0 = λ x. Admits way l c x w in
+    let Q : LinkSet → Type 0 = λ x. Admits way l c text x in
+    subst Q (sym makes) (subst P (sym is) was)
+
+order : (n l : ℕ) → (l < n) ⊎ (n ≤ l)
+order zero l = inr (omega arith)
+order (suc n) zero = inl (omega arith)
+order (suc n) (suc l) = more (order n l)
+  where
+    more : (l < n) ⊎ (n ≤ l) → (suc l < suc n) ⊎ (suc n ≤ suc l)
+    more (inl h) = inl (omega (arith, h))
+    more (inr h) = inr (omega (arith, h))
+
+there : {A E : Type 0} (x : A) (e : E) (n l : ℕ) → (Ok x ≡ Err e) ↔ (n ≤ l) → l < n
+there x e n l iff = by (order n l)
+  where
+    by : (l < n) ⊎ (n ≤ l) → l < n
+    by (inl h) = h
+    by (inr h) = let f : Ok x ≡ Err e = iff.1 h in cc
+
+nowhere : {A : Type 0} (r : Result A LinkError) (e : LinkError) (n l : ℕ) → r ≡ Err e → (r ≡ Err linking.NoLink) ↔ (n ≤ l) → n ≤ l
+nowhere r linking.NoLink n l is iff = iff.0 is
+
+pub admits_ok : {A E : Type 0} (x : A) (e : E) (way : Bool) (l : ℕ) (c d : LinkSet) (text : List ℕ) → (Ok x ≡ Err e) ↔ (length c.links ≤ l) → text ≡ codes "ok" → d ≡ after_admission c l way
+    → Admits way l c text d
+admits_ok x e way l c d text fault is makes =
+    admits_at way l c d (after_admission c l way) text (codes "ok") is makes (answers.admits_one (there x e (length c.links) l fault))
+
+pub admits_nowhere : {A : Type 0} (r : Result A LinkError) (e : LinkError) (way : Bool) (l : ℕ) (c d : LinkSet) (text : List ℕ) → r ≡ Err e → (r ≡ Err linking.NoLink) ↔ (length c.links ≤ l) → text ≡ NO_LINK → d ≡ c
+    → Admits way l c text d
+admits_nowhere r e way l c d text was fault is makes = admits_at way l c d c text NO_LINK is makes (answers.admits_nowhere (nowhere r e (length c.links) l was fault))

@@ -7,7 +7,8 @@ use Rattle.link_group.specs.group_members_types.link.Link.{Link}
 use Rattle.link_group.specs.Links.{read_at}
 use Rattle.link_group.specs.Reading.{held_count, sent_count, book_of}
 use Rattle.script_terminal.specs.Answers.{actor_named, state_line, value_line}
-use Rattle.script_group.specs.GroupAnswers.{NO_LINK, entry_at, entries_to, held_line, state_at, value_at}
+use Rattle.script_group.specs.Shown.{entry_at, entries_to, waited_text}
+use Rattle.script_group.specs.GroupAnswers.{NO_LINK, held_line, state_at, value_at}
 
 pub entries_more : (ts : List (Option ℕ)) (n : ℕ) (old new : List ℕ) → old ≡ entries_to ts n → new ≡ old ++ codes ", " ++ entry_at ts (n + 1)
     → new ≡ entries_to ts (n + 1)
@@ -56,3 +57,6 @@ value_is (Some k) b process variable text is shown =
 pub value_nowhere : (o : Option Link) (process variable text : List ℕ) → None ≡ read_at book_of o → text ≡ NO_LINK → text ≡ value_at process variable o
 value_nowhere None process variable text none is = is
 value_nowhere (Some k) process variable text none is = absurd (cc)
+
+pub waited_is : (waited : Option ℕ) (n : ℕ) (old new : List ℕ) → waited ≡ Some n → new ≡ waited_text (Some n) old → new ≡ waited_text waited old
+waited_is waited n old new is grown = grown ∙ ap (λ (o : Option ℕ). waited_text o old) (sym is)

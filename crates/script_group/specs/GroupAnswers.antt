@@ -15,7 +15,6 @@ use Rattle.link_transceiver.specs.declared.signals.Report.{Report}
 use Rattle.group_changeover.specs.declared.changeover.Changeover.{Changeover}
 use Rattle.su_octets.specs.Bits.{AreOctets}
 use Rattle.group_changeover.specs.Changeovers.{Says}
-use Rattle.group_changeover.specs.Sharing.{link_of}
 use Rattle.link_group.specs.group_members_types.link.Link.{Link}
 use Rattle.link_group.specs.group_changeover_types.errors.CommandError.{CommandError}
 use Rattle.link_group.specs.group_changeover_types.errors.CommandError.TheVariants as barring
@@ -32,7 +31,7 @@ use Rattle.link_group.specs.Changing.{reply_to, retrieve_fault_at, after_retriev
 use Rattle.link_group.specs.Changing.{abandon_fault_at, after_abandon, unsent_at}
 use Rattle.link_group.specs.Diverting.{diverted, after_divert}
 use Rattle.link_group.specs.Placing.{rebalance_fault, rebalanced}
-use Rattle.link_group.specs.Lines.{ByLink, Alone}
+use Rattle.link_group.specs.Lines.{ByLink, Alone, after_admission}
 use Rattle.link_group.specs.Moving.{retrieval_of}
 use Rattle.link_group.specs.Doing.{Listened, Sent, Reported}
 use Rattle.link_group.specs.Commanding.{Commanded, Refused, is_barred}
@@ -40,6 +39,7 @@ use Rattle.link_group.specs.OneLink.{but_memory}
 use Rattle.link_group.specs.Ticking.{all_due}
 use Rattle.link_group.specs.Ticks.{with_room, tick_fault, after_ticks}
 use Rattle.link_group.specs.Reading.{held_count, sent_count}
+use Rattle.link_group.specs.Stating.{state_of}
 use Rattle.link_group.specs.Printed.{send_error_text, fail_error_text, retrieve_error_text}
 use Rattle.link_group.specs.Printed.{abandon_error_text, divert_fault_text, rebalance_error_text}
 use Rattle.script_links.specs.declared.words.GroupWord.{GroupWord}
@@ -50,6 +50,7 @@ use Rattle.script_terminal.specs.Refused.{refused_text}
 use Rattle.script_terminal.specs.Answers.{actor_named, state_line, value_line}
 use Rattle.script_terminal.specs.TermAnswers.{command_of, IsMessageOf}
 use Rattle.script_terminal.specs.UnitLines.{IsLineOf}
+use Rattle.script_group.specs.Shown.{table_line, link_text}
 
 -- messages that a link handed out and that are not diverted yet
 pub record Retrieval : Type 0 where
@@ -291,31 +292,24 @@ pub data Diverts (l : ℕ) (c : LinkSet) (retrievals : List Retrieval) :
       → l < length c.links → IsFound l retrievals h others
       → DivertsRetrieval l c h.messages others text d next → Diverts l c retrievals text d next
 
+-- a link that is there is admitted, or is no longer
+pub data Admits (way : Bool) (l : ℕ) (c : LinkSet) : List ℕ → LinkSet → Type 0 where
+  admits_nowhere : length c.links ≤ l → Admits way l c NO_LINK c
+  admits_one : l < length c.links → Admits way l c (codes "ok") (after_admission c l way)
+
 pub record Rebalances (c : LinkSet) (text : List ℕ) (d : LinkSet) : Type 0 where
   pub says : text ≡ said_by rebalance_error_text (rebalance_fault c)
   pub makes : d ≡ set_by (rebalance_fault c) (rebalanced c) c
 
 -- ---- what is shown
 
-abbrev pub entry_text : ℕ → Option ℕ → List ℕ
-entry_text s None = decimal s ++ codes " -"
-entry_text s (Some l) = decimal s ++ codes " " ++ decimal l
-
--- a selection and its link
-abbrev pub entry_at : List (Option ℕ) → ℕ → List ℕ
-entry_at ts s = entry_text s (link_of ts s)
-
--- those from 0 to one
-unfoldable pub entries_to : List (Option ℕ) → ℕ → List ℕ
-entries_to ts zero = entry_at ts zero
-entries_to ts (suc s) = entries_to ts s ++ codes ", " ++ entry_at ts (suc s)
-
-abbrev pub table_line : List (Option ℕ) → List ℕ
-table_line ts = entries_to ts 15
-
 abbrev pub held_line : Option Link → List ℕ
 held_line None = NO_LINK
 held_line (Some k) = decimal (held_count k) ++ codes " sent " ++ decimal (sent_count k)
+
+abbrev pub link_line : Option Link → List ℕ
+link_line None = NO_LINK
+link_line (Some k) = link_text (state_of k)
 
 abbrev pub state_at : List ℕ → Option Link → List ℕ
 state_at process None = NO_LINK
@@ -356,6 +350,7 @@ WordAnswers words.Rebalance p text q = OnSet (Rebalances p.set) p text q
 WordAnswers words.Table p text q = Shows (table_line p.set.table) p text q
 WordAnswers words.Held p text q = Shows (held_line (slice_get p.set.links p.on)) p text q
 WordAnswers words.Unsure p text q = Shows (decimal p.set.unsure) p text q
+WordAnswers words.Link p text q = Shows (link_line (slice_get p.set.links p.on)) p text q
 
 -- What a command that prints one line makes of what there is, and that line. `out`, `on` and
 -- `expect` are none of these: nothing is done for them here.
@@ -373,6 +368,7 @@ Answers (commands.expected said) p text q = (text ≡ []) × (q ≡ p)
 Answers (commands.on l) p text q = (text ≡ []) × (q ≡ p)
 Answers (commands.sending octets) p text q = OnSet (IsSent octets p.set) p text q
 Answers (commands.message octets) p text q = OnSet (IsHeard octets p.set) p text q
+Answers (commands.admitting way) p text q = OnSet (Admits way p.on p.set) p text q
 Answers (commands.own word) p text q = WordAnswers word p text q
 
 pub record AnswersOne (c : PlainGroupCommand) (p : Playing) (lines : List (List ℕ)) (q : Playing) :

@@ -3,10 +3,10 @@ ghost use Rattle.std.specs.Prelude.{IfOk};
 ghost use Rattle.script_links.specs.GroupCommands.{plain_group_command};
 ghost use Rattle.script_group.specs.GroupAnswers.{at, WordAnswers, Answers};
 
-use crate::calls::{fail, hear, rebalance, send, tell, tick};
+use crate::calls::{admit, fail, hear, rebalance, send, tell, tick};
 use crate::lines::{take_line, take_unit};
 use crate::retrievals::{abandon, divert, retrieve};
-use crate::shown::{held, state, table, unsure, value};
+use crate::shown::{held, link_is, state, table, unsure, value};
 use link_group::{Group, Retrievals};
 use script_links::{GroupCommand, GroupWord};
 use std::alloc::{AllocError, Global};
@@ -30,6 +30,7 @@ fn word_answer(
         GroupWord::Table => table(alloc, group),
         GroupWord::Held => held(alloc, group, link),
         GroupWord::Unsure => unsure(alloc, group),
+        GroupWord::Link => link_is(alloc, group, link),
     }
 }
 
@@ -52,6 +53,7 @@ pub(crate) fn answer(
         GroupCommand::Value(process, variable) => value(alloc, group, link, process, variable),
         GroupCommand::Send(octets) => send(alloc, group, octets),
         GroupCommand::Message(octets) => hear(alloc, group, octets),
+        GroupCommand::Admit(way) => admit(alloc, group, link, *way),
         GroupCommand::Own(word) => word_answer(alloc, group, retrievals, link, *word),
         GroupCommand::Out(_) | GroupCommand::On(_) | GroupCommand::Expect(_) => {
             Ok(Vec::new(alloc))

@@ -1,11 +1,13 @@
 //! Calls of the set that are told or answered by one line.
-ghost use Rattle.std.specs.Prelude.{◌≡◌, IfOk};
+ghost use Rattle.std.specs.Prelude.{◌≡◌, Option, IfOk};
+ghost use Rattle.group_changeover.specs.declared.changeover.Changeover.{Changeover as PlainChangeover};
+ghost use Rattle.link_group.specs.Changing.{IsRead, IsReply, after_message, reply_to};
 ghost use Rattle.script_terminal.specs.TermAnswers.{command_of, IsRefusedLine};
-ghost use Rattle.script_group.specs.GroupAnswers.{IsTold, Passes, IsSent, Fails, IsHeard, Rebalances, IsBarredLine};
+ghost use Rattle.script_group.specs.GroupAnswers.{IsTold, Passes, IsSent, Fails, IsHeard, Admits, Rebalances, IsBarredLine};
 
 use crate::saying::{done, no_link, octets_law, octets_line, refused};
 use group_changeover::label_of;
-use link_group::{CallError, CommandError, Group};
+use link_group::{CallError, CommandError, Group, Sif};
 use script_links::Order;
 use script_terminal::{command_of, message, refused_line, text_line};
 use std::alloc::{AllocError, Global};
@@ -87,16 +89,39 @@ pub(crate) fn fail(alloc: Global, group: &mut Group, link: usize) -> Result<Vec<
     }
 }
 
+/// The answer to octets of a message of changeover.
+fn reply_of(group: &mut Group, octets: &[u8]) -> Option<Sif>
+    ensures set { (m : Option PlainChangeover) → IsRead octets.now m → group.new ≡ after_message group.old m }
+    ensures reply { (m : Option PlainChangeover) → IsRead octets.now m → IsReply (reply_to group.old m) result }
+{
+    group.changeover_message(octets).reply
+}
+
 /// `message HEX`.
 pub(crate) fn hear(alloc: Global, group: &mut Group, octets: &[u8]) -> Result<Vec<u8>, AllocError>
     ensures { IfOk result (λ v. IsHeard octets.now group.old v.items group.new) }
 {
-    match group.changeover_message(octets) {
+    match reply_of(group, octets) {
         Some(sif) => {
             octets_law(sif.as_slice());
             octets_line(alloc, sif.as_slice())
         }
         None => done(alloc),
+    }
+}
+
+/// `admit yes` and `admit no`.
+pub(crate) fn admit(
+    alloc: Global,
+    group: &mut Group,
+    link: usize,
+    way: bool,
+) -> Result<Vec<u8>, AllocError>
+    ensures { IfOk result (λ v. Admits way link group.old v.items group.new) }
+{
+    match group.admit(link, way) {
+        Ok(()) => done(alloc),
+        Err(_) => no_link(alloc),
     }
 }
 

@@ -2,10 +2,11 @@
 ghost use Rattle.std.specs.Prelude.{◌≡◌, ◌++◌, IfOk, OnOk, slice_get, codes};
 ghost use Rattle.std.specs.Fmt.{decimal};
 ghost use Rattle.group_changeover.specs.Sharing.{link_of};
-ghost use Rattle.script_group.specs.GroupAnswers.{entry_at, entries_to, table_line, held_line, state_at, value_at};
+ghost use Rattle.script_group.specs.GroupAnswers.{held_line, link_line, state_at, value_at};
+ghost use Rattle.script_group.specs.Shown.{entry_at, entries_to, table_line, told_if, waited_text, service_text, link_text};
 
 use crate::saying::no_link;
-use link_group::Group;
+use link_group::{Group, LinkState};
 use script_terminal::{state_line, text_line, value_line};
 use std::alloc::{AllocError, Global};
 
@@ -64,6 +65,61 @@ pub(crate) fn unsure(alloc: Global, group: &Group) -> Result<Vec<u8>, AllocError
 {
     let unsure = group.unsure();
     text_line(alloc, &format_args!("{unsure}"))
+}
+
+/// A word behind a text, where it says so.
+fn push_if(text: &mut Vec<u8>, says: bool, word: &[u8]) -> Result<(), AllocError>
+    ensures { OnOk result (text.new.items ≡ told_if says word.now text.old.items) }
+{
+    if says {
+        text.extend_from_slice(word)?;
+    }
+    Ok(())
+}
+
+/// For how long a changeover has gone on, if one does.
+fn push_waited(alloc: Global, text: &mut Vec<u8>, waited: Option<u64>) -> Result<(), AllocError>
+    ensures { OnOk result (text.new.items ≡ waited_text waited text.old.items) }
+{
+    let Some(ticks) = waited else {
+        return Ok(());
+    };
+    let more = text_line(alloc, &format_args!(", changeover {ticks}"))?;
+    text.extend_from_slice(&more)?;
+    Ok(())
+}
+
+/// Whether a link is in service.
+fn service(alloc: Global, in_service: bool) -> Result<Vec<u8>, AllocError>
+    ensures { IfOk result (λ v. v.items ≡ service_text in_service) }
+{
+    if in_service {
+        Vec::from_slice(alloc, b"in service")
+    } else {
+        Vec::from_slice(alloc, b"out of service")
+    }
+}
+
+/// What a link is.
+fn link_text(alloc: Global, state: &LinkState) -> Result<Vec<u8>, AllocError>
+    ensures { IfOk result (λ v. v.items ≡ link_text state.now) }
+{
+    let mut text = service(alloc, state.in_service)?;
+    push_if(&mut text, state.failed, b", failed")?;
+    push_if(&mut text, state.held, b", held")?;
+    push_waited(alloc, &mut text, state.changeover)?;
+    push_if(&mut text, !state.admitted, b", not admitted")?;
+    Ok(text)
+}
+
+/// `link`.
+pub(crate) fn link_is(alloc: Global, group: &Group, link: usize) -> Result<Vec<u8>, AllocError>
+    ensures { IfOk result (λ v. v.items ≡ link_line (slice_get group.now.links link)) }
+{
+    match group.state(link) {
+        Some(state) => link_text(alloc, &state),
+        None => no_link(alloc),
+    }
 }
 
 /// `state P`.

@@ -1,5 +1,6 @@
 -- What a line of a link set's script reads as.
-use Rattle.std.specs.Prelude.{ℕ, Bool, nat_le, ◌&&◌, if◌then◌else◌, List, [], ◌∷◌, length, Option}
+use Rattle.std.specs.Prelude.{ℕ, Bool, true, false, nat_le, ◌&&◌, if◌then◌else◌, List, [], ◌∷◌}
+use Rattle.std.specs.Prelude.{length, Option}
 use Rattle.std.specs.Prelude.{None, Some, option_map, option_and_then, codes}
 use Rattle.std.specs.Str.{bytes_eq}
 use Rattle.script_lines.specs.Numbers.{count_of}
@@ -28,6 +29,7 @@ pub data PlainGroupCommand : Type 0 where
   on : ℕ → PlainGroupCommand
   sending : List ℕ → PlainGroupCommand
   message : List ℕ → PlainGroupCommand
+  admitting : Bool → PlainGroupCommand
   own : GroupWord → PlainGroupCommand
 
 abbrev pub plain_group_command : GroupCommand → PlainGroupCommand
@@ -42,6 +44,7 @@ plain_group_command (code.Expect text) = expected text.items
 plain_group_command (code.On l) = on l
 plain_group_command (code.Send octets) = sending octets.items
 plain_group_command (code.Message octets) = message octets.items
+plain_group_command (code.Admit way) = admitting way
 plain_group_command (code.Own word) = own word
 
 -- ---- those that only a link set has
@@ -56,6 +59,11 @@ as_sending octets = if is_labelled octets then Some (sending octets) else None
 
 abbrev pub sending_by : Option (List ℕ) → Option PlainGroupCommand
 sending_by octets = option_and_then as_sending octets
+
+abbrev pub way_of : List ℕ → Option Bool
+way_of word =
+    if bytes_eq word (codes "yes") then Some true
+    else (if bytes_eq word (codes "no") then Some false else None)
 
 -- ---- those that it has in common with a terminal: all but `msu`
 
@@ -81,6 +89,7 @@ group_word_text words.Rebalance = codes "rebalance"
 group_word_text words.Table = codes "table"
 group_word_text words.Held = codes "held"
 group_word_text words.Unsure = codes "unsure"
+group_word_text words.Link = codes "link"
 
 -- the first of these that has the text
 abbrev pub group_word_among : List ℕ → List GroupWord → Option GroupWord
@@ -92,12 +101,13 @@ unfoldable pub group_word_of : List ℕ → Option GroupWord
 group_word_of word =
     group_word_among word
     (words.Fail ∷ words.Retrieve ∷ words.Abandon ∷ words.Divert ∷ words.Rebalance ∷ words.Table
-    ∷ words.Held ∷ words.Unsure ∷ [])
+    ∷ words.Held ∷ words.Unsure ∷ words.Link ∷ [])
 
 abbrev pub group_verb_text : GroupVerb → List ℕ
 group_verb_text verbs.On = codes "on"
 group_verb_text verbs.Send = codes "send"
 group_verb_text verbs.Message = codes "message"
+group_verb_text verbs.Admit = codes "admit"
 
 abbrev pub group_verb_among : List ℕ → List GroupVerb → Option GroupVerb
 group_verb_among word [] = None
@@ -105,13 +115,15 @@ group_verb_among word (verb ∷ more) =
     if bytes_eq word (group_verb_text verb) then Some verb else group_verb_among word more
 
 unfoldable pub group_verb_of : List ℕ → Option GroupVerb
-group_verb_of word = group_verb_among word (verbs.On ∷ verbs.Send ∷ verbs.Message ∷ [])
+group_verb_of word =
+    group_verb_among word (verbs.On ∷ verbs.Send ∷ verbs.Message ∷ verbs.Admit ∷ [])
 
 -- what the word behind it reads as
 abbrev pub by_group_verb : GroupVerb → List ℕ → Option PlainGroupCommand
 by_group_verb verbs.On word = option_map on (count_of word)
 by_group_verb verbs.Send word = sending_by (octets_of word)
 by_group_verb verbs.Message word = option_map message (octets_of word)
+by_group_verb verbs.Admit word = option_map admitting (way_of word)
 
 abbrev pub by_group_first :
     Option GroupVerb → List ℕ → Option PlainGroupCommand → Option PlainGroupCommand

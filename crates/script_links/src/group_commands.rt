@@ -4,7 +4,7 @@ ghost use Rattle.script_lines.specs.Lines.{texts};
 ghost use Rattle.script_lines.specs.Numbers.{count_of};
 ghost use Rattle.script_links.specs.Octets.{octets_of};
 ghost use Rattle.script_links.specs.TermCommands.{term_command_of};
-ghost use Rattle.script_links.specs.GroupCommands.{plain_group_command, on, message, own, sending_by, by_group_verb, shared_of, group_word_of, group_command_of};
+ghost use Rattle.script_links.specs.GroupCommands.{plain_group_command, on, message, admitting, way_of, own, sending_by, by_group_verb, shared_of, group_word_of, group_command_of};
 
 use crate::commands::{TermCommand, term_command_in};
 use crate::octets::octets_in;
@@ -40,6 +40,8 @@ pub enum GroupCommand<'a> {
     Send(Vec<u8>),
     /// `message HEX`: the signalling information field of a message of changeover came in.
     Message(Vec<u8>),
+    /// `admit yes`, `admit no`: the link is admitted to selections and to what other links hand out, or is no longer.
+    Admit(bool),
     /// A command that is one word.
     Own(GroupWord),
 }
@@ -76,6 +78,20 @@ fn message_in<'a>(alloc: Global, word: &str) -> Result<Option<GroupCommand<'a>>,
     }
 }
 
+/// `admit yes` and `admit no`.
+fn admit_in<'a>(word: &str) -> Option<GroupCommand<'a>>
+    ensures { option_map plain_group_command result ≡ option_map admitting (way_of word.now) }
+{
+    if word == "yes" {
+        return Some(GroupCommand::Admit(true));
+    }
+    if word == "no" {
+        Some(GroupCommand::Admit(false))
+    } else {
+        None
+    }
+}
+
 /// A word alone.
 fn own_in<'a>(word: &str) -> Option<GroupCommand<'a>>
     ensures { option_map plain_group_command result ≡ option_map own (group_word_of word.now) }
@@ -98,6 +114,7 @@ fn command_by<'a>(
         GroupVerb::On => Ok(on_in(word)),
         GroupVerb::Send => send_in(alloc, word),
         GroupVerb::Message => message_in(alloc, word),
+        GroupVerb::Admit => Ok(admit_in(word)),
     }
 }
 

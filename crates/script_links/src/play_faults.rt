@@ -44,6 +44,10 @@ pub enum PlayFault<'a> {
     NoMode {
         word: &'a str,
     },
+    /// The word is neither `yes` nor `no`.
+    NoWay {
+        word: &'a str,
+    },
 }
 
 impl fmt::Display for PlayFault<'_> {
@@ -71,6 +75,7 @@ impl fmt::Display for PlayFault<'_> {
                 "'{word}' is none of power, start, stop, emergency, calm, outage, back, busy and free",
             ),
             Self::NoMode { word } => write!(f, "'{word}' is neither basic nor cyclic"),
+            Self::NoWay { word } => write!(f, "'{word}' is neither yes nor no"),
         }
     }
 }
@@ -168,6 +173,15 @@ fn behind_term_verb<'a>(
     }
 }
 
+/// Why a word is neither `yes` nor `no`.
+fn way_fault<'a>(word: &'a str) -> Option<PlayFault<'a>> {
+    if word == "yes" || word == "no" {
+        None
+    } else {
+        Some(PlayFault::NoWay { word })
+    }
+}
+
 /// Why the word behind a link set's verb is none of its.
 fn behind_group_verb<'a>(
     alloc: Global,
@@ -179,6 +193,7 @@ fn behind_group_verb<'a>(
         GroupVerb::On => Ok(of_line(number_fault(next, 0, MOST))),
         GroupVerb::Send => octets_fault(alloc, word, next, 5, 273),
         GroupVerb::Message => octets_fault(alloc, word, next, 0, MANY),
+        GroupVerb::Admit => Ok(way_fault(next)),
     }
 }
 

@@ -21,6 +21,8 @@ pub enum GroupWord {
     Held,
     /// `unsure`: of how many messages it was never known whether they arrived.
     Unsure,
+    /// `link`: what the link is.
+    Link,
 }
 
 /// Which of the commands that a word more goes with.
@@ -32,6 +34,8 @@ pub enum GroupVerb {
     Send,
     /// `message`.
     Message,
+    /// `admit`.
+    Admit,
 }
 
 /// The command that a word is, in this case alone.
@@ -47,6 +51,7 @@ pub fn group_word_in(word: &str) -> Option<GroupWord>
         "table" => Some(GroupWord::Table),
         "held" => Some(GroupWord::Held),
         "unsure" => Some(GroupWord::Unsure),
+        "link" => Some(GroupWord::Link),
         _ => None,
     }
 }
@@ -59,6 +64,7 @@ pub fn group_verb_in(word: &str) -> Option<GroupVerb>
         "on" => Some(GroupVerb::On),
         "send" => Some(GroupVerb::Send),
         "message" => Some(GroupVerb::Message),
+        "admit" => Some(GroupVerb::Admit),
         _ => None,
     }
 }

@@ -7,7 +7,7 @@ ghost use Rattle.script_links.specs.GroupScripts.{plain_play_script, IsFit};
 ghost use Rattle.script_play.specs.Played.{IsOtherObeyed, IsObeyed, IsPlayed, IsOtherMissed, IsMissedIn, IsPlayedInPart, HasNoOther, HasNoTerminal, IsNotRun, PrintsFault, IsOnSet, IsRefused};
 
 use plain_text::{MOST_BYTES, TextRead, line_at_limit, read_text};
-use script_check::{SetWord, load_set, write_refusal};
+use script_check::{SetWord, find_set, refuse_set};
 use script_group::{FAILED, play_book, play_group, play_terminal, refuse, write_line};
 use script_lines::ScriptFault;
 use script_links::{AnyScript, PlayScript, play_fault, play_script_in};
@@ -27,10 +27,12 @@ use turn_check::Verified;
 /// Gives the exit status: 0 where each command ran and its line was written, 1 after `failed line N` where an expectation
 /// failed, 2 after a line `refused CODE Name ..` alone where the set or the script was refused, or 4 where memory, a read or
 /// a write fails. Nothing is written after a write that failed. Why a line is none of a script (X1), and why a signal is refused by B3, is told on
-/// `errors`, a line each (that it is written there tests alone show).
+/// `errors`, a line each (that it is written there tests alone show). Where the set is refused, the lines that point at the place are told there
+/// behind its name, as `check` does.
 pub fn play<S: Read + Drop, R: Read + Drop, W: Write, E: Write>(
     alloc: Global,
     set: SetWord<S>,
+    name: &str,
     mut script: R,
     writer: &mut W,
     errors: &mut E,
@@ -44,14 +46,14 @@ pub fn play<S: Read + Drop, R: Read + Drop, W: Write, E: Write>(
         → IsRefused (given S.remaining set) (R.remaining script) (W.contents writer.old) (W.contents writer.new) }
     ensures status { (result ≡ 0) ⊎ (result ≡ 1) ⊎ (result ≡ 2) ⊎ (result ≡ 4) }
 {
-    let set = load_set(alloc, set);
+    let set = find_set(alloc, set);
     let read = read_text(alloc, &mut script);
     match set {
         Ok(set) => match read {
             Ok(read) => play_text(alloc, &set, &read, writer, errors),
             Err(_) => FAILED,
         },
-        Err(fault) => write_refusal(alloc, writer, &fault),
+        Err(refusal) => refuse_set(alloc, name, &refusal, writer, errors),
     }
 }
 

@@ -7,7 +7,7 @@ ghost use Rattle.sdl_scopes.specs.Known.{AreSenders, Knows};
 
 use crate::sender::Sender;
 use sdl_ast::Identifier;
-use sdl_tables::NameTable;
+use sdl_tables::{NameKey, NameTable};
 use std::alloc::{AllocError, Global};
 
 /// Who may have sent what some transitions begin with, and of some signals whether they get back to all of those.
@@ -19,22 +19,22 @@ pub struct KnownSenders {
 }
 
 impl KnownSenders {
-    /// Senders of which nothing is known so far.
-    pub fn new(alloc: Global, list: Vec<Sender>) -> Self
+    /// Senders of which nothing is known so far. The tables hash by this key.
+    pub fn new(alloc: Global, key: NameKey, list: Vec<Sender>) -> Self
         ensures { (b : PlainBlock) (p : PlainProcess) (os : List Origin) → AreSenders b p list.items os → Knows b p result os }
     {
         KnownSenders {
             list,
-            back: NameTable::new(alloc),
-            lost: NameTable::new(alloc),
+            back: NameTable::new(alloc, key),
+            lost: NameTable::new(alloc, key),
         }
     }
 
     /// No senders, where nothing is asked of any.
-    pub fn none(alloc: Global) -> Self
+    pub fn none(alloc: Global, key: NameKey) -> Self
         ensures { (b : PlainBlock) (p : PlainProcess) → Knows b p result [] }
     {
-        KnownSenders::new(alloc, Vec::new(alloc))
+        KnownSenders::new(alloc, key, Vec::new(alloc))
     }
 
     /// Keeps what is so of a signal.

@@ -13,7 +13,7 @@ use crate::sources::mark;
 use sdl_ast::Identifier;
 use sdl_lex::Name;
 use sdl_scopes::{Sender, is_marked};
-use sdl_tables::{BlockTable, NameTable, ProcessTable};
+use sdl_tables::{BlockTable, NameKey, NameTable, ProcessTable};
 use std::alloc::{AllocError, Global};
 
 /// A mark for each party to which a process gets a signal, by number.
@@ -91,12 +91,12 @@ pub(crate) struct BackTable {
 }
 
 impl BackTable {
-    /// No signal so far.
-    pub(crate) fn new(alloc: Global) -> Self
+    /// No signal so far. The table hashes by this key.
+    pub(crate) fn new(alloc: Global, key: NameKey) -> Self
         ensures { (b : PlainBlock) (p : PlainProcess) → Brings b p result }
     {
         BackTable {
-            names: NameTable::new(alloc),
+            names: NameTable::new(alloc, key),
             rows: Vec::new(alloc),
         }
     }

@@ -40,7 +40,7 @@ fn lost_in_transition(
         → Marks place (asked_all Receivers (block_of block.now) (process_of process.now) os (statements_of (text_of transition.now)))) }
     ensures backs { OnOk result ((os : List Origin) → AreSenders (block_of block.now) (process_of process.now) senders.items os → Brings (block_of block.now) (process_of process.now) backs.new) }
 {
-    let mut known = KnownSenders::new(alloc, senders);
+    let mut known = KnownSenders::new(alloc, block.key(), senders);
     learn_transition(&mut known, alloc, backs, block, process, transition)?;
     let rule = StatementRule::Receivers;
     Ok(in_transition(rule, block, process, &known, transition))
@@ -56,7 +56,7 @@ fn sends_back(
     ensures { result ≡ false → flat_map back_statement (statements_of (text_of transition.now)) ≡ [] }
 {
     let rule = StatementRule::NothingBack;
-    let none = KnownSenders::none(alloc);
+    let none = KnownSenders::none(alloc, block.key());
     match in_transition(rule, block, process, &none, transition) {
         None => false,
         Some(_) => true,
@@ -146,7 +146,7 @@ fn lost_in_connection(
         return Ok(lost);
     }
     let rule = StatementRule::Receivers;
-    let none = KnownSenders::none(alloc);
+    let none = KnownSenders::none(alloc, block.key());
     Ok(in_transition(rule, block, process, &none, transition))
 }
 
@@ -181,7 +181,7 @@ fn lost_in_process(
     ensures { IfOk result (λ place. Marks place (in_statements (asked Receivers (block_of block.now) (process_of process.now)) (process_of process.now))) }
 {
     let table = find_senders(alloc, block, process)?;
-    let mut backs = BackTable::new(alloc);
+    let mut backs = BackTable::new(alloc, block.key());
     let start = lost_in_start(alloc, &mut backs, block, process)?;
     let inputs = lost_in_inputs(alloc, &mut backs, block, process, &table, process.parts())?;
     let connections = &process.process().connections;

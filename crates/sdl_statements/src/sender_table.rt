@@ -11,7 +11,7 @@ ghost use Rattle.sdl_statements.specs.SenderTables.{numbered, AreSendersOf, stim
 use sdl_ast::{Identifier, InputPart, Party, Stimulus};
 use sdl_lex::Name;
 use sdl_scopes::{Numbered, Sender, nobody};
-use sdl_tables::{BlockTable, NameTable, ProcessTable};
+use sdl_tables::{BlockTable, NameKey, NameTable, ProcessTable};
 use std::alloc::{AllocError, Global};
 
 /// A process as a party.
@@ -76,13 +76,13 @@ pub(crate) struct SenderTable {
 }
 
 impl SenderTable {
-    /// No signal or timer so far.
-    fn new(alloc: Global) -> Self
+    /// No signal or timer so far. The table hashes by this key.
+    fn new(alloc: Global, key: NameKey) -> Self
         ensures names { result.names ≡ [] }
         ensures tells { (b : PlainBlock) (p : PlainProcess) → Tells b p result }
     {
         SenderTable {
-            names: NameTable::new(alloc),
+            names: NameTable::new(alloc, key),
             rows: Vec::new(alloc),
         }
     }
@@ -189,7 +189,7 @@ pub(crate) fn find_senders(
 ) -> Result<SenderTable, AllocError>
     ensures { IfOk result (ToldAll (block_of block.now) (process_of process.now)) }
 {
-    let mut table = SenderTable::new(alloc);
+    let mut table = SenderTable::new(alloc, block.key());
     table.learn_inputs(alloc, block, process, process.parts())?;
     Ok(table)
 }

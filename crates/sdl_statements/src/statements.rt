@@ -223,7 +223,7 @@ fn in_start(
     ensures { Marks result (flat_map (asked rule (block_of block.now) (process_of process.now) (begins ∷ [])) (statements_of (process_of process.now).start.text)) }
 {
     let transition = &process.process().start.transition;
-    let from = KnownSenders::none(alloc);
+    let from = KnownSenders::none(alloc, block.key());
     in_transition(rule, block, process, &from, transition)
 }
 
@@ -238,7 +238,7 @@ fn in_input(
     requires { asks_origin rule ≡ false }
     ensures { Marks result (in_input (asked rule (block_of block.now) (process_of process.now)) (input_of input.now)) }
 {
-    let from = KnownSenders::none(alloc);
+    let from = KnownSenders::none(alloc, block.key());
     in_transition(rule, block, process, &from, &input.transition)
 }
 
@@ -271,7 +271,7 @@ fn in_connection(
     requires { asks_origin rule ≡ false }
     ensures { Marks result (in_connection (asked rule (block_of block.now) (process_of process.now)) (process_of process.now) (connection_of connection.now)) }
 {
-    let from = KnownSenders::none(alloc);
+    let from = KnownSenders::none(alloc, block.key());
     in_transition(rule, block, process, &from, &connection.transition)
 }
 

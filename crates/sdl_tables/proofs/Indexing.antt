@@ -3,34 +3,31 @@ use Rattle.std.proofs.Common.{◌≡◌, ℕ, Bool, true, false, not, cond, List
 use Rattle.std.specs.List.{list_any}
 use Rattle.std.proofs.lemmas.List.{map-append}
 use Rattle.std.proofs.lemmas.Bool.{not-true, not-false}
-use Rattle.std.specs.BTreeMap.{is_at}
-use Rattle.std.specs.BTreeSet.{contains}
+use Rattle.indexmap.specs.IndexSet.{contains}
 use Rattle.sdl_ast.specs.declared.tree.Party.{Party}
 use Rattle.sdl_tables.specs.declared.route_index.End.{End}
 use Rattle.sdl_tables.specs.declared.route_index.Passage.{Passage}
 use Rattle.sdl_tables.specs.declared.route_index.RouteIndex.{RouteIndex}
-use Rattle.sdl_tables.specs.RouteIndexes.{Mention, turned, is_mention, receivers_in, same_end, same_passage, passage_cmp, end_of, passage_of, held, listed, is_carried, Indexes}
-use Rattle.sdl_tables.proofs.RouteKeys.{passage_ties}
+use Rattle.sdl_tables.specs.RouteIndexes.{Mention, turned, is_mention, receivers_in, same_end, same_passage, end_of, passage_of, held, listed, is_carried, Indexes}
 use Rattle.sdl_tables.proofs.Mentions.{receivers_new, receivers_known, turned_any, carried_push, end_mention}
 
 module _ (i n : RouteIndex) (ms : List Mention) (m : Mention) (key : Passage) (added : Bool)
     (way : key ≡ passage_of m.from m.to m.signal)
     (old : Indexes i ms)
-    (told : added ≡ not (contains passage_cmp i.carried key))
-    (puts : (q : Passage) → contains passage_cmp n.carried q ≡ cond (is_at (passage_cmp key) q) true (contains passage_cmp i.carried q)) where
-  before : (b : Bool) → contains passage_cmp i.carried key ≡ b → list_any (is_mention m.from m.to m.signal) ms ≡ b
-  before b h = sym (old.carried m.from m.to m.signal) ∙ (ap (contains passage_cmp i.carried) (sym way) ∙ h)
+    (told : added ≡ not (contains same_passage i.carried key))
+    (puts : (q : Passage) → contains same_passage n.carried q ≡ cond (same_passage key q) true (contains same_passage i.carried q)) where
+  before : (b : Bool) → contains same_passage i.carried key ≡ b → list_any (is_mention m.from m.to m.signal) ms ≡ b
+  before b h = sym (old.carried m.from m.to m.signal) ∙ (ap (contains same_passage i.carried) (sym way) ∙ h)
 
   carried_more : (p q : Party) (s : List ℕ) → is_carried n p q s ≡ list_any (is_mention p q s) (ms ++ m ∷ [])
   carried_more p q s =
       carried_push ms m p q s (is_carried i p q s) (is_carried n p q s) (old.carried p q s)
-      (puts (passage_of p q s)
-      ∙ ap (λ b. cond b true (is_carried i p q s)) (sym (passage_ties key (passage_of p q s)) ∙ ap (λ k. same_passage k (passage_of p q s)) way))
+      (puts (passage_of p q s) ∙ ap (λ k. cond (same_passage k (passage_of p q s)) true (is_carried i p q s)) way)
 
   -- one that was there
   pub index_known : added ≡ false → n.receivers ≡ i.receivers → n.senders ≡ i.senders → Indexes n (ms ++ m ∷ [])
   index_known stands receivers senders =
-      let there = before true (not-false (contains passage_cmp i.carried key) (sym told ∙ stands)) in
+      let there = before true (not-false (contains same_passage i.carried key) (sym told ∙ stands)) in
       record {
         carried = carried_more;
         receivers = λ p s. ap (λ e. listed e p s) receivers ∙ (old.receivers p s ∙ sym (receivers_known ms m p s there));
@@ -47,7 +44,7 @@ module _ (i n : RouteIndex) (ms : List Mention) (m : Mention) (key : Passage) (a
       → ((k : End) → held n.senders k ≡ held i.senders k ++ (if same_end (end_of m.to m.signal) k then m.from ∷ [] else []))
       → Indexes n (ms ++ m ∷ [])
   index_new fresh receivers senders =
-      let absent = before false (not-true (contains passage_cmp i.carried key) (sym told ∙ fresh)) in
+      let absent = before false (not-true (contains same_passage i.carried key) (sym told ∙ fresh)) in
       record {
         carried = carried_more;
         receivers = λ p s.

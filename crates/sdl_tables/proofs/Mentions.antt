@@ -31,7 +31,7 @@ swapped false false c = refl
 
 -- ---- sides and parties
 
-pub same_sides : (x y : Side) → same_side x y ≡ same_side y x
+same_sides : (x y : Side) → same_side x y ≡ same_side y x
 same_sides sides.Environment sides.Environment = refl
 same_sides sides.Environment (sides.Process y) = refl
 same_sides (sides.Process x) sides.Environment = refl

@@ -1,47 +1,37 @@
--- What a table's sides say of parties.
-use Rattle.std.proofs.Common.{◌≡◌, Bool, true, false, not, cond, ◌||◌, List, [], ◌∷◌, ◌++◌, refl, sym, ap, ◌∙◌}
-use Rattle.std.proofs.Math.Bool.{or-true, or-false}
-use Rattle.std.proofs.lemmas.List.Folds.{list_any-append}
-use Rattle.std.specs.BTreeMap.{is_at}
-use Rattle.std.specs.BTreeSet.{BTreeSet, contains}
+-- What a table's keys and values say of parties.
+use Rattle.std.proofs.Common.{◌≡◌, false, ◌||◌, List, [], ◌∷◌, ◌++◌, map, None, is_some, refl, sym, ap, ◌∙◌}
+use Rattle.std.proofs.lemmas.List.{map-append}
 use Rattle.std.specs.List.{list_any}
+use Rattle.std.specs.Map.{lookup, keys_of, values_of}
 use Rattle.sdl_ast.specs.declared.tree.Party.{Party}
 use Rattle.sdl_tables.specs.Routes.{same_party}
 use Rattle.sdl_tables.specs.declared.route_index.Side.{Side}
-use Rattle.sdl_tables.specs.RouteIndexes.{same_side, side_cmp, side_of, AreSides}
-use Rattle.sdl_tables.proofs.RouteKeys.{party_side, side_ties}
-use Rattle.sdl_tables.proofs.Mentions.{same_sides}
+use Rattle.sdl_tables.specs.RouteIndexes.{same_side, side_of}
+use Rattle.sdl_tables.proofs.RouteKeys.{party_side}
+use Rattle.sdl_tables.proofs.Tables.{is_some-lookup, is_none, list_any-map}
+
+-- the keys are those of the values
+abbrev pub Sided : List (Side × Party) → Type 0
+Sided es = keys_of es ≡ map side_of (values_of es)
 
 any_side : (ps : List Party) (q : Party) → list_any (λ p. same_side (side_of q) (side_of p)) ps ≡ list_any (same_party q) ps
 any_side [] q = refl
 any_side (p ∷ ps) q = λ i. sym (party_side q p) i || any_side ps q i
 
--- a party is there where its side is
-holds_party : (ps : List Party) (sides : BTreeSet Side) (q : Party) → AreSides ps sides → contains side_cmp sides (side_of q) ≡ list_any (same_party q) ps
-holds_party ps sides q h = h (side_of q) ∙ any_side ps q
+pub holds_party : (es : List (Side × Party)) (q : Party) → Sided es → is_some (lookup (same_side (side_of q)) es) ≡ list_any (same_party q) (values_of es)
+holds_party es q h =
+    is_some-lookup (same_side (side_of q)) es
+    ∙ (ap (list_any (same_side (side_of q))) h
+    ∙ (list_any-map (same_side (side_of q)) side_of (values_of es) ∙ any_side (values_of es) q))
 
-other_one : (there new : Bool) → new ≡ not there → there ≡ not new
-other_one true new e = sym (ap not e)
-other_one false new e = sym (ap not e)
+pub lacks_party : (es : List (Side × Party)) (q : Party) → Sided es → list_any (same_party q) (values_of es) ≡ false → lookup (same_side (side_of q)) es ≡ None
+lacks_party es q h absent = is_none (lookup (same_side (side_of q)) es) (holds_party es q h ∙ absent)
 
--- a party was there, unless its side is new
-pub was_there : (ps now : List Party) (sides : BTreeSet Side) (p : Party) (key : Side) (new : Bool)
-    → AreSides ps sides → ps ≡ now → key ≡ side_of p → new ≡ not (contains side_cmp sides key) → list_any (same_party p) now ≡ not new
-was_there ps now sides p key new h is named told =
-    sym (ap (list_any (same_party p)) is)
-    ∙ (sym (holds_party ps sides p h)
-    ∙ (ap (contains side_cmp sides) (sym named) ∙ other_one (contains side_cmp sides key) new told))
+pub parties-push : (es : List (Side × Party)) (k : Side) (q : Party) → values_of (es ++ (k, q) ∷ []) ≡ values_of es ++ q ∷ []
+parties-push es k q = map-append (λ e. e.1) es ((k, q) ∷ [])
 
-either : (a b : Bool) → cond a true b ≡ (b || (a || false))
-either true b = sym (or-true b)
-either false b = sym (or-false b)
-
--- one party more
-pub AreSides-push : (ps : List Party) (p : Party) (old new : BTreeSet Side) → AreSides ps old
-    → ((q : Side) → contains side_cmp new q ≡ cond (is_at (side_cmp (side_of p)) q) true (contains side_cmp old q))
-    → AreSides (ps ++ p ∷ []) new
-AreSides-push ps p old new h puts q =
-    let test = λ (x : Party). same_side q (side_of x) in
-    puts q
-    ∙ ((λ i. cond ((sym (side_ties (side_of p) q) ∙ same_sides (side_of p) q) i) true (h q i))
-    ∙ (either (test p) (list_any test ps) ∙ sym (list_any-append test ps (p ∷ []))))
+pub Sided-push : (es : List (Side × Party)) (q : Party) → Sided es → Sided (es ++ (side_of q, q) ∷ [])
+Sided-push es q h =
+    map-append (λ e. e.0) es ((side_of q, q) ∷ [])
+    ∙ (ap (λ ks. ks ++ side_of q ∷ []) h
+    ∙ (sym (map-append side_of (values_of es) (q ∷ [])) ∙ ap (map side_of) (sym (parties-push es (side_of q) q))))

@@ -1,10 +1,10 @@
 pub mod BlockTables
 pub mod Names
-pub mod Numbering
 pub mod RouteIndexes
 pub mod Routes
 pub mod Rows
 pub mod Scopes
+pub mod Sides
 pub mod Tables
 pub mod Triggers
 pub use Rattle.sdl_ast.specs.LexLimits

@@ -2,9 +2,8 @@
 use Rattle.std.specs.Prelude.{◌≡◌, ℕ, Bool, ◌&&◌, List, [], ◌∷◌, if◌then◌else◌, map}
 use Rattle.std.specs.List.{list_any, flat_map}
 use Rattle.std.specs.Option.{option_map_or}
-use Rattle.std.specs.BTreeMap.{get}
-use Rattle.std.specs.BTreeSet.{BTreeSet, contains}
-use Rattle.std.specs.declared.cmp.Ordering.{Ordering}
+use Rattle.indexmap.specs.IndexMap.{get}
+use Rattle.indexmap.specs.IndexSet.{contains}
 use Rattle.sdl_ast.specs.Spelling.{folded}
 use Rattle.sdl_ast.specs.declared.tree.Party.{Party}
 use Rattle.sdl_ast.specs.declared.tree.Party.TheVariants.{Environment, Process}
@@ -20,9 +19,6 @@ use Rattle.sdl_tables.specs.declared.route_index.RouteIndex.{RouteIndex}
 use Rattle.sdl_tables.specs.contracts.route_index.SidePartialEq.TheImpl as side_eq
 use Rattle.sdl_tables.specs.contracts.route_index.EndPartialEq.TheImpl as end_eq
 use Rattle.sdl_tables.specs.contracts.route_index.PassagePartialEq.TheImpl as passage_eq
-use Rattle.sdl_tables.specs.contracts.route_index.SideOrd.TheImpl as side_ord
-use Rattle.sdl_tables.specs.contracts.route_index.EndOrd.TheImpl as end_ord
-use Rattle.sdl_tables.specs.contracts.route_index.PassageOrd.TheImpl as passage_ord
 
 -- a signal that a path brings from one party to another
 pub record Mention : Type 0 where
@@ -71,31 +67,16 @@ same_end x y = (end_eq.ghosts).eq x y
 abbrev pub same_passage : Passage → Passage → Bool
 same_passage x y = (passage_eq.ghosts).eq x y
 
--- their orders
-abbrev pub side_cmp : Side → Side → Ordering
-side_cmp x y = (side_ord.ghosts).cmp x y
-
-abbrev pub end_cmp : End → End → Ordering
-end_cmp x y = (end_ord.ghosts).cmp x y
-
-abbrev pub passage_cmp : Passage → Passage → Ordering
-passage_cmp x y = (passage_ord.ghosts).cmp x y
-
--- the sides of these parties, and no others
-abbrev pub AreSides : List Party → BTreeSet Side → Type 0
-AreSides parties sides =
-    (q : Side) → contains side_cmp sides q ≡ list_any (λ p. same_side q (side_of p)) parties
-
 -- what a table has for a party and a signal
 abbrev pub held : Ends → End → List Party
-held e k = option_map_or (λ v. v.items) (get end_cmp e.lists k) []
+held e k = option_map_or (λ v. v.items) (get same_end e.lists k) []
 
 abbrev pub listed : Ends → Party → List ℕ → List Party
 listed e own s = held e (end_of own s)
 
 -- what the index says of two parties and a signal
 abbrev pub is_carried : RouteIndex → Party → Party → List ℕ → Bool
-is_carried i from to s = contains passage_cmp i.carried (passage_of from to s)
+is_carried i from to s = contains same_passage i.carried (passage_of from to s)
 
 -- the index has these, and nothing else
 pub record Indexes (i : RouteIndex) (ms : List Mention) : Type 0 where

@@ -8,6 +8,7 @@ ghost use Rattle.sdl_tables.specs.Routes.{paths_of};
 ghost use Rattle.sdl_tables.specs.Scopes.{Marks, repeats, process_scopes, shared, signal_timers};
 
 use crate::fault::TableFault;
+use crate::name_key::NameKey;
 use crate::name_table::NameTable;
 use crate::process_table::{ProcessTable, shared_declared};
 use crate::route_index::RouteIndex;
@@ -123,7 +124,11 @@ struct Processes<'a> {
 }
 
 /// The tables of processes; they are for use where no name is there twice.
-fn build_tables<'a>(alloc: Global, processes: &[&'a Process]) -> Result<Processes<'a>, AllocError>
+fn build_tables<'a>(
+    alloc: Global,
+    key: NameKey,
+    processes: &[&'a Process],
+) -> Result<Processes<'a>, AllocError>
     ensures tables { IfOk result (λ r. r.double ≡ None → r.tables.items ≡ map (λ p. p.now) processes.now) }
     ensures double { IfOk result (λ r. Marks r.double
         (flat_map (λ p. flat_map (repeats []) (process_scopes (process_of p.now))) processes.now)) }
@@ -131,7 +136,7 @@ fn build_tables<'a>(alloc: Global, processes: &[&'a Process]) -> Result<Processe
     let mut tables = Vec::new(alloc);
     let mut double = None;
     for process in processes {
-        match ProcessTable::new(alloc, process) {
+        match ProcessTable::new(alloc, key, process) {
             Ok(table) => tables.push(table)?,
             Err(TableFault::DoubleName(at)) => double = earlier(double, Some(at)),
             Err(TableFault::NoMemory) => return Err(AllocError),
@@ -166,6 +171,7 @@ pub(crate) struct BlockSignals<'a> {
 /// The signals of a block.
 pub(crate) fn table_signals<'a>(
     alloc: Global,
+    key: NameKey,
     block: &'a Block,
 ) -> Result<BlockSignals<'a>, AllocError>
     ensures rows { IfOk result (λ s. map (λ r. signal_of r.now) s.rows.items ≡ signals_of (block_of block.now)) }
@@ -174,7 +180,7 @@ pub(crate) fn table_signals<'a>(
 {
     let rows = collect_signals(alloc, &block.entities)?;
     let ids = signal_ids(alloc, &rows)?;
-    let Scope { names, double } = index_names(alloc, &ids)?;
+    let Scope { names, double } = index_names(alloc, key, &ids)?;
     Ok(BlockSignals {
         rows,
         names,
@@ -193,6 +199,7 @@ pub(crate) struct BlockRoutes<'a> {
 /// The routes of a block.
 pub(crate) fn table_routes<'a>(
     alloc: Global,
+    key: NameKey,
     block: &'a Block,
 ) -> Result<BlockRoutes<'a>, AllocError>
     ensures rows { IfOk result (λ r. map (λ row. route_of row.now) r.rows.items ≡ routes_of (block_of block.now)) }
@@ -201,8 +208,8 @@ pub(crate) fn table_routes<'a>(
 {
     let rows = collect_routes(alloc, &block.entities)?;
     let ids = route_ids(alloc, &rows)?;
-    let scope = index_names(alloc, &ids)?;
-    let index = RouteIndex::new(alloc, &rows)?;
+    let scope = index_names(alloc, key, &ids)?;
+    let index = RouteIndex::new(alloc, key, &rows)?;
     Ok(BlockRoutes {
         rows,
         index,
@@ -224,6 +231,7 @@ pub(crate) struct BlockProcesses<'a> {
 /// The processes of a block, where these are the names of its signals.
 pub(crate) fn table_processes<'a>(
     alloc: Global,
+    key: NameKey,
     block: &'a Block,
     signals: &NameTable,
 ) -> Result<BlockProcesses<'a>, AllocError>
@@ -236,8 +244,8 @@ pub(crate) fn table_processes<'a>(
 {
     let rows = collect_processes(alloc, &block.entities)?;
     let ids = process_ids(alloc, &rows)?;
-    let Scope { names, double } = index_names(alloc, &ids)?;
-    let built = build_tables(alloc, &rows)?;
+    let Scope { names, double } = index_names(alloc, key, &ids)?;
+    let built = build_tables(alloc, key, &rows)?;
     let shared = signal_timers_in(signals, &rows);
     Ok(BlockProcesses {
         names,

@@ -8,6 +8,7 @@ ghost use Rattle.sdl_tables.specs.Scopes.{double_names, IsDouble};
 
 use crate::block_parts::{first_double, table_processes, table_routes, table_signals};
 use crate::fault::TableFault;
+use crate::name_key::NameKey;
 use crate::name_table::NameTable;
 use crate::process_table::ProcessTable;
 use crate::route_index::RouteIndex;
@@ -20,6 +21,7 @@ use std::marker::Model;
 #[derive(Drop)]
 pub struct BlockTable<'a> {
     block: &'a Block,
+    key: NameKey,
     signals: NameTable,
     rows: Vec<&'a SignalDeclaration>,
     routes: Vec<&'a Route>,
@@ -49,9 +51,10 @@ impl<'a> BlockTable<'a> {
         ensures table { IfOk result (λ t. t ≡ block.now) }
         ensures double { IfErr result (λ e. IsDouble e (double_names (block_of block.now))) }
     {
-        let signals = table_signals(alloc, block)?;
-        let routes = table_routes(alloc, block)?;
-        let processes = table_processes(alloc, block, &signals.names)?;
+        let key = NameKey::of(block);
+        let signals = table_signals(alloc, key, block)?;
+        let routes = table_routes(alloc, key, block)?;
+        let processes = table_processes(alloc, key, block, &signals.names)?;
         let double = first_double(
             signals.double,
             routes.double,
@@ -63,6 +66,7 @@ impl<'a> BlockTable<'a> {
             Some(at) => Err(TableFault::DoubleName(at)),
             None => Ok(BlockTable {
                 block,
+                key,
                 signals: signals.names,
                 rows: signals.rows,
                 routes: routes.rows,
@@ -80,6 +84,11 @@ impl<'a> BlockTable<'a> {
     {
         let _ = &self.signals;
         self.block
+    }
+
+    /// What its tables hash names by.
+    pub fn key(&self) -> NameKey {
+        self.key
     }
 
     /// The names of its signals, by number.

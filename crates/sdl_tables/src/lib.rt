@@ -4,8 +4,8 @@
 mod block_parts;
 mod block_table;
 mod fault;
-mod folded_name;
 mod input_rows;
+mod name_key;
 mod name_table;
 mod party_table;
 mod process_table;
@@ -16,6 +16,7 @@ mod triggers;
 
 pub use block_table::BlockTable;
 pub use fault::TableFault;
+pub use name_key::NameKey;
 pub use name_table::NameTable;
 pub use party_table::PartyTable;
 pub use process_table::{InputRow, ProcessTable, Variable};

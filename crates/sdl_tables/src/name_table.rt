@@ -1,43 +1,62 @@
 //! Names in the order of the text, each once, with their numbers.
-ghost use Rattle.std.specs.Prelude.{◌≡◌, ◌<◌, [], length, IfOk, OnOk, OnErr, IsSome, IfSome, not, slice_get, Some};
+ghost use Rattle.std.specs.Prelude.{◌≡◌, ◌<◌, [], length, position, bytes_eq, IfOk, OnOk, OnErr, IsSome, IfSome, not, slice_get, Some};
+ghost use Rattle.indexmap.specs.IndexMap.{keys};
 ghost use Rattle.sdl_tables.specs.Names.{is_in, number_of, add_name};
 
-use crate::folded_name::FoldedName;
+use crate::name_key::NameKey;
+use indexmap::IndexMap;
 use sdl_ast::{Identifier, Name};
 use std::alloc::{AllocError, Global};
-use std::collections::BTreeMap;
 use std::marker::Model;
+
+/// Up to so many names each is compared, which takes less than a hash.
+const FEW: usize = 8;
+
+/// The number of a name in lower case among a few.
+fn place_among(names: &[Name], name: &Name) -> Option<usize>
+    ensures { result ≡ position (bytes_eq name.now) names.now }
+{
+    names.iter().position(|other| name == other)
+}
+
+/// The number of a name in lower case.
+fn place_in(entries: &IndexMap<Name, Identifier, NameKey>, name: &Name) -> Option<usize>
+    ensures { result ≡ position (bytes_eq name.now) (keys entries.now) }
+{
+    if entries.len() > FEW {
+        entries.get_index_of(name)
+    } else {
+        place_among(entries.keys().as_slice(), name)
+    }
+}
 
 /// The names of one class and scope, as first written and in the order of the text. A name is looked
 /// up by what it is in lower case. Contracts see the list of identifiers.
-///
-/// The look-up is ordered: no choice of names makes it slow.
 #[derive(Drop)]
 pub struct NameTable {
-    ids: Vec<Identifier>,
-    numbers: BTreeMap<FoldedName, usize>,
+    entries: IndexMap<Name, Identifier, NameKey>,
 }
 
 impl Model for NameTable {
-    ghost use Rattle.std.specs.Prelude.{List};
+    ghost use Rattle.std.specs.Prelude.{◌≡◌, List, map};
+    ghost use Rattle.sdl_ast.specs.Spelling.{folded};
     ghost use Rattle.sdl_ast.specs.declared.expression.Identifier.{Identifier};
-    ghost use Rattle.sdl_tables.specs.Numbering.{AreNumbers};
+    ghost use Rattle.indexmap.specs.IndexMap.{keys, values};
 
     ghost Value = { List Identifier };
 
-    ghost view = { λ t. t.ids.items };
+    ghost view = { λ t. values t.entries };
 
-    ghost invariant = { λ t. AreNumbers t.ids.items t.numbers };
+    ghost invariant = { λ t. keys t.entries ≡ map (λ id. folded id.name) (values t.entries) };
 }
 
 impl NameTable {
-    /// A table with no name.
-    pub fn new(alloc: Global) -> Self
+    /// A table with no name, which hashes by this key.
+    pub fn new(alloc: Global, key: NameKey) -> Self
         ensures { result ≡ [] }
     {
         NameTable {
-            ids: Vec::new(alloc),
-            numbers: BTreeMap::new(alloc),
+            entries: IndexMap::with_hasher(alloc, key),
         }
     }
 
@@ -45,7 +64,7 @@ impl NameTable {
     pub fn len(&self) -> usize
         ensures { result ≡ length self.now }
     {
-        self.ids.len()
+        self.entries.len()
     }
 
     /// The number of a name, from 0.
@@ -53,21 +72,22 @@ impl NameTable {
         ensures number { result ≡ number_of self.now name }
         ensures within { IfSome result (λ n. n < length self.now) }
     {
-        self.numbers.get(&FoldedName::new(name)).copied()
+        place_in(&self.entries, &name.folded())
     }
 
     /// Whether a name is there.
     pub fn contains(&self, name: Name) -> bool
         ensures { result ≡ is_in self.now name }
     {
-        self.numbers.contains_key(&FoldedName::new(name))
+        self.number(name).is_some()
     }
 
     /// The name with a number, as it is first written.
     pub fn get(&self, number: usize) -> Option<Identifier>
         ensures { result ≡ slice_get self.now number }
     {
-        self.ids.get(number).copied()
+        let (_, id) = self.entries.get_index(number)?;
+        Some(*id)
     }
 
     /// The name with a number that there is, as it is first written.
@@ -75,7 +95,7 @@ impl NameTable {
         requires { number < length self.now }
         ensures { slice_get self.now number ≡ Some result }
     {
-        self.ids[number]
+        self.entries[number]
     }
 
     /// Adds a name, unless it is there: `false` then. Without memory nothing changes.
@@ -87,10 +107,8 @@ impl NameTable {
         if self.contains(id.name) {
             return Ok(false);
         }
-        let number = self.len();
-        self.ids.reserve(1)?;
-        self.numbers.insert(FoldedName::new(id.name), number)?;
-        self.ids.push(id)?;
+        let key = id.name.folded();
+        self.entries.insert(key, id)?;
         Ok(true)
     }
 }

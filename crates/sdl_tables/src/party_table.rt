@@ -3,39 +3,39 @@ ghost use Rattle.std.specs.Prelude.{◌≡◌, [], length, IfOk, OnOk, OnErr, no
 ghost use Rattle.std.specs.List.{list_any};
 ghost use Rattle.sdl_tables.specs.Routes.{same_party, add_party};
 
+use crate::name_key::NameKey;
 use crate::route_index::{Side, side_of};
+use indexmap::IndexMap;
 use sdl_ast::Party;
 use std::alloc::{AllocError, Global};
-use std::collections::BTreeSet;
 use std::marker::Model;
 
 /// Parties in the order in which they came, each once. Contracts see their list.
 #[derive(Drop)]
 pub struct PartyTable {
-    parties: Vec<Party>,
-    sides: BTreeSet<Side>,
+    entries: IndexMap<Side, Party, NameKey>,
 }
 
 impl Model for PartyTable {
-    ghost use Rattle.std.specs.Prelude.{List};
+    ghost use Rattle.std.specs.Prelude.{◌≡◌, List, map};
     ghost use Rattle.sdl_ast.specs.declared.tree.Party as tree;
-    ghost use Rattle.sdl_tables.specs.RouteIndexes.{AreSides};
+    ghost use Rattle.sdl_tables.specs.RouteIndexes.{side_of};
+    ghost use Rattle.indexmap.specs.IndexMap.{keys, values};
 
     ghost Value = { List tree.Party };
 
-    ghost view = { λ t. t.parties.items };
+    ghost view = { λ t. values t.entries };
 
-    ghost invariant = { λ t. AreSides t.parties.items t.sides };
+    ghost invariant = { λ t. keys t.entries ≡ map side_of (values t.entries) };
 }
 
 impl PartyTable {
-    /// A table with no party.
-    pub fn new(alloc: Global) -> Self
+    /// A table with no party, which hashes by this key.
+    pub fn new(alloc: Global, key: NameKey) -> Self
         ensures { result ≡ [] }
     {
         PartyTable {
-            parties: Vec::new(alloc),
-            sides: BTreeSet::new(alloc),
+            entries: IndexMap::with_hasher(alloc, key),
         }
     }
 
@@ -43,14 +43,15 @@ impl PartyTable {
     pub fn len(&self) -> usize
         ensures { result ≡ length self.now }
     {
-        self.parties.len()
+        self.entries.len()
     }
 
     /// The party with a number, from 0.
     pub fn get(&self, number: usize) -> Option<Party>
         ensures { result ≡ slice_get self.now number }
     {
-        self.parties.get(number).copied()
+        let (_, party) = self.entries.get_index(number)?;
+        Some(*party)
     }
 
     /// Adds a party, unless it is there: `false` then. Without memory nothing changes.
@@ -59,11 +60,11 @@ impl PartyTable {
         ensures parties { OnOk result (self.new ≡ add_party self.old party) }
         ensures err { OnErr result (self.new ≡ self.old) }
     {
-        self.parties.reserve(1)?;
-        if !self.sides.insert(side_of(&party))? {
+        let side: Side = side_of(&party);
+        if self.entries.contains_key(&side) {
             return Ok(false);
         }
-        self.parties.push(party)?;
+        self.entries.insert(side, party)?;
         Ok(true)
     }
 }

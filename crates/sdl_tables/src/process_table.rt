@@ -9,6 +9,7 @@ ghost use Rattle.sdl_tables.specs.Rows.{variable_of, rows_inputs, row_names};
 
 use crate::fault::TableFault;
 use crate::input_rows::collect_inputs;
+use crate::name_key::NameKey;
 use crate::name_table::NameTable;
 use crate::scope::{Scope, add_names, earlier, first_shared, index_names};
 use crate::state_names::{Which, collect_names, push_ids};
@@ -126,10 +127,10 @@ fn connector_ids(alloc: Global, connections: &[Connection]) -> Result<Vec<Identi
 }
 
 /// The names of states, in the order of first STATE.
-fn collect_states(alloc: Global, parts: &[StatePart]) -> Result<NameTable, AllocError>
+fn collect_states(alloc: Global, key: NameKey, parts: &[StatePart]) -> Result<NameTable, AllocError>
     ensures { IfOk result (λ names. names ≡ names_once (flat_map (λ part. part.names) (map state_of parts.now))) }
 {
-    let mut names = NameTable::new(alloc);
+    let mut names = NameTable::new(alloc, key);
     for part in parts {
         add_names(&mut names, &part.names)?;
     }
@@ -174,14 +175,14 @@ struct Variables {
 }
 
 /// The variables of a process by number, and the first name that is there twice.
-fn index_variables(alloc: Global, process: &Process) -> Result<Variables, AllocError>
+fn index_variables(alloc: Global, key: NameKey, process: &Process) -> Result<Variables, AllocError>
     ensures names { IfOk result (λ v. v.names ≡ names_once (variable_names (process_of process.now))) }
     ensures rows { IfOk result (λ v. map variable_of v.rows.items ≡ variables_of (process_of process.now)) }
     ensures double { IfOk result (λ v. Marks v.double (repeats [] (variable_names (process_of process.now)))) }
 {
     let rows = collect_variables(alloc, &process.declarations)?;
     let ids = variable_ids(alloc, &rows)?;
-    let Scope { names, double } = index_names(alloc, &ids)?;
+    let Scope { names, double } = index_names(alloc, key, &ids)?;
     Ok(Variables {
         names,
         rows,
@@ -190,22 +191,22 @@ fn index_variables(alloc: Global, process: &Process) -> Result<Variables, AllocE
 }
 
 /// The timers of a process by number, and the first name that is there twice.
-fn index_timers(alloc: Global, process: &Process) -> Result<Scope, AllocError>
+fn index_timers(alloc: Global, key: NameKey, process: &Process) -> Result<Scope, AllocError>
     ensures names { IfOk result (λ s. s.names ≡ names_once (timers_of (process_of process.now))) }
     ensures double { IfOk result (λ s. Marks s.double (repeats [] (timers_of (process_of process.now)))) }
 {
     let ids = collect_timers(alloc, &process.declarations)?;
-    let scope = index_names(alloc, &ids)?;
+    let scope = index_names(alloc, key, &ids)?;
     Ok(scope)
 }
 
 /// The names of a process's connections by number, and the first that is there twice.
-fn index_connectors(alloc: Global, process: &Process) -> Result<Scope, AllocError>
+fn index_connectors(alloc: Global, key: NameKey, process: &Process) -> Result<Scope, AllocError>
     ensures names { IfOk result (λ s. s.names ≡ names_once (connector_names (process_of process.now))) }
     ensures double { IfOk result (λ s. Marks s.double (repeats [] (connector_names (process_of process.now)))) }
 {
     let ids = connector_ids(alloc, &process.connections)?;
-    let scope = index_names(alloc, &ids)?;
+    let scope = index_names(alloc, key, &ids)?;
     Ok(scope)
 }
 
@@ -220,16 +221,16 @@ struct Declared {
 }
 
 /// What a process declares, by number, and the first name that is there twice.
-fn index_declared(alloc: Global, process: &Process) -> Result<Declared, AllocError>
+fn index_declared(alloc: Global, key: NameKey, process: &Process) -> Result<Declared, AllocError>
     ensures declared { IfOk result (λ d. HasDeclared (process_of process.now) d) }
 {
     let Variables {
         names,
         rows,
         double,
-    } = index_variables(alloc, process)?;
-    let timers = index_timers(alloc, process)?;
-    let connectors = index_connectors(alloc, process)?;
+    } = index_variables(alloc, key, process)?;
+    let timers = index_timers(alloc, key, process)?;
+    let connectors = index_connectors(alloc, key, process)?;
     Ok(Declared {
         variables: names,
         rows,
@@ -249,11 +250,15 @@ struct Standing<'a> {
 }
 
 /// The states and INPUTs of a process, and the first name that a state takes or saves, and took or saved before.
-fn index_standing<'a>(alloc: Global, process: &'a Process) -> Result<Standing<'a>, AllocError>
+fn index_standing<'a>(
+    alloc: Global,
+    key: NameKey,
+    process: &'a Process,
+) -> Result<Standing<'a>, AllocError>
     ensures standing { IfOk result (λ t. HasStanding (process_of process.now) t) }
 {
-    let states = collect_states(alloc, &process.states)?;
-    let double = trigger_double(alloc, process, &states)?;
+    let states = collect_states(alloc, key, &process.states)?;
+    let double = trigger_double(alloc, key, process, &states)?;
     let parts = collect_parts(alloc, &process.states)?;
     Ok(Standing {
         states,
@@ -291,14 +296,14 @@ impl<'a> Model for ProcessTable<'a> {
 }
 
 impl<'a> ProcessTable<'a> {
-    /// The tables of a process, unless a name is there twice.
-    pub fn new(alloc: Global, process: &'a Process) -> Result<Self, TableFault>
+    /// The tables of a process, unless a name is there twice. They hash by this key.
+    pub fn new(alloc: Global, key: NameKey, process: &'a Process) -> Result<Self, TableFault>
         ensures table { IfOk result (λ t. t ≡ process.now) }
         ensures distinct { OnOk result (flat_map (repeats []) (process_scopes (process_of process.now)) ≡ []) }
         ensures double { IfErr result (λ e. IsDouble e (flat_map (repeats []) (process_scopes (process_of process.now)))) }
     {
-        let declared = index_declared(alloc, process)?;
-        let standing = index_standing(alloc, process)?;
+        let declared = index_declared(alloc, key, process)?;
+        let standing = index_standing(alloc, key, process)?;
         match earlier(declared.double, standing.double) {
             Some(at) => Err(TableFault::DoubleName(at)),
             None => Ok(ProcessTable {

@@ -1,6 +1,6 @@
 //! Who gets a signal and who may have sent it, by the routes.
 ghost use Rattle.std.specs.Prelude.{◌≡◌, [], ◌∷◌, ◌++◌, List, if◌then◌else◌, ◌&&◌, map, IfOk, OnOk, None};
-ghost use Rattle.std.specs.BTreeMap.{get};
+ghost use Rattle.indexmap.specs.IndexMap.{get};
 ghost use Rattle.std.specs.List.{flat_map};
 ghost use Rattle.sdl_ast.specs.Spelling.{folded};
 ghost use Rattle.sdl_ast.specs.declared.tree.Party as tree;
@@ -8,35 +8,52 @@ ghost use Rattle.sdl_ast.specs.Views.{path_of, route_of};
 ghost use Rattle.sdl_tables.specs.Names.{same_name};
 ghost use Rattle.sdl_tables.specs.Routes.{same_party};
 ghost use Rattle.sdl_tables.specs.declared.route_index.End.{End as Key};
-ghost use Rattle.sdl_tables.specs.RouteIndexes.{Mention, held, end_cmp, same_end, mentions_of, side_of, end_of, passage_of, listed, is_carried, Indexes};
+ghost use Rattle.std.specs.Cmp.Rules.{hashing};
+ghost use Rattle.std.proofs.Common.{rules};
+ghost use Rattle.sdl_tables.specs.Sides.{side_writes};
+ghost use Rattle.sdl_tables.specs.RouteIndexes.{Mention, held, same_end, mentions_of, side_of, end_of, passage_of, listed, is_carried, Indexes};
 
-use crate::folded_name::FoldedName;
+use crate::name_key::NameKey;
+use indexmap::{IndexMap, IndexSet};
 use sdl_ast::{Name, Party, Path, Route};
 use std::alloc::{AllocError, Global};
-use std::collections::{BTreeMap, BTreeSet};
+use std::hash::{Hash, Hasher};
 
 /// A party as it is looked up: without its place, and by its name in lower case.
-#[derive(Clone, Copy, PartialEq, Eq, PartialOrd, Ord)]
+#[derive(Clone, Copy, PartialEq, Eq)]
 pub(crate) enum Side {
     /// The environment.
     Environment,
     /// The process with this name.
-    Process(FoldedName),
+    Process(Name),
+}
+
+impl Hash for Side {
+    ghost hash_input = { side_writes };
+
+    ghost respects_eq = { Prim.search (hashing, rules) };
+
+    fn hash<H: Hasher>(&self, state: &mut H) {
+        match self {
+            Side::Environment => state.write_u8(0),
+            Side::Process(name) => name.hash(state),
+        }
+    }
 }
 
 /// A party and a signal, by its name in lower case.
-#[derive(Clone, Copy, PartialEq, Eq, PartialOrd, Ord)]
+#[derive(Clone, Copy, PartialEq, Eq, Hash)]
 pub(crate) struct End {
     side: Side,
-    signal: FoldedName,
+    signal: Name,
 }
 
 /// A signal on its way from one party to another.
-#[derive(Clone, Copy, PartialEq, Eq, PartialOrd, Ord)]
+#[derive(Clone, Copy, PartialEq, Eq, Hash)]
 pub(crate) struct Passage {
     from: Side,
     to: Side,
-    signal: FoldedName,
+    signal: Name,
 }
 
 /// A party as it is looked up.
@@ -45,7 +62,7 @@ pub(crate) fn side_of(party: &Party) -> Side
 {
     match party {
         Party::Environment => Side::Environment,
-        Party::Process(id) => Side::Process(FoldedName::new(id.name)),
+        Party::Process(id) => Side::Process(id.name.folded()),
     }
 }
 
@@ -55,7 +72,7 @@ fn end_of(party: &Party, signal: Name) -> End
 {
     End {
         side: side_of(party),
-        signal: FoldedName::new(signal),
+        signal: signal.folded(),
     }
 }
 
@@ -66,29 +83,29 @@ fn passage_of(from: &Party, to: &Party, signal: Name) -> Passage
     Passage {
         from: side_of(from),
         to: side_of(to),
-        signal: FoldedName::new(signal),
+        signal: signal.folded(),
     }
 }
 
 /// For a party and a signal, the parties at the other ends of the paths that bring the signal.
 #[derive(Drop)]
 pub(crate) struct Ends {
-    lists: BTreeMap<End, Vec<Party>>,
+    lists: IndexMap<End, Vec<Party>, NameKey>,
 }
 
 impl Ends {
     /// No parties for any key.
-    fn new(alloc: Global) -> Self
+    fn new(alloc: Global, key: NameKey) -> Self
         ensures { (own : tree.Party) (s : _) → listed result own s ≡ [] }
     {
         Ends {
-            lists: BTreeMap::new(alloc),
+            lists: IndexMap::with_hasher(alloc, key),
         }
     }
 
     /// The first party for a key.
     fn begin(&mut self, alloc: Global, key: End, other: Party) -> Result<(), AllocError>
-        requires { get end_cmp self.old.lists key ≡ None }
+        requires { get same_end self.old.lists key ≡ None }
         ensures { OnOk result ((k : Key) → held self.new k ≡ held self.old k ++ (if same_end key k then other ∷ [] else [])) }
     {
         let mut list = Vec::new(alloc);
@@ -118,23 +135,23 @@ impl Ends {
     }
 }
 
-/// The routes of a block, by party and signal. The look-ups are ordered: no choice of names makes one slow.
+/// The routes of a block, by party and signal.
 #[derive(Drop)]
 pub(crate) struct RouteIndex {
-    carried: BTreeSet<Passage>,
+    carried: IndexSet<Passage, NameKey>,
     receivers: Ends,
     senders: Ends,
 }
 
 impl RouteIndex {
-    /// The index of no routes.
-    fn empty(alloc: Global) -> Self
+    /// The index of no routes, which hashes by this key.
+    fn empty(alloc: Global, key: NameKey) -> Self
         ensures { Indexes result [] }
     {
         RouteIndex {
-            carried: BTreeSet::new(alloc),
-            receivers: Ends::new(alloc),
-            senders: Ends::new(alloc),
+            carried: IndexSet::with_hasher(alloc, key),
+            receivers: Ends::new(alloc, key),
+            senders: Ends::new(alloc, key),
         }
     }
 
@@ -152,7 +169,7 @@ impl RouteIndex {
         let way = Passage {
             from: side_of(from),
             to: side_of(to),
-            signal: FoldedName::new(signal),
+            signal: signal.folded(),
         };
         if self.carried.insert(way)? {
             self.receivers.add(alloc, end_of(from, signal), *to)?;
@@ -181,11 +198,11 @@ impl RouteIndex {
         Ok(())
     }
 
-    /// The index of some routes.
-    pub(crate) fn new(alloc: Global, routes: &[&Route]) -> Result<Self, AllocError>
+    /// The index of some routes, which hashes by this key.
+    pub(crate) fn new(alloc: Global, key: NameKey, routes: &[&Route]) -> Result<Self, AllocError>
         ensures { IfOk result (λ i. Indexes i (flat_map mentions_of (flat_map (λ r. r.paths) (map (λ r. route_of r.now) routes.now)))) }
     {
-        let mut index = RouteIndex::empty(alloc);
+        let mut index = RouteIndex::empty(alloc, key);
         for route in routes {
             index.add_paths(alloc, &route.paths)?;
         }

@@ -3,6 +3,7 @@ ghost use Rattle.std.specs.Prelude.{◌≡◌, [], ◌++◌, ◌∷◌, List, �
 ghost use Rattle.sdl_tables.specs.Names.{names_once, add_name, is_in};
 ghost use Rattle.sdl_tables.specs.Scopes.{Marks, repeats, shared};
 
+use crate::name_key::NameKey;
 use crate::name_table::NameTable;
 use sdl_ast::Identifier;
 use std::alloc::{AllocError, Global};
@@ -37,11 +38,11 @@ pub(crate) fn marked(double: Option<u32>, new: bool, at: u32) -> Option<u32>
 }
 
 /// The names of a scope, in order.
-pub fn index_names(alloc: Global, ids: &[Identifier]) -> Result<Scope, AllocError>
+pub fn index_names(alloc: Global, key: NameKey, ids: &[Identifier]) -> Result<Scope, AllocError>
     ensures names { IfOk result (λ s. s.names ≡ names_once ids.now) }
     ensures double { IfOk result (λ s. Marks s.double (repeats [] ids.now)) }
 {
-    let mut names = NameTable::new(alloc);
+    let mut names = NameTable::new(alloc, key);
     let mut double = None;
     for id in ids {
         let new = names.add(*id)?;

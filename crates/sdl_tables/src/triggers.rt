@@ -11,6 +11,7 @@ ghost use Rattle.sdl_tables.specs.Rows.{row_at};
 ghost use Rattle.sdl_tables.specs.Scopes.{Marks, repeats};
 ghost use Rattle.sdl_tables.specs.Triggers.{trigger_ids, taken_by, taken_in, AreTaken, IsNumbered, AreNumbered, Keeps, Stamped, AreBelow, Covers};
 
+use crate::name_key::NameKey;
 use crate::name_table::NameTable;
 use crate::scope::{earlier, marked};
 use crate::state_names::part_triggers;
@@ -329,13 +330,14 @@ fn rows_double(
 /// The first place of a name that a state takes or saves, and took or saved before.
 pub(crate) fn trigger_double(
     alloc: Global,
+    key: NameKey,
     process: &Process,
     states: &NameTable,
 ) -> Result<Option<u32>, AllocError>
     requires { states.now ≡ states_of (process_of process.now) }
     ensures { IfOk result (λ double. Marks double (flat_map (repeats []) (triggers_by_state (process_of process.now)))) }
 {
-    let mut names = NameTable::new(alloc);
+    let mut names = NameTable::new(alloc, key);
     let parts = number_parts(alloc, &mut names, &process.states)?;
     let rows = collect_parts(alloc, &process.states, states)?;
     let double = rows_double(alloc, names.len(), &parts, &rows)?;

@@ -14,7 +14,8 @@
 //!   in a second: `counter`, turns of the counter by jobs, from offer to finish; `standard`, turns of the profile's processes, a book opened
 //!   anew for each power-on and start; `long`, instructions of a piece of 512, whose job is copied for each run; `counter_own`, turns of the
 //!   counter that its book makes without a job; `standard_own` and `standard_job`, turns of the profile's processes in one book, whose link
-//!   starts and stops, made by the book and by jobs; `straight`, instructions of the piece of 512, run where it stands in its set.
+//!   starts and stops, made by the book and by jobs; `straight`, instructions of the piece of 512, run where it stands in its set; `counter_room` and
+//!   `standard_room`, the same turns as `counter` and `standard_job`, in a room.
 //! - `wheel [ROUNDS]`: 8, 64 and 1,024 timers that aren't due yet, in all slots alike, and 10,000 ticks, one by one. Shows how many timers
 //!   were looked at; with a number of rounds how many ticks passed in a second, `wheel` in a wheel and `table` in a table of deadlines that
 //!   is walked whole.

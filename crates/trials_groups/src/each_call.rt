@@ -165,7 +165,7 @@ pub fn fill(text: &mut String, group: &mut Group, far: &mut FarEnd) -> Result<()
 
 /// Writes what a message of changeover is answered by.
 fn write_answer(text: &mut String, group: &mut Group, sif: &[u8]) -> Result<(), AllocError> {
-    match group.changeover_message(sif) {
+    match group.changeover_message(sif).reply {
         Some(answer) => write_sif(text, answer.as_slice()),
         None => text.push_str("no answer\n"),
     }

@@ -127,7 +127,7 @@ impl Schedule {
             let _kept = to.mail.push_back(sif).is_ok();
             return;
         }
-        if let Some(answer) = to.group.changeover_message(sif.as_slice()) {
+        if let Some(answer) = to.group.changeover_message(sif.as_slice()).reply {
             self.send(from, answer, dice);
         }
     }

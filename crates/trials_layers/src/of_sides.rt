@@ -12,6 +12,8 @@ use su_octets::{Head, Unit};
 enum Step {
     /// An actor tells that.
     Tell(EnvSignal),
+    /// Level 3 holds the link so.
+    Hold(Hold),
     /// A message with this service information octet is to be sent.
     Put(u8),
     /// A unit with these first two octets comes, a message where the third word says so. Messages were acknowledged of which
@@ -99,6 +101,10 @@ fn does(alloc: Global, transceiver: &mut Transceiver, step: Step) -> bool {
     match step {
         Step::Tell(signal) => {
             transceiver.on_signal(signal);
+            true
+        }
+        Step::Hold(hold) => {
+            transceiver.hold(hold);
             true
         }
         Step::Put(sio) => transceiver.put(message(sio)).is_ok(),
@@ -196,6 +202,66 @@ const IS_CONGESTED: [Step; 22] = [
     Step::Report(LinkStatus::InService),
 ];
 
+/// No message goes out or is accepted; acknowledgements and negative ones are obeyed, and faults counted, until both directions begin anew.
+const IS_HELD: [Step; 19] = [
+    Step::Put(0x80),
+    Step::Out("MSU bsn 127 bib 1 fsn 0 fib 1 sio 80 octets 3 true"),
+    Step::Put(0x81),
+    Step::Hold(Hold::UntilAnew),
+    Step::Out("FISU bsn 127 bib 1 fsn 0 fib 1 false"),
+    Step::Hear(0xff, 0x80, true, None, false),
+    Step::Hear(0xff, 0x82, true, None, false),
+    Step::Out("FISU bsn 127 bib 1 fsn 0 fib 1 false"),
+    Step::Hear(0x7f, 0xff, false, None, false),
+    Step::Out("FISU bsn 127 bib 1 fsn 0 fib 0 false"),
+    Step::Hear(0x00, 0x80, true, Some(false), false),
+    Step::Out("FISU bsn 127 bib 1 fsn 0 fib 0 false"),
+    Step::Hear(0x00, 0x7f, false, None, false),
+    Step::Hear(0x00, 0x7f, false, None, true),
+    Step::Tell(EnvSignal::Fresh),
+    Step::Out("MSU bsn 127 bib 1 fsn 0 fib 1 sio 81 octets 3 true"),
+    Step::Hear(0xff, 0x80, true, None, false),
+    Step::Deliver(0x80),
+    Step::Report(LinkStatus::InService),
+];
+
+/// What was asked for stays, and so does a hold that level 3 has to end; other units go out as ever.
+const IS_KEPT: [Step; 19] = [
+    Step::Hear(0xff, 0x82, true, None, false),
+    Step::Out("FISU bsn 127 bib 0 fsn 127 fib 1 false"),
+    Step::Hold(Hold::Kept),
+    Step::Hear(0xff, 0x80, true, None, false),
+    Step::Hear(0xff, 0x00, true, None, false),
+    Step::Hear(0xff, 0x81, true, None, false),
+    Step::Put(0x80),
+    Step::Out("FISU bsn 127 bib 0 fsn 127 fib 1 false"),
+    Step::Tell(EnvSignal::Fresh),
+    Step::Out("FISU bsn 127 bib 1 fsn 127 fib 1 false"),
+    Step::Tell(EnvSignal::Line(5)),
+    Step::Out("LSSU bsn 127 bib 1 fsn 127 fib 1 status SIB false"),
+    Step::Tell(EnvSignal::Line(4)),
+    Step::Out("LSSU bsn 127 bib 1 fsn 127 fib 1 status SIPO false"),
+    Step::Tell(EnvSignal::Line(9)),
+    Step::Hold(Hold::Free),
+    Step::Out("MSU bsn 127 bib 1 fsn 0 fib 1 sio 80 octets 3 true"),
+    Step::Report(LinkStatus::InService),
+    Step::Rest,
+];
+
+/// What is to go once more waits, and goes as the hold ends.
+const WAITS_TO_REPEAT: [Step; 10] = [
+    Step::Put(1),
+    Step::Put(2),
+    Step::Out("MSU bsn 127 bib 1 fsn 0 fib 1 sio 01 octets 3 true"),
+    Step::Out("MSU bsn 127 bib 1 fsn 1 fib 1 sio 02 octets 3 true"),
+    Step::Hold(Hold::UntilAnew),
+    Step::Hear(0x7f, 0xff, false, None, false),
+    Step::Out("FISU bsn 127 bib 1 fsn 1 fib 0 false"),
+    Step::Hold(Hold::Free),
+    Step::Out("MSU bsn 127 bib 1 fsn 0 fib 0 sio 01 octets 3 true"),
+    Step::Out("MSU bsn 127 bib 1 fsn 1 fib 0 sio 02 octets 3 true"),
+];
+
 /// The numbers of the first steps at which a new side does something else as it comes up, and then; nothing where it can't be made.
 fn first_others(alloc: Global, steps: &[Step]) -> Option<[Option<usize>; 2]> {
     let mut transceiver = Transceiver::new(alloc, Mode::Basic).ok()?;
@@ -209,6 +275,14 @@ fn exchanges_units(rt: HostRuntime) {
     assert_eq!(rt; first_others(rt.alloc(), &LOSES_ONE_EACH_WAY), well);
     assert_eq!(rt; first_others(rt.alloc(), &HAS_FAULTS), well);
     assert_eq!(rt; first_others(rt.alloc(), &IS_CONGESTED), well);
+}
+
+#[test]
+fn holds_messages_back(rt: HostRuntime) {
+    let well = Some([None; 2]);
+    assert_eq!(rt; first_others(rt.alloc(), &IS_HELD), well);
+    assert_eq!(rt; first_others(rt.alloc(), &IS_KEPT), well);
+    assert_eq!(rt; first_others(rt.alloc(), &WAITS_TO_REPEAT), well);
 }
 
 /// Whether the next reports are that the link went down for each of these reasons, and then there is none.

@@ -13,11 +13,19 @@ use std::time::{Duration, Instant};
 use turn_code::{InstanceNumber, Party, ProcessNumber, SignalNumber};
 use turn_pool::{Closed, Gate, JobName, PoolFault, serve};
 
-/// A gate that looks at nobody.
+/// A gate that looks at all turns, and does nothing, or at none.
 #[derive(Drop)]
-struct Open;
+struct Still {
+    looks: bool,
+}
 
-impl Gate for Open {
+impl Gate for Still {
+    ghost looking = { λ gate. gate.looks };
+
+    fn looks(&self) -> bool {
+        self.looks
+    }
+
     fn enter(&self, _name: JobName) {}
 
     fn leave(&self, _name: JobName) {}
@@ -250,12 +258,15 @@ fn serve_links<R: Runtime + AllocGlobal + Threads + Wait + Sync>(
     let mut client = Wanderer::new(
         rt, set, ways, plan.links, plan.seed, plan.steps, time, start,
     );
+    let gate = Still {
+        looks: plan.seed % 2 == 1,
+    };
     match serve(
         rt,
         rt.alloc(),
         books,
         plan.workers as usize,
-        &Open,
+        &gate,
         &mut client,
     ) {
         Ok(closed) => {

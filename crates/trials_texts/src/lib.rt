@@ -23,6 +23,8 @@ mod of_rebases;
 #[cfg(test)]
 mod of_refusals;
 #[cfg(test)]
+mod of_rooms;
+#[cfg(test)]
 mod of_rules;
 #[cfg(test)]
 mod of_runs;

@@ -66,7 +66,13 @@ fn tells<R: Read + Drop>(alloc: Global, reader: R, failing: u32, told: Told) -> 
         calls: 0,
         failing,
     };
-    let status = check(alloc, SetWord::Text(reader), &mut paper);
+    let status = check(
+        alloc,
+        SetWord::Text(reader),
+        "text",
+        &mut paper,
+        &mut io::sink(),
+    );
     paper.text.as_slice() == told.0 && status == told.1
 }
 
@@ -109,7 +115,13 @@ fn tells_in_room(alloc: Global, text: &[u8], room: usize, told: Told) -> bool {
         text: Vec::new(alloc),
         room,
     };
-    let status = check(alloc, SetWord::Text(text), &mut scrap);
+    let status = check(
+        alloc,
+        SetWord::Text(text),
+        "text",
+        &mut scrap,
+        &mut io::sink(),
+    );
     told.0.get(..room) == Some(scrap.text.as_slice()) && status == told.1
 }
 
@@ -143,7 +155,13 @@ fn ends_early(alloc: Global, text: &[u8]) -> bool {
         calls: 0,
         failing: 0,
     };
-    let status = check(alloc, SetWord::Text(text), &mut paper);
+    let status = check(
+        alloc,
+        SetWord::Text(text),
+        "text",
+        &mut paper,
+        &mut io::sink(),
+    );
     paper.text.starts_with(b"refused P1 Unexpected line ") && status == 2
 }
 

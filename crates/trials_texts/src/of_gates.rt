@@ -31,6 +31,14 @@ impl HoldsEnded {
 }
 
 impl Gate for HoldsEnded {
+    ghost use Rattle.std.specs.Prelude.{true};
+
+    ghost looking = { λ _. true };
+
+    fn looks(&self) -> bool {
+        true
+    }
+
     fn enter(&self, _name: JobName) {}
 
     fn leave(&self, _name: JobName) {
@@ -85,4 +93,75 @@ fn is_taken_held<R: Threads + Wait + Sync>(rt: &R, alloc: Global) -> bool {
 #[test]
 fn a_gate_is_told_of_a_turn_behind_its_end_and_under_no_lock(rt: HostRuntime) {
     assert!(rt; is_taken_held(&rt, rt.alloc()));
+}
+
+/// A gate that doesn't look, and counts how often it is told of a turn.
+#[derive(Drop)]
+struct LooksAway {
+    told: AtomicUsize,
+}
+
+impl Gate for LooksAway {
+    ghost use Rattle.std.specs.Prelude.{false};
+
+    ghost looking = { λ _. false };
+
+    fn looks(&self) -> bool {
+        false
+    }
+
+    fn enter(&self, _name: JobName) {
+        self.told.fetch_add(1, Ordering::SeqCst);
+    }
+
+    fn leave(&self, _name: JobName) {
+        self.told.fetch_add(1, Ordering::SeqCst);
+    }
+}
+
+/// A client that offers a signal, and looks until it can take what came of it.
+#[derive(Drop)]
+struct TakesOne {
+    taken: bool,
+}
+
+impl Client for TakesOne {
+    fn drive<R: Wait, L: Ledger>(&mut self, pool: &Pool<'_, R, L>, seat: &mut Seat<L>) {
+        let _offered = pool.offer(0, 0, UP, &[], seat);
+        for _ in 0..LOOKS {
+            if pool.take_env(0, seat).is_ok() {
+                self.taken = true;
+                break;
+            }
+            thread::yield_now();
+        }
+    }
+}
+
+/// What came of a link with a gate that doesn't look: whether the client took what a turn sent, how often the gate was told, how many turns ended, how many
+/// events the journal has and how many of them are on the worker's seat.
+fn unseen<R: Threads + Wait + Sync>(rt: &R, alloc: Global) -> Option<(bool, usize, u64, u64, u64)> {
+    let books = links(alloc, ECHO, 1, 64)?;
+    let gate = LooksAway {
+        told: AtomicUsize::new(0),
+    };
+    let mut client = TakesOne { taken: false };
+    let Ok(closed) = serve(rt, alloc, books, 1, &gate, &mut client) else {
+        return None;
+    };
+    let book = closed.books.first()?;
+    let told = gate.told.load(Ordering::SeqCst);
+    Some((
+        client.taken,
+        told,
+        book.finishes(),
+        book.next(),
+        *closed.workers.first()?,
+    ))
+}
+
+/// START and the turn of the one signal are four events of the worker; the offer and the take are the client's.
+#[test]
+fn a_gate_that_does_not_look_is_told_of_no_turn(rt: HostRuntime) {
+    assert_eq!(rt; unseen(&rt, rt.alloc()), Some((true, 0, 2, 6, 4)));
 }

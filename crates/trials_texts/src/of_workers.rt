@@ -155,6 +155,14 @@ impl Holds {
 }
 
 impl Gate for Holds {
+    ghost use Rattle.std.specs.Prelude.{true};
+
+    ghost looking = { λ _. true };
+
+    fn looks(&self) -> bool {
+        true
+    }
+
     fn enter(&self, name: JobName) {
         self.names_begun
             .fetch_add(number_of(name), Ordering::SeqCst);
@@ -261,6 +269,14 @@ struct Counts {
 }
 
 impl Gate for Counts {
+    ghost use Rattle.std.specs.Prelude.{true};
+
+    ghost looking = { λ _. true };
+
+    fn looks(&self) -> bool {
+        true
+    }
+
     fn enter(&self, _name: JobName) {
         self.begun.fetch_add(1, Ordering::SeqCst);
     }

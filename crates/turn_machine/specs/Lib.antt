@@ -3,6 +3,7 @@ pub mod Fitting
 pub mod Given
 pub mod Growing
 pub mod Parts
+pub mod Rooms
 pub mod Safety
 pub mod Turn
 pub mod Wording

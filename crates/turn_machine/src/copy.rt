@@ -4,7 +4,7 @@ ghost use Rattle.std.specs.Prelude.{◌≡◌, ◌≤◌, length};
 ghost use Rattle.turn_check.specs.Limits.{MOST_INSTRUCTIONS};
 
 use arrayvec::ArrayVec;
-use turn_code::{Effect, Instruction};
+use turn_code::{Effect, Input, Instruction, Value};
 
 /// The instructions by value.
 pub(crate) fn copied_code(code: &[Instruction]) -> ArrayVec<Instruction, 512>
@@ -14,6 +14,40 @@ pub(crate) fn copied_code(code: &[Instruction]) -> ArrayVec<Instruction, 512>
     let mut copy = ArrayVec::new();
     copy.try_extend_from_slice(code).unwrap();
     copy
+}
+
+/// The instructions become these.
+pub(crate) fn copy_code(to: &mut ArrayVec<Instruction, 512>, code: &[Instruction])
+    requires { length code.now ≤ MOST_INSTRUCTIONS }
+    ensures { to.new.items ≡ code.now }
+{
+    to.clear();
+    to.try_extend_from_slice(code).unwrap();
+}
+
+/// The variables become these.
+fn copy_variables(to: &mut ArrayVec<Option<Value>, 32>, variables: &ArrayVec<Option<Value>, 32>)
+    ensures { to.new.items ≡ variables.now.items }
+{
+    to.clear();
+    to.try_extend_from_slice(variables.as_slice()).unwrap();
+}
+
+/// The parameters become these.
+fn copy_parameters(to: &mut ArrayVec<Value, 4>, parameters: &ArrayVec<Value, 4>)
+    ensures { to.new.items ≡ parameters.now.items }
+{
+    to.clear();
+    to.try_extend_from_slice(parameters.as_slice()).unwrap();
+}
+
+/// The input becomes this one.
+pub(crate) fn copy_input(to: &mut Input, input: &Input)
+    ensures { to.new ≡ input.now }
+{
+    copy_variables(&mut to.variables, &input.variables);
+    copy_parameters(&mut to.parameters, &input.parameters);
+    to.sender = input.sender;
 }
 
 /// The effects once more.

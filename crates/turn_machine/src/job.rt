@@ -7,6 +7,7 @@ ghost use Rattle.turn_machine.specs.Turn.{Begins, IsRunnable, IsRunnableBy};
 
 use crate::copy::copied_code;
 use crate::received::Received;
+use crate::work::Work;
 use arrayvec::ArrayVec;
 use std::alloc::AllocError;
 use std::marker::Model;
@@ -16,25 +17,18 @@ use turn_code::{Cert, Input, Instruction, Place, ProcessNumber, Value};
 /// A transition that is to run, with all that it needs: its code and the sorts of what it names by value, and an input that fits it.
 #[derive(Drop)]
 pub struct Job {
-    actor: u16,
-    turn: u64,
-    process: ProcessNumber,
-    place: Place,
-    input_number: usize,
-    code: ArrayVec<Instruction, 512>,
-    certificate: Cert,
+    work: Work,
     sorts: Sorts,
-    input: Input,
 }
 
 impl Model for Job {
-    ghost use Rattle.turn_machine.specs.Turn.{Turn, IsRunnableBy, turn_of};
+    ghost use Rattle.turn_machine.specs.Turn.{Turn, IsRunnableBy};
 
     ghost Value = { Turn };
 
-    ghost view = { λ j. turn_of j.actor j.turn j.process j.place j.input_number j.code.items j.certificate j.input };
+    ghost view = { λ j. j.work };
 
-    ghost invariant = { λ j. IsRunnableBy (turn_of j.actor j.turn j.process j.place j.input_number j.code.items j.certificate j.input) j.sorts };
+    ghost invariant = { λ j. IsRunnableBy j.work j.sorts };
 }
 
 impl Job {
@@ -60,67 +54,76 @@ impl Job {
         let _ = verified.draft();
         match verified.transition(process, place, input_number) {
             Some(transition) => Job {
-                actor,
-                turn,
-                process,
-                place,
-                input_number,
-                code: copied_code(transition.piece.code.as_slice()),
-                certificate: transition.piece.certificate,
+                work: Work {
+                    actor,
+                    turn,
+                    process,
+                    place,
+                    input_number,
+                    code: copied_code(transition.piece.code.as_slice()),
+                    certificate: transition.piece.certificate,
+                    input,
+                },
                 sorts: verified.sorts(process),
-                input,
             },
             None => unreachable!(),
         }
+    }
+
+    /// What it works on.
+    pub fn work(&self) -> &Work
+        ensures { result.now ≡ self.now }
+    {
+        &self.work
     }
 
     /// The actor whose turn it is.
     pub fn actor(&self) -> u16
         ensures { result ≡ self.now.actor }
     {
-        self.actor
+        self.work.actor
     }
 
     /// The number of the turn.
     pub fn turn(&self) -> u64
         ensures { result ≡ self.now.turn }
     {
-        self.turn
+        self.work.turn
     }
 
     /// The process.
     pub fn process(&self) -> ProcessNumber
         ensures { result ≡ self.now.process }
     {
-        self.process
+        self.work.process
     }
 
     /// START, or the state.
     pub fn place(&self) -> Place
         ensures { result ≡ self.now.place }
     {
-        self.place
+        self.work.place
     }
 
     /// The number of the input at that place; 0 at START.
     pub fn input_number(&self) -> usize
         ensures { result ≡ self.now.input_number }
     {
-        self.input_number
+        self.work.input_number
     }
 
     /// The code of the transition.
     pub fn code(&self) -> &[Instruction]
         ensures { result.now ≡ self.now.code }
     {
-        self.code.as_slice()
+        self.work.code.as_slice()
     }
 
     /// The counts of the transition.
     pub fn certificate(&self) -> Cert
         ensures { result ≡ self.now.certificate }
     {
-        self.certificate
+        self.work.certificate
     }
 
     /// Which parameters of the set's signals, and which variables of the process, are Booleans.
@@ -135,7 +138,7 @@ impl Job {
         ensures value { result.now ≡ self.now.input }
         ensures runnable { IsRunnable self.now }
     {
-        &self.input
+        &self.work.input
     }
 
     /// The same job once more. It takes no memory.
@@ -143,15 +146,8 @@ impl Job {
         ensures { result ≡ self.now }
     {
         Job {
-            actor: self.actor,
-            turn: self.turn,
-            process: self.process,
-            place: self.place,
-            input_number: self.input_number,
-            code: copied_code(self.code.as_slice()),
-            certificate: self.certificate,
+            work: self.work.copy(),
             sorts: self.sorts,
-            input: self.input.copy(),
         }
     }
 }

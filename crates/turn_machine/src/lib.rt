@@ -4,20 +4,26 @@
 
 mod copy;
 mod done;
+mod ended;
 mod ending;
 mod execute;
 mod fit;
 mod job;
 mod parts;
 mod received;
+mod room;
 mod same_turn;
 mod values;
 mod wording;
+mod work;
 
 pub use done::{Done, run};
+pub use ended::Ended;
 pub use ending::{new_machine, run_in};
 pub use fit::fits;
 pub use job::Job;
 pub use received::Received;
+pub use room::{Held, Room};
 pub use same_turn::{is_turn, runs_piece};
 pub use turn_check::{After, Given, Next, Piece, Sorts, Words, step_bare, value_of};
+pub use work::Work;

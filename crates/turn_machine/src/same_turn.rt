@@ -2,8 +2,8 @@
 
 ghost use Rattle.std.specs.Prelude.{◌≡◌, ◌↔◌, IsTrue};
 
-use crate::job::Job;
 use crate::parts::same_code;
+use crate::work::Work;
 use turn_code::{Cert, DraftPiece, Input, Place, ProcessNumber};
 
 /// Whether the counts are the same.
@@ -29,29 +29,29 @@ fn same_place(left: Place, right: Place) -> bool
     }
 }
 
-/// Whether a job is that of this turn of an actor: input `input_number` at this place, on this input. It takes no memory.
+/// Whether it is that of this turn of an actor: input `input_number` at this place, on this input. It takes no memory.
 pub fn is_turn(
-    job: &Job,
+    work: &Work,
     actor: u16,
     turn: u64,
     place: Place,
     input_number: usize,
     input: &Input,
 ) -> bool
-    ensures { IsTrue result ↔ ((job.now.actor ≡ actor) × (job.now.turn ≡ turn) × (job.now.place ≡ place) × (job.now.input_number ≡ input_number) × (job.now.input ≡ input.now)) }
+    ensures { IsTrue result ↔ ((work.now.actor ≡ actor) × (work.now.turn ≡ turn) × (work.now.place ≡ place) × (work.now.input_number ≡ input_number) × (work.now.input ≡ input.now)) }
 {
-    job.actor() == actor
-        && job.turn() == turn
-        && same_place(job.place(), place)
-        && job.input_number() == input_number
-        && job.input().same(input)
+    work.actor() == actor
+        && work.turn() == turn
+        && same_place(work.place(), place)
+        && work.input_number() == input_number
+        && work.input().same(input)
 }
 
-/// Whether a job runs this piece of this process: with the same code and the same counts. It takes no memory.
-pub fn runs_piece(job: &Job, process: ProcessNumber, piece: &DraftPiece) -> bool
-    ensures { IsTrue result ↔ ((job.now.process ≡ process) × (job.now.code ≡ piece.now.code) × (job.now.certificate ≡ piece.now.certificate)) }
+/// Whether it runs this piece of this process: with the same code and the same counts. It takes no memory.
+pub fn runs_piece(work: &Work, process: ProcessNumber, piece: &DraftPiece) -> bool
+    ensures { IsTrue result ↔ ((work.now.process ≡ process) × (work.now.code ≡ piece.now.code) × (work.now.certificate ≡ piece.now.certificate)) }
 {
-    job.process().0 == process.0
-        && same_certificate(job.certificate(), piece.certificate)
-        && same_code(job.code(), piece.code.as_slice())
+    work.process().0 == process.0
+        && same_certificate(work.certificate(), piece.certificate)
+        && same_code(work.code(), piece.code.as_slice())
 }

@@ -1,8 +1,9 @@
 -- A turn that began is out, and has a name.
 use Rattle.std.proofs.Common.{◌≡◌, ℕ, Option, Some, None, refl, sym, ap, ◌∙◌, subst}
-use Rattle.std.specs.Prelude.{IsSome, Ok, is_some, option_map, slice_get}
+use Rattle.std.specs.Prelude.{IsSome, Ok, Err, option_map, slice_get}
 use Rattle.std.proofs.lemmas.Bool.{false≢true}
 use Rattle.std.proofs.lemmas.Option.{none-some}
+use Rattle.turn_machine.specs.Rooms.{Lying, Begun}
 use Rattle.turn_machine.specs.Turn.{Turn}
 use Rattle.actor_machine.specs.declared.name.ActorName.{ActorName}
 use Rattle.actor_machine.specs.Core.{names_in}
@@ -11,7 +12,7 @@ use Rattle.actor_machine.specs.declared.actor.Actor.{Actor}
 use Rattle.actor_machine.proofs.FitsLists.{name_there}
 use Rattle.actor_book.proofs.Ending.{own_actor}
 use Rattle.turn_pool.specs.Moves.{Moves}
-use Rattle.turn_pool.specs.Turns.{told_of, told, NamesBegun, IsNamed}
+use Rattle.turn_pool.specs.Turns.{told_of, told_there, told, NamesBegun, IsNamed}
 use Rattle.turn_pool.specs.declared.gate.JobName.{JobName}
 use Rattle.turn_pool.specs.declared.moves.Move.{Move}
 use Rattle.turn_pool.specs.declared.moves.Move.TheVariants as move
@@ -35,20 +36,21 @@ named link b n t h =
     is_told link b t there.0.name
     (ap (λ (k : ℕ). slice_get (names_in (state_of b).actors) k) (own_actor b n t t h refl) ∙ name_there (state_of b).actors n there.0 there.1)
 
-pub begun_named : (link : ℕ) (b : Ledger) (m : Moved) → NamesBegun b m (told link b m)
-begun_named link b m n job is out = subst (λ (x : Moved). IsSome (told link b x)) (sym is) (named link b n job out)
+pub begun_named : (link : ℕ) (b : Ledger) (r : Lying) (m : Moved) → NamesBegun b r m (told link b r m)
+begun_named link b r (moved.Begun (Ok x)) = λ ok n t lies out. subst (λ (l : Lying). IsSome (told_there link b l)) (sym lies) (named link b n t out)
+begun_named link b r (moved.Begun (Err x)) = λ ok. absurd (false≢true ok)
+begun_named link b r (moved.Skipped answer) = tt
+begun_named link b r (moved.Finished answer) = tt
+begun_named link b r (moved.Turned answer) = tt
 
 -- ---- a step
 
-begun_out : (b c : Ledger) (s : Move) (job : Turn) → Moves b s (moved.Begun (Ok job)) c → (n : ℕ) × (turn_out c n ≡ Some job)
-begun_out b c (move.Begin n) job h = (n, h.job)
-begun_out b c (move.Skip n) job h = absurd h
-begun_out b c (move.Finish done) job h = absurd h
-
-pub step_named : (b c : Ledger) (s : Move) (m : Moved) (name : Option JobName) → Moves b s m c → NamesBegun c m name → IsNamed m name
-step_named b c s m name moves begun = λ job is.
-    let out = begun_out b c s job (subst (λ (x : Moved). Moves b s x c) is moves) in
-    begun out.0 job is out.1
-
-pub no_name : (m : Moved) (job : Turn) (name : Option JobName) → IsNamed m name → m ≡ moved.Begun (Ok job) → name ≡ None → ⊥
-no_name m job name named is none = false≢true (sym (ap (λ (o : Option JobName). is_some o) none) ∙ named job is)
+pub step_named : (b c : Ledger) (r l : Lying) (s : Move) (m : Moved) (name : Option JobName) → Moves b r s m c l → NamesBegun c l m name → IsNamed m name
+step_named b c r l (move.Begin n) (moved.Begun (Ok x)) name moves begun = λ ok. begun ok n moves.began.turn moves.began.lies moves.began.out
+step_named b c r l (move.Begin n) (moved.Begun (Err x)) name moves begun = λ ok. absurd (false≢true ok)
+step_named b c r l (move.Skip n) (moved.Begun answer) name moves begun = absurd moves
+step_named b c r l move.Finish (moved.Begun answer) name moves begun = absurd moves
+step_named b c r l (move.Turn n) (moved.Begun answer) name moves begun = absurd moves
+step_named b c r l s (moved.Skipped answer) name moves begun = tt
+step_named b c r l s (moved.Finished answer) name moves begun = tt
+step_named b c r l s (moved.Turned answer) name moves begun = tt

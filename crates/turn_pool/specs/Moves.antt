@@ -1,25 +1,40 @@
 -- The steps of a worker.
-use Rattle.std.specs.Prelude.{◌≡◌, ◌↔◌, ℕ, Result, Ok, Err, IsOk, IfOk, Some}
+use Rattle.std.specs.Prelude.{◌≡◌, ◌↔◌, ℕ, Result, Ok, Err, IsOk}
 use Rattle.turn_code.specs.declared.draft.Trigger.{Trigger}
-use Rattle.turn_machine.specs.Turn.{Turn}
-use Rattle.actor_machine.specs.Ledger.{Ledger, ask, turn_out}
+use Rattle.turn_machine.specs.Rooms.{Lying, Free}
+use Rattle.actor_machine.specs.Ledger.{Ledger, ask}
 use Rattle.actor_machine.specs.Step.{Says}
-use Rattle.actor_machine.specs.declared.event.Event.TheVariants.{Begin, Skip, Finish}
+use Rattle.actor_machine.specs.declared.event.Event.TheVariants.{Begin, Skip}
 use Rattle.actor_machine.specs.declared.reply.Refusal.{Refusal}
+use Rattle.actor_machine.specs.declared.reply.Refusal.TheVariants.{Stranger}
 use Rattle.actor_machine.specs.declared.reply.Report.{Report}
 use Rattle.actor_machine.specs.declared.reply.Reply.TheVariants as reply
-use Rattle.actor_book.specs.Answered.{answer_by, begun_by}
+use Rattle.actor_book.specs.Answered.{answer_by}
+use Rattle.actor_book.specs.Roomed.{BeginsThere, BeginsNone, IsOutThere, EndsThere}
+use Rattle.actor_book.specs.Whole.{HasTurned, turned}
+use Rattle.actor_book.specs.declared.rooms.RoomRefusal.{RoomRefusal}
 use Rattle.turn_pool.specs.declared.moves.Move.{Move}
 use Rattle.turn_pool.specs.declared.moves.Move.TheVariants as move
 use Rattle.turn_pool.specs.declared.moves.Moved.{Moved}
 use Rattle.turn_pool.specs.declared.moves.Moved.TheVariants as moved
 
--- an actor begins a turn, and the job is what it then has out
-pub record Begins (b : Ledger) (actor : ℕ) (answer : Result Turn Refusal) (c : Ledger) :
-    Type 0 where
+-- an actor begins a turn into a free room, and the job that lies there is what it then has out
+pub record Begins (b : Ledger) (r : Lying) (actor : ℕ) (c : Ledger) (s : Lying) : Type 0 where
+  pub free : r ≡ Free
   pub book : c ≡ (ask b (Begin actor)).book
-  pub answers : answer_by begun_by answer ≡ (ask b (Begin actor)).answer
-  pub job : IfOk answer (λ job. turn_out c actor ≡ Some job)
+  pub began : BeginsThere b actor c s
+
+-- it begins none for this reason, and nothing changes
+pub record Refuses (b : Ledger) (r : Lying) (actor : ℕ) (x : RoomRefusal) (c : Ledger)
+    (s : Lying) : Type 0 where
+  pub refused : BeginsNone b actor r x
+  pub same : c ≡ b
+  pub stays : s ≡ r
+
+abbrev pub BeginsIn : {A : Type 0} → Ledger → Lying → ℕ → Result A RoomRefusal → Ledger → Lying
+    → Type 0
+BeginsIn b r actor (Ok x) c s = Begins b r actor c s
+BeginsIn b r actor (Err x) c s = Refuses b r actor x c s
 
 -- an actor throws an item away
 pub record Skips (b : Ledger) (actor : ℕ) (answer : Result Trigger Refusal) (c : Ledger) :
@@ -27,30 +42,48 @@ pub record Skips (b : Ledger) (actor : ℕ) (answer : Result Trigger Refusal) (c
   pub book : c ≡ (ask b (Skip actor)).book
   pub answers : answer_by reply.Skipped answer ≡ (ask b (Skip actor)).answer
 
--- the turn that an actor has out ends
-pub record Ends (b : Ledger) (actor : ℕ) (report : Report) (c : Ledger) : Type 0 where
-  pub book : c ≡ (ask b (Finish actor)).book
-  pub answers : (ask b (Finish actor)).answer ≡ Says (reply.Finished report)
+abbrev pub EndsIn : Ledger → Lying → Result Report Refusal → Ledger → Lying → Type 0
+EndsIn b r (Ok report) c s = EndsThere b r report c × (s ≡ Free)
+EndsIn b r (Err x) c s = (x ≡ Stranger) × (c ≡ b) × (s ≡ r)
 
-abbrev pub EndsBy : Ledger → Turn → Result Report Turn → Ledger → Type 0
-EndsBy b done (Ok report) c = Ends b done.actor report c
-EndsBy b done (Err back) c = (back ≡ done) × (c ≡ b)
+-- what ran in the room is taken where its actor has it out, and there alone: the room is free then;
+-- else it stays, and nothing changes
+pub record FinishesIn (b : Ledger) (r : Lying) (answer : Result Report Refusal) (c : Ledger)
+    (s : Lying) : Type 0 where
+  pub taken : IsOk answer ↔ IsOutThere b r
+  pub ends : EndsIn b r answer c s
 
--- a job that ran is taken where its actor has it out, and there alone; else it comes back, and
--- nothing changes
-pub record Finishes (b : Ledger) (done : Turn) (answer : Result Report Turn) (c : Ledger) :
-    Type 0 where
-  pub taken : IsOk answer ↔ (turn_out b done.actor ≡ Some done)
-  pub ends : EndsBy b done answer c
+-- an actor has a whole turn: the book and the report are those of a beginning and then of an end by
+-- the set's own code, within the budget of the turn's certificate
+pub record EndsWhole (b : Ledger) (actor : ℕ) (report : Report) (c : Ledger) : Type 0 where
+  pub book : c ≡ (turned b actor).book
+  pub answers : (turned b actor).answer ≡ Says (reply.Finished report)
+  pub took : HasTurned b actor report.count
 
--- one step of a worker on a book, and what it gives
-abbrev pub Moves : Ledger → Move → Moved → Ledger → Type 0
-Moves b (move.Begin actor) (moved.Begun answer) c = Begins b actor answer c
-Moves b (move.Begin actor) (moved.Skipped answer) c = ⊥
-Moves b (move.Begin actor) (moved.Finished answer) c = ⊥
-Moves b (move.Skip actor) (moved.Begun answer) c = ⊥
-Moves b (move.Skip actor) (moved.Skipped answer) c = Skips b actor answer c
-Moves b (move.Skip actor) (moved.Finished answer) c = ⊥
-Moves b (move.Finish done) (moved.Begun answer) c = ⊥
-Moves b (move.Finish done) (moved.Skipped answer) c = ⊥
-Moves b (move.Finish done) (moved.Finished answer) c = Finishes b done answer c
+-- it is refused as a beginning is, and then nothing changes
+pub record BeginsNot (b : Ledger) (actor : ℕ) (refusal : Refusal) (c : Ledger) : Type 0 where
+  pub same : c ≡ b
+  pub answers : (ask b (Begin actor)).answer ≡ Says (reply.Refused refusal)
+
+abbrev pub WholeTurn : Ledger → ℕ → Result Report Refusal → Ledger → Type 0
+WholeTurn b actor (Ok report) c = EndsWhole b actor report c
+WholeTurn b actor (Err refusal) c = BeginsNot b actor refusal c
+
+-- one step of a worker on a book with its room, and what it gives
+abbrev pub Moves : Ledger → Lying → Move → Moved → Ledger → Lying → Type 0
+Moves b r (move.Begin actor) (moved.Begun answer) c s = BeginsIn b r actor answer c s
+Moves b r (move.Begin actor) (moved.Skipped answer) c s = ⊥
+Moves b r (move.Begin actor) (moved.Finished answer) c s = ⊥
+Moves b r (move.Begin actor) (moved.Turned answer) c s = ⊥
+Moves b r (move.Skip actor) (moved.Begun answer) c s = ⊥
+Moves b r (move.Skip actor) (moved.Skipped answer) c s = Skips b actor answer c × (s ≡ r)
+Moves b r (move.Skip actor) (moved.Finished answer) c s = ⊥
+Moves b r (move.Skip actor) (moved.Turned answer) c s = ⊥
+Moves b r move.Finish (moved.Begun answer) c s = ⊥
+Moves b r move.Finish (moved.Skipped answer) c s = ⊥
+Moves b r move.Finish (moved.Finished answer) c s = FinishesIn b r answer c s
+Moves b r move.Finish (moved.Turned answer) c s = ⊥
+Moves b r (move.Turn actor) (moved.Begun answer) c s = ⊥
+Moves b r (move.Turn actor) (moved.Skipped answer) c s = ⊥
+Moves b r (move.Turn actor) (moved.Finished answer) c s = ⊥
+Moves b r (move.Turn actor) (moved.Turned answer) c s = WholeTurn b actor answer c × (s ≡ r)

@@ -1,5 +1,7 @@
 //! What a pool asks of others.
 
+ghost use Rattle.std.specs.Prelude.{◌≡◌, Bool};
+
 use crate::pool::Pool;
 use crate::totals::Seat;
 use actor_book::ActorName;
@@ -19,6 +21,13 @@ pub struct JobName {
 
 /// Who looks at workers as they run turns. It is called under no lock.
 pub trait Gate {
+    // whether it looks
+    ghost looking: { Self → Bool };
+
+    /// Whether it looks at turns, which a gate says always alike. One that looks is told of each turn as it begins and as it ends; between, the turn runs under
+    /// no lock. One that doesn't is told of none, and a worker has each turn whole while it holds the lock of the link.
+    fn looks(&self) -> bool
+        ensures { result ≡ looking self.now };
     /// A turn has begun, and is about to run.
     fn enter(&self, name: JobName);
     /// A turn has ended, and its end is in the journal.

@@ -5,49 +5,55 @@ ghost use Rattle.actor_machine.specs.Ledger.{next};
 ghost use Rattle.turn_pool.specs.Moves.{Moves};
 
 use crate::slot::Slot;
-use crate::totals::{Counts, Seat};
-use actor_book::{Refusal, Report};
+use crate::totals::{Seat, Totals};
+use actor_book::{Refusal, Report, RoomRefusal};
 use std::sync::ledger::Ledger;
 use turn_code::Trigger;
-use turn_machine::{Done, Job};
+use turn_machine::Room;
 
 /// What a worker does to a link.
-#[derive(Drop)]
+#[derive(Clone, Copy, PartialEq, Eq, Debug)]
 pub enum Move {
-    /// An actor begins a turn.
+    /// An actor begins a turn, whose job is made in the worker's room.
     Begin(u16),
     /// An actor throws away the first item that its state doesn't save.
     Skip(u16),
-    /// An actor ends the turn that it has out.
-    Finish(Done),
+    /// An actor ends the turn that it has out, which ran in the worker's room.
+    Finish,
+    /// An actor has a whole turn, from its beginning to its end.
+    Turn(u16),
 }
 
 /// What the book answered.
 #[derive(Drop)]
 pub enum Moved {
-    /// The job of the turn.
-    Begun(Result<Job, Refusal>),
+    /// Whether the turn began: then its job lies in the room.
+    Begun(Result<(), RoomRefusal>),
     /// The signal or timer that was thrown away.
     Skipped(Result<Trigger, Refusal>),
-    /// How the turn ended; the job that ran comes back where its actor doesn't have it out.
-    Finished(Result<Report, Done>),
+    /// How the turn ended.
+    Finished(Result<Report, Refusal>),
+    /// How the whole turn ended.
+    Turned(Result<Report, Refusal>),
 }
 
-/// One step of a worker on a link that it is lent, with the account. An event of the journal is counted on the worker's
-/// seat, and a refused step on none.
-pub fn work<L: Ledger, T: Counts<L>>(
+/// One step of a worker on a link that it is lent, with the account and its room. Each event of the journal is counted on the
+/// worker's seat, both of a whole turn, and a refused step on none.
+pub fn work<L: Ledger>(
     slot: &mut Slot<L>,
     seat: &mut Seat<L>,
-    totals: &mut T,
+    totals: &Totals<L>,
+    room: &mut Room,
     step: Move,
 ) -> Moved
-    ensures moves { Moves slot.old.book step result slot.new.book }
+    ensures moves { Moves slot.old.book room.old step result slot.new.book room.new }
     ensures link { slot.new.number ≡ slot.old.number }
     ensures seat { seat.new + next slot.old.book ≡ seat.old + next slot.new.book }
 {
     match step {
-        Move::Begin(actor) => Moved::Begun(slot.begin(seat, totals, actor)),
+        Move::Begin(actor) => Moved::Begun(slot.begin(seat, totals, room, actor)),
         Move::Skip(actor) => Moved::Skipped(slot.skip(seat, totals, actor)),
-        Move::Finish(done) => Moved::Finished(slot.finish(seat, totals, done)),
+        Move::Finish => Moved::Finished(slot.finish(seat, totals, room)),
+        Move::Turn(actor) => Moved::Turned(slot.turn(seat, totals, actor)),
     }
 }

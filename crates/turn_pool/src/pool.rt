@@ -8,19 +8,19 @@ ghost use Rattle.turn_pool.specs.declared.receipt.PoolRefusal.TheVariants.{NoLin
 
 use crate::receipt::{PoolRefusal, Receipt};
 use crate::slot::Slot;
-use crate::totals::{Seat, Shared, Totals};
+use crate::totals::{Seat, Totals};
 use actor_book::Emitted;
 use std::sync::atomic::{AtomicBool, Ordering};
 use std::sync::ledger::Ledger;
 use std::sync::{Mutex, Wait};
 use turn_code::{SignalNumber, Value};
 
-/// The books of links, each under a lock of its own. The account's lock is taken inside these.
+/// The books of links, each under a lock of its own.
 #[derive(Drop)]
 pub struct Pool<'r, R: Wait, L: Ledger> {
     pub(crate) rt: &'r R,
     pub(crate) links: Vec<Mutex<Slot<L>>>,
-    pub(crate) totals: Mutex<Totals<L>>,
+    pub(crate) totals: Totals<L>,
     pub(crate) closing: AtomicBool,
 }
 
@@ -33,14 +33,6 @@ impl<'r, R: Wait, L: Ledger> Pool<'r, R, L> {
     /// Whether the pool is closing.
     pub(crate) fn is_closing(&self) -> bool {
         self.closing.load(Ordering::SeqCst)
-    }
-
-    /// Where events are counted: the account, behind its lock.
-    pub(crate) fn account(&self) -> Shared<'_, R, L> {
-        Shared {
-            rt: self.rt,
-            totals: &self.totals,
-        }
     }
 
     /// The lock of a link, while the pool is open.
@@ -77,8 +69,7 @@ impl<'r, R: Wait, L: Ledger> Pool<'r, R, L> {
         let mut lock = self.open_link(link)?.lock(self.rt);
         let slot = &mut *lock;
         slot.keeps();
-        let mut totals = self.account();
-        match slot.offer(seat, &mut totals, actor, signal, values) {
+        match slot.offer(seat, &self.totals, actor, signal, values) {
             Ok(receipt) => Ok(receipt.of_link(link)),
             Err(refusal) => Err(PoolRefusal::Refused(refusal)),
         }
@@ -104,8 +95,7 @@ impl<'r, R: Wait, L: Ledger> Pool<'r, R, L> {
         let mut lock = self.open_link(link)?.lock(self.rt);
         let slot = &mut *lock;
         slot.keeps();
-        let mut totals = self.account();
-        match slot.advance(seat, &mut totals, ticks) {
+        match slot.advance(seat, &self.totals, ticks) {
             Ok((due, receipt)) => Ok((due, receipt.of_link(link))),
             Err(refusal) => Err(PoolRefusal::Refused(refusal)),
         }
@@ -131,8 +121,7 @@ impl<'r, R: Wait, L: Ledger> Pool<'r, R, L> {
         let mut lock = self.open_link(link)?.lock(self.rt);
         let slot = &mut *lock;
         slot.keeps();
-        let mut totals = self.account();
-        match slot.take_env(seat, &mut totals) {
+        match slot.take_env(seat, &self.totals) {
             Ok((emitted, receipt)) => Ok((emitted, receipt.of_link(link))),
             Err(refusal) => Err(PoolRefusal::Refused(refusal)),
         }

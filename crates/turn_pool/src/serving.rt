@@ -16,9 +16,9 @@ use crate::totals::Totals;
 use actor_book::Book;
 use std::alloc::Global;
 use std::marker::Brand;
+use std::sync::Wait;
 use std::sync::atomic::AtomicBool;
 use std::sync::ledger::{Blank, Ledger};
-use std::sync::{Mutex, Wait};
 use std::thread::Threads;
 
 /// The most links, and the most workers, that a pool has.
@@ -53,11 +53,11 @@ fn serve_by<R: Threads + Wait + Sync, L: Ledger + Send + Sync, G: Gate + Sync, C
         handles,
         workers: counts,
     } = room;
-    let (account, mut rest) = Totals::<L>::open(blank);
+    let (totals, mut rest) = Totals::<L>::open(blank);
     let pool = Pool {
         rt,
         links: put_all_away(links, slots, &mut rest),
-        totals: Mutex::new(account),
+        totals,
         closing: AtomicBool::new(false),
     };
     let shift = Shift {
@@ -72,7 +72,7 @@ fn serve_by<R: Threads + Wait + Sync, L: Ledger + Send + Sync, G: Gate + Sync, C
     } = drive(&pool, gate, client, workers, shift);
     let Pool { links, totals, .. } = pool;
     let books = take_all_out(links, books, &mut rest);
-    totals.into_inner().audit(&mut rest);
+    totals.audit(&mut rest);
     match client {
         Some(client) => Ok(Closed {
             books,

@@ -2,22 +2,22 @@
 
 ghost use Rattle.std.specs.Prelude.{◌≡◌, ◌≤◌, ◌<◌, ◌+◌, ◌^◌, ◌++◌, ◌∷◌, [], List, Option, Some, None, IfOk, IfErr, OnOk, OnErr};
 ghost use Rattle.actor_machine.specs.Kept.{IsKept};
-ghost use Rattle.actor_machine.specs.Ledger.{ask, event_at, next, rebased, turn_out};
+ghost use Rattle.actor_machine.specs.Ledger.{ask, event_at, next, rebased};
 ghost use Rattle.actor_machine.specs.declared.event.Event.{Event as PlainEvent};
 ghost use Rattle.actor_machine.specs.declared.event.Event.TheVariants.{Offer as Offered, Advance, TakeEnv};
 ghost use Rattle.actor_machine.specs.declared.reply.Reply.TheVariants as reply;
 ghost use Rattle.actor_book.specs.Answered.{answer_by};
-ghost use Rattle.turn_pool.specs.Moves.{Begins, Skips, Finishes};
+ghost use Rattle.turn_pool.specs.Moves.{BeginsIn, Skips, FinishesIn, WholeTurn};
 
 use crate::receipt::Receipt;
-use crate::totals::{Counts, Seat};
-use actor_book::{Book, Emitted, Event, Refusal, Report};
+use crate::totals::{Seat, Totals};
+use actor_book::{Book, Emitted, Event, Refusal, Report, RoomRefusal};
 use actor_machine::laws::place_law;
 use std::alloc::AllocError;
 use std::marker::Model;
 use std::sync::ledger::{Ledger, Share};
 use turn_code::{SignalNumber, Trigger, Value};
-use turn_machine::{Done, Job};
+use turn_machine::Room;
 
 /// A link's book, with the number of the link and its share of the account, which grows smaller by one with each event.
 #[derive(Drop)]
@@ -74,10 +74,10 @@ impl<L: Ledger> Slot<L> {
     ///
     /// Those of the book. Then nothing changes.
     #[tactic(auto, using(crate::proofs::Asks::offered, crate::proofs::Asks::stands))]
-    pub fn offer<T: Counts<L>>(
+    pub fn offer(
         &mut self,
         seat: &mut Seat<L>,
-        totals: &mut T,
+        totals: &Totals<L>,
         actor: u16,
         signal: SignalNumber,
         values: &[Value],
@@ -95,7 +95,7 @@ impl<L: Ledger> Slot<L> {
     {
         let place = self.book.next();
         self.book.offer(actor, signal, values)?;
-        totals.count(&mut self.share, seat);
+        totals.count(&mut self.share, seat, 1);
         match newest(&self.book) {
             Some(event) => Ok(Receipt {
                 link: self.link,
@@ -112,10 +112,10 @@ impl<L: Ledger> Slot<L> {
     ///
     /// Those of the book. Then nothing changes.
     #[tactic(auto, using(crate::proofs::Asks::stands))]
-    pub fn advance<T: Counts<L>>(
+    pub fn advance(
         &mut self,
         seat: &mut Seat<L>,
-        totals: &mut T,
+        totals: &Totals<L>,
         ticks: u64,
     ) -> Result<(usize, Receipt), Refusal>
         ensures book { self.new.book ≡ (ask self.old.book (Advance ticks)).book }
@@ -129,7 +129,7 @@ impl<L: Ledger> Slot<L> {
     {
         let place = self.book.next();
         let passed = self.book.advance(ticks)?;
-        totals.count(&mut self.share, seat);
+        totals.count(&mut self.share, seat, 1);
         let event = Event::Advance(ticks);
         Ok((
             passed.due,
@@ -147,10 +147,10 @@ impl<L: Ledger> Slot<L> {
     ///
     /// Those of the book. Then nothing changes.
     #[tactic(auto, using(crate::proofs::Asks::stands))]
-    pub fn take_env<T: Counts<L>>(
+    pub fn take_env(
         &mut self,
         seat: &mut Seat<L>,
-        totals: &mut T,
+        totals: &Totals<L>,
     ) -> Result<(Emitted, Receipt), Refusal>
         ensures book { self.new.book ≡ (ask self.old.book TakeEnv).book }
         ensures answer { answer_by (λ r. reply.Taken r.0) result ≡ (ask self.old.book TakeEnv).answer }
@@ -163,7 +163,7 @@ impl<L: Ledger> Slot<L> {
     {
         let place = self.book.next();
         let taken = self.book.take_env()?;
-        totals.count(&mut self.share, seat);
+        totals.count(&mut self.share, seat, 1);
         let event = Event::TakeEnv;
         Ok((
             taken.emitted,
@@ -192,28 +192,29 @@ impl<L: Ledger> Slot<L> {
         Ok(self.book.next())
     }
 
-    /// A worker begins a turn of an actor.
-    pub(crate) fn begin<T: Counts<L>>(
+    /// A worker begins a turn of an actor into its room.
+    pub(crate) fn begin(
         &mut self,
         seat: &mut Seat<L>,
-        totals: &mut T,
+        totals: &Totals<L>,
+        room: &mut Room,
         actor: u16,
-    ) -> Result<Job, Refusal>
-        ensures begins { Begins self.old.book actor result self.new.book }
+    ) -> Result<(), RoomRefusal>
+        ensures begins { BeginsIn self.old.book room.old actor result self.new.book room.new }
         ensures link { self.new.number ≡ self.old.number }
         ensures seat { seat.new + next self.old.book ≡ seat.old + next self.new.book }
     {
         let _place = self.book.next();
-        let job = self.book.begin(actor)?;
-        totals.count(&mut self.share, seat);
-        Ok(job)
+        self.book.begin_in(room, actor)?;
+        totals.count(&mut self.share, seat, 1);
+        Ok(())
     }
 
     /// A worker throws an item of an actor away.
-    pub(crate) fn skip<T: Counts<L>>(
+    pub(crate) fn skip(
         &mut self,
         seat: &mut Seat<L>,
-        totals: &mut T,
+        totals: &Totals<L>,
         actor: u16,
     ) -> Result<Trigger, Refusal>
         ensures skips { Skips self.old.book actor result self.new.book }
@@ -222,24 +223,41 @@ impl<L: Ledger> Slot<L> {
     {
         let _place = self.book.next();
         let trigger = self.book.skip(actor)?;
-        totals.count(&mut self.share, seat);
+        totals.count(&mut self.share, seat, 1);
         Ok(trigger)
     }
 
-    /// A worker ends a turn that is out.
-    pub(crate) fn finish<T: Counts<L>>(
+    /// A worker ends the turn that ran in its room.
+    pub(crate) fn finish(
         &mut self,
         seat: &mut Seat<L>,
-        totals: &mut T,
-        done: Done,
-    ) -> Result<Report, Done>
-        ensures finishes { Finishes self.old.book done result self.new.book }
+        totals: &Totals<L>,
+        room: &mut Room,
+    ) -> Result<Report, Refusal>
+        ensures finishes { FinishesIn self.old.book room.old result self.new.book room.new }
         ensures link { self.new.number ≡ self.old.number }
         ensures seat { seat.new + next self.old.book ≡ seat.old + next self.new.book }
     {
         let _place = self.book.next();
-        let report = self.book.finish(done)?;
-        totals.count(&mut self.share, seat);
+        let report = self.book.finish_in(room)?;
+        totals.count(&mut self.share, seat, 1);
+        Ok(report)
+    }
+
+    /// A worker has a whole turn of an actor. Both its events are counted.
+    pub(crate) fn turn(
+        &mut self,
+        seat: &mut Seat<L>,
+        totals: &Totals<L>,
+        actor: u16,
+    ) -> Result<Report, Refusal>
+        ensures turns { WholeTurn self.old.book actor result self.new.book }
+        ensures link { self.new.number ≡ self.old.number }
+        ensures seat { seat.new + next self.old.book ≡ seat.old + next self.new.book }
+    {
+        let report = self.book.turn(actor)?;
+        let _place = self.book.next();
+        totals.count(&mut self.share, seat, 2);
         Ok(report)
     }
 }

@@ -1,11 +1,11 @@
 //! Events counted over threads. A ledger has 2^61 in all: each link keeps 2^57 less the next place of its journal, and each
-//! seat the events that were counted on it, so that what seats gain is what journals grow by.
+//! seat the events that were counted on it, so that what seats gain is what journals grow by. The account is closed before
+//! anybody counts: from then on shares hand over what they have, and no lock is taken for that.
 
 ghost use Rattle.std.specs.Prelude.{◌≡◌, ◌≤◌, ◌<◌, ◌+◌, ◌^◌};
 
 use std::marker::Model;
-use std::sync::ledger::{Blank, Book as Account, Ledger, Share};
-use std::sync::{Mutex, Wait};
+use std::sync::ledger::{Blank, Ledger, Share, Total};
 
 /// How many events of journals a worker or a client made.
 #[derive(Drop)]
@@ -33,11 +33,11 @@ impl<L: Ledger> Seat<L> {
     }
 }
 
-/// The account of all shares.
+/// The account of all shares, which is closed: what it has in all stays.
 #[derive(Drop)]
 pub struct Totals<L: Ledger> {
-    account: Account<L>,
-    ghost kept: { account.total ≡ 2 ^ 61 },
+    pub(crate) total: Total<L>,
+    ghost kept: { total.amount ≡ 2 ^ 61 },
 }
 
 impl<L: Ledger> Totals<L> {
@@ -46,66 +46,34 @@ impl<L: Ledger> Totals<L> {
         requires name { blank.name ≡ L.name }
         requires parts { blank.parts ≡ L.parts }
         requires some { 0 < blank.parts }
+        ensures all { result.0.total.parts ≡ blank.parts }
         ensures parts { result.1.parts ≡ blank.parts }
         ensures amount { result.1.amount ≡ 2 ^ 61 }
     {
         let (mut account, mut all) = blank.open::<L>();
         account.add(&mut all, 1 << 61);
-        (Totals { account }, all)
+        let total = account.close();
+        (Totals { total }, all)
     }
 
     /// A share with all parts has all.
-    pub fn audit(self, all: &mut Share<L>)
-        requires { all.old.parts ≡ L.parts }
+    pub fn audit(&self, all: &mut Share<L>)
+        requires { all.old.parts ≡ self.now.total.parts }
         ensures { all.old.amount ≡ 2 ^ 61 }
     {
-        let Totals { mut account } = self;
-        account.audit(all);
+        self.total.audit(all);
     }
 
-    /// One moves from a share to another.
-    fn transfer(&mut self, from: &mut Share<L>, to: &mut Share<L>)
-        requires some { 0 < from.old.amount }
-        requires part { 0 < to.old.parts }
-        ensures from { from.new.amount + 1 ≡ from.old.amount }
-        ensures from_parts { from.new.parts ≡ from.old.parts }
-        ensures to { to.new.amount ≡ to.old.amount + 1 }
-        ensures to_parts { to.new.parts ≡ to.old.parts }
-        ensures bound { to.new.amount ≤ 2 ^ 61 }
-    {
-        let Totals { account } = self;
-        account.sub(from, 1);
-        account.add(to, 1);
-        account.audit(to);
-    }
-}
-
-/// Where events are counted.
-pub trait Counts<L: Ledger> {
-    /// One event of a link's journal is counted on a seat.
-    fn count(&mut self, from: &mut Share<L>, seat: &mut Seat<L>)
-        requires { 0 < from.old.amount }
-        ensures from { from.new.amount + 1 ≡ from.old.amount }
+    /// So many events of a link's journal are counted on a seat.
+    pub fn count(&self, from: &mut Share<L>, seat: &mut Seat<L>, events: u64)
+        requires part { 0 < from.old.parts }
+        requires amount { events ≤ from.old.amount }
+        ensures from { from.new.amount + events ≡ from.old.amount }
         ensures parts { from.new.parts ≡ from.old.parts }
-        ensures seat { seat.new ≡ seat.old + 1 };
-}
-
-impl<L: Ledger> Counts<L> for Totals<L> {
-    fn count(&mut self, from: &mut Share<L>, seat: &mut Seat<L>) {
-        self.transfer(from, &mut seat.share);
-        seat.events += 1;
-    }
-}
-
-/// The account behind its lock, which is held for no longer than it takes to count.
-#[derive(Drop)]
-pub struct Shared<'a, R: Wait, L: Ledger> {
-    pub rt: &'a R,
-    pub totals: &'a Mutex<Totals<L>>,
-}
-
-impl<R: Wait, L: Ledger> Counts<L> for Shared<'_, R, L> {
-    fn count(&mut self, from: &mut Share<L>, seat: &mut Seat<L>) {
-        self.totals.lock(self.rt).count(from, seat);
+        ensures seat { seat.new ≡ seat.old + events }
+    {
+        from.transfer(&mut seat.share, events);
+        self.total.audit(&mut seat.share);
+        seat.events += events;
     }
 }

@@ -1,36 +1,37 @@
 //! Workers.
 
 ghost use Rattle.std.specs.Prelude.{◌≡◌, IfSome};
-ghost use Rattle.turn_pool.specs.Turns.{move_by, IsNext, told_of, told, NamesBegun, IsNamed};
+ghost use Rattle.turn_pool.specs.Turns.{move_by, IsNext, told_of, told_there, told, NamesBegun, IsNamed};
 
 use crate::gate::{Gate, JobName};
 use crate::moves::{Move, Moved, work};
 use crate::pool::Pool;
 use crate::slot::Slot;
-use crate::totals::{Counts, Seat};
+use crate::totals::{Seat, Totals};
 use actor_book::{Book, Refusal};
 use std::sync::Wait;
 use std::sync::ledger::Ledger;
 use std::thread;
-use turn_machine::{Job, run};
+use turn_machine::{Room, Work};
 
-/// How many begins and skips a worker makes at most after the pool began to close.
+/// How many turns and skips a worker makes at most after the pool began to close.
 const LAST_STEPS: usize = 1000;
 
-/// What an actor does whose turn is refused for this reason, or for none.
-fn move_at(actor: u16, refusal: Option<Refusal>) -> Option<Move>
-    ensures { result ≡ move_by actor refusal }
+/// What an actor does whose turn is refused for this reason, or for none, where a gate looks or none does.
+fn move_at(looked: bool, actor: u16, refusal: Option<Refusal>) -> Option<Move>
+    ensures { result ≡ move_by looked actor refusal }
 {
     match refusal {
-        None => Some(Move::Begin(actor)),
+        None if looked => Some(Move::Begin(actor)),
+        None => Some(Move::Turn(actor)),
         Some(Refusal::SkipFirst) => Some(Move::Skip(actor)),
         Some(_) => None,
     }
 }
 
 /// What the least actor of a link that can do something does; nothing on a link whose journal is full.
-fn next_step(book: &Book) -> Option<Move>
-    ensures { IsNext book.now result }
+fn next_step(book: &Book, looked: bool) -> Option<Move>
+    ensures { IsNext looked book.now result }
 {
     if book.room() == 0 {
         return None;
@@ -40,7 +41,7 @@ fn next_step(book: &Book) -> Option<Move>
     let there = link.actors();
     let count = there.len();
     for actor in 0..count as u16 {
-        match move_at(actor, link.begin_refusal(set, actor)) {
+        match move_at(looked, actor, link.begin_refusal(set, actor)) {
             Some(step) => return Some(step),
             None => {}
         }
@@ -49,53 +50,66 @@ fn next_step(book: &Book) -> Option<Move>
 }
 
 /// What a gate is told of a turn: the link where it is out, what its actor is called there, and the turn's number.
-fn name_of(link: usize, book: &Book, job: &Job) -> Option<JobName>
-    ensures { result ≡ told_of link book.now job.now }
+fn name_of(link: usize, book: &Book, work: &Work) -> Option<JobName>
+    ensures { result ≡ told_of link book.now work.now }
 {
-    match book.name_of(job.actor()) {
+    match book.name_of(work.actor()) {
         Some(actor) => Some(JobName {
             link,
             actor,
-            turn: job.turn(),
+            turn: work.turn(),
         }),
         None => None,
     }
 }
 
-/// What a gate is told of a worker's step, where that began a turn.
-fn name_in(link: usize, book: &Book, moved: &Moved) -> Option<JobName>
-    ensures value { result ≡ told link book.now moved.now }
-    ensures begun { NamesBegun book.now moved.now result }
+/// What a gate is told of the turn that lies in a room and is to run.
+fn name_there(link: usize, book: &Book, room: &Room) -> Option<JobName>
+    ensures { result ≡ told_there link book.now room.now }
 {
-    told_in(link, book, moved)
+    match room.begun() {
+        Some(work) => name_of(link, book, work),
+        None => None,
+    }
+}
+
+/// What a gate is told of a worker's step, where that began a turn.
+fn name_in(link: usize, book: &Book, room: &Room, moved: &Moved) -> Option<JobName>
+    ensures value { result ≡ told link book.now room.now moved.now }
+    ensures begun { NamesBegun book.now room.now moved.now result }
+{
+    told_in(link, book, room, moved)
 }
 
 /// The same, where nothing is known of the turn.
-fn told_in(link: usize, book: &Book, moved: &Moved) -> Option<JobName>
-    ensures { result ≡ told link book.now moved.now }
+fn told_in(link: usize, book: &Book, room: &Room, moved: &Moved) -> Option<JobName>
+    ensures { result ≡ told link book.now room.now moved.now }
 {
     match moved {
         Moved::Begun(begun) => match begun {
-            Ok(job) => name_of(link, book, job),
+            Ok(_) => name_there(link, book, room),
             Err(_) => None,
         },
-        Moved::Skipped(_) | Moved::Finished(_) => None,
+        Moved::Skipped(_) => None,
+        Moved::Finished(_) => None,
+        Moved::Turned(_) => None,
     }
 }
 
 /// Does one step on a link that is lent: what the book answered, and what a gate is told of a turn that began.
-fn step_on<L: Ledger, T: Counts<L>>(
+fn step_on<L: Ledger>(
     slot: &mut Slot<L>,
     seat: &mut Seat<L>,
-    totals: &mut T,
+    totals: &Totals<L>,
+    room: &mut Room,
     link: usize,
     step: Move,
 ) -> (Moved, Option<JobName>)
-    ensures value { result.1 ≡ told link slot.new.book result.0 }
+    ensures value { result.1 ≡ told link slot.new.book room.new result.0 }
     ensures named { IsNamed result.0 result.1 }
 {
-    let moved = work(slot, seat, totals, step);
-    let name = name_in(link, slot.book(), &moved);
+    let moved = work(slot, seat, totals, room, step);
+    let name = name_in(link, slot.book(), room, &moved);
     (moved, name)
 }
 
@@ -104,55 +118,57 @@ fn step_on<L: Ledger, T: Counts<L>>(
 fn step<R: Wait, L: Ledger>(
     pool: &Pool<'_, R, L>,
     seat: &mut Seat<L>,
+    room: &mut Room,
     link: usize,
+    looked: bool,
 ) -> Option<(Moved, Option<JobName>)>
     ensures { IfSome result (λ r. IsNamed r.0 r.1) }
 {
     let mut slot = pool.links.get(link)?.lock(pool.rt);
-    let step = next_step(slot.book())?;
-    let mut totals = pool.account();
-    Some(step_on(&mut slot, seat, &mut totals, link, step))
+    let step = next_step(slot.book(), looked)?;
+    Some(step_on(&mut slot, seat, &pool.totals, room, link, step))
 }
 
-/// Ends a turn that is out on a link.
+/// Ends the turn that ran in a room and is out on a link.
 fn end<R: Wait, L: Ledger>(
     pool: &Pool<'_, R, L>,
     seat: &mut Seat<L>,
+    room: &mut Room,
     link: usize,
-    step: Move,
 ) -> Option<Moved> {
     let mut slot = pool.links.get(link)?.lock(pool.rt);
-    let mut totals = pool.account();
-    Some(work(&mut slot, seat, &mut totals, step))
+    Some(work(&mut slot, seat, &pool.totals, room, Move::Finish))
 }
 
-/// Runs a job with no lock held, and ends its turn.
-fn run_job<R: Wait, L: Ledger, G: Gate>(
+/// Runs the turn that lies in a room with no lock held, and ends it.
+fn run_there<R: Wait, L: Ledger, G: Gate>(
     pool: &Pool<'_, R, L>,
     gate: &G,
     seat: &mut Seat<L>,
+    room: &mut Room,
     name: JobName,
-    job: Job,
 ) {
     gate.enter(name);
-    let _ended = end(pool, seat, name.link, Move::Finish(run(job)));
+    room.run();
+    let _ended = end(pool, seat, room, name.link);
     gate.leave(name);
 }
 
-/// Runs the turn that a step began, where it began one. Whether it began one, or threw an item away.
+/// Runs the turn that a step began, where it began one. Whether it began one, had a whole one, or threw an item away.
 fn follow<R: Wait, L: Ledger, G: Gate>(
     pool: &Pool<'_, R, L>,
     gate: &G,
     seat: &mut Seat<L>,
+    room: &mut Room,
     moved: Moved,
     name: Option<JobName>,
 ) -> bool
     requires { IsNamed moved name }
 {
     match moved {
-        Moved::Begun(Ok(job)) => match name {
+        Moved::Begun(Ok(_)) => match name {
             Some(name) => {
-                run_job(pool, gate, seat, name, job);
+                run_there(pool, gate, seat, room, name);
                 true
             }
             None => unreachable!(),
@@ -160,6 +176,7 @@ fn follow<R: Wait, L: Ledger, G: Gate>(
         Moved::Begun(Err(_)) => false,
         Moved::Skipped(skipped) => skipped.is_ok(),
         Moved::Finished(_) => false,
+        Moved::Turned(turned) => turned.is_ok(),
     }
 }
 
@@ -168,10 +185,11 @@ fn turn<R: Wait, L: Ledger, G: Gate>(
     pool: &Pool<'_, R, L>,
     gate: &G,
     seat: &mut Seat<L>,
+    room: &mut Room,
     link: usize,
 ) -> bool {
-    match step(pool, seat, link) {
-        Some((moved, name)) => follow(pool, gate, seat, moved, name),
+    match step(pool, seat, room, link, gate.looks()) {
+        Some((moved, name)) => follow(pool, gate, seat, room, moved, name),
         None => false,
     }
 }
@@ -181,30 +199,32 @@ fn round<R: Wait, L: Ledger, G: Gate>(
     pool: &Pool<'_, R, L>,
     gate: &G,
     seat: &mut Seat<L>,
+    room: &mut Room,
 ) -> usize {
     let mut steps = 0;
     for link in 0..pool.links.len() {
-        if turn(pool, gate, seat, link) {
+        if turn(pool, gate, seat, room, link) {
             steps += 1;
         }
     }
     steps
 }
 
-/// Works until the pool closes, and then until nothing is left to do, for at most 1,000 begins and skips, those of the round
-/// in which the pool closes among them.
+/// Works until the pool closes, and then until nothing is left to do, for at most 1,000 turns and skips, those of the round
+/// in which the pool closes among them. Turns that it begins lie in a room of its own.
 pub(crate) fn worker<R: Wait, L: Ledger, G: Gate>(
     pool: &Pool<'_, R, L>,
     gate: &G,
     mut seat: Seat<L>,
 ) -> Seat<L> {
+    let mut room = Room::new();
     let mut left = LAST_STEPS.saturating_sub(pool.links.len());
     for _ in pool.rt.forever() {
         let closing = pool.is_closing();
         if closing && left < pool.links.len() {
             break;
         }
-        let steps = round(pool, gate, &mut seat);
+        let steps = round(pool, gate, &mut seat, &mut room);
         if closing {
             if steps == 0 {
                 break;

@@ -2,7 +2,7 @@ use Rattle.mtp2_play.specs.Served.{is_run, is_told}
 use Rattle.mtp2_play.proofs.serve.Goals as goal
 
 pub returns-in-Ok-clause-served : goal.returns-in-Ok-clause-served
-returns-in-Ok-clause-served g c = is_run c.in-Ok.request _ _ c.in-Ok.ensures.taken c.in-Ok.ensures.asked c.run.ensures.printed c.run.ensures.status
+returns-in-Ok-clause-served g c = is_run c.in-Ok.request c.run_here.ensures.printed.old c.run_here.ensures.printed.new c.in-Ok.ensures.taken c.in-Ok.ensures.asked c.run_here.ensures.printed.answered c.run_here.ensures.status
 
 pub returns-in-Err-clause-served : goal.returns-in-Err-clause-served
 returns-in-Err-clause-served g c = is_told _ c.in-Err.ensures.refused (record {

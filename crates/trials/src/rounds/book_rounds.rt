@@ -75,6 +75,8 @@ fn measure(
         Row::StandardJob => with_book(rt, alloc, loaded, Task::Cycle(By::Job, rounds)),
         Row::Long => with_book(rt, alloc, loaded, Task::Run(rounds)),
         Row::Straight => run_straight(rt, loaded, rounds),
+        Row::CounterRoom => with_book(rt, alloc, loaded, Task::Count(By::Room, rounds)),
+        Row::StandardRoom => with_book(rt, alloc, loaded, Task::Cycle(By::Room, rounds)),
     }
 }
 

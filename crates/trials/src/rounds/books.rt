@@ -4,7 +4,7 @@ use crate::calls::Stopped;
 use crate::rounds::client::{POWER_ON, START};
 use crate::rounds::clock::{now, since};
 use crate::rounds::pool_rounds::drive;
-use crate::rounds::turns::{By, cycle_times, send, settle, turn};
+use crate::rounds::turns::{By, Maker};
 use actor_book::{Book, Limits, rest};
 use link_standard::Verified;
 use std::alloc::{AllocError, Global};
@@ -79,61 +79,63 @@ fn book_for(alloc: Global, set: &Verified, task: Task) -> Result<Book, Stopped> 
 }
 
 /// So many turns of the first process.
-fn turn_times(book: &mut Book, by: By, times: u32) {
+fn turn_times(book: &mut Book, maker: &mut Maker, times: u32) {
     for _ in 0..times {
-        turn(book, by);
+        maker.turn(book);
     }
 }
 
 /// Signals come to the counter, which then has as many turns.
-fn batch(book: &mut Book, by: By) {
+fn batch(book: &mut Book, maker: &mut Maker) {
     for signal in 0..SIGNALS {
         let _ = book.offer(0, SignalNumber(0), &[Value::Int(signal as i32)]);
     }
-    turn_times(book, by, SIGNALS);
+    turn_times(book, maker, SIGNALS);
 }
 
 /// A round of the counter, with a journal that begins empty.
-fn count_up(book: &mut Book, by: By) -> Result<(), AllocError> {
+fn count_up(book: &mut Book, maker: &mut Maker) -> Result<(), AllocError> {
     book.rebase()?;
     for _ in 0..BATCHES {
-        batch(book, by);
+        batch(book, maker);
     }
     Ok(())
 }
 
 /// So many rounds of the counter. How many turns its book had.
-fn count_times(book: &mut Book, by: By, rounds: u32) -> Result<u64, AllocError> {
+fn count_times(book: &mut Book, maker: &mut Maker, rounds: u32) -> Result<u64, AllocError> {
     for _ in 0..rounds {
-        count_up(book, by)?;
+        count_up(book, maker)?;
     }
     Ok(book.finishes())
 }
 
 /// Turns of the counter, behind its first.
 fn count(rt: &impl Clock, book: &mut Book, by: By, rounds: u32) -> Result<Measured, Stopped> {
-    turn(book, by);
+    let mut maker = Maker::new(by);
+    maker.turn(book);
     let start = now(rt)?;
-    let things = count_times(book, by, rounds)?;
+    let things = count_times(book, &mut maker, rounds)?;
     let time = since(rt, start)?;
     Ok(Measured { things, time })
 }
 
 /// So many rounds in which a link starts and stops, each with a journal that begins empty. How many turns its book had.
-fn cycle_up(book: &mut Book, by: By, rounds: u32) -> Result<u64, AllocError> {
+fn cycle_up(book: &mut Book, maker: &mut Maker, rounds: u32) -> Result<u64, AllocError> {
     for _ in 0..rounds {
         book.rebase()?;
-        cycle_times(book, by, CYCLES);
+        maker.cycle_times(book, CYCLES);
     }
     Ok(book.finishes())
 }
 
 /// Turns of the profile's processes, behind those by which their link is powered on.
 fn cycle(rt: &impl Clock, book: &mut Book, by: By, rounds: u32) -> Result<Measured, Stopped> {
-    settle(book, by);
-    send(book, by, POWER_ON);
+    let mut maker = Maker::new(by);
+    maker.settle(book);
+    maker.send(book, POWER_ON);
     let start = now(rt)?;
-    let things = cycle_up(book, by, rounds)?;
+    let things = cycle_up(book, &mut maker, rounds)?;
     let time = since(rt, start)?;
     Ok(Measured { things, time })
 }
@@ -157,7 +159,7 @@ fn run_job(rt: &impl Clock, job: &Job, rounds: u32) -> Result<Measured, Stopped>
 
 /// Instructions of a turn of the long piece.
 fn run_long(rt: &impl Clock, book: &mut Book, rounds: u32) -> Result<Measured, Stopped> {
-    turn(book, By::Job);
+    Maker::new(By::Job).turn(book);
     let _ = book.offer(0, SignalNumber(0), &[Value::Int(7)]);
     match book.begin(0) {
         Ok(job) => run_job(rt, &job, rounds),

@@ -19,10 +19,14 @@ pub enum Row {
     StandardJob,
     /// Instructions of the long piece, which runs where it stands.
     Straight,
+    /// Turns of the counter in a room.
+    CounterRoom,
+    /// Turns of the profile's processes in a room, while their link starts and stops.
+    StandardRoom,
 }
 
 /// All rows, in their order.
-pub const ROWS: [Row; 7] = [
+pub const ROWS: [Row; 9] = [
     Row::Counter,
     Row::Standard,
     Row::Long,
@@ -30,14 +34,18 @@ pub const ROWS: [Row; 7] = [
     Row::StandardOwn,
     Row::StandardJob,
     Row::Straight,
+    Row::CounterRoom,
+    Row::StandardRoom,
 ];
 
 impl Row {
     /// The set that it is measured of.
     pub fn set(self) -> Set {
         match self {
-            Row::Counter | Row::CounterOwn => Set::Counter,
-            Row::Standard | Row::StandardOwn | Row::StandardJob => Set::Standard,
+            Row::Counter | Row::CounterOwn | Row::CounterRoom => Set::Counter,
+            Row::Standard | Row::StandardOwn | Row::StandardJob | Row::StandardRoom => {
+                Set::Standard
+            }
             Row::Long | Row::Straight => Set::Long,
         }
     }
@@ -52,6 +60,8 @@ impl Row {
             Row::StandardOwn => "standard_own",
             Row::StandardJob => "standard_job",
             Row::Straight => "straight",
+            Row::CounterRoom => "counter_room",
+            Row::StandardRoom => "standard_room",
         }
     }
 }

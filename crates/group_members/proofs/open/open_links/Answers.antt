@@ -5,10 +5,10 @@ use Rattle.group_members.proofs.open.open_links.Goals as goal
 
 pub loop-at-preserved : goal.loop-at-preserved
 loop-at-preserved c = (
-  next_place (is_open c.args.failed) c.args.links.now c.loop-at.at c.index-links-at.result c.loop-at.able.items c.note.new.able.items _ c.is_open.result
+  next_place (is_open c.args.failed c.args.outage) c.args.links.now c.loop-at.at c.index-links-at.result c.loop-at.able.items c.note.new.able.items _ c.is_open.result
       (search rules) c.index-links-at.is c.is_open.ensures c.note.ensures.items c.loop-at.invariant.0,
   omega (arith, c.note.ensures.len, c.loop-at.invariant.1),
 )
 
 pub returns : goal.returns
-returns c = last_place c.args.failed c.args.links.now c.loop-at.at c.loop-at.able.items (search rules) c.loop-at.invariant.0
+returns c = last_place c.args.failed c.args.outage c.args.links.now c.loop-at.at c.loop-at.able.items (search rules) c.loop-at.invariant.0

@@ -1,6 +1,7 @@
 use Rattle.std.proofs.lemmas.Option.{IfSome_then}
+use Rattle.clap.specs.Words.{found_of, rows_of}
 use Rattle.mtp2_words.specs.Asked.{given_by}
-use Rattle.mtp2_words.proofs.Asking.{is_soak, soaks, soaks_nothing}
+use Rattle.mtp2_words.proofs.Asking.{is_soak, soak_all, soaks, soaks_nothing}
 use Rattle.mtp2_words.proofs.words.asked_soak.Goals as goal
 
 pub returns-clause-named : goal.returns-clause-named
@@ -12,3 +13,6 @@ returns-clause-asked c = IfSome_then c.soaked.result c.soaked.ensures.soak
 
 pub returns-clause-none : goal.returns-clause-none
 returns-clause-none c = λ n. soaks_nothing (given_by c.args.given.now) _ c.in_ok-workers.ensures (c.soaked.ensures.none n)
+
+pub returns-clause-all : goal.returns-clause-all
+returns-clause-all c = IfSome_then c.soaked.result c.soaked.ensures.soak (λ r h. soak_all (rows_of (found_of c.args.given.now)) _ _ r h)

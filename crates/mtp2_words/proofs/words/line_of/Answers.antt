@@ -1,4 +1,5 @@
-use Rattle.std.proofs.Common.{sym, inr}
+use Rattle.std.proofs.Common.{sym, inr, ap, ◌∙◌}
+use Rattle.mtp2_words.specs.Words.{says_true}
 use Rattle.mtp2_words.specs.declared.ends.LineWords.{LineWords}
 use Rattle.mtp2_words.specs.Asked.{given_by, AreUnderIds}
 use Rattle.mtp2_words.proofs.Asking.{ends}
@@ -11,6 +12,8 @@ words c = record {
   reports = c.get_str-3.result;
   bits = c.get_str-4.result;
   ahead = c.get_str-5.result;
+  capture = c.get_str-6.result;
+  every = c.is_given.result;
 }
 
 under_ids : (c : goal.After-line_end) → AreUnderIds (given_by c.args.given.now) (words c)
@@ -20,6 +23,8 @@ under_ids c = record {
   reports = sym c.get_str-3.ensures;
   bits = sym c.get_str-4.ensures;
   ahead = sym c.get_str-5.ensures;
+  capture = sym c.get_str-6.ensures;
+  every = ap says_true (sym c.get_str-7.ensures) ∙ sym c.is_given.ensures;
 }
 
 pub returns-clause-some : goal.returns-clause-some

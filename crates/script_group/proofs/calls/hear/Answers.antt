@@ -7,12 +7,12 @@ use Rattle.script_group.proofs.calls.hear.Goals as goal
 
 pub returns-in-Some : goal.returns-in-Some
 returns-in-Some c =
-    IfOk-weaker c.octets_line.result _ (λ v. IsHeard c.args.octets.now c.args.group.now v.items c.changeover_message.new.self)
-    (λ v is. record { makes = c.changeover_message.ensures.set; says = λ m read. replied_with _ _ c.in-Some.sif v.items c.as_slice-in-Some.ensures.value (subst AreOctets c.as_slice.ensures.value c.octets_law.ensures) is (c.in-Some.ensures.reply m read) })
+    IfOk-weaker c.octets_line.result _ (λ v. IsHeard c.args.octets.now c.args.group.now v.items c.reply_of.new.group)
+    (λ v is. record { makes = c.reply_of.ensures.set; says = λ m read. replied_with _ _ c.in-Some.sif v.items c.as_slice-in-Some.ensures.value (subst AreOctets c.as_slice.ensures.value c.octets_law.ensures) is (c.in-Some.ensures.reply m read) })
     c.octets_line.ensures
 
 pub returns-in-None : goal.returns-in-None
 returns-in-None c =
-    IfOk-weaker c.done.result _ (λ v. IsHeard c.args.octets.now c.args.group.now v.items c.changeover_message.new.self)
-    (λ v is. record { makes = c.changeover_message.ensures.set; says = λ m read. replied_none _ v.items is (c.in-None.ensures.reply m read) })
+    IfOk-weaker c.done.result _ (λ v. IsHeard c.args.octets.now c.args.group.now v.items c.reply_of.new.group)
+    (λ v is. record { makes = c.reply_of.ensures.set; says = λ m read. replied_none _ v.items is (c.in-None.ensures.reply m read) })
     c.done.ensures

@@ -2,7 +2,7 @@ use Rattle.std.proofs.Common.{◌≡◌, ◌++◌, ◌∙◌, ap, append_assoc, 
 use Rattle.std.specs.Prelude.{codes}
 use Rattle.std.specs.Fmt.{decimal}
 use Rattle.std.proofs.lemmas.Result.{IfOk-weaker}
-use Rattle.script_group.specs.GroupAnswers.{entry_text, entry_at}
+use Rattle.script_group.specs.Shown.{entry_text, entry_at}
 use Rattle.script_group.proofs.shown.entry.Goals as goal
 
 pub returns-in-Some : goal.returns-in-Some

@@ -1,6 +1,6 @@
 -- The entries so far.
 use Rattle.std.proofs.Common.{◌≡◌}
-use Rattle.script_group.specs.GroupAnswers.{entries_to}
+use Rattle.script_group.specs.Shown.{entries_to}
 use Rattle.script_group.proofs.shown.table.Given as goal
 
 abbrev pub invariant-loop-before : goal.invariant-loop-before

@@ -16,19 +16,25 @@ pub returns-in-message : goal.returns-in-message
 unfolding group_verb_of
 returns-in-message c = rw c.in-message.is refl
 
+pub returns-in-admit : goal.returns-in-admit
+unfolding group_verb_of
+returns-in-admit c = rw c.in-admit.is refl
+
 -- a word that is none of these
 no_verb : (word : List ℕ)
     → word ≢ codes "on"
     → word ≢ codes "send"
     → word ≢ codes "message"
+    → word ≢ codes "admit"
     → None ≡ group_verb_of word
 unfolding group_verb_of
-no_verb word n_on n_send n_message =
+no_verb word n_on n_send n_message n_admit =
     rw (
       bytes_ne word (codes "on") n_on,
       bytes_ne word (codes "send") n_send,
       bytes_ne word (codes "message") n_message,
+      bytes_ne word (codes "admit") n_admit,
     ) refl
 
 pub returns-in_default : goal.returns-in_default
-returns-in_default c = no_verb c.args.word.now c.in_default.not-on c.in_default.not-send c.in_default.not-message
+returns-in_default c = no_verb c.args.word.now c.in_default.not-on c.in_default.not-send c.in_default.not-message c.in_default.not-admit

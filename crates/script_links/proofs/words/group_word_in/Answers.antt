@@ -36,6 +36,10 @@ pub returns-in-unsure : goal.returns-in-unsure
 unfolding group_word_of
 returns-in-unsure c = rw c.in-unsure.is refl
 
+pub returns-in-link : goal.returns-in-link
+unfolding group_word_of
+returns-in-link c = rw c.in-link.is refl
+
 -- a word that is none of these
 no_word : (word : List ℕ)
     → word ≢ codes "fail"
@@ -46,9 +50,10 @@ no_word : (word : List ℕ)
     → word ≢ codes "table"
     → word ≢ codes "held"
     → word ≢ codes "unsure"
+    → word ≢ codes "link"
     → None ≡ group_word_of word
 unfolding group_word_of
-no_word word n_fail n_retrieve n_abandon n_divert n_rebalance n_table n_held n_unsure =
+no_word word n_fail n_retrieve n_abandon n_divert n_rebalance n_table n_held n_unsure n_link =
     rw (
       bytes_ne word (codes "fail") n_fail,
       bytes_ne word (codes "retrieve") n_retrieve,
@@ -58,7 +63,8 @@ no_word word n_fail n_retrieve n_abandon n_divert n_rebalance n_table n_held n_u
       bytes_ne word (codes "table") n_table,
       bytes_ne word (codes "held") n_held,
       bytes_ne word (codes "unsure") n_unsure,
+      bytes_ne word (codes "link") n_link,
     ) refl
 
 pub returns-in_default : goal.returns-in_default
-returns-in_default c = no_word c.args.word.now c.in_default.not-fail c.in_default.not-retrieve c.in_default.not-abandon c.in_default.not-divert c.in_default.not-rebalance c.in_default.not-table c.in_default.not-held c.in_default.not-unsure
+returns-in_default c = no_word c.args.word.now c.in_default.not-fail c.in_default.not-retrieve c.in_default.not-abandon c.in_default.not-divert c.in_default.not-rebalance c.in_default.not-table c.in_default.not-held c.in_default.not-unsure c.in_default.not-link

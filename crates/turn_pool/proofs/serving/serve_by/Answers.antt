@@ -7,7 +7,7 @@ returns-in-Some-clause-totals g c =
     let P : Option ℕ → Type 0 =
     λ o. IfSome o (λ n. c.drive-rest.result.rest.amount ≡ c.put_all_away.new.rest.amount + n + sum c.drive-rest.result.workers.items) in
     let shift = subst P c.in-Some.is c.drive-rest.ensures.amount in
-    omega (arith, c.open-account.ensures.amount, c.put_all_away.ensures.len, c.put_all_away.ensures.amount, shift, c.take_all_out-books.ensures.amount, c.audit.ensures)
+    omega (arith, c.open-totals.ensures.amount, c.put_all_away.ensures.len, c.put_all_away.ensures.amount, shift, c.take_all_out-books.ensures.amount, c.audit.ensures)
 
 pub returns-in-Some-clause-books : goal.returns-in-Some-clause-books
 returns-in-Some-clause-books g c = c.take_all_out-books.ensures.len ∙ c.put_all_away.ensures.len

@@ -6,4 +6,4 @@ use Rattle.turn_pool.proofs.worker.name_in.Goals as goal
 
 pub returns-clause-begun : goal.returns-clause-begun
 returns-clause-begun c =
-    subst (λ (o : Option JobName). NamesBegun c.args.book.now c.args.moved.now o) (sym c.told_in.ensures) (begun_named c.args.link c.args.book.now c.args.moved.now)
+    subst (λ (o : Option JobName). NamesBegun c.args.book.now c.args.room.now c.args.moved.now o) (sym c.told_in.ensures) (begun_named c.args.link c.args.book.now c.args.room.now c.args.moved.now)

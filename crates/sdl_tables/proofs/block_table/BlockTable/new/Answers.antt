@@ -1,4 +1,5 @@
 use Rattle.std.proofs.Common.{◌≡◌, ◌++◌, ◌∙◌, subst, [], Option, None, ℕ, List}
+use Rattle.std.proofs.lemmas.Result.{err_from_is_err_and}
 use Rattle.std.specs.List.{flat_map}
 use Rattle.sdl_ast.specs.Plain.{PlainBlock}
 use Rattle.sdl_ast.specs.Views.{block_of}
@@ -25,6 +26,11 @@ returns-in-Some-clause-double c =
     subst (λ (o : Option ℕ). Marks o (double_names b)) c.in-Some.is
     (marked b c.in_ok-signals.signals.double c.in_ok-routes.routes.double c.in_ok-processes.processes.double c.in_ok-processes.processes.inside c.in_ok-processes.processes.shared c.first_double-double.result
     c.in_ok-signals.ensures.double c.in_ok-routes.ensures.double c.in_ok-processes.ensures.double c.in_ok-processes.ensures.inside c.in_ok-processes.ensures.shared c.first_double-double.ensures)
+
+pub returns-in_err-processes-clause-double : goal.returns-in_err-processes-clause-double
+returns-in_err-processes-clause-double c =
+    let p = err_from_is_err_and c.from_residual-in_err-processes.result c.from_residual-in_err-processes.ensures.1 in
+    rw (p.1, p.2) tt
 
 pub invariant_of-result : goal.invariant_of-result
 invariant_of-result c =

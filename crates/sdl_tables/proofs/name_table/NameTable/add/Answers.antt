@@ -1,23 +1,39 @@
-use Rattle.std.proofs.Common.{◌≡◌, ◌∙◌, sym, ap, subst, ℕ, List, false, cond, Some, ◌∷◌, ◌++◌, [], length}
-use Rattle.std.specs.BTreeMap.{get, is_at}
-use Rattle.std.specs.Cmp.Lexicographic.{slice_cmp}
-use Rattle.std.specs.Ordering.{nat_cmp}
-use Rattle.sdl_ast.specs.declared.expression.Identifier.{Identifier}
+use Rattle.std.proofs.Common.{◌≡◌, ◌∙◌, sym, ap, false, not, bytes_eq, None, ◌∷◌, ◌++◌, []}
+use Rattle.std.specs.Map.{lookup, values_of}
+use Rattle.sdl_ast.specs.Spelling.{folded}
+use Rattle.indexmap.proofs.CallerLemmas.{insert_entry-new}
 use Rattle.sdl_tables.specs.Names.{is_in}
-use Rattle.sdl_tables.specs.Numbering.{AreNumbers}
-use Rattle.sdl_tables.proofs.Tables.{AreNumbers-push}
+use Rattle.sdl_tables.proofs.Tables.{entries-new, add_name-present, add_name-new, Keyed-push, values-push}
 use Rattle.sdl_tables.proofs.name_table.NameTable.add.Goals as goal
 
+absent_then : (c : goal.In_ok-insert) → is_in (values_of c.self.inside.entries.entries) c.args.id.name ≡ false
+absent_then c = ap (λ ids. is_in ids c.args.id.name) c.self.view_is ∙ (sym c.contains.ensures ∙ c.if-contains.false)
+
+entries_then : (c : goal.In_ok-insert)
+    → c.insert.new.self.entries ≡ c.self.inside.entries.entries ++ (folded c.args.id.name, c.args.id) ∷ []
+entries_then c =
+    let es = c.self.inside.entries.entries in
+    let none : lookup (bytes_eq c.folded-key.result) es ≡ None =
+    rw c.folded-key.ensures (entries-new es c.args.id c.self.invariant (absent_then c)) in
+    c.in_ok-insert.ensures.entries
+    ∙ (insert_entry-new bytes_eq c.self.inside.entries c.folded-key.result c.args.id none
+    ∙ ap (λ k. es ++ (k, c.args.id) ∷ []) c.folded-key.ensures)
+
+pub returns-then-contains-clause-added : goal.returns-then-contains-clause-added
+returns-then-contains-clause-added c = ap not (sym c.if-contains.true ∙ c.contains.ensures)
+
+pub returns-then-contains-clause-ids : goal.returns-then-contains-clause-ids
+returns-then-contains-clause-ids c = sym (add_name-present c.args.self.now c.args.id (sym c.contains.ensures ∙ c.if-contains.true))
+
 pub invariant_of-self-2 : goal.invariant_of-self-2
-invariant_of-self-2 c =
-    let ids = c.self.inside.ids.items in
-    let id = c.args.id in
-    let old = get (slice_cmp nat_cmp) c.self.inside.numbers in
-    let absent : is_in ids id.name ≡ false = ap (λ ids. is_in ids id.name) c.self.view_is ∙ (sym c.contains.ensures ∙ c.if-contains.false) in
-    let next : c.len-number.result ≡ length ids = c.len-number.ensures ∙ ap length (sym c.self.view_is) in
-    let puts = λ (q : List ℕ).
-    c.in_ok-insert.ensures.updates.0 q
-    ∙ (λ i. cond (is_at (slice_cmp nat_cmp (c.new.ensures i)) q) (Some (next i)) (old q)) in
-    let items : c.push.new.self.items ≡ ids ++ id ∷ [] = c.in_ok-push.ensures.items ∙ ap (λ (l : List Identifier). l ++ id ∷ []) c.reserve.ensures.items in
-    subst (λ l. AreNumbers l c.insert.new.self) (sym items)
-    (AreNumbers-push ids id c.self.inside.numbers c.self.invariant absent c.insert.new.self puts)
+invariant_of-self-2 c = rw (entries_then c) (Keyed-push c.self.inside.entries.entries c.args.id c.self.invariant)
+
+pub returns-clause-added : goal.returns-clause-added
+returns-clause-added c = ap not (sym c.if-contains.false ∙ c.contains.ensures)
+
+pub returns-clause-ids : goal.returns-clause-ids
+returns-clause-ids c =
+    ap values_of (entries_then c)
+    ∙ (values-push c.self.inside.entries.entries (folded c.args.id.name) c.args.id
+    ∙ (ap (λ ids. ids ++ c.args.id ∷ []) c.self.view_is
+    ∙ sym (add_name-new c.args.self.now c.args.id (sym c.contains.ensures ∙ c.if-contains.false))))

@@ -1,50 +1,51 @@
-use Rattle.std.proofs.Common.{◌≡◌, ◌∙◌, sym, ap, subst, List, true, not, cond, ◌∷◌, ◌++◌, []}
-use Rattle.std.specs.BTreeMap.{is_at}
-use Rattle.std.specs.BTreeSet.{contains}
-use Rattle.sdl_ast.specs.declared.tree.Party.{Party}
-use Rattle.sdl_tables.specs.declared.route_index.Side.{Side}
-use Rattle.sdl_tables.specs.RouteIndexes.{side_cmp, AreSides}
+use Rattle.std.proofs.Common.{◌≡◌, ◌∙◌, sym, ap, false, true, not, None, ◌∷◌, ◌++◌, [], is_some}
+use Rattle.std.specs.List.{list_any}
+use Rattle.std.specs.Map.{lookup, values_of}
+use Rattle.indexmap.proofs.CallerLemmas.{insert_entry-new}
+use Rattle.sdl_tables.specs.Routes.{same_party}
+use Rattle.sdl_tables.specs.RouteIndexes.{same_side, side_of}
 use Rattle.sdl_tables.proofs.Mentions.{add_there, add_new}
-use Rattle.sdl_tables.proofs.Parties.{was_there, AreSides-push}
+use Rattle.sdl_tables.proofs.Parties.{holds_party, lacks_party, Sided-push, parties-push}
 use Rattle.sdl_tables.proofs.party_table.PartyTable.add.Goals as goal
 
-pub returns-then-not-branch-clause-added : goal.returns-then-not-branch-clause-added
-returns-then-not-branch-clause-added c =
-    let was =
-    was_there c.self.inside.parties.items c.args.self.now c.self.inside.sides c.args.party c.side_of.result c.in_ok-insert.field-0
-    c.self.invariant c.self.view_is c.side_of.ensures c.in_ok-insert.ensures.added in
-    sym (ap not (was ∙ ap not c.if-not-branch.true))
+there_then : (c : goal.Then-contains_key) → list_any (same_party c.args.party) c.args.self.now ≡ true
+there_then c =
+    sym (ap (list_any (same_party c.args.party)) c.self.view_is)
+    ∙ (sym (holds_party c.self.inside.entries.entries c.args.party c.self.invariant)
+    ∙ (ap (λ k. is_some (lookup (same_side k) c.self.inside.entries.entries)) (sym c.side_of-side.ensures)
+    ∙ (sym c.contains_key.ensures ∙ c.if-contains_key.true)))
 
-pub returns-then-not-branch-clause-parties : goal.returns-then-not-branch-clause-parties
-returns-then-not-branch-clause-parties c =
-    let was =
-    was_there c.self.inside.parties.items c.args.self.now c.self.inside.sides c.args.party c.side_of.result c.in_ok-insert.field-0
-    c.self.invariant c.self.view_is c.side_of.ensures c.in_ok-insert.ensures.added in
-    c.reserve.ensures.items ∙ (c.self.view_is ∙ sym (add_there c.args.self.now c.args.party (was ∙ ap not c.if-not-branch.true)))
+absent_then : (c : goal.In_ok-insert) → list_any (same_party c.args.party) (values_of c.self.inside.entries.entries) ≡ false
+absent_then c =
+    sym (holds_party c.self.inside.entries.entries c.args.party c.self.invariant)
+    ∙ (ap (λ k. is_some (lookup (same_side k) c.self.inside.entries.entries)) (sym c.side_of-side.ensures)
+    ∙ (sym c.contains_key.ensures ∙ c.if-contains_key.false))
+
+entries_then : (c : goal.In_ok-insert)
+    → c.insert.new.self.entries ≡ c.self.inside.entries.entries ++ (side_of c.args.party, c.args.party) ∷ []
+entries_then c =
+    let es = c.self.inside.entries.entries in
+    let none : lookup (same_side c.side_of-side.result) es ≡ None =
+    rw c.side_of-side.ensures (lacks_party es c.args.party c.self.invariant (absent_then c)) in
+    c.in_ok-insert.ensures.entries
+    ∙ (insert_entry-new same_side c.self.inside.entries c.side_of-side.result c.args.party none
+    ∙ ap (λ k. es ++ (k, c.args.party) ∷ []) c.side_of-side.ensures)
+
+pub returns-then-contains_key-clause-added : goal.returns-then-contains_key-clause-added
+returns-then-contains_key-clause-added c = ap not (sym (there_then c))
+
+pub returns-then-contains_key-clause-parties : goal.returns-then-contains_key-clause-parties
+returns-then-contains_key-clause-parties c = sym (add_there c.args.self.now c.args.party (there_then c))
 
 pub invariant_of-self-2 : goal.invariant_of-self-2
-invariant_of-self-2 c =
-    let parties = c.self.inside.parties.items in
-    let puts = λ (q : Side).
-    c.in_ok-insert.ensures.updates.0 q
-    ∙ ap (λ k. cond (is_at (side_cmp k) q) true (contains side_cmp c.self.inside.sides q)) c.side_of.ensures in
-    let items : c.push.new.self.items ≡ parties ++ c.args.party ∷ [] =
-    c.in_ok-push.ensures.items ∙ ap (λ (l : List Party). l ++ c.args.party ∷ []) c.reserve.ensures.items in
-    subst (λ l. AreSides l c.insert.new.self) (sym items)
-    (AreSides-push parties c.args.party c.self.inside.sides c.insert.new.self c.self.invariant puts)
+invariant_of-self-2 c = rw (entries_then c) (Sided-push c.self.inside.entries.entries c.args.party c.self.invariant)
 
 pub returns-clause-added : goal.returns-clause-added
-returns-clause-added c =
-    let was =
-    was_there c.self.inside.parties.items c.args.self.now c.self.inside.sides c.args.party c.side_of.result c.in_ok-insert.field-0
-    c.self.invariant c.self.view_is c.side_of.ensures c.in_ok-insert.ensures.added in
-    sym (ap not (was ∙ ap not c.if-not-branch.false))
+returns-clause-added c = ap not (sym (sym (ap (list_any (same_party c.args.party)) c.self.view_is) ∙ absent_then c))
 
 pub returns-clause-parties : goal.returns-clause-parties
 returns-clause-parties c =
-    let was =
-    was_there c.self.inside.parties.items c.args.self.now c.self.inside.sides c.args.party c.side_of.result c.in_ok-insert.field-0
-    c.self.invariant c.self.view_is c.side_of.ensures c.in_ok-insert.ensures.added in
-    c.in_ok-push.ensures.items
-    ∙ (ap (λ (l : List Party). l ++ c.args.party ∷ []) (c.reserve.ensures.items ∙ c.self.view_is)
-    ∙ sym (add_new c.args.self.now c.args.party (was ∙ ap not c.if-not-branch.false)))
+    ap values_of (entries_then c)
+    ∙ (parties-push c.self.inside.entries.entries (side_of c.args.party) c.args.party
+    ∙ (ap (λ ps. ps ++ c.args.party ∷ []) c.self.view_is
+    ∙ sym (add_new c.args.self.now c.args.party (sym (ap (list_any (same_party c.args.party)) c.self.view_is) ∙ absent_then c))))

@@ -9,7 +9,7 @@ use Rattle.turn_pool.proofs.slot.Slot.advance.Goals as goal
 pub count-requires : goal.count-requires
 count-requires g c =
     let within : c.next-place.result < 2 ^ 57 = c.next-place.ensures.in_range in
-    omega (arith, c.self.invariant.1, c.next-place.ensures.value, within)
+    record { part = omega (arith, c.self.invariant.0); amount = omega (arith, c.self.invariant.1, c.next-place.ensures.value, within) }
 
 pub returns : goal.returns
 returns g c =

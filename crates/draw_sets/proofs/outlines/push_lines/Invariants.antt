@@ -1,0 +1,8 @@
+use Rattle.std.proofs.Common.{◌≡◌, ◌++◌, drop}
+use Rattle.std.specs.List.{flat_map}
+use Rattle.draw_sets.specs.Outlines.{line_text}
+use Rattle.draw_sets.proofs.outlines.push_lines.Given as goal
+
+abbrev pub invariant-loop-line : goal.invariant-loop-line
+invariant-loop-line l =
+    l.text.items ++ flat_map (line_text) (drop l.line-index l.lines) ≡ l.initial.text.items ++ flat_map (line_text) (l.lines)

@@ -1,0 +1,89 @@
+//! The command `draw`.
+ghost use Rattle.std.specs.Prelude.{◌≡◌, ◌⊎◌};
+
+use crate::pictures::{Picture, draw_resolved};
+use draw_text::Block;
+use mtp2_text::{LexFault, LoadFault, MONITORS, STANDARD, load};
+use plain_text::{MOST_BYTES, TextRead, line_at_limit, read_text};
+use script_check::{FAILED, SetFault, SetWord, write_refusal};
+use sdl_lex::tokens;
+use sdl_rules::resolve;
+use sdl_tree::parse;
+use std::alloc::Global;
+use std::io::{Read, Write};
+use std::str;
+
+/// Draws a picture of a block, which is sound.
+fn draw_tree<W: Write>(alloc: Global, block: &Block, picture: &Picture<'_>, writer: &mut W) -> u8
+    ensures { (result ≡ 0) ⊎ (result ≡ 2) ⊎ (result ≡ 4) }
+{
+    match resolve(alloc, block) {
+        Ok(resolved) => draw_resolved(alloc, &resolved, picture, writer),
+        Err(_) => FAILED,
+    }
+}
+
+/// Draws a picture of the block of a text that is accepted.
+fn draw_accepted<W: Write>(alloc: Global, text: &str, picture: &Picture<'_>, writer: &mut W) -> u8
+    ensures { (result ≡ 0) ⊎ (result ≡ 2) ⊎ (result ≡ 4) }
+{
+    match tokens(alloc, text) {
+        Ok(tokens) => match parse(alloc, &tokens) {
+            Ok(block) => draw_tree(alloc, &block, picture, writer),
+            Err(_) => FAILED,
+        },
+        Err(_) => FAILED,
+    }
+}
+
+/// Draws a picture of the set of a text, or says why it is refused.
+fn draw_from_text<W: Write>(alloc: Global, text: &str, picture: &Picture<'_>, writer: &mut W) -> u8
+    ensures { (result ≡ 0) ⊎ (result ≡ 2) ⊎ (result ≡ 4) }
+{
+    match load(alloc, text) {
+        Ok(_) => draw_accepted(alloc, text, picture, writer),
+        Err(fault) => write_refusal(alloc, writer, &SetFault::Load(fault)),
+    }
+}
+
+/// Draws a picture of the set of a text that was read, or says why it is refused.
+fn draw_read<W: Write>(alloc: Global, read: &TextRead, picture: &Picture<'_>, writer: &mut W) -> u8
+    ensures { (result ≡ 0) ⊎ (result ≡ 2) ⊎ (result ≡ 4) }
+{
+    if !read.is_text {
+        return write_refusal(alloc, writer, &SetFault::NotText);
+    }
+    if read.is_too_long() {
+        let fault = LoadFault::Lex {
+            fault: LexFault::TooLong(MOST_BYTES as u32),
+            line: line_at_limit(&read.kept),
+        };
+        return write_refusal(alloc, writer, &SetFault::Load(fault));
+    }
+    match str::from_utf8(&read.kept) {
+        Ok(text) => draw_from_text(alloc, text, picture, writer),
+        Err(_) => write_refusal(alloc, writer, &SetFault::NotText),
+    }
+}
+
+/// Draws a picture of a set, or of one of its processes, in one write. The text is read whole before anything is written.
+///
+/// Gives the exit status: 0 where the picture was written; 2 after a line `refused CODE Name ..` alone, where the text is refused, as
+/// `check` prints it, or `refused B10 NoActor` where no process has that name; 4 where memory, a read or a write fails.
+pub fn draw<R: Read + Drop, W: Write>(
+    alloc: Global,
+    set: SetWord<R>,
+    picture: &Picture<'_>,
+    writer: &mut W,
+) -> u8
+    ensures { (result ≡ 0) ⊎ (result ≡ 2) ⊎ (result ≡ 4) }
+{
+    match set {
+        SetWord::Standard => draw_from_text(alloc, STANDARD, picture, writer),
+        SetWord::Monitors => draw_from_text(alloc, MONITORS, picture, writer),
+        SetWord::Text(mut reader) => match read_text(alloc, &mut reader) {
+            Ok(read) => draw_read(alloc, &read, picture, writer),
+            Err(_) => FAILED,
+        },
+    }
+}

@@ -1,0 +1,24 @@
+//! The command `draw`: pictures of a set and of its processes. A process is drawn as SDL-GR has it (Z.100), in SVG, laid out by
+//! whole numbers in a font of one width, or by its states, in Graphviz's language.
+#![tactic(auto)]
+
+mod apart;
+mod drawing;
+mod frames;
+mod labels;
+mod layout;
+mod measures;
+mod nodes;
+mod outlines;
+mod page;
+mod pictures;
+mod sizes;
+mod state_diagram;
+mod state_edges;
+mod state_pieces;
+mod svg;
+
+pub use drawing::draw;
+pub use pictures::Picture;
+pub use state_diagram::draw_states;
+pub use svg::draw_flow;

@@ -1,0 +1,134 @@
+//! Pictures of a sound block.
+ghost use Rattle.std.specs.Prelude.{◌≡◌, ◌⊎◌};
+ghost use Rattle.std.specs.Io.KnownBytes.{Appends};
+ghost use Rattle.draw_text.specs.Views.{block_of};
+ghost use Rattle.draw_text.specs.BlockDiagram.{block_text};
+
+use crate::state_diagram::draw_states;
+use crate::svg::draw_flow;
+use draw_text::{Name, Names, ProcessTable, draw_block};
+use script_check::{FAILED, HELD, refuse};
+use sdl_rules::Resolved;
+use std::alloc::Global;
+use std::io::Write;
+
+/// What is to be drawn.
+#[derive(Clone, Copy, PartialEq, Eq, Debug)]
+pub enum Picture<'a> {
+    /// The processes of the set, and what routes bring from one to another.
+    Block,
+    /// The process with this name, as SDL-GR has it.
+    Flow(&'a str),
+    /// The states of the process with this name, and the ways from one to another.
+    States(&'a str),
+}
+
+/// Writes a picture. Gives the exit status.
+fn write_picture<W: Write>(writer: &mut W, picture: &[u8]) -> u8
+    ensures printed { result ≡ 0 → Appends (W.contents writer.old) (W.contents writer.new) picture.now }
+    ensures status { (result ≡ 0) ⊎ (result ≡ 4) }
+{
+    match writer.write_all(picture) {
+        Ok(()) => HELD,
+        Err(_) => FAILED,
+    }
+}
+
+/// The process that a word names.
+fn process_named<'a, 'b>(resolved: &'a Resolved<'b>, word: &str) -> Option<&'a ProcessTable<'b>> {
+    let name = Name::new(word.as_bytes())?;
+    let number = resolved.processes().number(name)?;
+    resolved.tables().get(number)
+}
+
+/// Draws a process as SDL-GR has it.
+fn flow_of<W: Write>(alloc: Global, names: &Names<'_, '_>, writer: &mut W) -> u8
+    ensures { (result ≡ 0) ⊎ (result ≡ 4) }
+{
+    match draw_flow(alloc, names) {
+        Ok(Some(picture)) => write_picture(writer, &picture),
+        Ok(None) => FAILED,
+        Err(_) => FAILED,
+    }
+}
+
+/// Draws the states of a process.
+fn states_of<W: Write>(alloc: Global, names: &Names<'_, '_>, writer: &mut W) -> u8
+    ensures { (result ≡ 0) ⊎ (result ≡ 4) }
+{
+    match draw_states(alloc, names) {
+        Ok(picture) => write_picture(writer, &picture),
+        Err(_) => FAILED,
+    }
+}
+
+/// Draws a block.
+fn block_picture<W: Write>(alloc: Global, resolved: &Resolved<'_>, writer: &mut W) -> u8
+    ensures printed { result ≡ 0 → Appends (W.contents writer.old) (W.contents writer.new) (block_text (block_of resolved.now)) }
+    ensures status { (result ≡ 0) ⊎ (result ≡ 4) }
+{
+    match draw_block(alloc, resolved.table()) {
+        Ok(picture) => write_picture(writer, &picture),
+        Err(_) => FAILED,
+    }
+}
+
+/// Says that no process has the name. Gives the exit status.
+fn no_process<W: Write>(alloc: Global, writer: &mut W) -> u8
+    ensures { (result ≡ 2) ⊎ (result ≡ 4) }
+{
+    refuse(alloc, writer, &"refused B10 NoActor")
+}
+
+/// Draws the process with a name as SDL-GR has it, or says that there is none.
+fn flow_picture<W: Write>(alloc: Global, resolved: &Resolved<'_>, word: &str, writer: &mut W) -> u8
+    ensures { (result ≡ 0) ⊎ (result ≡ 2) ⊎ (result ≡ 4) }
+{
+    match process_named(resolved, word) {
+        Some(process) => {
+            let names = Names {
+                block: resolved.table(),
+                process,
+            };
+            flow_of(alloc, &names, writer)
+        }
+        None => no_process(alloc, writer),
+    }
+}
+
+/// Draws the states of the process with a name, or says that there is none.
+fn states_picture<W: Write>(
+    alloc: Global,
+    resolved: &Resolved<'_>,
+    word: &str,
+    writer: &mut W,
+) -> u8
+    ensures { (result ≡ 0) ⊎ (result ≡ 2) ⊎ (result ≡ 4) }
+{
+    match process_named(resolved, word) {
+        Some(process) => {
+            let names = Names {
+                block: resolved.table(),
+                process,
+            };
+            states_of(alloc, &names, writer)
+        }
+        None => no_process(alloc, writer),
+    }
+}
+
+/// Draws a picture of a sound block. Gives the exit status.
+pub(crate) fn draw_resolved<W: Write>(
+    alloc: Global,
+    resolved: &Resolved<'_>,
+    picture: &Picture<'_>,
+    writer: &mut W,
+) -> u8
+    ensures { (result ≡ 0) ⊎ (result ≡ 2) ⊎ (result ≡ 4) }
+{
+    match picture {
+        Picture::Block => block_picture(alloc, resolved, writer),
+        Picture::Flow(word) => flow_picture(alloc, resolved, word, writer),
+        Picture::States(word) => states_picture(alloc, resolved, word, writer),
+    }
+}

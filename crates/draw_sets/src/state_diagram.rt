@@ -1,0 +1,58 @@
+//! The state diagram of a process.
+use crate::nodes::{NodeWays, nodes_of};
+use crate::state_edges::{push_edges, push_node};
+use crate::state_pieces::pieces_of;
+use draw_text::{Name, Names, push_bytes};
+use std::alloc::{AllocError, Global};
+
+/// What a diagram begins with, behind what is there.
+fn push_head(text: &mut Vec<u8>, process: Name) -> Result<(), AllocError> {
+    push_bytes(
+        text,
+        b"digraph {\n  graph [labelloc=t, fontname=\"DejaVu Sans\", fontsize=16, label=<<b>PROCESS ",
+    )?;
+    push_bytes(text, process.as_bytes())?;
+    push_bytes(text, b"</b>>];\n")?;
+    push_bytes(
+        text,
+        b"  node [shape=box, style=\"rounded,filled\", fillcolor=\"#eef3ff\", fontsize=12,",
+    )?;
+    push_bytes(
+        text,
+        b" fontname=\"DejaVu Sans\"];\n  edge [fontsize=9, arrowsize=0.7, fontname=\"DejaVu Sans\"];\n",
+    )
+}
+
+/// The nodes behind what is there.
+fn push_nodes(alloc: Global, text: &mut Vec<u8>, nodes: &[NodeWays<'_>]) -> Result<(), AllocError> {
+    for node in nodes {
+        push_node(alloc, text, node)?;
+    }
+    Ok(())
+}
+
+/// The edges of all nodes behind what is there.
+fn push_all_edges(
+    alloc: Global,
+    text: &mut Vec<u8>,
+    nodes: &[NodeWays<'_>],
+) -> Result<(), AllocError> {
+    for node in nodes {
+        push_edges(alloc, text, nodes, node)?;
+    }
+    Ok(())
+}
+
+/// The state diagram of a process in Graphviz's language: START, its states in the order of the text and its connections; for each
+/// two of them an edge with a line for each way from the one to the other. Ways from a state to itself stand in its box. Of a
+/// transition with more than 64 ways a line says the answers that lead to an end, and `..` for the rest.
+pub fn draw_states(alloc: Global, names: &Names<'_, '_>) -> Result<Vec<u8>, AllocError> {
+    let pieces = pieces_of(alloc, names)?;
+    let nodes = nodes_of(alloc, names, &pieces)?;
+    let mut text = Vec::new(alloc);
+    push_head(&mut text, names.process.process().name.name)?;
+    push_nodes(alloc, &mut text, &nodes)?;
+    push_all_edges(alloc, &mut text, &nodes)?;
+    push_bytes(&mut text, b"}\n")?;
+    Ok(text)
+}

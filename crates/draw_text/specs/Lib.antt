@@ -1,0 +1,12 @@
+pub mod BlockDiagram
+pub mod BlockEdges
+pub mod Escapes
+pub mod Parts
+pub mod Pieces
+pub mod Statements
+pub mod Written
+pub use Rattle.sdl_tables.specs.Names
+pub use Rattle.sdl_tables.specs.Plain
+pub use Rattle.sdl_tables.specs.Routes
+pub use Rattle.sdl_tables.specs.Views
+pub use Rattle.sdl_tables.specs.sdl_ast_types

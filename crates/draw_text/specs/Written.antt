@@ -1,0 +1,117 @@
+-- Names, constants and expressions as they are written in pictures.
+use Rattle.std.specs.Prelude.{ℕ, ◌+◌, Bool, true, false, List, [], ◌∷◌, ◌++◌, Option, None, Some}
+use Rattle.std.specs.Prelude.{codes, nat_lt, slice_get, ◌==◌, if◌then◌else◌}
+use Rattle.std.specs.List.{flat_map}
+use Rattle.std.specs.Fmt.{decimal}
+use Rattle.sdl_tables.specs.Names.{number_of}
+use Rattle.sdl_tables.specs.Plain.{Tree, number, truth, variable, unary, binary}
+use Rattle.sdl_tables.specs.sdl_ast_types.expression.Identifier.{Identifier}
+use Rattle.sdl_tables.specs.sdl_ast_types.expression.UnaryOperator.{UnaryOperator}
+use Rattle.sdl_tables.specs.sdl_ast_types.expression.UnaryOperator.TheVariants.{Negate, Not}
+use Rattle.sdl_tables.specs.sdl_ast_types.expression.BinaryOperator.{BinaryOperator}
+use Rattle.sdl_tables.specs.sdl_ast_types.expression.BinaryOperator.TheVariants.{Or, Xor, And}
+use Rattle.sdl_tables.specs.sdl_ast_types.expression.BinaryOperator.TheVariants.{Equal, NotEqual}
+use Rattle.sdl_tables.specs.sdl_ast_types.expression.BinaryOperator.TheVariants.{Less}
+use Rattle.sdl_tables.specs.sdl_ast_types.expression.BinaryOperator.TheVariants.{LessEqual, Greater}
+use Rattle.sdl_tables.specs.sdl_ast_types.expression.BinaryOperator.TheVariants.{GreaterEqual, Add}
+use Rattle.sdl_tables.specs.sdl_ast_types.expression.BinaryOperator.TheVariants.{Subtract, Multiply}
+use Rattle.sdl_tables.specs.sdl_ast_types.expression.BinaryOperator.TheVariants.{Divide, Modulo}
+use Rattle.sdl_tables.specs.sdl_ast_types.expression.BinaryOperator.TheVariants.{Remainder}
+
+-- ---- names
+
+-- the name of an identifier, if there is one
+abbrev pub name_or : List ℕ → Option Identifier → List ℕ
+name_or name None = name
+name_or name (Some declared) = declared.name
+
+-- the name with a number
+abbrev pub name_at : List Identifier → List ℕ → Option ℕ → List ℕ
+name_at names name None = name
+name_at names name (Some n) = name_or name (slice_get names n)
+
+-- a name as it is declared, by the names of its class
+unfoldable pub spelled : List Identifier → List ℕ → List ℕ
+spelled names name = name_at names name (number_of names name)
+
+-- things in a row, with a mark between them
+abbrev pub row_text : {A : Type 0} → (A → List ℕ) → List ℕ → List A → List ℕ
+row_text f mark [] = []
+row_text f mark (x ∷ xs) = f x ++ flat_map (λ y. mark ++ f y) xs
+
+abbrev pub names_text : List Identifier → List ℕ → List Identifier → List ℕ
+names_text names mark ids = row_text (λ id. spelled names id.name) mark ids
+
+-- ---- expressions
+
+abbrev pub truth_text : Bool → List ℕ
+truth_text true = codes "TRUE"
+truth_text false = codes "FALSE"
+
+-- how tightly an operand binds that a sign stands before
+abbrev pub SIGNED : ℕ
+SIGNED = 5
+
+abbrev pub sign_text : UnaryOperator → List ℕ
+sign_text Negate = codes "-"
+sign_text Not = codes "NOT "
+
+-- how tightly an operator binds: 0 is the loosest
+abbrev pub level_of : BinaryOperator → ℕ
+level_of Or = 0
+level_of Xor = 0
+level_of And = 1
+level_of Equal = 2
+level_of NotEqual = 2
+level_of Less = 2
+level_of LessEqual = 2
+level_of Greater = 2
+level_of GreaterEqual = 2
+level_of Add = 3
+level_of Subtract = 3
+level_of Multiply = 4
+level_of Divide = 4
+level_of Modulo = 4
+level_of Remainder = 4
+
+-- how tightly its left operand has to: as it does itself, but a relation is no operand of one
+abbrev pub left_level : ℕ → ℕ
+left_level level = if level == 2 then 3 else level
+
+abbrev pub operator_text : BinaryOperator → List ℕ
+operator_text Or = codes " OR "
+operator_text Xor = codes " XOR "
+operator_text And = codes " AND "
+operator_text Equal = codes " = "
+operator_text NotEqual = codes " /= "
+operator_text Less = codes " < "
+operator_text LessEqual = codes " <= "
+operator_text Greater = codes " > "
+operator_text GreaterEqual = codes " >= "
+operator_text Add = codes " + "
+operator_text Subtract = codes " - "
+operator_text Multiply = codes " * "
+operator_text Divide = codes " / "
+operator_text Modulo = codes " MOD "
+operator_text Remainder = codes " REM "
+
+abbrev pub opening : Bool → List ℕ
+opening true = codes "("
+opening false = []
+
+abbrev pub closing : Bool → List ℕ
+closing true = codes ")"
+closing false = []
+
+-- an expression whose operator binds as tightly as the level, in parentheses where it doesn't
+abbrev pub tree_text : List Identifier → ℕ → Tree → List ℕ
+tree_text names level (number at n) = decimal n
+tree_text names level (truth at b) = truth_text b
+tree_text names level (variable at x) = spelled names x.name
+tree_text names level (unary at o x) =
+    opening (nat_lt SIGNED level) ++ sign_text o ++ tree_text names SIGNED x
+    ++ closing (nat_lt SIGNED level)
+tree_text names level (binary at o x y) =
+    opening (nat_lt (level_of o) level) ++ tree_text names (left_level (level_of o)) x
+    ++ operator_text o ++ tree_text names (level_of o + 1) y
+    ++ closing (nat_lt (level_of o) level)

@@ -1,0 +1,283 @@
+//! The nodes of a block diagram, and the edges between them.
+ghost use Rattle.std.specs.Prelude.{◌≡◌, ◌++◌, map, OnOk, codes};
+ghost use Rattle.std.specs.List.{flat_map};
+ghost use Rattle.sdl_tables.specs.Views.{block_of, process_of};
+ghost use Rattle.draw_text.specs.Statements.{party_text, sort_text, arguments_text};
+ghost use Rattle.draw_text.specs.BlockEdges.{signal_text, sorts_text, signal_lines, source_text, target_text, ends_text, label_text, outer_text, is_outer, joined_text, edge_text, node_text};
+
+use crate::parties::signals_between;
+use crate::{
+    BlockTable, Identifier, Name, Party, ProcessTable, Sort, push_bytes, push_name, sort_word,
+};
+use std::alloc::{AllocError, Global};
+
+/// The name of a party behind what is there.
+fn push_party(text: &mut Vec<u8>, block: &BlockTable<'_>, party: &Party) -> Result<(), AllocError>
+    ensures { OnOk result (text.new.items ≡ text.old.items ++ party_text (block_of block.now) party.now) }
+{
+    match party {
+        Party::Environment => push_bytes(text, b"ENV"),
+        Party::Process(id) => push_name(text, block.processes(), id.name),
+    }
+}
+
+/// Further sorts behind what is there, a comma before each.
+fn push_more_sorts(text: &mut Vec<u8>, sorts: &[Sort]) -> Result<(), AllocError>
+    ensures { OnOk result (text.new.items ≡ text.old.items ++ flat_map (λ s. codes ", " ++ sort_text s) sorts.now) }
+{
+    for sort in sorts {
+        push_bytes(text, b", ")?;
+        push_bytes(text, sort_word(*sort))?;
+    }
+    Ok(())
+}
+
+/// Sorts in parentheses behind what is there; nothing where there are none.
+fn push_sorts(text: &mut Vec<u8>, sorts: &[Sort]) -> Result<(), AllocError>
+    ensures { OnOk result (text.new.items ≡ text.old.items ++ arguments_text sort_text sorts.now) }
+{
+    match sorts.split_first() {
+        Some((first, others)) => {
+            push_bytes(text, b"(")?;
+            push_bytes(text, sort_word(*first))?;
+            push_more_sorts(text, others)?;
+            push_bytes(text, b")")
+        }
+        None => Ok(()),
+    }
+}
+
+/// The sorts of a signal's parameters, in parentheses, behind what is there.
+fn push_signal_sorts(
+    text: &mut Vec<u8>,
+    block: &BlockTable<'_>,
+    signal: Name,
+) -> Result<(), AllocError>
+    ensures { OnOk result (text.new.items ≡ text.old.items ++ sorts_text (block_of block.now) signal) }
+{
+    match block.signal(signal) {
+        Some(declared) => push_sorts(text, &declared.parameters),
+        None => Ok(()),
+    }
+}
+
+/// A signal with its sorts in a line of its own, behind what is there.
+fn push_signal(text: &mut Vec<u8>, block: &BlockTable<'_>, signal: Name) -> Result<(), AllocError>
+    ensures { OnOk result (text.new.items ≡ text.old.items ++ signal_text (block_of block.now) signal) }
+{
+    push_name(text, block.signals(), signal)?;
+    push_signal_sorts(text, block, signal)?;
+    push_bytes(text, b"\\l")
+}
+
+/// The signals of a list, each in a line of its own, behind what is there.
+fn push_signals(
+    text: &mut Vec<u8>,
+    block: &BlockTable<'_>,
+    signals: &[Identifier],
+) -> Result<(), AllocError>
+    ensures { OnOk result (text.new.items ≡ text.old.items ++ signal_lines (block_of block.now) signals.now) }
+{
+    for id in signals {
+        push_signal(text, block, id.name)?;
+    }
+    Ok(())
+}
+
+/// The node from which an edge comes, behind what is there.
+fn push_source(
+    text: &mut Vec<u8>,
+    block: &BlockTable<'_>,
+    from: &Party,
+    to: &Party,
+) -> Result<(), AllocError>
+    ensures { OnOk result (text.new.items ≡ text.old.items ++ source_text (block_of block.now) from.now to.now) }
+{
+    match from {
+        Party::Environment => {
+            push_bytes(text, b"i_")?;
+            push_party(text, block, to)
+        }
+        Party::Process(_) => {
+            push_bytes(text, b"p_")?;
+            push_party(text, block, from)
+        }
+    }
+}
+
+/// The node to which an edge goes, behind what is there.
+fn push_target(
+    text: &mut Vec<u8>,
+    block: &BlockTable<'_>,
+    from: &Party,
+    to: &Party,
+) -> Result<(), AllocError>
+    ensures { OnOk result (text.new.items ≡ text.old.items ++ target_text (block_of block.now) from.now to.now) }
+{
+    match to {
+        Party::Environment => {
+            push_bytes(text, b"e_")?;
+            push_party(text, block, from)
+        }
+        Party::Process(_) => {
+            push_bytes(text, b"p_")?;
+            push_party(text, block, to)
+        }
+    }
+}
+
+/// From where to where an edge goes, behind what is there.
+fn push_ends(
+    text: &mut Vec<u8>,
+    block: &BlockTable<'_>,
+    from: &Party,
+    to: &Party,
+) -> Result<(), AllocError>
+    ensures { OnOk result (text.new.items ≡ text.old.items ++ ends_text (block_of block.now) from.now to.now) }
+{
+    push_source(text, block, from, to)?;
+    push_bytes(text, b" -> ")?;
+    push_target(text, block, from, to)
+}
+
+/// Signals as a label, and the end of the line, behind what is there.
+fn push_label(
+    text: &mut Vec<u8>,
+    block: &BlockTable<'_>,
+    signals: &[Identifier],
+) -> Result<(), AllocError>
+    ensures { OnOk result (text.new.items ≡ text.old.items ++ label_text (block_of block.now) signals.now) }
+{
+    push_bytes(text, b"label=\"")?;
+    push_signals(text, block, signals)?;
+    push_bytes(text, b"\"];\n")
+}
+
+/// The node of a list of signals that come from the environment or go there, behind what is there.
+fn push_outer(
+    text: &mut Vec<u8>,
+    block: &BlockTable<'_>,
+    from: &Party,
+    to: &Party,
+) -> Result<(), AllocError>
+    ensures { OnOk result (text.new.items ≡ text.old.items ++ outer_text (block_of block.now) from.now to.now) }
+{
+    match from {
+        Party::Environment => {
+            push_bytes(text, b"{rank=source; ")?;
+            push_source(text, block, from, to)
+        }
+        Party::Process(_) => {
+            push_bytes(text, b"{rank=sink; ")?;
+            push_target(text, block, from, to)
+        }
+    }
+}
+
+/// Whether one of the two is the environment.
+fn is_outer(from: &Party, to: &Party) -> bool
+    ensures { result ≡ is_outer from.now to.now }
+{
+    match (from, to) {
+        (Party::Process(_), Party::Process(_)) => false,
+        _ => true,
+    }
+}
+
+/// An edge with its signals behind what is there; signals of the environment stand in a node of their own.
+fn push_joined(
+    text: &mut Vec<u8>,
+    block: &BlockTable<'_>,
+    from: &Party,
+    to: &Party,
+    signals: &[Identifier],
+) -> Result<(), AllocError>
+    ensures { OnOk result (text.new.items ≡ text.old.items ++ joined_text (block_of block.now) from.now to.now signals.now) }
+{
+    push_bytes(text, b"  ")?;
+    if is_outer(from, to) {
+        push_outer(text, block, from, to)?;
+        push_bytes(text, b" [shape=plain, style=\"\", fontsize=9, ")?;
+        push_label(text, block, signals)?;
+        push_bytes(text, b"  }\n  ")?;
+        push_ends(text, block, from, to)?;
+        push_bytes(text, b";\n")
+    } else {
+        push_ends(text, block, from, to)?;
+        push_bytes(text, b" [")?;
+        push_label(text, block, signals)
+    }
+}
+
+/// The edge from one party to another, if a route brings something, behind what is there.
+fn push_edge(
+    alloc: Global,
+    text: &mut Vec<u8>,
+    block: &BlockTable<'_>,
+    from: &Party,
+    to: &Party,
+) -> Result<(), AllocError>
+    ensures { OnOk result (text.new.items ≡ text.old.items ++ edge_text (block_of block.now) from.now to.now) }
+{
+    let signals = signals_between(alloc, block, from, to)?;
+    if signals.len() == 0 {
+        return Ok(());
+    }
+    push_joined(text, block, from, to, &signals)
+}
+
+/// The edges from a party to these, behind what is there.
+fn push_edges_from(
+    alloc: Global,
+    text: &mut Vec<u8>,
+    block: &BlockTable<'_>,
+    from: &Party,
+    parties: &[Party],
+) -> Result<(), AllocError>
+    ensures { OnOk result (text.new.items ≡ text.old.items ++ flat_map (edge_text (block_of block.now) from.now) parties.now) }
+{
+    for to in parties {
+        push_edge(alloc, text, block, from, to)?;
+    }
+    Ok(())
+}
+
+/// The edges from each of these parties to each of them, behind what is there.
+pub(crate) fn push_edges(
+    alloc: Global,
+    text: &mut Vec<u8>,
+    block: &BlockTable<'_>,
+    parties: &[Party],
+) -> Result<(), AllocError>
+    ensures { OnOk result (text.new.items ≡ text.old.items ++ flat_map (λ from. flat_map (edge_text (block_of block.now) from) parties.now) parties.now) }
+{
+    for from in parties {
+        push_edges_from(alloc, text, block, from, parties)?;
+    }
+    Ok(())
+}
+
+/// The node of a process behind what is there.
+fn push_node(text: &mut Vec<u8>, block: &BlockTable<'_>, process: Name) -> Result<(), AllocError>
+    ensures { OnOk result (text.new.items ≡ text.old.items ++ node_text (block_of block.now) process) }
+{
+    push_bytes(text, b"  p_")?;
+    push_name(text, block.processes(), process)?;
+    push_bytes(text, b" [label=<<b>")?;
+    push_name(text, block.processes(), process)?;
+    push_bytes(text, b"</b>>];\n")
+}
+
+/// The nodes of processes behind what is there.
+pub(crate) fn push_nodes(
+    text: &mut Vec<u8>,
+    block: &BlockTable<'_>,
+    processes: &[ProcessTable<'_>],
+) -> Result<(), AllocError>
+    ensures { OnOk result (text.new.items ≡ text.old.items ++ flat_map (λ p. node_text (block_of block.now) p.name.name) (map process_of processes.now)) }
+{
+    for process in processes {
+        push_node(text, block, process.process().name.name)?;
+    }
+    Ok(())
+}

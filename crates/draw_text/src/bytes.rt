@@ -1,0 +1,44 @@
+//! Bytes behind what is there.
+ghost use Rattle.std.specs.Prelude.{◌≡◌, ◌++◌, OnOk};
+ghost use Rattle.std.specs.Fmt.{decimal};
+ghost use Rattle.draw_text.specs.Escapes.{entity, escaped};
+
+use std::alloc::{AllocError, Global};
+
+/// Bytes behind what is there.
+pub fn push_bytes(text: &mut Vec<u8>, bytes: &[u8]) -> Result<(), AllocError>
+    ensures { OnOk result (text.new.items ≡ text.old.items ++ bytes.now) }
+{
+    text.extend_from_slice(bytes)
+}
+
+/// A number in decimal digits behind what is there.
+pub fn push_number(alloc: Global, text: &mut Vec<u8>, number: u32) -> Result<(), AllocError>
+    ensures { OnOk result (text.new.items ≡ text.old.items ++ decimal number) }
+{
+    let digits = format!(in alloc; "{number}")?;
+    push_bytes(text, digits.as_bytes())
+}
+
+/// A byte behind what is there, as an entity where it is `&`, `<`, `>` or `"`.
+pub fn push_entity(text: &mut Vec<u8>, byte: u8) -> Result<(), AllocError>
+    ensures { OnOk result (text.new.items ≡ text.old.items ++ entity byte) }
+{
+    match byte {
+        b'&' => push_bytes(text, b"&amp;"),
+        b'<' => push_bytes(text, b"&lt;"),
+        b'>' => push_bytes(text, b"&gt;"),
+        b'"' => push_bytes(text, b"&quot;"),
+        _ => push_bytes(text, &[byte]),
+    }
+}
+
+/// Bytes behind what is there, each of the four marks as an entity.
+pub fn push_escaped(text: &mut Vec<u8>, bytes: &[u8]) -> Result<(), AllocError>
+    ensures { OnOk result (text.new.items ≡ text.old.items ++ escaped bytes.now) }
+{
+    for byte in bytes {
+        push_entity(text, *byte)?;
+    }
+    Ok(())
+}

@@ -1,0 +1,98 @@
+//! Constants, the values that an answer is for, and sorts.
+ghost use Rattle.std.specs.Prelude.{◌≡◌, ◌++◌, OnOk, codes};
+ghost use Rattle.std.specs.List.{flat_map};
+ghost use Rattle.std.specs.Fmt.{signed_decimal};
+ghost use Rattle.draw_text.specs.Statements.{constant_text, literal_text, range_text, ranges_text, relation_text, sort_text};
+
+use crate::bytes::push_bytes;
+use crate::expressions::truth_word;
+use sdl_ast::{Constant, Literal, Range, Relation, Sort};
+use std::alloc::{AllocError, Global};
+
+/// `Integer` or `Boolean`.
+pub fn sort_word(sort: Sort) -> &'static [u8]
+    ensures { result.now ≡ sort_text sort }
+{
+    match sort {
+        Sort::Integer => b"Integer",
+        Sort::Boolean => b"Boolean",
+    }
+}
+
+/// How a value stands to a constant, with the space behind it.
+fn relation_word(relation: Relation) -> &'static [u8]
+    ensures { result.now ≡ relation_text relation }
+{
+    match relation {
+        Relation::Equal => b"= ",
+        Relation::NotEqual => b"/= ",
+        Relation::Less => b"< ",
+        Relation::LessEqual => b"<= ",
+        Relation::Greater => b"> ",
+        Relation::GreaterEqual => b">= ",
+    }
+}
+
+/// A number in decimal digits with its sign, behind what is there.
+fn push_integer(alloc: Global, text: &mut Vec<u8>, number: i32) -> Result<(), AllocError>
+    ensures { OnOk result (text.new.items ≡ text.old.items ++ signed_decimal number) }
+{
+    let digits = format!(in alloc; "{number}")?;
+    push_bytes(text, digits.as_bytes())
+}
+
+/// A constant behind what is there.
+fn push_constant(alloc: Global, text: &mut Vec<u8>, constant: Constant) -> Result<(), AllocError>
+    ensures { OnOk result (text.new.items ≡ text.old.items ++ constant_text constant) }
+{
+    match constant.value {
+        Literal::Integer(number) => push_integer(alloc, text, number),
+        Literal::Boolean(value) => push_bytes(text, truth_word(value)),
+    }
+}
+
+/// Values that an answer is for, behind what is there.
+fn push_range(alloc: Global, text: &mut Vec<u8>, range: &Range) -> Result<(), AllocError>
+    ensures { OnOk result (text.new.items ≡ text.old.items ++ range_text range.now) }
+{
+    match range {
+        Range::Value(constant) => push_constant(alloc, text, *constant),
+        Range::Compared {
+            relation,
+            constant,
+            ..
+        } => {
+            push_bytes(text, relation_word(*relation))?;
+            push_constant(alloc, text, *constant)
+        }
+        Range::Between(low, high) => {
+            push_constant(alloc, text, *low)?;
+            push_bytes(text, b":")?;
+            push_constant(alloc, text, *high)
+        }
+    }
+}
+
+/// More values behind what is there, a comma before each.
+fn push_more_ranges(alloc: Global, text: &mut Vec<u8>, ranges: &[Range]) -> Result<(), AllocError>
+    ensures { OnOk result (text.new.items ≡ text.old.items ++ flat_map (λ r. codes ", " ++ range_text r) ranges.now) }
+{
+    for range in ranges {
+        push_bytes(text, b", ")?;
+        push_range(alloc, text, range)?;
+    }
+    Ok(())
+}
+
+/// All values that an answer is for, with commas between them, behind what is there.
+pub fn push_ranges(alloc: Global, text: &mut Vec<u8>, ranges: &[Range]) -> Result<(), AllocError>
+    ensures { OnOk result (text.new.items ≡ text.old.items ++ ranges_text ranges.now) }
+{
+    match ranges.split_first() {
+        Some((first, others)) => {
+            push_range(alloc, text, first)?;
+            push_more_ranges(alloc, text, others)
+        }
+        None => Ok(()),
+    }
+}

@@ -1,0 +1,185 @@
+//! The parts of a process.
+ghost use Rattle.std.specs.Prelude.{◌≡◌, ◌++◌, ◌∷◌, [], map, OnOk, IfOk};
+ghost use Rattle.std.specs.List.{flat_map};
+ghost use Rattle.sdl_tables.specs.Names.{states_of};
+ghost use Rattle.sdl_tables.specs.Views.{block_of, clause_of, connection_of, input_of, process_of, start_of, state_of};
+ghost use Rattle.draw_text.specs.Parts.{part_of};
+ghost use Rattle.draw_text.specs.Pieces.{first_place, input_parts, save_parts, clause_parts, state_head, state_parts, start_parts, connection_parts, process_parts};
+
+use crate::parts::{Kind, Part, push_mark, push_symbol};
+use crate::transitions::push_transition;
+use crate::{
+    Connection, Identifier, InputPart, Names, StateClause, StatePart, push_names, push_stimuli,
+    push_triggers,
+};
+use sdl_ast::Start;
+use std::alloc::{AllocError, Global};
+
+/// The place of the first of these names; 0 where there is none.
+fn first_place(ids: &[Identifier]) -> u32
+    ensures { result ≡ first_place ids.now }
+{
+    match ids {
+        [first, ..] => first.at,
+        [] => 0,
+    }
+}
+
+/// An INPUT behind the parts that there are.
+fn push_input(
+    alloc: Global,
+    parts: &mut Vec<Part>,
+    names: &Names<'_, '_>,
+    input: &InputPart,
+) -> Result<(), AllocError>
+    ensures { OnOk result (map part_of parts.new.items ≡ map part_of parts.old.items ++ input_parts (block_of names.now.block.now) (process_of names.now.process.now) (input_of input.now)) }
+{
+    let mut text = Vec::new(alloc);
+    push_stimuli(&mut text, names, &input.stimuli)?;
+    push_mark(alloc, parts, Kind::Branch)?;
+    push_symbol(parts, Kind::Input, input.at, text)?;
+    push_transition(alloc, parts, names, &input.transition)
+}
+
+/// A SAVE behind the parts that there are.
+fn push_save(
+    alloc: Global,
+    parts: &mut Vec<Part>,
+    names: &Names<'_, '_>,
+    ids: &[Identifier],
+) -> Result<(), AllocError>
+    ensures { OnOk result (map part_of parts.new.items ≡ map part_of parts.old.items ++ save_parts (block_of names.now.block.now) (process_of names.now.process.now) ids.now) }
+{
+    let mut text = Vec::new(alloc);
+    push_triggers(&mut text, names, ids)?;
+    push_mark(alloc, parts, Kind::Branch)?;
+    push_symbol(parts, Kind::Save, first_place(ids), text)
+}
+
+/// An INPUT or a SAVE behind the parts that there are.
+fn push_clause(
+    alloc: Global,
+    parts: &mut Vec<Part>,
+    names: &Names<'_, '_>,
+    clause: &StateClause,
+) -> Result<(), AllocError>
+    ensures { OnOk result (map part_of parts.new.items ≡ map part_of parts.old.items ++ clause_parts (block_of names.now.block.now) (process_of names.now.process.now) (clause_of clause.now)) }
+{
+    match clause {
+        StateClause::Input(input) => push_input(alloc, parts, names, input),
+        StateClause::Save(ids) => push_save(alloc, parts, names, ids),
+    }
+}
+
+/// What the states of a STATE part do, behind the parts that there are.
+fn push_clauses(
+    alloc: Global,
+    parts: &mut Vec<Part>,
+    names: &Names<'_, '_>,
+    clauses: &[StateClause],
+) -> Result<(), AllocError>
+    ensures { OnOk result (map part_of parts.new.items ≡ map part_of parts.old.items ++ flat_map (clause_parts (block_of names.now.block.now) (process_of names.now.process.now)) (map clause_of clauses.now)) }
+{
+    for clause in clauses {
+        push_clause(alloc, parts, names, clause)?;
+    }
+    Ok(())
+}
+
+/// The names of a STATE part, and where it forks, behind the parts that there are.
+fn push_state_head(
+    alloc: Global,
+    parts: &mut Vec<Part>,
+    names: &Names<'_, '_>,
+    ids: &[Identifier],
+) -> Result<(), AllocError>
+    ensures { OnOk result (map part_of parts.new.items ≡ map part_of parts.old.items ++ state_head (process_of names.now.process.now) ids.now) }
+{
+    let mut text = Vec::new(alloc);
+    push_names(&mut text, names.process.states(), ids, b",\n")?;
+    push_symbol(parts, Kind::State, first_place(ids), text)?;
+    push_mark(alloc, parts, Kind::Fork)
+}
+
+/// A STATE part behind the parts that there are.
+pub fn push_state(
+    alloc: Global,
+    parts: &mut Vec<Part>,
+    names: &Names<'_, '_>,
+    state: &StatePart,
+) -> Result<(), AllocError>
+    ensures { OnOk result (map part_of parts.new.items ≡ map part_of parts.old.items ++ state_parts (block_of names.now.block.now) (process_of names.now.process.now) (state_of state.now)) }
+{
+    push_state_head(alloc, parts, names, &state.names)?;
+    push_clauses(alloc, parts, names, &state.clauses)?;
+    push_mark(alloc, parts, Kind::Meet)
+}
+
+/// START behind the parts that there are.
+pub fn push_start(
+    alloc: Global,
+    parts: &mut Vec<Part>,
+    names: &Names<'_, '_>,
+    start: &Start,
+) -> Result<(), AllocError>
+    ensures { OnOk result (map part_of parts.new.items ≡ map part_of parts.old.items ++ start_parts (block_of names.now.block.now) (process_of names.now.process.now) (start_of start.now)) }
+{
+    push_symbol(parts, Kind::Start, start.at, Vec::new(alloc))?;
+    push_transition(alloc, parts, names, &start.transition)
+}
+
+/// A CONNECTION behind the parts that there are.
+pub fn push_connection(
+    alloc: Global,
+    parts: &mut Vec<Part>,
+    names: &Names<'_, '_>,
+    connection: &Connection,
+) -> Result<(), AllocError>
+    ensures { OnOk result (map part_of parts.new.items ≡ map part_of parts.old.items ++ connection_parts (block_of names.now.block.now) (process_of names.now.process.now) (connection_of connection.now)) }
+{
+    let text = Vec::from_slice(alloc, connection.name.name.as_bytes())?;
+    push_symbol(parts, Kind::Connector, connection.at, text)?;
+    push_transition(alloc, parts, names, &connection.transition)
+}
+
+/// The STATE parts of a process behind the parts that there are.
+fn push_states(
+    alloc: Global,
+    parts: &mut Vec<Part>,
+    names: &Names<'_, '_>,
+    states: &[StatePart],
+) -> Result<(), AllocError>
+    ensures { OnOk result (map part_of parts.new.items ≡ map part_of parts.old.items ++ flat_map (state_parts (block_of names.now.block.now) (process_of names.now.process.now)) (map state_of states.now)) }
+{
+    for state in states {
+        push_state(alloc, parts, names, state)?;
+    }
+    Ok(())
+}
+
+/// The CONNECTIONs of a process behind the parts that there are.
+fn push_connections(
+    alloc: Global,
+    parts: &mut Vec<Part>,
+    names: &Names<'_, '_>,
+    connections: &[Connection],
+) -> Result<(), AllocError>
+    ensures { OnOk result (map part_of parts.new.items ≡ map part_of parts.old.items ++ flat_map (connection_parts (block_of names.now.block.now) (process_of names.now.process.now)) (map connection_of connections.now)) }
+{
+    for connection in connections {
+        push_connection(alloc, parts, names, connection)?;
+    }
+    Ok(())
+}
+
+/// The parts of a process: START, the STATE parts and the CONNECTIONs, each in the order of the text.
+pub fn process_parts(alloc: Global, names: &Names<'_, '_>) -> Result<Vec<Part>, AllocError>
+    ensures { IfOk result (λ v. map part_of v.items ≡ process_parts (block_of names.now.block.now) (process_of names.now.process.now)) }
+{
+    let process = names.process.process();
+    let mut parts = Vec::new(alloc);
+    push_start(alloc, &mut parts, names, &process.start)?;
+    push_states(alloc, &mut parts, names, &process.states)?;
+    push_connections(alloc, &mut parts, names, &process.connections)?;
+    Ok(parts)
+}

@@ -1,0 +1,4 @@
+pub mod Exchanging
+pub mod Recalling
+pub mod Reporting
+pub mod Tapped

@@ -1,0 +1,4 @@
+pub mod Capturing
+pub mod Records
+pub mod Repeats
+pub mod Tapping

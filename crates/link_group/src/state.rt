@@ -1,0 +1,83 @@
+//! What a link is, as level 3 sees it.
+ghost use Rattle.std.specs.Prelude.{◌≡◌, slice_get};
+ghost use Rattle.group_changeover.specs.Saying.{count_in};
+ghost use Rattle.group_members.specs.Links.{read_at};
+ghost use Rattle.link_group.specs.Stating.{waited_in, answer_in, state_of};
+
+use crate::group::Group;
+use group_changeover::{Answer, Changing};
+use group_members::Link;
+
+/// What a link is.
+#[derive(Clone, Copy, Debug, PartialEq, Eq)]
+pub struct LinkState {
+    /// It is in service, by what was told last.
+    pub in_service: bool,
+    /// Its changeover began, and nothing was rebalanced since.
+    pub failed: bool,
+    /// It gives no message for the line and accepts none (Q.704, changeover).
+    pub held: bool,
+    /// It is in changeover, since so many ticks.
+    pub changeover: Option<u64>,
+    /// What the far side told in that: how many of the messages that are kept it accepted, or that this isn't known.
+    pub answer: Option<Answer>,
+    /// It was started while it was out of service, and hasn't come into service since.
+    pub anew: bool,
+    /// The far side's processor is out.
+    pub far_out: bool,
+    /// This side's processor is out.
+    pub own_out: bool,
+    /// Messages may go out on the line: its actors say so, and it isn't held.
+    pub carrying: bool,
+    /// Level 3 admits it to selections and to what other links hand out.
+    pub admitted: bool,
+}
+
+fn waited_in(changing: Option<Changing>) -> Option<u64>
+    ensures { result ≡ waited_in changing }
+{
+    match changing {
+        Some(changing) => Some(changing.waited),
+        None => None,
+    }
+}
+
+fn answer_in(changing: Option<Changing>) -> Option<Answer>
+    ensures { result ≡ answer_in changing }
+{
+    match changing {
+        Some(changing) => changing.answer,
+        None => None,
+    }
+}
+
+fn state_of(link: &Link) -> LinkState
+    ensures { result ≡ state_of link.now }
+{
+    let marks = link.availability;
+    let held = link.terminal.holding().is_held();
+    LinkState {
+        in_service: link.terminal.in_service(),
+        failed: marks.failed,
+        held,
+        changeover: waited_in(marks.changing),
+        answer: answer_in(marks.changing),
+        anew: marks.anew,
+        far_out: link.terminal.far_out(),
+        own_out: link.is_own_out(),
+        carrying: link.gives_messages() && !held,
+        admitted: marks.admitted,
+    }
+}
+
+impl Group {
+    /// What a link is, if it is there.
+    pub fn state(&self, link: usize) -> Option<LinkState>
+        ensures { result ≡ read_at state_of (slice_get self.now.links link) }
+    {
+        match self.links.get(link) {
+            Some(link) => Some(state_of(link)),
+            None => None,
+        }
+    }
+}

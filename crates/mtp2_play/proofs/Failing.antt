@@ -1,0 +1,82 @@
+-- What is said of a command that failed, however far it came.
+use Rattle.std.proofs.Common.{◌≡◌, ◌⊎◌, ℕ, List, [], ◌∷◌, Option, None, inl, inr, refl, sym, subst, arith}
+use Rattle.mtp2_line.specs.Filters.{Line as Octets}
+use Rattle.mtp2_words.specs.declared.words.Named.{Named}
+use Rattle.mtp2_words.specs.declared.words.Request.{Request}
+use Rattle.mtp2_words.specs.declared.words.Request.TheVariants.{Check, Play, Soak, Line, Frame, Draw}
+use Rattle.mtp2_play.specs.Printed.{AreCheckedAll, IsAnswered}
+use Rattle.mtp2_play.specs.Served.{WasAnswered}
+
+not_done : {A : Type 0} → ◌≡◌ {A = ℕ} 4 0 → A
+not_done h = absurd (omega (arith, h))
+
+not_missed : {A : Type 0} → ◌≡◌ {A = ℕ} 4 1 → A
+not_missed h = absurd (omega (arith, h))
+
+not_refused : {A : Type 0} → ◌≡◌ {A = ℕ} 4 2 → A
+not_refused h = absurd (omega (arith, h))
+
+-- a check of sets that failed
+sets_failed : (sets : List Named) (old new : Option (List ℕ)) → AreCheckedAll sets 4 old new
+sets_failed sets old new = record {
+  one = λ set is. record { costs = not_done; refusal = not_refused; ends = inr (inr refl) };
+  ends = inr (inr refl);
+}
+
+-- it failed, so no more is said of it than that what it wrote on a line is a beginning
+pub failed : (request : Request) (status : ℕ) (old new : Octets) → IsAnswered request status old new → IsAnswered request 4 old new
+failed (Check sets) status old new are = sets_failed sets.items old.written new.written
+failed (Play set script) status old new are = record { held = not_done; missed = not_missed; refused = not_refused }
+failed (Soak script workers) status old new are = record {
+  held = not_done;
+  differs = not_missed;
+  refused = not_refused;
+  served = λ h. elim h [ inl done ↦ not_done done | inr missed ↦ not_missed missed ];
+}
+failed (Line set end) status old new are = record {
+  spoke = not_done;
+  begun = are.begun;
+  refused = not_refused;
+  untouched = not_refused;
+  ends = inr (inr refl);
+}
+failed (Frame octets) status old new are = record { held = not_done; refused = not_refused; ends = inr (inr refl) }
+failed (Draw set process states) status old new are = inr (inr refl)
+
+-- it failed before anything was read or written
+pub not_begun : (request : Request) (there : Octets) → IsAnswered request 4 there there
+not_begun (Check sets) there = sets_failed sets.items there.written there.written
+not_begun (Play set script) there = record { held = not_done; missed = not_missed; refused = not_refused }
+not_begun (Soak script workers) there = record {
+  held = not_done;
+  differs = not_missed;
+  refused = not_refused;
+  served = λ h. elim h [ inl done ↦ not_done done | inr missed ↦ not_missed missed ];
+}
+not_begun (Line set end) there = record {
+  spoke = not_done;
+  begun = inl refl;
+  refused = not_refused;
+  untouched = not_refused;
+  ends = inr (inr refl);
+}
+not_begun (Frame octets) there = record { held = not_done; refused = not_refused; ends = inr (inr refl) }
+not_begun (Draw set process states) there = inr (inr refl)
+
+pub was_run : (request : Request) (status : ℕ) (old new : Octets) → IsAnswered request status old new → WasAnswered request status
+was_run request status old new are = record { old = old; new = new; answered = are }
+
+-- it is over, or something failed behind it
+pub over_or_failed : (request : Request) (status result : ℕ) (old new : Octets) → IsAnswered request status old new → (result ≡ status) ⊎ (result ≡ 4)
+    → WasAnswered request result
+over_or_failed request status result old new are ends = elim ends [
+  | inl same ↦ (let P : ℕ → Type 0 = λ n. IsAnswered request n old new in was_run request result old new (subst P (sym same) are))
+  | inr four ↦ (let P : ℕ → Type 0 = λ n. IsAnswered request n old new in was_run request result old new (subst P (sym four) (failed request status old new are)))
+]
+
+-- it failed before anything was read or written
+pub failed_before : (request : Request) (result : ℕ) → result ≡ 4 → WasAnswered request result
+failed_before request result four =
+    let there : Octets = record { read = None; written = None } in
+    let P : ℕ → Type 0 = λ n. IsAnswered request n there there in
+    was_run request result there there (subst P (sym four) (not_begun request there))

@@ -1,0 +1,62 @@
+//! The command `draw` on the set that the command line names.
+ghost use Rattle.std.specs.Prelude.{◌≡◌, ◌⊎◌};
+
+use crate::sets::{STDIN, own_set};
+use draw_sets::{Picture, draw};
+use mtp2_words::Named;
+use plain_text::{NamedReader, Teller};
+use script_check::{FAILED, SetWord};
+use std::alloc::Global;
+use std::fs;
+use std::io::Write;
+use std::rt::Runtime;
+
+/// What is to be drawn, by the words for it.
+pub fn picture_of(process: Option<&str>, states: bool) -> Picture<'_> {
+    match process {
+        Some(name) => {
+            if states {
+                Picture::States(name)
+            } else {
+                Picture::Flow(name)
+            }
+        }
+        None => Picture::Block,
+    }
+}
+
+/// Draws a set of the program's own.
+fn draw_own<W: Write>(alloc: Global, set: &Named<'_>, picture: &Picture<'_>, writer: &mut W) -> u8
+    ensures { (result ≡ 0) ⊎ (result ≡ 2) ⊎ (result ≡ 4) }
+{
+    match own_set(set) {
+        Some(own) => draw(alloc, own, picture, writer),
+        None => FAILED,
+    }
+}
+
+/// Runs `draw` on the set that the command line names.
+pub fn run_draw<R: Runtime + AllocGlobal, H: Eprint, W: Write>(
+    rt: &R,
+    teller: &Teller<'_, H>,
+    set: Named<'_>,
+    picture: &Picture<'_>,
+    writer: &mut W,
+) -> u8
+    ensures { (result ≡ 0) ⊎ (result ≡ 2) ⊎ (result ≡ 4) }
+{
+    match set {
+        Named::Standard | Named::Monitors => draw_own(rt.alloc(), &set, picture, writer),
+        Named::Stdin => {
+            let text = NamedReader::new(teller, STDIN, rt.reader());
+            draw(rt.alloc(), SetWord::Text(text), picture, writer)
+        }
+        Named::File(path) => match fs::open(rt, path) {
+            Ok(file) => {
+                let text = NamedReader::new(teller, path, file);
+                draw(rt.alloc(), SetWord::Text(text), picture, writer)
+            }
+            Err(error) => teller.fail(path, &error),
+        },
+    }
+}

@@ -1,0 +1,72 @@
+-- The word at which a refusal points.
+use Rattle.std.specs.Prelude.{◌≡◌, ℕ, ◌+◌, ◌==◌, if◌then◌else◌, List, [], ◌∷◌, Option, Some, None}
+use Rattle.std.specs.Prelude.{option_map, MatchOption, Ok, codes, string_bytes}
+use Rattle.sdl_lex.specs.Lexed.{Answers}
+use Rattle.sdl_lex.specs.Printed as lexis
+use Rattle.sdl_tree.specs.Printed as parser
+use Rattle.sdl_sound.specs.Printed as rules
+use Rattle.sdl_tree.specs.declared.fault.ParseFault.{ParseFault}
+use Rattle.sdl_tree.specs.declared.fault.ParseFault.TheVariants as parsing
+use Rattle.sdl_lex.specs.declared.lexemes.Token.{Token}
+use Rattle.sdl_lex.specs.declared.lexemes.LexFault.{LexFault}
+use Rattle.sdl_lex.specs.declared.lexemes.LexFault.TheVariants.{BadCharacter, OpenComment, TooLong}
+use Rattle.sdl_lex.specs.declared.lexemes.LexFault.TheVariants.{NoMemory as no_tokens}
+use Rattle.script_point.specs.Pointed.{bare_text, IsPointed}
+use Rattle.script_point.specs.declared.notes.Notes.{Notes}
+use Rattle.script_point.specs.declared.shown.Word.{Word}
+use Rattle.mtp2_text.specs.Loaded.{token_place, rule_place}
+use Rattle.mtp2_text.specs.turn_verify_types.loading.LoadFault.{LoadFault}
+use Rattle.mtp2_text.specs.turn_verify_types.loading.LoadFault.TheVariants.{Lex, Parse, Rule}
+use Rattle.mtp2_text.specs.turn_verify_types.loading.LoadFault.TheVariants.{NoMemory}
+
+-- where the token ends that begins at a place; one byte further where none does
+abbrev pub token_end : List Token → ℕ → ℕ
+token_end [] place = place + 1
+token_end (t ∷ ts) place = if t.start == place then t.end else token_end ts place
+
+-- the token that begins at a place
+abbrev pub token_word : List Token → ℕ → Word
+token_word tokens place = record { start = place; end = token_end tokens place }
+
+-- the byte at which a fault of the lexis begins
+abbrev pub lex_word : LexFault → Option Word
+lex_word (BadCharacter place) = Some (record { start = place; end = place + 1 })
+lex_word (OpenComment place) = Some (record { start = place; end = place + 1 })
+lex_word (TooLong place) = Some (record { start = place; end = place + 1 })
+lex_word no_tokens = None
+
+-- the token at which no reading goes on, or the first one of a statement that is too high
+abbrev pub parse_word : List Token → ParseFault → Option Word
+parse_word tokens (parsing.Unexpected index) = Some (token_word tokens (token_place tokens index))
+parse_word tokens (parsing.TooDeep place) = Some (token_word tokens place)
+parse_word tokens parsing.NoMemory = None
+
+-- The word at which a refusal of a text with these tokens points: the one at the place that the
+-- refusal names.
+abbrev pub word_of : List Token → LoadFault → Option Word
+word_of tokens (Lex fault line) = lex_word fault
+word_of tokens (Parse fault line) = parse_word tokens fault
+word_of tokens (Rule fault line) = option_map (token_word tokens) (rule_place fault)
+word_of tokens NoMemory = None
+
+-- what is wrong, without its line
+abbrev pub name_text : LoadFault → List ℕ
+name_text (Lex fault line) = lexis.fault_text fault
+name_text (Parse fault line) = parser.fault_text fault
+name_text (Rule fault line) = rules.fault_text fault
+name_text NoMemory = codes "out of memory"
+
+-- the lines that point at a refusal of a text with these tokens; without a place there is one line
+abbrev pub IsShown : List ℕ → List Token → LoadFault → Notes → List ℕ → Type 0
+IsShown text tokens fault notes lines =
+    MatchOption (word_of tokens fault)
+    (lines ≡ bare_text (name_text fault) (string_bytes notes.said))
+    (λ word. IsPointed text word (name_text fault) notes lines)
+
+-- The lines point at the word at which the refusal of the text does, and say of it whatever they
+-- do.
+pub record IsPointedOut (text : List ℕ) (fault : LoadFault) (lines : List ℕ) : Type 0 where
+  pub tokens : List Token
+  pub are_all : (ts : List Token) → Answers text (Ok ts) → ts ≡ tokens
+  pub notes : Notes
+  pub shown : IsShown text tokens fault notes lines

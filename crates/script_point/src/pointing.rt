@@ -1,0 +1,50 @@
+//! A refusal, pointed at in the text.
+ghost use Rattle.std.specs.Prelude.{◌≡◌, List, Ok, IfOk};
+ghost use Rattle.sdl_lex.specs.Lexed.{Answers};
+ghost use Rattle.sdl_lex.specs.declared.lexemes.Token as lexeme;
+ghost use Rattle.script_point.specs.Pointing.{IsPointedOut, IsShown};
+
+use crate::notes::Notes;
+use crate::shown::{point, point_nowhere};
+use crate::words::{Bare, word_of};
+use mtp2_text::LoadFault;
+use sdl_lex::{LexFault, Token, tokens};
+use std::alloc::{AllocError, Global};
+
+/// The tokens of a text, or none where it has none.
+fn tokens_of(alloc: Global, text: &str) -> Result<Vec<Token>, AllocError>
+    ensures { IfOk result (λ v. (ts : List lexeme.Token) → Answers text.now (Ok ts) → ts ≡ v.items) }
+{
+    match tokens(alloc, text) {
+        Ok(tokens) => Ok(tokens),
+        Err(LexFault::NoMemory) => Err(AllocError),
+        Err(_) => Ok(Vec::new(alloc)),
+    }
+}
+
+/// The lines of a refusal of a text with these tokens.
+fn show(
+    alloc: Global,
+    text: &str,
+    tokens: &[Token],
+    fault: &LoadFault,
+    notes: &Notes,
+) -> Result<Vec<u8>, AllocError>
+    ensures { IfOk result (λ v. IsShown text.now tokens.now fault.now notes.now v.items) }
+{
+    let name = format!(in alloc; "{}", Bare(fault))?;
+    match word_of(tokens, fault) {
+        Some(word) => point(alloc, text.as_bytes(), word, name.as_str(), notes),
+        None => point_nowhere(alloc, name.as_str(), notes.said.as_str()),
+    }
+}
+
+/// Points at a refusal in its text: where it is, what it is, the line of the text and carets under the word, as `point` says; the name of the
+/// text's file is to stand in front. Where a refusal has no place (S10, S11) there is one line alone, without line and column.
+pub fn point_out(alloc: Global, text: &str, fault: &LoadFault) -> Result<Vec<u8>, AllocError>
+    ensures { IfOk result (λ v. IsPointedOut text.now fault.now v.items) }
+{
+    let tokens = tokens_of(alloc, text)?;
+    let notes = Notes::new(alloc);
+    show(alloc, text, &tokens, fault, &notes)
+}

@@ -1,0 +1,117 @@
+//! The words of a text at which refusals point.
+ghost use Rattle.std.specs.Prelude.{◌≡◌, option_map, Some};
+ghost use Rattle.mtp2_text.specs.Loaded.{token_place, rule_place};
+ghost use Rattle.script_point.specs.Pointing.{token_end, token_word, lex_word, parse_word, word_of, name_text};
+
+use crate::shown::Word;
+use mtp2_text::LoadFault;
+use sdl_lex::{LexFault, Token};
+use sdl_sound::RuleFault;
+use sdl_tree::ParseFault;
+use std::fmt;
+
+/// Where the token ends that begins at a place; one byte further where none does.
+#[tactic(auto, using(crate::proofs::TokenEnds::skipped, crate::proofs::TokenEnds::found))]
+fn token_end(tokens: &[Token], place: u32) -> usize
+    ensures { result ≡ token_end tokens.now place }
+{
+    for token in tokens {
+        if token.start == place {
+            return token.end as usize;
+        }
+    }
+    place as usize + 1
+}
+
+/// The token that begins at a place.
+fn token_word(tokens: &[Token], place: u32) -> Word
+    ensures { result ≡ token_word tokens.now place }
+{
+    Word {
+        start: place as usize,
+        end: token_end(tokens, place),
+    }
+}
+
+/// The place of the token with an index, of the last one where they end before it, 0 where there is none.
+fn token_place(tokens: &[Token], index: usize) -> u32
+    ensures { result ≡ token_place tokens.now index }
+{
+    match tokens.get(index.min(tokens.len().saturating_sub(1))) {
+        Some(token) => token.start,
+        None => 0,
+    }
+}
+
+/// The byte at which a fault of the lexis begins.
+fn lex_word(fault: LexFault) -> Option<Word>
+    ensures { result ≡ lex_word fault }
+{
+    match fault {
+        LexFault::BadCharacter(place) | LexFault::OpenComment(place) | LexFault::TooLong(place) => {
+            Some(Word {
+                start: place as usize,
+                end: place as usize + 1,
+            })
+        }
+        LexFault::NoMemory => None,
+    }
+}
+
+/// The token at which no reading goes on, or the first one of a statement that is too high.
+fn parse_word(tokens: &[Token], fault: ParseFault) -> Option<Word>
+    ensures { result ≡ parse_word tokens.now fault }
+{
+    match fault {
+        ParseFault::Unexpected(index) => Some(token_word(tokens, token_place(tokens, index))),
+        ParseFault::TooDeep(place) => Some(token_word(tokens, place)),
+        ParseFault::NoMemory => None,
+    }
+}
+
+/// The token where a rule is broken, if it is broken at a place.
+fn rule_word(tokens: &[Token], fault: &RuleFault) -> Option<Word>
+    ensures { result ≡ option_map (token_word tokens.now) (rule_place fault.now) }
+{
+    match fault {
+        RuleFault::DoubleName(place)
+        | RuleFault::UnknownName(place)
+        | RuleFault::WrongSort(place)
+        | RuleFault::NoState(place)
+        | RuleFault::NoReceiver(place)
+        | RuleFault::TwoReceivers(place)
+        | RuleFault::JoinCycle(place)
+        | RuleFault::NoAnswer(place)
+        | RuleFault::BadDivisor(place) => Some(token_word(tokens, *place)),
+        RuleFault::Limit(_) | RuleFault::Unset { .. } | RuleFault::NoMemory => None,
+    }
+}
+
+/// The word at which a refusal of a text with these tokens points, if it has a place.
+pub fn word_of(tokens: &[Token], fault: &LoadFault) -> Option<Word>
+    ensures { result ≡ word_of tokens.now fault.now }
+{
+    match fault {
+        LoadFault::Lex { fault, .. } => lex_word(*fault),
+        LoadFault::Parse { fault, .. } => parse_word(tokens, *fault),
+        LoadFault::Rule { fault, .. } => rule_word(tokens, fault),
+        LoadFault::NoMemory => None,
+    }
+}
+
+/// A refusal without its line.
+#[derive(Clone, Copy)]
+pub struct Bare<'a>(pub &'a LoadFault);
+
+impl fmt::Display for Bare<'_> {
+    ghost output = { λ b. Some (name_text b.0.now) };
+
+    fn fmt<W: fmt::Write>(&self, f: &mut fmt::Formatter<W>) -> fmt::Result {
+        match self.0 {
+            LoadFault::Lex { fault, .. } => fmt::Display::fmt(fault, f),
+            LoadFault::Parse { fault, .. } => fmt::Display::fmt(fault, f),
+            LoadFault::Rule { fault, .. } => fmt::Display::fmt(fault, f),
+            LoadFault::NoMemory => f.write_str("out of memory"),
+        }
+    }
+}

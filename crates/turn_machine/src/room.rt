@@ -1,0 +1,156 @@
+//! Rooms, where turns are made, run and ended.
+
+ghost use Rattle.std.specs.Prelude.{◌≡◌, ◌↔◌, IsTrue, IfSome, IfNone};
+ghost use Rattle.turn_code.specs.Fits.{Fits};
+ghost use Rattle.turn_machine.specs.Rooms.{Free, Begun, Ran, ran, IsToRun, HasRun, EndedSo, LiesBegun};
+
+use crate::ended::{Ended, run_work};
+use crate::work::Work;
+use std::marker::Model;
+use turn_check::{Sorts, Verified};
+use turn_code::{Input, Place, ProcessNumber};
+
+/// What a room has.
+#[derive(Clone, Copy, PartialEq, Eq, Debug)]
+pub enum Held {
+    /// Nothing.
+    Nothing,
+    /// A turn that is to run.
+    Begun,
+    /// A turn that ran.
+    Ran,
+}
+
+/// Where a worker has its turns, one after another: each is made there, runs there and is ended from there, and isn't moved. It takes no memory.
+#[derive(Drop)]
+pub struct Room {
+    held: Held,
+    work: Work,
+    sorts: Sorts,
+    ended: Ended,
+}
+
+impl Model for Room {
+    ghost use Rattle.turn_machine.specs.Rooms.{Lying, lying, IsRoom};
+
+    ghost Value = { Lying };
+
+    ghost view = { λ r. lying r.held r.work };
+
+    ghost invariant = { λ r. IsRoom r.held r.work r.sorts r.ended };
+}
+
+impl Room {
+    /// A free room.
+    pub fn new() -> Room
+        ensures { result ≡ Free }
+    {
+        Room {
+            held: Held::Nothing,
+            work: Work::none(),
+            sorts: Sorts {
+                parameters: [0; 128],
+                variables: 0,
+            },
+            ended: Ended::none(),
+        }
+    }
+
+    /// Whether nothing lies there.
+    pub fn is_free(&self) -> bool
+        ensures { IsTrue result ↔ (self.now ≡ Free) }
+    {
+        match self.held {
+            Held::Nothing => true,
+            Held::Begun => false,
+            Held::Ran => false,
+        }
+    }
+
+    /// Makes the job of an actor in a turn there: input `input_number` at a place of a process, on an input that fits it. The room is free; it keeps the code
+    /// and the sorts of what that names, and the input, by value.
+    pub fn begin(
+        &mut self,
+        verified: &Verified,
+        actor: u16,
+        turn: u64,
+        process: ProcessNumber,
+        place: Place,
+        input_number: usize,
+        input: &Input,
+    )
+        requires free { self.old ≡ Free }
+        requires fits { Fits verified.now process.0 place input_number input.now }
+        ensures { LiesBegun verified.now actor turn process place input_number input.now self.new }
+    {
+        let _ = verified.draft();
+        match verified.transition(process, place, input_number) {
+            Some(transition) => {
+                self.work.become_turn(
+                    actor,
+                    turn,
+                    process,
+                    place,
+                    input_number,
+                    transition.piece,
+                    input,
+                );
+                self.sorts = verified.sorts(process);
+                self.held = Held::Begun;
+            }
+            None => unreachable!(),
+        }
+    }
+
+    /// Runs the turn that lies there, where one is to run, to its end. It is never refused.
+    pub fn run(&mut self)
+        ensures { self.new ≡ ran self.old }
+    {
+        match self.held {
+            Held::Nothing => {}
+            Held::Begun => {
+                run_work(&self.work, &self.sorts, &mut self.ended);
+                self.held = Held::Ran;
+            }
+            Held::Ran => {}
+        }
+    }
+
+    /// The turn that lies there and is to run, if one is.
+    pub fn begun(&self) -> Option<&Work>
+        ensures some { IfSome result (λ work. self.now ≡ Begun work.now) }
+        ensures none { IfNone result (IsToRun self.now → ⊥) }
+    {
+        match self.held {
+            Held::Nothing => None,
+            Held::Begun => Some(&self.work),
+            Held::Ran => None,
+        }
+    }
+
+    /// The turn that ran there, if one did.
+    pub fn ran(&self) -> Option<&Work>
+        ensures some { IfSome result (λ work. self.now ≡ Ran work.now) }
+        ensures none { IfNone result (HasRun self.now → ⊥) }
+    {
+        match self.held {
+            Held::Nothing => None,
+            Held::Begun => None,
+            Held::Ran => Some(&self.work),
+        }
+    }
+
+    /// How the turn that ran there ended; of no meaning where none did.
+    pub fn ended(&self) -> &Ended
+        ensures { EndedSo self.now result.now }
+    {
+        &self.ended
+    }
+
+    /// Nothing lies there any more.
+    pub fn clear(&mut self)
+        ensures { self.new ≡ Free }
+    {
+        self.held = Held::Nothing;
+    }
+}
