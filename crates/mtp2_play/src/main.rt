@@ -176,7 +176,7 @@ fn run_play<R: Runtime + AllocGlobal, H: Eprint, W: Write>(
     ensures status { (result ≡ 0) ⊎ (result ≡ 1) ⊎ (result ≡ 2) ⊎ (result ≡ 4) }
 {
     match set {
-        Named::Standard | Named::Monitors => play_own(rt, teller, set, script, writer),
+        Named::Standard | Named::Q703 | Named::Monitors => play_own(rt, teller, set, script, writer),
         Named::Stdin => {
             let text = NamedReader::new(teller, STDIN, rt.reader());
             play_text(rt, teller, set_word(&set), text, script, writer)

@@ -5,7 +5,7 @@ use Rattle.std.specs.Int.{is_in_range}
 use Rattle.plain_limits.specs.Limits.{LEAST_WORKERS, MOST_WORKERS}
 use Rattle.script_lines.specs.Numbers.{count_of}
 use Rattle.mtp2_words.specs.declared.words.Named.{Named}
-use Rattle.mtp2_words.specs.declared.words.Named.TheVariants.{Standard, Monitors, Stdin, File}
+use Rattle.mtp2_words.specs.declared.words.Named.TheVariants.{Standard, Q703, Monitors, Stdin, File}
 use Rattle.mtp2_words.specs.declared.words.Source.{Source}
 use Rattle.mtp2_words.specs.declared.words.Source.TheVariants.{Stdin as stdin, File as script_file}
 use Rattle.mtp2_words.specs.declared.words.Request.{Request}
@@ -15,12 +15,14 @@ use Rattle.mtp2_words.specs.declared.words.Request.TheVariants.{Draw}
 -- a file may have any name but these
 pub record IsFileName (word : List ℕ) : Type 0 where
   pub not_standard : word ≡ codes "standard" → ⊥
+  pub not_q703 : word ≡ codes "q703" → ⊥
   pub not_monitors : word ≡ codes "monitors" → ⊥
   pub not_stdin : word ≡ codes "stdin" → ⊥
 
 -- the set that a word names
 abbrev pub IsNamed : Named → List ℕ → Type 0
 IsNamed Standard word = word ≡ codes "standard"
+IsNamed Q703 word = word ≡ codes "q703"
 IsNamed Monitors word = word ≡ codes "monitors"
 IsNamed Stdin word = word ≡ codes "stdin"
 IsNamed (File path) word = (path.now ≡ word) × IsFileName word
@@ -69,6 +71,7 @@ IsSoak script_word workers_word (Draw set process states) = ⊥
 -- the set that a word names for a terminal on a line: standard input is the line, and no text
 abbrev pub IsTextNamed : Named → List ℕ → Type 0
 IsTextNamed Standard word = word ≡ codes "standard"
+IsTextNamed Q703 word = word ≡ codes "q703"
 IsTextNamed Monitors word = word ≡ codes "monitors"
 IsTextNamed Stdin word = ⊥
 IsTextNamed (File path) word = (path.now ≡ word) × IsFileName word

@@ -19,6 +19,8 @@ use std::alloc::{AllocError, Global};
 pub enum Named<'a> {
     /// `standard`: a set of the program's own.
     Standard,
+    /// `q703`: a set of the program's own.
+    Q703,
     /// `monitors`: a set of the program's own.
     Monitors,
     /// `stdin`: standard input.
@@ -76,6 +78,7 @@ fn set_named(word: &str) -> Named<'_>
 {
     match word {
         "standard" => Named::Standard,
+        "q703" => Named::Q703,
         "monitors" => Named::Monitors,
         "stdin" => Named::Stdin,
         path => Named::File(path),
@@ -144,6 +147,7 @@ fn text_named(word: &str) -> Option<Named<'_>>
 {
     match word {
         "standard" => Some(Named::Standard),
+        "q703" => Some(Named::Q703),
         "monitors" => Some(Named::Monitors),
         "stdin" => None,
         path => Some(Named::File(path)),

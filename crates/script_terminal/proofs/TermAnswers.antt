@@ -4,7 +4,7 @@ use Rattle.std.specs.Prelude.{◌⊎◌, ◌↔◌, codes, if◌then◌else◌, 
 use Rattle.std.specs.Fmt.{decimal}
 use Rattle.std.proofs.Math.Seq.{drop-nil}
 use Rattle.std.proofs.lemmas.Bool.{cases_lt}
-use Rattle.std.proofs.lemmas.List.{take-append-drop, drop-drop}
+use Rattle.std.proofs.lemmas.List.{take-append-drop, take_all, drop-drop}
 use Rattle.resend_store.specs.Limits.{MOST_WAITING}
 use Rattle.resend_store.specs.Window.{waiting, with_put}
 use Rattle.resend_store.specs.declared.refusals.PutError.{PutError}
@@ -29,7 +29,7 @@ use Rattle.link_term.specs.Hearing.{Heard}
 use Rattle.link_term.specs.declared.answers.CallError.{CallError}
 use Rattle.link_term.specs.declared.answers.CallError.TheVariants.{Refused, NoMemory}
 use Rattle.script_book.specs.Answers.{answer_text}
-use Rattle.script_terminal.specs.TermAnswers.{after_answer, IsAsked, IsRefusedLine, Puts, taken, full, IsMessageOf, IsPut, without_reports, TakesNoMore, Listens, done, part}
+use Rattle.script_terminal.specs.TermAnswers.{after_answer, IsAsked, IsRefusedLine, Puts, taken, full, IsMessageOf, IsPut, without_reports, TakesNoMore, Listens, done, part, Hears, heard_all, in_parts, Takes, TakesTimes, never, again}
 
 -- ---- events
 
@@ -201,3 +201,40 @@ part_more t m w u octets xs from n same some within heard stops without others =
 -- nothing is left
 pub listens_end : (t : Term) (octets : List ℕ) (from : ℕ) → length octets ≤ from → Listens t (drop from octets) t
 listens_end t octets from over = let P : List ℕ → Type 0 = λ xs. Listens t xs t in subst P (sym (nothing_behind from octets over)) (done t)
+
+-- ---- what is told is kept
+
+-- all octets were taken
+pub hears_all : (t u : Term) (octets : List ℕ) (n : ℕ) → n ≡ length octets → Heard t (take n octets) u → Hears t octets u
+hears_all t u octets n all heard =
+    let P : ℕ → Type 0 = λ k. Heard t (take k octets) u in
+    let Q : List ℕ → Type 0 = λ xs. Heard t xs u in
+    let least : length octets ≤ length octets = omega arith in
+    heard_all t u octets (subst Q (take_all (length octets) octets least) (subst P all heard))
+
+-- the terminal took no more, and what was told is dropped
+pub hears_part : (t m w u : Term) (octets xs : List ℕ) (n : ℕ) → n < length octets → Heard t (take n octets) m
+    → (n < length octets → TakesNoMore m) → w ≡ without_reports m → xs ≡ drop n octets → Hears w xs u → Hears t octets u
+hears_part t m w u octets xs n less heard stops without rest hears =
+    let P : List ℕ → Type 0 = λ ys. Hears t ys u in
+    let Q : Term → Type 0 = λ v. Hears v xs u in
+    let R : List ℕ → Type 0 = λ ys. Hears (without_reports m) ys u in
+    subst P (take-append-drop n octets) (in_parts t m u (take n octets) (drop n octets) heard (stops less) (subst R rest (subst Q without hears)))
+
+-- ---- so many times
+
+pub times_none : (keeps : Bool) (octets : List ℕ) (t : Term) → TakesTimes keeps octets 0 t t
+times_none keeps octets t = never t
+
+pub times_more : (keeps : Bool) (octets : List ℕ) (n : ℕ) (t m u : Term) → TakesTimes keeps octets n t m → Takes keeps m octets u
+    → TakesTimes keeps octets (n + 1) t u
+times_more keeps octets n t m u before takes =
+    let P : ℕ → Type 0 = λ k. TakesTimes keeps octets k t u in
+    let number : suc n ≡ n + 1 = omega arith in
+    subst P number (again n t m u before takes)
+
+pub times_all : (keeps : Bool) (octets : List ℕ) (n m : ℕ) (t u : Term) → n ≤ m → m ≤ n → TakesTimes keeps octets n t u → TakesTimes keeps octets m t u
+times_all keeps octets n m t u most least taken =
+    let P : ℕ → Type 0 = λ k. TakesTimes keeps octets k t u in
+    let number : n ≡ m = omega (arith, most, least) in
+    subst P number taken

@@ -2,8 +2,10 @@
 #![tactic(auto)]
 
 mod answers;
+mod hearing;
 mod orders;
 mod terminals;
+mod told;
 mod unit_line;
 
 pub use answers::{answer, message};
@@ -14,4 +16,5 @@ pub use script_book::{
     value_line, write_line,
 };
 pub use terminals::{play_terminal, refuse_set};
+pub use told::report_text;
 pub use unit_line::line_of_unit;
