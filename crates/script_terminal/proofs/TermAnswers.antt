@@ -1,10 +1,10 @@
 -- What commands make of a terminal.
-use Rattle.std.proofs.Common.{◌≡◌, ℕ, zero, suc, ◌+◌, ◌<◌, ◌≤◌, List, [], ◌∷◌, ◌++◌, length, take, drop, Option, None, Some, Result, Ok, Err, Bool, true, false, inl, inr, refl, sym, ap, subst, arith, ◌∙◌}
+use Rattle.std.proofs.Common.{◌≡◌, ℕ, zero, suc, ◌+◌, ◌-◌, ◌<◌, ◌≤◌, List, [], ◌∷◌, ◌++◌, length, take, drop, Option, None, Some, Result, Ok, Err, Bool, true, false, inl, inr, refl, sym, ap, subst, arith, ◌∙◌}
 use Rattle.std.specs.Prelude.{◌⊎◌, ◌↔◌, codes, if◌then◌else◌, slice_get, is_some}
 use Rattle.std.specs.Fmt.{decimal}
 use Rattle.std.proofs.Math.Seq.{drop-nil}
 use Rattle.std.proofs.lemmas.Bool.{cases_lt}
-use Rattle.std.proofs.lemmas.List.{take-append-drop, take_all, drop-drop}
+use Rattle.std.proofs.lemmas.List.{take-append-drop, take_all, drop-drop, length-drop}
 use Rattle.resend_store.specs.Limits.{MOST_WAITING}
 use Rattle.resend_store.specs.Window.{waiting, with_put}
 use Rattle.resend_store.specs.declared.refusals.PutError.{PutError}
@@ -220,6 +220,39 @@ hears_part t m w u octets xs n less heard stops without rest hears =
     let Q : Term → Type 0 = λ v. Hears v xs u in
     let R : List ℕ → Type 0 = λ ys. Hears (without_reports m) ys u in
     subst P (take-append-drop n octets) (in_parts t m u (take n octets) (drop n octets) heard (stops less) (subst R rest (subst Q without hears)))
+
+-- So far these octets were heard, with what was told dropped where the terminal took no more: all of
+-- them, or those before a place where it takes no more.
+pub record Hearing (t m : Term) (octets : List ℕ) (from : ℕ) : Type 0 where
+  pub within : from ≤ length octets
+  pub all : length octets ≤ from → Hears t octets m
+  pub others : from < length octets → (u : Term) → Hears (without_reports m) (drop from octets) u → Hears t octets u
+
+pub hearing_begun : (t m : Term) (octets : List ℕ) (n : ℕ) → n ≤ length octets → Heard t (take n octets) m → (n < length octets → TakesNoMore m)
+    → Hearing t m octets n
+hearing_begun t m octets n few heard stops = record {
+  within = few;
+  all = λ over. hears_all t m octets n (omega (arith, few, over)) heard;
+  others = λ less u hears. hears_part t m (without_reports m) u octets (drop n octets) n less heard stops refl refl hears;
+}
+
+pub hearing_on : (t m w v : Term) (octets xs : List ℕ) (from k : ℕ) → Hearing t m octets from → from < length octets → w ≡ without_reports m
+    → xs ≡ drop from octets → k ≤ length xs → Heard w (take k xs) v → (k < length xs → TakesNoMore v) → Hearing t v octets (from + k)
+hearing_on t m w v octets xs from k before less without same few heard stops =
+    let count : length xs ≡ length octets - from = ap length same ∙ length-drop from octets in
+    let P : Term → Type 0 = λ z. Hears z xs v in
+    let Q : List ℕ → Type 0 = λ ys. Hears (without_reports m) ys v in
+    record {
+      within = omega (arith, count, few, less);
+      all = λ over. before.others less v (subst Q same (subst P without (hears_all w v xs k (omega (arith, count, few, over, less)) heard)));
+      others = λ more u hears.
+          let rest : drop (from + k) octets ≡ drop k xs = sym (drop-drop k from octets) ∙ ap (drop k) (sym same) in
+          let R : List ℕ → Type 0 = λ ys. Hears (without_reports v) ys u in
+          let S : Term → Type 0 = λ z. Hears z xs u in
+          let T : List ℕ → Type 0 = λ ys. Hears (without_reports m) ys u in
+          before.others less u
+          (subst T same (subst S without (hears_part w v (without_reports v) u xs (drop k xs) k (omega (arith, count, more, less)) heard stops refl refl (subst R rest hears))));
+    }
 
 -- ---- so many times
 
