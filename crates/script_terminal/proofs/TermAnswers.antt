@@ -6,9 +6,11 @@ use Rattle.std.proofs.Math.Seq.{drop-nil}
 use Rattle.std.proofs.lemmas.Bool.{cases_lt}
 use Rattle.std.proofs.lemmas.List.{take-append-drop, take_all, drop-drop, length-drop}
 use Rattle.resend_store.specs.Limits.{MOST_WAITING}
-use Rattle.resend_store.specs.Window.{waiting, with_put}
+use Rattle.resend_store.specs.Window.{waiting, with_put, retrieved, count_known}
 use Rattle.resend_store.specs.declared.refusals.PutError.{PutError}
 use Rattle.resend_store.specs.declared.refusals.PutError.TheVariants.{Full}
+use Rattle.resend_store.specs.declared.refusals.RetrieveError.{RetrieveError}
+use Rattle.resend_store.specs.declared.refusals.RetrieveError.TheVariants.{BadAck}
 use Rattle.resend_store.specs.declared.messages.Msu.{Msu}
 use Rattle.actor_machine.specs.Ledger.{ask, rebased}
 use Rattle.actor_machine.specs.Step.{Says}
@@ -29,7 +31,7 @@ use Rattle.link_term.specs.Hearing.{Heard}
 use Rattle.link_term.specs.declared.answers.CallError.{CallError}
 use Rattle.link_term.specs.declared.answers.CallError.TheVariants.{Refused, NoMemory}
 use Rattle.script_book.specs.Answers.{answer_text}
-use Rattle.script_terminal.specs.TermAnswers.{after_answer, IsAsked, IsRefusedLine, Puts, taken, full, IsMessageOf, IsPut, without_reports, TakesNoMore, Listens, done, part, Hears, heard_all, in_parts, Takes, TakesTimes, never, again}
+use Rattle.script_terminal.specs.TermAnswers.{after_answer, IsAsked, IsRefusedLine, Puts, taken, full, IsMessageOf, IsPut, without_reports, TakesNoMore, Listens, done, part, Hears, heard_all, in_parts, Takes, TakesTimes, never, again, behind_retrieve, Retrieves, given, bad}
 
 -- ---- events
 
@@ -101,6 +103,32 @@ pub put_full : (octets : List ℕ) (t u : Term) (m : Msu) (text : List ℕ) (e :
     → (◌≡◌ {A = Result (Unit {0}) PutError} (Err e) (Err Full)) ↔ (MOST_WAITING ≤ length (waiting t.processes.transceiver.sender)) → u ≡ t
     → IsPut octets t text u
 put_full octets t u m text Full are says many makes = put_text octets t u m text (codes "refused E1 Full") t are says makes (full (many.0 refl))
+
+-- ---- messages that are handed out
+
+at_most : (n m : ℕ) → (n < m) ⊎ (m ≤ n) → (n < m → ⊥) → m ≤ n
+at_most n m (inl less) never = absurd (never less)
+at_most n m (inr most) never = most
+
+pub given_out : {V : Type 0} (behind : Option ℕ) (t u : Term) (text : List ℕ) (items : List Msu) (x : V) → text ≡ codes "ok " ++ decimal (length items)
+    → (◌≡◌ {A = Result V RetrieveError} (Ok x) (Err BadAck)) ↔ (t.processes.transceiver.sender.sent < count_known t.processes.transceiver.sender behind)
+    → items ≡ retrieved t.processes.transceiver.sender behind → u ≡ behind_retrieve behind t → Retrieves behind t text u
+given_out {V} behind t u text items x says many are makes =
+    let w = t.processes.transceiver.sender in
+    let few : count_known w behind ≤ w.sent =
+    at_most w.sent (count_known w behind) (cases_lt w.sent (count_known w behind))
+    (λ so. let e : ◌≡◌ {A = Result V RetrieveError} (Ok x) (Err BadAck) = many.1 so in cc) in
+    let P : List ℕ → Type 0 = λ said. Retrieves behind t said u in
+    let Q : Term → Type 0 = λ v. Retrieves behind t (codes "ok " ++ decimal (length (retrieved w behind))) v in
+    subst P (sym (says ∙ ap (λ (ms : List Msu). codes "ok " ++ decimal (length ms)) are)) (subst Q (sym makes) (given few))
+
+pub not_given : {V : Type 0} (behind : Option ℕ) (t u : Term) (text : List ℕ) → text ≡ codes "refused E2 BadAck"
+    → (◌≡◌ {A = Result V RetrieveError} (Err BadAck) (Err BadAck)) ↔ (t.processes.transceiver.sender.sent < count_known t.processes.transceiver.sender behind)
+    → u ≡ t → Retrieves behind t text u
+not_given behind t u text says many makes =
+    let P : List ℕ → Type 0 = λ said. Retrieves behind t said u in
+    let Q : Term → Type 0 = λ v. Retrieves behind t (codes "refused E2 BadAck") v in
+    subst P (sym says) (subst Q (sym makes) (bad (many.0 refl)))
 
 -- ---- reports
 

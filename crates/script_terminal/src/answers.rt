@@ -1,5 +1,5 @@
 //! What is printed for each command of a terminal's script.
-ghost use Rattle.std.specs.Prelude.{◌≡◌, IfOk, IfSome, IsNone, codes};
+ghost use Rattle.std.specs.Prelude.{◌≡◌, ◌<◌, IfOk, IfSome, IsNone, IsTrue, codes};
 ghost use Rattle.actor_machine.specs.declared.event.Event.TheVariants.{Advance};
 ghost use Rattle.link_term.specs.Offering.{command_event};
 ghost use Rattle.script_links.specs.TermCommands.{plain_term_command};
@@ -106,6 +106,16 @@ fn accepted(alloc: Global, terminal: &Terminal) -> Result<Vec<u8>, AllocError>
     text_line(alloc, &format_args!("ok {number}"))
 }
 
+/// Whether a number, if there is one, may be that of a message.
+fn is_number(behind: Option<u8>) -> bool
+    ensures { IsTrue result → IfSome behind (λ number. number < 128) }
+{
+    match behind {
+        Some(number) => number < 128,
+        None => true,
+    }
+}
+
 /// `retrieve N`, `retrieve`: hands messages out. A number above 127 would be told as want of memory, but none comes here: a line with such a
 /// number is no command.
 fn retrieve(
@@ -115,7 +125,7 @@ fn retrieve(
 ) -> Result<Vec<u8>, AllocError>
     ensures { IfOk result (λ v. Retrieves behind terminal.old v.items terminal.new) }
 {
-    if behind.is_some_and(|number| number > 127) {
+    if !is_number(behind) {
         return Err(AllocError);
     }
     match terminal.retrieve(behind) {
