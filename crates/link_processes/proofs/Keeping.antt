@@ -38,7 +38,7 @@ module _ (R : TransceiverState → TransceiverState → Type 0) (same : (h : Tra
 
   heard_keeps : (x : Emitted) (t : Processes) → R t.transceiver (heard x t).transceiver
   unfolding heard
-  heard_keeps x t = heeds_keeps (told_by t.names.outputs x) t.transceiver
+  heard_keeps x t = heeds_keeps (told_by t.names x) t.transceiver
 
   reply_keeps : (t : Processes) (b : Ledger) (r : Reply) → R t.transceiver (taken_reply t b r).processes.transceiver
   reply_keeps t b (reply.Taken x) = heard_keeps x (with_book t b)

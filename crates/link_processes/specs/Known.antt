@@ -1,16 +1,19 @@
 -- Which names a terminal knows, and which numbers they have in a set.
-use Rattle.std.specs.Prelude.{◌≡◌, ℕ, List, [], ◌∷◌, Some, codes}
+use Rattle.std.specs.Prelude.{◌≡◌, ℕ, ◌⊎◌, List, [], ◌∷◌, Some, codes}
 use Rattle.turn_code.specs.declared.draft.Draft.{Draft}
 use Rattle.turn_code.specs.declared.value.Sort.{Sort}
 use Rattle.turn_code.specs.declared.value.Sort.TheVariants.{Integer, Boolean}
 use Rattle.actor_machine.specs.Names.{named, actors_of, place_of}
-use Rattle.turn_check.specs.Named.{process_names, signal_names, IsFirst}
+use Rattle.turn_check.specs.Named.{process_names, signal_names, IsFirst, IsNowhere}
 use Rattle.link_processes.specs.declared.words.ProcessName.{ProcessName}
 use Rattle.link_processes.specs.declared.words.ProcessName.TheVariants as process
 use Rattle.link_processes.specs.declared.words.SignalName.{SignalName}
 use Rattle.link_processes.specs.declared.words.SignalName.TheVariants as signal
+use Rattle.link_processes.specs.declared.words.OptionName.{OptionName}
+use Rattle.link_processes.specs.declared.words.OptionName.TheVariants as option
 use Rattle.link_processes.specs.declared.names.Names.{Names}
 use Rattle.link_processes.specs.declared.names.Notices.{Notices}
+use Rattle.link_processes.specs.declared.names.Options.{Options}
 use Rattle.link_processes.specs.declared.names.Orders.{Orders}
 use Rattle.link_processes.specs.declared.names.Outputs.{Outputs}
 use Rattle.link_processes.specs.declared.names.Parties.{Parties}
@@ -74,6 +77,25 @@ signal_sorts signal.Down = Integer ∷ []
 signal_sorts signal.RemoteOut = []
 signal_sorts signal.RemoteBack = []
 
+-- signals that a text may have
+abbrev pub option_word : OptionName → List ℕ
+option_word option.Flush = codes "Flush"
+option_word option.Continue = codes "Continue"
+option_word option.Overload = codes "Overload"
+option_word option.Deliver = codes "Deliver"
+option_word option.Cleared = codes "Cleared"
+
+abbrev pub option_sorts : OptionName → List Sort
+option_sorts option.Flush = []
+option_sorts option.Continue = []
+option_sorts option.Overload = []
+option_sorts option.Deliver = Boolean ∷ []
+option_sorts option.Cleared = []
+
+-- the number of no signal
+abbrev pub NO_SIGNAL : ℕ
+NO_SIGNAL = 255
+
 -- the number is that of the first process of that name
 abbrev pub IsProcess : Draft → ℕ → ProcessName → Type 0
 IsProcess d n p = IsFirst (process_names d) n (process_word p)
@@ -125,8 +147,21 @@ pub record AreOutputs (d : Draft) (x : Outputs) : Type 0 where
   pub remote_out : IsSignal d x.remote_out.0 signal.RemoteOut
   pub remote_back : IsSignal d x.remote_back.0 signal.RemoteBack
 
+-- The number is that of the first signal of that name; where there is none, that of no signal.
+abbrev pub IsOption : Draft → ℕ → OptionName → Type 0
+IsOption d n o = IsFirst (signal_names d) n (option_word o)
+    ⊎ (IsNowhere (signal_names d) (option_word o) × (n ≡ NO_SIGNAL))
+
+pub record AreOptions (d : Draft) (x : Options) : Type 0 where
+  pub flush : IsOption d x.flush.0 option.Flush
+  pub continues : IsOption d x.continues.0 option.Continue
+  pub overload : IsOption d x.overload.0 option.Overload
+  pub deliver : IsOption d x.deliver.0 option.Deliver
+  pub cleared : IsOption d x.cleared.0 option.Cleared
+
 pub record AreNames (d : Draft) (n : Names) : Type 0 where
   pub parties : AreParties d n.parties
   pub orders : AreOrders d n.orders
   pub notices : AreNotices d n.notices
   pub outputs : AreOutputs d n.outputs
+  pub options : AreOptions d n.options

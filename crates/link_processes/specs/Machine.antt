@@ -49,7 +49,7 @@ heeds (Some s) h = effect s h
 
 -- a signal of the environment is heeded
 unfoldable pub heard : Emitted → Processes → Processes
-heard x t = with_transceiver t (heeds (told_by t.names.outputs x) t.transceiver)
+heard x t = with_transceiver t (heeds (told_by t.names x) t.transceiver)
 
 abbrev pub taken_reply : Processes → Ledger → Reply → Step
 taken_reply t b (reply.Taken x) = record { processes = heard x (with_book t b); goes = true }

@@ -18,7 +18,7 @@ use Rattle.link_transceiver.specs.Judging.{judged, by_stores, through, left_asid
 use Rattle.link_transceiver.specs.Going.{Gone, gone, gone_by, gives, status_gone, fill_in_gone, sender_gone}
 use Rattle.link_transceiver.specs.Reporting.{reported, message_reported, status_reported}
 use Rattle.link_transceiver.specs.Laws.{BearsNone, HoldsBack, hold_after, accepted_of, is_accept, is_accepted}
-use Rattle.link_transceiver.proofs.Aside.{none_accepted, known_held, same_fault}
+use Rattle.link_transceiver.proofs.Aside.{none_accepted, known_aside, held_accepts, same_fault}
 
 -- ---- units that go out
 
@@ -79,26 +79,26 @@ none_if true true false ms e = refl
 none_if true false c ms e = refl
 none_if false b c ms e = refl
 
-judged-accepts : (h : TransceiverState) (u : Unit) → is_held h.hold ≡ true → accepted_of h u ≡ []
+judged-accepts : (h : TransceiverState) (u : Unit) → accepts h ≡ false → accepted_of h u ≡ []
 judged-accepts h (unit.Fisu head) e = refl
 judged-accepts h (unit.Lssu head status second) e = refl
 judged-accepts h (unit.Msu head sio sif) e =
     none_if h.take (not (is_abnormal h.sender head.bsn)) (is_accept (hearing (accepts h) h.receiver head true).verdict) (record { sio = sio; sif = sif } ∷ [])
-    (none_accepted (is_held h.hold) h.receiver head true e)
+    (none_accepted (accepts h) h.receiver head true e)
 
-stored-receiver : (h : TransceiverState) (head : Head) (msu : Option Msu) → is_held h.hold ≡ true → (stored h head msu).transceiver.receiver ≡ h.receiver
+stored-receiver : (h : TransceiverState) (head : Head) (msu : Option Msu) → accepts h ≡ false → (stored h head msu).transceiver.receiver ≡ h.receiver
 unfolding stored
 stored-receiver h head msu e = elim (is_abnormal h.sender head.bsn)
     as (λ b. (if◌then◌else◌ {A = Stored} b (refused h) (taken h head msu)).transceiver.receiver ≡ h.receiver)
-    [ true ↦ refl | false ↦ known_held (is_held h.hold) h.receiver head (is_some msu) e ]
+    [ true ↦ refl | false ↦ known_aside (accepts h) h.receiver head (is_some msu) e ]
 
-by_stores-receiver : (h : TransceiverState) (head : Head) (msu : Option Msu) → is_held h.hold ≡ true → (by_stores h head msu).transceiver.receiver ≡ h.receiver
+by_stores-receiver : (h : TransceiverState) (head : Head) (msu : Option Msu) → accepts h ≡ false → (by_stores h head msu).transceiver.receiver ≡ h.receiver
 unfolding by_stores
 by_stores-receiver h head msu e = elim h.take
     as (λ b. (if b then through (stored h head msu) else left_aside h).transceiver.receiver ≡ h.receiver)
     [ true ↦ stored-receiver h head msu e | false ↦ refl ]
 
-judged-receiver : (h : TransceiverState) (u : Unit) → is_held h.hold ≡ true → (judged h u).transceiver.receiver ≡ h.receiver
+judged-receiver : (h : TransceiverState) (u : Unit) → accepts h ≡ false → (judged h u).transceiver.receiver ≡ h.receiver
 unfolding judged
 judged-receiver h (unit.Fisu head) e = by_stores-receiver h head None e
 judged-receiver h (unit.Msu head sio sif) e = by_stores-receiver h head (Some (record { sio = sio; sif = sif })) e
@@ -150,6 +150,7 @@ effect-hold : (s : EnvSignal) (h : TransceiverState) → (effect s h).hold ≡ h
 unfolding effect renewed told
 effect-hold signal.Fresh h = refl
 effect-hold (signal.Take on) h = refl
+effect-hold (signal.Deliver on) h = refl
 effect-hold (signal.Line number) h = directed-hold number h
 effect-hold (signal.Withhold true) h = refl
 effect-hold (signal.Withhold false) h = refl
@@ -157,13 +158,16 @@ effect-hold signal.InServiceNow h = refl
 effect-hold (signal.Down reason) h = refl
 effect-hold signal.RemoteOut h = refl
 effect-hold signal.RemoteBack h = refl
+effect-hold signal.Cleared h = refl
 
 pub holds_back : HoldsBack
 holds_back = record {
   unit_out = gone-bears;
   sender = gone-sender;
-  on_unit = judged-accepts;
-  receiver = judged-receiver;
+  discards = judged-accepts;
+  knows = judged-receiver;
+  on_unit = λ h u e. judged-accepts h u (held_accepts h.deliver (is_held h.hold) e);
+  receiver = λ h u e. judged-receiver h u (held_accepts h.deliver (is_held h.hold) e);
   faults = same_fault;
   stays_in = judged-hold;
   stays_out = gone-hold;

@@ -31,13 +31,15 @@ renewed_hold hold.Free = hold.Free
 renewed_hold hold.UntilAnew = hold.Free
 renewed_hold hold.Kept = hold.Kept
 
--- The link is aligned anew: both stores begin anew, and units before that tell of no fault.
+-- The link is aligned anew: both stores begin anew, units before that tell of no fault, and
+-- messages are accepted.
 unfoldable pub renewed : TransceiverState → TransceiverState
 renewed h = record h {
   sender = refreshed h.sender;
   receiver = first_intake h.receiver.mode;
   withheld = renewed_backward h.withheld;
   hold = renewed_hold h.hold;
+  deliver = true;
   faults = no_faults;
 }
 
@@ -84,6 +86,7 @@ withheld_by false h = record h { withheld = None }
 unfoldable pub effect : EnvSignal → TransceiverState → TransceiverState
 effect signal.Fresh h = renewed h
 effect (signal.Take on) h = record h { take = on }
+effect (signal.Deliver on) h = record h { deliver = on }
 effect (signal.Line number) h = directed number h
 effect (signal.Withhold on) h = withheld_by on h
 effect signal.InServiceNow h = told status.InService (record h { in_service = true; came = true })
@@ -91,3 +94,4 @@ effect (signal.Down reason) h =
     told (status.Down reason) (record h { in_service = false; far_out = false })
 effect signal.RemoteOut h = told status.RemoteOut (record h { far_out = true })
 effect signal.RemoteBack h = told status.RemoteBack (record h { far_out = false })
+effect signal.Cleared h = told status.Cleared h

@@ -8,6 +8,7 @@ transceiver_state_of s = record {
   sender = s.sender;
   receiver = s.receiver;
   take = s.take;
+  deliver = s.deliver;
   withheld = s.withheld;
   line = s.line;
   busy = s.busy;

@@ -1,6 +1,6 @@
 -- What a signal unit without errors leads to.
-use Rattle.std.specs.Prelude.{ℕ, ◌%◌, nat_lt, Bool, not, if◌then◌else◌, Option, Some, None, is_some}
-use Rattle.std.specs.Prelude.{Result, Ok, Err, List, [], ◌∷◌, ◌++◌}
+use Rattle.std.specs.Prelude.{ℕ, ◌%◌, nat_lt, ◌&&◌, Bool, not, if◌then◌else◌, Option, Some, None}
+use Rattle.std.specs.Prelude.{is_some, Result, Ok, Err, List, [], ◌∷◌, ◌++◌}
 use Rattle.resend_store.specs.Window.{Window, count_by, after_back}
 use Rattle.resend_store.specs.Intake.{Intake, Hearing, hear, hear_aside}
 use Rattle.resend_store.specs.declared.messages.Msu.{Msu}
@@ -30,9 +30,10 @@ hears r fsn fib has_msu = hear r fsn fib has_msu
 unfoldable pub sets_aside : Intake → ℕ → Hearing
 sets_aside r fib = hear_aside r.mode r fib
 
--- Whether messages that come are accepted: not while level 3 holds the link.
+-- Whether messages that come are accepted: where they are to be delivered, and not while level 3
+-- holds the link.
 abbrev pub accepts : TransceiverState → Bool
-accepts h = not (is_held h.hold)
+accepts h = h.deliver && not (is_held h.hold)
 
 -- What a receiver makes of a unit, by whether messages are accepted.
 unfoldable pub hearing : Bool → Intake → Head → Bool → Hearing

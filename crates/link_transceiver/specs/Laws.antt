@@ -174,11 +174,16 @@ hold_after _ x = x
 -- While level 3 holds a link no message goes out and none is accepted. What is to be sent, or sent
 -- once more, waits. What was accepted last, the bit that goes out and what is asked for stay. A
 -- unit is at fault just where it is else. Nothing ends this but what level 3 says, or a new
--- beginning of both directions where it was held until that.
+-- beginning of both directions where it was held until that. Where messages aren't to be
+-- delivered none is accepted either, and what is known stays.
 pub record HoldsBack : Type 0 where
   pub unit_out : (h : TransceiverState) → is_held h.hold ≡ true → BearsNone (gone h).out
   pub sender :
       (h : TransceiverState) → is_held h.hold ≡ true → (gone h).transceiver.sender ≡ h.sender
+  pub discards : (h : TransceiverState) (u : Unit) → accepts h ≡ false → accepted_of h u ≡ []
+  pub knows :
+      (h : TransceiverState) (u : Unit) → accepts h ≡ false
+      → (judged h u).transceiver.receiver ≡ h.receiver
   pub on_unit :
       (h : TransceiverState) (u : Unit) → is_held h.hold ≡ true → accepted_of h u ≡ []
   pub receiver :

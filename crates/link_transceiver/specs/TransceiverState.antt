@@ -30,6 +30,8 @@ pub record TransceiverState : Type 0 where
   pub receiver : Intake
   -- whether fill-in and message signal units go through both
   pub take : Bool
+  -- whether messages that come are accepted, and not discarded once their units were judged
+  pub deliver : Bool
   -- the backward sequence number and indicator bit that go out in place of the receiver's
   pub withheld : Option Backward
   -- what goes out; nothing before that was said for the first time
@@ -57,6 +59,7 @@ first_transceiver mode = record {
   sender = start mode;
   receiver = first_intake mode;
   take = false;
+  deliver = true;
   withheld = None;
   line = None;
   busy = false;

@@ -27,7 +27,8 @@ impl Transceiver {
     /// abnormal backward number, or two an abnormal forward indicator; `Unit` with its kind.
     ///
     /// While units are taken (`EnvSignal::Take`) a fill-in or message signal unit first goes through the stores, and a message
-    /// that is accepted waits to be handed out. While level 3 holds the link a message is discarded once the unit was judged.
+    /// that is accepted waits to be handed out. While level 3 holds the link, or messages
+    /// aren't to be delivered (`EnvSignal::Deliver`), a message is discarded once the unit was judged.
     #[tactic(auto, unfolding(crate::specs::Judging::judged))]
     pub fn on_unit(&mut self, unit: Unit) -> Offers
         requires whole { IsWhole unit }
@@ -116,17 +117,19 @@ impl Transceiver {
         })
     }
 
+    /// Whether messages that come are accepted.
+    fn accepts(&self) -> bool
+        ensures { result ≡ accepts self.now }
+    {
+        self.deliver && !self.hold.is_held()
+    }
+
     /// The receiver's part of it.
     fn receive(&mut self, head: &Head, msu: Option<Msu>)
         requires room { length self.old.messages < KEPT_MESSAGES }
         ensures { self.new ≡ received (hearing (accepts self.old) self.old.receiver head.now (is_some msu)) msu self.old }
     {
-        let heard = hear_by(
-            !self.hold.is_held(),
-            &mut self.receiver,
-            head,
-            msu.is_some(),
-        );
+        let heard = hear_by(self.accepts(), &mut self.receiver, head, msu.is_some());
         self.faults.remember(fault_in(heard));
         if let (Ok(Verdict::Accept), Some(msu)) = (heard, msu) {
             self.messages.push(msu);

@@ -27,6 +27,8 @@ pub struct Transceiver {
     pub(crate) sender: Sender,
     pub(crate) receiver: Receiver,
     pub(crate) take: bool,
+    /// Whether messages that come are accepted, and not discarded.
+    pub(crate) deliver: bool,
     /// The backward number and bit that go out in place of the receiver's.
     pub(crate) withheld: Option<Backward>,
     pub(crate) line: Option<LineKind>,
@@ -67,6 +69,7 @@ impl Transceiver {
             sender,
             receiver: Receiver::new(mode),
             take: false,
+            deliver: true,
             withheld: None,
             line: None,
             busy: false,
@@ -88,6 +91,7 @@ impl Transceiver {
         match signal {
             EnvSignal::Fresh => self.renew(),
             EnvSignal::Take(on) => self.take = on,
+            EnvSignal::Deliver(on) => self.deliver = on,
             EnvSignal::Line(number) => self.direct(number),
             EnvSignal::Withhold(on) => self.withhold(on),
             EnvSignal::InServiceNow => {
@@ -108,6 +112,7 @@ impl Transceiver {
                 self.far_out = false;
                 self.tell(LinkStatus::RemoteBack);
             }
+            EnvSignal::Cleared => self.tell(LinkStatus::Cleared),
         }
     }
 
@@ -264,6 +269,7 @@ impl Transceiver {
         self.receiver.fresh();
         self.faults = LastThree::new();
         self.hold = self.hold.renewed();
+        self.deliver = true;
         if self.withheld.is_some() {
             self.withheld = Some(self.backward());
         }
