@@ -1,7 +1,7 @@
 -- What the signals that actors send to the environment do.
-use Rattle.std.specs.Prelude.{ℕ, ℤ, pos, negsuc, ◌-◌, ◌==◌, nat_lt, Bool, true, false}
+use Rattle.std.specs.Prelude.{ℕ, ℤ, pos, negsuc, ◌+◌, ◌-◌, min, ◌==◌, nat_lt, Bool, true, false}
 use Rattle.std.specs.Prelude.{if◌then◌else◌, Option, Some, None, List, [], ◌∷◌, ◌++◌, length, drop}
-use Rattle.resend_store.specs.Window.{refreshed}
+use Rattle.resend_store.specs.Window.{refreshed, emptied}
 use Rattle.resend_store.specs.Intake.{Intake, first_intake}
 use Rattle.link_transceiver.specs.declared.signals.Backward.{Backward}
 use Rattle.link_transceiver.specs.declared.signals.EnvSignal.{EnvSignal}
@@ -12,7 +12,7 @@ use Rattle.link_transceiver.specs.declared.signals.LineKind.{LineKind}
 use Rattle.link_transceiver.specs.declared.signals.LineKind.TheVariants as kind
 use Rattle.link_transceiver.specs.declared.signals.LinkStatus.{LinkStatus}
 use Rattle.link_transceiver.specs.declared.signals.LinkStatus.TheVariants as status
-use Rattle.link_transceiver.specs.Limits.{KEPT_STATUSES}
+use Rattle.link_transceiver.specs.Limits.{KEPT_STATUSES, MOST_COUNTED}
 use Rattle.link_transceiver.specs.Faults.{no_faults}
 use Rattle.link_transceiver.specs.TransceiverState.{TransceiverState}
 
@@ -40,7 +40,22 @@ renewed h = record h {
   withheld = renewed_backward h.withheld;
   hold = renewed_hold h.hold;
   deliver = true;
+  behind_odd = false;
+  spare = 0;
   faults = no_faults;
+}
+
+-- so many more were cleared
+abbrev pub counted : ℕ → ℕ → ℕ
+counted before more = min MOST_COUNTED (before + more)
+
+-- The buffers are emptied (Q.703, figure 13): what waits and what is unacknowledged goes, and the
+-- numbers go on after the last acknowledged one.
+unfoldable pub clears : TransceiverState → TransceiverState
+clears h = record h {
+  sender = emptied h.sender None;
+  spare = if nat_lt 0 h.sender.sent then h.sender.sent else h.spare;
+  cleared = counted h.cleared (length h.sender.kept);
 }
 
 -- what goes out from then on, by number; other numbers name nothing

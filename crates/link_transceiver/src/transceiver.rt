@@ -4,8 +4,8 @@ ghost use Rattle.std.specs.Option.{option_copied};
 ghost use Rattle.resend_store.specs.Limits.{MOST_WAITING, MOST_KEPT};
 ghost use Rattle.resend_store.specs.Messages.{IsMessage};
 ghost use Rattle.resend_store.specs.Window.{IsWindow, waiting, with_put, retrieved, emptied, count_known, last_acknowledged};
-ghost use Rattle.link_transceiver.specs.Effects.{effect, backward_of, renewed, directed, kind_named, kind_by, is_busy_named, withheld_by, told, latest};
-ghost use Rattle.link_transceiver.specs.TransceiverState.{IsBackward, first_transceiver};
+ghost use Rattle.link_transceiver.specs.Effects.{effect, backward_of, renewed, clears, directed, kind_named, kind_by, is_busy_named, withheld_by, told, latest};
+ghost use Rattle.link_transceiver.specs.TransceiverState.{IsBackward, first_transceiver, first_within};
 ghost use Rattle.link_transceiver.specs.Limits.{KEPT_MESSAGES};
 ghost use Rattle.link_transceiver.specs.Reporting.{reported};
 
@@ -14,7 +14,9 @@ use crate::kept::KeptQueue;
 use crate::signals::{
     BUSY, Backward, EnvSignal, Hold, LineKind, LinkStatus, MESSAGES, Report, STATUSES,
 };
-use resend_store::{Mode, Msu, PutError, Receiver, RetrieveError, Sender};
+use resend_store::{
+    Mode, Msu, PutError, Receiver, RetrieveError, RoundLimits, Sender, USUAL_LIMITS,
+};
 use std::alloc::{AllocError, Global};
 use std::collections::VecDeque;
 use std::marker::Model;
@@ -35,6 +37,14 @@ pub struct Transceiver {
     /// Whether one unit of status 'busy' goes out first.
     pub(crate) busy: bool,
     pub(crate) hold: Hold,
+    /// Whether a unit at fault is told of by `Notice::Odd`, and the next one discarded.
+    pub(crate) odd: bool,
+    /// Whether the last one was at fault, so that the next is discarded.
+    pub(crate) behind_odd: bool,
+    /// How many messages were out as the buffers were emptied, until a message goes out.
+    pub(crate) spare: u8,
+    /// How many messages were cleared.
+    cleared: u64,
     pub(crate) faults: LastThree,
     pub(crate) messages: KeptQueue<Msu, MESSAGES>,
     statuses: KeptQueue<LinkStatus, STATUSES>,
@@ -58,11 +68,18 @@ impl Model for Transceiver {
 
 impl Transceiver {
     /// That of a link which is out of service: nothing is kept, and nothing goes out.
-    #[tactic(auto, unfolding(crate::specs::TransceiverState::first_transceiver))]
     pub fn new(alloc: Global, mode: Mode) -> Result<Transceiver, AllocError>
         ensures { IfOk result (λ transceiver. transceiver ≡ first_transceiver mode) }
     {
-        let sender = Sender::new(alloc, mode)?;
+        Transceiver::within(alloc, USUAL_LIMITS, mode)
+    }
+
+    /// The same with these limits of forced retransmission.
+    #[tactic(auto, unfolding(crate::specs::TransceiverState::first_within))]
+    pub fn within(alloc: Global, limits: RoundLimits, mode: Mode) -> Result<Transceiver, AllocError>
+        ensures { IfOk result (λ transceiver. transceiver ≡ first_within limits mode) }
+    {
+        let sender = Sender::within(alloc, limits, mode)?;
         let messages = KeptQueue::new(alloc)?;
         let statuses = KeptQueue::new(alloc)?;
         Ok(Transceiver {
@@ -74,6 +91,10 @@ impl Transceiver {
             line: None,
             busy: false,
             hold: Hold::Free,
+            odd: false,
+            behind_odd: false,
+            spare: 0,
+            cleared: 0,
             faults: LastThree::new(),
             messages,
             statuses,
@@ -114,6 +135,35 @@ impl Transceiver {
             }
             EnvSignal::Cleared => self.tell(LinkStatus::Cleared),
         }
+    }
+
+    /// Empties the buffers (Q.703, figure 13): what waits and what is unacknowledged goes, and the numbers go on after the last acknowledged
+    /// one. What goes is counted.
+    #[tactic(auto, unfolding(crate::specs::Effects::clears))]
+    pub fn clear(&mut self)
+        ensures { self.new ≡ clears self.old }
+    {
+        let kept = self.sender.held();
+        let sent = self.sender.sent();
+        if sent > 0 {
+            self.spare = sent as u8;
+        }
+        self.cleared = self.cleared.saturating_add(kept as u64);
+        self.sender.clear();
+    }
+
+    /// How many messages were cleared: 2^64 - 1 where there were that many or more.
+    pub fn cleared(&self) -> u64
+        ensures { result ≡ self.now.cleared }
+    {
+        self.cleared
+    }
+
+    /// Says whether units at fault are told of by `Notice::Odd`, and the ones behind them discarded.
+    pub fn tell_odd(&mut self, odd: bool)
+        ensures { self.new ≡ record self.old { odd = odd } }
+    {
+        self.odd = odd;
     }
 
     /// Takes a message to send, with a field of 2 octets or more. It waits behind all others.
@@ -270,6 +320,8 @@ impl Transceiver {
         self.faults = LastThree::new();
         self.hold = self.hold.renewed();
         self.deliver = true;
+        self.behind_odd = false;
+        self.spare = 0;
         if self.withheld.is_some() {
             self.withheld = Some(self.backward());
         }
