@@ -5,8 +5,8 @@ use Rattle.std.proofs.lemmas.Bool.{cases_order, true≢false}
 use Rattle.turn_check.specs.Named.{IsFirst, IsNowhere, signal_names}
 use Rattle.turn_code.specs.declared.draft.Draft.{Draft}
 use Rattle.turn_code.specs.declared.numbers.SignalNumber.{SignalNumber}
-use Rattle.link_processes.specs.Known.{option_word}
-use Rattle.link_processes.specs.Wanted.{touches, IsTouched, FitsSent, FitsHeard, MaySendIt, MayHearIt}
+use Rattle.link_processes.specs.Known.{option_word, touches, IsTouched}
+use Rattle.link_processes.specs.Wanted.{FitsSent, FitsHeard, MaySendIt, MayHearIt}
 use Rattle.link_processes.specs.declared.words.OptionName.{OptionName}
 use Rattle.link_processes.specs.declared.words.ProcessName.{ProcessName}
 

@@ -1,10 +1,15 @@
 -- Which names a terminal knows, and which numbers they have in a set.
-use Rattle.std.specs.Prelude.{◌≡◌, ℕ, ◌⊎◌, List, [], ◌∷◌, Some, codes}
+use Rattle.std.specs.Prelude.{◌≡◌, ℕ, ◌==◌, Bool, true, not, ◌&&◌, ◌||◌, ◌⊎◌, List, [], ◌∷◌, Some}
+use Rattle.std.specs.Prelude.{codes}
+use Rattle.std.specs.List.{list_any}
+use Rattle.turn_code.specs.declared.numbers.SignalNumber.{SignalNumber}
+use Rattle.turn_code.specs.declared.draft.DraftRoute.{DraftRoute}
+use Rattle.actor_machine.specs.Refusals.{is_environment}
 use Rattle.turn_code.specs.declared.draft.Draft.{Draft}
 use Rattle.turn_code.specs.declared.value.Sort.{Sort}
 use Rattle.turn_code.specs.declared.value.Sort.TheVariants.{Integer, Boolean}
 use Rattle.actor_machine.specs.Names.{named, actors_of, place_of}
-use Rattle.turn_check.specs.Named.{process_names, signal_names, IsFirst, IsNowhere}
+use Rattle.turn_check.specs.Named.{process_names, signal_names, IsFirst}
 use Rattle.link_processes.specs.declared.words.ProcessName.{ProcessName}
 use Rattle.link_processes.specs.declared.words.ProcessName.TheVariants as process
 use Rattle.link_processes.specs.declared.words.SignalName.{SignalName}
@@ -84,6 +89,7 @@ option_word option.Continue = codes "Continue"
 option_word option.Overload = codes "Overload"
 option_word option.Deliver = codes "Deliver"
 option_word option.Cleared = codes "Cleared"
+option_word option.Odd = codes "Odd"
 
 abbrev pub option_sorts : OptionName → List Sort
 option_sorts option.Flush = []
@@ -91,10 +97,15 @@ option_sorts option.Continue = []
 option_sorts option.Overload = []
 option_sorts option.Deliver = Boolean ∷ []
 option_sorts option.Cleared = []
+option_sorts option.Odd = Integer ∷ []
 
 -- the number of no signal
 abbrev pub NO_SIGNAL : ℕ
 NO_SIGNAL = 255
+
+-- whether the number is that of a signal
+abbrev pub is_there : SignalNumber → Bool
+is_there k = not (k.0 == NO_SIGNAL)
 
 -- the number is that of the first process of that name
 abbrev pub IsProcess : Draft → ℕ → ProcessName → Type 0
@@ -147,17 +158,31 @@ pub record AreOutputs (d : Draft) (x : Outputs) : Type 0 where
   pub remote_out : IsSignal d x.remote_out.0 signal.RemoteOut
   pub remote_back : IsSignal d x.remote_back.0 signal.RemoteBack
 
--- The number is that of the first signal of that name; where there is none, that of no signal.
-abbrev pub IsOption : Draft → ℕ → OptionName → Type 0
-IsOption d n o = IsFirst (signal_names d) n (option_word o)
-    ⊎ (IsNowhere (signal_names d) (option_word o) × (n ≡ NO_SIGNAL))
+-- ---- signals that a set may have
+
+-- a route from or to the environment carries the signal
+abbrev pub touches : SignalNumber → DraftRoute → Bool
+touches s r = (is_environment r.from || is_environment r.to)
+    && list_any (λ (x : SignalNumber). x.0 == s.0) r.signals
+
+-- the first signal of that name, which a route from or to the environment carries; a text's own
+-- signals between processes are its own
+pub record IsTouched (d : Draft) (name : OptionName) (k : SignalNumber) : Type 0 where
+  pub named : IsFirst (signal_names d) k.0 (option_word name)
+  pub carried : list_any (touches k) d.routes ≡ true
+
+-- The number is that of such a signal; where there is none, that of no signal.
+abbrev pub IsOption : Draft → SignalNumber → OptionName → Type 0
+IsOption d n o =
+    IsTouched d o n ⊎ (((k : SignalNumber) → IsTouched d o k → ⊥) × (n.0 ≡ NO_SIGNAL))
 
 pub record AreOptions (d : Draft) (x : Options) : Type 0 where
-  pub flush : IsOption d x.flush.0 option.Flush
-  pub continues : IsOption d x.continues.0 option.Continue
-  pub overload : IsOption d x.overload.0 option.Overload
-  pub deliver : IsOption d x.deliver.0 option.Deliver
-  pub cleared : IsOption d x.cleared.0 option.Cleared
+  pub flush : IsOption d x.flush option.Flush
+  pub continues : IsOption d x.continues option.Continue
+  pub overload : IsOption d x.overload option.Overload
+  pub deliver : IsOption d x.deliver option.Deliver
+  pub cleared : IsOption d x.cleared option.Cleared
+  pub odd : IsOption d x.odd option.Odd
 
 pub record AreNames (d : Draft) (n : Names) : Type 0 where
   pub parties : AreParties d n.parties

@@ -15,10 +15,10 @@ use Rattle.link_transceiver.specs.declared.offers.Notice.{Notice}
 use Rattle.link_transceiver.specs.declared.offers.Notice.TheVariants as notice
 use Rattle.link_transceiver.specs.declared.signals.EnvSignal.{EnvSignal}
 use Rattle.link_transceiver.specs.declared.signals.EnvSignal.TheVariants as signal
+use Rattle.link_processes.specs.Known.{NO_SIGNAL}
 use Rattle.link_processes.specs.declared.commands.Command.{Command}
 use Rattle.link_processes.specs.declared.commands.Command.TheVariants as command
 use Rattle.link_processes.specs.declared.names.Names.{Names}
-use Rattle.link_processes.specs.declared.names.Notices.{Notices}
 use Rattle.link_processes.specs.declared.names.Outputs.{Outputs}
 use Rattle.link_processes.specs.declared.names.Parties.{Parties}
 
@@ -31,13 +31,15 @@ number_of ps Rc = ps.rc
 
 -- ---- notices
 
-abbrev pub notice_signal : Notices → Notice → SignalNumber
-notice_signal is notice.Good = is.good
-notice_signal is notice.Errored = is.errored
-notice_signal is (notice.AckSeen left) = is.ack_seen
-notice_signal is notice.Bad = is.bad
-notice_signal is (notice.Unit kind) = is.unit
-notice_signal is notice.MsuSent = is.msu_sent
+abbrev pub notice_signal : Names → Notice → SignalNumber
+notice_signal n notice.Good = n.notices.good
+notice_signal n notice.Errored = n.notices.errored
+notice_signal n (notice.AckSeen left) = n.notices.ack_seen
+notice_signal n notice.Bad = n.notices.bad
+notice_signal n (notice.Unit kind) = n.notices.unit
+notice_signal n notice.MsuSent = n.notices.msu_sent
+notice_signal n (notice.Odd code) = n.options.odd
+notice_signal n (notice.Counting on) = record { 0 = NO_SIGNAL }
 
 abbrev pub notice_values : Notice → List Value
 notice_values notice.Good = []
@@ -46,13 +48,15 @@ notice_values (notice.AckSeen left) = Bool left ∷ []
 notice_values notice.Bad = []
 notice_values (notice.Unit kind) = Int (pos kind) ∷ []
 notice_values notice.MsuSent = []
+notice_values (notice.Odd code) = Int (pos code) ∷ []
+notice_values (notice.Counting on) = Bool on ∷ []
 
 abbrev pub event_to : ℕ → SignalNumber → List Value → Event
 event_to n s vs = Offered (record { actor = n; signal = s; values = record { items = vs } })
 
 abbrev pub offer_event : Names → Offer → Event
 offer_event n o =
-    event_to (number_of n.parties o.to) (notice_signal n.notices o.notice) (notice_values o.notice)
+    event_to (number_of n.parties o.to) (notice_signal n o.notice) (notice_values o.notice)
 
 -- ---- commands
 

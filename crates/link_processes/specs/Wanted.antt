@@ -6,8 +6,8 @@ use Rattle.turn_code.specs.declared.numbers.SignalNumber.{SignalNumber}
 use Rattle.turn_code.specs.declared.draft.Draft.{Draft}
 use Rattle.turn_code.specs.declared.draft.DraftRoute.{DraftRoute}
 use Rattle.actor_machine.specs.Refusals.{is_environment, offers}
-use Rattle.link_processes.specs.Known.{signal_sorts, option_word, option_sorts, IsProcess, IsSignal}
-use Rattle.turn_check.specs.Named.{signal_names, IsFirst}
+use Rattle.link_processes.specs.Known.{signal_sorts, option_sorts, IsProcess, IsSignal}
+use Rattle.link_processes.specs.Known.{touches, IsTouched}
 use Rattle.link_processes.specs.declared.words.ProcessName.{ProcessName}
 use Rattle.link_processes.specs.declared.words.ProcessName.TheVariants as process
 use Rattle.link_processes.specs.declared.words.SignalName.{SignalName}
@@ -46,17 +46,6 @@ pub record HasHeard (d : Draft) (name : SignalName) : Type 0 where
   pub brought : list_any (tells signal) d.routes ≡ true
 
 -- ---- what a set may have
-
--- a route from or to the environment carries the signal
-abbrev pub touches : SignalNumber → DraftRoute → Bool
-touches s r = (is_environment r.from || is_environment r.to)
-    && list_any (λ (x : SignalNumber). x.0 == s.0) r.signals
-
--- the first signal of that name, which a route from or to the environment carries; a text's own
--- signals between processes are its own
-pub record IsTouched (d : Draft) (name : OptionName) (k : SignalNumber) : Type 0 where
-  pub named : IsFirst (signal_names d) k.0 (option_word name)
-  pub carried : list_any (touches k) d.routes ≡ true
 
 -- a route does not carry it from or to the environment, or brings it from there to that process
 abbrev pub sends_alone : ℕ → SignalNumber → DraftRoute → Bool
@@ -143,6 +132,7 @@ wanted =
     ∷ MaySend process.Cc option.Overload
     ∷ MayHear option.Deliver
     ∷ MayHear option.Cleared
+    ∷ MaySend process.Rc option.Odd
     ∷ []
 
 -- all its processes, and all its signals, have a number in the set

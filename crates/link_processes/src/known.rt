@@ -4,7 +4,7 @@ ghost use Rattle.link_processes.specs.Known.{IsProcess, IsActor, IsSignal, ArePa
 ghost use Rattle.link_processes.specs.Wanted.{wanted, Has, HasSignals, HasProcesses, IsFirstLacking};
 
 use crate::names::{NO_SIGNAL, Names, Notices, Options, Orders, Outputs, Parties};
-use crate::wanted::{Wanted, all_wanted, first_lacking};
+use crate::wanted::{Wanted, all_wanted, first_lacking, touched};
 use crate::words::{OptionName, ProcessName, SignalName};
 use actor_machine::first_of;
 use turn_check::Verified;
@@ -107,9 +107,9 @@ fn outputs(set: &Verified) -> Outputs
 
 /// The number of a signal that the set may have.
 fn option(set: &Verified, name: OptionName) -> SignalNumber
-    ensures { IsOption set.now result.0 name }
+    ensures { IsOption set.now result name }
 {
-    match set.signal_of(name.word()) {
+    match touched(set, name) {
         Some(number) => number,
         None => SignalNumber(NO_SIGNAL),
     }
@@ -125,6 +125,7 @@ fn options(set: &Verified) -> Options
         overload: option(set, OptionName::Overload),
         deliver: option(set, OptionName::Deliver),
         cleared: option(set, OptionName::Cleared),
+        odd: option(set, OptionName::Odd),
     }
 }
 

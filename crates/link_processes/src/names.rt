@@ -1,5 +1,6 @@
 //! The numbers that the actors and signals of the environment have in a set.
 ghost use Rattle.std.specs.Prelude.{◌≡◌};
+ghost use Rattle.link_processes.specs.Known.{is_there};
 ghost use Rattle.link_processes.specs.Offering.{number_of, notice_signal, notice_values, value_told, integer_told, boolean_told, plain_told, told_by};
 
 use actor_machine::Emitted;
@@ -70,6 +71,7 @@ pub struct Options {
     pub overload: SignalNumber,
     pub deliver: SignalNumber,
     pub cleared: SignalNumber,
+    pub odd: SignalNumber,
 }
 
 /// The number of no signal: a set has 128 at most.
@@ -85,6 +87,13 @@ pub struct Names {
     pub options: Options,
 }
 
+/// Whether a text has the signal that it may have.
+pub fn is_there(signal: SignalNumber) -> bool
+    ensures { result ≡ is_there signal }
+{
+    signal.0 != NO_SIGNAL
+}
+
 /// The number of an actor.
 pub(crate) fn actor_of(parties: &Parties, party: Party) -> u16
     ensures { result ≡ number_of parties.now party }
@@ -98,9 +107,10 @@ pub(crate) fn actor_of(parties: &Parties, party: Party) -> u16
 }
 
 /// The signal of a notice.
-pub(crate) fn notice_signal(notices: &Notices, notice: Notice) -> SignalNumber
-    ensures { result ≡ notice_signal notices.now notice }
+pub(crate) fn notice_signal(names: &Names, notice: Notice) -> SignalNumber
+    ensures { result ≡ notice_signal names.now notice }
 {
+    let notices = &names.notices;
     match notice {
         Notice::Good => notices.good,
         Notice::Errored => notices.errored,
@@ -108,6 +118,8 @@ pub(crate) fn notice_signal(notices: &Notices, notice: Notice) -> SignalNumber
         Notice::Bad => notices.bad,
         Notice::Unit(_) => notices.unit,
         Notice::MsuSent => notices.msu_sent,
+        Notice::Odd(_) => names.options.odd,
+        Notice::Counting(_) => SignalNumber(NO_SIGNAL),
     }
 }
 
@@ -118,7 +130,9 @@ pub(crate) fn notice_values(notice: Notice) -> ArrayVec<Value, 4>
     let mut values = ArrayVec::new();
     match notice {
         Notice::AckSeen(left) => values.push(Value::Bool(left)),
+        Notice::Counting(on) => values.push(Value::Bool(on)),
         Notice::Unit(kind) => values.push(Value::Int(i32::from(kind))),
+        Notice::Odd(code) => values.push(Value::Int(i32::from(code))),
         Notice::Good | Notice::Errored | Notice::Bad | Notice::MsuSent => {}
     }
     values

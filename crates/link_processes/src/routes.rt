@@ -3,7 +3,8 @@ ghost use Rattle.std.specs.Prelude.{◌≡◌, ◌&&◌, ◌||◌, ◌==◌, not
 ghost use Rattle.std.specs.List.{list_any, list_all};
 ghost use Rattle.actor_machine.specs.Refusals.{is_environment, is_process, offers};
 ghost use Rattle.turn_code.specs.declared.numbers.SignalNumber.{SignalNumber as PlainSignal};
-ghost use Rattle.link_processes.specs.Wanted.{tells, touches, sends_alone, tells_alone};
+ghost use Rattle.link_processes.specs.Known.{touches};
+ghost use Rattle.link_processes.specs.Wanted.{tells, sends_alone, tells_alone};
 
 use turn_check::Verified;
 use turn_code::{DraftRoute, Party, ProcessNumber, SignalNumber};

@@ -2,7 +2,8 @@
 ghost use Rattle.std.specs.Prelude.{◌≡◌, ◌↔◌, All, IsTrue, IfSome, IfNone, slice_get};
 ghost use Rattle.turn_code.specs.Transitions.{parameters_of};
 ghost use Rattle.turn_code.specs.declared.numbers.SignalNumber.{SignalNumber as PlainSignal};
-ghost use Rattle.link_processes.specs.Wanted.{wanted, IsSpoken, HasSent, HasHeard, IsTouched, FitsSent, FitsHeard, MaySendIt, MayHearIt, Has, IsFirstLacking};
+ghost use Rattle.link_processes.specs.Known.{IsTouched};
+ghost use Rattle.link_processes.specs.Wanted.{wanted, IsSpoken, HasSent, HasHeard, FitsSent, FitsHeard, MaySendIt, MayHearIt, Has, IsFirstLacking};
 
 use crate::routes::{is_heard, is_heard_alone, is_sent, is_sent_alone, is_touched};
 use crate::words::{OptionName, ProcessName, SignalName};
@@ -46,7 +47,7 @@ impl fmt::Display for Wanted {
 
 /// All that a terminal wants, in the order in which it is asked for: the processes, what the environment sends to each, and what comes to
 /// it.
-pub(crate) fn all_wanted() -> [Wanted; 36]
+pub(crate) fn all_wanted() -> [Wanted; 37]
     ensures { result ≡ wanted }
 {
     [
@@ -86,6 +87,7 @@ pub(crate) fn all_wanted() -> [Wanted; 36]
         Wanted::MaySend(ProcessName::Cc, OptionName::Overload),
         Wanted::MayHear(OptionName::Deliver),
         Wanted::MayHear(OptionName::Cleared),
+        Wanted::MaySend(ProcessName::Rc, OptionName::Odd),
     ]
 }
 
@@ -166,7 +168,7 @@ fn fits_heard(set: &Verified, name: OptionName, signal: SignalNumber) -> bool
 }
 
 /// The number of the signal of a name, where a route from or to the environment carries it.
-fn touched(set: &Verified, name: OptionName) -> Option<SignalNumber>
+pub(crate) fn touched(set: &Verified, name: OptionName) -> Option<SignalNumber>
     ensures found { IfSome result (IsTouched set.now name) }
     ensures none { IfNone result ((k : PlainSignal) → IsTouched set.now name k → ⊥) }
 {

@@ -51,6 +51,7 @@ pub enum OptionName {
     Overload,
     Deliver,
     Cleared,
+    Odd,
 }
 
 impl ProcessName {
@@ -140,6 +141,7 @@ impl OptionName {
             OptionName::Overload => "Overload",
             OptionName::Deliver => "Deliver",
             OptionName::Cleared => "Cleared",
+            OptionName::Odd => "Odd",
         }
     }
 
@@ -149,6 +151,7 @@ impl OptionName {
     {
         match self {
             OptionName::Deliver => &[Sort::Boolean],
+            OptionName::Odd => &[Sort::Integer],
             OptionName::Flush | OptionName::Continue | OptionName::Overload | OptionName::Cleared =>
                 &[],
         }

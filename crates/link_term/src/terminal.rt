@@ -2,20 +2,21 @@
 ghost use Rattle.std.specs.Prelude.{◌≡◌, ◌↔◌, ◌<◌, ◌≤◌, [], IsTrue, false, length, All, IfOk, OnOk, OnErr, IfSome, Err, slice_get};
 ghost use Rattle.std.specs.Option.{option_copied};
 ghost use Rattle.resend_store.specs.Messages.{IsMessage};
-ghost use Rattle.resend_store.specs.Window.{IsWindow, waiting, with_put, retrieved, emptied, count_known, last_acknowledged};
+ghost use Rattle.resend_store.specs.Window.{IsWindow, waiting, with_put, retrieved, count_known, last_acknowledged};
 ghost use Rattle.bit_line.specs.Deframing.{Stands};
 ghost use Rattle.bit_line.specs.Stuffers.{Gave};
-ghost use Rattle.link_transceiver.specs.TransceiverState.{first_transceiver};
+ghost use Rattle.link_term.specs.Opening.{first_over};
 ghost use Rattle.link_transceiver.specs.Reporting.{reported};
 ghost use Rattle.resend_store.specs.Limits.{MOST_WAITING, MOST_KEPT};
 ghost use Rattle.link_transceiver.specs.Limits.{KEPT_MESSAGES};
 ghost use Rattle.link_term.specs.Kept.{window_of};
-ghost use Rattle.link_term.specs.Term.{term_with_transceiver};
+ghost use Rattle.link_term.specs.Term.{with_processes, term_with_transceiver};
+ghost use Rattle.link_processes.specs.Machine.{handed_out};
 
 use bit_line::{Deframer, Stuffer};
-use link_processes::{Book, Names, Processes};
+use link_processes::{Book, Names, Processes, is_there, unacknowledged_messages_stay};
 use link_transceiver::{Hold, LineKind, Report, Transceiver};
-use resend_store::{Mode, Msu, PutError, RetrieveError};
+use resend_store::{Mode, Msu, PutError, RetrieveError, RoundLimits};
 use std::alloc::{AllocError, Global};
 use std::collections::VecDeque;
 use std::marker::Model;
@@ -53,13 +54,15 @@ impl Terminal {
         alloc: Global,
         book: Book,
         names: Names,
+        limits: RoundLimits,
         mode: Mode,
     ) -> Result<Terminal, AllocError>
-        ensures processes { IfOk result (λ t. t.processes ≡ record { book = book; transceiver = first_transceiver mode; names = names }) }
+        ensures processes { IfOk result (λ t. t.processes ≡ record { book = book; transceiver = first_over names limits mode; names = names }) }
         ensures line { IfOk result (λ t. Stands [] t.line) }
         ensures sending { IfOk result (λ t. Gave [] [] t.sending) }
     {
-        let transceiver = Transceiver::new(alloc, mode)?;
+        let mut transceiver = Transceiver::within(alloc, limits, mode)?;
+        transceiver.tell_odd(is_there(names.options.odd));
         Ok(Terminal {
             alloc,
             processes: Processes {
@@ -101,7 +104,8 @@ impl Terminal {
     }
 
     /// Hands out, in order, what the far side may lack (Q.704, retrieval): what comes after the number, 0 to 127, that it
-    /// accepted last, or, where that number isn't known, what was never sent. Nothing is kept to send then.
+    /// accepted last, or, where that number isn't known, what was never sent. Nothing is kept to send then. Where messages were out the
+    /// actors are told that none is out any more.
     ///
     /// # Errors
     ///
@@ -111,10 +115,12 @@ impl Terminal {
         ensures bad { (result ≡ Err RetrieveError.BadAck) ↔ (self.old.processes.transceiver.sender.sent < count_known self.old.processes.transceiver.sender accepted) }
         ensures messages { IfOk result (λ messages. messages.items ≡ retrieved self.old.processes.transceiver.sender accepted) }
         ensures whole { IfOk result (λ messages. All IsMessage messages.items) }
-        ensures ok { OnOk result (self.new ≡ term_with_transceiver self.old (record self.old.processes.transceiver { sender = emptied self.old.processes.transceiver.sender accepted })) }
+        ensures ok { OnOk result (self.new ≡ with_processes self.old (handed_out accepted self.old.processes)) }
+        ensures kept { OnOk result ((window_of self.new).kept ≡ []) }
         ensures err { OnErr result (self.new ≡ self.old) }
     {
-        self.processes.transceiver.retrieve(accepted)
+        unacknowledged_messages_stay();
+        self.processes.retrieve(accepted)
     }
 
     /// What is to be handed out next: messages first, then what was told of the link, each in order.

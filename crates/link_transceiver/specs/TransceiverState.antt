@@ -64,7 +64,7 @@ pub record TransceiverState : Type 0 where
   pub came : Bool
 
 -- that of a terminal that is made, with these limits of forced retransmission
-unfoldable pub first_within : RoundLimits → Mode → TransceiverState
+abbrev pub first_within : RoundLimits → Mode → TransceiverState
 first_within limits mode = record {
   sender = start_within limits mode;
   receiver = first_intake mode;
@@ -87,5 +87,5 @@ first_within limits mode = record {
 }
 
 -- with the usual ones
-abbrev pub first_transceiver : Mode → TransceiverState
+unfoldable pub first_transceiver : Mode → TransceiverState
 first_transceiver mode = first_within usual_limits mode

@@ -68,6 +68,7 @@ impl Model for Transceiver {
 
 impl Transceiver {
     /// That of a link which is out of service: nothing is kept, and nothing goes out.
+    #[tactic(auto, unfolding(crate::specs::TransceiverState::first_transceiver))]
     pub fn new(alloc: Global, mode: Mode) -> Result<Transceiver, AllocError>
         ensures { IfOk result (λ transceiver. transceiver ≡ first_transceiver mode) }
     {
@@ -75,7 +76,6 @@ impl Transceiver {
     }
 
     /// The same with these limits of forced retransmission.
-    #[tactic(auto, unfolding(crate::specs::TransceiverState::first_within))]
     pub fn within(alloc: Global, limits: RoundLimits, mode: Mode) -> Result<Transceiver, AllocError>
         ensures { IfOk result (λ transceiver. transceiver ≡ first_within limits mode) }
     {
