@@ -89,6 +89,7 @@ option_word option.Continue = codes "Continue"
 option_word option.Overload = codes "Overload"
 option_word option.Deliver = codes "Deliver"
 option_word option.Cleared = codes "Cleared"
+option_word option.Clear = codes "Clear"
 option_word option.Odd = codes "Odd"
 
 abbrev pub option_sorts : OptionName → List Sort
@@ -97,6 +98,7 @@ option_sorts option.Continue = []
 option_sorts option.Overload = []
 option_sorts option.Deliver = Boolean ∷ []
 option_sorts option.Cleared = []
+option_sorts option.Clear = []
 option_sorts option.Odd = Integer ∷ []
 
 -- the number of no signal
@@ -182,6 +184,7 @@ pub record AreOptions (d : Draft) (x : Options) : Type 0 where
   pub overload : IsOption d x.overload option.Overload
   pub deliver : IsOption d x.deliver option.Deliver
   pub cleared : IsOption d x.cleared option.Cleared
+  pub clear : IsOption d x.clear option.Clear
   pub odd : IsOption d x.odd option.Odd
 
 pub record AreNames (d : Draft) (n : Names) : Type 0 where

@@ -19,7 +19,7 @@ use Rattle.link_transceiver.specs.declared.offers.Offer.{Offer}
 use Rattle.link_transceiver.specs.declared.offers.UnitOut.{UnitOut}
 use Rattle.link_transceiver.specs.declared.signals.EnvSignal.{EnvSignal}
 use Rattle.link_transceiver.specs.TransceiverState.{TransceiverState}
-use Rattle.link_transceiver.specs.Effects.{effect}
+use Rattle.link_transceiver.specs.Effects.{effect, clears}
 use Rattle.link_transceiver.specs.Judging.{Judged, judged}
 use Rattle.link_transceiver.specs.Going.{gone}
 use Rattle.link_transceiver.specs.Offers.{error_offers, acknowledgement_seen}
@@ -139,6 +139,22 @@ unfoldable pub handed_out : Option ℕ → Processes → Processes
 handed_out accepted t =
     told_of (none_out (nat_lt 0 t.transceiver.sender.sent))
     (with_transceiver t (record t.transceiver { sender = without_kept t.transceiver.sender accepted }))
+
+-- ---- buffers that are emptied
+
+-- all that is kept to send is gone, and it is told that no message is out
+unfoldable pub buffers_emptied : Processes → Processes
+buffers_emptied t =
+    offered (offer_event t.names (acknowledgement_seen false))
+    (with_transceiver t (clears t.transceiver))
+
+-- where an actor asked for that
+unfoldable pub clear_obeyed : Processes → Processes
+clear_obeyed t = if t.transceiver.clearing then buffers_emptied t else t
+
+-- so many messages go then
+abbrev pub to_clear : Processes → ℕ
+to_clear t = if t.transceiver.clearing then length t.transceiver.sender.kept else 0
 
 -- ---- the journal
 

@@ -111,7 +111,8 @@ plain_told n s =
     else (if s.0 == n.outputs.in_service_now.0 then Some signal.InServiceNow
     else (if s.0 == n.outputs.remote_out.0 then Some signal.RemoteOut
     else (if s.0 == n.outputs.remote_back.0 then Some signal.RemoteBack
-    else (if s.0 == n.options.cleared.0 then Some signal.Cleared else None))))
+    else (if s.0 == n.options.cleared.0 then Some signal.Cleared
+    else (if s.0 == n.options.clear.0 then Some signal.Clear else None)))))
 
 abbrev pub value_told : Names → SignalNumber → Value → Option EnvSignal
 value_told n s (Int z) = integer_told n.outputs s z

@@ -132,6 +132,7 @@ wanted =
     ∷ MaySend process.Cc option.Overload
     ∷ MayHear option.Deliver
     ∷ MayHear option.Cleared
+    ∷ MayHear option.Clear
     ∷ MaySend process.Rc option.Odd
     ∷ []
 

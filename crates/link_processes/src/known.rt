@@ -125,6 +125,7 @@ fn options(set: &Verified) -> Options
         overload: option(set, OptionName::Overload),
         deliver: option(set, OptionName::Deliver),
         cleared: option(set, OptionName::Cleared),
+        clear: option(set, OptionName::Clear),
         odd: option(set, OptionName::Odd),
     }
 }

@@ -71,6 +71,7 @@ pub struct Options {
     pub overload: SignalNumber,
     pub deliver: SignalNumber,
     pub cleared: SignalNumber,
+    pub clear: SignalNumber,
     pub odd: SignalNumber,
 }
 
@@ -203,6 +204,8 @@ fn plain_told(names: &Names, signal: SignalNumber) -> Option<EnvSignal>
         Some(EnvSignal::RemoteBack)
     } else if signal.0 == names.options.cleared.0 {
         Some(EnvSignal::Cleared)
+    } else if signal.0 == names.options.clear.0 {
+        Some(EnvSignal::Clear)
     } else {
         None
     }

@@ -10,7 +10,7 @@ ghost use Rattle.actor_book.specs.Answered.{answer_by};
 ghost use Rattle.link_transceiver.specs.Laws.{Loses};
 ghost use Rattle.link_transceiver.specs.Limits.{KEPT_MESSAGES};
 ghost use Rattle.link_processes.specs.Offering.{command_event, offer_event};
-ghost use Rattle.link_processes.specs.Machine.{with_book, with_transceiver, heard, rested, offered, all_offered, noted_by, unit_taken, error_taken, told_of, none_out, handed_out, sent, tidied, is_low, tick_refusal};
+ghost use Rattle.link_processes.specs.Machine.{with_book, with_transceiver, heard, rested, offered, all_offered, noted_by, unit_taken, error_taken, told_of, none_out, handed_out, buffers_emptied, clear_obeyed, to_clear, sent, tidied, is_low, tick_refusal};
 
 use crate::commands::{Command, command_number, command_signal};
 use crate::laws::{accepted_messages_wait_in_order, unacknowledged_messages_stay};
@@ -137,6 +137,33 @@ impl Processes {
             }
             Err(why) => Err(why),
         }
+    }
+
+    /// Empties the buffers, where an actor asked for that since it was last done (Q.703, figure 13): what waits and what is unacknowledged goes,
+    /// and is counted. The actors are told that no message is out, and come to rest. How many messages went.
+    #[tactic(auto, unfolding(crate::specs::Machine::clear_obeyed))]
+    pub fn obey_clear(&mut self) -> usize
+        ensures count { result ≡ to_clear self.old }
+        ensures processes { self.new ≡ clear_obeyed self.old }
+    {
+        if !self.transceiver.is_to_clear() {
+            return 0;
+        }
+        let kept = self.transceiver.held();
+        self.empty_buffers();
+        kept
+    }
+
+    /// Empties the buffers.
+    #[tactic(auto, unfolding(crate::specs::Machine::buffers_emptied))]
+    fn empty_buffers(&mut self)
+        ensures { self.new ≡ buffers_emptied self.old }
+    {
+        self.transceiver.clear();
+        self.offer(Offer {
+            to: Party::Txc,
+            notice: Notice::AckSeen(false),
+        });
     }
 
     /// Tells that no message is out, where some were.

@@ -47,7 +47,7 @@ impl fmt::Display for Wanted {
 
 /// All that a terminal wants, in the order in which it is asked for: the processes, what the environment sends to each, and what comes to
 /// it.
-pub(crate) fn all_wanted() -> [Wanted; 37]
+pub(crate) fn all_wanted() -> [Wanted; 38]
     ensures { result ≡ wanted }
 {
     [
@@ -87,6 +87,7 @@ pub(crate) fn all_wanted() -> [Wanted; 37]
         Wanted::MaySend(ProcessName::Cc, OptionName::Overload),
         Wanted::MayHear(OptionName::Deliver),
         Wanted::MayHear(OptionName::Cleared),
+        Wanted::MayHear(OptionName::Clear),
         Wanted::MaySend(ProcessName::Rc, OptionName::Odd),
     ]
 }

@@ -51,6 +51,7 @@ pub enum OptionName {
     Overload,
     Deliver,
     Cleared,
+    Clear,
     Odd,
 }
 
@@ -141,6 +142,7 @@ impl OptionName {
             OptionName::Overload => "Overload",
             OptionName::Deliver => "Deliver",
             OptionName::Cleared => "Cleared",
+            OptionName::Clear => "Clear",
             OptionName::Odd => "Odd",
         }
     }
@@ -152,8 +154,11 @@ impl OptionName {
         match self {
             OptionName::Deliver => &[Sort::Boolean],
             OptionName::Odd => &[Sort::Integer],
-            OptionName::Flush | OptionName::Continue | OptionName::Overload | OptionName::Cleared =>
-                &[],
+            OptionName::Flush
+            | OptionName::Continue
+            | OptionName::Overload
+            | OptionName::Cleared
+            | OptionName::Clear => &[],
         }
     }
 }

@@ -11,7 +11,7 @@ ghost use Rattle.resend_store.specs.Limits.{MOST_WAITING, MOST_KEPT};
 ghost use Rattle.link_transceiver.specs.Limits.{KEPT_MESSAGES};
 ghost use Rattle.link_term.specs.Kept.{window_of};
 ghost use Rattle.link_term.specs.Term.{with_processes, term_with_transceiver};
-ghost use Rattle.link_processes.specs.Machine.{handed_out};
+ghost use Rattle.link_processes.specs.Machine.{handed_out, clear_obeyed, to_clear};
 
 use bit_line::{Deframer, Stuffer};
 use link_processes::{Book, Names, Processes, is_there, unacknowledged_messages_stay};
@@ -121,6 +121,26 @@ impl Terminal {
     {
         unacknowledged_messages_stay();
         self.processes.retrieve(accepted)
+    }
+
+    /// Empties the buffers, where the text asked for that by Clear since this was last called (Q.703, figure 13): what waits and what is
+    /// unacknowledged goes, the next new message has the number behind the last that was acknowledged, and the actors are told that no message is
+    /// out. How many messages went.
+    ///
+    /// It is called behind each other call by whoever lets a text clear; no other call takes messages away but by an acknowledgement, and
+    /// `retrieve`.
+    pub fn obey_clear(&mut self) -> usize
+        ensures count { result ≡ to_clear self.old.processes }
+        ensures terminal { self.new ≡ with_processes self.old (clear_obeyed self.old.processes) }
+    {
+        self.processes.obey_clear()
+    }
+
+    /// How many messages were cleared since the terminal was made: 2^64 - 1 where there were that many or more.
+    pub fn cleared(&self) -> u64
+        ensures { result ≡ self.now.processes.transceiver.cleared }
+    {
+        self.processes.transceiver.cleared()
     }
 
     /// What is to be handed out next: messages first, then what was told of the link, each in order.

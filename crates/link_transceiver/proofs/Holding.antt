@@ -171,6 +171,7 @@ effect-hold signal.InServiceNow h = refl
 effect-hold (signal.Down reason) h = refl
 effect-hold signal.RemoteOut h = refl
 effect-hold signal.RemoteBack h = refl
+effect-hold signal.Clear h = refl
 effect-hold signal.Cleared h = refl
 
 pub holds_back : HoldsBack

@@ -59,6 +59,7 @@ effect-loses signal.InServiceNow h = same_loses h.sender h.sender refl
 effect-loses (signal.Down reason) h = same_loses h.sender h.sender refl
 effect-loses signal.RemoteOut h = same_loses h.sender h.sender refl
 effect-loses signal.RemoteBack h = same_loses h.sender h.sender refl
+effect-loses signal.Clear h = same_loses h.sender h.sender refl
 effect-loses signal.Cleared h = same_loses h.sender h.sender refl
 
 pub effect-messages : (s : EnvSignal) (h : TransceiverState) → (effect s h).messages ≡ h.messages
@@ -73,6 +74,7 @@ effect-messages signal.InServiceNow h = refl
 effect-messages (signal.Down reason) h = refl
 effect-messages signal.RemoteOut h = refl
 effect-messages signal.RemoteBack h = refl
+effect-messages signal.Clear h = refl
 effect-messages signal.Cleared h = refl
 
 pub kept_if : (b : Bool) (x y : Window) (ms : List Msu) → x.kept ≡ ms → y.kept ≡ ms → (if b then x else y).kept ≡ ms

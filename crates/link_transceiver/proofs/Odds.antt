@@ -172,6 +172,7 @@ effect-cleared signal.InServiceNow h = refl
 effect-cleared (signal.Down reason) h = refl
 effect-cleared signal.RemoteOut h = refl
 effect-cleared signal.RemoteBack h = refl
+effect-cleared signal.Clear h = refl
 effect-cleared signal.Cleared h = refl
 
 clear-number : (h : TransceiverState) → last_acknowledged (clears h).sender ≡ last_acknowledged h.sender

@@ -55,6 +55,7 @@ unfoldable pub clears : TransceiverState → TransceiverState
 clears h = record h {
   sender = emptied h.sender None;
   spare = if nat_lt 0 h.sender.sent then h.sender.sent else h.spare;
+  clearing = false;
   cleared = counted h.cleared (length h.sender.kept);
 }
 
@@ -109,4 +110,5 @@ effect (signal.Down reason) h =
     told (status.Down reason) (record h { in_service = false; far_out = false })
 effect signal.RemoteOut h = told status.RemoteOut (record h { far_out = true })
 effect signal.RemoteBack h = told status.RemoteBack (record h { far_out = false })
+effect signal.Clear h = record h { clearing = true }
 effect signal.Cleared h = told status.Cleared h

@@ -16,6 +16,7 @@ transceiver_state_of s = record {
   odd = s.odd;
   behind_odd = s.behind_odd;
   spare = s.spare;
+  clearing = s.clearing;
   cleared = s.cleared;
   faults = s.faults;
   messages = s.messages;

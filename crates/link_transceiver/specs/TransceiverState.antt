@@ -48,6 +48,8 @@ pub record TransceiverState : Type 0 where
   pub behind_odd : Bool
   -- how many messages were out as the buffers were emptied, until a message goes out
   pub spare : ℕ
+  -- whether the buffers are to be emptied
+  pub clearing : Bool
   -- how many messages were cleared
   pub cleared : ℕ
   -- what was wrong with the last three units that went through the stores, the newest first
@@ -77,6 +79,7 @@ first_within limits mode = record {
   odd = false;
   behind_odd = false;
   spare = 0;
+  clearing = false;
   cleared = 0;
   faults = no_faults;
   messages = [];

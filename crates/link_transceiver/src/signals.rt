@@ -38,6 +38,8 @@ pub enum EnvSignal {
     RemoteOut,
     /// It is back.
     RemoteBack,
+    /// The buffers are to be emptied (Q.703, figure 13). That is done once it is asked for (`Transceiver::clear`).
+    Clear,
     /// The buffers were emptied (Q.703, figure 13).
     Cleared,
 }

@@ -43,6 +43,8 @@ pub struct Transceiver {
     pub(crate) behind_odd: bool,
     /// How many messages were out as the buffers were emptied, until a message goes out.
     pub(crate) spare: u8,
+    /// Whether the buffers are to be emptied.
+    clearing: bool,
     /// How many messages were cleared.
     cleared: u64,
     pub(crate) faults: LastThree,
@@ -94,6 +96,7 @@ impl Transceiver {
             odd: false,
             behind_odd: false,
             spare: 0,
+            clearing: false,
             cleared: 0,
             faults: LastThree::new(),
             messages,
@@ -133,6 +136,7 @@ impl Transceiver {
                 self.far_out = false;
                 self.tell(LinkStatus::RemoteBack);
             }
+            EnvSignal::Clear => self.clearing = true,
             EnvSignal::Cleared => self.tell(LinkStatus::Cleared),
         }
     }
@@ -149,7 +153,15 @@ impl Transceiver {
             self.spare = sent as u8;
         }
         self.cleared = self.cleared.saturating_add(kept as u64);
+        self.clearing = false;
         self.sender.clear();
+    }
+
+    /// Whether an actor asked for that, and it wasn't done since.
+    pub fn is_to_clear(&self) -> bool
+        ensures { result ≡ self.now.clearing }
+    {
+        self.clearing
     }
 
     /// How many messages were cleared: 2^64 - 1 where there were that many or more.
