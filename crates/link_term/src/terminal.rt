@@ -2,7 +2,7 @@
 ghost use Rattle.std.specs.Prelude.{◌≡◌, ◌↔◌, ◌<◌, ◌≤◌, [], IsTrue, false, length, All, IfOk, OnOk, OnErr, IfSome, Err, slice_get};
 ghost use Rattle.std.specs.Option.{option_copied};
 ghost use Rattle.resend_store.specs.Messages.{IsMessage};
-ghost use Rattle.resend_store.specs.Window.{IsWindow, waiting, with_put, retrieved, count_known, last_acknowledged};
+ghost use Rattle.resend_store.specs.Window.{IsWindow, waiting, with_put, retrieved, emptied, count_known, last_acknowledged};
 ghost use Rattle.bit_line.specs.Deframing.{Stands};
 ghost use Rattle.bit_line.specs.Stuffers.{Gave};
 ghost use Rattle.link_term.specs.Opening.{first_over};
@@ -104,13 +104,29 @@ impl Terminal {
     }
 
     /// Hands out, in order, what the far side may lack (Q.704, retrieval): what comes after the number, 0 to 127, that it
-    /// accepted last, or, where that number isn't known, what was never sent. Nothing is kept to send then. Where messages were out the
-    /// actors are told that none is out any more.
+    /// accepted last, or, where that number isn't known, what was never sent. Nothing is kept to send then. The actors aren't told.
     ///
     /// # Errors
     ///
     /// `E2 BadAck` where the number acknowledges more than is sent, and then `NoMemory`. Nothing changes in either case.
     pub fn retrieve(&mut self, accepted: Option<u8>) -> Result<VecDeque<Msu>, RetrieveError>
+        requires { IfSome accepted (λ fsn. fsn < 128) }
+        ensures bad { (result ≡ Err RetrieveError.BadAck) ↔ (self.old.processes.transceiver.sender.sent < count_known self.old.processes.transceiver.sender accepted) }
+        ensures messages { IfOk result (λ messages. messages.items ≡ retrieved self.old.processes.transceiver.sender accepted) }
+        ensures whole { IfOk result (λ messages. All IsMessage messages.items) }
+        ensures ok { OnOk result (self.new ≡ term_with_transceiver self.old (record self.old.processes.transceiver { sender = emptied self.old.processes.transceiver.sender accepted })) }
+        ensures err { OnErr result (self.new ≡ self.old) }
+    {
+        self.processes.transceiver.retrieve(accepted)
+    }
+
+    /// The same; and where messages were out the actors are told that none is out any more, so that nobody waits for an acknowledgement of what
+    /// is gone.
+    ///
+    /// # Errors
+    ///
+    /// Those of `retrieve`. Nothing changes then.
+    pub fn retrieve_telling(&mut self, accepted: Option<u8>) -> Result<VecDeque<Msu>, RetrieveError>
         requires { IfSome accepted (λ fsn. fsn < 128) }
         ensures bad { (result ≡ Err RetrieveError.BadAck) ↔ (self.old.processes.transceiver.sender.sent < count_known self.old.processes.transceiver.sender accepted) }
         ensures messages { IfOk result (λ messages. messages.items ≡ retrieved self.old.processes.transceiver.sender accepted) }
