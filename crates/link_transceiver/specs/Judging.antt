@@ -120,6 +120,10 @@ abbrev pub discarded : TransceiverState → Head → Stored
 discarded h head =
     record { transceiver = remembered (fault_of h head) h; count = 0; fault = fault_of h head }
 
+-- by the stores, or behind a unit at fault alone
+abbrev pub led : TransceiverState → Head → Option Msu → Stored
+led h head msu = if h.behind_odd then discarded h head else stored h head msu
+
 -- The next unit is discarded where this one is at fault, and Odd tells of that.
 abbrev pub minding : Bool → Stored → Stored
 minding odd s =
@@ -127,9 +131,7 @@ minding odd s =
 
 -- a fill-in or message signal unit while units are taken
 unfoldable pub heard : TransceiverState → Head → Option Msu → Stored
-heard h head msu =
-    minding h.odd (if h.behind_odd then discarded h (head_heeded h head)
-    else stored h (head_heeded h head) msu)
+heard h head msu = minding h.odd (led h (head_heeded h head) msu)
 
 -- ---- what is offered
 

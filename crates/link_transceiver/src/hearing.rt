@@ -5,7 +5,7 @@ ghost use Rattle.arrayvec.specs.ArrayVec.{array_vec_len};
 ghost use Rattle.resend_store.specs.Window.{count_by};
 ghost use Rattle.su_octets.specs.Whole.{IsWhole, IsWholeHead};
 ghost use Rattle.link_transceiver.specs.Limits.{KEPT_MESSAGES};
-ghost use Rattle.link_transceiver.specs.Judging.{acknowledged, accepts, hears, sets_aside, hearing, is_abnormal, fault_in, received, stored, bsn_heeded, head_heeded, fault_of, discarded, heard, through, by_stores, judged, acknowledgement_offers, fault_offers, sign_by};
+ghost use Rattle.link_transceiver.specs.Judging.{acknowledged, accepts, hears, sets_aside, hearing, is_abnormal, fault_in, received, stored, bsn_heeded, head_heeded, fault_of, discarded, led, heard, through, by_stores, judged, acknowledgement_offers, fault_offers, sign_by};
 ghost use Rattle.link_transceiver.specs.Offers.{to_monitors, unit_seen, odd_seen};
 
 use crate::faults::Fault;
@@ -79,7 +79,8 @@ impl Transceiver {
         )
     }
 
-    /// Leads a unit through the stores, or behind one at fault judges it alone. How many messages it acknowledges, and what is wrong with it.
+    /// Leads a unit through the stores, or behind one at fault judges it alone, and minds whether the next is behind one. How many messages it
+    /// acknowledges, and what is wrong with it.
     #[tactic(auto, unfolding(crate::specs::Judging::heard))]
     fn hear_unit(&mut self, head: &Head, msu: Option<Msu>) -> (usize, Option<Fault>)
         requires whole { IsWholeHead head.now }
@@ -89,13 +90,26 @@ impl Transceiver {
         ensures fault { result.1 ≡ (heard self.old head.now msu).fault }
     {
         let head = self.heed(head);
-        let (count, fault) = if self.behind_odd {
-            (0, self.discard(&head))
-        } else {
-            self.store(&head, msu)
-        };
-        self.behind_odd = self.odd && fault.is_some();
+        let odd = self.odd;
+        let (count, fault) = self.lead(&head, msu);
+        self.behind_odd = odd && fault.is_some();
         (count, fault)
+    }
+
+    /// Leads a unit through the stores, or behind one at fault judges it alone.
+    fn lead(&mut self, head: &Head, msu: Option<Msu>) -> (usize, Option<Fault>)
+        requires whole { IsWholeHead head.now }
+        requires room { length self.old.messages < KEPT_MESSAGES }
+        ensures transceiver { self.new ≡ (led self.old head.now msu).transceiver }
+        ensures count { result.0 ≡ (led self.old head.now msu).count }
+        ensures fault { result.1 ≡ (led self.old head.now msu).fault }
+    {
+        if self.behind_odd {
+            let fault = self.discard(head);
+            (0, fault)
+        } else {
+            self.store(head, msu)
+        }
     }
 
     /// Judges a unit behind one at fault, which then counts among the last three. What is wrong with it.
