@@ -14,7 +14,7 @@ ghost use Rattle.link_term.specs.Term.{with_processes, term_with_transceiver};
 ghost use Rattle.link_processes.specs.Machine.{handed_out, clear_obeyed, to_clear};
 
 use bit_line::{Deframer, Stuffer};
-use link_processes::{Book, Names, Processes, is_there, unacknowledged_messages_stay};
+use link_processes::{Book, Names, Processes, is_there};
 use link_transceiver::{Hold, LineKind, Report, Transceiver};
 use resend_store::{Mode, Msu, PutError, RetrieveError, RoundLimits};
 use std::alloc::{AllocError, Global};
@@ -132,10 +132,8 @@ impl Terminal {
         ensures messages { IfOk result (λ messages. messages.items ≡ retrieved self.old.processes.transceiver.sender accepted) }
         ensures whole { IfOk result (λ messages. All IsMessage messages.items) }
         ensures ok { OnOk result (self.new ≡ with_processes self.old (handed_out accepted self.old.processes)) }
-        ensures kept { OnOk result ((window_of self.new).kept ≡ []) }
         ensures err { OnErr result (self.new ≡ self.old) }
     {
-        unacknowledged_messages_stay();
         self.processes.retrieve(accepted)
     }
 
