@@ -21,16 +21,16 @@ use Rattle.link_transceiver.specs.Laws.{CountsCleared, DiscardsBehindOdd, accept
 
 -- ---- behind a unit at fault
 
-none_behind : (a b c : Bool) (ms : List Msu) → b ≡ true → (if a && not b && c then ms else []) ≡ []
-none_behind true true c ms e = refl
-none_behind true false c ms e = absurd (cc)
-none_behind false b c ms e = refl
+none_behind : (a b c d : Bool) (ms : List Msu) → b ≡ true → (if a && not b && c && d then ms else []) ≡ []
+none_behind true true c d ms e = refl
+none_behind true false c d ms e = absurd (cc)
+none_behind false b c d ms e = refl
 
 behind-accepted : (h : TransceiverState) (u : Unit) → h.behind_odd ≡ true → accepted_of h u ≡ []
 behind-accepted h (unit.Fisu head) e = refl
 behind-accepted h (unit.Lssu head status second) e = refl
 behind-accepted h (unit.Msu head sio sif) e =
-    none_behind h.take h.behind_odd (not (is_abnormal h.sender (bsn_heeded h head.bsn)) && is_accept (hearing (accepts h) h.receiver (head_heeded h head) true).verdict)
+    none_behind h.take h.behind_odd (not (is_abnormal h.sender (bsn_heeded h head.bsn))) (is_accept (hearing (accepts h) h.receiver (head_heeded h head) true).verdict)
     (record { sio = sio; sif = sif } ∷ []) e
 
 behind_by : (h : TransceiverState) (head : Head) (msu : Option Msu) (b : Bool) → b ≡ true →

@@ -85,12 +85,12 @@ refused h = record {
 -- one whose backward number is taken
 abbrev pub taken : TransceiverState → Head → Option Msu → Stored
 taken h head msu =
-    let heard = hearing (accepts h) h.receiver head (is_some msu) in
+    let learned = hearing (accepts h) h.receiver head (is_some msu) in
     record {
-      transceiver = received heard msu
+      transceiver = received learned msu
           (record h { sender = acknowledged h.sender head.bsn head.bib });
       count = count_by h.sender head.bsn;
-      fault = fault_in heard.verdict;
+      fault = fault_in learned.verdict;
     }
 
 unfoldable pub stored : TransceiverState → Head → Option Msu → Stored
