@@ -43,7 +43,8 @@ pub record MessagesLaw : Type 0 where
       → length (unit_taken u t).transceiver.messages ≤ length t.transceiver.messages + 1
 
 -- Of what is kept to send a unit that comes takes away the messages that it acknowledges, and a
--- retrieval and an emptying of the buffers take all; nothing else takes any away, and but for units that go out nothing lets more of them count as sent.
+-- retrieval and an emptying of the buffers take all. Nothing else takes any away, and but for units
+-- that go out nothing lets more of them count as sent.
 pub record KeptLaw : Type 0 where
   pub events :
       (e : Event) (t : Processes) → Loses [] t.transceiver.sender (offered e t).transceiver.sender

@@ -138,7 +138,8 @@ none_out false = None
 unfoldable pub handed_out : Option ℕ → Processes → Processes
 handed_out accepted t =
     told_of (none_out (nat_lt 0 t.transceiver.sender.sent))
-    (with_transceiver t (record t.transceiver { sender = without_kept t.transceiver.sender accepted }))
+    (with_transceiver t
+    (record t.transceiver { sender = without_kept t.transceiver.sender accepted }))
 
 -- ---- buffers that are emptied
 

@@ -145,7 +145,7 @@ unfoldable pub acknowledgement_offers : TransceiverState → ℕ → List Offer
 acknowledgement_offers h count =
     if nat_lt 0 count then acknowledgement_seen (nat_lt 0 h.sender.sent) ∷ [] else []
 
--- where two of the last three units had one fault; where Odd tells of faults, behind a unit at fault
+-- where two of the last three units had one fault; where Odd tells of faults, if this one has one
 unfoldable pub fault_offers : TransceiverState → Option Fault → List Offer
 fault_offers h fault =
     if is_failing h.faults && (not h.odd || is_some fault) then two_bad ∷ [] else []

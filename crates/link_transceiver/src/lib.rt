@@ -2,6 +2,7 @@
 //! both stores, what goes out next, faults and reports.
 #![tactic(auto)]
 
+mod clearing;
 mod faults;
 mod hearing;
 mod kept;

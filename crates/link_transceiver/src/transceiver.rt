@@ -4,7 +4,7 @@ ghost use Rattle.std.specs.Option.{option_copied};
 ghost use Rattle.resend_store.specs.Limits.{MOST_WAITING, MOST_KEPT};
 ghost use Rattle.resend_store.specs.Messages.{IsMessage};
 ghost use Rattle.resend_store.specs.Window.{IsWindow, waiting, with_put, retrieved, emptied, count_known, last_acknowledged};
-ghost use Rattle.link_transceiver.specs.Effects.{effect, backward_of, renewed, clears, directed, kind_named, kind_by, is_busy_named, withheld_by, told, latest};
+ghost use Rattle.link_transceiver.specs.Effects.{effect, backward_of, renewed, directed, kind_named, kind_by, is_busy_named, withheld_by, told, latest};
 ghost use Rattle.link_transceiver.specs.TransceiverState.{IsBackward, first_transceiver, first_within};
 ghost use Rattle.link_transceiver.specs.Limits.{KEPT_MESSAGES};
 ghost use Rattle.link_transceiver.specs.Reporting.{reported};
@@ -44,9 +44,9 @@ pub struct Transceiver {
     /// How many messages were out as the buffers were emptied, until a message goes out.
     pub(crate) spare: u8,
     /// Whether the buffers are to be emptied.
-    clearing: bool,
+    pub(crate) clearing: bool,
     /// How many messages were cleared.
-    cleared: u64,
+    pub(crate) cleared: u64,
     pub(crate) faults: LastThree,
     pub(crate) messages: KeptQueue<Msu, MESSAGES>,
     statuses: KeptQueue<LinkStatus, STATUSES>,
@@ -139,43 +139,6 @@ impl Transceiver {
             EnvSignal::Clear => self.clearing = true,
             EnvSignal::Cleared => self.tell(LinkStatus::Cleared),
         }
-    }
-
-    /// Empties the buffers (Q.703, figure 13): what waits and what is unacknowledged goes, and the numbers go on after the last acknowledged
-    /// one. What goes is counted.
-    #[tactic(auto, unfolding(crate::specs::Effects::clears))]
-    pub fn clear(&mut self)
-        ensures { self.new ≡ clears self.old }
-    {
-        let kept = self.sender.held();
-        let sent = self.sender.sent();
-        if sent > 0 {
-            self.spare = sent as u8;
-        }
-        self.cleared = self.cleared.saturating_add(kept as u64);
-        self.clearing = false;
-        self.sender.clear();
-    }
-
-    /// Whether an actor asked for that, and it wasn't done since.
-    pub fn is_to_clear(&self) -> bool
-        ensures { result ≡ self.now.clearing }
-    {
-        self.clearing
-    }
-
-    /// How many messages were cleared: 2^64 - 1 where there were that many or more.
-    pub fn cleared(&self) -> u64
-        ensures { result ≡ self.now.cleared }
-    {
-        self.cleared
-    }
-
-    /// Says whether units at fault are told of by `Notice::Odd`, and the ones behind them discarded.
-    pub fn tell_odd(&mut self, odd: bool)
-        ensures { self.new ≡ record self.old { odd = odd } }
-    {
-        self.odd = odd;
     }
 
     /// Takes a message to send, with a field of 2 octets or more. It waits behind all others.
