@@ -64,7 +64,7 @@ impl fmt::Display for PlayFault<'_> {
             ),
             Self::NoOrder { word } => write!(
                 f,
-                "'{word}' is none of power, start, stop, emergency, calm, outage, back, busy and free",
+                "'{word}' is none of power, start, stop, emergency, calm, outage, back, busy, free, flush, continue and overload",
             ),
             Self::NoMode { word } => write!(f, "'{word}' is neither basic nor cyclic"),
             Self::NoUnit { word } => write!(

@@ -47,6 +47,9 @@ command_of word.Outage = command.Outage
 command_of word.Back = command.Back
 command_of word.Busy = command.Busy
 command_of word.Free = command.Free
+command_of word.Flush = command.Flush
+command_of word.Continue = command.Continue
+command_of word.Overload = command.Overload
 
 -- Behind an event that the book takes the actors come to rest; one that it refuses changes nothing.
 -- Room is made in the journal before either, where fewer than half of its places are free.

@@ -14,6 +14,7 @@ fn status_text(alloc: Global, status: LinkStatus) -> Result<String, AllocError>
         LinkStatus::Down(reason) => format!(in alloc; "down {reason}"),
         LinkStatus::RemoteOut => String::from_str(alloc, "far out"),
         LinkStatus::RemoteBack => String::from_str(alloc, "far back"),
+        LinkStatus::Cleared => String::from_str(alloc, "cleared"),
     }
 }
 
@@ -28,8 +29,8 @@ fn message_text(alloc: Global, message: &Msu) -> Result<String, AllocError>
     format!(in alloc; "message {digits}")
 }
 
-/// What is told of a report: `in service`, `down R` with the reason, `far out`, `far back`, or `message HEX` with the octets of the
-/// message, its service information octet first.
+/// What is told of a report: `in service`, `down R` with the reason, `far out`, `far back`, `cleared`, or `message HEX` with the octets
+/// of the message, its service information octet first.
 #[tactic(auto, unfolding(crate::specs::Told::report_text))]
 pub fn report_text(alloc: Global, report: &Report) -> Result<String, AllocError>
     ensures { IfOk result (λ text. string_bytes text ≡ report_text report.now) }
