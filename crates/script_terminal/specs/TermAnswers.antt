@@ -3,7 +3,7 @@ use Rattle.std.specs.Prelude.{◌≡◌, ◌⊎◌, ℕ, ◌<◌, ◌≤◌, zer
 use Rattle.std.specs.Prelude.{◌++◌, length, Option, None, Some, codes}
 use Rattle.std.specs.Fmt.{decimal}
 use Rattle.resend_store.specs.Limits.{MOST_WAITING}
-use Rattle.resend_store.specs.Window.{waiting, with_put, retrieved, emptied, count_known}
+use Rattle.resend_store.specs.Window.{waiting, with_put, retrieved, count_known}
 use Rattle.resend_store.specs.declared.messages.Msu.{Msu}
 use Rattle.su_octets.specs.Printed.{unit_text}
 use Rattle.su_octets.specs.declared.units.Unit as su
@@ -15,7 +15,7 @@ use Rattle.actor_machine.specs.declared.reply.Reply.{Reply}
 use Rattle.actor_machine.specs.declared.reply.Reply.TheVariants as reply
 use Rattle.link_transceiver.specs.Limits.{KEPT_MESSAGES}
 use Rattle.link_transceiver.specs.Reporting.{reported}
-use Rattle.link_term.specs.Machine.{Sent, offered, sent, tidied, is_low}
+use Rattle.link_term.specs.Machine.{Sent, offered, sent, tidied, is_low, handed_out, clear_obeyed}
 use Rattle.link_term.specs.Offering.{command_event}
 use Rattle.link_term.specs.link_processes_types.commands.Command.{Command}
 use Rattle.link_term.specs.link_processes_types.commands.Command.TheVariants as command
@@ -164,11 +164,10 @@ accepted_line t = codes "ok " ++ decimal t.processes.transceiver.receiver.last
 
 -- ---- messages that are handed out
 
--- The terminal behind a retrieval: what it kept is gone.
+-- The terminal behind a retrieval: what it kept is gone, and where messages were out its processes
+-- hear that none is any more.
 abbrev pub behind_retrieve : Option ℕ → Term → Term
-behind_retrieve behind t =
-    term_with_transceiver t
-    (record t.processes.transceiver { sender = emptied t.processes.transceiver.sender behind })
+behind_retrieve behind t = with_processes t (handed_out behind t.processes)
 
 -- Messages are handed out: those behind this number, or without one those that never were sent. A
 -- number that acknowledges more than was sent is refused.
@@ -209,23 +208,34 @@ pub data GoOut : ℕ → Term → List (List ℕ) → Term → Type 0 where
 
 -- What a command that prints one line makes of a terminal, and that line; whether what is told is
 -- kept. `out` and `expect` are none of these: nothing is done for them here.
-abbrev pub Answers : Bool → PlainTermCommand → Term → List ℕ → Term → Type 0
-Answers keeps (order o) t text u = IsAsked (command_event t.processes.names (command_of o)) t text u
-Answers keeps (unit octets) t text u = (text ≡ codes "ok") × ReceivesTimes keeps octets 1 t u
-Answers keeps (units n octets) t text u = (text ≡ codes "ok") × ReceivesTimes keeps octets n t u
-Answers keeps (errors n) t text u = (text ≡ codes "ok") × TakesTimes keeps error_line n t u
-Answers keeps (line octets) t text u = (text ≡ codes "ok") × TakesTimes keeps octets 1 t u
-Answers keeps (msu octets) t text u = IsPut octets t text u
-Answers keeps (out n) t text u = (text ≡ []) × (u ≡ t)
-Answers keeps (ticks n) t text u = IsAsked (Advance n) t text u
-Answers keeps told t text u = Tells t text u
-Answers keeps accepted t text u = (text ≡ accepted_line t) × (u ≡ t)
-Answers keeps (retrieving behind) t text u = Retrieves behind t text u
-Answers keeps (state process) t text u =
+abbrev pub Does : Bool → PlainTermCommand → Term → List ℕ → Term → Type 0
+Does keeps (order o) t text u = IsAsked (command_event t.processes.names (command_of o)) t text u
+Does keeps (unit octets) t text u = (text ≡ codes "ok") × ReceivesTimes keeps octets 1 t u
+Does keeps (units n octets) t text u = (text ≡ codes "ok") × ReceivesTimes keeps octets n t u
+Does keeps (errors n) t text u = (text ≡ codes "ok") × TakesTimes keeps error_line n t u
+Does keeps (line octets) t text u = (text ≡ codes "ok") × TakesTimes keeps octets 1 t u
+Does keeps (msu octets) t text u = IsPut octets t text u
+Does keeps (out n) t text u = (text ≡ []) × (u ≡ t)
+Does keeps (ticks n) t text u = IsAsked (Advance n) t text u
+Does keeps told t text u = Tells t text u
+Does keeps accepted t text u = (text ≡ accepted_line t) × (u ≡ t)
+Does keeps (retrieving behind) t text u = Retrieves behind t text u
+Does keeps (state process) t text u =
     (text ≡ state_line t.processes.book (actor_named t.processes.book process)) × (u ≡ t)
-Answers keeps (shown process variable) t text u =
+Does keeps (shown process variable) t text u =
     (text ≡ value_line t.processes.book variable (actor_named t.processes.book process)) × (u ≡ t)
-Answers keeps (expected text) t said u = (said ≡ []) × (u ≡ t)
+Does keeps (expected text) t said u = (said ≡ []) × (u ≡ t)
+
+-- the buffers are emptied, where the text asked for that
+abbrev pub behind_clear : Term → Term
+behind_clear t = with_processes t (clear_obeyed t.processes)
+
+-- a command was done, and the buffers emptied behind it where the text asked for that
+pub record Answers (keeps : Bool) (c : PlainTermCommand) (t : Term) (text : List ℕ) (u : Term) :
+    Type 0 where
+  pub middle : Term
+  pub does : Does keeps c t text middle
+  pub after : u ≡ behind_clear middle
 
 pub record AnswersOne (keeps : Bool) (c : PlainTermCommand) (t : Term) (lines : List (List ℕ))
     (u : Term) : Type 0 where

@@ -3,7 +3,7 @@ ghost use Rattle.std.specs.Prelude.{◌≡◌, ◌<◌, IfOk, IfSome, IsNone, Is
 ghost use Rattle.actor_machine.specs.declared.event.Event.TheVariants.{Advance};
 ghost use Rattle.link_term.specs.Offering.{command_event};
 ghost use Rattle.script_links.specs.TermCommands.{plain_term_command};
-ghost use Rattle.script_terminal.specs.TermAnswers.{command_of, IsAsked, IsRefusedLine, IsMessageOf, AreNoMessage, IsPut, accepted_line, Tells, Retrieves, Answers};
+ghost use Rattle.script_terminal.specs.TermAnswers.{command_of, IsAsked, IsRefusedLine, IsMessageOf, AreNoMessage, IsPut, accepted_line, Tells, Retrieves, Does, Answers};
 
 use crate::hearing::{receive, take};
 use crate::orders::command_of;
@@ -128,7 +128,7 @@ fn retrieve(
     if !is_number(behind) {
         return Err(AllocError);
     }
-    match terminal.retrieve(behind) {
+    match terminal.retrieve_telling(behind) {
         Ok(messages) => {
             let count = messages.len();
             text_line(alloc, &format_args!("ok {count}"))
@@ -140,13 +140,13 @@ fn retrieve(
 
 /// The line that a command prints, but for `out` and `expect`, for which there is none. Unless it `keeps` what the terminal tells, that is
 /// dropped behind a unit and behind octets of the line.
-pub fn answer(
+fn done(
     alloc: Global,
     terminal: &mut Terminal,
     command: &TermCommand<'_>,
     keeps: bool,
 ) -> Result<Vec<u8>, AllocError>
-    ensures { IfOk result (λ v. Answers keeps (plain_term_command command.now) terminal.old v.items terminal.new) }
+    ensures { IfOk result (λ v. Does keeps (plain_term_command command.now) terminal.old v.items terminal.new) }
 {
     match command {
         TermCommand::Order(order) => tell(alloc, terminal, *order),
@@ -165,4 +165,18 @@ pub fn answer(
         }
         TermCommand::Out(_) | TermCommand::Expect(_) => Ok(Vec::new(alloc)),
     }
+}
+
+/// The same, and behind the command the terminal's buffers are emptied where its text asked for that.
+pub fn answer(
+    alloc: Global,
+    terminal: &mut Terminal,
+    command: &TermCommand<'_>,
+    keeps: bool,
+) -> Result<Vec<u8>, AllocError>
+    ensures { IfOk result (λ v. Answers keeps (plain_term_command command.now) terminal.old v.items terminal.new) }
+{
+    let line = done(alloc, terminal, command, keeps)?;
+    terminal.obey_clear();
+    Ok(line)
 }
