@@ -278,8 +278,9 @@ pub fn term_command_in<'a>(
     ensures { IfOk result (λ r. option_map plain_term_command r ≡ term_command_of (texts words.now)) }
 {
     match words {
+        [] => Ok(None),
         [word] => Ok(asked_in(word)),
         [first, word] => pair_in(alloc, first, word),
-        _ => words_in(alloc, words),
+        [_, _, _, ..] => words_in(alloc, words),
     }
 }

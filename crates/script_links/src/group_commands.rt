@@ -161,8 +161,9 @@ pub fn group_command_in<'a>(
     ensures { IfOk result (λ r. option_map plain_group_command r ≡ group_command_of (texts words.now)) }
 {
     match words {
+        [] => Ok(None),
         [word] => Ok(own_in(word)),
         [first, word] => pair_in(alloc, first, word),
-        _ => shared_in(alloc, words),
+        [_, _, _, ..] => shared_in(alloc, words),
     }
 }

@@ -163,9 +163,11 @@ fn body_in(alloc: Global, kind: &str, words: &[&str]) -> Result<Option<Vec<u8>>,
 {
     match words {
         [] => Ok(fisu_body(alloc, kind)),
+        [_] => Ok(None),
         [name, status] => lssu_body(alloc, kind, name, status),
+        [_, _, _] => Ok(None),
         [first, sio, second, sif] => msu_body(alloc, kind, first, sio, second, sif),
-        _ => Ok(None),
+        [_, _, _, _, _, ..] => Ok(None),
     }
 }
 
