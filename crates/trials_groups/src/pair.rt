@@ -103,6 +103,8 @@ fn round(
     }
     schedule.deliver(near, far, dice);
     schedule.deliver(far, near, dice);
+    schedule.repeat(near, far, dice);
+    schedule.repeat(far, near, dice);
     near.rebalance();
     far.rebalance();
     near.wait(TICKS)?;
