@@ -27,6 +27,9 @@ const HEALS: u32 = 6;
 /// For so many rounds behind a return to service a message may come once more: fewer than 1,400 ticks.
 const LATE_ROUNDS: u32 = 3;
 
+/// In how many rounds one such message comes.
+const REPEATS: u32 = 16;
+
 /// What happened to the links.
 #[derive(Clone, Copy)]
 pub struct Schedule {
@@ -182,25 +185,25 @@ impl Schedule {
         }
     }
 
-    /// Hands an end a message that comes once more, and sends the answer to the other; or it is for later, or comes no more.
-    fn repeat_one(&mut self, to: &mut SetEnd, from: &mut SetEnd, dice: &mut Dice) {
+    /// Hands an end a message that comes once more, and the other one the answer; or it is for later, or comes no more.
+    fn repeat_one(&self, to: &mut SetEnd, from: &mut SetEnd, dice: &mut Dice) {
         let Some(sif) = to.late.pop_front() else {
             return;
         };
         if !to.is_new(link_in(&sif), LATE_ROUNDS) {
             return;
         }
-        if !dice.one_in(4) {
+        if !dice.one_in(REPEATS) {
             let _kept = to.late.push_back(sif).is_ok();
             return;
         }
         if let Some(answer) = to.group.changeover_message(sif.as_slice()).reply {
-            self.send(from, answer, dice);
+            let _heard = from.group.changeover_message(answer.as_slice());
         }
     }
 
     /// Hands an end what comes once more now.
-    pub fn repeat(&mut self, to: &mut SetEnd, from: &mut SetEnd, dice: &mut Dice) {
+    pub fn repeat(&self, to: &mut SetEnd, from: &mut SetEnd, dice: &mut Dice) {
         for _ in 0..to.late.len() {
             self.repeat_one(to, from, dice);
         }
