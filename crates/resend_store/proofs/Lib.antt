@@ -1,4 +1,3 @@
-pub mod Completing
 pub mod Delivery
 pub mod Given
 pub mod InOrder
