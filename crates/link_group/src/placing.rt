@@ -7,7 +7,8 @@ ghost use Rattle.link_group.specs.Placing.{placed_anew, rebalance_fault, rebalan
 
 use crate::group::Group;
 use group_members::{
-    RebalanceError, able_links, anew_links, any_changing, any_in_way, forgive_all, table_anew, table_of,
+    RebalanceError, able_links, anew_links, any_changing, any_in_way, forgive_all, table_anew,
+    table_of,
 };
 
 impl Group {
