@@ -391,17 +391,16 @@ all_later : (k : ℕ) (x : Lost) (xs : List Lost) → x.place ≡ k → AllByRec
 all_later k x [] is all = tt
 all_later k x (y ∷ ys) is all = let from : k + 1 ≤ y.place = all.0 in (omega (arith, is), all_later k x ys is all.1)
 
+first_ascends : (me : ActorName) (w : Core) (k : ℕ) (e : Effect) (others : List Lost) → AllByRecursion (IsFrom (k + 1)) others → Ascend others
+    → (o : Option Lost) → lost_by me w k e ≡ o → Ascend (option_to_list o ++ others)
+first_ascends me w k e others from up None is = up
+first_ascends me w k e others from up (Some x) is = (all_later k x others (loss_place me w k e x is) from, up)
+
 ascending : (n : ℕ) (me : ActorName) (es : List Effect) (k : ℕ) (w : Core) → Ascend (losses n me w k es)
 ascending n me [] k w = tt
-ascending n me (e ∷ es) k w = by (lost_by me w k e) refl
-  where
-    others : List Lost
-    others = losses n me (laid n me w e) (k + 1) es
-
-    by : (o : Option Lost) → lost_by me w k e ≡ o → Ascend (option_to_list o ++ others)
-    by None is = ascending n me es (k + 1) (laid n me w e)
-    by (Some x) is =
-        (all_later k x others (loss_place me w k e x is) (all_from n me es (k + 1) (laid n me w e)), ascending n me es (k + 1) (laid n me w e))
+ascending n me (e ∷ es) k w =
+    first_ascends me w k e (losses n me (laid n me w e) (k + 1) es) (all_from n me es (k + 1) (laid n me w e)) (ascending n me es (k + 1) (laid n me w e))
+    (lost_by me w k e) refl
 
 in_order : (es : List Effect) (xs : List Lost) → AllByRecursion (λ (x : Lost). IsOutput es x.place) xs → Ascend xs → AreInOrder es xs
 in_order es [] outputs up = tt

@@ -77,16 +77,19 @@ GaveAddressed sender unfinished = Unit {0}
 runs_addressed : (code : List Instruction) (x : Input) (n k : ℕ) (os : List Value) (s : Progress) → AreAddressed x.sender s.effects
     → GaveAddressed x.sender (exec code x n k os s)
 runs_addressed code x zero k os s h = tt
-runs_addressed code x (suc n) k os s h = by (slice_get code k)
+runs_addressed code x (suc n) k os s h = by (λ j os' s' right. runs_addressed code x n j os' s' right) (slice_get code k)
   where
-    on : (a : After) → EffectsAre (AreAddressed x.sender) a → GaveAddressed x.sender (go_on (exec code x n) a)
-    on (goes j os' s') right = runs_addressed code x n j os' s' right
-    on (ends e s') right = right
-    on (stuck z) right = tt
+    abbrev Rest : Type 0
+    Rest = (j : ℕ) (os' : List Value) (s' : Progress) → AreAddressed x.sender s'.effects → GaveAddressed x.sender (exec code x n j os' s')
 
-    by : (o : Option Instruction) → GaveAddressed x.sender (go_on (exec code x n) (act_if o x (k + 1) os (tick s)))
-    by None = tt
-    by (Some i) = on (act i x (k + 1) os (tick s)) (act_keeps (AreAddressed x.sender) i x (k + 1) os (tick s) h (adds i x os s.effects h))
+    on : Rest → (a : After) → EffectsAre (AreAddressed x.sender) a → GaveAddressed x.sender (go_on (exec code x n) a)
+    on rest (goes j os' s') right = rest j os' s' right
+    on rest (ends e s') right = right
+    on rest (stuck z) right = tt
+
+    by : Rest → (o : Option Instruction) → GaveAddressed x.sender (go_on (exec code x n) (act_if o x (k + 1) os (tick s)))
+    by rest None = tt
+    by rest (Some i) = on rest (act i x (k + 1) os (tick s)) (act_keeps (AreAddressed x.sender) i x (k + 1) os (tick s) h (adds i x os s.effects h))
 
 all_addressed : (code : List Instruction) (x : Input) (e : End) (s : Progress) → run code x ≡ ended e s → AreAddressed x.sender s.effects
 unfolding run
