@@ -427,8 +427,8 @@ full_law = record {
   );
   stopped = λ w n me o place s there has. (
     λ h. stopped_actor me (behind n me o w place) s
-    (subst (λ (names : List ActorName). HasReceiver names me s.receiver.party s.receiver.instance) (sym (behind_names n me o w place)) has)
-    (told_is w n me o place s there cause.Stopped h),
+        (subst (λ (names : List ActorName). HasReceiver names me s.receiver.party s.receiver.instance) (sym (behind_names n me o w place)) has)
+        (told_is w n me o place s there cause.Stopped h),
     λ h. is_told w n me o place s there cause.Stopped (actor_stopped me (behind n me o w place) s h),
   );
   order = told_in_order;

@@ -74,20 +74,21 @@ GaveAddressed sender (ended e s) = AreAddressed sender s.effects
 GaveAddressed sender (got_stuck z) = Unit {0}
 GaveAddressed sender unfinished = Unit {0}
 
+-- so a run of n instructions gives, from wherever it goes on
+abbrev Goes : List Instruction → Input → ℕ → Type 0
+Goes code x n = (k : ℕ) (os : List Value) (s : Progress) → AreAddressed x.sender s.effects → GaveAddressed x.sender (exec code x n k os s)
+
 runs_addressed : (code : List Instruction) (x : Input) (n k : ℕ) (os : List Value) (s : Progress) → AreAddressed x.sender s.effects
     → GaveAddressed x.sender (exec code x n k os s)
 runs_addressed code x zero k os s h = tt
 runs_addressed code x (suc n) k os s h = by (λ j os' s' right. runs_addressed code x n j os' s' right) (slice_get code k)
   where
-    abbrev Rest : Type 0
-    Rest = (j : ℕ) (os' : List Value) (s' : Progress) → AreAddressed x.sender s'.effects → GaveAddressed x.sender (exec code x n j os' s')
-
-    on : Rest → (a : After) → EffectsAre (AreAddressed x.sender) a → GaveAddressed x.sender (go_on (exec code x n) a)
+    on : Goes code x n → (a : After) → EffectsAre (AreAddressed x.sender) a → GaveAddressed x.sender (go_on (exec code x n) a)
     on rest (goes j os' s') right = rest j os' s' right
     on rest (ends e s') right = right
     on rest (stuck z) right = tt
 
-    by : Rest → (o : Option Instruction) → GaveAddressed x.sender (go_on (exec code x n) (act_if o x (k + 1) os (tick s)))
+    by : Goes code x n → (o : Option Instruction) → GaveAddressed x.sender (go_on (exec code x n) (act_if o x (k + 1) os (tick s)))
     by rest None = tt
     by rest (Some i) = on rest (act i x (k + 1) os (tick s)) (act_keeps (AreAddressed x.sender) i x (k + 1) os (tick s) h (adds i x os s.effects h))
 
