@@ -18,7 +18,7 @@ use Rattle.actor_machine.specs.declared.name.ActorName.{ActorName}
 use Rattle.actor_machine.specs.Core.{Core, found_in, names_in}
 use Rattle.actor_machine.specs.Effects.{is_full, has_room, refusal_at, refusal_in, receives, drops, arrival_of, delivered, undelivered, laid, laid_all, lost_for, lost_by, losses, settled, started, lost_in}
 use Rattle.actor_machine.specs.Full.{MeetsFull, FindsFull, FindsStopped, lost_at, IsLost, IsOutput, AreInOrder, behind, FullLaw}
-use Rattle.actor_machine.specs.Receivers.{IsGot, HasReceiver}
+use Rattle.actor_machine.specs.Receivers.{HasReceiver}
 use Rattle.actor_machine.specs.Refusals.{first_of, has_stopped, is_offered, offer_rows, of_actor, refuses, needs, with_room}
 use Rattle.actor_machine.specs.Step.{Says, Stepped, step}
 use Rattle.actor_machine.specs.Ledger.{Ledger, state_by, room, refusal_by, asked, ask_by}

@@ -14,10 +14,8 @@ use Rattle.turn_code.specs.Run.{Progress, After, goes, ends, stuck, tick, of_par
 use Rattle.turn_code.specs.Transitions.{Transition, transition_at, process_at, start_of}
 use Rattle.turn_code.specs.Valid.{IsValid}
 use Rattle.turn_code.specs.declared.draft.Draft.{Draft}
-use Rattle.turn_code.specs.declared.draft.DraftProcess.{DraftProcess}
 use Rattle.turn_code.specs.declared.effect.Effect.{Effect}
 use Rattle.turn_code.specs.declared.effect.Effect.TheVariants as effect
-use Rattle.turn_code.specs.declared.effect.Sending.{Sending}
 use Rattle.turn_code.specs.declared.input.Address.{Address}
 use Rattle.turn_code.specs.declared.input.Input.{Input}
 use Rattle.turn_code.specs.declared.input.Party.{Party}
@@ -25,7 +23,7 @@ use Rattle.turn_code.specs.declared.input.Party.TheVariants.{Environment, Proces
 use Rattle.turn_code.specs.declared.input.Place.{Place}
 use Rattle.turn_code.specs.declared.input.Place.TheVariants.{Start}
 use Rattle.turn_code.specs.declared.instruction.Instruction.{Instruction}
-use Rattle.turn_code.specs.declared.instruction.Instruction.TheVariants.{Int as PutInt, Bool as PutBool, Load, Store, Param, Add, Sub, Mul, Div, Mod, Rem, Neg, Not, And, Or, Xor, Same, Compare, Case, CaseWithin, Pick, Drop, Jump, Output, Set, Reset, Next, Stop}
+use Rattle.turn_code.specs.declared.instruction.Instruction.TheVariants.{Output, Set, Reset}
 use Rattle.turn_code.specs.declared.instruction.Receiver.{Receiver}
 use Rattle.turn_code.specs.declared.instruction.Receiver.TheVariants.{Party as ToParty, Sender as ToSender}
 use Rattle.turn_code.specs.declared.machine.End.{End}
@@ -33,8 +31,7 @@ use Rattle.turn_code.specs.declared.numbers.InstanceNumber.{InstanceNumber}
 use Rattle.turn_code.specs.declared.numbers.ProcessNumber.{ProcessNumber}
 use Rattle.turn_code.specs.declared.value.Value.{Value}
 use Rattle.turn_machine.specs.Turn.{Turn, turn_of, outcome_of}
-use Rattle.actor_machine.specs.Names.{named, actors_of, address_of, place_of, number_for, first_some}
-use Rattle.actor_machine.specs.NameLaws.{instances_in}
+use Rattle.actor_machine.specs.Names.{actors_of, place_of, number_for, first_some}
 use Rattle.actor_machine.specs.Fits.{IsActor, IsSender, GivenFits, GivenBy, ActorFits}
 use Rattle.actor_machine.specs.Ledger.{turn_with, turn_given, turn_at}
 use Rattle.actor_machine.specs.Receivers.{IsGot, HasReceiver, IsReceived, AreReceived}
