@@ -5,7 +5,7 @@ use Rattle.script_lines.specs.Lines.{PlainLine}
 use Rattle.script_lines.specs.Scripts.{PlainSaid}
 use Rattle.script_links.specs.TermScripts.{PlainTermSaid}
 use Rattle.script_links.specs.GroupScripts.{PlainGroupSaid}
-use Rattle.script_terminal.specs.Term.{Term}
+use Rattle.link_term.specs.Term.{Term}
 use Rattle.script_group.specs.Played.{IsRun, IsWritten, IsMissed}
 use Rattle.script_group.specs.TermRuns.{IsTermRun, IsTermWritten, IsTermMissed}
 use Rattle.script_group.specs.GroupAnswers.{Playing}

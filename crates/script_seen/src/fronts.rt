@@ -68,10 +68,12 @@ pub(crate) fn show_line<W: Write>(
         return Err(io::Error::from(ErrorKind::Other));
     }
     let front = front_of(alloc, &line.words)?;
-    writer.write_all(&front)
+    writer.write_all(&front)?;
+    Ok(())
 }
 
 /// Writes what stands behind the first octets, of which there are so many.
+#[tactic(auto, using(std::proofs::lemmas::List::drop_min))]
 pub(crate) fn write_behind<W: Write>(
     before: usize,
     printed: &[u8],
@@ -80,5 +82,6 @@ pub(crate) fn write_behind<W: Write>(
     ensures { OnOk result (Appends (W.contents writer.old) (W.contents writer.new) (drop before printed.now)) }
 {
     let from = before.min(printed.len());
-    writer.write_all(&printed[from..])
+    writer.write_all(&printed[from..])?;
+    Ok(())
 }

@@ -2,7 +2,7 @@
 ghost use Rattle.std.specs.Prelude.{◌≡◌, ◌⊎◌, ◌++◌, ◌∷◌, [], List, ℕ, Option, None, Some, map, IfOk, true, false};
 ghost use Rattle.script_lines.specs.Lines.{plain_line, lines_of};
 ghost use Rattle.script_links.specs.TermScripts.{PlainTermSaid, plain_term_said};
-ghost use Rattle.script_terminal.specs.Term.{Term};
+ghost use Rattle.link_term.specs.Term.{Term};
 ghost use Rattle.script_group.specs.TermRuns.{last_of, IsOfNew, LacksName};
 ghost use Rattle.script_seen.specs.Kinds.{IsTermShown, IsTermShownMissed, TermShowing, TermMissing};
 
