@@ -1,5 +1,5 @@
 -- What is shown of a run of each kind of script, one command more.
-use Rattle.std.proofs.Common.{◌≡◌, ℕ, ◌+◌, ◌<◌, List, [], ◌∷◌, ◌++◌, length, map, take, drop, get_or, Option, None, Some, refl, sym, ap, subst}
+use Rattle.std.proofs.Common.{◌≡◌, ℕ, ◌+◌, ◌<◌, ◌≤◌, List, [], ◌∷◌, ◌++◌, length, map, take, drop, get_or, Option, None, Some, refl, sym, ap, subst}
 use Rattle.std.specs.Io.KnownBytes.{Appends}
 use Rattle.std.proofs.KnownBytes.{Appends-nil}
 use Rattle.actor_machine.specs.Ledger.{Ledger}
@@ -18,7 +18,7 @@ use Rattle.script_group.specs.GroupRuns.{begins as group_begins, IsGroupRun, IsG
 use Rattle.script_seen.specs.Kinds.{book_line, Prints, PrintsMissed, BookShowing, BookMissing, IsBookShown, IsBookShownMissed}
 use Rattle.script_seen.specs.Kinds.{term_line, TermPrints, TermPrintsMissed, TermShowing, TermMissing, IsTermShown, IsTermShownMissed}
 use Rattle.script_seen.specs.Kinds.{group_line, GroupPrints, GroupPrintsMissed, GroupShowing, GroupMissing, IsGroupShown, IsGroupShownMissed}
-use Rattle.script_seen.proofs.Showings.{HasFront, showing_begins, showing_more, missing_is, one_more, parts_at}
+use Rattle.script_seen.proofs.Showings.{HasFront, showing_begins, showing_more, missing_is, one_more, parts_at, all_taken}
 
 -- ---- books
 
@@ -51,6 +51,14 @@ pub book_one_more : (lines : List PlainLine) (b : Ledger) (items : List Said) (i
     → BookShowing lines b (map plain_said (take (i + 1) items)) first now printed state last
 book_one_more lines b items i x first now printed state last within is s =
     let P : List PlainSaid → Type 0 = λ commands. BookShowing lines b commands first now printed state last in subst P (one_more plain_said items i x within is) s
+
+-- all commands of a list
+pub book_shown : (lines : List PlainLine) (b : Ledger) (items : List Said) (i : ℕ) (first now : Option (List ℕ)) (printed : List ℕ)
+    (state : Ledger) (last : Option (List ℕ)) → length items ≤ i → BookShowing lines b (map plain_said (take i items)) first now printed state last
+    → IsBookShown lines b (map plain_said items) first now
+book_shown lines b items i first now printed state last over s =
+    let P : List PlainSaid → Type 0 = λ commands. BookShowing lines b commands first now printed state last in
+    record { printed = printed; showing = (subst P (all_taken plain_said items i over) s).0 }
 
 -- an expectation of a list that fails
 pub book_missed : (lines : List PlainLine) (b : Ledger) (items : List Said) (i : ℕ) (x : Said) (first now : Option (List ℕ)) → i < length items
@@ -95,6 +103,14 @@ pub term_one_more : (lines : List PlainLine) (b : Term) (items : List TermSaid) 
 term_one_more lines b items i x first now printed state last within is s =
     let P : List PlainTermSaid → Type 0 = λ commands. TermShowing lines b commands first now printed state last in subst P (one_more plain_term_said items i x within is) s
 
+-- all commands of a list
+pub term_shown : (lines : List PlainLine) (b : Term) (items : List TermSaid) (i : ℕ) (first now : Option (List ℕ)) (printed : List ℕ)
+    (state : Term) (last : Option (List ℕ)) → length items ≤ i → TermShowing lines b (map plain_term_said (take i items)) first now printed state last
+    → IsTermShown lines (map plain_term_said items) first now b
+term_shown lines b items i first now printed state last over s =
+    let P : List PlainTermSaid → Type 0 = λ commands. TermShowing lines b commands first now printed state last in
+    record { printed = printed; showing = (subst P (all_taken plain_term_said items i over) s).0 }
+
 -- an expectation of a list that fails
 pub term_missed : (lines : List PlainLine) (b : Term) (items : List TermSaid) (i : ℕ) (x : TermSaid) (first now : Option (List ℕ)) → i < length items
     → x ≡ get_or items i x → TermMissing lines b (map plain_term_said (take i items)) (plain_term_said x) first now → IsTermShownMissed lines (map plain_term_said items) first now b
@@ -137,6 +153,14 @@ pub group_one_more : (lines : List PlainLine) (b : Playing) (items : List GroupS
     → GroupShowing lines b (map plain_group_said (take (i + 1) items)) first now printed state last
 group_one_more lines b items i x first now printed state last within is s =
     let P : List PlainGroupSaid → Type 0 = λ commands. GroupShowing lines b commands first now printed state last in subst P (one_more plain_group_said items i x within is) s
+
+-- all commands of a list
+pub group_shown : (lines : List PlainLine) (b : Playing) (items : List GroupSaid) (i : ℕ) (first now : Option (List ℕ)) (printed : List ℕ)
+    (state : Playing) (last : Option (List ℕ)) → length items ≤ i → GroupShowing lines b (map plain_group_said (take i items)) first now printed state last
+    → IsGroupShown lines (map plain_group_said items) first now b
+group_shown lines b items i first now printed state last over s =
+    let P : List PlainGroupSaid → Type 0 = λ commands. GroupShowing lines b commands first now printed state last in
+    record { printed = printed; showing = (subst P (all_taken plain_group_said items i over) s).0 }
 
 -- an expectation of a list that fails
 pub group_missed : (lines : List PlainLine) (b : Playing) (items : List GroupSaid) (i : ℕ) (x : GroupSaid) (first now : Option (List ℕ)) → i < length items

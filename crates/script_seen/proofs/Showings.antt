@@ -1,8 +1,8 @@
 -- What is shown of commands, one command more.
-use Rattle.std.proofs.Common.{◌≡◌, ◌∙◌, ℕ, ◌+◌, ◌<◌, List, [], ◌∷◌, ◌++◌, length, map, take, drop, get_or, Option, refl, sym, ap, subst}
+use Rattle.std.proofs.Common.{◌≡◌, ◌∙◌, ℕ, ◌+◌, ◌<◌, ◌≤◌, List, [], ◌∷◌, ◌++◌, length, map, take, drop, get_or, Option, refl, sym, ap, subst}
 use Rattle.std.specs.Io.KnownBytes.{Appends}
 use Rattle.std.proofs.KnownBytes.{Appends-nil, Appends-trans}
-use Rattle.std.proofs.lemmas.List.{take_more, map-append, take-append-drop, drop_more}
+use Rattle.std.proofs.lemmas.List.{take_all, take_more, map-append, take-append-drop, drop_more}
 use Rattle.script_lines.specs.Lines.{PlainLine}
 use Rattle.script_group.specs.Lines.{line_of}
 use Rattle.script_group.specs.Played.{missed_text}
@@ -14,7 +14,7 @@ pub record HasFront (lines : List PlainLine) (number : ℕ) (old new : Option (L
   pub is_front : IsLine lines number front
   pub grew : Appends old new front
 
-pub has_front : (lines : List PlainLine) (number : ℕ) (old new : Option (List ℕ)) → (front : List ℕ) × IsLine lines number front × Appends old new front
+pub has_front : (lines : List PlainLine) (number : ℕ) (old new : Option (List ℕ)) → ((front : List ℕ) × IsLine lines number front × Appends old new front)
     → HasFront lines number old new
 has_front lines number old new f = record { front = f.0; is_front = f.1; grew = f.2 }
 
@@ -70,3 +70,7 @@ pub parts_at : {A S : Type 0} (f : A → S) (items : List A) (i : ℕ) (x : A) �
 parts_at f items i x within is =
     let rest : drop i items ≡ x ∷ drop (i + 1) items = drop_more items i x within ∙ ap (λ y. y ∷ drop (i + 1) items) (sym is) in
     ap (map f) (sym (take-append-drop i items) ∙ ap (λ ys. take i items ++ ys) rest) ∙ map-append f (take i items) (x ∷ drop (i + 1) items)
+
+-- all of them
+pub all_taken : {A S : Type 0} (f : A → S) (items : List A) (i : ℕ) → length items ≤ i → map f (take i items) ≡ map f items
+all_taken f items i over = ap (map f) (take_all i items over)
