@@ -98,15 +98,7 @@ fn play_on<H: Eprint, S: Read + Drop, T: Read + Drop, W: Write>(
     ensures refused { result ≡ 2 → IsRefused (given S.remaining set) None (W.contents writer.old) (W.contents writer.new) }
     ensures status { (result ≡ 0) ⊎ (result ≡ 1) ⊎ (result ≡ 2) ⊎ (result ≡ 4) }
 {
-    play(
-        alloc,
-        set,
-        name,
-        script,
-        echo,
-        writer,
-        &mut teller.errors(),
-    )
+    play(alloc, set, name, script, echo, writer, &mut teller.errors())
 }
 
 /// Runs a script of a file, or of standard input, on a set.
@@ -178,15 +170,7 @@ fn play_text<R: Runtime + AllocGlobal, H: Eprint, S: Read + Drop, W: Write>(
     ensures refused { result ≡ 2 → IsRefused None None (W.contents writer.old) (W.contents writer.new) }
     ensures status { (result ≡ 0) ⊎ (result ≡ 1) ⊎ (result ≡ 2) ⊎ (result ≡ 4) }
 {
-    play_source(
-        rt,
-        teller,
-        SetWord::Text(text),
-        name,
-        script,
-        echo,
-        writer,
-    )
+    play_source(rt, teller, SetWord::Text(text), name, script, echo, writer)
 }
 
 /// Runs `play` on the set and the script that the command line names. A file that can't be opened is a failure, whatever there is to say

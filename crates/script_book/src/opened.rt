@@ -12,11 +12,7 @@ use std::alloc::{AllocError, Global};
 use turn_check::Verified;
 
 /// A link of the processes of a set, as a script begins with it whose first lines set these numbers. Nothing is printed yet.
-pub fn open_player(
-    alloc: Global,
-    set: &Verified,
-    settings: Settings,
-) -> Result<Player, AllocError>
+pub fn open_player(alloc: Global, set: &Verified, settings: Settings) -> Result<Player, AllocError>
     requires { AreInRange settings }
     ensures book { IfOk result (λ p. p.book ≡ first_book set.now settings) }
     ensures last { IfOk result (λ p. last_of p ≡ None) }

@@ -27,11 +27,7 @@ fn player_of(group: Group, retrievals: Retrievals) -> GroupPlayer
 }
 
 /// The links of a script's first line, as the script begins with them. `end_player` takes the player.
-pub fn open_group(
-    alloc: Global,
-    set: &Verified,
-    head: GroupHead,
-) -> Result<GroupPlayer, OpenError>
+pub fn open_group(alloc: Global, set: &Verified, head: GroupHead) -> Result<GroupPlayer, OpenError>
     requires { IsFew head.links }
     ensures ok { IfOk result (λ p. (c : LinkSet) × IsNewSet set.now head c × (playing_of p ≡ begun c)) }
     ensures last { IfOk result (λ p. last_of p ≡ None) }

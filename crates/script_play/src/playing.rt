@@ -9,12 +9,12 @@ ghost use Rattle.script_play.specs.Played.{IsOtherShown, IsOtherShownMissed, Are
 
 use plain_text::{MOST_BYTES, TextRead, line_at_limit, read_text};
 use script_check::{SetWord, find_set, refuse_set};
+use script_lines::ScriptFault;
+use script_links::{AnyScript, PlayScript, play_fault, play_script_in};
 use script_seen::{
     FAILED, play_book, play_group, play_terminal, refuse, show_book, show_group, show_terminal,
     write_line,
 };
-use script_lines::ScriptFault;
-use script_links::{AnyScript, PlayScript, play_fault, play_script_in};
 use std::alloc::Global;
 use std::io::{Read, Write};
 use std::str;
