@@ -6,16 +6,16 @@ use Rattle.std.specs.Io.KnownBytes.{Appends}
 use Rattle.turn_code.specs.declared.draft.Draft.{Draft}
 use Rattle.script_lines.specs.declared.script.ScriptFault.{ScriptFault}
 use Rattle.script_lines.specs.declared.script.ScriptFault.TheVariants.{BadLine, NoMemory}
-use Rattle.script_group.specs.Played.{first_book, IsWritten, IsMissed}
+use Rattle.script_seen.specs.Played.{first_book, IsWritten, IsMissed}
 use Rattle.script_links.specs.TermScripts.{PlainAnyScript, book, terminal}
 use Rattle.script_links.specs.GroupScripts.{PlainPlayScript, other, group, play_script_of}
 use Rattle.script_check.specs.Checked.{IsGiven, IsSetOf, PrintsRefusal}
-use Rattle.script_group.specs.Lines.{line_of}
-use Rattle.script_group.specs.TermRuns.{IsOfNew, IsTermWritten, IsTermMissed, LacksName}
+use Rattle.script_seen.specs.Lines.{line_of}
+use Rattle.script_seen.specs.TermRuns.{IsOfNew, IsTermWritten, IsTermMissed, LacksName}
 use Rattle.script_lines.specs.Lines.{PlainLine, lines_of}
 use Rattle.script_seen.specs.Kinds.{IsBookShown, IsBookShownMissed, IsTermShown}
 use Rattle.script_seen.specs.Kinds.{IsTermShownMissed, IsGroupShown, IsGroupShownMissed}
-use Rattle.script_group.specs.GroupRuns.{IsOfNewSet, IsGroupWritten, IsGroupMissed}
+use Rattle.script_seen.specs.GroupRuns.{IsOfNewSet, IsGroupWritten, IsGroupMissed}
 
 -- all commands of a script were obeyed, and their lines written: by a book of the set, or by a new
 -- terminal over it
