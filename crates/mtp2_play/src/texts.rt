@@ -1,6 +1,6 @@
 //! The command `text`.
-ghost use Rattle.std.specs.Prelude.{◌≡◌, option_map};
-ghost use Rattle.mtp2_play.specs.Sets.{own_text_of};
+ghost use Rattle.std.specs.Prelude.{◌≡◌, ◌⊎◌};
+ghost use Rattle.std.specs.Io.KnownBytes.{Appends};
 ghost use Rattle.mtp2_play.specs.Printed.{IsPrinted};
 
 use mtp2_text::{MONITORS, STANDARD};
@@ -8,15 +8,14 @@ use mtp2_words::Named;
 use script_check::{FAILED, HELD};
 use std::io::Write;
 
-/// The text of a set of the program's own; none for another.
-fn own_text<'a>(set: &Named<'_>) -> Option<&'a str>
-    ensures { option_map (λ t. t.now) result ≡ own_text_of set.now }
+/// Prints a text. Gives the exit status.
+fn print_text<W: Write>(text: &str, writer: &mut W) -> u8
+    ensures held { result ≡ 0 → Appends (W.contents writer.old) (W.contents writer.new) text.now }
+    ensures ends { (result ≡ 0) ⊎ (result ≡ 4) }
 {
-    match set {
-        Named::Standard => Some(STANDARD),
-        Named::Monitors => Some(MONITORS),
-        Named::Stdin => None,
-        Named::File(_) => None,
+    match writer.write_all(text.as_bytes()) {
+        Ok(()) => HELD,
+        Err(_) => FAILED,
     }
 }
 
@@ -24,11 +23,10 @@ fn own_text<'a>(set: &Named<'_>) -> Option<&'a str>
 pub fn print_own<W: Write>(set: &Named<'_>, writer: &mut W) -> u8
     ensures { IsPrinted set.now result (W.contents writer.old) (W.contents writer.new) }
 {
-    let Some(text) = own_text(set) else {
-        return FAILED;
-    };
-    match writer.write_all(text.as_bytes()) {
-        Ok(()) => HELD,
-        Err(_) => FAILED,
+    match set {
+        Named::Standard => print_text(STANDARD, writer),
+        Named::Monitors => print_text(MONITORS, writer),
+        Named::Stdin => FAILED,
+        Named::File(_) => FAILED,
     }
 }

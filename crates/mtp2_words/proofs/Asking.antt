@@ -11,7 +11,7 @@ use Rattle.clap.proofs.WalkLemmas.{first_value-rows, raw_values-rows}
 use Rattle.mtp2_words.specs.Ends.{IsEndOf}
 use Rattle.mtp2_words.specs.declared.ends.LineEnd.{LineEnd}
 use Rattle.mtp2_words.specs.declared.ends.LineWords.{LineWords}
-use Rattle.mtp2_words.specs.Words.{command_of, workers_of, AreStdin, IsNamed, IsPlay, IsPrint, IsSoak, IsSource, NamesNone, says_true}
+use Rattle.mtp2_words.specs.Words.{command_of, workers_of, AreStdin, IsNamed, IsOwnNamed, IsPlay, IsPrint, IsSoak, IsSource, NamesNone, says_true}
 use Rattle.mtp2_words.specs.declared.seeing.Seeing.{Seeing}
 use Rattle.mtp2_words.specs.Asked.{Given, given_by, given_in, AreAllAsked, AreNamed, AreBothStdin, AreUnderIds, AsksEnd, AreSeen, AsksNothing, IsAsked, IsAskedBy, IsNoPlay, IsNoPrint, IsNoSoak, SaysNothing, AsksDraw}
 use Rattle.mtp2_words.specs.declared.words.Named.{Named}
@@ -208,7 +208,7 @@ prints given word (Soak script workers) e h = absurd h
 prints given word (Line set end) e h = absurd h
 prints given word (Frame octets) e h = absurd h
 prints given word (Draw set process states) e h = absurd h
-prints given word (Print set) e h = record { set_is = some_word (given (codes "SET")) word (IsNamed set) e h.set_is; own = h.own }
+prints given word (Print set) e h = some_word (given (codes "SET")) word (IsOwnNamed set) e h
 
 pub is_print : (word : Text) (request : Request) → IsPrint word request → command_of request ≡ codes "text"
 is_print word (Check sets) h = absurd h

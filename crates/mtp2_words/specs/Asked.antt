@@ -9,8 +9,8 @@ use Rattle.clap.specs.declared.parser.matches.ArgMatches.{ArgMatches}
 use Rattle.mtp2_words.specs.Ends.{IsEndOf, IsNoEnd}
 use Rattle.mtp2_words.specs.declared.ends.LineEnd.{LineEnd}
 use Rattle.mtp2_words.specs.declared.ends.LineWords.{LineWords}
-use Rattle.mtp2_words.specs.Words.{command_of, is_own, says_true, workers_of, IsNamed, IsSource}
-use Rattle.mtp2_words.specs.Words.{IsText, NamesNone}
+use Rattle.mtp2_words.specs.Words.{command_of, says_true, workers_of, IsNamed, IsOwnNamed}
+use Rattle.mtp2_words.specs.Words.{IsSource, IsText, NamesNone}
 use Rattle.mtp2_words.specs.declared.seeing.Seeing.{Seeing}
 use Rattle.mtp2_words.specs.declared.words.Named.{Named}
 use Rattle.mtp2_words.specs.declared.words.Source.{Source}
@@ -90,13 +90,8 @@ pub record AsksDraw (given : Given) (set : Named) (process : Option Text) (state
   pub states_are : says_true (given (codes "states")) ≡ states
   pub of_process : AreStatesOfNothing given → ⊥
 
--- `text`: the set of the program's own that SET names
-pub record AsksPrint (given : Given) (set : Named) : Type 0 where
-  pub set_is : IsSomeAnd (given (codes "SET")) (IsNamed set)
-  pub own : is_own set ≡ true
-
 -- the words of a command ask for this, by the first of each id; `check` asks by all of them, and
--- `frame` for the octets of HEX
+-- `frame` for the octets of HEX, `text` for the set of the program's own that SET names
 abbrev pub IsAsked : Given → Request → Type 0
 IsAsked given (Check sets) = Unit {0}
 IsAsked given (Play set script seen) = AsksPlay given set script seen
@@ -105,7 +100,7 @@ IsAsked given (Line set end) = AsksLine given set end
 IsAsked given (Frame octets) = given (codes "HEX") ≡ Some octets.now
 IsAsked given (Draw set process states) =
     AsksDraw given set (option_map (λ w. w.now) process) states
-IsAsked given (Print set) = AsksPrint given set
+IsAsked given (Print set) = IsSomeAnd (given (codes "SET")) (IsOwnNamed set)
 
 -- the sets that words name, each one its own, in their order
 abbrev pub AreNamed : List Named → List Text → Type 0

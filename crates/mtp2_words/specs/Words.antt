@@ -1,6 +1,6 @@
 -- What a command line asks for.
 use Rattle.std.specs.Prelude.{◌≡◌, ℕ, if◌then◌else◌, List, Option, Some, None, option_and_then}
-use Rattle.std.specs.Prelude.{codes, Bool, true, false, bytes_eq}
+use Rattle.std.specs.Prelude.{codes, Bool, false, bytes_eq}
 use Rattle.std.specs.Int.{is_in_range}
 use Rattle.plain_limits.specs.Limits.{LEAST_WORKERS, MOST_WORKERS}
 use Rattle.script_lines.specs.Numbers.{count_of}
@@ -34,13 +34,6 @@ IsSource (script_file path) word = (path.now ≡ word) × (word ≡ codes "stdin
 -- standard input as set and script
 abbrev pub AreStdin : List ℕ → List ℕ → Type 0
 AreStdin set_word script_word = (set_word ≡ codes "stdin") × (script_word ≡ codes "stdin")
-
--- a set of the program's own
-abbrev pub is_own : Named → Bool
-is_own Standard = true
-is_own Monitors = true
-is_own Stdin = false
-is_own (File path) = false
 
 -- what `play` asks for by two words; standard input isn't both
 pub record IsPlayOf (set_word script_word : List ℕ) (set : Named) (script : Source) : Type 0 where
@@ -78,10 +71,12 @@ IsSoak script_word workers_word (Frame octets) = ⊥
 IsSoak script_word workers_word (Draw set process states) = ⊥
 IsSoak script_word workers_word (Print set) = ⊥
 
--- a word names this set of the program's own
-pub record IsPrintOf (word : List ℕ) (set : Named) : Type 0 where
-  pub set_is : IsNamed set word
-  pub own : is_own set ≡ true
+-- the set of the program's own that a word names
+abbrev pub IsOwnNamed : Named → List ℕ → Type 0
+IsOwnNamed Standard word = word ≡ codes "standard"
+IsOwnNamed Monitors word = word ≡ codes "monitors"
+IsOwnNamed Stdin word = ⊥
+IsOwnNamed (File path) word = ⊥
 
 -- what `text` asks for by a word
 abbrev pub IsPrint : List ℕ → Request → Type 0
@@ -91,13 +86,12 @@ IsPrint word (Soak script workers) = ⊥
 IsPrint word (Line set end) = ⊥
 IsPrint word (Frame octets) = ⊥
 IsPrint word (Draw set process states) = ⊥
-IsPrint word (Print set) = IsPrintOf word set
+IsPrint word (Print set) = IsOwnNamed set word
 
--- a word names what isn't the program's own
+-- a word names none of them
 pub record NamesNone (word : List ℕ) : Type 0 where
-  pub set : Named
-  pub set_is : IsNamed set word
-  pub not_own : is_own set ≡ false
+  pub not_standard : word ≡ codes "standard" → ⊥
+  pub not_monitors : word ≡ codes "monitors" → ⊥
 
 -- the set that a word names for a terminal on a line: standard input is the line, and no text
 abbrev pub IsTextNamed : Named → List ℕ → Type 0

@@ -1,7 +1,7 @@
 //! The command line.
 ghost use Rattle.std.specs.Prelude.{◌≡◌, ◌↔◌, ◌⊎◌, Some, None, [], true, map, string_bytes, IfSome, IfOk, IfErr, IsNone, IsTrue, option_map, codes};
 ghost use Rattle.clap.specs.Words.{fault_of, found_of, kind_of, rows_of, subcommand_name_of, subcommand_of, subcommand_rows_of, takes};
-ghost use Rattle.mtp2_words.specs.Words.{command_of, workers_of, IsNamed, IsSource, AreStdin, is_own, IsPrint, NamesNone, IsPlay, IsSoak, IsTextNamed, IsText};
+ghost use Rattle.mtp2_words.specs.Words.{command_of, workers_of, IsNamed, IsSource, AreStdin, IsPrint, NamesNone, IsPlay, IsSoak, IsTextNamed, IsText};
 ghost use Rattle.mtp2_words.specs.Asked.{given_by, AreAllAsked, AreNamed, AsksEnd, AsksNothing, IsAsked, IsAskedBy, IsNoCheck, IsNoFrame, IsNoLine, IsNoPlay, IsNoPrint, IsNoSoak, SaysNoEnd, SaysNothing, IsNoDraw};
 ghost use Rattle.mtp2_words.specs.Commands.{all_commands};
 ghost use Rattle.mtp2_words.specs.TurnedDown.{IsTurnedDown};
@@ -289,28 +289,19 @@ fn drawn<'a>(given: &ArgMatches<'a>) -> Option<Request<'a>>
     }
 }
 
-/// Whether a set is one of the program's own.
-fn is_own(set: Named<'_>) -> bool
-    ensures { result ≡ is_own set.entry }
-{
-    match set {
-        Named::Standard => true,
-        Named::Monitors => true,
-        Named::Stdin => false,
-        Named::File(_) => false,
-    }
-}
-
 /// The set of the program's own that a word names, to be printed; none where it names none.
 fn printed<'a>(word: &'a str) -> Option<Request<'a>>
     ensures print { IfSome result (IsPrint word.now) }
     ensures none { IsNone result → NamesNone word.now }
 {
-    let set = set_named(word);
-    if is_own(set) {
-        Some(Request::Print { set })
-    } else {
-        None
+    match word {
+        "standard" => Some(Request::Print {
+            set: Named::Standard,
+        }),
+        "monitors" => Some(Request::Print {
+            set: Named::Monitors,
+        }),
+        _ => None,
     }
 }
 
