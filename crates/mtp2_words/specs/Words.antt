@@ -76,6 +76,7 @@ IsSoak script_word workers_word (Print set) = ⊥
 -- the set of the program's own that a word names
 abbrev pub IsOwnNamed : Named → List ℕ → Type 0
 IsOwnNamed Standard word = word ≡ codes "standard"
+IsOwnNamed Q703 word = word ≡ codes "q703"
 IsOwnNamed Monitors word = word ≡ codes "monitors"
 IsOwnNamed Stdin word = ⊥
 IsOwnNamed (File path) word = ⊥
@@ -93,6 +94,7 @@ IsPrint word (Print set) = IsOwnNamed set word
 -- a word names none of them
 pub record NamesNone (word : List ℕ) : Type 0 where
   pub not_standard : word ≡ codes "standard" → ⊥
+  pub not_q703 : word ≡ codes "q703" → ⊥
   pub not_monitors : word ≡ codes "monitors" → ⊥
 
 -- the set that a word names for a terminal on a line: standard input is the line, and no text

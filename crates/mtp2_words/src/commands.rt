@@ -289,7 +289,7 @@ fn draw_command<'a>(alloc: Global) -> Result<Command<'a>, AllocError>
 fn text_command<'a>(alloc: Global) -> Result<Command<'a>, AllocError>
     ensures { IfOk result (IsCommand text_command) }
 {
-    let set = plain_word(alloc, "SET", "standard or monitors");
+    let set = plain_word(alloc, "SET", "standard, q703 or monitors");
     bare_command(
         alloc,
         "text",

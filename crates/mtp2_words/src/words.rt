@@ -302,6 +302,7 @@ fn printed<'a>(word: &'a str) -> Option<Request<'a>>
         "standard" => Some(Request::Print {
             set: Named::Standard,
         }),
+        "q703" => Some(Request::Print { set: Named::Q703 }),
         "monitors" => Some(Request::Print {
             set: Named::Monitors,
         }),
@@ -377,7 +378,7 @@ fn complaint_of(matches: &ArgMatches<'_>) -> &'static str {
             "MODE is basic or cyclic, --bits low or high, --ahead a number up to 8000; standard input is the line, so it can't be --text"
         }
         "draw" => "--states is for a PROCESS",
-        "text" => "SET is standard or monitors",
+        "text" => "SET is standard, q703 or monitors",
         _ => "no such command",
     }
 }
