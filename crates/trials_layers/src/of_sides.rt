@@ -19,6 +19,12 @@ enum Step {
     /// A unit with these first two octets comes, a message where the third word says so. Messages were acknowledged of which
     /// some are left, or all; two units were at fault.
     Hear(u8, u8, bool, Option<bool>, bool),
+    /// Odd tells of units at fault from now on.
+    Odd,
+    /// Such a unit comes, and Odd tells of it with this number, behind Bad or alone; or nothing does.
+    Discard(u8, u8, bool, Option<u8>, bool),
+    /// The buffers are emptied.
+    Clear,
     /// A unit goes out that is printed so.
     Out(&'static str),
     /// That is reported.
@@ -75,6 +81,20 @@ fn offered(seen: Option<bool>, bad: bool) -> Offers {
     offers
 }
 
+/// What is offered for one that is discarded.
+fn discarded(code: Option<u8>, bad: bool) -> Offers {
+    let mut offers = Offers::new();
+    offers.push(told(Party::Aerm, Notice::Good));
+    offers.push(told(Party::Suerm, Notice::Good));
+    if bad {
+        offers.push(told(Party::Rc, Notice::Bad));
+    }
+    if let Some(code) = code {
+        offers.push(told(Party::Rc, Notice::Odd(code)));
+    }
+    offers
+}
+
 /// Whether that is offered for a unit, which is whole and for which there is room.
 fn hears(transceiver: &mut Transceiver, unit: Unit, offers: &[Offer]) -> bool {
     unit.whole() && transceiver.has_room() && transceiver.on_unit(unit).as_slice() == offers
@@ -111,6 +131,18 @@ fn does(alloc: Global, transceiver: &mut Transceiver, step: Step) -> bool {
         Step::Hear(first, second, has_msu, seen, bad) => {
             let unit = unit(first, second, has_msu);
             hears(transceiver, unit, offered(seen, bad).as_slice())
+        }
+        Step::Discard(first, second, has_msu, code, bad) => {
+            let unit = unit(first, second, has_msu);
+            hears(transceiver, unit, discarded(code, bad).as_slice())
+        }
+        Step::Odd => {
+            transceiver.tell_odd(true);
+            true
+        }
+        Step::Clear => {
+            transceiver.clear();
+            true
         }
         Step::Out(text) => gives(alloc, transceiver, text),
         Step::Report(status) => transceiver.report() == Some(Report::Status(status)),
@@ -262,6 +294,34 @@ const WAITS_TO_REPEAT: [Step; 10] = [
     Step::Out("MSU bsn 127 bib 1 fsn 1 fib 0 sio 02 octets 3 true"),
 ];
 
+/// The unit behind one at fault acknowledges nothing and isn't accepted; where it is at fault itself it is told of, and so is the next.
+const DISCARDS_BEHIND_ODD: [Step; 10] = [
+    Step::Odd,
+    Step::Put(0x80),
+    Step::Out("MSU bsn 127 bib 1 fsn 0 fib 1 sio 80 octets 3 true"),
+    Step::Discard(0x85, 0xff, false, Some(1), false),
+    Step::Discard(0x80, 0xff, false, None, false),
+    Step::Hear(0x80, 0xff, false, Some(false), false),
+    Step::Discard(0x80, 0x7f, false, Some(2), false),
+    Step::Discard(0x80, 0x7f, false, Some(2), true),
+    Step::Discard(0x80, 0x80, true, None, false),
+    Step::Hear(0x80, 0x80, true, None, false),
+];
+
+/// What was out is no abnormal number until a message goes out, and acknowledges nothing; the numbers go on.
+const CLEARS: [Step; 10] = [
+    Step::Put(1),
+    Step::Put(2),
+    Step::Out("MSU bsn 127 bib 1 fsn 0 fib 1 sio 01 octets 3 true"),
+    Step::Clear,
+    Step::Out("FISU bsn 127 bib 1 fsn 127 fib 1 false"),
+    Step::Hear(0x80, 0xff, false, None, false),
+    Step::Hear(0x81, 0xff, false, None, false),
+    Step::Put(3),
+    Step::Out("MSU bsn 127 bib 1 fsn 0 fib 1 sio 03 octets 3 true"),
+    Step::Hear(0x80, 0xff, false, Some(false), false),
+];
+
 /// The numbers of the first steps at which a new side does something else as it comes up, and then; nothing where it can't be made.
 fn first_others(alloc: Global, steps: &[Step]) -> Option<[Option<usize>; 2]> {
     let mut transceiver = Transceiver::new(alloc, Mode::Basic).ok()?;
@@ -283,6 +343,13 @@ fn holds_messages_back(rt: HostRuntime) {
     assert_eq!(rt; first_others(rt.alloc(), &IS_HELD), well);
     assert_eq!(rt; first_others(rt.alloc(), &IS_KEPT), well);
     assert_eq!(rt; first_others(rt.alloc(), &WAITS_TO_REPEAT), well);
+}
+
+#[test]
+fn discards_units_behind_odd_ones(rt: HostRuntime) {
+    let well = Some([None; 2]);
+    assert_eq!(rt; first_others(rt.alloc(), &DISCARDS_BEHIND_ODD), well);
+    assert_eq!(rt; first_others(rt.alloc(), &CLEARS), well);
 }
 
 /// Whether the next reports are that the link went down for each of these reasons, and then there is none.
