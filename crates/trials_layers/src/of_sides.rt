@@ -9,7 +9,7 @@ use su_octets::{Head, Unit};
 
 /// One line of an exchange.
 #[derive(Clone, Copy)]
-enum Step {
+pub(crate) enum Step {
     /// An actor tells that.
     Tell(EnvSignal),
     /// Level 3 holds the link so.
@@ -294,36 +294,8 @@ const WAITS_TO_REPEAT: [Step; 10] = [
     Step::Out("MSU bsn 127 bib 1 fsn 1 fib 0 sio 02 octets 3 true"),
 ];
 
-/// The unit behind one at fault acknowledges nothing and isn't accepted; where it is at fault itself it is told of, and so is the next.
-const DISCARDS_BEHIND_ODD: [Step; 10] = [
-    Step::Odd,
-    Step::Put(0x80),
-    Step::Out("MSU bsn 127 bib 1 fsn 0 fib 1 sio 80 octets 3 true"),
-    Step::Discard(0x85, 0xff, false, Some(1), false),
-    Step::Discard(0x80, 0xff, false, None, false),
-    Step::Hear(0x80, 0xff, false, Some(false), false),
-    Step::Discard(0x80, 0x7f, false, Some(2), false),
-    Step::Discard(0x80, 0x7f, false, Some(2), true),
-    Step::Discard(0x80, 0x80, true, None, false),
-    Step::Hear(0x80, 0x80, true, None, false),
-];
-
-/// What was out is no abnormal number until a message goes out, and acknowledges nothing; the numbers go on.
-const CLEARS: [Step; 10] = [
-    Step::Put(1),
-    Step::Put(2),
-    Step::Out("MSU bsn 127 bib 1 fsn 0 fib 1 sio 01 octets 3 true"),
-    Step::Clear,
-    Step::Out("FISU bsn 127 bib 1 fsn 127 fib 1 false"),
-    Step::Hear(0x80, 0xff, false, None, false),
-    Step::Hear(0x81, 0xff, false, None, false),
-    Step::Put(3),
-    Step::Out("MSU bsn 127 bib 1 fsn 0 fib 1 sio 03 octets 3 true"),
-    Step::Hear(0x80, 0xff, false, Some(false), false),
-];
-
 /// The numbers of the first steps at which a new side does something else as it comes up, and then; nothing where it can't be made.
-fn first_others(alloc: Global, steps: &[Step]) -> Option<[Option<usize>; 2]> {
+pub(crate) fn first_others(alloc: Global, steps: &[Step]) -> Option<[Option<usize>; 2]> {
     let mut transceiver = Transceiver::new(alloc, Mode::Basic).ok()?;
     let coming = first_other(alloc, &mut transceiver, &COMES_UP);
     Some([coming, first_other(alloc, &mut transceiver, steps)])
@@ -343,13 +315,6 @@ fn holds_messages_back(rt: HostRuntime) {
     assert_eq!(rt; first_others(rt.alloc(), &IS_HELD), well);
     assert_eq!(rt; first_others(rt.alloc(), &IS_KEPT), well);
     assert_eq!(rt; first_others(rt.alloc(), &WAITS_TO_REPEAT), well);
-}
-
-#[test]
-fn discards_units_behind_odd_ones(rt: HostRuntime) {
-    let well = Some([None; 2]);
-    assert_eq!(rt; first_others(rt.alloc(), &DISCARDS_BEHIND_ODD), well);
-    assert_eq!(rt; first_others(rt.alloc(), &CLEARS), well);
 }
 
 /// Whether the next reports are that the link went down for each of these reasons, and then there is none.
