@@ -346,7 +346,7 @@ def main(given):
         cut = options[options.index("--turns") + 1].split("..") if "--turns" in options else ["0", ""]
         print("\n".join(chart(seen, int(cut[0] or 0), int(cut[1]) if cut[1] else None)))
     elif "--coverage" in options:
-        print("\n".join(seen.taken.lcov(plain_term.SETS.get(word, word))))
+        print("\n".join(seen.taken.lcov(f"examples/{plain_term.SETS[word]}" if word in plain_term.SETS else word)))
     elif "--thrown" in options:
         print("\n".join(f"{process} {state}/{signal} {times}" for (process, state, signal), times in sorted(seen.taken.thrown.items())))
     else:
