@@ -4,3 +4,4 @@ pub mod Finishes
 pub mod Naming
 pub mod Standing
 pub mod Turns
+pub mod Ways
