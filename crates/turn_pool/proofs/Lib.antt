@@ -4,4 +4,3 @@ pub mod Finishes
 pub mod Naming
 pub mod Standing
 pub mod Turns
-pub mod Ways
