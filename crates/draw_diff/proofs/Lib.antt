@@ -1,0 +1,2 @@
+mod AlikeRuns
+mod Tests

@@ -1,0 +1,1 @@
+pub use Rattle.draw_diff.specs.Names.{same_name}
