@@ -1,2 +1,6 @@
 mod Ends
+mod Exchanging
+mod Recalling
+mod Reporting
+mod Tapped
 mod Times

@@ -1,14 +1,24 @@
-//! Where orders of a line come from, and where its reports and what is captured of it go: files, and what may keep its other side waiting, by a thread each.
+//! What stands beside a line: where its orders come from, and where its reports and what is captured of it go, by a thread each where that may keep its other
+//! side waiting; and captures, in pcap's classic format: which units are seen, which of them are recorded, and the octets of a record.
 #![tactic(auto)]
 
 mod arrivals;
+mod capture;
 mod departures;
+mod ended;
 mod opening;
 mod outlet;
 mod records;
+mod repeats;
+mod seen;
+mod taps;
 
 pub use arrivals::Arrivals;
+pub use capture::{Capture, Kept};
 pub use departures::Departures;
 pub use opening::{OrderStream, ReportStream, open_orders, open_reports};
 pub use outlet::Outlet;
 pub use records::{RecordStream, open_records};
+pub use repeats::Repeats;
+pub use seen::{Seen, header, record};
+pub use taps::{InTap, OutTap, Plan, tap};

@@ -1,6 +1,6 @@
 -- What is said of a command that failed, however far it came.
 use Rattle.std.proofs.Common.{◌≡◌, ◌⊎◌, ℕ, List, [], ◌∷◌, Option, None, inl, inr, refl, sym, subst, arith}
-use Rattle.mtp2_line.specs.Filters.{Line as Octets}
+use Rattle.line_filter.specs.Filters.{Line as Octets}
 use Rattle.mtp2_words.specs.declared.words.Named.{Named}
 use Rattle.mtp2_words.specs.declared.words.Request.{Request}
 use Rattle.mtp2_words.specs.declared.words.Request.TheVariants.{Check, Play, Soak, Line, Frame, Draw}

@@ -5,9 +5,9 @@ use Rattle.script_check.specs.declared.sets.SetWord.{SetWord}
 use Rattle.script_check.specs.declared.sets.SetWord.TheVariants.{Standard as standard_set, Monitors as monitors_set, Text}
 use Rattle.script_play.specs.Played.{IsOnSet, IsPlayed, IsPlayedInPart, IsNotRun, IsRefused, set_refused, script_refused}
 use Rattle.pool_soak.specs.Findings.{IsSoaked, IsSoakedInVain, IsTurnedDown}
-use Rattle.mtp2_line.specs.Filters.{Line}
-use Rattle.mtp2_line.specs.Opening.{IsNoSet}
-use Rattle.mtp2_line.specs.Spoken.{SpokeOver, BegunOver}
+use Rattle.line_filter.specs.Filters.{Line}
+use Rattle.line_play.specs.Opening.{IsNoSet}
+use Rattle.mtp2_play.specs.Spoken.{SpokeOver, BegunOver}
 use Rattle.mtp2_words.specs.declared.ends.LineEnd.{LineEnd}
 use Rattle.mtp2_play.specs.Printed.{IsSpoken}
 use Rattle.mtp2_play.specs.Sets.{own_set_of, own_text_of}

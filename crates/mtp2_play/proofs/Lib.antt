@@ -1,3 +1,4 @@
+mod Failing
 mod InTurn
 mod Known
-mod Failing
+mod Speaking

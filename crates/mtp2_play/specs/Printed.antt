@@ -8,9 +8,9 @@ use Rattle.script_check.specs.Checked.{IsGiven, PrintsCosts, PrintsRefusal}
 use Rattle.script_play.specs.Played.{IsOnSet, IsPlayed, IsPlayedInPart, IsRefused}
 use Rattle.pool_soak.specs.Findings.{IsSoaked, IsSoakedInVain, IsTurnedDown}
 use Rattle.mtp2_frame.specs.Printed.{PrintsUnit, PrintsFault}
-use Rattle.mtp2_line.specs.Filters.{Line as Octets}
-use Rattle.mtp2_line.specs.Opening.{IsNoSet}
-use Rattle.mtp2_line.specs.Spoken.{SpokeOver, BegunOver, IsUntouched}
+use Rattle.line_filter.specs.Filters.{Line as Octets}
+use Rattle.line_play.specs.Opening.{IsNoSet}
+use Rattle.mtp2_play.specs.Spoken.{SpokeOver, BegunOver, IsUntouched}
 use Rattle.mtp2_words.specs.declared.ends.LineEnd.{LineEnd}
 use Rattle.mtp2_play.specs.Sets.{own_text_of}
 use Rattle.mtp2_words.specs.declared.words.Named.{Named}

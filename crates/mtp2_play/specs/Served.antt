@@ -3,7 +3,7 @@ use Rattle.std.specs.Prelude.{◌≡◌, ◌⊎◌, ◌≢◌, ℕ, List, []}
 use Rattle.clap.specs.Words.{Text, fault_of, subcommand_of}
 use Rattle.clap.specs.declared.error.kind.ErrorKind.{ErrorKind}
 use Rattle.clap.specs.declared.error.kind.ErrorKind.TheVariants.{OutOfMemory}
-use Rattle.mtp2_line.specs.Filters.{Line as Octets}
+use Rattle.line_filter.specs.Filters.{Line as Octets}
 use Rattle.mtp2_words.specs.Asked.{IsAskedBy}
 use Rattle.mtp2_words.specs.Commands.{all_commands}
 use Rattle.mtp2_words.specs.TurnedDown.{IsTurnedDown}

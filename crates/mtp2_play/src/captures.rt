@@ -1,8 +1,7 @@
 //! Captures of a line.
 ghost use Rattle.std.specs.Prelude.{◌≡◌, ◌⊎◌};
 
-use line_capture::{OutTap, Plan};
-use line_streams::RecordStream;
+use line_streams::{OutTap, Plan, RecordStream};
 use mtp2_words::{LineEnd, Request};
 use plain_text::{FAILED, Teller, write_line};
 use std::rt::Files;

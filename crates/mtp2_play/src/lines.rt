@@ -4,8 +4,9 @@ ghost use Rattle.script_check.specs.Checked.{given};
 ghost use Rattle.mtp2_play.specs.Sets.{own_text_of};
 ghost use Rattle.mtp2_play.specs.Printed.{IsSpoken};
 
+use crate::running::run_line as run_on;
 use crate::sets::own_set;
-use mtp2_line::{SetWord, run_line as run_on};
+use line_play::SetWord;
 use mtp2_words::{LineEnd, Named};
 use plain_text::{NamedReader, Teller};
 use script_check::FAILED;

@@ -14,6 +14,7 @@ mod captures;
 mod checks;
 mod lines;
 mod pictures;
+mod running;
 mod sets;
 
 use crate::captures::{capture_of, end_capture};
@@ -21,8 +22,7 @@ use crate::checks::run_checks;
 use crate::lines::run_line;
 use crate::pictures::{picture_of, run_draw};
 use crate::sets::{STDIN, own_set, set_word};
-use line_capture::{Plan, tap};
-use line_streams::open_records;
+use line_streams::{Plan, open_records, tap};
 use mtp2_frame::frame;
 use mtp2_words::{Error, ErrorKind, Named, Request, Source, read};
 use plain_text::{NamedReader, Teller};

@@ -12,6 +12,10 @@
 //!   and heals links; what they say of a changeover is handed over as data, and some of it lost. Shows what was sent and arrived, how much is unsure, and
 //!   whether messages came once and in order of each selection, none missing but unsure ones.
 //! - `set_calls`: each public call of a link set. Shows what it answers.
+//! - `pools`: workers serve links ([`pools`]) while a client offers signals, lets ticks pass, takes what waits and rebases, by a seeded generator. The
+//!   first line has numbers: the seed, how many links and workers there are, how many steps the client makes, and, where it is to go on for long, so
+//!   many minutes in place of the steps. Behind it stands the text of a set, or `standard`. Shows whether the seats agree with the journals; with
+//!   minutes also what was done, and how often what was refused. `bench/soak` asks for that.
 //! - `ports`: a port in each line ([`ports`]), which is held against a plain one, a vector, through many calls by a seeded generator. Shows
 //!   how often there was no room, how often an item was taken behind saved ones, and in how many calls the two differed.
 //! - `reports`: what is done with two such terminals, a step in each line ([`steps`]), over a line without damage. Shows what the near one
@@ -33,6 +37,7 @@ mod message;
 mod noise;
 mod pair;
 mod plain_port;
+mod pools;
 mod ports;
 mod reports;
 mod rounds;
@@ -45,6 +50,7 @@ mod wheels;
 use crate::calls::Stopped;
 use crate::heard::compare;
 use crate::lines::make_runs;
+use crate::pools::serve_all;
 use crate::ports::hold_ports;
 use crate::reports::report_all;
 use crate::rounds::make_rounds;
@@ -75,6 +81,7 @@ fn make<R: Runtime + AllocGlobal + Threads + Wait + Sync>(
     match kind {
         "heard" => compare(rt.alloc(), text, trial),
         "runs" => make_runs(rt.alloc(), text, trial),
+        "pools" => serve_all(rt, text, trial),
         "ports" => hold_ports(rt.alloc(), text, trial),
         "reports" => report_all(rt.alloc(), text, trial),
         "rounds" => make_rounds(rt, text, trial),

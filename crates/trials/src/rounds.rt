@@ -34,7 +34,7 @@
 mod book_rounds;
 mod books;
 mod client;
-mod clock;
+pub mod clock;
 mod code;
 mod draws;
 mod line;

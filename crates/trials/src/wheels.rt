@@ -1,9 +1,12 @@
 //! Calls of a wheel beside those of a table of deadlines that is walked.
 
+pub mod table;
+mod trial;
+
 use crate::calls::Stopped;
 use crate::run::number;
+use crate::wheels::trial::{Findings, first_other};
 use std::alloc::Global;
-use trials_wheels::{Findings, first_other};
 
 /// Writes what so many calls by a seed found.
 fn write_findings(

@@ -2,10 +2,10 @@
 
 use crate::calls::Stopped;
 use crate::rounds::clock::{now, rate, since};
+use crate::wheels::table::Table;
 use std::alloc::{AllocError, Global};
 use std::rt::Clock;
 use tick_wheel::{Timer, Wheel};
-use trials_wheels::Table;
 
 /// How many timers are set, one case after another.
 const COUNTS: [u16; 3] = [8, 64, 1024];

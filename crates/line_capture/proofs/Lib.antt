@@ -1,4 +1,0 @@
-pub mod Exchanging
-pub mod Recalling
-pub mod Reporting
-pub mod Tapped

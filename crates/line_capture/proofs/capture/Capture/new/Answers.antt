@@ -1,6 +1,0 @@
-use Rattle.std.proofs.Common.{rules, refl}
-use Rattle.line_capture.proofs.Exchanging.{first_captures}
-use Rattle.line_capture.proofs.capture.Capture.new.Goals as goal
-
-pub returns-clause-first : goal.returns-clause-first
-returns-clause-first c = first_captures _ (search rules) (search rules) refl (c.new-3.ensures.first c.args.link)

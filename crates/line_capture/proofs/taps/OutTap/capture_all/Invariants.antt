@@ -1,7 +1,0 @@
--- The octets so far were captured.
-use Rattle.std.proofs.Common.{take}
-use Rattle.line_capture.proofs.Tapped.{Went}
-use Rattle.line_capture.proofs.taps.OutTap.capture_all.Given as goal
-
-abbrev pub invariant-loop-octet : goal.invariant-loop-octet
-invariant-loop-octet g l = Went g.S.Write.contents (take l.octet-index l.octets) l.fn.self l.self

@@ -1,4 +1,0 @@
-pub mod Capturing
-pub mod Records
-pub mod Repeats
-pub mod Tapping

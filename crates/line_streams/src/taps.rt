@@ -1,0 +1,200 @@
+//! Taps on the octets of a line: what is read and written goes through them as it is, and what was seen in it is recorded.
+ghost use Rattle.std.specs.Prelude.{◌≡◌, ◌-◌, ◌++◌, ◌∷◌, [], ℕ, List, Option, length, take, drop, IfOk, OnOk};
+ghost use Rattle.std.specs.Io.{ReadsAtMost};
+ghost use Rattle.std.specs.Io.KnownBytes.{Appends, ReadConsumes};
+ghost use Rattle.std.specs.List.{flat_map};
+ghost use Rattle.line_filter.specs.Filters.{turned};
+ghost use Rattle.line_streams.specs.Capturing.{listed};
+ghost use Rattle.line_streams.specs.Tapping.{HasTapped, IsTapped, Pushes};
+ghost use Rattle.line_streams.specs.Records.{record_of};
+ghost use Rattle.line_streams.specs.declared.seen.Seen.{Seen as OneSeen};
+
+use crate::capture::Capture;
+use crate::seen::{Seen, header, record};
+use line_filter::Bits;
+use rtrb::{Consumer, Producer, RingBuffer};
+use std::alloc::Global;
+use std::io::{self, ErrorKind, Read, Write};
+
+/// How many octets may be read before as many are written.
+const ROOM: usize = 8192;
+
+/// What is read of a line.
+#[derive(Drop)]
+pub struct InTap<R> {
+    reader: R,
+    /// What was read.
+    octets: Producer<u8>,
+}
+
+/// What is written to a line.
+#[derive(Drop)]
+pub struct OutTap<W, S> {
+    writer: W,
+    /// What was read, of which the first octets were captured.
+    octets: Consumer<u8>,
+    /// Which bit of an octet is the first on the line.
+    bits: Bits,
+    /// How many octets are still to go out before the first that is captured.
+    ahead: usize,
+    /// What was seen.
+    pub capture: Capture,
+    /// Where records go.
+    pub sink: S,
+    /// What failed: from then on nothing is captured, and a write fails.
+    pub trouble: Option<io::Error>,
+}
+
+/// How a line is tapped.
+#[derive(Clone, Copy)]
+pub struct Plan {
+    /// The number of its link.
+    pub link: u16,
+    /// Which bit of an octet is the first on the line.
+    pub bits: Bits,
+    /// How many octets go out before any came in; these aren't captured.
+    pub ahead: usize,
+    /// Whether every unit is recorded; else repeats are left out.
+    pub every: bool,
+}
+
+/// Taps a line: what a reader gives and what a writer takes. The records go to a sink, which has pcap's header from now on.
+///
+/// # Errors
+///
+/// Where there is no memory, or the header can't be written.
+pub fn tap<R: Drop, W: Drop, S: Write + Drop>(
+    alloc: Global,
+    reader: R,
+    writer: W,
+    sink: S,
+    plan: Plan,
+) -> io::Result<(InTap<R>, OutTap<W, S>)>
+    ensures tapped { IfOk result (λ t. IsTapped plan reader writer t.0 t.1) }
+    ensures first { IfOk result (λ t. HasTapped S.contents (S.contents sink) [] [] t.1) }
+{
+    let (producer, consumer) = RingBuffer::new(alloc, ROOM)?;
+    let mut sink = sink;
+    sink.write_all(header().as_slice())?;
+    let input = InTap {
+        reader,
+        octets: producer,
+    };
+    let output = OutTap {
+        writer,
+        octets: consumer,
+        bits: plan.bits,
+        ahead: plan.ahead,
+        capture: Capture::new(plan.link, plan.every),
+        sink,
+        trouble: None,
+    };
+    Ok((input, output))
+}
+
+impl<R: Read> InTap<R> {
+    /// Reads octets, which are kept to be captured where there is room for all of them; else none of them is.
+    fn take(&mut self, part: &mut [u8]) -> io::Result<usize>
+        ensures bound { ReadsAtMost result part.new }
+        ensures read { ReadConsumes (R.remaining self.old.reader) (R.remaining self.new.reader) result part.new }
+        ensures kept { IfOk result (λ n. Pushes (take n part.new) self.old.octets self.new.octets) }
+    {
+        let count = self.reader.read(part)?;
+        let _kept = self.octets.push_entire_slice(&part[..count]);
+        Ok(count)
+    }
+}
+
+impl<R: Read> Read for InTap<R> {
+    ghost remaining = { λ t. R.remaining t.reader };
+
+    fn read(&mut self, part: &mut [u8]) -> io::Result<usize> {
+        self.take(part)
+    }
+}
+
+/// An octet as it stands on the line, its first bit the lowest.
+fn turned(bits: Bits, octet: u8) -> u8
+    ensures { result ≡ turned bits octet }
+{
+    match bits {
+        Bits::Low => octet,
+        Bits::High => octet.reverse_bits(),
+    }
+}
+
+/// Writes the record of a unit, if there is one.
+fn put<S: Write>(seen: &Option<Seen>, sink: &mut S) -> io::Result<()>
+    ensures { OnOk result (Appends (S.contents sink.old) (S.contents sink.new) (flat_map record_of (listed seen.now))) }
+{
+    match seen {
+        Some(seen) => sink.write_all(record(seen).as_slice()),
+        None => Ok(()),
+    }
+}
+
+impl<W, S: Write> OutTap<W, S> {
+    /// An octet went out: one that came in is captured with it.
+    fn capture_one(&mut self, octet: u8) -> io::Result<()>
+        ensures tapped { OnOk result ((before : Option (List ℕ)) (gone : List ℕ) (seen : List OneSeen) → HasTapped S.contents before gone seen self.old
+            → (more : List OneSeen) × HasTapped S.contents before (gone ++ octet ∷ []) more self.new) }
+        ensures writer { self.new.writer ≡ self.old.writer }
+        ensures ahead { self.new.ahead ≡ self.old.ahead }
+    {
+        let Ok(came) = self.octets.pop() else {
+            return Err(io::Error::from(ErrorKind::Other));
+        };
+        let (gone, come) = (turned(self.bits, octet), turned(self.bits, came));
+        let kept = self.capture.exchange(gone, come)?;
+        put(&kept.went, &mut self.sink)?;
+        put(&kept.came, &mut self.sink)
+    }
+
+    /// Octets went out.
+    fn capture_all(&mut self, octets: &[u8]) -> io::Result<()>
+        ensures tapped { OnOk result ((before : Option (List ℕ)) (gone : List ℕ) (seen : List OneSeen) → HasTapped S.contents before gone seen self.old
+            → (more : List OneSeen) × HasTapped S.contents before (gone ++ octets.now) more self.new) }
+        ensures writer { self.new.writer ≡ self.old.writer }
+        ensures ahead { self.new.ahead ≡ self.old.ahead }
+    {
+        for octet in octets {
+            self.capture_one(*octet)?;
+        }
+        Ok(())
+    }
+
+    /// Octets went out, of which the first may be of those that go ahead.
+    fn note(&mut self, octets: &[u8]) -> io::Result<()>
+        ensures tapped { OnOk result ((before : Option (List ℕ)) (gone : List ℕ) (seen : List OneSeen) → HasTapped S.contents before gone seen self.old
+            → (more : List OneSeen) × HasTapped S.contents before (gone ++ drop self.old.ahead octets.now) more self.new) }
+        ensures writer { self.new.writer ≡ self.old.writer }
+        ensures ahead { self.new.ahead ≡ self.old.ahead - length octets.now }
+    {
+        if octets.len() <= self.ahead {
+            self.ahead -= octets.len();
+            return Ok(());
+        }
+        let skipped = self.ahead;
+        self.ahead = 0;
+        self.capture_all(&octets[skipped..])
+    }
+}
+
+impl<W: Write, S: Write> Write for OutTap<W, S> {
+    ghost contents = { λ t. W.contents t.writer };
+
+    fn write(&mut self, octets: &[u8]) -> io::Result<usize> {
+        if self.trouble.is_some() {
+            return Err(io::Error::from(ErrorKind::Other));
+        }
+        let count = self.writer.write(octets)?;
+        if let Err(error) = self.note(&octets[..count]) {
+            self.trouble = Some(error);
+        }
+        Ok(count)
+    }
+
+    fn flush(&mut self) -> io::Result<()> {
+        self.writer.flush()
+    }
+}

@@ -1,0 +1,61 @@
+-- A desk's run is what its terminal spoke.
+use Rattle.std.proofs.Common.{◌≡◌, ◌⊎◌, inl, inr, refl, subst, ℕ, List, Option}
+use Rattle.std.specs.Prelude.{min}
+use Rattle.line_play.specs.Term.{Term}
+use Rattle.line_filter.specs.Desks.{state_of}
+use Rattle.line_filter.specs.Filters.{MOST_AHEAD, Line, IsOver, IsBegun, Streams}
+use Rattle.line_filter.specs.Orders.{Timed}
+use Rattle.line_filter.specs.Speaking.{IsSilent}
+use Rattle.line_filter.specs.declared.desk.Desk.{Desk}
+use Rattle.line_filter.specs.declared.filter.Bits.{Bits}
+use Rattle.line_play.specs.Checked.{IsGiven}
+use Rattle.line_play.specs.Lines.{end_acts}
+use Rattle.line_play.specs.Opening.{IsNewOver}
+use Rattle.line_play.specs.declared.link_end.LinkEnd.{LinkEnd}
+use Rattle.mtp2_play.specs.Spoken.{AreOrdered, Spoke, SpokeOver, Begun, BegunOver, IsUntouched}
+use Rattle.mtp2_words.specs.declared.ends.LineEnd.{LineEnd}
+
+pub spoke : {A O P : Type 0} (orders : Option A) (left : O → Option (List Timed)) (bits : Bits) (ahead count : ℕ) (old new : Desk LinkEnd O P)
+    (read written told_before read_on written_on told : Option (List ℕ)) → IsSilent old.voice → AreOrdered orders (left old.orders) → old.count ≡ 0
+    → IsOver end_acts bits ahead old.count (state_of left old) count (state_of left new) (record { read = read; written = written; told = told_before })
+    (record { read = read_on; written = written_on; told = told })
+    → Spoke orders old.terminal.terminal bits ahead (record { read = read; written = written }) (record { read = read_on; written = written_on })
+spoke orders left bits ahead count old new read written told_before read_on written_on told silent ordered none over =
+    let before : Streams = record { read = read; written = written; told = told_before } in
+    let after : Streams = record { read = read_on; written = written_on; told = told } in
+    let P : ℕ → Type 0 = λ n. IsOver end_acts bits ahead n (state_of left old) count (state_of left new) before after in
+    record {
+      first = state_of left old;
+      is_first = record { is_term = refl; silent = silent; ordered = ordered };
+      last = state_of left new;
+      count = count;
+      told_before = told_before;
+      told = told;
+      over = subst P none over;
+    }
+
+pub begun : {A O P : Type 0} (orders : Option A) (left : O → Option (List Timed)) (bits : Bits) (ahead : ℕ) (desk : Desk LinkEnd O P) (old new : Line)
+    → IsSilent desk.voice → AreOrdered orders (left desk.orders) → desk.count ≡ 0 → IsBegun end_acts bits ahead desk.count (state_of left desk) old new
+    → Begun orders desk.terminal.terminal bits ahead old new
+begun orders left bits ahead desk old new silent ordered none h =
+    let P : ℕ → Type 0 = λ n. IsBegun end_acts bits ahead n (state_of left desk) old new in
+    record { first = state_of left desk; is_first = record { is_term = refl; silent = silent; ordered = ordered }; begun = subst P none h }
+
+-- the terminal that a desk was made of
+pub of_term : {A : Type 0} (orders : Option A) (one other : Term) (bits : Bits) (ahead : ℕ) (old new : Line) → other ≡ one → Spoke orders other bits ahead old new
+    → Spoke orders one bits ahead old new
+of_term orders one other bits ahead old new same h =
+    let P : Term → Type 0 = λ t. Spoke orders t bits ahead old new in
+    subst P same h
+
+-- over the set of some bytes
+pub over_set : (known : Option (List ℕ)) (end : LineEnd) (term : Term) (old new : Line) → IsGiven known (IsNewOver end.mode term)
+    → Spoke end.orders term end.bits (min end.ahead MOST_AHEAD) old new → IsGiven known (SpokeOver end old new)
+over_set known end term old new h spoke =
+    record { bytes = h.bytes; are_known = h.are_known; holds = record { term = term; is_new = h.holds; spoke = spoke } }
+
+pub begun_over : (known : Option (List ℕ)) (end : LineEnd) (term : Term) (old new : Line) → IsGiven known (IsNewOver end.mode term)
+    → IsUntouched old new ⊎ Begun end.orders term end.bits (min end.ahead MOST_AHEAD) old new → IsUntouched old new ⊎ IsGiven known (BegunOver end old new)
+begun_over known end term old new h (inl same) = inl same
+begun_over known end term old new h (inr it) =
+    inr (record { bytes = h.bytes; are_known = h.are_known; holds = record { term = term; is_new = h.holds; begun = it } })

@@ -1,0 +1,153 @@
+//! One end of a link on its line, from its first octet to its last.
+ghost use Rattle.std.specs.Prelude.{◌≡◌, ◌⊎◌, None, IfOk, min};
+ghost use Rattle.line_filter.specs.Filters.{MOST_AHEAD};
+ghost use Rattle.line_filter.specs.Speaking.{IsSilent};
+ghost use Rattle.line_filter.specs.Reading.{left_of};
+ghost use Rattle.line_play.specs.Checked.{given, IsGiven};
+ghost use Rattle.line_play.specs.Opening.{IsNoSet};
+ghost use Rattle.line_streams.specs.Known.{known_of};
+ghost use Rattle.mtp2_play.specs.Spoken.{AreOrdered, Spoke, SpokeOver, Begun, BegunOver, IsUntouched};
+
+use line_filter::{LineOrders, Orders};
+use line_play::{Desk, LinkEnd, MOST_AHEAD, SetWord, Terminal, link_desk, new_terminal, run_link};
+use line_streams::{OrderStream, ReportStream, open_orders, open_reports};
+use mtp2_words::LineEnd;
+use plain_text::{Errors, FAILED, Teller};
+use std::alloc::Global;
+use std::fs::File;
+use std::io::{self, Read, Write};
+use std::rt::Files;
+use std::thread::Threads;
+use std::time::Clock;
+
+/// What orders come from, and where reports go.
+#[derive(Drop)]
+struct Streams<'a, H: Eprint> {
+    orders: LineOrders<OrderStream>,
+    reports: ReportStream<Errors<'a, H>>,
+}
+
+/// Tells by its name that something couldn't be opened.
+fn told<H: Eprint>(teller: &Teller<'_, H>, path: Option<&str>, error: io::Error) -> io::Error {
+    if let Some(path) = path {
+        teller.tell(path, &error);
+    }
+    error
+}
+
+/// Opens what orders come from, and where reports go. What can't be opened is told by its name.
+fn open_streams<'a, H: Files<File = File> + Threads + Eprint + AllocGlobal>(
+    host: &'a H,
+    teller: &Teller<'_, H>,
+    end: &LineEnd<'_>,
+) -> io::Result<Streams<'a, H>>
+    ensures { IfOk result (λ s. AreOrdered end.now.orders (left_of known_of s.orders)) }
+{
+    let alloc = host.alloc();
+    let orders = match open_orders(host, alloc, end.orders) {
+        Ok(orders) => orders,
+        Err(error) => return Err(told(teller, end.orders, error)),
+    };
+    let errors = Errors { rt: host };
+    let reports = match open_reports(host, alloc, end.reports, errors) {
+        Ok(reports) => reports,
+        Err(error) => return Err(told(teller, end.reports, error)),
+    };
+    Ok(Streams {
+        orders: LineOrders::new(alloc, orders),
+        reports,
+    })
+}
+
+/// Runs a terminal on its line, behind the octets that go ahead.
+fn serve<O: Orders, P: Write, R: Read, W: Write>(
+    alloc: Global,
+    end: &LineEnd<'_>,
+    desk: &mut Desk<LinkEnd, O, P>,
+    reader: &mut R,
+    writer: &mut W,
+) -> u8
+    requires silent { IsSilent desk.old.voice }
+    requires ordered { AreOrdered end.now.orders (O.left desk.old.orders) }
+    requires new { desk.old.count ≡ 0 }
+    ensures spoke { result ≡ 0 → Spoke end.now.orders desk.old.terminal.terminal end.now.bits (min end.now.ahead MOST_AHEAD)
+        (record { read = R.remaining reader.old; written = W.contents writer.old })
+        (record { read = R.remaining reader.new; written = W.contents writer.new }) }
+    ensures begun { Begun end.now.orders desk.old.terminal.terminal end.now.bits (min end.now.ahead MOST_AHEAD)
+        (record { read = R.remaining reader.old; written = W.contents writer.old })
+        (record { read = R.remaining reader.new; written = W.contents writer.new }) }
+    ensures status { (result ≡ 0) ⊎ (result ≡ 4) }
+{
+    let ahead = end.ahead.min(MOST_AHEAD);
+    run_link(alloc, desk, end.bits, ahead, reader, writer)
+}
+
+/// Has a terminal speak on its line.
+fn speak<H: Files<File = File> + Threads + Eprint + Clock + AllocGlobal, R: Read, W: Write>(
+    host: &H,
+    teller: &Teller<'_, H>,
+    end: &LineEnd<'_>,
+    terminal: Terminal,
+    reader: &mut R,
+    writer: &mut W,
+) -> u8
+    ensures spoke { result ≡ 0 → Spoke end.now.orders terminal end.now.bits (min end.now.ahead MOST_AHEAD)
+        (record { read = R.remaining reader.old; written = W.contents writer.old })
+        (record { read = R.remaining reader.new; written = W.contents writer.new }) }
+    ensures begun { IsUntouched (record { read = R.remaining reader.old; written = W.contents writer.old })
+        (record { read = R.remaining reader.new; written = W.contents writer.new })
+        ⊎ Begun end.now.orders terminal end.now.bits (min end.now.ahead MOST_AHEAD)
+        (record { read = R.remaining reader.old; written = W.contents writer.old })
+        (record { read = R.remaining reader.new; written = W.contents writer.new }) }
+    ensures status { (result ≡ 0) ⊎ (result ≡ 4) }
+{
+    let Ok(Streams { orders, reports }) = open_streams(host, teller, end) else {
+        return FAILED;
+    };
+    let mut desk = link_desk(terminal, orders, reports);
+    let status = serve(host.alloc(), end, &mut desk, reader, writer);
+    let now = desk.millisecond();
+    match desk.reports.end(host, now) {
+        Ok(()) => status,
+        Err(_) => FAILED,
+    }
+}
+
+/// Puts one end of a link on a line: line octets come from a reader, and one goes to a writer for each, behind those that go ahead (of which
+/// 8,000 are the most). Orders and reports that can't be opened are told by their names.
+///
+/// Gives the exit status: 0 at the end of what there is to read, or at the order `quit`; 2 where the text is refused or lacks a name that a
+/// terminal wants; 4 where memory, a file, a read or a write fails, of reports too. However it ends, what is written on the line is a beginning
+/// of what the terminal gives for octets that were read. (Tests alone show that a refusal is told on standard error, and that the text of its
+/// processes is read first, then its orders and reports are opened, and then its line.)
+pub fn run_line<
+    H: Files<File = File> + Threads + Eprint + Clock + AllocGlobal,
+    S: Read + Drop,
+    R: Read,
+    W: Write,
+>(
+    host: &H,
+    teller: &Teller<'_, H>,
+    end: &LineEnd<'_>,
+    set: SetWord<S>,
+    reader: &mut R,
+    writer: &mut W,
+) -> u8
+    ensures spoke { result ≡ 0 → IsGiven (given S.remaining set) (SpokeOver end.now
+        (record { read = R.remaining reader.old; written = W.contents writer.old })
+        (record { read = R.remaining reader.new; written = W.contents writer.new })) }
+    ensures begun { IsUntouched (record { read = R.remaining reader.old; written = W.contents writer.old })
+        (record { read = R.remaining reader.new; written = W.contents writer.new })
+        ⊎ IsGiven (given S.remaining set) (BegunOver end.now
+        (record { read = R.remaining reader.old; written = W.contents writer.old })
+        (record { read = R.remaining reader.new; written = W.contents writer.new })) }
+    ensures refused { result ≡ 2 → IsGiven (given S.remaining set) (IsNoSet None None) }
+    ensures untouched { result ≡ 2 → IsUntouched (record { read = R.remaining reader.old; written = W.contents writer.old })
+        (record { read = R.remaining reader.new; written = W.contents writer.new }) }
+    ensures status { (result ≡ 0) ⊎ (result ≡ 2) ⊎ (result ≡ 4) }
+{
+    match new_terminal(host.alloc(), end.mode, set, &mut Errors { rt: host }) {
+        Ok(terminal) => speak(host, teller, end, terminal, reader, writer),
+        Err(status) => status,
+    }
+}

@@ -1,0 +1,293 @@
+//! A client that does at each step what a seeded generator says.
+
+use actor_book::Refusal;
+use arrayvec::ArrayVec;
+use link_standard::Verified;
+use std::rt::Clock;
+use std::sync::Wait;
+use std::sync::ledger::Ledger;
+use std::thread;
+use std::time::{Duration, Instant};
+use turn_code::{SignalNumber, Sort, Value};
+use turn_pool::{Client, Pool, PoolRefusal, Seat};
+
+/// Numbers that look random, the same in each run.
+#[derive(Clone, Copy)]
+struct Draws {
+    state: u64,
+}
+
+impl Draws {
+    /// The next of them (Knuth's constants).
+    fn draw(&mut self) -> u64 {
+        self.state = self
+            .state
+            .wrapping_mul(6_364_136_223_846_793_005)
+            .wrapping_add(1_442_695_040_888_963_407);
+        self.state >> 33
+    }
+}
+
+/// A signal that a route brings an actor from the environment.
+#[derive(Clone, Copy)]
+pub struct Way {
+    pub actor: u16,
+    pub signal: SignalNumber,
+}
+
+/// The refusals that are counted, by name; the last stands for all others.
+pub const NAMES: [&str; 8] = [
+    "B1 Full",
+    "B2 Stopped",
+    "B3 NoRoute",
+    "B7 Empty",
+    "B8 JournalFull",
+    "B10 NoActor",
+    "W1 TooFar",
+    "others",
+];
+
+/// What a client did, and how often it was refused, by [`NAMES`].
+#[derive(Clone, Copy)]
+pub struct Made {
+    pub offers: u64,
+    pub ticks: u64,
+    pub taken: u64,
+    pub rebases: u64,
+    pub refused: [u64; 8],
+}
+
+/// The client.
+#[derive(Drop)]
+pub struct Wanderer<'a, C> {
+    rt: &'a C,
+    set: &'a Verified,
+    ways: &'a [Way],
+    draws: Draws,
+    links: u32,
+    left: u32,
+    time: Option<Duration>,
+    start: Instant,
+    pub made: Made,
+}
+
+/// The place of a refusal in [`NAMES`].
+fn place_of(refusal: PoolRefusal) -> usize {
+    match refusal {
+        PoolRefusal::NoLink => 5,
+        PoolRefusal::Closing | PoolRefusal::NoMemory => 7,
+        PoolRefusal::Refused(refusal) => match refusal {
+            Refusal::Full => 0,
+            Refusal::Stopped => 1,
+            Refusal::NoRoute => 2,
+            Refusal::Empty => 3,
+            Refusal::JournalFull => 4,
+            Refusal::NoActor => 5,
+            Refusal::TooFar => 6,
+            _ => 7,
+        },
+    }
+}
+
+impl<'a, C: Clock> Wanderer<'a, C> {
+    /// A client of so many links of a set, with the signals that come there, a seed, and how many steps it makes, or how long it goes on from a
+    /// time on.
+    pub fn new(
+        rt: &'a C,
+        set: &'a Verified,
+        ways: &'a [Way],
+        links: u32,
+        seed: u32,
+        steps: u32,
+        time: Option<Duration>,
+        start: Instant,
+    ) -> Wanderer<'a, C> {
+        Wanderer {
+            rt,
+            set,
+            ways,
+            draws: Draws {
+                state: u64::from(seed),
+            },
+            links,
+            left: steps,
+            time,
+            start,
+            made: Made {
+                offers: 0,
+                ticks: 0,
+                taken: 0,
+                rebases: 0,
+                refused: [0; 8],
+            },
+        }
+    }
+
+    /// A number below another; 0 below 0.
+    fn below(&mut self, most: u32) -> u32 {
+        let drawn = self.draws.draw();
+        (drawn % u64::from(most.max(1))) as u32
+    }
+
+    /// Whether there is nothing left to do. The clock is asked at each 256th step.
+    fn is_over(&mut self) -> bool {
+        match self.time {
+            None => {
+                let is_over = self.left == 0;
+                self.left = self.left.saturating_sub(1);
+                is_over
+            }
+            Some(time) => self.below(256) == 0 && self.is_late(time),
+        }
+    }
+
+    /// Whether so much time has passed.
+    fn is_late(&self, time: Duration) -> bool {
+        match self.start.elapsed(self.rt) {
+            Ok(passed) => passed >= time,
+            Err(_) => true,
+        }
+    }
+
+    /// A value of a sort, at times one of the other.
+    fn value(&mut self, sort: Sort) -> Value {
+        let is_number = (sort == Sort::Integer) != (self.below(200) == 0);
+        if !is_number {
+            return Value::Bool(self.below(2) == 0);
+        }
+        match self.below(8) {
+            0 => Value::Int(i32::MAX),
+            1 => Value::Int(i32::MIN),
+            2 => Value::Int(i32::try_from(self.below(1_000_000)).unwrap_or(0)),
+            small => Value::Int(i32::try_from(small).unwrap_or(0)),
+        }
+    }
+
+    /// The signal that is offered next, mostly one that a route brings.
+    fn way(&mut self) -> Way {
+        let place = self.below(self.ways.len().min(65_536) as u32) as usize;
+        match self.ways.get(place) {
+            Some(way) if self.below(64) != 0 => *way,
+            _ => Way {
+                actor: u16::try_from(self.below(18)).unwrap_or(0),
+                signal: SignalNumber(u8::try_from(self.below(256)).unwrap_or(0)),
+            },
+        }
+    }
+
+    /// Offers a link a signal.
+    fn offers<R: Wait, L: Ledger>(
+        &mut self,
+        pool: &Pool<'_, R, L>,
+        seat: &mut Seat<L>,
+        link: usize,
+    ) -> Option<PoolRefusal> {
+        let way = self.way();
+        let mut values: ArrayVec<Value, 4> = ArrayVec::new();
+        let set = self.set;
+        for sort in set.parameters(way.signal) {
+            let value = self.value(*sort);
+            if !values.is_full() {
+                values.push(value);
+            }
+        }
+        let refusal = pool.offer(link, way.actor, way.signal, &values, seat).err();
+        self.made.offers = self
+            .made
+            .offers
+            .saturating_add(u64::from(refusal.is_none()));
+        refusal
+    }
+
+    /// Lets ticks pass on a link.
+    fn waits<R: Wait, L: Ledger>(
+        &mut self,
+        pool: &Pool<'_, R, L>,
+        seat: &mut Seat<L>,
+        link: usize,
+    ) -> Option<PoolRefusal> {
+        let ticks = match self.below(8) {
+            0 => 65_536,
+            1 => 65_535,
+            2 => u64::from(self.below(10_000)),
+            _ => u64::from(self.below(100)),
+        };
+        let refusal = pool.advance(link, ticks, seat).err();
+        self.made.ticks = self.made.ticks.saturating_add(u64::from(refusal.is_none()));
+        refusal
+    }
+
+    /// Takes what waits for the environment of a link.
+    fn takes<R: Wait, L: Ledger>(
+        &mut self,
+        pool: &Pool<'_, R, L>,
+        seat: &mut Seat<L>,
+        link: usize,
+    ) -> Option<PoolRefusal> {
+        let refusal = pool.take_env(link, seat).err();
+        self.made.taken = self.made.taken.saturating_add(u64::from(refusal.is_none()));
+        refusal
+    }
+
+    /// Makes the state of a link its base.
+    fn rebases<R: Wait, L: Ledger>(
+        &mut self,
+        pool: &Pool<'_, R, L>,
+        seat: &mut Seat<L>,
+        link: usize,
+    ) -> Option<PoolRefusal> {
+        let refusal = pool.rebase(link, seat).err();
+        self.made.rebases = self
+            .made
+            .rebases
+            .saturating_add(u64::from(refusal.is_none()));
+        refusal
+    }
+
+    /// Does one thing on a link.
+    fn acts<R: Wait, L: Ledger>(
+        &mut self,
+        pool: &Pool<'_, R, L>,
+        seat: &mut Seat<L>,
+        link: usize,
+    ) -> Option<PoolRefusal> {
+        match self.below(512) {
+            0 => self.rebases(pool, seat, link),
+            kind if kind < 64 => self.waits(pool, seat, link),
+            kind if kind < 256 => self.takes(pool, seat, link),
+            _ => self.offers(pool, seat, link),
+        }
+    }
+
+    /// Counts a refusal. Where there is no room workers run first; a journal that is full is emptied.
+    fn heeds<R: Wait, L: Ledger>(
+        &mut self,
+        pool: &Pool<'_, R, L>,
+        seat: &mut Seat<L>,
+        link: usize,
+        refusal: PoolRefusal,
+    ) {
+        if let Some(times) = self.made.refused.get_mut(place_of(refusal)) {
+            *times = times.saturating_add(1);
+        }
+        if refusal == PoolRefusal::Refused(Refusal::JournalFull) {
+            let _refused = self.rebases(pool, seat, link);
+        }
+        thread::yield_now();
+    }
+}
+
+impl<'a, C: Clock> Client for Wanderer<'a, C> {
+    fn drive<R: Wait, L: Ledger>(&mut self, pool: &Pool<'_, R, L>, seat: &mut Seat<L>) {
+        for _ in 0..u64::MAX {
+            if self.is_over() {
+                break;
+            }
+            // (a link behind the last is asked at times)
+            let link = self.below(self.links.saturating_mul(64).saturating_add(1)) / 64;
+            if let Some(refusal) = self.acts(pool, seat, link as usize) {
+                self.heeds(pool, seat, link as usize, refusal);
+            }
+        }
+    }
+}
