@@ -16,7 +16,7 @@ use Rattle.mtp2_play.specs.Sets.{own_text_of}
 use Rattle.mtp2_words.specs.declared.words.Named.{Named}
 use Rattle.mtp2_words.specs.declared.words.Request.{Request}
 use Rattle.mtp2_words.specs.declared.words.Request.TheVariants.{Check, Play, Soak, Line, Frame}
-use Rattle.mtp2_words.specs.declared.words.Request.TheVariants.{Draw}
+use Rattle.mtp2_words.specs.declared.words.Request.TheVariants.{Draw, Diff}
 
 -- the exit statuses: done, an expectation failed or something differs, refused, usage, failed
 abbrev pub IsStatus : ℕ → Type 0
@@ -74,6 +74,10 @@ pub record IsSpoken (known : Option (List ℕ)) (end : LineEnd) (status : ℕ) (
   pub untouched : status ≡ 2 → IsUntouched old new
   pub ends : IsDone status
 
+-- the exit statuses of `diff`: alike, different, refused, failed
+abbrev pub IsCompared : ℕ → Type 0
+IsCompared status = (status ≡ 0) ⊎ (status ≡ 1) ⊎ (status ≡ 2) ⊎ (status ≡ 4)
+
 -- what a request has printed, and with which exit status; only `line` reads what is handed to it
 -- here
 abbrev pub IsAnswered : Request → ℕ → Octets → Octets → Type 0
@@ -84,3 +88,4 @@ IsAnswered (Soak script workers) status old new = IsServed workers status old.wr
 IsAnswered (Line set end) status old new = IsSpoken (own_text_of set) end status old new
 IsAnswered (Frame octets) status old new = IsFramed octets.now status old.written new.written
 IsAnswered (Draw set process states) status old new = IsDone status
+IsAnswered (Diff one other) status old new = IsCompared status

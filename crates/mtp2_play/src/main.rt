@@ -12,6 +12,7 @@ ghost use Rattle.mtp2_play.specs.Served.{ComesTo, WasAnswered};
 
 mod captures;
 mod checks;
+mod differences;
 mod lines;
 mod pictures;
 mod running;
@@ -19,6 +20,7 @@ mod sets;
 
 use crate::captures::{capture_of, end_capture};
 use crate::checks::run_checks;
+use crate::differences::run_diff;
 use crate::lines::run_line;
 use crate::pictures::{picture_of, run_draw};
 use crate::sets::{STDIN, own_set, set_word};
@@ -74,6 +76,7 @@ fn run<
             process,
             states,
         } => run_draw(rt, teller, *set, &picture_of(*process, *states), writer),
+        Request::Diff { old, new } => run_diff(rt, teller, *old, *new, writer),
     }
 }
 

@@ -11,11 +11,11 @@ use Rattle.clap.proofs.WalkLemmas.{first_value-rows, raw_values-rows}
 use Rattle.mtp2_words.specs.Ends.{IsEndOf}
 use Rattle.mtp2_words.specs.declared.ends.LineEnd.{LineEnd}
 use Rattle.mtp2_words.specs.declared.ends.LineWords.{LineWords}
-use Rattle.mtp2_words.specs.Words.{command_of, workers_of, AreStdin, IsNamed, IsPlay, IsSoak, IsSource, says_true}
-use Rattle.mtp2_words.specs.Asked.{Given, given_by, given_in, AreAllAsked, AreNamed, AreBothStdin, AreUnderIds, AsksEnd, AsksNothing, IsAsked, IsAskedBy, IsNoPlay, IsNoSoak, SaysNothing, AsksDraw}
+use Rattle.mtp2_words.specs.Words.{command_of, workers_of, AreStdin, IsNamed, IsDiff, IsPlay, IsSoak, IsSource, says_true}
+use Rattle.mtp2_words.specs.Asked.{Given, given_by, given_in, AreAllAsked, AreNamed, AreBothStdin, AreUnderIds, AsksEnd, AsksNothing, IsAsked, IsAskedBy, IsNoPlay, IsNoSoak, SaysNothing, AreTwoStdin, AsksDiff, AsksDraw, IsNoDiff}
 use Rattle.mtp2_words.specs.declared.words.Named.{Named}
 use Rattle.mtp2_words.specs.declared.words.Request.{Request}
-use Rattle.mtp2_words.specs.declared.words.Request.TheVariants.{Check, Play, Soak, Line, Frame, Draw}
+use Rattle.mtp2_words.specs.declared.words.Request.TheVariants.{Check, Play, Soak, Line, Frame, Draw, Diff}
 
 -- ---- words under their ids
 
@@ -57,6 +57,7 @@ plays given set_word script_word (Soak script workers) e f h = absurd h
 plays given set_word script_word (Line set end) e f h = absurd h
 plays given set_word script_word (Frame octets) e f h = absurd h
 plays given set_word script_word (Draw set process states) e f h = absurd h
+plays given set_word script_word (Diff old new) e f h = absurd h
 
 pub is_play : (set_word script_word : Text) (request : Request) → IsPlay set_word script_word request → command_of request ≡ codes "play"
 is_play set_word script_word (Check sets) h = absurd h
@@ -65,6 +66,7 @@ is_play set_word script_word (Soak script workers) h = absurd h
 is_play set_word script_word (Line set end) h = absurd h
 is_play set_word script_word (Frame octets) h = absurd h
 is_play set_word script_word (Draw set process states) h = absurd h
+is_play set_word script_word (Diff old new) h = absurd h
 
 pub play_all : (rows : List Row) (set_word script_word : Text) (request : Request) → IsPlay set_word script_word request → AreAllAsked rows request
 play_all rows set_word script_word (Check sets) h = absurd h
@@ -73,6 +75,7 @@ play_all rows set_word script_word (Soak script workers) h = tt
 play_all rows set_word script_word (Line set end) h = tt
 play_all rows set_word script_word (Frame octets) h = tt
 play_all rows set_word script_word (Draw set process states) h = tt
+play_all rows set_word script_word (Diff old new) h = tt
 
 pub soak_all : (rows : List Row) (script_word workers_word : Text) (request : Request) → IsSoak script_word workers_word request → AreAllAsked rows request
 soak_all rows script_word workers_word (Check sets) h = absurd h
@@ -81,6 +84,7 @@ soak_all rows script_word workers_word (Soak script workers) h = tt
 soak_all rows script_word workers_word (Line set end) h = tt
 soak_all rows script_word workers_word (Frame octets) h = tt
 soak_all rows script_word workers_word (Draw set process states) h = tt
+soak_all rows script_word workers_word (Diff old new) h = tt
 
 pub plays_nothing : (given : Given) (set_word script_word : Text) → Some set_word ≡ given (codes "SET")
     → Some script_word ≡ given (codes "SCRIPT") → AreStdin set_word script_word → IsNoPlay given
@@ -100,6 +104,7 @@ soaks given script_word workers_word (Soak script workers) e f h = record {
 soaks given script_word workers_word (Line set end) e f h = absurd h
 soaks given script_word workers_word (Frame octets) e f h = absurd h
 soaks given script_word workers_word (Draw set process states) e f h = absurd h
+soaks given script_word workers_word (Diff old new) e f h = absurd h
 
 pub is_soak : (script_word workers_word : Text) (request : Request) → IsSoak script_word workers_word request → command_of request ≡ codes "soak"
 is_soak script_word workers_word (Check sets) h = absurd h
@@ -108,6 +113,7 @@ is_soak script_word workers_word (Soak script workers) h = refl
 is_soak script_word workers_word (Line set end) h = absurd h
 is_soak script_word workers_word (Frame octets) h = absurd h
 is_soak script_word workers_word (Draw set process states) h = absurd h
+is_soak script_word workers_word (Diff old new) h = absurd h
 
 pub soaks_nothing : (given : Given) (workers_word : Text) → Some workers_word ≡ given (codes "workers") → workers_of workers_word ≡ None
     → IsNoSoak given
@@ -190,3 +196,20 @@ draws_process given word set flag states process e h f t p = record {
   states_are = ap says_true (sym f) ∙ sym t;
   of_process = λ b. none-some process (sym (p ∙ b.process_is));
 }
+
+-- ---- two texts side by side
+
+pub compares : (given : Given) (old_word new_word : Text) (old new : Named) → Some old_word ≡ given (codes "OLD") → Some new_word ≡ given (codes "NEW")
+    → IsDiff old_word new_word old new → AsksDiff given old new
+compares given old_word new_word old new e f h = record {
+  old_is = some_word (given (codes "OLD")) old_word (IsNamed old) e h.old_is;
+  new_is = some_word (given (codes "NEW")) new_word (IsNamed new) f h.new_is;
+  one_input = λ b. h.one_input (same_Some old_word _ (e ∙ b.old_is), same_Some new_word _ (f ∙ b.new_is));
+}
+
+pub compares_nothing : (given : Given) (old_word new_word : Text) → Some old_word ≡ given (codes "OLD") → Some new_word ≡ given (codes "NEW")
+    → AreStdin old_word new_word → IsNoDiff given
+compares_nothing given old_word new_word e f h = inr (inr (record {
+  old_is = sym e ∙ ap Some h.0;
+  new_is = sym f ∙ ap Some h.1;
+}))

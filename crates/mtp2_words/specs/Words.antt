@@ -10,7 +10,7 @@ use Rattle.mtp2_words.specs.declared.words.Source.{Source}
 use Rattle.mtp2_words.specs.declared.words.Source.TheVariants.{Stdin as stdin, File as script_file}
 use Rattle.mtp2_words.specs.declared.words.Request.{Request}
 use Rattle.mtp2_words.specs.declared.words.Request.TheVariants.{Check, Play, Soak, Line, Frame}
-use Rattle.mtp2_words.specs.declared.words.Request.TheVariants.{Draw}
+use Rattle.mtp2_words.specs.declared.words.Request.TheVariants.{Draw, Diff}
 
 -- a file may have any name but these
 pub record IsFileName (word : List ℕ) : Type 0 where
@@ -47,6 +47,7 @@ IsPlay set_word script_word (Soak script workers) = ⊥
 IsPlay set_word script_word (Line set end) = ⊥
 IsPlay set_word script_word (Frame octets) = ⊥
 IsPlay set_word script_word (Draw set process states) = ⊥
+IsPlay set_word script_word (Diff old new) = ⊥
 
 -- as many workers as may serve
 abbrev pub as_many : ℕ → Option ℕ
@@ -65,6 +66,13 @@ IsSoak script_word workers_word (Soak script workers) =
 IsSoak script_word workers_word (Line set end) = ⊥
 IsSoak script_word workers_word (Frame octets) = ⊥
 IsSoak script_word workers_word (Draw set process states) = ⊥
+IsSoak script_word workers_word (Diff old new) = ⊥
+
+-- what `diff` asks for by two words; standard input isn't both
+pub record IsDiff (old_word new_word : List ℕ) (old new : Named) : Type 0 where
+  pub old_is : IsNamed old old_word
+  pub new_is : IsNamed new new_word
+  pub one_input : AreStdin old_word new_word → ⊥
 
 -- the set that a word names for a terminal on a line: standard input is the line, and no text
 abbrev pub IsTextNamed : Named → List ℕ → Type 0
@@ -91,3 +99,4 @@ command_of (Soak script workers) = codes "soak"
 command_of (Line set end) = codes "line"
 command_of (Frame octets) = codes "frame"
 command_of (Draw set process states) = codes "draw"
+command_of (Diff old new) = codes "diff"
