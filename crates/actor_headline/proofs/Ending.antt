@@ -24,6 +24,7 @@ use Rattle.actor_machine.specs.declared.actor.Standing.{Standing}
 use Rattle.actor_machine.specs.declared.actor.Standing.TheVariants.{At, Stopped}
 use Rattle.actor_machine.specs.declared.event.Event.{Event}
 use Rattle.actor_machine.specs.declared.event.Event.TheVariants.{Offer, Begin, Skip, Finish, Advance, TakeEnv}
+use Rattle.actor_machine.specs.Receivers.{AreReceived}
 use Rattle.actor_machine.proofs.FitsLists.{name_is}
 use Rattle.actor_headline.specs.Headline.{EndsAt, EachEnds}
 
@@ -80,6 +81,7 @@ module _ (keeps : KeepsLaw) (sets : SetLaw) (fits : FitsLaw) (finishes : FinishL
         name = f.name;
         called = subst (λ (names : List ActorName). slice_get names n ≡ Some f.name) core.names f.called;
         meant = x.meant ∙ ended_so (run t.code t.input) f.outcome f.ran;
+        received = subst (λ (names : List ActorName). AreReceived names f.name f.outcome.progress.effects) core.names f.received;
         answer = f.answer;
         within = f.within;
         longest = x.longest;

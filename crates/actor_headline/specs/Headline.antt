@@ -11,6 +11,8 @@ use Rattle.turn_verify.specs.declared.loading.LoadFault.TheVariants.{Lex, Parse,
 use Rattle.actor_book.specs.Limits.{LimitNumbers}
 use Rattle.actor_machine.specs.Fits.{IsCalled}
 use Rattle.actor_machine.specs.Full.{FullLaw}
+use Rattle.actor_machine.specs.Names.{actors_of}
+use Rattle.actor_machine.specs.Receivers.{AreReceived}
 use Rattle.actor_machine.specs.Step.{Says, report_of}
 use Rattle.actor_machine.specs.Ledger.{Ledger, runs as code_runs, ask, answers_by, after_by}
 use Rattle.actor_machine.specs.Ledger.{state_by, state_of, turn_out}
@@ -42,13 +44,15 @@ pub record RunsBy (act : Meaning) (d : Draft) (l : LimitNumbers) (es : List Even
 -- The turn that an actor has out comes to an end. The text's transition of the actor's process
 -- gives that end, with its variables, effects and count, on the turn's input: so it reads no
 -- variable that is unset, has no wrong operand nor lacks one, no answer, next state or receiver,
--- and doesn't leave its text, for each of which it would give a trouble. The answer says so; the
--- count is within the certificate's budget; and that is the longest path of the transition.
+-- and doesn't leave its text, for each of which it would give a trouble. Each of its outputs goes to
+-- the environment, or `number_for` finds an actor of the process that it goes to. The answer says
+-- so; the count is within the certificate's budget; and that is the longest path of the transition.
 pub record EndsAsMeant (b : PlainBlock) (k : Ledger) (n : ℕ) (t : Turn) : Type 0 where
   pub outcome : Outcome
   pub name : ActorName
   pub called : IsCalled k.set n name
   pub meant : meaning_of b name.process.0 t.place t.input_number t.input ≡ Ok outcome
+  pub received : AreReceived (actors_of k.set.processes) name outcome.progress.effects
   pub answer :
       (ask k (Finish n)).answer ≡ Says (reply.Finished (report_of n name outcome (state_of k)))
   pub within : outcome.progress.count ≤ t.certificate.budget
@@ -70,8 +74,8 @@ EachEnds b k (e ∷ es) = EndsAt b k e × EachEnds b (ask k e).book es
 
 -- What a block's set does: its numbers and names are in the order of the text, each turn is what
 -- the text's transition means, by the set's own code the answers are the same, and of the machine
--- by which it answers it holds, whatever its turns mean, that what is full is told by name, and of
--- offers and outputs nothing else.
+-- by which it answers it holds, whatever its turns mean, that what is full or has stopped is told by
+-- name, of outputs once and at its place, and of offers and outputs nothing else.
 pub record RunsAsRead (b : PlainBlock) (d : Draft) (l : LimitNumbers) (es : List Event)
     (book : Ledger) (replies : List Reply) : Type 0 where
   pub is_set : IsSetOf b d

@@ -21,9 +21,10 @@ pub struct TextRun {
 /// A text goes on exactly where it has tokens, reads as a tree that is at most 32 high, and breaks no rule. Whatever the events and their
 /// order, no transition of it then reads a variable that is unset, meets a wrong operand, lacks an operand, an answer, a next state or a
 /// receiver, or leaves its code: each does what its text means (Z.100), and takes at most as many instructions as its certificate's budget,
-/// which is the cost of the longest path through its text. What is full is told by name: of the offers those to a full port are refused as B1
-/// Full, and of a turn's outputs those to a full port or a full environment are reported as lost for that, with their places among the turn's
-/// effects; and these alone.
+/// which is the cost of the longest path through its text. Each of its outputs goes to the environment or to an actor of the set, who is there. What
+/// is full is told by name: of the offers those to a full port are refused as B1 Full, and of a turn's outputs those to a full port, to a full
+/// environment or to an actor that has stopped are reported as lost for that, each once, in order, with their places among the turn's effects;
+/// and these alone.
 ///
 /// # Errors
 ///

@@ -1,11 +1,12 @@
 -- Each turn that is out ends.
-use Rattle.std.proofs.Common.{◌≡◌, ℕ, ◌≤◌, Bool, true, false, if◌then◌else◌, arith, Option, Some, None, refl, sym, ap, ◌∙◌, subst, le-ltb, le_trans}
+use Rattle.std.proofs.Common.{◌≡◌, ℕ, ◌≤◌, Bool, true, false, if◌then◌else◌, arith, List, Option, Some, None, refl, sym, ap, ◌∙◌, subst, le-ltb, le_trans}
 use Rattle.std.specs.Prelude.{◌↔◌, is_some, slice_get, nat_lt, Result, Ok}
 use Rattle.std.proofs.lemmas.Option.{none-some}
 use Rattle.turn_code.specs.Outcome.{Outcome, outcome_in, result_in}
 use Rattle.turn_code.specs.declared.trouble.Trouble.{Trouble}
 use Rattle.turn_code.specs.declared.numbers.ProcessNumber.{ProcessNumber}
 use Rattle.turn_code.specs.Run.{run}
+use Rattle.turn_code.specs.Effects.{EffectsLaw}
 use Rattle.turn_code.specs.Safe.{SafeLaw, RunLaw, RunsWell}
 use Rattle.turn_code.specs.Transitions.{Transition, transition_at}
 use Rattle.turn_code.specs.Valid.{IsValid, IsValidTransition}
@@ -30,6 +31,8 @@ use Rattle.actor_machine.specs.declared.reply.Refusal.{Refusal}
 use Rattle.actor_machine.specs.declared.reply.Refusal.TheVariants.{Stranger, JournalFull}
 use Rattle.actor_machine.specs.declared.reply.Reply.TheVariants as reply
 use Rattle.actor_machine.proofs.FitsLists.{name_there}
+use Rattle.actor_machine.specs.Receivers.{AreReceived}
+use Rattle.actor_machine.proofs.Receiving.{turn_received}
 use Rattle.actor_machine.proofs.Replays.{fits_law}
 
 -- the outcome is that of the turn's own run, within its budget
@@ -180,12 +183,13 @@ answered b n me o h ended =
     (with_no_room (room b (state_of b)) n (refuses b.set (state_of b) (Finish n)) h)
     ∙ finish_answer b.set (state_of b) n me o ended
 
-pub finish_law : SafeLaw → RunLaw → (b : Ledger) (n : ℕ) (t : Turn) → IsKept b → turn_out b n ≡ Some t → FinishesWithin b n t
+pub finish_law : SafeLaw → RunLaw → EffectsLaw → (b : Ledger) (n : ℕ) (t : Turn) → IsKept b → turn_out b n ≡ Some t → FinishesWithin b n t
 unfolding turn_out
-finish_law safe law b n t kept h =
+finish_law safe law gives_right b n t kept h =
     let passes : refuses b.set (state_of b) (Finish n) ≡ None = turn_row b.set (state_of b) n t h in
     let e : ActorEnds b.set n (state_of b) (slice_get (state_of b).actors n) =
     turn_ends safe law b.set (state_of b) n kept.stands.valid (fits_law b kept) passes in
+    let fits : CoreFits b.set (state_of b) = fits_law b kept in
     record {
       outcome = e.outcome;
       ran = (e.turn t h).ran;
@@ -193,6 +197,8 @@ finish_law safe law b n t kept h =
       called = name_there (state_of b).actors n e.actor e.there;
       answer = answered b n e.actor.name e.outcome passes e.ended;
       within = (e.turn t h).within;
+      received = subst (λ (names : List ActorName). AreReceived names e.actor.name e.outcome.progress.effects) (sym fits.names)
+          (turn_received gives_right b.set kept.stands.valid n t e.outcome (e.turn t h).ran e.actor.name (slice_get (state_of b).actors n) (fits.each n) h);
     }
 
 said_asked : (b : Ledger) (e : Event) (s : Stepped) (o : Option Refusal) → (o ≡ None → IsSaid s.answer) → IsSaid (asked b e s o).answer

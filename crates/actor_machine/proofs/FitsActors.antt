@@ -13,7 +13,7 @@ use Rattle.input_port.specs.declared.queue.Item.TheVariants.{Signal, Timer}
 use Rattle.actor_machine.specs.Names.{actors_of}
 use Rattle.actor_machine.specs.Core.{Core, change, change_found, names_in}
 use Rattle.actor_machine.specs.Effects.{is_full, reached, receives, drops, hears}
-use Rattle.actor_machine.specs.Fits.{Arrived, ItemFits, StandingFits, GivenFits, ActorFits, TimersFit, EmittedFits, CoreFits}
+use Rattle.actor_machine.specs.Fits.{Arrived, ItemFits, StandingFits, GivenFits, GivenBy, ActorFits, TimersFit, EmittedFits, CoreFits}
 use Rattle.actor_machine.specs.declared.actor.Actor.{Actor}
 use Rattle.actor_machine.specs.declared.actor.Given.{Given}
 use Rattle.actor_machine.specs.declared.actor.Standing.{Standing}
@@ -43,13 +43,13 @@ pub record LinkSits (d : Draft) (R : Asked) (w : Core) : Type 0 where
 -- ---- between turns
 
 abbrev pub Rests : Draft → Asked
-Rests d n k p s vs g = StandingFits p s vs × GivenFits d k s g
+Rests d n k p s vs g = StandingFits p s vs × GivenFits d k s g × GivenBy d g
 
 pub sits_of : (d : Draft) (n : ℕ) (a : Actor) → ActorFits d a → Sits d (Rests d) n a
-sits_of d n a h = record { process = h.process; there = h.there; variables = h.variables; rest = (h.standing, h.given); items = h.items }
+sits_of d n a h = record { process = h.process; there = h.there; variables = h.variables; rest = (h.standing, h.given, h.sender); items = h.items }
 
 pub fits_of : (d : Draft) (n : ℕ) (a : Actor) → Sits d (Rests d) n a → ActorFits d a
-fits_of d n a h = record { process = h.process; there = h.there; variables = h.variables; standing = h.rest.0; items = h.items; given = h.rest.1 }
+fits_of d n a h = record { process = h.process; there = h.there; variables = h.variables; standing = h.rest.0; items = h.items; given = h.rest.1; sender = h.rest.2 }
 
 pub link_of : (d : Draft) (w : Core) → CoreFits d w → LinkSits d (Rests d) w
 link_of d w h = record { each = λ n a e. sits_of d n a (h.each n a e); names = h.names; timers = h.timers; ring = h.ring }

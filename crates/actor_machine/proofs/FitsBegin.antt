@@ -1,6 +1,6 @@
 -- A turn that begins is given an input that fits it, and a signal that is thrown away leaves all fitting.
 use Rattle.std.proofs.Common.{◌≡◌, ℕ, Bool, true, false, cond, List, [], ◌∷◌, Option, Some, None, refl, sym, ap, ◌∙◌, subst, eqb-true}
-use Rattle.std.specs.Prelude.{slice_get, option_map}
+use Rattle.std.specs.Prelude.{slice_get, option_map, IfSome}
 use Rattle.std.specs.List.{AllByRecursion}
 use Rattle.std.proofs.lemmas.Option.{same_Some, none-some}
 use Rattle.std.proofs.lemmas.Bool.{false≢true}
@@ -22,7 +22,7 @@ use Rattle.input_port.specs.Queue.{first_unsaved, without_first}
 use Rattle.input_port.specs.declared.queue.Item.{Item}
 use Rattle.input_port.specs.declared.queue.Item.TheVariants.{Signal, Timer}
 use Rattle.actor_machine.specs.Looking.{trigger_of, is_saved, input_for, item_at, left_at, as_input, found_item, found_at, looks, first_input, input_with, number_in, given_now, begun, skipped}
-use Rattle.actor_machine.specs.Fits.{ItemFits, IsReadyAt, StandingFits, GivenFits}
+use Rattle.actor_machine.specs.Fits.{ItemFits, IsSender, IsReadyAt, StandingFits, GivenFits}
 use Rattle.actor_machine.specs.Laws.{ItemLaw}
 use Rattle.actor_machine.specs.Refusals.{is_nothing, is_ignored}
 use Rattle.actor_machine.specs.declared.actor.Actor.{Actor}
@@ -137,6 +137,20 @@ module _ (start_fits : StartLaw) (d : Draft) (valid : IsValid d) (n : ℕ) (a : 
   turn_given turn xs (At (State q)) all stands something heard =
       state_given q stands (first_unsaved (is_saved d n q.0) xs) (λ x e. first_fits (ItemFits d n p) (is_saved d n q.0) xs x all e) something heard
 
+-- ---- who sent the item
+
+item_by : (d : Draft) (n : ℕ) (p : DraftProcess) (a : Actor) (o : Option Item) → ((x : Item) → o ≡ Some x → ItemFits d n p x) → IfSome (input_with a o).sender (IsSender d)
+item_by d n p a None fits = tt
+item_by d n p a (Some (Signal arrival)) fits = (fits (Signal arrival) refl).sender
+item_by d n p a (Some (Timer timer)) fits = tt
+
+taken_by : (d : Draft) (n : ℕ) (p : DraftProcess) (a : Actor) (s : Standing) (xs : List Item) → AllByRecursion (ItemFits d n p) xs
+    → IfSome (input_with a (item_at d n s xs)).sender (IsSender d)
+taken_by d n p a (At (State q)) xs all =
+    item_by d n p a (first_unsaved (is_saved d n q.0) xs) (λ x e. first_fits (ItemFits d n p) (is_saved d n q.0) xs x all e)
+taken_by d n p a (At Start) xs all = tt
+taken_by d n p a Stopped xs all = tt
+
 -- ---- the actor then
 
 pub sits_begun : StartLaw → (d : Draft) → IsValid d → (n turn : ℕ) (a : Actor) → Sits d (Rests d) n a → is_nothing (looks d a) ≡ false → is_ignored (looks d a) ≡ false
@@ -148,7 +162,11 @@ sits_begun start_fits d valid n turn a h something heard =
       process = h.process;
       there = h.there;
       variables = h.variables;
-      rest = (h.rest.0, turn_given start_fits d valid p a h.process h.there h.variables turn a.port.items a.standing h.items h.rest.0 something heard);
+      rest = (
+        h.rest.0,
+        turn_given start_fits d valid p a h.process h.there h.variables turn a.port.items a.standing h.items h.rest.0 something heard,
+        taken_by d p h.process a a.standing a.port.items h.items,
+      );
       items = all_left (ItemFits d p h.process) d p a.standing a.port.items h.items;
     }
 

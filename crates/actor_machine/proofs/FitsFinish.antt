@@ -1,5 +1,5 @@
 -- A turn that ends leaves all fitting.
-use Rattle.std.proofs.Common.{◌≡◌, ◌≢◌, ℕ, zero, suc, Bool, true, false, if◌then◌else◌, List, [], ◌∷◌, ◌++◌, Option, Some, None, refl, sym, ap, ◌∙◌, subst}
+use Rattle.std.proofs.Common.{◌≡◌, ◌≢◌, inr, ℕ, zero, suc, Bool, true, false, if◌then◌else◌, List, [], ◌∷◌, ◌++◌, Option, Some, None, refl, sym, ap, ◌∙◌, subst}
 use Rattle.std.specs.Prelude.{slice_get, option_map, Any, Result, Ok}
 use Rattle.std.specs.List.{AllByRecursion}
 use Rattle.std.proofs.lemmas.Option.{same_Some}
@@ -32,7 +32,7 @@ use Rattle.actor_machine.specs.declared.name.ActorName.{ActorName}
 use Rattle.actor_machine.proofs.NameStanding.{right_process}
 use Rattle.actor_machine.specs.Core.{Core, Ring, change, names_in}
 use Rattle.actor_machine.specs.Effects.{arrival_of, emitted_of, has_room, delivered, receives, drops, laid, laid_all, delay, without, settled, moved, timers_after, ended, started, finished}
-use Rattle.actor_machine.specs.Fits.{Arrived, IsReadyAt, GivenFits, IsCalled, EmittedFits, CoreFits}
+use Rattle.actor_machine.specs.Fits.{Arrived, IsReadyAt, GivenFits, GivenBy, IsCalled, EmittedFits, CoreFits}
 use Rattle.actor_machine.specs.Step.{result_given, finish_by, finish_at}
 use Rattle.actor_machine.specs.Ledger.{run_of, runs}
 use Rattle.actor_machine.specs.declared.actor.Actor.{Actor}
@@ -79,11 +79,12 @@ transition_of d n s i t e = by (slice_get d.processes n) s e
 
 -- ---- the effects
 
-sending_arrives : (d : Draft) (me : ActorName) (t : Transition) (s : Sending) (m : ProcessNumber) → t.number ≡ me.process.0 → s.receiver.party ≡ Process m → IsRightSending d t s
-    → Arrived d m.0 (arrival_of me s)
-sending_arrives d me t s m number to right = record {
+sending_arrives : (d : Draft) (n : ℕ) (me : ActorName) (t : Transition) (s : Sending) (m : ProcessNumber) → t.number ≡ me.process.0 → IsCalled d n me
+    → s.receiver.party ≡ Process m → IsRightSending d t s → Arrived d m.0 (arrival_of me s)
+sending_arrives d n me t s m number called to right = record {
   there = right.signal;
   sorts = right.parameters;
+  sender = inr (record { number = n; name = me; called = called; is = refl });
   brought = subst (λ (k : ℕ). Any (Brings (the_process k) m.0 s.signal) d.routes) number
       (subst (λ (p : Party). Any (Carries (the_process t.number) p s.signal) d.routes) to right.reaches);
 }
@@ -113,7 +114,7 @@ module _ (d : Draft) (R : Asked) (n : ℕ) (me : ActorName) (t : Transition) (nu
       let of = right_process (names_in w.actors) me m s.receiver.instance j found in
       let own : a.name ≡ of.name = name_is w.actors j a of.name at of.there in
       let same : m ≡ a.name.process = sym (ap (λ (x : ActorName). x.process) own ∙ of.process) in
-      subst (λ (q : ProcessNumber). Arrived d q.0 (arrival_of me s)) same (sending_arrives d me t s m number to right)
+      subst (λ (q : ProcessNumber). Arrived d q.0 (arrival_of me s)) same (sending_arrives d n me t s m number called to right)
 
   delivered_sits : (w : Core) (s : Sending) → LinkSits d R w → IsRightSending d t s → LinkSits d R (delivered me w s s.receiver.party s.receiver.instance)
   delivered_sits w s sits right = by s.receiver.party refl
@@ -151,7 +152,7 @@ module _ (d : Draft) (R : Asked) (n : ℕ) (me : ActorName) (t : Transition) (nu
 abbrev pub Acts : Draft → ℕ → List (Option Value) → Asked
 Acts d m now n k p s vs g = (n ≢ m → Rests d n k p s vs g) × (n ≡ m → (vs ≡ now) × (g ≡ None))
 
-settled_stays : (o : Outcome) → NamesStay (settled o)
+pub settled_stays : (o : Outcome) → NamesStay (settled o)
 unfolding NamesStay
 settled_stays o a = refl
 
@@ -189,13 +190,13 @@ module _ (d : Draft) (n : ℕ) (me : ActorName) (t : Transition) (called : IsCal
       → Sits d (Rests d) n (moved e a)
   moves Stop a now mine_is ready h =
       let mine = h.rest.1 refl in
-      record { process = h.process; there = h.there; variables = h.variables; rest = (tt, subst (GivenFits d a.name.process.0 Stopped) (sym mine.1) tt); items = tt }
+      record { process = h.process; there = h.there; variables = h.variables; rest = (tt, subst (GivenFits d a.name.process.0 Stopped) (sym mine.1) tt, subst (GivenBy d) (sym mine.1) tt); items = tt }
   moves (Next q) a now mine_is ready h =
       let mine = h.rest.1 refl in
       let same : t.process ≡ h.process = same_Some t.process h.process (sym mine_is ∙ h.there) in
       let is_ready : IsReadyAt h.process q.0 a.variables.items = subst (λ (p : DraftProcess). IsReadyAt p q.0 a.variables.items) same
       (subst (IsReadyAt t.process q.0) (sym mine.0) (record { state = ready.state; there = ready.there; set = ready.set })) in
-      record { process = h.process; there = h.there; variables = h.variables; rest = (is_ready, subst (GivenFits d a.name.process.0 (At (State q))) (sym mine.1) tt); items = h.items }
+      record { process = h.process; there = h.there; variables = h.variables; rest = (is_ready, subst (GivenFits d a.name.process.0 (At (State q))) (sym mine.1) tt, subst (GivenBy d) (sym mine.1) tt); items = h.items }
 
   ends : (w : Core) (e : End) (now : List (Option Value)) → LinkSits d (Acts d n now) w → EndIsReady t e now → LinkSits d (Rests d) (ended n e w)
   ends w e now sits ready = record {

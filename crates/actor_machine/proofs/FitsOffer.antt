@@ -1,5 +1,5 @@
 -- A signal that is offered and not refused came as it should.
-use Rattle.std.proofs.Common.{◌≡◌, ℕ, true, ◌&&◌, List, [], ◌∷◌, length, map, refl, ap, subst, eqb-true}
+use Rattle.std.proofs.Common.{◌≡◌, inl, ℕ, true, ◌&&◌, List, [], ◌∷◌, length, map, refl, ap, subst, eqb-true}
 use Rattle.std.specs.Prelude.{slice_get, slice_index_or, nat_lt, ◌==◌, Any, Contains}
 use Rattle.std.specs.List.{list_any}
 use Rattle.std.proofs.lemmas.Bool.{false≢true, and_parts as both_pass}
@@ -71,5 +71,6 @@ offered_arrives d n o e =
     record {
       there = (Decides-ltb o.signal.0 (length d.signals)).0 inner.0;
       sorts = equal_sorts (map sort_of o.values.items) (parameters_of (slice_get d.signals o.signal.0)) inner.1;
+      sender = inl refl;
       brought = some_brings n o.signal d.routes outer.0;
     }

@@ -137,7 +137,7 @@ initial_sorts start_fits d valid n p there =
 opened_actor_fits : StartLaw → (d : Draft) (port : ℕ) → IsValid d → (p : DraftProcess) (x : ActorName) → slice_get d.processes x.process.0 ≡ Some p
     → ActorFits d (opened_actor port p x)
 opened_actor_fits start_fits d port valid p x there =
-    record { process = p; there = there; variables = initial_sorts start_fits d valid x.process.0 p there; standing = refl; items = tt; given = tt }
+    record { process = p; there = there; variables = initial_sorts start_fits d valid x.process.0 p there; standing = refl; items = tt; given = tt; sender = tt }
 
 pub opened_fits : StartLaw → (d : Draft) (port env : ℕ) → IsValid d → CoreFits d (opened d port env)
 unfolding opened

@@ -1,10 +1,11 @@
--- What is full is told by name, and nothing else is told so.
-use Rattle.std.proofs.Common.{◌≡◌, ℕ, zero, suc, ◌+◌, ◌≤◌, Bool, true, false, not, if◌then◌else◌, arith, List, [], ◌∷◌, ◌++◌, take, Option, Some, None, refl, sym, ap, ◌∙◌, subst, append_assoc}
-use Rattle.std.specs.Prelude.{option_to_list, nat_lt, slice_get}
+-- What is full, or has stopped, is told by name, at its place and once, and nothing else is told so.
+use Rattle.std.proofs.Common.{◌≡◌, ℕ, zero, suc, ◌+◌, ◌<◌, ◌≤◌, Bool, true, false, not, if◌then◌else◌, arith, List, [], ◌∷◌, ◌++◌, take, Option, Some, None, refl, sym, ap, ◌∙◌, subst, append_assoc}
+use Rattle.std.specs.Prelude.{option_to_list, option_map, nat_lt, slice_get}
 use Rattle.std.specs.List.{AllByRecursion}
-use Rattle.std.proofs.lemmas.Option.{same_Some, none-some}
+use Rattle.std.proofs.lemmas.Option.{same_Some, none-some, slice_get-map}
 use Rattle.turn_code.specs.Outcome.{Outcome, Meaning}
 use Rattle.turn_code.specs.declared.numbers.ProcessNumber.{ProcessNumber}
+use Rattle.turn_code.specs.declared.numbers.InstanceNumber.{InstanceNumber}
 use Rattle.turn_code.specs.declared.input.Place.{Place}
 use Rattle.turn_code.specs.declared.input.Party.{Party}
 use Rattle.turn_code.specs.declared.input.Party.TheVariants.{Environment, Process}
@@ -15,8 +16,9 @@ use Rattle.turn_code.specs.declared.draft.Draft.{Draft}
 use Rattle.actor_machine.specs.Names.{number_for}
 use Rattle.actor_machine.specs.declared.name.ActorName.{ActorName}
 use Rattle.actor_machine.specs.Core.{Core, found_in, names_in}
-use Rattle.actor_machine.specs.Effects.{is_full, has_room, refusal_at, refusal_in, undelivered, laid, laid_all, lost_for, lost_by, losses, started, lost_in}
-use Rattle.actor_machine.specs.Full.{MeetsFull, FindsFull, lost_at, IsLost, behind, FullLaw}
+use Rattle.actor_machine.specs.Effects.{is_full, has_room, refusal_at, refusal_in, receives, drops, arrival_of, delivered, undelivered, laid, laid_all, lost_for, lost_by, losses, settled, started, lost_in}
+use Rattle.actor_machine.specs.Full.{MeetsFull, FindsFull, FindsStopped, lost_at, IsLost, IsOutput, AreInOrder, behind, FullLaw}
+use Rattle.actor_machine.specs.Receivers.{HasReceiver}
 use Rattle.actor_machine.specs.Refusals.{first_of, has_stopped, is_offered, offer_rows, of_actor, refuses, needs, with_room}
 use Rattle.actor_machine.specs.Step.{Says, Stepped, step}
 use Rattle.actor_machine.specs.Ledger.{Ledger, state_by, room, refusal_by, asked, ask_by}
@@ -32,6 +34,9 @@ use Rattle.actor_machine.specs.declared.reply.Lost.{Lost}
 use Rattle.actor_machine.specs.declared.reply.Refusal.{Refusal}
 use Rattle.actor_machine.specs.declared.reply.Refusal.TheVariants.{Full, Stopped, NoRoute, JournalFull}
 use Rattle.actor_machine.specs.declared.reply.Reply.TheVariants as reply
+use Rattle.actor_machine.proofs.FitsActors.{receives_stay, drops_stay}
+use Rattle.actor_machine.proofs.FitsFinish.{settled_stays}
+use Rattle.actor_machine.proofs.FitsLists.{names_change, names_found}
 use Rattle.actor_machine.proofs.Opened.{both_parts}
 
 -- whoever is somewhere hasn't stopped
@@ -173,6 +178,75 @@ full_ring me w s h = to s.receiver.party refl h
     to Environment is h = (is, environment (has_room w.ring) refl h)
     to (Process p) is h = absurd (other_name (found_in w.actors (number_for (names_in w.actors) me p s.receiver.instance)) h)
 
+-- ---- who has stopped
+
+-- the actors keep their names
+delivered_names : (me : ActorName) (w : Core) (s : Sending) (p : Party) (k : Option InstanceNumber) → names_in (delivered me w s p k).actors ≡ names_in w.actors
+delivered_names me w s Environment k = refl
+delivered_names me w s (Process p) k =
+    names_found w.actors (number_for (names_in w.actors) me p k) (receives (arrival_of me s)) (receives_stay (arrival_of me s))
+
+laid_names : (n : ℕ) (me : ActorName) (w : Core) (e : Effect) → names_in (laid n me w e).actors ≡ names_in w.actors
+laid_names n me w (Output s) = delivered_names me w s s.receiver.party s.receiver.instance
+laid_names n me w (Set t z) = names_change w.actors n (drops t.0) (drops_stay t.0)
+laid_names n me w (Reset t) = names_change w.actors n (drops t.0) (drops_stay t.0)
+
+all_laid_names : (n : ℕ) (me : ActorName) (es : List Effect) (w : Core) → names_in (laid_all n me w es).actors ≡ names_in w.actors
+all_laid_names n me [] w = refl
+all_laid_names n me (e ∷ es) w = all_laid_names n me es (laid n me w e) ∙ laid_names n me w e
+
+behind_names : (n : ℕ) (me : ActorName) (o : Outcome) (w : Core) (place : ℕ) → names_in (behind n me o w place).actors ≡ names_in w.actors
+behind_names n me o w place =
+    all_laid_names n me (take place o.progress.effects) (started n o w) ∙ names_change w.actors n (settled o) (settled_stays o)
+
+-- a name that stands somewhere is an actor's
+actor_called : (xs : List Actor) (n : ℕ) (x : ActorName) → slice_get (names_in xs) n ≡ Some x → (a : Actor) × (slice_get xs n ≡ Some a)
+actor_called xs n x e = by (slice_get xs n) refl (sym (slice_get-map (λ (a : Actor). a.name) xs n) ∙ e)
+  where
+    by : (o : Option Actor) → slice_get xs n ≡ o → option_map (λ (a : Actor). a.name) o ≡ Some x → (a : Actor) × (slice_get xs n ≡ Some a)
+    by None is h = absurd (none-some x h)
+    by (Some a) is h = (a, is)
+
+no_full : (b : Bool) → (let o : Option Cause = if b then Some cause.Full else None in o) ≡ Some cause.Stopped → ⊥
+no_full true h = cc
+no_full false h = cc
+
+has_stopped_there : (a : Actor) (x : Standing) → a.standing ≡ x → refusal_at a.port x ≡ Some cause.Stopped → a.standing ≡ HasStopped
+has_stopped_there a (At q) is h = absurd (no_full (is_full a.port) h)
+has_stopped_there a HasStopped is h = is
+
+stopped_actor : (me : ActorName) (w : Core) (s : Sending) → HasReceiver (names_in w.actors) me s.receiver.party s.receiver.instance
+    → undelivered me w s.receiver.party s.receiver.instance ≡ Some cause.Stopped → FindsStopped me w s
+stopped_actor me w s has h = to s.receiver.party refl has h
+  where
+    environment : (b : Bool) → (let o : Option Cause = if b then None else Some cause.EnvFull in o) ≡ Some cause.Stopped → ⊥
+    environment true h = cc
+    environment false h = cc
+
+    to : (p : Party) → s.receiver.party ≡ p → HasReceiver (names_in w.actors) me p s.receiver.instance → undelivered me w p s.receiver.instance ≡ Some cause.Stopped
+        → FindsStopped me w s
+    to Environment is has h = absurd (environment (has_room w.ring) h)
+    to (Process p) is has h =
+        let a = actor_called w.actors has.number has.name has.there in
+        let refused : refusal_at a.0.port a.0.standing ≡ Some cause.Stopped =
+        sym (ap refusal_in a.1) ∙ sym (ap (λ (o : Option ℕ). refusal_in (found_in w.actors o)) has.found) ∙ h in
+        record {
+          process = p;
+          to = is;
+          number = has.number;
+          found = has.found;
+          actor = a.0;
+          there = a.1;
+          standing = has_stopped_there a.0 a.0.standing refl refused;
+        }
+
+actor_stopped : (me : ActorName) (w : Core) (s : Sending) → FindsStopped me w s → undelivered me w s.receiver.party s.receiver.instance ≡ Some cause.Stopped
+actor_stopped me w s h =
+    ap (λ (p : Party). undelivered me w p s.receiver.instance) h.to
+    ∙ ap (λ (o : Option ℕ). refusal_in (found_in w.actors o)) h.found
+    ∙ ap refusal_in h.there
+    ∙ ap (refusal_at h.actor.port) h.standing
+
 -- ---- what is told of the outputs
 
 -- an effect that is lost stands among the losses
@@ -288,6 +362,58 @@ module _ (w : Core) (n : ℕ) (me : ActorName) (o : Outcome) (place : ℕ) (s : 
       (subst (AllByRecursion (IsRight n me (started n o w) 0 es)) h.is (all_right n me es 0 (started n o w))) in
       cause_of place (undelivered me (behind n me o w place) s.receiver.party s.receiver.instance) c (right place (Output s) there from)
 
+-- ---- the places of the losses
+
+-- a loss is one of an output
+of_output : (P : ℕ → Type 0) (k : ℕ) (me : ActorName) (w : Core) (e : Effect) → ((s : Sending) → e ≡ Output s → P k)
+    → AllByRecursion (λ (x : Lost). P x.place) (option_to_list (lost_by me w k e))
+of_output P k me w (Output s) is = by (undelivered me w s.receiver.party s.receiver.instance)
+  where
+    by : (o : Option Cause) → AllByRecursion (λ (x : Lost). P x.place) (option_to_list (lost_for k o))
+    by None = tt
+    by (Some c) = (is s refl, tt)
+of_output P k me w (Set t z) is = tt
+of_output P k me w (Reset t) is = tt
+
+at_outputs : (P : ℕ → Type 0) (n : ℕ) (me : ActorName) (es : List Effect) (k : ℕ) (w : Core) → ((i : ℕ) (s : Sending) → slice_get es i ≡ Some (Output s) → P (k + i))
+    → AllByRecursion (λ (x : Lost). P x.place) (losses n me w k es)
+at_outputs P n me [] k w each = tt
+at_outputs P n me (e ∷ es) k w each =
+    both_parts (λ (x : Lost). P x.place) (option_to_list (lost_by me w k e)) (losses n me (laid n me w e) (k + 1) es)
+    (of_output P k me w e (λ s is. subst P (let f : k + 0 ≡ k = omega arith in f) (each 0 s (ap Some is))))
+    (at_outputs P n me es (k + 1) (laid n me w e) (λ i s there. subst P (let f : k + suc i ≡ k + 1 + i = omega arith in f) (each (suc i) s there)))
+
+abbrev Ascend : List Lost → Type 0
+Ascend [] = Unit {0}
+Ascend (x ∷ xs) = AllByRecursion (λ (y : Lost). x.place < y.place) xs × Ascend xs
+
+all_later : (k : ℕ) (x : Lost) (xs : List Lost) → x.place ≡ k → AllByRecursion (IsFrom (k + 1)) xs → AllByRecursion (λ (y : Lost). x.place < y.place) xs
+all_later k x [] is all = tt
+all_later k x (y ∷ ys) is all = let from : k + 1 ≤ y.place = all.0 in (omega (arith, is), all_later k x ys is all.1)
+
+first_ascends : (me : ActorName) (w : Core) (k : ℕ) (e : Effect) (others : List Lost) → AllByRecursion (IsFrom (k + 1)) others → Ascend others
+    → (o : Option Lost) → lost_by me w k e ≡ o → Ascend (option_to_list o ++ others)
+first_ascends me w k e others from up None is = up
+first_ascends me w k e others from up (Some x) is = (all_later k x others (loss_place me w k e x is) from, up)
+
+ascending : (n : ℕ) (me : ActorName) (es : List Effect) (k : ℕ) (w : Core) → Ascend (losses n me w k es)
+ascending n me [] k w = tt
+ascending n me (e ∷ es) k w =
+    first_ascends me w k e (losses n me (laid n me w e) (k + 1) es) (all_from n me es (k + 1) (laid n me w e)) (ascending n me es (k + 1) (laid n me w e))
+    (lost_by me w k e) refl
+
+in_order : (es : List Effect) (xs : List Lost) → AllByRecursion (λ (x : Lost). IsOutput es x.place) xs → Ascend xs → AreInOrder es xs
+in_order es [] outputs up = tt
+in_order es (x ∷ xs) outputs up = (outputs.0, up.0, in_order es xs outputs.1 up.1)
+
+told_in_order : (w : Core) (n : ℕ) (me : ActorName) (o : Outcome) → AreInOrder o.progress.effects (lost_in n me o w)
+unfolding lost_in
+told_in_order w n me o =
+    let es = o.progress.effects in
+    in_order es (losses n me (started n o w) 0 es)
+    (at_outputs (IsOutput es) n me es 0 (started n o w) (λ i s at. record { sending = s; there = ap (slice_get es) (let f : 0 + i ≡ i = omega arith in f) ∙ at }))
+    (ascending n me es 0 (started n o w))
+
 pub full_law : FullLaw
 full_law = record {
   offer = λ m b o. (full_offer m b o, offer_full m b o);
@@ -299,4 +425,11 @@ full_law = record {
     λ h. full_ring me (behind n me o w place) s (told_is w n me o place s there cause.EnvFull h),
     λ h. is_told w n me o place s there cause.EnvFull (ring_full me (behind n me o w place) s h),
   );
+  stopped = λ w n me o place s there has. (
+    λ h. stopped_actor me (behind n me o w place) s
+        (subst (λ (names : List ActorName). HasReceiver names me s.receiver.party s.receiver.instance) (sym (behind_names n me o w place)) has)
+        (told_is w n me o place s there cause.Stopped h),
+    λ h. is_told w n me o place s there cause.Stopped (actor_stopped me (behind n me o w place) s h),
+  );
+  order = told_in_order;
 }

@@ -2,6 +2,7 @@
 use Rattle.std.proofs.Common.{◌≡◌, ℕ, ◌+◌, ◌^◌, ◌≤◌, Bool, false, cond, List, [], ◌∷◌, ◌++◌, length, Option, Some, None, refl, sym, ap, ◌∙◌, subst, arith}
 use Rattle.std.specs.Prelude.{count_by}
 use Rattle.std.proofs.lemmas.List.Sums.{sum_by-cons, sum_by_push}
+use Rattle.turn_code.specs.Effects.{EffectsLaw}
 use Rattle.turn_code.specs.Safe.{SafeLaw, RunLaw}
 use Rattle.turn_code.specs.Valid.{IsValid}
 use Rattle.turn_code.specs.declared.draft.Draft.{Draft}
@@ -85,17 +86,18 @@ module _ (steps : StepFits) (due : DueLaw) (safe : SafeLaw) (law : RunLaw) where
   pub lists : (b : Ledger) (es : List Event) → IsKept b → IsKept (after_by (runs b.set) b es)
   lists b es h = kept_after b.set b es refl h
 
-  within_at : (b : Ledger) (e : Event) → IsKept b → WithinAt b e
-  within_at b (Offer o) h = tt
-  within_at b (Begin n) h = tt
-  within_at b (Skip n) h = tt
-  within_at b (Finish n) h = λ t out. finish_law safe law b n t h out
-  within_at b (Advance k) h = tt
-  within_at b TakeEnv h = tt
+  within_at : EffectsLaw → (b : Ledger) (e : Event) → IsKept b → WithinAt b e
+  within_at gives_right b (Offer o) h = tt
+  within_at gives_right b (Begin n) h = tt
+  within_at gives_right b (Skip n) h = tt
+  within_at gives_right b (Finish n) h = λ t out. finish_law safe law gives_right b n t h out
+  within_at gives_right b (Advance k) h = tt
+  within_at gives_right b TakeEnv h = tt
 
-  pub within_law : (b : Ledger) (es : List Event) → IsKept b → AllWithin b es
-  within_law b [] h = tt
-  within_law b (e ∷ es) h = (within_at b e h, within_law (ask b e).book es (asks steps due safe law b e h))
+  pub within_law : EffectsLaw → (b : Ledger) (es : List Event) → IsKept b → AllWithin b es
+  within_law gives_right b [] h = tt
+  within_law gives_right b (e ∷ es) h =
+      (within_at gives_right b e h, within_law gives_right (ask b e).book es (asks steps due safe law b e h))
 
 -- ---- a rebase
 

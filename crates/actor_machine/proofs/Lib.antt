@@ -15,6 +15,7 @@ pub mod Numbering
 pub mod Numbers
 pub mod Opened
 pub mod Places
+pub mod Receiving
 pub mod Replays
 pub mod Silence
 pub mod NameStanding

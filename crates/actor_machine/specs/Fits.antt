@@ -1,15 +1,18 @@
 -- What holds of every state of a link: each signal that waits came along a route with parameters of
--- its sorts, each timer is its receiver's own, both fit wherever the receiver is, and each turn
--- that is out has an input that fits it.
-use Rattle.std.specs.Prelude.{◌≡◌, ℕ, ◌<◌, List, length, map, Any, Option, None, Some, slice_get}
+-- its sorts, from the environment or an actor of the set, each timer is its receiver's own, both fit
+-- wherever the receiver is, and each turn that is out has an input that fits it.
+use Rattle.std.specs.Prelude.{◌≡◌, ◌⊎◌, ℕ, ◌<◌, List, length, map, Any, Option, None, Some, IfSome}
+use Rattle.std.specs.Prelude.{slice_get}
 use Rattle.std.specs.List.{AllByRecursion}
 use Rattle.std.specs.FinMap as finite
+use Rattle.turn_code.specs.Run.{of_party}
 use Rattle.turn_code.specs.Values.{sort_of}
 use Rattle.turn_code.specs.Routes.{Brings, Reaches}
 use Rattle.turn_code.specs.Fits.{HaveSorts, AreSet, Fits}
 use Rattle.turn_code.specs.Start.{initial_values}
 use Rattle.turn_code.specs.Transitions.{parameters_of}
 use Rattle.turn_code.specs.declared.value.Value.{Value}
+use Rattle.turn_code.specs.declared.input.Address.{Address}
 use Rattle.turn_code.specs.declared.input.Party.TheVariants.{Environment}
 use Rattle.turn_code.specs.declared.input.Place.TheVariants.{Start, State}
 use Rattle.turn_code.specs.declared.draft.Draft.{Draft}
@@ -18,7 +21,7 @@ use Rattle.turn_code.specs.declared.draft.DraftState.{DraftState}
 use Rattle.input_port.specs.declared.queue.Arrival.{Arrival}
 use Rattle.input_port.specs.declared.queue.Item.{Item}
 use Rattle.input_port.specs.declared.queue.Item.TheVariants.{Signal, Timer}
-use Rattle.actor_machine.specs.Names.{actors_of}
+use Rattle.actor_machine.specs.Names.{actors_of, address_of}
 use Rattle.actor_machine.specs.declared.name.ActorName.{ActorName}
 use Rattle.tick_wheel.specs.TimerId.{TimerId}
 use Rattle.tick_wheel.specs.Timers.{Deadlines}
@@ -29,11 +32,27 @@ use Rattle.actor_machine.specs.declared.actor.Standing.{Standing}
 use Rattle.actor_machine.specs.declared.actor.Standing.TheVariants.{At, Stopped}
 use Rattle.actor_machine.specs.declared.reply.Emitted.{Emitted}
 
--- the signal is one of the set's, its parameters have that signal's sorts, and a route brought it
--- from its sender to process n
+-- actor n of the set is called so
+abbrev pub IsCalled : Draft → ℕ → ActorName → Type 0
+IsCalled d n me = slice_get (actors_of d.processes) n ≡ Some me
+
+-- the address of an actor of the set
+pub record IsActor (d : Draft) (x : Address) : Type 0 where
+  pub number : ℕ
+  pub name : ActorName
+  pub called : IsCalled d number name
+  pub is : x ≡ address_of name
+
+-- the environment, or an actor of the set
+abbrev pub IsSender : Draft → Address → Type 0
+IsSender d x = (x ≡ of_party Environment) ⊎ IsActor d x
+
+-- the signal is one of the set's, its parameters have that signal's sorts, the environment or an
+-- actor of the set sent it, and a route brought it from there to process n
 pub record Arrived (d : Draft) (n : ℕ) (a : Arrival) : Type 0 where
   pub there : a.signal.0 < length d.signals
   pub sorts : map sort_of a.parameters.items ≡ parameters_of (slice_get d.signals a.signal.0)
+  pub sender : IsSender d a.sender
   pub brought : Any (Brings a.sender.party n a.signal) d.routes
 
 -- a signal that came so, or the signal of a timer of the process
@@ -59,6 +78,11 @@ GivenFits d n (At s) (Some g) = Fits d n s g.number g.input
 GivenFits d n Stopped None = Unit {0}
 GivenFits d n Stopped (Some g) = ⊥
 
+-- whoever sent what the turn was given is the environment or an actor of the set
+abbrev pub GivenBy : Draft → Option Given → Type 0
+GivenBy d None = Unit {0}
+GivenBy d (Some g) = IfSome g.input.sender (IsSender d)
+
 -- an actor of a process of the set
 pub record ActorFits (d : Draft) (a : Actor) : Type 0 where
   pub process : DraftProcess
@@ -67,10 +91,7 @@ pub record ActorFits (d : Draft) (a : Actor) : Type 0 where
   pub standing : StandingFits process a.standing a.variables.items
   pub items : AllByRecursion (ItemFits d a.name.process.0 process) a.port.items
   pub given : GivenFits d a.name.process.0 a.standing a.given
-
--- actor n of the set is called so
-abbrev pub IsCalled : Draft → ℕ → ActorName → Type 0
-IsCalled d n me = slice_get (actors_of d.processes) n ≡ Some me
+  pub sender : GivenBy d a.given
 
 -- the timer is one of its actor's process
 pub record TimerFits (d : Draft) (t : TimerId) : Type 0 where

@@ -1,9 +1,12 @@
--- What is full is told by name, and nothing else is told so.
-use Rattle.std.specs.Prelude.{◌≡◌, ℕ, ◌↔◌, true, false, List, ◌∷◌, ◌++◌, take, Some, slice_get}
+-- What is full, or has stopped, is told by name, at its place and once, and nothing else is told so.
+use Rattle.std.specs.Prelude.{◌≡◌, ℕ, ◌<◌, ◌↔◌, true, false, List, [], ◌∷◌, ◌++◌, take, Some}
+use Rattle.std.specs.Prelude.{slice_get}
+use Rattle.std.specs.List.{AllByRecursion}
 use Rattle.turn_code.specs.Outcome.{Outcome, Meaning}
 use Rattle.turn_code.specs.declared.numbers.ProcessNumber.{ProcessNumber}
 use Rattle.turn_code.specs.declared.input.Place.{Place}
 use Rattle.turn_code.specs.declared.input.Party.TheVariants.{Environment, Process}
+use Rattle.turn_code.specs.declared.effect.Effect.{Effect}
 use Rattle.turn_code.specs.declared.effect.Effect.TheVariants.{Output}
 use Rattle.turn_code.specs.declared.effect.Sending.{Sending}
 use Rattle.turn_code.specs.declared.draft.Draft.{Draft}
@@ -11,11 +14,12 @@ use Rattle.actor_machine.specs.Names.{number_for}
 use Rattle.actor_machine.specs.declared.name.ActorName.{ActorName}
 use Rattle.actor_machine.specs.Core.{Core, names_in}
 use Rattle.actor_machine.specs.Effects.{is_full, has_room, laid_all, started}
+use Rattle.actor_machine.specs.Receivers.{HasReceiver}
 use Rattle.actor_machine.specs.Refusals.{is_offered}
 use Rattle.actor_machine.specs.Step.{Says, report_of}
 use Rattle.actor_machine.specs.Ledger.{Ledger, state_by, ask_by}
 use Rattle.actor_machine.specs.declared.actor.Actor.{Actor}
-use Rattle.actor_machine.specs.declared.actor.Standing.TheVariants.{At}
+use Rattle.actor_machine.specs.declared.actor.Standing.TheVariants.{At, Stopped}
 use Rattle.actor_machine.specs.declared.event.Event.TheVariants.{Offer}
 use Rattle.actor_machine.specs.declared.event.Offer.{Offer as Offered}
 use Rattle.actor_machine.specs.declared.reply.Cause.{Cause}
@@ -46,6 +50,16 @@ pub record FindsFull (me : ActorName) (w : Core) (s : Sending) : Type 0 where
   pub actor : Actor
   pub port : HasFullPort w.actors number actor
 
+-- an output of an actor that is called `me` goes to an actor that has stopped
+pub record FindsStopped (me : ActorName) (w : Core) (s : Sending) : Type 0 where
+  pub process : ProcessNumber
+  pub to : s.receiver.party ≡ Process process
+  pub number : ℕ
+  pub found : number_for (names_in w.actors) me process s.receiver.instance ≡ Some number
+  pub actor : Actor
+  pub there : slice_get w.actors number ≡ Some actor
+  pub standing : actor.standing ≡ Stopped
+
 abbrev pub lost_at : ℕ → Cause → Lost
 lost_at place c = record { place = place; cause = c }
 
@@ -55,6 +69,17 @@ pub record IsLost (lost : List Lost) (place : ℕ) (c : Cause) : Type 0 where
   pub after : List Lost
   pub is : lost ≡ before ++ lost_at place c ∷ after
 
+-- an output stands at this place of the effects
+pub record IsOutput (es : List Effect) (place : ℕ) : Type 0 where
+  pub sending : Sending
+  pub there : slice_get es place ≡ Some (Output sending)
+
+-- each loss stands at the place of an output, and those behind it at later places
+abbrev pub AreInOrder : List Effect → List Lost → Type 0
+AreInOrder es [] = Unit {0}
+AreInOrder es (x ∷ xs) =
+    IsOutput es x.place × AllByRecursion (λ (y : Lost). x.place < y.place) xs × AreInOrder es xs
+
 -- the link as the effect at this place comes, of a turn that actor n, called `me`, ends so
 abbrev pub behind : ℕ → ActorName → Outcome → Core → ℕ → Core
 behind n me o w place = laid_all n me (started n o w) (take place o.progress.effects)
@@ -62,7 +87,9 @@ behind n me o w place = laid_all n me (started n o w) (take place o.progress.eff
 -- A signal from the environment is refused as B1 Full exactly where a route brings it to a full
 -- port, of an actor that hasn't stopped, whatever the turns mean. Of the outputs of a turn that
 -- ends, the report tells with their places, as Full exactly those to a full port of an actor that
--- hasn't stopped, and as EnvFull exactly those to a full environment.
+-- hasn't stopped, as EnvFull exactly those to a full environment, and as Stopped, of those that have
+-- a receiver, exactly those to an actor that has stopped. It tells of places of outputs alone, in
+-- order, so of none twice.
 pub record FullLaw : Type 0 where
   pub offer :
       (m : Meaning) (b : Ledger) (o : Offered)
@@ -77,3 +104,11 @@ pub record FullLaw : Type 0 where
       → slice_get o.progress.effects place ≡ Some (Output s)
       → IsLost (report_of n me o w).lost.items place cause.EnvFull
       ↔ ((s.receiver.party ≡ Environment) × (has_room (behind n me o w place).ring ≡ false))
+  pub stopped : (w : Core) (n : ℕ) (me : ActorName) (o : Outcome) (place : ℕ) (s : Sending)
+      → slice_get o.progress.effects place ≡ Some (Output s)
+      → HasReceiver (names_in w.actors) me s.receiver.party s.receiver.instance
+      → IsLost (report_of n me o w).lost.items place cause.Stopped
+      ↔ FindsStopped me (behind n me o w place) s
+  pub order :
+      (w : Core) (n : ℕ) (me : ActorName) (o : Outcome)
+      → AreInOrder o.progress.effects (report_of n me o w).lost.items

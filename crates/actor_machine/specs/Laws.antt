@@ -15,6 +15,7 @@ use Rattle.actor_machine.specs.declared.name.ActorName.{ActorName}
 use Rattle.actor_machine.specs.Core.{Core, names_in}
 use Rattle.actor_machine.specs.Looking.{trigger_of, input_for, input_with}
 use Rattle.actor_machine.specs.Fits.{ItemFits, IsReadyAt, CoreFits}
+use Rattle.actor_machine.specs.Receivers.{AreReceived}
 use Rattle.actor_machine.specs.Step.{Answer, Stuck, Says, step, report_of}
 use Rattle.actor_machine.specs.Ledger.{Ledger, runs, state_by, state_of, next, event_at, refusal_by}
 use Rattle.actor_machine.specs.Ledger.{ask, rebased, answers_by, after_by, turn_out}
@@ -67,7 +68,7 @@ TextLaw = (act : Meaning) (b : Ledger) (es : List Event) → IsKept b → Means 
     → SameByText act b es
 
 -- a turn that is out ends by the run of its own code on its own input, within its certificate's
--- budget, and the answer tells it
+-- budget, each of its outputs has a receiver, and the answer tells it
 pub record FinishesWithin (b : Ledger) (n : ℕ) (t : Turn) : Type 0 where
   pub outcome : Outcome
   pub ran : outcome_of t ≡ Some outcome
@@ -76,6 +77,7 @@ pub record FinishesWithin (b : Ledger) (n : ℕ) (t : Turn) : Type 0 where
   pub answer :
       (ask b (Finish n)).answer ≡ Says (reply.Finished (report_of n name outcome (state_of b)))
   pub within : outcome.progress.count ≤ t.certificate.budget
+  pub received : AreReceived (names_in (state_of b).actors) name outcome.progress.effects
 
 abbrev pub FinishLaw : Type 0
 FinishLaw =

@@ -9,5 +9,6 @@ pub mod Looking
 pub mod NameLaws
 pub mod Names
 pub mod Printed
+pub mod Receivers
 pub mod Refusals
 pub mod Step

@@ -56,12 +56,14 @@ pub fn text_law()
     due_law();
 }
 
-/// A turn that is out ends by the run of its own code on its own input, within the budget of its certificate.
+/// A turn that is out ends by the run of its own code on its own input, within the budget of its certificate, and each of its outputs has a
+/// receiver: the environment, or an actor of the process that it goes to.
 pub fn finish_law()
     ensures { FinishLaw }
 {
     safe_law();
     run_law();
+    effects_law();
 }
 
 /// Along any list of events each turn that ends does so within the budget of its certificate.
@@ -102,7 +104,8 @@ pub fn never_stuck_law()
 }
 
 /// What is full is told by name, and nothing else is: an offer is refused as B1 Full exactly where it comes along a route to a full port, and of a
-/// turn's outputs exactly those to a full port or a full environment are told so in its report, with their places.
+/// turn's outputs exactly those to a full port or a full environment are told so in its report, with their places, and as Stopped, of those that
+/// have a receiver, exactly those to an actor that has stopped. The losses stand in the order of their places, none twice.
 pub fn full_law()
     ensures { FullLaw }
 {}
