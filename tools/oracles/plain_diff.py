@@ -30,6 +30,9 @@ class Side:
         self.signal = {lo(n): n[0] for n, _ in reversed(self.signals)}
         self.process = {lo(p[0]): p[0][0] for p in reversed(self.processes)}
         self.items = list(self.declared())
+        self.text = text
+        self.statements = {}
+        self.spelled = {(lo(p[0]), lo(c[1])): c[1][0] for p in self.processes for c in p[4]}
         self.ways = list(self.transitions())
 
     def party(self, party):
@@ -74,12 +77,17 @@ class Side:
         """The name of each, whether a timer begins it, what it means, and its costs."""
         costs = iter(self.costs)
         for process in self.processes:
-            meaning = Meaning(self, process)
+            meaning, written = Meaning(self, process), Written(self, process)
+            own = lo(process[0])
+            for _, name, transition in process[4]:
+                self.statements.setdefault((own, lo(name)), list(written.rows(transition)))
+            self.statements[own + " start"] = list(written.rows(process[2][1]))
             yield (*next(costs), False, meaning.of([], process[2][1]))
             timers = {lo(t) for t in self.timers(process)}
             for state, clauses in self.states(process):
                 for clause in clauses:
                     for name, places in clause[2] if clause[0] == "input" else ():
+                        self.statements[f"{own} {state.lower()}/{lo(name)}"] = list(written.rows(clause[3]))
                         yield (*next(costs), lo(name) in timers, meaning.of(places, clause[3]))
 
 
@@ -164,6 +172,107 @@ class Meaning:
         return ("join", self.joined.index(lo(end[2])))
 
 
+LEVELS = [("OR", "XOR"), ("AND",), ("=", "/=", "<", "<=", ">", ">="), ("+", "-"), ("*", "/", "MOD", "REM")]
+
+
+class Written:
+    """The statements of a process as they are written: names as they are declared, parentheses where they are wanted."""
+
+    def __init__(self, side, process):
+        self.side, self.line = side, 0
+        self.variables = {lo(n): n[0] for d in reversed(process[1]) if d[0] == "dcl" for n in reversed(d[1])}
+        self.timers = {lo(n): n[0] for n in reversed(side.timers(process))}
+        self.connections = {lo(c[1]): c[1][0] for c in reversed(process[4])}
+        self.states = {state.lower(): state for state, _ in side.states(process)}
+        self.meaning = Meaning(side, process)
+
+    def value(self, x, level=0):
+        if x[0] in ("num", "bool"):
+            return str(x[1])
+        if x[0] == "var":
+            return self.variables[lo(x[1])]
+        if x[0] == "un":
+            said = ("-" if x[1] == "-" else "NOT ") + self.value(x[2], 5)
+            return f"({said})" if level > 5 else said
+        own = next(at for at, signs in enumerate(LEVELS) if x[1] in signs)
+        said = f"{self.value(x[2], 3 if own == 2 else own)} {x[1]} {self.value(x[3], own + 1)}"
+        return f"({said})" if level > own else said
+
+    def row(self, at, text, joined=None):
+        self.line = self.side.text[:at].count(b"\n") + 1 if at else self.line
+        return self.line, text, joined
+
+    def rows(self, transition):
+        """Each statement with its line, and the connection that it leads to."""
+        actions, end = transition
+        for a in actions:
+            if a[0] == "task" and a[1]:
+                yield self.row(a[2], ", ".join(f"{self.variables[lo(n)]} := {self.value(x)}" for n, x in a[1]))
+            elif a[0] == "output":
+                for name, xs in a[1]:
+                    to = self.meaning.receiver(lo(name), a[2])
+                    values = f"({', '.join(map(self.value, xs))})" if xs else ""
+                    yield self.row(name[1], f"OUTPUT {self.side.signal[lo(name)]}{values} TO {self.side.process.get(to, to)}")
+            elif a[0] == "set":
+                yield self.row(a[3], f"SET(NOW + {self.value(a[1])}, {self.timers[lo(a[2])]})")
+            elif a[0] == "reset":
+                yield self.row(a[2], f"RESET({self.timers[lo(a[1])]})")
+            elif a[0] == "decide":
+                yield self.row(a[1], f"DECISION {self.value(a[2])}")
+                for ranges, body in a[3]:
+                    opens = self.side.text.rindex(b"(", 0, ranges[0][-1])
+                    yield self.row(opens, f"({', '.join(map(self.range, ranges))})")
+                    yield from self.rows(body)
+                if a[4] is not None:
+                    yield self.row(0, "ELSE")
+                    yield from self.rows(a[4])
+        if end is not None:
+            at, name = end[1], end[2] if len(end) > 2 else None
+            if end[0] == "stop":
+                yield self.row(at, "STOP")
+            elif end[0] == "next":
+                yield self.row(at, f"NEXTSTATE {self.states[lo(name)]}")
+            else:
+                yield self.row(at, f"JOIN {self.connections[lo(name)]}", lo(name))
+
+    def range(self, r):
+        if r[0] == "to":
+            return f"{r[1][1]}:{r[2][1]}"
+        return str(r[1][1]) if r[0] == "val" else f"{r[1]} {r[2][1]}"
+
+
+def trimmed(olds, news):
+    """How many statements are the same in front, and how many behind these at the end."""
+    pairs = [one[1].lower() == other[1].lower() for one, other in zip(olds, news)]
+    front = pairs.index(False) if False in pairs else len(pairs)
+    least = min(len(olds), len(news)) - front
+    pairs = [one[1].lower() == other[1].lower() for one, other in zip(olds[::-1], news[::-1])]
+    return front, min(least, pairs.index(False) if False in pairs else len(pairs))
+
+
+def changes(olds, news):
+    front, back = trimmed(olds, news)
+    for sign, rows in ("-", olds), ("+", news):
+        yield from (f"    {sign} {line} {text}" for line, text, _ in rows[front : len(rows) - back])
+
+
+def is_other(olds, news):
+    return [it[1].lower() for it in olds] != [it[1].lower() for it in news]
+
+
+def blamed(old, new, process, title):
+    """The connections with other statements that a transition comes to, in the order of the text."""
+    found, left = set(), [old.statements[title]]
+    while left:
+        for _, _, name in left.pop():
+            if name is not None and name not in found:
+                found.add(name)
+                left.append(old.statements[process, name])
+    for key in old.statements:
+        if isinstance(key, tuple) and key[0] == process and key[1] in found and key in new.statements and is_other(old.statements[key], new.statements[key]):
+            yield key
+
+
 def first(name, others):
     return next((other for other in others if other[0].lower() == name.lower()), None)
 
@@ -183,17 +292,27 @@ def differences(old, new):
             yield f"~ {head}{tail} -> {other[0]}{other[1]}"
     yield from (f"+ {head}{tail}" for head, tail in new.items if first(head, old.items) is None)
     gone = added = 0
+    to_blame = set()
     for way in old.ways:
         other = next((w for w in new.ways if w[0].lower() == way[0].lower() and w[2] == way[2]), None)
         if other is None:
             yield f"- {way[0]} budget {way[1]}"
         elif other[3] != way[3]:
             yield f"~ {way[0]} {counts(way[1], other[1])}"
+            title = way[0].lower()
+            yield from changes(old.statements[title], new.statements[title])
+            for key in blamed(old, new, title.split()[0], title):
+                yield f"    by CONNECTION {old.spelled[key]}"
+                to_blame.add(key)
         gone += other is None or other[3] != way[3]
     for way in new.ways:
         if not any(w[0].lower() == way[0].lower() and w[2] == way[2] for w in old.ways):
             yield f"+ {way[0]} budget {way[1]}"
             added += 1
+    for key in old.statements:
+        if key in to_blame:
+            yield f"~ CONNECTION {old.process[key[0]]} {old.spelled[key]}"
+            yield from changes(old.statements[key], new.statements[key])
     yield f"same {len(old.ways) - gone} of {len(old.ways) + added}"
     yield f"terminal {old.terminal}" + (f" -> {new.terminal}" if new.terminal != old.terminal else "")
 

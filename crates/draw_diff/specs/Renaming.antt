@@ -1,5 +1,5 @@
 -- Code, effects, ends and inputs of one set in the numbers of another, by their names.
-use Rattle.std.specs.Prelude.{◌≡◌, ℕ, List, [], ◌∷◌, Option, Some, None, option_map, slice_get}
+use Rattle.std.specs.Prelude.{◌≡◌, ℕ, Bool, true, false, ◌&&◌, List, [], ◌∷◌, Option, Some, None, option_map}
 use Rattle.turn_code.specs.declared.numbers.ProcessNumber.{ProcessNumber}
 use Rattle.turn_code.specs.declared.numbers.SignalNumber.{SignalNumber}
 use Rattle.turn_code.specs.declared.value.Value.{Value}
@@ -18,6 +18,7 @@ use Rattle.turn_code.specs.declared.instruction.Instruction.TheVariants.{Not, An
 use Rattle.turn_code.specs.declared.instruction.Instruction.TheVariants.{Compare, Case, CaseWithin}
 use Rattle.turn_code.specs.declared.instruction.Instruction.TheVariants.{Pick, Drop, Jump, Output}
 use Rattle.turn_code.specs.declared.instruction.Instruction.TheVariants.{Set, Reset, Next, Stop}
+use Rattle.turn_code.specs.contracts.instruction.InstructionPartialEq.TheImpl as instruction_eq
 use Rattle.draw_diff.specs.Names.{Sides, moved_signal, moved_process, moved_state, moved_timer}
 use Rattle.draw_diff.specs.Names.{moved_variable}
 
@@ -76,3 +77,21 @@ AreRenamed s [] [] = Unit {0}
 AreRenamed s [] (j ∷ js) = ⊥
 AreRenamed s (i ∷ is) [] = ⊥
 AreRenamed s (i ∷ is) (j ∷ js) = (renamed s i ≡ Some j) × AreRenamed s is js
+
+-- ---- the same as tests
+
+abbrev pub same_instruction : Instruction → Instruction → Bool
+same_instruction i j = (instruction_eq.ghosts).eq i j
+
+abbrev pub is_there : Option Instruction → Instruction → Bool
+is_there None j = false
+is_there (Some i) j = same_instruction i j
+
+abbrev pub is_renamed : Sides → Instruction → Instruction → Bool
+is_renamed s i j = is_there (renamed s i) j
+
+abbrev pub are_renamed : Sides → List Instruction → List Instruction → Bool
+are_renamed s [] [] = true
+are_renamed s [] (j ∷ js) = false
+are_renamed s (i ∷ is) [] = false
+are_renamed s (i ∷ is) (j ∷ js) = is_renamed s i j && are_renamed s is js

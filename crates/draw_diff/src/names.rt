@@ -9,7 +9,7 @@ use turn_code::{
 };
 
 /// A process of one set, and a process of another.
-#[derive(Clone, Copy)]
+#[derive(Drop)]
 pub(crate) struct Pair<'a> {
     /// The one set.
     pub(crate) old: &'a Draft,
@@ -171,15 +171,15 @@ fn back_to(
     olds: &[DraftVariable],
     news: &[DraftVariable],
     number: usize,
-    moved: Option<u8>,
+    found: Option<u8>,
 ) -> Option<u8>
-    ensures { result ≡ back_to olds.now news.now number moved }
+    ensures { result ≡ back_to olds.now news.now number found }
 {
-    match moved {
-        Some(moved) => match variable_among(news, olds, usize::from(moved)) {
+    match found {
+        Some(other) => match variable_among(news, olds, usize::from(other)) {
             Some(back) => {
                 if usize::from(back) == number {
-                    Some(moved)
+                    Some(other)
                 } else {
                     None
                 }

@@ -1,22 +1,34 @@
 //! The command `diff` on the sets that the command line names.
-ghost use Rattle.std.specs.Prelude.{◌≡◌, ◌⊎◌, [], IfErr, IfOk};
-ghost use Rattle.draw_diff.specs.Items.{item_lines, items_of};
-ghost use Rattle.draw_diff.specs.Ways.{new_way_lines, old_way_lines};
+ghost use Rattle.std.specs.Prelude.{◌≡◌, ◌⊎◌, [], IfErr};
 
 use crate::sets::{STDIN, own_set, set_word};
 use draw_diff::{Difference, compare, lines_in, ways_in};
+use draw_sets::{MONITORS, STANDARD, with_statements};
 use link_term::Names;
 use mtp2_words::Named;
-use plain_text::{NamedReader, Teller};
+use plain_text::{NamedReader, Teller, read_text};
 use script_check::{FAILED, HELD, REFUSED, Refusal, SetWord, find_set, in_front, refuse_set};
 use std::alloc::{AllocError, Global};
 use std::fs;
 use std::io::{self, Read, Write};
 use std::rt::Runtime;
+use std::str;
 use turn_check::Verified;
 
 /// What two sets are, where they differ.
 const DIFFERENT: u8 = 1;
+
+/// Octets that are no text.
+const NO_TEXT: &[u8] = b"\xFF";
+
+/// What is called what: the side, and its text.
+#[derive(Clone, Copy)]
+struct SideName<'a> {
+    /// OLD or NEW.
+    side: &'a str,
+    /// The name of the text.
+    name: &'a str,
+}
 
 /// Writes lines with the name of one side in front of each.
 fn write_side<W: Write>(
@@ -33,63 +45,104 @@ fn write_side<W: Write>(
 fn refuse_side<H: Eprint, W: Write>(
     alloc: Global,
     teller: &Teller<'_, H>,
-    side: &str,
-    name: &str,
+    named: SideName<'_>,
     refusal: &Refusal,
     writer: &mut W,
 ) -> u8
     ensures { (result ≡ 2) ⊎ (result ≡ 4) }
 {
     let mut lines: Vec<u8> = Vec::new(alloc);
-    if refuse_set(alloc, name, refusal, &mut lines, &mut teller.errors()) == FAILED {
+    if refuse_set(alloc, named.name, refusal, &mut lines, &mut teller.errors()) == FAILED {
         return FAILED;
     }
-    match write_side(alloc, side, &lines, writer) {
+    match write_side(alloc, named.side, &lines, writer) {
         Ok(()) => REFUSED,
         Err(_) => FAILED,
     }
 }
 
-/// One of the sets, or the exit status where there is none.
-fn side_set<H: Eprint, S: Read + Drop, W: Write>(
+/// One of the two: its set and its text.
+#[derive(Drop)]
+struct Side {
+    set: Verified,
+    text: Vec<u8>,
+}
+
+/// A set with its text, or the exit status where there is none.
+fn with_text<H: Eprint, S: Read + Drop, W: Write>(
     alloc: Global,
     teller: &Teller<'_, H>,
-    side: &str,
-    name: &str,
+    named: SideName<'_>,
     set: SetWord<S>,
+    text: &[u8],
     writer: &mut W,
-) -> Result<Verified, u8>
+) -> Result<Side, u8>
     ensures { IfErr result (λ s. (s ≡ 2) ⊎ (s ≡ 4)) }
 {
     match find_set(alloc, set) {
-        Ok(set) => Ok(set),
-        Err(refusal) => Err(refuse_side(alloc, teller, side, name, &refusal, writer)),
+        Ok(set) => match Vec::from_slice(alloc, text) {
+            Ok(text) => Ok(Side { set, text }),
+            Err(_) => Err(FAILED),
+        },
+        Err(refusal) => Err(refuse_side(alloc, teller, named, &refusal, writer)),
+    }
+}
+
+/// The set of the text that a reader gives, or the exit status where there is none.
+fn read_side<H: Eprint, S: Read + Drop, W: Write>(
+    alloc: Global,
+    teller: &Teller<'_, H>,
+    named: SideName<'_>,
+    mut reader: S,
+    writer: &mut W,
+) -> Result<Side, u8>
+    ensures { IfErr result (λ s. (s ≡ 2) ⊎ (s ≡ 4)) }
+{
+    match read_text(alloc, &mut reader) {
+        Ok(read) => {
+            let bytes = if read.is_text { read.kept.as_slice() } else { NO_TEXT };
+            with_text(alloc, teller, named, SetWord::Text(bytes), bytes, writer)
+        }
+        Err(_) => Err(FAILED),
+    }
+}
+
+/// The text of a set of the program's own.
+fn own_text(set: &Named<'_>) -> &'static str {
+    match set {
+        Named::Monitors => MONITORS,
+        _ => STANDARD,
     }
 }
 
 /// One of the sets that the command line names, or the exit status where there is none.
-fn named_set<R: Runtime + AllocGlobal, H: Eprint, W: Write>(
+fn named_side<R: Runtime + AllocGlobal, H: Eprint, W: Write>(
     rt: &R,
     teller: &Teller<'_, H>,
     side: &str,
     set: Named<'_>,
     writer: &mut W,
-) -> Result<Verified, u8>
+) -> Result<Side, u8>
     ensures { IfErr result (λ s. (s ≡ 2) ⊎ (s ≡ 4)) }
 {
+    let name = set_word(&set);
+    let named = SideName { side, name };
     match set {
         Named::Standard | Named::Monitors => match own_set(&set) {
-            Some(own) => side_set(rt.alloc(), teller, side, set_word(&set), own, writer),
+            Some(own) => {
+                let text = own_text(&set).as_bytes();
+                with_text(rt.alloc(), teller, named, own, text, writer)
+            }
             None => Err(FAILED),
         },
         Named::Stdin => {
-            let text = SetWord::Text(NamedReader::new(teller, STDIN, rt.reader()));
-            side_set(rt.alloc(), teller, side, set_word(&set), text, writer)
+            let reader = NamedReader::new(teller, STDIN, rt.reader());
+            read_side(rt.alloc(), teller, named, reader, writer)
         }
         Named::File(path) => match fs::open(rt, path) {
             Ok(file) => {
-                let text = SetWord::Text(NamedReader::new(teller, path, file));
-                side_set(rt.alloc(), teller, side, path, text, writer)
+                let reader = NamedReader::new(teller, path, file);
+                read_side(rt.alloc(), teller, named, reader, writer)
             }
             Err(error) => Err(teller.fail(path, &error)),
         },
@@ -123,17 +176,38 @@ fn summary(
     }
 }
 
+/// The lines of transitions that differ, with the statements in which they do.
+fn way_lines(
+    alloc: Global,
+    old: &Side,
+    new: &Side,
+    found: &Difference,
+) -> Result<Vec<u8>, AllocError> {
+    let mut lines = Vec::new(alloc);
+    lines.extend_from_slice(&found.olds)?;
+    lines.extend_from_slice(&found.news)?;
+    let Ok(old_text) = str::from_utf8(&old.text) else {
+        return Ok(lines);
+    };
+    let Ok(new_text) = str::from_utf8(&new.text) else {
+        return Ok(lines);
+    };
+    with_statements(alloc, old_text, new_text, &lines)
+}
+
 /// Writes what two sets differ in, in one write.
 fn write_difference<W: Write>(
     alloc: Global,
+    old: &Side,
+    new: &Side,
     found: &Difference,
-    end: &str,
     writer: &mut W,
 ) -> io::Result<()> {
+    let ways = way_lines(alloc, old, new, found)?;
+    let end = summary(alloc, &old.set, &new.set, found)?;
     let mut text = Vec::new(alloc);
     text.extend_from_slice(&found.items)?;
-    text.extend_from_slice(&found.olds)?;
-    text.extend_from_slice(&found.news)?;
+    text.extend_from_slice(&ways)?;
     text.extend_from_slice(end.as_bytes())?;
     writer.write_all(&text)
 }
@@ -152,17 +226,12 @@ fn status_of(found: &Difference) -> u8
 
 /// Says what two sets differ in. Gives the exit status: 0 where nothing is gone, added or something else, 1 where something is, 4 where memory or
 /// the write fails.
-fn compare_sets<W: Write>(alloc: Global, old: &Verified, new: &Verified, writer: &mut W) -> u8
-    ensures alike { result ≡ 0 → (item_lines (items_of old.now) (items_of new.now) ≡ [])
-        × (old_way_lines old.now new.now ≡ []) × (new_way_lines old.now new.now ≡ []) }
-    ensures status { (result ≡ 0) ⊎ (result ≡ 1) ⊎ (result ≡ 4) }
+fn compare_sides<W: Write>(alloc: Global, old: &Side, new: &Side, writer: &mut W) -> u8
+    ensures { (result ≡ 0) ⊎ (result ≡ 1) ⊎ (result ≡ 4) }
 {
-    match compare(alloc, old.draft(), new.draft()) {
-        Ok(found) => match summary(alloc, old, new, &found) {
-            Ok(end) => match write_difference(alloc, &found, &end, writer) {
-                Ok(()) => status_of(&found),
-                Err(_) => FAILED,
-            },
+    match compare(alloc, old.set.draft(), new.set.draft()) {
+        Ok(found) => match write_difference(alloc, old, new, &found, writer) {
+            Ok(()) => status_of(&found),
             Err(_) => FAILED,
         },
         Err(_) => FAILED,
@@ -180,9 +249,9 @@ pub fn run_diff<R: Runtime + AllocGlobal, H: Eprint, W: Write>(
 ) -> u8
     ensures { (result ≡ 0) ⊎ (result ≡ 1) ⊎ (result ≡ 2) ⊎ (result ≡ 4) }
 {
-    match named_set(rt, teller, "OLD", old, writer) {
-        Ok(old) => match named_set(rt, teller, "NEW", new, writer) {
-            Ok(new) => compare_sets(rt.alloc(), &old, &new, writer),
+    match named_side(rt, teller, "OLD", old, writer) {
+        Ok(old) => match named_side(rt, teller, "NEW", new, writer) {
+            Ok(new) => compare_sides(rt.alloc(), &old, &new, writer),
             Err(status) => status,
         },
         Err(status) => status,
