@@ -64,7 +64,7 @@ class Link(Terminal):
         self.admitted = True
         # Its changeover: the place up to which messages were accepted as the other end told, whether any answer came, and ticks since it began.
         self.changing, self.told, self.answered, self.waited, self.out = False, None, False, 0, False
-        # Behind the beginning of its last changeover: whether there was one, and the ticks since it first came into service then.
+        # Behind the beginning of its last changeover: whether there was one, and the ticks since it last came into service then.
         self.had_one, self.since = False, None
 
     def hear(self, sender, signal, values):
@@ -178,21 +178,21 @@ class Group:
         return links[selection % len(links)] if links else None
 
     def see(self, *links):
-        """Links that came into service, and are admitted, for the first time have the table made anew."""
+        """Links that are able to carry messages, and are admitted, for the first time have the table made anew."""
         first = False
         for link in links:
             if link.came:
                 link.came, link.anew = False, False
-                if link.had_one and link.since is None:
+                if link.had_one:
                     link.since = 0
-            if link.serves and link.admitted and not link.served:
+            if link.is_able() and link.admitted and not link.served:
                 first, link.served = True, True
         if not first:
             return
-        able = self.chosen([lambda at, link: not link.failed])
+        able = self.chosen([lambda at, link: not link.failed and not link.changing, lambda at, link: not link.changing])
         for selection, was in enumerate(self.table):
             waits = was is not None and self.links[was].changing
-            if not waits and not any(link.holds(selection) for link in self.links):
+            if able and not waits and not any(link.holds(selection) for link in self.links):
                 self.table[selection] = self.pick(able, selection)
 
     def admit(self, at, way):

@@ -2,7 +2,7 @@
 """Two plain link sets (plain_group.py) back to back: makes the runs of examples/links/pairs.txt by the rules of crates/trials_groups/src/schedule.rt, and prints the
 lines that the program `trials` has to print for them. What was sent and what came stands in lists, from which all is counted at the end.
 
-usage: tools/oracles/plain_pairs.py                                    the runs of examples/links/pairs.txt
+usage: tools/oracles/plain_pairs.py                                    the runs of examples/links/pairs.txt, but for the late ones
        tools/oracles/plain_pairs.py MODE LINKS SEED MESSAGES LOST      one run"""
 import pathlib
 import sys
@@ -17,7 +17,7 @@ from plain_term import FLAG, ROOT, bits_of, check_octets, octets_of, stuffed
 RUNS = ROOT / "examples" / "links" / "pairs.txt"
 TEXT = (ROOT / "examples" / "standard.sdl").read_bytes()
 FILLER = bytes.fromhex("FF7E00FE3F5AFFFF117E7EC38001F81FAAFF3E990000F7EF")
-MOST_ROUNDS, GIVEN, UNITS, TICKS, CUTS, HEALS, MOST_MAIL = 6000, 8, 16, 300, 12, 6, 64
+MOST_ROUNDS, GIVEN, UNITS, TICKS, CUTS, HEALS, MOST_MAIL = 60000, 8, 16, 300, 12, 6, 64
 NEAR, FAR = 1, 16383
 
 
@@ -252,10 +252,11 @@ def show(mode, links, seed, messages, lost):
 
 
 def table():
-    """The runs of the table."""
+    """The runs of the table, but for those in which messages come late: what is printed for them is what has to be."""
     for entry in RUNS.read_text().split("\n== ")[1:]:
         for words in map(str.split, entry.split("\n--\n")[0].split("\n")[1:]):
-            yield words[0], *map(int, words[1:])
+            if len(words) == 5:
+                yield words[0], *map(int, words[1:])
 
 
 def main(words):

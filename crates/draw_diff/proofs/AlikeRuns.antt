@@ -1,9 +1,10 @@
 -- Renamed code does the same, instruction by instruction.
-use Rattle.std.proofs.Common.{◌≡◌, ◌≢◌, ℕ, zero, suc, ◌+◌, ◌⊎◌, Bool as Truth, true, false, not, ◌&&◌, ◌||◌, if◌then◌else◌, eqb, ℤ, pos, ◌+ℤ◌, ◌-ℤ◌, ◌*ℤ◌, neg_ℤ, List, [], ◌∷◌, ◌++◌, length, map, take, drop, reverse, Option, Some, None, refl, sym, ap, ◌∙◌, subst, ⊎_elim, arith}
+use Rattle.std.proofs.Common.{◌≡◌, ◌≢◌, ℕ, zero, suc, ◌+◌, ◌⊎◌, Bool as Truth, true, false, not, ◌&&◌, ◌||◌, if◌then◌else◌, eqb, ℤ, pos, ◌+ℤ◌, ◌-ℤ◌, ◌*ℤ◌, neg_ℤ, List, [], ◌∷◌, ◌++◌, length, map, take, drop, reverse, Option, Some, None, refl, sym, ap, ◌∙◌, subst, ⊎_elim, arith, true≢false}
 use Rattle.std.specs.Prelude.{slice_get, slice_set, option_map, nat_le, int_lt, int_div, int_rem}
 use Rattle.std.specs.Int.{int_rem_euclid}
 use Rattle.std.proofs.lemmas.List.{map-append}
-use Rattle.std.proofs.lemmas.Bool.{eqb-true}
+use Rattle.std.proofs.lemmas.Bool.{and_parts, eqb-true}
+use Rattle.draw_diff.proofs.Sameness.{instruction_same}
 use Rattle.std.proofs.lemmas.Bool.Decides.{eqb_tells}
 use Rattle.std.proofs.lemmas.Option.{same_Some, none-some}
 use Rattle.plain_laws.proofs.Options.{some_none}
@@ -27,7 +28,7 @@ use Rattle.turn_code.specs.declared.machine.End.{End}
 use Rattle.turn_code.specs.declared.machine.End.TheVariants as end
 use Rattle.turn_code.specs.declared.trouble.Trouble.TheVariants.{WrongSort}
 use Rattle.draw_diff.specs.Names.{Sides, back_to, is_number, moved, variable_name, moved_signal, moved_state, moved_timer, moved_variable}
-use Rattle.draw_diff.specs.Renaming.{renamed_party, renamed_receiver, sent_to, renamed, AreRenamed}
+use Rattle.draw_diff.specs.Renaming.{renamed_party, renamed_receiver, sent_to, renamed, is_there, are_renamed}
 use Rattle.draw_diff.specs.Runs.{at_party, renamed_address, Agree, AreInputs, sent_as, renamed_effect, renamed_end, AreDone, AreRuns}
 
 -- ---- options
@@ -55,7 +56,7 @@ one_number : (o : Option ℕ) (u v : ℕ) → is_number o u ≡ true → is_numb
 one_number None u v e f = eqb-true u v (by e)
   where
     by : false ≡ true → eqb u v ≡ true
-    by e = cc
+    by e = absurd (true≢false (sym e))
 one_number (Some m) u v e f = sym (eqb-true m u e) ∙ eqb-true m v f
 
 one_variable : (s : Sides) (u v w : ℕ) → moved_variable s u ≡ Some w → moved_variable s v ≡ Some w → u ≡ v
@@ -272,6 +273,25 @@ module _ (s : Sides) (x y : Input) (same : AreInputs s x y) (k : ℕ) (os : List
 
 -- ---- runs
 
+-- each instruction of the one, renamed, is that of the other
+abbrev AreRenamed : Sides → List Instruction → List Instruction → Type 0
+AreRenamed s [] [] = Unit {0}
+AreRenamed s [] (j ∷ js) = ⊥
+AreRenamed s (i ∷ is) [] = ⊥
+AreRenamed s (i ∷ is) (j ∷ js) = (renamed s i ≡ Some j) × AreRenamed s is js
+
+one_renamed : (o : Option Instruction) (j : Instruction) → is_there o j ≡ true → o ≡ Some j
+one_renamed None j h = absurd (true≢false (sym h))
+one_renamed (Some i) j h = ap Some (instruction_same i j h)
+
+all_renamed : (s : Sides) (olds news : List Instruction) → are_renamed s olds news ≡ true → AreRenamed s olds news
+all_renamed s [] [] h = tt
+all_renamed s [] (j ∷ js) h = true≢false (sym h)
+all_renamed s (i ∷ is) [] h = true≢false (sym h)
+all_renamed s (i ∷ is) (j ∷ js) h =
+    let both = and_parts (is_there (renamed s i) j) (are_renamed s is js) h in
+    (one_renamed (renamed s i) j both.0, all_renamed s is js both.1)
+
 -- what stands at a place on both sides
 abbrev Both : Sides → Option Instruction → Option Instruction → Type 0
 Both s None None = Unit {0}
@@ -297,26 +317,28 @@ place_after s x y same k os a b d (Some i) None h = absurd h
 place_after s x y same k os a b d (Some i) (Some j) h = act_after s x y same k os a b d i j h
 
 module _ (s : Sides) (olds news : List Instruction) (x y : Input) (are : AreRenamed s olds news) (same : AreInputs s x y) where
-  mutual
-    exec_alike : (n k : ℕ) (os : List Value) (a b : Progress) → AreDone s a b → AreRuns s (exec olds x n k os a) (exec news y n k os b)
-    exec_alike zero k os a b d = tt
-    exec_alike (suc n) k os a b d =
-        go_alike n (step olds x k os a) (step news y k os b)
-        (place_after s x y same (k + 1) os (tick a) (tick b) (ticked s a b d) (slice_get olds k) (slice_get news k) (both_at s olds news are k))
+  go_alike : (f g : ℕ → List Value → Progress → Ran) → ((k : ℕ) (os : List Value) (a b : Progress) → AreDone s a b → AreRuns s (f k os a) (g k os b))
+      → (p q : After) → AreAfter s p q → AreRuns s (go_on f p) (go_on g q)
+  go_alike f g on (goes j os a) (goes k ps b) h =
+      subst (λ k. AreRuns s (f j os a) (g k ps b)) h.0 (subst (λ ps. AreRuns s (f j os a) (g j ps b)) h.1 (on j os a b h.2))
+  go_alike f g on (goes j os a) (ends e b) h = absurd h
+  go_alike f g on (goes j os a) (stuck u) h = absurd h
+  go_alike f g on (ends e a) (goes k ps b) h = absurd h
+  go_alike f g on (ends e a) (ends d b) h = h
+  go_alike f g on (ends e a) (stuck u) h = absurd h
+  go_alike f g on (stuck t) (goes k ps b) h = absurd h
+  go_alike f g on (stuck t) (ends e b) h = absurd h
+  go_alike f g on (stuck t) (stuck u) h = h
 
-    go_alike : (n : ℕ) (p q : After) → AreAfter s p q → AreRuns s (go_on (exec olds x n) p) (go_on (exec news y n) q)
-    go_alike n (goes j os a) (goes k ps b) h =
-        subst (λ k. AreRuns s (exec olds x n j os a) (exec news y n k ps b)) h.0
-        (subst (λ ps. AreRuns s (exec olds x n j os a) (exec news y n j ps b)) h.1 (exec_alike n j os a b h.2))
-    go_alike n (goes j os a) (ends f b) h = absurd h
-    go_alike n (goes j os a) (stuck u) h = absurd h
-    go_alike n (ends e a) (goes k ps b) h = absurd h
-    go_alike n (ends e a) (ends f b) h = h
-    go_alike n (ends e a) (stuck u) h = absurd h
-    go_alike n (stuck t) (goes k ps b) h = absurd h
-    go_alike n (stuck t) (ends f b) h = absurd h
-    go_alike n (stuck t) (stuck u) h = h
+  exec_alike : (n k : ℕ) (os : List Value) (a b : Progress) → AreDone s a b → AreRuns s (exec olds x n k os a) (exec news y n k os b)
+  exec_alike zero k os a b d = tt
+  exec_alike (suc n) k os a b d =
+      go_alike (exec olds x n) (exec news y n) (λ k os a b d. exec_alike n k os a b d) (step olds x k os a) (step news y k os b)
+      (place_after s x y same (k + 1) os (tick a) (tick b) (ticked s a b d) (slice_get olds k) (slice_get news k) (both_at s olds news are k))
 
-  pub run_alike : AreRuns s (run olds x) (run news y)
-  unfolding run
-  run_alike = exec_alike 512 0 [] (begun x) (begun y) (record { variables = same.variables; effects = refl; count = refl })
+pub run_alike : (s : Sides) (olds news : List Instruction) (x y : Input) → are_renamed s olds news ≡ true → AreInputs s x y
+    → AreRuns s (run olds x) (run news y)
+unfolding run
+run_alike s olds news x y are same =
+    exec_alike s olds news x y (all_renamed s olds news are) same 512 0 [] (begun x) (begun y)
+    (record { variables = same.variables; effects = refl; count = refl })

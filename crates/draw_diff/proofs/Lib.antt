@@ -1,2 +1,3 @@
 mod AlikeRuns
+mod Sameness
 mod Tests

@@ -71,18 +71,12 @@ renamed s (Reset t) = option_map (λ u. Reset (record { 0 = u })) (moved_timer s
 renamed s (Next q) = option_map (λ r. Next (record { 0 = r })) (moved_state s q.0)
 renamed s Stop = Some Stop
 
--- each instruction of the one, renamed, is that of the other
-abbrev pub AreRenamed : Sides → List Instruction → List Instruction → Type 0
-AreRenamed s [] [] = Unit {0}
-AreRenamed s [] (j ∷ js) = ⊥
-AreRenamed s (i ∷ is) [] = ⊥
-AreRenamed s (i ∷ is) (j ∷ js) = (renamed s i ≡ Some j) × AreRenamed s is js
-
--- ---- the same as tests
+-- ---- code that is the same, once it is renamed
 
 abbrev pub same_instruction : Instruction → Instruction → Bool
 same_instruction i j = (instruction_eq.ghosts).eq i j
 
+-- whether it is there, and this one
 abbrev pub is_there : Option Instruction → Instruction → Bool
 is_there None j = false
 is_there (Some i) j = same_instruction i j
@@ -90,6 +84,7 @@ is_there (Some i) j = same_instruction i j
 abbrev pub is_renamed : Sides → Instruction → Instruction → Bool
 is_renamed s i j = is_there (renamed s i) j
 
+-- whether each instruction of the one, renamed, is that of the other
 abbrev pub are_renamed : Sides → List Instruction → List Instruction → Bool
 are_renamed s [] [] = true
 are_renamed s [] (j ∷ js) = false

@@ -1,5 +1,5 @@
 -- What it is for two transitions to mean the same on all inputs, by names: the law of renamed code.
-use Rattle.std.specs.Prelude.{◌≡◌, ℕ, List, map, Option, Some, None, option_map, slice_get}
+use Rattle.std.specs.Prelude.{◌≡◌, ℕ, true, List, map, Option, Some, None, option_map, slice_get}
 use Rattle.turn_code.specs.declared.value.Value.{Value}
 use Rattle.turn_code.specs.declared.instruction.Instruction.{Instruction}
 use Rattle.turn_code.specs.declared.input.Input.{Input}
@@ -12,7 +12,7 @@ use Rattle.turn_code.specs.declared.machine.End.{End}
 use Rattle.turn_code.specs.declared.machine.End.TheVariants as code_ends
 use Rattle.turn_code.specs.Run.{Progress, Ran, ended, got_stuck, unfinished, run}
 use Rattle.draw_diff.specs.Names.{Sides, moved_signal, moved_state, moved_timer, moved_variable}
-use Rattle.draw_diff.specs.Renaming.{renamed_party, AreRenamed}
+use Rattle.draw_diff.specs.Renaming.{renamed_party, are_renamed}
 
 abbrev pub at_party : Address → Option Party → Option Address
 at_party a None = None
@@ -77,5 +77,5 @@ AreRuns s unfinished unfinished = Unit {0}
 -- Renamed code does the same on all inputs that differ in numbers alone.
 abbrev pub RunsLaw : Type 0
 RunsLaw =
-    (s : Sides) (olds news : List Instruction) (x y : Input) → AreRenamed s olds news
+    (s : Sides) (olds news : List Instruction) (x y : Input) → are_renamed s olds news ≡ true
     → AreInputs s x y → AreRuns s (run olds x) (run news y)

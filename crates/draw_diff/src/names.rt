@@ -1,5 +1,9 @@
 //! What the numbers of one set are in another, by their names.
-ghost use Rattle.std.specs.Prelude.{◌≡◌};
+ghost use Rattle.std.specs.Prelude.{◌≡◌, List, ℕ, position};
+ghost use Rattle.turn_code.specs.declared.draft.DraftProcess.{DraftProcess as PlainProcess};
+ghost use Rattle.turn_code.specs.declared.draft.DraftSignal.{DraftSignal as PlainSignal};
+ghost use Rattle.turn_code.specs.declared.draft.DraftState.{DraftState as PlainState};
+ghost use Rattle.turn_code.specs.declared.draft.DraftVariable.{DraftVariable as PlainVariable};
 ghost use Rattle.draw_diff.specs.Names.{same_name, octet, moved, own_name, process_name, signal_name, state_name, variable_name, back_to, moved_signal, moved_process, moved_state, moved_timer, moved_variable};
 
 use std::marker::Model;
@@ -57,17 +61,28 @@ fn octet(number: Option<usize>) -> Option<u8>
     }
 }
 
+/// The place of the first signal with a name.
+fn signal_place(name: &[u8], news: &[DraftSignal]) -> Option<usize>
+    ensures { result ≡ position (λ (y : PlainSignal). same_name name.now (signal_name y)) news.now }
+{
+    news.iter().position(|new| same_name(name, new.name.as_bytes()))
+}
+
 /// The number among other signals of the signal with a number, by its name.
 fn signal_among(olds: &[DraftSignal], news: &[DraftSignal], number: usize) -> Option<u8>
     ensures { result ≡ moved signal_name olds.now news.now number }
 {
     match olds.get(number) {
-        Some(old) => {
-            let name = old.name.as_bytes();
-            octet(news.iter().position(|new| same_name(name, new.name.as_bytes())))
-        }
+        Some(old) => octet(signal_place(old.name.as_bytes(), news)),
         None => None,
     }
+}
+
+/// The place of the first process with a name.
+fn process_place(name: &[u8], news: &[DraftProcess]) -> Option<usize>
+    ensures { result ≡ position (λ (y : PlainProcess). same_name name.now (process_name y)) news.now }
+{
+    news.iter().position(|new| same_name(name, new.name.as_bytes()))
 }
 
 /// The number among other processes of the process with a number, by its name.
@@ -75,12 +90,16 @@ fn process_among(olds: &[DraftProcess], news: &[DraftProcess], number: usize) ->
     ensures { result ≡ moved process_name olds.now news.now number }
 {
     match olds.get(number) {
-        Some(old) => {
-            let name = old.name.as_bytes();
-            octet(news.iter().position(|new| same_name(name, new.name.as_bytes())))
-        }
+        Some(old) => octet(process_place(old.name.as_bytes(), news)),
         None => None,
     }
+}
+
+/// The place of the first state with a name.
+fn state_place(name: &[u8], news: &[DraftState]) -> Option<usize>
+    ensures { result ≡ position (λ (y : PlainState). same_name name.now (state_name y)) news.now }
+{
+    news.iter().position(|new| same_name(name, new.name.as_bytes()))
 }
 
 /// The number among other states of the state with a number, by its name.
@@ -88,12 +107,16 @@ fn state_among(olds: &[DraftState], news: &[DraftState], number: usize) -> Optio
     ensures { result ≡ moved state_name olds.now news.now number }
 {
     match olds.get(number) {
-        Some(old) => {
-            let name = old.name.as_bytes();
-            octet(news.iter().position(|new| same_name(name, new.name.as_bytes())))
-        }
+        Some(old) => octet(state_place(old.name.as_bytes(), news)),
         None => None,
     }
+}
+
+/// The place of the first timer with a name.
+fn timer_place(name: &[u8], news: &[Name]) -> Option<usize>
+    ensures { result ≡ position (λ (y : List ℕ). same_name name.now (own_name y)) news.now }
+{
+    news.iter().position(|new| same_name(name, new.as_bytes()))
 }
 
 /// The number among other timers of the timer with a number, by its name.
@@ -101,12 +124,16 @@ fn timer_among(olds: &[Name], news: &[Name], number: usize) -> Option<u8>
     ensures { result ≡ moved own_name olds.now news.now number }
 {
     match olds.get(number) {
-        Some(old) => {
-            let name = old.as_bytes();
-            octet(news.iter().position(|new| same_name(name, new.as_bytes())))
-        }
+        Some(old) => octet(timer_place(old.as_bytes(), news)),
         None => None,
     }
+}
+
+/// The place of the first variable with a name.
+fn variable_place(name: &[u8], news: &[DraftVariable]) -> Option<usize>
+    ensures { result ≡ position (λ (y : PlainVariable). same_name name.now (variable_name y)) news.now }
+{
+    news.iter().position(|new| same_name(name, new.name.as_bytes()))
 }
 
 /// The number among other variables of the variable with a number, by its name.
@@ -114,10 +141,7 @@ fn variable_among(olds: &[DraftVariable], news: &[DraftVariable], number: usize)
     ensures { result ≡ moved variable_name olds.now news.now number }
 {
     match olds.get(number) {
-        Some(old) => {
-            let name = old.name.as_bytes();
-            octet(news.iter().position(|new| same_name(name, new.name.as_bytes())))
-        }
+        Some(old) => octet(variable_place(old.name.as_bytes(), news)),
         None => None,
     }
 }

@@ -1,7 +1,7 @@
 //! Code of one set in the numbers of another, by its names.
-ghost use Rattle.std.specs.Prelude.{◌≡◌, ◌↔◌, IsTrue, Some};
+ghost use Rattle.std.specs.Prelude.{◌≡◌};
 ghost use Rattle.draw_diff.specs.Names.{moved_signal, moved_state, moved_timer, moved_variable};
-ghost use Rattle.draw_diff.specs.Renaming.{renamed_party, renamed_receiver, sent_to, renamed, is_renamed, are_renamed, AreRenamed};
+ghost use Rattle.draw_diff.specs.Renaming.{renamed_party, renamed_receiver, sent_to, renamed, is_renamed, are_renamed};
 
 use crate::names::{Pair, moved_process, moved_signal, moved_state, moved_timer, moved_variable};
 use turn_code::{
@@ -108,8 +108,7 @@ fn renamed(pair: &Pair<'_>, instruction: &Instruction) -> Option<Instruction>
 
 /// Whether an instruction, renamed, is another.
 fn is_renamed(pair: &Pair<'_>, old: &Instruction, new: &Instruction) -> bool
-    ensures test { result ≡ is_renamed pair.now old.now new.now }
-    ensures exact { IsTrue result ↔ (renamed pair.now old.now ≡ Some new.now) }
+    ensures { result ≡ is_renamed pair.now old.now new.now }
 {
     match renamed(pair, old) {
         Some(renamed) => renamed == *new,
@@ -119,8 +118,7 @@ fn is_renamed(pair: &Pair<'_>, old: &Instruction, new: &Instruction) -> bool
 
 /// Whether the instructions of the one, renamed, are those of the other.
 pub(crate) fn are_renamed(pair: &Pair<'_>, olds: &[Instruction], news: &[Instruction]) -> bool
-    ensures test { result ≡ are_renamed pair.now olds.now news.now }
-    ensures exact { IsTrue result ↔ AreRenamed pair.now olds.now news.now }
+    ensures { result ≡ are_renamed pair.now olds.now news.now }
 {
     match olds {
         [] => news.is_empty(),

@@ -1,5 +1,5 @@
 //! The transitions of two sets.
-ghost use Rattle.std.specs.Prelude.{◌≡◌, ◌++◌, OnOk};
+ghost use Rattle.std.specs.Prelude.{◌≡◌, ◌++◌, OnOk, IfOk};
 ghost use Rattle.draw_diff.specs.Ways.{alone_line, cert_text, certs_text, count_text, counts_text, differs_line, input_title, start_title};
 
 use crate::pieces::{push_bytes, push_trigger};

@@ -1,14 +1,12 @@
 -- What a link set marks at each of its links.
-use Rattle.std.specs.Prelude.{ℕ, ◌+◌, ◌-◌, ◌^◌, nat_le, ◌&&◌, ◌||◌, Bool, true, false, min}
-use Rattle.std.specs.Prelude.{if◌then◌else◌, List, Option}
-use Rattle.std.specs.Prelude.{Some, None}
+use Rattle.std.specs.Prelude.{ℕ, ◌+◌, ◌-◌, ◌^◌, ◌||◌, Bool, true, false, min, List, Option, Some}
+use Rattle.std.specs.Prelude.{None}
 use Rattle.group_changeover.specs.declared.availability.Availability.{Availability}
 use Rattle.group_changeover.specs.declared.availability.Changing.{Changing}
 use Rattle.group_changeover.specs.declared.availability.Answer.{Answer}
 use Rattle.group_changeover.specs.declared.availability.Answer.TheVariants as answer
 use Rattle.group_changeover.specs.declared.availability.Behind.{Behind}
 use Rattle.group_changeover.specs.declared.availability.Behind.TheVariants as behind
-use Rattle.group_changeover.specs.Limits.{T2}
 
 -- a changeover that has just begun
 abbrev pub just_begun : Changing
@@ -65,11 +63,11 @@ abbrev pub waited_in : ℕ → Option Changing → Option Changing
 waited_in n None = None
 waited_in n (Some c) = Some (record c { waited = min (2 ^ 64 - 1) (c.waited + n) })
 
--- So are those since a link came into service again behind the beginning of one.
+-- So are those since a link last came into service behind the beginning of one.
 abbrev pub waited_behind : ℕ → Behind → Behind
 waited_behind n behind.Nothing = behind.Nothing
 waited_behind n behind.Out = behind.Out
-waited_behind n (behind.Back m) = if nat_le (m + n) T2 then behind.Back (m + n) else behind.Nothing
+waited_behind n (behind.Back m) = behind.Back (min (2 ^ 64 - 1) (m + n))
 
 abbrev pub waits : ℕ → Availability → Availability
 waits n m = record m { behind = waited_behind n m.behind; changing = waited_in n m.changing }
@@ -87,20 +85,20 @@ with_retrieval counts m = record m { changing = retrieval_in counts m.changing }
 abbrev pub ended : Availability → Availability
 ended m = record m { changing = None }
 
--- the first time behind the beginning of a changeover
+-- Behind the beginning of a changeover each coming into service counts from then on.
 abbrev pub back_again : Behind → Behind
 back_again behind.Nothing = behind.Nothing
 back_again behind.Out = behind.Back 0
-back_again (behind.Back n) = behind.Back n
+back_again (behind.Back n) = behind.Back 0
 
 -- The link comes into service.
 abbrev pub serves : Availability → Availability
-serves m = record m {
-  served = m.served || m.admitted;
-  anew = false;
-  behind = back_again m.behind;
-}
+serves m = record m { anew = false; behind = back_again m.behind }
 
--- Level 3 admits it, or does no longer; it may be in service then.
-abbrev pub admits : Bool → Bool → Availability → Availability
-admits way serving m = record m { served = m.served || way && serving; admitted = way }
+-- It may have selections, or may not: as it may for the first time, that is marked.
+abbrev pub takes_part : Bool → Availability → Availability
+takes_part may m = record m { served = m.served || may }
+
+-- Level 3 admits it, or does no longer.
+abbrev pub admits : Bool → Availability → Availability
+admits way m = record m { admitted = way }

@@ -9,3 +9,8 @@ SELECTIONS = 16
 -- the value is this profile's)
 abbrev pub T2 : ℕ
 T2 = 1400
+
+-- within so many ticks after a link came into service again an order may be a late one of its last
+-- changeover (the value is this profile's)
+abbrev pub LATE : ℕ
+LATE = 1400

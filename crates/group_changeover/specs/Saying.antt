@@ -1,11 +1,11 @@
 -- What the marks of a link say of it in a changeover (Q.704).
-use Rattle.std.specs.Prelude.{ℕ, ◌&&◌, ◌||◌, nat_lt, Bool, true, false, not, if◌then◌else◌, Option}
-use Rattle.std.specs.Prelude.{Some, None, is_some}
+use Rattle.std.specs.Prelude.{ℕ, ◌&&◌, ◌||◌, nat_lt, nat_le, Bool, true, false, not, if◌then◌else◌}
+use Rattle.std.specs.Prelude.{Option, Some, None, is_some}
 use Rattle.group_changeover.specs.declared.changeover.Kind.{Kind}
 use Rattle.group_changeover.specs.declared.changeover.Kind.TheVariants as kind
 use Rattle.group_changeover.specs.declared.saying.Hearing.{Hearing}
 use Rattle.group_changeover.specs.declared.saying.Hearing.TheVariants as hearing
-use Rattle.group_changeover.specs.Limits.{T2}
+use Rattle.group_changeover.specs.Limits.{T2, LATE}
 use Rattle.group_changeover.specs.Availability.{changeover_begins}
 use Rattle.group_changeover.specs.declared.availability.Answer.{Answer}
 use Rattle.group_changeover.specs.declared.availability.Answer.TheVariants as answer
@@ -39,19 +39,19 @@ is_out_behind behind.Nothing = false
 is_out_behind behind.Out = true
 is_out_behind (behind.Back n) = false
 
-abbrev pub is_any_behind : Behind → Bool
-is_any_behind behind.Nothing = false
-is_any_behind behind.Out = true
-is_any_behind (behind.Back n) = true
+abbrev pub is_late_behind : Behind → Bool
+is_late_behind behind.Nothing = false
+is_late_behind behind.Out = true
+is_late_behind (behind.Back n) = nat_le n LATE
 
 -- Its changeover is over, and it hasn't come into service again.
 abbrev pub is_over : Availability → Bool
 is_over m = not (is_changing m) && is_out_behind m.behind
 
--- Its changeover is over, and it hasn't come into service again, or no more than T2 ticks ago. An
--- order that is heard then may be a late one of that changeover.
+-- Its changeover is over, and it hasn't come into service again, or did so last no more than LATE
+-- ticks ago. An order that is heard then may be a late one of that changeover.
 abbrev pub is_late : Availability → Bool
-is_late m = not (is_changing m) && is_any_behind m.behind
+is_late m = not (is_changing m) && is_late_behind m.behind
 
 abbrev pub is_order : Kind → Bool
 is_order (kind.Order fsn) = true

@@ -1,12 +1,15 @@
 //! What is marked at each link.
 ghost use Rattle.std.specs.Prelude.{◌≡◌};
-ghost use Rattle.group_changeover.specs.Availability.{changeover_begins, first_known, told, fewer_by, fewer, waited_behind, back_again, waits, with_retrieval, ended, serves, admits};
+ghost use Rattle.group_changeover.specs.Availability.{changeover_begins, first_known, told, fewer_by, fewer, waited_behind, back_again, waits, with_retrieval, ended, serves, takes_part, admits};
 
 /// How many selections of a link there are.
 pub const SELECTIONS: usize = 16;
 
 /// So many ticks after a changeover began it goes on without an answer.
 pub const T2: u64 = 1_400;
+
+/// Within so many ticks after a link came into service again an order may be a late one of its last changeover.
+pub const LATE: u64 = 1_400;
 
 /// What the far side told of a link that failed.
 #[derive(Clone, Copy, Debug, PartialEq, Eq)]
@@ -20,11 +23,11 @@ pub enum Answer {
 /// Where a link stands behind the beginning of its last changeover.
 #[derive(Clone, Copy, Debug, PartialEq, Eq)]
 pub enum Behind {
-    /// None has begun, or more than T2 ticks have passed since the link came into service again.
+    /// None has begun.
     Nothing,
     /// It hasn't come into service again.
     Out,
-    /// It came into service again so many ticks ago, T2 at most.
+    /// It came into service again, the last time so many ticks ago; that stays at its greatest value.
     Back(u64),
 }
 
@@ -34,14 +37,7 @@ impl Behind {
         ensures { result ≡ waited_behind ticks self }
     {
         match self {
-            Behind::Back(since) => {
-                let passed = since.saturating_add(ticks);
-                if passed <= T2 {
-                    Behind::Back(passed)
-                } else {
-                    Behind::Nothing
-                }
-            }
+            Behind::Back(since) => Behind::Back(since.saturating_add(ticks)),
             Behind::Out => Behind::Out,
             Behind::Nothing => Behind::Nothing,
         }
@@ -52,8 +48,7 @@ impl Behind {
         ensures { result ≡ back_again self }
     {
         match self {
-            Behind::Out => Behind::Back(0),
-            Behind::Back(since) => Behind::Back(since),
+            Behind::Out | Behind::Back(_) => Behind::Back(0),
             Behind::Nothing => Behind::Nothing,
         }
     }
@@ -73,7 +68,7 @@ pub struct Changing {
 /// What is marked at a link.
 #[derive(Clone, Copy, Debug, PartialEq, Eq)]
 pub struct Availability {
-    /// It has been in service while it was admitted.
+    /// It has been in service, not held, while it was admitted.
     pub served: bool,
     /// Level 3 admits it to selections and to what other links hand out.
     pub admitted: bool,
@@ -208,19 +203,27 @@ impl Availability {
         ensures { result ≡ serves self }
     {
         Availability {
-            served: self.served || self.admitted,
             anew: false,
             behind: self.behind.serves(),
             ..self
         }
     }
 
-    /// Level 3 admits the link, or does no longer; it may be in service then.
-    pub fn admits(self, way: bool, serving: bool) -> Availability
-        ensures { result ≡ admits way serving self }
+    /// The link may have selections, or may not: as it may for the first time, that is marked.
+    pub fn takes_part(self, may: bool) -> Availability
+        ensures { result ≡ takes_part may self }
     {
         Availability {
-            served: self.served || (way && serving),
+            served: self.served || may,
+            ..self
+        }
+    }
+
+    /// Level 3 admits the link, or does no longer.
+    pub fn admits(self, way: bool) -> Availability
+        ensures { result ≡ admits way self }
+    {
+        Availability {
             admitted: way,
             ..self
         }

@@ -10,7 +10,7 @@ use thiserror::Error;
 /// Why a message isn't taken.
 #[derive(Clone, Copy, Debug, PartialEq, Eq, Error)]
 pub enum SendError {
-    /// Its selection has no link, or that link is out of service and not in changeover.
+    /// Its selection has no link, or that link isn't in changeover and is out of service, held or not admitted.
     NoLink,
     /// Its link is in changeover.
     Waiting,
@@ -54,7 +54,7 @@ pub enum AbandonError {
 /// Why retrieved messages aren't diverted.
 #[derive(Clone, Copy, Debug, PartialEq, Eq, Error)]
 pub enum DivertFault {
-    /// No link may take them: no other one is in service that didn't fail, and their own is out of service.
+    /// No link may take them, their own neither: none that isn't in changeover, or is their own, is in service, not held and admitted.
     NoLink,
     /// The link that has to take those of a selection, or all of them where they go back, would hold more than 1,151.
     Full,

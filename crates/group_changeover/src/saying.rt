@@ -3,7 +3,7 @@ ghost use Rattle.std.specs.Prelude.{◌≡◌, ◌<◌, IfSome};
 ghost use Rattle.group_changeover.specs.Changeovers.{IsKind};
 ghost use Rattle.group_changeover.specs.Saying.{is_changing, is_out, is_waiting, count_in, counts_in, hearing_of, is_over, is_late, is_order, begun_by_message, is_held_by, number_in, order_after, acknowledgement_after, answer_after, reply_after};
 
-use crate::availability::{Answer, Availability, Behind, Changing, T2};
+use crate::availability::{Answer, Availability, Behind, Changing, LATE, T2};
 use crate::changeover::Kind;
 
 /// What a message of changeover that came was.
@@ -11,7 +11,7 @@ use crate::changeover::Kind;
 pub enum Hearing {
     /// An order that began a changeover.
     Began,
-    /// An order that began none.
+    /// An order that began none. In a changeover its number, if it tells one, counts as that of an acknowledgement does.
     Order,
     /// An acknowledgement that counts as the answer of the far side.
     Counted,
@@ -96,7 +96,8 @@ impl Availability {
         }
     }
 
-    /// Whether its changeover is over, and it hasn't come into service again, or no more than T2 ticks ago: an order may be a late one then.
+    /// Whether its changeover is over, and it hasn't come into service again, or did so last no more than `LATE` ticks ago: an order may be a late
+    /// one then.
     pub fn is_late(self) -> bool
         ensures { result ≡ is_late self }
     {
@@ -104,7 +105,8 @@ impl Availability {
             return false;
         }
         match self.behind {
-            Behind::Out | Behind::Back(_) => true,
+            Behind::Out => true,
+            Behind::Back(since) => since <= LATE,
             Behind::Nothing => false,
         }
     }

@@ -28,6 +28,9 @@ is_start order.Outage = false
 is_start order.Back = false
 is_start order.Busy = false
 is_start order.Free = false
+is_start order.Flush = false
+is_start order.Continue = false
+is_start order.Overload = false
 
 abbrev pub is_barred_in : Option Changing → Bool
 is_barred_in None = false

@@ -11,26 +11,32 @@ use Rattle.link_term.specs.Speaking.{IsSpoken}
 use Rattle.link_transceiver.specs.Reporting.{reported}
 use Rattle.link_transceiver.specs.declared.signals.Report.{Report}
 use Rattle.su_octets.specs.declared.units.Unit.{Unit}
-use Rattle.group_changeover.specs.Availability.{fewer, serves, admits}
+use Rattle.group_changeover.specs.Availability.{fewer, serves, takes_part, admits}
 use Rattle.group_members.specs.declared.link.Link.{Link}
-use Rattle.group_members.specs.OneLink.{held, is_serving}
+use Rattle.group_members.specs.OneLink.{held, shares, with_availability}
 
 -- it came into service since that was last asked
 abbrev pub came : Link → Bool
 came k = k.terminal.processes.transceiver.came
 
--- for the first time while it is admitted
+-- it is in service, not held, and admitted for the first time
 abbrev pub came_first : Link → Bool
-came_first k = came k && (k.availability.admitted && not k.availability.served)
+came_first k = shares k && not k.availability.served
+
+-- from then on it counts as one that has been that
+abbrev pub marked_served : Link → Link
+marked_served k = with_availability (takes_part (shares k) k.availability) k
 
 -- ---- level 3 admits it
 
-abbrev pub admits_at : Bool → Link → Link
-admits_at way k = record k { availability = admits way (is_serving k) k.availability }
+abbrev pub admitted : Bool → Link → Link
+admitted way k = with_availability (admits way k.availability) k
 
--- It is in service and admitted for the first time.
+abbrev pub admits_at : Bool → Link → Link
+admits_at way k = marked_served (admitted way k)
+
 abbrev pub admits_first : Bool → Link → Bool
-admits_first way k = way && (is_serving k && not k.availability.served)
+admits_first way k = came_first (admitted way k)
 
 abbrev pub admits_by : Bool → Option Link → Bool
 admits_by way None = false
@@ -38,13 +44,13 @@ admits_by way (Some k) = admits_first way k
 
 -- ---- what it does by its terminal
 
--- It counts as one that has been in service, and no longer as started anew.
+-- A link that came into service counts no longer as started anew.
 abbrev pub asked : Link → Link
-asked k = record {
+asked k = marked_served (record {
   terminal = term_with_transceiver k.terminal
       (record k.terminal.processes.transceiver { came = false });
   availability = if came k then serves k.availability else k.availability;
-}
+})
 
 abbrev pub came_by : Option Link → Bool
 came_by None = false

@@ -1,5 +1,5 @@
 -- How retrieved messages go to links (Q.704, diversion).
-use Rattle.std.specs.Prelude.{ℕ, ◌+◌, ◌==◌, ◌&&◌, zero, suc, nat_lt, Bool, true, false, not}
+use Rattle.std.specs.Prelude.{ℕ, ◌+◌, ◌==◌, ◌&&◌, ◌||◌, zero, suc, nat_lt, Bool, true, false, not}
 use Rattle.std.specs.Prelude.{if◌then◌else◌, List, [], ◌∷◌, ◌++◌, length, Option, Some, None}
 use Rattle.std.specs.Prelude.{slice_get, slice_set}
 use Rattle.std.specs.List.{list_any}
@@ -28,9 +28,9 @@ retrieval_of (Some k) = retrieval_by k.availability.changing
 abbrev pub is_so_out : Bool → Link → Bool
 is_so_out outage k = if outage then has_outage k else not (has_outage k)
 
--- It hasn't failed; or, where those that failed are asked for too, no changeover goes on there.
+-- No changeover goes on there, and it hasn't failed, unless those that failed are asked for too.
 abbrev pub is_still : Bool → Link → Bool
-is_still failed k = if failed then not (is_changing k) else not k.availability.failed
+is_still failed k = not (is_changing k) && (failed || not k.availability.failed)
 
 abbrev pub is_open : Bool → Bool → Link → Bool
 is_open failed outage k = shares k && (is_so_out outage k && is_still failed k)
@@ -53,6 +53,15 @@ first_some (l ∷ ls) others = l ∷ ls
 unfoldable pub able_links : Bool → List Link → List ℕ
 able_links failed ks = first_some (open_links failed false ks) (open_links failed true ks)
 
+-- Of the links with an outage, or of those without, those that never failed; where there are none,
+-- those that failed and whose changeover is over.
+unfoldable pub others : Bool → List Link → List ℕ
+others outage ks = first_some (open_links false outage ks) (open_links true outage ks)
+
+-- The links that selections get as one may have some for the first time.
+unfoldable pub anew_links : List Link → List ℕ
+anew_links ks = first_some (others false ks) (others true ks)
+
 abbrev pub own_place : ℕ → Bool → Option Link → List ℕ
 own_place l outage None = []
 own_place l outage (Some k) = if shares k && is_so_out outage k then l ∷ [] else []
@@ -61,9 +70,7 @@ own_place l outage (Some k) = if shares k && is_so_out outage k then l ∷ [] el
 -- that never failed; where there are none, others whose changeover doesn't go on; and where there
 -- are none of these either, itself.
 unfoldable pub way : ℕ → Bool → List Link → List ℕ
-way l outage ks =
-    first_some (open_links false outage ks)
-    (first_some (open_links true outage ks) (own_place l outage (slice_get ks l)))
+way l outage ks = first_some (others outage ks) (own_place l outage (slice_get ks l))
 
 -- Those with an outage take it only where there are no others.
 unfoldable pub takers : ℕ → List Link → List ℕ

@@ -2,6 +2,7 @@
 use Rattle.std.specs.Prelude.{◌≡◌, true, false, [], None}
 use Rattle.link_term.specs.Term.{Term, term_with_transceiver}
 use Rattle.link_term.specs.Kept.{window_of}
+use Rattle.link_transceiver.specs.declared.signals.Hold.TheVariants as hold
 use Rattle.group_changeover.specs.declared.availability.Behind.TheVariants as behind
 use Rattle.group_members.specs.declared.link.Link.{Link}
 
@@ -9,11 +10,12 @@ use Rattle.group_members.specs.declared.link.Link.{Link}
 abbrev pub IsUnused : Term → Type 0
 IsUnused t = (window_of t).kept ≡ []
 
--- What came into service before the set was made counts by what stands.
+-- It isn't held. What came into service before the set was made counts by what stands.
 abbrev pub fresh : Term → Link
 fresh t =
     record {
-      terminal = term_with_transceiver t (record t.processes.transceiver { came = false });
+      terminal = term_with_transceiver t
+          (record t.processes.transceiver { came = false; hold = hold.Free });
       availability =
           record {
             served = t.processes.transceiver.in_service;

@@ -18,12 +18,17 @@ changing_at ks (Some l) = changing_by (slice_get ks l)
 unfoldable pub held_by_any : ℕ → List Link → Bool
 held_by_any s ks = list_any (holds s) ks
 
+-- the link that it gets, if it gets one, else the one that it has
+abbrev pub or_kept : Option ℕ → Option ℕ → Option ℕ
+or_kept None was = was
+or_kept (Some l) was = Some l
+
 -- a selection keeps its link where that is in changeover, or any link holds messages of it; else it
--- gets the one that it has among these
+-- gets the one that it has among these, if there are any
 abbrev pub anew_on : List Link → List (Option ℕ) → List ℕ → ℕ → Option ℕ
 anew_on ks ts ls s =
     if changing_at ks (link_of ts s) then link_of ts s
-    else (if held_by_any s ks then link_of ts s else pick ls s)
+    else (if held_by_any s ks then link_of ts s else or_kept (pick ls s) (link_of ts s))
 
 -- whether a selection would move of which its link holds messages
 abbrev pub stands_in_way : List Link → ℕ → Option ℕ → Option ℕ → Bool

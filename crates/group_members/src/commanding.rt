@@ -20,7 +20,10 @@ fn is_start(command: Command) -> bool
         | Command::Outage
         | Command::Back
         | Command::Busy
-        | Command::Free => false,
+        | Command::Free
+        | Command::Flush
+        | Command::Continue
+        | Command::Overload => false,
     }
 }
 

@@ -3,7 +3,7 @@ ghost use Rattle.std.specs.List.{list_any};
 ghost use Rattle.std.specs.Prelude.{◌≡◌, ◌||◌, map, ◌<◌, length, slice_get, true, IfOk, OnErr, Err};
 ghost use Rattle.link_term.specs.Machine.{is_low};
 ghost use Rattle.group_members.specs.Links.{change};
-ghost use Rattle.group_members.specs.Doing.{AtLink, Listened, Spoken, Sent, Reported, low_at, asked, came_first, came_by, admits_first, admits_at, admits_by};
+ghost use Rattle.group_members.specs.Doing.{AtLink, Listened, Spoken, Sent, Reported, low_at, asked, came_first, came_by, marked_served, admits_first, admits_at, admits_by};
 
 use crate::link::Link;
 use link_term::Report;
@@ -11,28 +11,35 @@ use std::alloc::AllocError;
 use su_octets::Unit;
 
 impl Link {
-    /// Whether it came into service for the first time since this was last asked.
+    /// Whether it may have selections for the first time: it is in service, not held, and admitted.
+    fn take_part(&mut self) -> bool
+        ensures first { result ≡ came_first self.old }
+        ensures link { self.new ≡ marked_served self.old }
+    {
+        let may = self.shares();
+        let first = may && !self.availability.served;
+        self.availability = self.availability.takes_part(may);
+        first
+    }
+
+    /// Looks whether it came into service since this was last asked. Whether it may have selections for the first time.
     fn see(&mut self) -> bool
         ensures first { result ≡ came_first self.old }
         ensures link { self.new ≡ asked self.old }
     {
-        let first = self.availability.admitted && !self.availability.served;
-        if !self.terminal.came_into_service() {
-            return false;
+        if self.terminal.came_into_service() {
+            self.availability = self.availability.serves();
         }
-        self.availability = self.availability.serves();
-        first
+        self.take_part()
     }
 
-    /// Level 3 admits it, or does no longer. Whether it is in service and admitted for the first time.
+    /// Level 3 admits it, or does no longer. Whether it may have selections for the first time.
     fn admit(&mut self, way: bool) -> bool
         ensures first { result ≡ admits_first way self.old }
         ensures link { self.new ≡ admits_at way self.old }
     {
-        let serving = self.terminal.in_service();
-        let first = way && serving && !self.availability.served;
-        self.availability = self.availability.admits(way, serving);
-        first
+        self.availability = self.availability.admits(way);
+        self.take_part()
     }
 
     fn listen(&mut self, octets: &[u8]) -> usize
@@ -67,7 +74,7 @@ impl Link {
     }
 }
 
-/// Whether the link at a place came into service for the first time.
+/// Looks whether the link at a place came into service. Whether it may have selections for the first time.
 #[tactic(auto, unfolding(crate::specs::Links::change))]
 pub fn see_at(links: &mut [Link], at: usize) -> bool
     ensures first { result ≡ came_by (slice_get links.old at) }
@@ -80,7 +87,7 @@ pub fn see_at(links: &mut [Link], at: usize) -> bool
     }
 }
 
-/// Level 3 admits the link at a place, or does no longer. Whether it is in service and admitted for the first time.
+/// Level 3 admits the link at a place, or does no longer. Whether it may have selections for the first time.
 #[tactic(auto, unfolding(crate::specs::Links::change))]
 pub fn admit_at(links: &mut [Link], at: usize, way: bool) -> bool
     ensures first { result ≡ admits_by way (slice_get links.old at) }
@@ -93,7 +100,7 @@ pub fn admit_at(links: &mut [Link], at: usize, way: bool) -> bool
     }
 }
 
-/// Whether a link did, or one before it.
+/// Whether a link may have selections for the first time, or one before it.
 fn see_more(link: &mut Link, before: bool) -> bool
     ensures first { result ≡ before || came_first link.old }
     ensures link { link.new ≡ asked link.old }
@@ -102,7 +109,7 @@ fn see_more(link: &mut Link, before: bool) -> bool
     before || first
 }
 
-/// Whether any link came into service for the first time.
+/// Whether any link may have selections for the first time.
 pub fn see_all(links: &mut [Link]) -> bool
     ensures first { result ≡ list_any came_first links.old }
     ensures links { links.new ≡ map asked links.old }

@@ -24,6 +24,6 @@ pub use link_term::{CallError, Command, LinkStatus, Mode, Msu, Report, Terminal}
 pub use links::{abandon_at, fail_at, hear_at, heard_at, put_at, retrieve_at};
 pub use moving::divert_all;
 pub use new::all_fresh;
-pub use open::{able_links, takers};
+pub use open::{able_links, anew_links, takers};
 pub use tables::{any_changing, any_in_way, forgive_all, table_anew, table_of};
 pub use ticking::{make_room_all, pass_all, tick_refusal};

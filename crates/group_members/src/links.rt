@@ -15,8 +15,8 @@ use std::collections::VecDeque;
 ///
 /// # Errors
 ///
-/// `K1 NoLink` where there is no such link, or it is out of service and not in changeover, `K2 Waiting` where it is in changeover, `E1 Full`
-/// where 1,024 messages wait. Nothing changes then.
+/// `K1 NoLink` where there is no such link, or it isn't in changeover and is out of service, held or not admitted, `K2 Waiting` where it is in
+/// changeover, `E1 Full` where 1,024 messages wait. Nothing changes then.
 #[tactic(auto, unfolding(crate::specs::Links::change))]
 pub fn put_at(links: &mut [Link], at: usize, msu: Msu) -> Result<(), SendError>
     requires { 2 ≤ length msu.sif.items }

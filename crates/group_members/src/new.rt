@@ -4,13 +4,14 @@ ghost use Rattle.group_members.specs.New.{fresh};
 
 use crate::link::Link;
 use group_changeover::{Availability, Behind};
-use link_term::Terminal;
+use link_term::{Hold, Terminal};
 
 /// A link over a terminal.
 fn fresh(mut terminal: Terminal) -> Link
     ensures { result ≡ fresh terminal }
 {
     let _came = terminal.came_into_service();
+    terminal.hold(Hold::Free);
     let served = terminal.in_service();
     Link {
         terminal,

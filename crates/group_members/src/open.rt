@@ -4,7 +4,7 @@ ghost use Rattle.arrayvec.specs.ArrayVec.{array_vec_len};
 ghost use Rattle.group_changeover.specs.Sharing.{selection_of};
 ghost use Rattle.group_members.specs.Limits.{MOST_LINKS};
 ghost use Rattle.group_members.specs.OneLink.{held};
-ghost use Rattle.group_members.specs.Moving.{is_so_out, is_still, is_open, open_links, able_links, own_place, way, takers, on_by, holds, holds_at};
+ghost use Rattle.group_members.specs.Moving.{is_so_out, is_still, is_open, open_links, able_links, others, anew_links, own_place, way, takers, on_by, holds, holds_at};
 ghost use Rattle.group_members.specs.Tables.{changing_at, held_by_any};
 
 use crate::link::Link;
@@ -22,15 +22,11 @@ fn is_so_out(link: &Link, outage: bool) -> bool
     }
 }
 
-/// Whether a link hasn't failed, or, where those that failed are asked for too, whether it isn't in changeover.
+/// Whether a link isn't in changeover and hasn't failed, unless those that failed are asked for too.
 fn is_still(link: &Link, failed: bool) -> bool
     ensures { result ≡ is_still failed link.now }
 {
-    if failed {
-        !link.availability.is_changing()
-    } else {
-        !link.availability.failed
-    }
+    !link.availability.is_changing() && (failed || !link.availability.failed)
 }
 
 /// Whether a link is one of those that are asked for.
@@ -78,6 +74,34 @@ pub fn able_links(links: &[Link], failed: bool) -> ArrayVec<usize, 16>
     }
 }
 
+/// The numbers of the links, with an outage or without, that never failed, else of those that failed and aren't in changeover.
+#[tactic(auto, unfolding(crate::specs::Moving::others))]
+fn others(links: &[Link], outage: bool) -> ArrayVec<usize, 16>
+    requires { length links.now ≤ MOST_LINKS }
+    ensures { result.items ≡ others outage links.now }
+{
+    let able = open_links(links, false, outage);
+    if able.is_empty() {
+        open_links(links, true, outage)
+    } else {
+        able
+    }
+}
+
+/// The numbers of the links that selections get as one may have some for the first time: those with an outage only where there are no others.
+#[tactic(auto, unfolding(crate::specs::Moving::anew_links))]
+pub fn anew_links(links: &[Link]) -> ArrayVec<usize, 16>
+    requires { length links.now ≤ MOST_LINKS }
+    ensures { result.items ≡ anew_links links.now }
+{
+    let able = others(links, false);
+    if able.is_empty() {
+        others(links, true)
+    } else {
+        able
+    }
+}
+
 /// The number of a link itself, if it may.
 fn own_place(links: &[Link], at: usize, outage: bool) -> ArrayVec<usize, 16>
     ensures { result.items ≡ own_place at outage (slice_get links.now at) }
@@ -97,15 +121,12 @@ fn way(links: &[Link], at: usize, outage: bool) -> ArrayVec<usize, 16>
     requires { length links.now ≤ MOST_LINKS }
     ensures { result.items ≡ way at outage links.now }
 {
-    let able = open_links(links, false, outage);
-    if !able.is_empty() {
-        return able;
+    let able = others(links, outage);
+    if able.is_empty() {
+        own_place(links, at, outage)
+    } else {
+        able
     }
-    let able = open_links(links, true, outage);
-    if !able.is_empty() {
-        return able;
-    }
-    own_place(links, at, outage)
 }
 
 /// The numbers of the links that take what a link handed out: those with an outage only where there are no others.

@@ -47,7 +47,10 @@ fn anew_on(links: &[Link], table: &Table, able: &[usize], selection: u8) -> Opti
     if held_by_any(links, selection) {
         return was;
     }
-    pick(able, selection)
+    match pick(able, selection) {
+        Some(link) => Some(link),
+        None => was,
+    }
 }
 
 /// The table made anew.

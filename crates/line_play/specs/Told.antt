@@ -7,7 +7,7 @@ use Rattle.link_transceiver.specs.declared.signals.Report.{Report}
 use Rattle.link_transceiver.specs.declared.signals.Report.TheVariants.{Message, Status}
 use Rattle.link_transceiver.specs.declared.signals.LinkStatus.{LinkStatus}
 use Rattle.link_transceiver.specs.declared.signals.LinkStatus.TheVariants.{InService, Down}
-use Rattle.link_transceiver.specs.declared.signals.LinkStatus.TheVariants.{RemoteOut, RemoteBack}
+use Rattle.link_transceiver.specs.declared.signals.LinkStatus.TheVariants.{RemoteOut, RemoteBack, Cleared}
 use Rattle.line_filter.specs.declared.terminal.Answer.{Answer}
 use Rattle.line_filter.specs.declared.terminal.Answer.TheVariants as answer
 
@@ -16,6 +16,7 @@ status_text InService = codes "in service"
 status_text (Down reason) = codes "down " ++ signed_decimal reason
 status_text RemoteOut = codes "far out"
 status_text RemoteBack = codes "far back"
+status_text Cleared = codes "cleared"
 
 -- a message's octets are its service information octet and its signalling information field
 abbrev pub message_text : Msu → List ℕ

@@ -17,6 +17,7 @@ fn status_text(alloc: Global, status: LinkStatus) -> Result<String, AllocError>
         LinkStatus::Down(reason) => format!(in alloc; "down {reason}"),
         LinkStatus::RemoteOut => String::from_str(alloc, "far out"),
         LinkStatus::RemoteBack => String::from_str(alloc, "far back"),
+        LinkStatus::Cleared => String::from_str(alloc, "cleared"),
     }
 }
 
@@ -31,7 +32,7 @@ fn message_text(alloc: Global, message: &Msu) -> Result<String, AllocError>
     format!(in alloc; "message {digits}")
 }
 
-/// What is told of a report: `in service`, `down R` with the reason, `far out`, `far back`, or `message HEX` with the octets of the
+/// What is told of a report: `in service`, `down R` with the reason, `far out`, `far back`, `cleared`, or `message HEX` with the octets of the
 /// message, its service information octet first.
 #[tactic(auto, unfolding(crate::specs::Told::report_text))]
 pub fn report_text(alloc: Global, report: &Report) -> Result<String, AllocError>

@@ -17,7 +17,7 @@ use Rattle.group_changeover.specs.declared.errors.DivertFault.{DivertFault}
 use Rattle.group_members.specs.declared.link.Link.{Link}
 use Rattle.group_members.specs.OneLink.{shares}
 use Rattle.group_members.specs.Links.{change}
-use Rattle.group_members.specs.Moving.{retrieval_by, retrieval_of, is_so_out, is_still, is_open, places_from, open_links, own_place, way, first_some, takers, is_own, holds_at, takes_on, Diversion, division, Diverted, moves, back_fault, back, gives_back, hands_over, ends_on, ends_at, keeps_at}
+use Rattle.group_members.specs.Moving.{retrieval_by, retrieval_of, is_so_out, is_still, is_open, places_from, open_links, others, own_place, way, first_some, takers, is_own, holds_at, takes_on, Diversion, division, Diverted, moves, back_fault, back, gives_back, hands_over, ends_on, ends_at, keeps_at}
 use Rattle.link_group.specs.Set.{LinkSet}
 use Rattle.link_group.specs.Diverting.{Owns, diverted, after_by, after_divert}
 use Rattle.link_group.specs.Laws.{held_by, held_at, places_of}
@@ -69,26 +69,18 @@ turned : (b : Bool) → not b ≡ true → b ≡ false
 turned true e = let f : false ≡ true = e in cc
 turned false e = refl
 
-unfailed : (k : Link) (ms : List Msu) → k.availability.failed ≡ false → FitsAvailability k.availability ms → is_some k.availability.changing ≡ false
-unfailed k ms e fits = by (is_some k.availability.changing) refl
-  where
-    by : (b : Bool) → is_some k.availability.changing ≡ b → b ≡ false
-    by true is = let f : true ≡ false = sym (fits.failed is) ∙ e in cc
-    by false is = refl
-
-still_by : (b : Bool) (k : Link) (ms : List Msu) → is_still b k ≡ true → FitsAvailability k.availability ms → is_some k.availability.changing ≡ false
-still_by true k ms e fits = turned (is_some k.availability.changing) e
-still_by false k ms e fits = unfailed k ms (turned k.availability.failed e) fits
+still_by : (b : Bool) (k : Link) → is_still b k ≡ true → is_some k.availability.changing ≡ false
+still_by b k e = turned (is_some k.availability.changing) (and_first (not (is_some k.availability.changing)) (b || not k.availability.failed) e)
 
 -- No changeover goes on at a link that may be given something.
-still : (b outage : Bool) (k : Link) (ms : List Msu) → is_open b outage k ≡ true → FitsAvailability k.availability ms → is_some k.availability.changing ≡ false
-still b outage k ms e fits = still_by b k ms (and_second (is_so_out outage k) (is_still b k) (and_second (shares k) (is_so_out outage k && is_still b k) e)) fits
+still : (b outage : Bool) (k : Link) → is_open b outage k ≡ true → is_some k.availability.changing ≡ false
+still b outage k e = still_by b k (and_second (is_so_out outage k) (is_still b k) (and_second (shares k) (is_so_out outage k && is_still b k) e))
 
 open_other : (b outage : Bool) (ks : List Link) (retrievals : ℕ → List Msu) (l t : ℕ) (own k : Link) → Fits ks retrievals → slice_get ks l ≡ Some own → is_some own.availability.changing ≡ true
     → slice_get ks t ≡ Some k → is_open b outage k ≡ true → IsOther l retrievals t
 open_other b outage ks retrievals l t own k fits there changing here able =
     let fit : FitsLink k (retrievals t) = fits_there ks retrievals t k fits here in
-    let idle : is_some k.availability.changing ≡ false = still b outage k (retrievals t) able fit.availability in
+    let idle : is_some k.availability.changing ≡ false = still b outage k able in
     record {
       other = λ e. let same : own ≡ k = one own k (sym there ∙ ap (slice_get ks) (sym e) ∙ here) in
           let f : true ≡ false = sym changing ∙ ap (λ (x : Link). is_some x.availability.changing) same ∙ idle in cc;
@@ -98,10 +90,10 @@ open_other b outage ks retrievals l t own k fits there changing here able =
     one : (a b : Link) → Some a ≡ Some b → a ≡ b
     one a b e = cc
 
-others : (b outage : Bool) (ks : List Link) (retrievals : ℕ → List Msu) (l : ℕ) (own : Link) → Fits ks retrievals → slice_get ks l ≡ Some own → is_some own.availability.changing ≡ true
+able_others : (b outage : Bool) (ks : List Link) (retrievals : ℕ → List Msu) (l : ℕ) (own : Link) → Fits ks retrievals → slice_get ks l ≡ Some own → is_some own.availability.changing ≡ true
     → Others l retrievals (open_links b outage ks)
 unfolding open_links
-others b outage ks retrievals l own fits there changing = λ i t e.
+able_others b outage ks retrievals l own fits there changing = λ i t e.
     let r = places_open (is_open b outage) 0 ks i t e in
     let at : t ≡ r.0 = omega (arith, r.2) in
     open_other b outage ks retrievals l t own r.1 fits there changing (ap (slice_get ks) at ∙ r.3) r.4
@@ -126,13 +118,18 @@ own_others : (l : ℕ) (retrievals : ℕ → List Msu) (outage : Bool) (o : Opti
 own_others l retrievals outage None = λ e i t h. absurd (none_some h)
 own_others l retrievals outage (Some k) = own_by_test l retrievals (shares k && is_so_out outage k)
 
+both_others : (ks : List Link) (retrievals : ℕ → List Msu) (l : ℕ) (outage : Bool) (own : Link) → Fits ks retrievals → slice_get ks l ≡ Some own → is_some own.availability.changing ≡ true
+    → OthersOrOwn l retrievals (others outage ks)
+unfolding others
+both_others ks retrievals l outage own fits there changing =
+    first_others l retrievals (open_links false outage ks) (open_links true outage ks) (λ e. able_others false outage ks retrievals l own fits there changing)
+    (λ e. able_others true outage ks retrievals l own fits there changing)
+
 way_others : (ks : List Link) (retrievals : ℕ → List Msu) (l : ℕ) (outage : Bool) (own : Link) → Fits ks retrievals → slice_get ks l ≡ Some own → is_some own.availability.changing ≡ true
     → OthersOrOwn l retrievals (way l outage ks)
 unfolding way
 way_others ks retrievals l outage own fits there changing =
-    first_others l retrievals (open_links false outage ks) (first_some (open_links true outage ks) (own_place l outage (slice_get ks l))) (λ e. others false outage ks retrievals l own fits there changing)
-    (first_others l retrievals (open_links true outage ks) (own_place l outage (slice_get ks l)) (λ e. others true outage ks retrievals l own fits there changing)
-    (own_others l retrievals outage (slice_get ks l)))
+    first_others l retrievals (others outage ks) (own_place l outage (slice_get ks l)) (both_others ks retrievals l outage own fits there changing) (own_others l retrievals outage (slice_get ks l))
 
 -- Where the link itself isn't the one that takes its messages others are, if any does.
 takers_others : (ks : List Link) (retrievals : ℕ → List Msu) (l : ℕ) (own : Link) → Fits ks retrievals → slice_get ks l ≡ Some own → is_some own.availability.changing ≡ true

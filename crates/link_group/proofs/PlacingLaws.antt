@@ -18,7 +18,7 @@ use Rattle.group_changeover.specs.declared.errors.RebalanceError.TheVariants as 
 use Rattle.group_members.specs.declared.link.Link.{Link}
 use Rattle.group_members.specs.OneLink.{held, is_changing}
 use Rattle.group_members.specs.Moving.{holds, holds_at, able_links}
-use Rattle.group_members.specs.Tables.{changing_by, changing_at, held_by_any, anew_on, stands_in_way, in_way, any_below, forgiven}
+use Rattle.group_members.specs.Tables.{changing_by, changing_at, held_by_any, or_kept, anew_on, stands_in_way, in_way, any_below, forgiven}
 use Rattle.link_group.specs.Set.{LinkSet}
 use Rattle.link_group.specs.Placing.{placed_anew, rebalance_fault, rebalanced}
 use Rattle.link_group.specs.Laws.{held_by, held_at, places_of}
@@ -97,11 +97,11 @@ pub stays_placed : (laws : StepsKeepPlaces) (c : LinkSet) (retrievals : ℕ → 
     → Stays (placed_anew c) retrievals accepted gone
 unfolding placed_anew
 stays_placed laws c retrievals accepted gone stays =
-    let ls : List ℕ = able_links false c.links in
+    let ls : List ℕ = anew_links c.links in
     record {
       places = placed laws c (placed_anew c) retrievals accepted gone (λ l. refl)
           (λ s lt. with_first _ _ (link_of c.table s) _ (link_at (anew_on c.links c.table ls) s lt)
-          (anew_cases (changing_at c.links (link_of c.table s)) (held_by_any s c.links) (link_of c.table s) (pick ls s) _
+          (anew_cases (changing_at c.links (link_of c.table s)) (held_by_any s c.links) (link_of c.table s) (or_kept (pick ls s) (link_of c.table s)) _
           (λ still none. stands_none c retrievals accepted gone s (link_of c.table s) stays still none))) stays.places;
       fits = stays.fits;
       table = refl;

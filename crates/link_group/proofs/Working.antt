@@ -14,14 +14,14 @@ use Rattle.link_processes.specs.Laws.{KeptLaw}
 use Rattle.link_processes.specs.Machine.{with_book, is_low, tidied}
 use Rattle.group_changeover.specs.declared.availability.Availability.{Availability}
 use Rattle.group_changeover.specs.Laws.{StepsKeepPlaces}
-use Rattle.group_changeover.specs.Availability.{changeover_begins, serves, admits}
+use Rattle.group_changeover.specs.Availability.{changeover_begins, serves}
 use Rattle.group_changeover.specs.Saying.{is_late, is_order, begun_by_message, is_held_by, answer_after}
 use Rattle.group_changeover.proofs.Equal.{same}
 use Rattle.group_members.specs.declared.link.Link.{Link}
 use Rattle.group_members.specs.OneLink.{held, is_serving, with_hold, hold_by}
 use Rattle.group_members.specs.Links.{set_at, change}
 use Rattle.group_members.specs.Failing.{changeover_begins_at, count_heard, marked, hears}
-use Rattle.group_members.specs.Doing.{came, came_first, asked, came_by, admits_at, admits_by, AtLink}
+use Rattle.group_members.specs.Doing.{came, came_first, marked_served, asked, came_by, admits_at, admits_by, AtLink}
 use Rattle.group_members.specs.Ticking.{roomy, passed}
 use Rattle.link_group.specs.Set.{LinkSet}
 use Rattle.link_group.specs.Changing.{after_failure, is_for, after_message}
@@ -78,9 +78,16 @@ stays_heard laws c retrievals accepted gone (Some m) stays =
 
 -- ---- a link comes into service
 
+-- a link that was looked at, with these marks
+abbrev asked_with : Link → Availability → Link
+asked_with k m =
+    marked_served (record { terminal = term_with_transceiver k.terminal (record k.terminal.processes.transceiver { came = false }); availability = m })
+
 fits_asked : (k : Link) (ms : List Msu) → FitsAvailability k.availability ms → FitsAvailability (asked k).availability ms
 fits_asked k ms fits =
-    by_test (λ (m : Availability). FitsAvailability m ms) (came k) (serves k.availability) k.availability (λ e. fits_alike k.availability (serves k.availability) ms refl refl fits) (λ e. fits)
+    by_test (λ (m : Availability). FitsAvailability (asked_with k m).availability ms) (came k) (serves k.availability) k.availability
+    (λ e. fits_alike k.availability (asked_with k (serves k.availability)).availability ms refl refl fits)
+    (λ e. fits_alike k.availability (asked_with k k.availability).availability ms refl refl fits)
 
 stays_seen : (laws : StepsKeepPlaces) (c : LinkSet) (retrievals : ℕ → List Msu) (accepted : List Msu) (gone : List Gone) (l : ℕ) → Stays c retrievals accepted gone → Stays (seen l c) retrievals accepted gone
 unfolding seen
@@ -104,7 +111,7 @@ unfolding after_admission
 stays_admitted laws c retrievals accepted gone l way stays =
     let d : LinkSet = record c { links = change c.links l (admits_at way) } in
     let said : Stays d retrievals accepted gone =
-    one_changes laws c retrievals accepted gone l (admits_at way) (λ k. refl) (λ k ms x. fits_alike k.availability (admits way (is_serving k) k.availability) ms refl refl x) stays in
+    one_changes laws c retrievals accepted gone l (admits_at way) (λ k. refl) (λ k ms x. fits_alike k.availability (admits_at way k).availability ms refl refl x) stays in
     by_test (λ (x : LinkSet). Stays x retrievals accepted gone) (admits_by way (slice_get c.links l)) (placed_anew d) d (λ e. stays_placed laws d retrievals accepted gone said) (λ e. said)
 
 -- ---- a call of one terminal

@@ -13,7 +13,7 @@ use Rattle.group_members.specs.Doing.{AtLink, asked, came_first, came_by, admits
 
 -- ---- a link comes into service
 
--- As a link comes into service for the first time the table is made anew.
+-- As a link is in service, not held, and admitted for the first time, the table is made anew.
 unfoldable pub seen : ℕ → LinkSet → LinkSet
 seen l c =
     if came_by (slice_get c.links l) then placed_anew (record c { links = change c.links l asked })
@@ -26,8 +26,8 @@ all_seen c =
 
 -- ---- level 3 admits a link
 
--- It is admitted, or is no longer; as it is in service and admitted for the first time the table is
--- made anew.
+-- It is admitted, or is no longer; as it is in service, not held, and admitted for the first time
+-- the table is made anew.
 unfoldable pub after_admission : LinkSet → ℕ → Bool → LinkSet
 after_admission c l way =
     if admits_by way (slice_get c.links l)

@@ -1,5 +1,5 @@
--- Selections get links: as a link first comes into service, and as a set is rebalanced.
-use Rattle.std.specs.Prelude.{true, false, if◌then◌else◌, map, Option, Some, None}
+-- Selections get links: as a link may first have some, and as a set is rebalanced.
+use Rattle.std.specs.Prelude.{true, if◌then◌else◌, map, Option, Some, None}
 use Rattle.std.specs.List.{list_any}
 use Rattle.group_changeover.specs.Limits.{SELECTIONS}
 use Rattle.group_changeover.specs.Sharing.{selections, pick}
@@ -7,13 +7,13 @@ use Rattle.group_changeover.specs.declared.errors.RebalanceError.{RebalanceError
 use Rattle.group_changeover.specs.declared.errors.RebalanceError.TheVariants as rebalance
 use Rattle.group_members.specs.OneLink.{is_changing}
 use Rattle.link_group.specs.Set.{LinkSet}
-use Rattle.group_members.specs.Moving.{able_links}
+use Rattle.group_members.specs.Moving.{able_links, anew_links}
 use Rattle.group_members.specs.Tables.{anew_on, in_way, any_below, forgiven}
 
 -- the table made anew
 unfoldable pub placed_anew : LinkSet → LinkSet
 placed_anew c =
-    record c { table = map (anew_on c.links c.table (able_links false c.links)) selections }
+    record c { table = map (anew_on c.links c.table (anew_links c.links)) selections }
 
 -- ---- rebalancing
 

@@ -15,7 +15,7 @@ with_room ks = map roomy ks
 abbrev pub tick_fault : ℕ → LinkSet → Option Refusal
 tick_fault n c = first_refusal n (with_room c.links)
 
--- They pass on all links; as one comes into service for the first time by them, the table is made
+-- They pass on all links; as one may have selections for the first time by them, the table is made
 -- anew.
 unfoldable pub after_ticks : ℕ → LinkSet → LinkSet
 after_ticks n c = all_seen (record c { links = map (passed n) (with_room c.links) })

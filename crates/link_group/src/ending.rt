@@ -64,10 +64,11 @@ impl Group {
     }
 
     /// Diverts retrieved messages (Q.704, diversion of traffic): of one selection after another, from 0 up, all go in order to the link that the
-    /// selection has among the other links in service that didn't fail; `send` takes the selection's messages there from then on. Where no such
-    /// link is left they go so to those in service that failed and aren't in changeover, and where none of these is left either, all go back to
-    /// their own link, if that is in service. Where all have gone, the changeover ends: selections that are still that link's, and of which it
-    /// holds nothing, get a link among those then. It takes no memory.
+    /// selection has among the others that may take them; `send` takes the selection's messages there from then on. May take them: a link that is
+    /// in service, not held, admitted and not in changeover. Those that never failed do so; where there are none, those that failed; and where
+    /// there are none of these either, all go back to their own link, if that is in service, not held and admitted. So it is among the links
+    /// without an outage of a processor, here or there, and where these give none, among those with one (Q.704, 3.2.4). Where all have gone, the
+    /// changeover ends: selections that are still that link's, and of which it holds nothing, get a link among those then. It takes no memory.
     ///
     /// # Errors
     ///

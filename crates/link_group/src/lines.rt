@@ -12,7 +12,7 @@ use group_members::{
 use su_octets::Unit;
 
 impl Group {
-    /// Looks whether a link came into service: as it does so for the first time, the table is made anew.
+    /// Looks whether a link came into service: as it may have selections for the first time, the table is made anew.
     #[tactic(auto, unfolding(crate::specs::Lines::seen))]
     fn see(&mut self, at: usize)
         ensures { self.new ≡ seen at self.old }
@@ -23,7 +23,7 @@ impl Group {
     }
 
     /// Level 3 admits a link to selections and to what other links hand out, or does no longer; all are admitted at first. What it has stays. As it
-    /// is in service and admitted for the first time, the table is made anew.
+    /// is in service, not held, and admitted for the first time, the table is made anew.
     ///
     /// # Errors
     ///

@@ -2,12 +2,13 @@
 ghost use Rattle.std.specs.Prelude.{◌≡◌, ◌<◌, false, OnOk, OnErr};
 ghost use Rattle.group_changeover.specs.Sharing.{selections};
 ghost use Rattle.group_members.specs.OneLink.{fault_of};
-ghost use Rattle.group_members.specs.Moving.{able_links};
+ghost use Rattle.group_members.specs.Moving.{able_links, anew_links};
 ghost use Rattle.link_group.specs.Placing.{placed_anew, rebalance_fault, rebalanced};
 
 use crate::group::Group;
 use group_members::{
-    RebalanceError, able_links, any_changing, any_in_way, forgive_all, table_anew, table_of,
+    RebalanceError, able_links, anew_links, any_changing, any_in_way, forgive_all, table_anew,
+    table_of,
 };
 
 impl Group {
@@ -16,11 +17,12 @@ impl Group {
     pub(crate) fn place_anew(&mut self)
         ensures { self.new ≡ placed_anew self.old }
     {
-        let able = able_links(self.links.as_slice(), false);
+        let able = anew_links(self.links.as_slice());
         self.table = table_anew(self.links.as_slice(), &self.table, able.as_slice());
     }
 
-    /// Shares all selections out among the links in service, those that failed too.
+    /// Shares all selections out among the links that are in service, not held and admitted, those that failed too; those with an outage of a
+    /// processor, here or there, only where there are no others.
     ///
     /// # Errors
     ///

@@ -31,8 +31,8 @@ impl Group {
     ///
     /// # Errors
     ///
-    /// `K1 NoLink` where its selection has no link, or that link is out of service and not in changeover, `K2 Waiting` where that link is in
-    /// changeover, `E1 Full` where as many wait there as may. Nothing changes then.
+    /// `K1 NoLink` where its selection has no link, or that link isn't in changeover and is out of service, held or not admitted, `K2 Waiting`
+    /// where that link is in changeover, `E1 Full` where as many wait there as may. Nothing changes then.
     #[tactic(auto, using(crate::proofs::Fields::long_enough), unfolding(crate::specs::Set::send_fault, crate::specs::Set::sent))]
     pub fn send(&mut self, label: Label, msu: Msu) -> Result<(), SendError>
         requires { label_in msu.sif.items ≡ Some label }

@@ -8,7 +8,7 @@ use crate::group::Group;
 use group_members::{CallError, make_room_all, pass_all, see_all, tick_refusal};
 
 impl Group {
-    /// Looks which links came into service: as one does so for the first time, the table is made anew.
+    /// Looks which links came into service: as one may have selections for the first time, the table is made anew.
     #[tactic(auto, unfolding(crate::specs::Lines::all_seen))]
     fn see_each(&mut self)
         ensures { self.new ≡ all_seen self.old }

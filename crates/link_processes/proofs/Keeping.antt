@@ -1,8 +1,8 @@
 -- What the actors' signals leave alone, each step of a terminal but those for units leaves alone.
-use Rattle.std.proofs.Common.{◌≡◌, ℕ, ◌+◌, ◌≤◌, zero, suc, Bool, true, false, cond, Option, Some, None, List, [], ◌∷◌, ◌++◌, length, refl, sym, ap, ◌∙◌, append-nil, length-append, lit≤, arith}
+use Rattle.std.proofs.Common.{◌≡◌, ℕ, ◌+◌, ◌≤◌, zero, suc, nat_lt, Bool, true, false, cond, Option, Some, None, List, [], ◌∷◌, ◌++◌, length, refl, sym, ap, ◌∙◌, append-nil, length-append, lit≤, arith}
 use Rattle.std.specs.Prelude.{if◌then◌else◌}
 use Rattle.resend_store.specs.declared.messages.Msu.{Msu}
-use Rattle.resend_store.specs.Window.{Window}
+use Rattle.resend_store.specs.Window.{Window, emptied as without_kept}
 use Rattle.su_octets.specs.declared.units.Unit.{Unit}
 use Rattle.su_octets.specs.declared.units.Unit.TheVariants as unit
 use Rattle.actor_machine.specs.Ledger.{Ledger, state_of, ask}
@@ -19,14 +19,14 @@ use Rattle.link_transceiver.specs.declared.offers.Offer.{Offer}
 use Rattle.link_transceiver.specs.declared.offers.UnitOut.{UnitOut}
 use Rattle.link_transceiver.specs.declared.signals.EnvSignal.{EnvSignal}
 use Rattle.link_transceiver.specs.TransceiverState.{TransceiverState}
-use Rattle.link_transceiver.specs.Effects.{effect}
+use Rattle.link_transceiver.specs.Effects.{effect, clears}
 use Rattle.link_transceiver.specs.Judging.{judged}
 use Rattle.link_transceiver.specs.Going.{gone}
-use Rattle.link_transceiver.specs.Offers.{error_offers}
+use Rattle.link_transceiver.specs.Offers.{error_offers, acknowledgement_seen}
 use Rattle.link_transceiver.specs.Laws.{HandsOutInOrder, KeepsUnacknowledged, Loses, Told, Came, Went, accepted_of, acknowledged_of, is_accepted}
 use Rattle.link_processes.specs.declared.processes.Processes.{Processes}
 use Rattle.link_processes.specs.Offering.{told_by, offer_event}
-use Rattle.link_processes.specs.Machine.{with_book, with_transceiver, Step, repeated, heeds, heard, taken_reply, taken_answer, one_taken, emptied, moved_by, moved, rested, offered, all_offered, unit_taken, error_taken, told_of, sent_by, sent}
+use Rattle.link_processes.specs.Machine.{with_book, with_transceiver, Step, repeated, heeds, heard, taken_reply, taken_answer, one_taken, emptied, moved_by, moved, rested, offered, all_offered, unit_taken, error_taken, told_of, sent_by, sent, none_out, handed_out, buffers_emptied}
 use Rattle.link_processes.specs.Laws.{MessagesLaw, KeptLaw}
 
 -- a relation between transceivers that holds over each signal, holds over all that takes signals alone
@@ -38,7 +38,7 @@ module _ (R : TransceiverState → TransceiverState → Type 0) (same : (h : Tra
 
   heard_keeps : (x : Emitted) (t : Processes) → R t.transceiver (heard x t).transceiver
   unfolding heard
-  heard_keeps x t = heeds_keeps (told_by t.names.outputs x) t.transceiver
+  heard_keeps x t = heeds_keeps (told_by t.names x) t.transceiver
 
   reply_keeps : (t : Processes) (b : Ledger) (r : Reply) → R t.transceiver (taken_reply t b r).processes.transceiver
   reply_keeps t b (reply.Taken x) = heard_keeps x (with_book t b)
@@ -182,6 +182,22 @@ no_loss_joined a b c h k = loss_stays [] a.sender b.sender c.sender h k
 one_sent : (none a b c : ℕ) → none + a ≤ b → b ≤ c + 1 → a ≤ c + 1
 one_sent none a b c h k = omega (arith, h, k)
 
+kept_none : (w v : Window) → w.kept ≡ [] → Loses [] w v → v.kept ≡ []
+kept_none w v none h = sym h.kept ∙ none
+
+told_none : KeepsUnacknowledged → (o : Option Offer) (t : Processes) → t.transceiver.sender.kept ≡ [] → (told_of o t).transceiver.sender.kept ≡ []
+told_none law o t none =
+    kept_none t.transceiver.sender (told_of o t).transceiver.sender none (told_keeps LosesNone no_loss no_loss_joined law.on_signal o t)
+
+handed_none : KeepsUnacknowledged → (accepted : Option ℕ) (t : Processes) → (handed_out accepted t).transceiver.sender.kept ≡ []
+unfolding handed_out
+handed_none law accepted t =
+    told_none law (none_out (nat_lt 0 t.transceiver.sender.sent)) (with_transceiver t (record t.transceiver { sender = without_kept t.transceiver.sender accepted })) refl
+
+emptied_none : KeepsUnacknowledged → (t : Processes) → (buffers_emptied t).transceiver.sender.kept ≡ []
+unfolding buffers_emptied clears
+emptied_none law t = told_none law (Some (acknowledgement_seen false)) (with_transceiver t (clears t.transceiver)) refl
+
 pub kept_law : KeepsUnacknowledged → KeptLaw
 kept_law law = record {
   events = offered_keeps LosesNone no_loss no_loss_joined law.on_signal;
@@ -192,4 +208,6 @@ kept_law law = record {
   sends = λ t. sym (sent_keeps LosesNone no_loss no_loss_joined law.on_signal t).kept ∙ law.unit_out t.transceiver;
   one_sent = λ t. one_sent (length {A = Msu} []) (sent t).processes.transceiver.sender.sent (gone t.transceiver).transceiver.sender.sent t.transceiver.sender.sent
       (sent_keeps LosesNone no_loss no_loss_joined law.on_signal t).sent (law.one_sent t.transceiver);
+  retrievals = handed_none law;
+  clears = emptied_none law;
 }

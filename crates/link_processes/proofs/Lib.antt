@@ -1,5 +1,6 @@
 pub mod Actors
 pub mod Having
 pub mod Keeping
+pub mod Optional
 pub mod Repeats
 pub mod Runs

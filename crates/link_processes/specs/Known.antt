@@ -1,5 +1,10 @@
 -- Which names a terminal knows, and which numbers they have in a set.
-use Rattle.std.specs.Prelude.{◌≡◌, ℕ, List, [], ◌∷◌, Some, codes}
+use Rattle.std.specs.Prelude.{◌≡◌, ℕ, ◌==◌, Bool, true, not, ◌&&◌, ◌||◌, ◌⊎◌, List, [], ◌∷◌, Some}
+use Rattle.std.specs.Prelude.{codes}
+use Rattle.std.specs.List.{list_any}
+use Rattle.turn_code.specs.declared.numbers.SignalNumber.{SignalNumber}
+use Rattle.turn_code.specs.declared.draft.DraftRoute.{DraftRoute}
+use Rattle.actor_machine.specs.Refusals.{is_environment}
 use Rattle.turn_code.specs.declared.draft.Draft.{Draft}
 use Rattle.turn_code.specs.declared.value.Sort.{Sort}
 use Rattle.turn_code.specs.declared.value.Sort.TheVariants.{Integer, Boolean}
@@ -9,8 +14,11 @@ use Rattle.link_processes.specs.declared.words.ProcessName.{ProcessName}
 use Rattle.link_processes.specs.declared.words.ProcessName.TheVariants as process
 use Rattle.link_processes.specs.declared.words.SignalName.{SignalName}
 use Rattle.link_processes.specs.declared.words.SignalName.TheVariants as signal
+use Rattle.link_processes.specs.declared.words.OptionName.{OptionName}
+use Rattle.link_processes.specs.declared.words.OptionName.TheVariants as option
 use Rattle.link_processes.specs.declared.names.Names.{Names}
 use Rattle.link_processes.specs.declared.names.Notices.{Notices}
+use Rattle.link_processes.specs.declared.names.Options.{Options}
 use Rattle.link_processes.specs.declared.names.Orders.{Orders}
 use Rattle.link_processes.specs.declared.names.Outputs.{Outputs}
 use Rattle.link_processes.specs.declared.names.Parties.{Parties}
@@ -74,6 +82,33 @@ signal_sorts signal.Down = Integer ∷ []
 signal_sorts signal.RemoteOut = []
 signal_sorts signal.RemoteBack = []
 
+-- signals that a text may have
+abbrev pub option_word : OptionName → List ℕ
+option_word option.Flush = codes "Flush"
+option_word option.Continue = codes "Continue"
+option_word option.Overload = codes "Overload"
+option_word option.Deliver = codes "Deliver"
+option_word option.Cleared = codes "Cleared"
+option_word option.Clear = codes "Clear"
+option_word option.Odd = codes "Odd"
+
+abbrev pub option_sorts : OptionName → List Sort
+option_sorts option.Flush = []
+option_sorts option.Continue = []
+option_sorts option.Overload = []
+option_sorts option.Deliver = Boolean ∷ []
+option_sorts option.Cleared = []
+option_sorts option.Clear = []
+option_sorts option.Odd = Integer ∷ []
+
+-- the number of no signal
+abbrev pub NO_SIGNAL : ℕ
+NO_SIGNAL = 255
+
+-- whether the number is that of a signal
+abbrev pub is_there : SignalNumber → Bool
+is_there k = not (k.0 == NO_SIGNAL)
+
 -- the number is that of the first process of that name
 abbrev pub IsProcess : Draft → ℕ → ProcessName → Type 0
 IsProcess d n p = IsFirst (process_names d) n (process_word p)
@@ -125,8 +160,36 @@ pub record AreOutputs (d : Draft) (x : Outputs) : Type 0 where
   pub remote_out : IsSignal d x.remote_out.0 signal.RemoteOut
   pub remote_back : IsSignal d x.remote_back.0 signal.RemoteBack
 
+-- ---- signals that a set may have
+
+-- a route from or to the environment carries the signal
+abbrev pub touches : SignalNumber → DraftRoute → Bool
+touches s r = (is_environment r.from || is_environment r.to)
+    && list_any (λ (x : SignalNumber). x.0 == s.0) r.signals
+
+-- the first signal of that name, which a route from or to the environment carries; a text's own
+-- signals between processes are its own
+pub record IsTouched (d : Draft) (name : OptionName) (k : SignalNumber) : Type 0 where
+  pub named : IsFirst (signal_names d) k.0 (option_word name)
+  pub carried : list_any (touches k) d.routes ≡ true
+
+-- The number is that of such a signal; where there is none, that of no signal.
+abbrev pub IsOption : Draft → SignalNumber → OptionName → Type 0
+IsOption d n o =
+    IsTouched d o n ⊎ (((k : SignalNumber) → IsTouched d o k → ⊥) × (n.0 ≡ NO_SIGNAL))
+
+pub record AreOptions (d : Draft) (x : Options) : Type 0 where
+  pub flush : IsOption d x.flush option.Flush
+  pub continues : IsOption d x.continues option.Continue
+  pub overload : IsOption d x.overload option.Overload
+  pub deliver : IsOption d x.deliver option.Deliver
+  pub cleared : IsOption d x.cleared option.Cleared
+  pub clear : IsOption d x.clear option.Clear
+  pub odd : IsOption d x.odd option.Odd
+
 pub record AreNames (d : Draft) (n : Names) : Type 0 where
   pub parties : AreParties d n.parties
   pub orders : AreOrders d n.orders
   pub notices : AreNotices d n.notices
   pub outputs : AreOutputs d n.outputs
+  pub options : AreOptions d n.options

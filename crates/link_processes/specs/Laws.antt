@@ -1,5 +1,5 @@
 -- What follows from the steps of a terminal.
-use Rattle.std.specs.Prelude.{◌≡◌, ℕ, zero, suc, ◌+◌, ◌++◌, ◌≤◌, List, [], length}
+use Rattle.std.specs.Prelude.{◌≡◌, ℕ, zero, suc, ◌+◌, ◌++◌, ◌≤◌, Option, List, [], length}
 use Rattle.su_octets.specs.declared.units.Unit.{Unit}
 use Rattle.actor_book.specs.declared.turn.Turn.TheVariants.{Made, Blocked}
 use Rattle.actor_book.specs.Turns.{MOST_TURNS, tried}
@@ -8,7 +8,7 @@ use Rattle.link_transceiver.specs.declared.offers.Offer.{Offer}
 use Rattle.link_transceiver.specs.Laws.{Loses, accepted_of, acknowledged_of}
 use Rattle.link_processes.specs.declared.processes.Processes.{Processes}
 use Rattle.link_processes.specs.Machine.{with_book, emptied, rested, offered, all_offered}
-use Rattle.link_processes.specs.Machine.{unit_taken, error_taken, sent}
+use Rattle.link_processes.specs.Machine.{unit_taken, error_taken, sent, handed_out, buffers_emptied}
 use Rattle.actor_machine.specs.declared.event.Event.{Event}
 
 -- Up to so many turns, each of the least actor that can, come one after another, and behind each
@@ -42,8 +42,9 @@ pub record MessagesLaw : Type 0 where
   pub few : (u : Unit) (t : Processes)
       → length (unit_taken u t).transceiver.messages ≤ length t.transceiver.messages + 1
 
--- Of what is kept to send a unit that comes takes away the messages that it acknowledges; nothing
--- else takes any away, and but for units that go out nothing lets more of them count as sent.
+-- Of what is kept to send a unit that comes takes away the messages that it acknowledges, and a
+-- retrieval and an emptying of the buffers take all. Nothing else takes any away, and but for units
+-- that go out nothing lets more of them count as sent.
 pub record KeptLaw : Type 0 where
   pub events :
       (e : Event) (t : Processes) → Loses [] t.transceiver.sender (offered e t).transceiver.sender
@@ -59,3 +60,7 @@ pub record KeptLaw : Type 0 where
       (t : Processes) → (sent t).processes.transceiver.sender.kept ≡ t.transceiver.sender.kept
   pub one_sent :
       (t : Processes) → (sent t).processes.transceiver.sender.sent ≤ t.transceiver.sender.sent + 1
+  -- what is left behind a retrieval, and behind buffers that were emptied
+  pub retrievals :
+      (accepted : Option ℕ) (t : Processes) → (handed_out accepted t).transceiver.sender.kept ≡ []
+  pub clears : (t : Processes) → (buffers_emptied t).transceiver.sender.kept ≡ []

@@ -2,6 +2,7 @@
 -- keeps beside them.
 use Rattle.std.specs.Prelude.{ℕ, zero, suc, ◌&&◌, Bool, true, false, nat_lt, cond, if◌then◌else◌}
 use Rattle.std.specs.Prelude.{Option, Some, None, List, [], ◌∷◌, length}
+use Rattle.resend_store.specs.Window.{emptied as without_kept}
 use Rattle.su_octets.specs.declared.units.Unit.{Unit}
 use Rattle.actor_machine.specs.Ledger.{Ledger, runs, state_of, refusal_by, ask, room, rebased}
 use Rattle.actor_machine.specs.Step.{Answer, Stuck, Says}
@@ -18,10 +19,10 @@ use Rattle.link_transceiver.specs.declared.offers.Offer.{Offer}
 use Rattle.link_transceiver.specs.declared.offers.UnitOut.{UnitOut}
 use Rattle.link_transceiver.specs.declared.signals.EnvSignal.{EnvSignal}
 use Rattle.link_transceiver.specs.TransceiverState.{TransceiverState}
-use Rattle.link_transceiver.specs.Effects.{effect}
+use Rattle.link_transceiver.specs.Effects.{effect, clears}
 use Rattle.link_transceiver.specs.Judging.{Judged, judged}
 use Rattle.link_transceiver.specs.Going.{gone}
-use Rattle.link_transceiver.specs.Offers.{error_offers}
+use Rattle.link_transceiver.specs.Offers.{error_offers, acknowledgement_seen}
 use Rattle.link_processes.specs.declared.processes.Processes.{Processes}
 use Rattle.link_processes.specs.Offering.{told_by, offer_event}
 
@@ -49,7 +50,7 @@ heeds (Some s) h = effect s h
 
 -- a signal of the environment is heeded
 unfoldable pub heard : Emitted → Processes → Processes
-heard x t = with_transceiver t (heeds (told_by t.names.outputs x) t.transceiver)
+heard x t = with_transceiver t (heeds (told_by t.names x) t.transceiver)
 
 abbrev pub taken_reply : Processes → Ledger → Reply → Step
 taken_reply t b (reply.Taken x) = record { processes = heard x (with_book t b); goes = true }
@@ -124,6 +125,37 @@ sent_by t (Some out) = record { processes = told_of out.offer t; unit = Some out
 -- what goes out next, with what is offered then
 unfoldable pub sent : Processes → Sent
 sent t = sent_by (with_transceiver t (gone t.transceiver).transceiver) (gone t.transceiver).out
+
+-- ---- retrieval
+
+-- no message is out any more, where some were
+abbrev pub none_out : Bool → Option Offer
+none_out true = Some (acknowledgement_seen false)
+none_out false = None
+
+-- what the far side may lack was handed out: nothing is kept, and where messages were out it is
+-- told that none is
+unfoldable pub handed_out : Option ℕ → Processes → Processes
+handed_out accepted t =
+    told_of (none_out (nat_lt 0 t.transceiver.sender.sent))
+    (with_transceiver t
+    (record t.transceiver { sender = without_kept t.transceiver.sender accepted }))
+
+-- ---- buffers that are emptied
+
+-- all that is kept to send is gone, and it is told that no message is out
+unfoldable pub buffers_emptied : Processes → Processes
+buffers_emptied t =
+    offered (offer_event t.names (acknowledgement_seen false))
+    (with_transceiver t (clears t.transceiver))
+
+-- where an actor asked for that
+unfoldable pub clear_obeyed : Processes → Processes
+clear_obeyed t = if t.transceiver.clearing then buffers_emptied t else t
+
+-- so many messages go then
+abbrev pub to_clear : Processes → ℕ
+to_clear t = if t.transceiver.clearing then length t.transceiver.sender.kept else 0
 
 -- ---- the journal
 

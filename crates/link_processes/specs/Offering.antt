@@ -15,10 +15,10 @@ use Rattle.link_transceiver.specs.declared.offers.Notice.{Notice}
 use Rattle.link_transceiver.specs.declared.offers.Notice.TheVariants as notice
 use Rattle.link_transceiver.specs.declared.signals.EnvSignal.{EnvSignal}
 use Rattle.link_transceiver.specs.declared.signals.EnvSignal.TheVariants as signal
+use Rattle.link_processes.specs.Known.{NO_SIGNAL}
 use Rattle.link_processes.specs.declared.commands.Command.{Command}
 use Rattle.link_processes.specs.declared.commands.Command.TheVariants as command
 use Rattle.link_processes.specs.declared.names.Names.{Names}
-use Rattle.link_processes.specs.declared.names.Notices.{Notices}
 use Rattle.link_processes.specs.declared.names.Outputs.{Outputs}
 use Rattle.link_processes.specs.declared.names.Parties.{Parties}
 
@@ -31,13 +31,15 @@ number_of ps Rc = ps.rc
 
 -- ---- notices
 
-abbrev pub notice_signal : Notices → Notice → SignalNumber
-notice_signal is notice.Good = is.good
-notice_signal is notice.Errored = is.errored
-notice_signal is (notice.AckSeen left) = is.ack_seen
-notice_signal is notice.Bad = is.bad
-notice_signal is (notice.Unit kind) = is.unit
-notice_signal is notice.MsuSent = is.msu_sent
+abbrev pub notice_signal : Names → Notice → SignalNumber
+notice_signal n notice.Good = n.notices.good
+notice_signal n notice.Errored = n.notices.errored
+notice_signal n (notice.AckSeen left) = n.notices.ack_seen
+notice_signal n notice.Bad = n.notices.bad
+notice_signal n (notice.Unit kind) = n.notices.unit
+notice_signal n notice.MsuSent = n.notices.msu_sent
+notice_signal n (notice.Odd code) = n.options.odd
+notice_signal n (notice.Counting on) = record { 0 = NO_SIGNAL }
 
 abbrev pub notice_values : Notice → List Value
 notice_values notice.Good = []
@@ -46,13 +48,15 @@ notice_values (notice.AckSeen left) = Bool left ∷ []
 notice_values notice.Bad = []
 notice_values (notice.Unit kind) = Int (pos kind) ∷ []
 notice_values notice.MsuSent = []
+notice_values (notice.Odd code) = Int (pos code) ∷ []
+notice_values (notice.Counting on) = Bool on ∷ []
 
 abbrev pub event_to : ℕ → SignalNumber → List Value → Event
 event_to n s vs = Offered (record { actor = n; signal = s; values = record { items = vs } })
 
 abbrev pub offer_event : Names → Offer → Event
 offer_event n o =
-    event_to (number_of n.parties o.to) (notice_signal n.notices o.notice) (notice_values o.notice)
+    event_to (number_of n.parties o.to) (notice_signal n o.notice) (notice_values o.notice)
 
 -- ---- commands
 
@@ -67,6 +71,9 @@ command_number n command.Outage = n.parties.lsc
 command_number n command.Back = n.parties.lsc
 command_number n command.Busy = n.parties.cc
 command_number n command.Free = n.parties.cc
+command_number n command.Flush = n.parties.lsc
+command_number n command.Continue = n.parties.lsc
+command_number n command.Overload = n.parties.cc
 
 abbrev pub command_signal : Names → Command → SignalNumber
 command_signal n command.PowerOn = n.orders.power_on
@@ -78,6 +85,9 @@ command_signal n command.Outage = n.orders.local_out
 command_signal n command.Back = n.orders.local_back
 command_signal n command.Busy = n.orders.busy
 command_signal n command.Free = n.orders.free
+command_signal n command.Flush = n.options.flush
+command_signal n command.Continue = n.options.continues
+command_signal n command.Overload = n.options.overload
 
 abbrev pub command_event : Names → Command → Event
 command_event n c = event_to (command_number n c) (command_signal n c) []
@@ -89,26 +99,29 @@ integer_told os s z =
     if s.0 == os.line.0 then Some (signal.Line z)
     else (if s.0 == os.down.0 then Some (signal.Down z) else None)
 
-abbrev pub boolean_told : Outputs → SignalNumber → Truth → Option EnvSignal
-boolean_told os s on =
-    if s.0 == os.take.0 then Some (signal.Take on)
-    else (if s.0 == os.withhold.0 then Some (signal.Withhold on) else None)
+abbrev pub boolean_told : Names → SignalNumber → Truth → Option EnvSignal
+boolean_told n s on =
+    if s.0 == n.outputs.take.0 then Some (signal.Take on)
+    else (if s.0 == n.outputs.withhold.0 then Some (signal.Withhold on)
+    else (if s.0 == n.options.deliver.0 then Some (signal.Deliver on) else None))
 
-abbrev pub plain_told : Outputs → SignalNumber → Option EnvSignal
-plain_told os s =
-    if s.0 == os.fresh.0 then Some signal.Fresh
-    else (if s.0 == os.in_service_now.0 then Some signal.InServiceNow
-    else (if s.0 == os.remote_out.0 then Some signal.RemoteOut
-    else (if s.0 == os.remote_back.0 then Some signal.RemoteBack else None)))
+abbrev pub plain_told : Names → SignalNumber → Option EnvSignal
+plain_told n s =
+    if s.0 == n.outputs.fresh.0 then Some signal.Fresh
+    else (if s.0 == n.outputs.in_service_now.0 then Some signal.InServiceNow
+    else (if s.0 == n.outputs.remote_out.0 then Some signal.RemoteOut
+    else (if s.0 == n.outputs.remote_back.0 then Some signal.RemoteBack
+    else (if s.0 == n.options.cleared.0 then Some signal.Cleared
+    else (if s.0 == n.options.clear.0 then Some signal.Clear else None)))))
 
-abbrev pub value_told : Outputs → SignalNumber → Value → Option EnvSignal
-value_told os s (Int z) = integer_told os s z
-value_told os s (Bool on) = boolean_told os s on
+abbrev pub value_told : Names → SignalNumber → Value → Option EnvSignal
+value_told n s (Int z) = integer_told n.outputs s z
+value_told n s (Bool on) = boolean_told n s on
 
-abbrev pub first_told : Outputs → SignalNumber → Option Value → Option EnvSignal
-first_told os s None = plain_told os s
-first_told os s (Some v) = value_told os s v
+abbrev pub first_told : Names → SignalNumber → Option Value → Option EnvSignal
+first_told n s None = plain_told n s
+first_told n s (Some v) = value_told n s v
 
 -- by its number and its first parameter; any other signal says nothing
-unfoldable pub told_by : Outputs → Emitted → Option EnvSignal
-told_by os x = first_told os x.signal (slice_get x.parameters.items 0)
+unfoldable pub told_by : Names → Emitted → Option EnvSignal
+told_by n x = first_told n x.signal (slice_get x.parameters.items 0)

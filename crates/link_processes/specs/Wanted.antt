@@ -1,18 +1,22 @@
 -- What a terminal wants of its set.
-use Rattle.std.specs.Prelude.{◌≡◌, ℕ, ◌==◌, Bool, true, not, ◌&&◌, List, [], ◌∷◌, slice_get}
-use Rattle.std.specs.List.{list_any}
+use Rattle.std.specs.Prelude.{◌≡◌, ℕ, ◌==◌, Bool, true, not, ◌&&◌, ◌||◌, List, [], ◌∷◌, slice_get}
+use Rattle.std.specs.List.{list_any, list_all}
 use Rattle.turn_code.specs.Transitions.{parameters_of}
 use Rattle.turn_code.specs.declared.numbers.SignalNumber.{SignalNumber}
 use Rattle.turn_code.specs.declared.draft.Draft.{Draft}
 use Rattle.turn_code.specs.declared.draft.DraftRoute.{DraftRoute}
 use Rattle.actor_machine.specs.Refusals.{is_environment, offers}
-use Rattle.link_processes.specs.Known.{signal_sorts, IsProcess, IsSignal}
+use Rattle.link_processes.specs.Known.{signal_sorts, option_sorts, IsProcess, IsSignal}
+use Rattle.link_processes.specs.Known.{touches, IsTouched}
 use Rattle.link_processes.specs.declared.words.ProcessName.{ProcessName}
 use Rattle.link_processes.specs.declared.words.ProcessName.TheVariants as process
 use Rattle.link_processes.specs.declared.words.SignalName.{SignalName}
 use Rattle.link_processes.specs.declared.words.SignalName.TheVariants as signal
+use Rattle.link_processes.specs.declared.words.OptionName.{OptionName}
+use Rattle.link_processes.specs.declared.words.OptionName.TheVariants as option
 use Rattle.link_processes.specs.declared.wanted.Wanted.{Wanted}
 use Rattle.link_processes.specs.declared.wanted.Wanted.TheVariants.{Process, Sent, Heard}
+use Rattle.link_processes.specs.declared.wanted.Wanted.TheVariants.{MaySend, MayHear}
 
 -- ---- what a set has
 
@@ -41,10 +45,43 @@ pub record HasHeard (d : Draft) (name : SignalName) : Type 0 where
   pub is_signal : IsSpoken d name signal
   pub brought : list_any (tells signal) d.routes ≡ true
 
+-- ---- what a set may have
+
+-- a route does not carry it from or to the environment, or brings it from there to that process
+abbrev pub sends_alone : ℕ → SignalNumber → DraftRoute → Bool
+sends_alone p s r = not (touches s r) || offers p s r
+
+-- or brings it from some process to there
+abbrev pub tells_alone : SignalNumber → DraftRoute → Bool
+tells_alone s r = not (touches s r) || tells s r
+
+-- such a signal has the parameters that a terminal knows, and each such route brings it from the
+-- environment to the process of that name
+pub record FitsSent (d : Draft) (to : ProcessName) (name : OptionName) (k : SignalNumber)
+    : Type 0 where
+  pub process : ℕ
+  pub is_process : IsProcess d process to
+  pub sorts : parameters_of (slice_get d.signals k.0) ≡ option_sorts name
+  pub alone : list_all (sends_alone process k) d.routes ≡ true
+
+-- the same of one that comes to the environment
+pub record FitsHeard (d : Draft) (name : OptionName) (k : SignalNumber) : Type 0 where
+  pub sorts : parameters_of (slice_get d.signals k.0) ≡ option_sorts name
+  pub alone : list_all (tells_alone k) d.routes ≡ true
+
+-- if there is such a signal on a route from or to the environment, it is one that a terminal knows
+abbrev pub MaySendIt : Draft → ProcessName → OptionName → Type 0
+MaySendIt d to name = (k : SignalNumber) → IsTouched d name k → FitsSent d to name k
+
+abbrev pub MayHearIt : Draft → OptionName → Type 0
+MayHearIt d name = (k : SignalNumber) → IsTouched d name k → FitsHeard d name k
+
 abbrev pub Has : Draft → Wanted → Type 0
 Has d (Process name) = (n : ℕ) × IsProcess d n name
 Has d (Sent to name) = HasSent d to name
 Has d (Heard name) = HasHeard d name
+Has d (MaySend to name) = MaySendIt d to name
+Has d (MayHear name) = MayHearIt d name
 
 -- of these, in their order, that one is the first that the set lacks
 pub data IsFirstLacking (d : Draft) (name : Wanted) : List Wanted → Type 0 where
@@ -55,7 +92,8 @@ pub data IsFirstLacking (d : Draft) (name : Wanted) : List Wanted → Type 0 whe
 
 -- ---- what a terminal wants
 
--- the processes, the signals that the environment sends to each of them, and those that come to it
+-- the processes, the signals that the environment sends to each of them, and those that come to it;
+-- then those that may be, in the form in which a terminal knows them
 abbrev pub wanted : List Wanted
 wanted =
     Process process.Lsc
@@ -89,6 +127,13 @@ wanted =
     ∷ Heard signal.Down
     ∷ Heard signal.RemoteOut
     ∷ Heard signal.RemoteBack
+    ∷ MaySend process.Lsc option.Flush
+    ∷ MaySend process.Lsc option.Continue
+    ∷ MaySend process.Cc option.Overload
+    ∷ MayHear option.Deliver
+    ∷ MayHear option.Cleared
+    ∷ MayHear option.Clear
+    ∷ MaySend process.Rc option.Odd
     ∷ []
 
 -- all its processes, and all its signals, have a number in the set

@@ -26,6 +26,12 @@ pub enum Command {
     Busy,
     /// It no longer is.
     Free,
+    /// Behind an outage: the buffers are to be emptied, and messages go again.
+    Flush,
+    /// Behind an outage: messages go again.
+    Continue,
+    /// This side is congested, and discards messages that come.
+    Overload,
 }
 
 /// The number of the actor that a command goes to.
@@ -33,14 +39,16 @@ pub(crate) fn command_number(names: &Names, command: Command) -> u16
     ensures { result ≡ command_number names.now command }
 {
     match command {
-        Command::Busy | Command::Free => names.parties.cc,
+        Command::Busy | Command::Free | Command::Overload => names.parties.cc,
         Command::PowerOn
         | Command::Start
         | Command::Stop
         | Command::Emergency
         | Command::Calm
         | Command::Outage
-        | Command::Back => names.parties.lsc,
+        | Command::Back
+        | Command::Flush
+        | Command::Continue => names.parties.lsc,
     }
 }
 
@@ -58,5 +66,8 @@ pub(crate) fn command_signal(names: &Names, command: Command) -> SignalNumber
         Command::Back => names.orders.local_back,
         Command::Busy => names.orders.busy,
         Command::Free => names.orders.free,
+        Command::Flush => names.options.flush,
+        Command::Continue => names.options.continues,
+        Command::Overload => names.options.overload,
     }
 }

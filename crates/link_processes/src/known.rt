@@ -1,11 +1,11 @@
 //! The numbers that a terminal's names have in its set.
 ghost use Rattle.std.specs.Prelude.{◌≡◌, All, IfOk, IfErr};
-ghost use Rattle.link_processes.specs.Known.{IsProcess, IsActor, IsSignal, AreParties, AreOrders, AreNotices, AreOutputs, AreNames};
+ghost use Rattle.link_processes.specs.Known.{IsProcess, IsActor, IsSignal, AreParties, AreOrders, AreNotices, AreOutputs, IsOption, AreOptions, AreNames};
 ghost use Rattle.link_processes.specs.Wanted.{wanted, Has, HasSignals, HasProcesses, IsFirstLacking};
 
-use crate::names::{Names, Notices, Orders, Outputs, Parties};
-use crate::wanted::{Wanted, all_wanted, first_lacking};
-use crate::words::{ProcessName, SignalName};
+use crate::names::{NO_SIGNAL, Names, Notices, Options, Orders, Outputs, Parties};
+use crate::wanted::{Wanted, all_wanted, first_lacking, touched};
+use crate::words::{OptionName, ProcessName, SignalName};
 use actor_machine::first_of;
 use turn_check::Verified;
 use turn_code::{ProcessNumber, SignalNumber};
@@ -105,6 +105,31 @@ fn outputs(set: &Verified) -> Outputs
     }
 }
 
+/// The number of a signal that the set may have.
+fn option(set: &Verified, name: OptionName) -> SignalNumber
+    ensures { IsOption set.now result name }
+{
+    match touched(set, name) {
+        Some(number) => number,
+        None => SignalNumber(NO_SIGNAL),
+    }
+}
+
+/// The signals that the set may have.
+fn options(set: &Verified) -> Options
+    ensures { AreOptions set.now result }
+{
+    Options {
+        flush: option(set, OptionName::Flush),
+        continues: option(set, OptionName::Continue),
+        overload: option(set, OptionName::Overload),
+        deliver: option(set, OptionName::Deliver),
+        cleared: option(set, OptionName::Cleared),
+        clear: option(set, OptionName::Clear),
+        odd: option(set, OptionName::Odd),
+    }
+}
+
 impl Names {
     /// The numbers that the names of a terminal have in a set, which has all of them, with the parameters and the routes that a terminal
     /// knows; case is ignored.
@@ -124,6 +149,7 @@ impl Names {
                 orders: orders(set),
                 notices: notices(set),
                 outputs: outputs(set),
+                options: options(set),
             }),
         }
     }

@@ -1,5 +1,6 @@
 //! The numbers that the actors and signals of the environment have in a set.
 ghost use Rattle.std.specs.Prelude.{◌≡◌};
+ghost use Rattle.link_processes.specs.Known.{is_there};
 ghost use Rattle.link_processes.specs.Offering.{number_of, notice_signal, notice_values, value_told, integer_told, boolean_told, plain_told, told_by};
 
 use actor_machine::Emitted;
@@ -62,6 +63,21 @@ pub struct Outputs {
     pub remote_back: SignalNumber,
 }
 
+/// The signals that a text may have; [`NO_SIGNAL`] is the number of one that it hasn't.
+#[derive(Clone, Copy, PartialEq, Eq, Debug)]
+pub struct Options {
+    pub flush: SignalNumber,
+    pub continues: SignalNumber,
+    pub overload: SignalNumber,
+    pub deliver: SignalNumber,
+    pub cleared: SignalNumber,
+    pub clear: SignalNumber,
+    pub odd: SignalNumber,
+}
+
+/// The number of no signal: a set has 128 at most.
+pub const NO_SIGNAL: u8 = 255;
+
 /// All numbers that a terminal knows of its set.
 #[derive(Clone, Copy, PartialEq, Eq, Debug)]
 pub struct Names {
@@ -69,6 +85,14 @@ pub struct Names {
     pub orders: Orders,
     pub notices: Notices,
     pub outputs: Outputs,
+    pub options: Options,
+}
+
+/// Whether a text has the signal that it may have.
+pub fn is_there(signal: SignalNumber) -> bool
+    ensures { result ≡ is_there signal }
+{
+    signal.0 != NO_SIGNAL
 }
 
 /// The number of an actor.
@@ -84,9 +108,10 @@ pub(crate) fn actor_of(parties: &Parties, party: Party) -> u16
 }
 
 /// The signal of a notice.
-pub(crate) fn notice_signal(notices: &Notices, notice: Notice) -> SignalNumber
-    ensures { result ≡ notice_signal notices.now notice }
+pub(crate) fn notice_signal(names: &Names, notice: Notice) -> SignalNumber
+    ensures { result ≡ notice_signal names.now notice }
 {
+    let notices = &names.notices;
     match notice {
         Notice::Good => notices.good,
         Notice::Errored => notices.errored,
@@ -94,6 +119,8 @@ pub(crate) fn notice_signal(notices: &Notices, notice: Notice) -> SignalNumber
         Notice::Bad => notices.bad,
         Notice::Unit(_) => notices.unit,
         Notice::MsuSent => notices.msu_sent,
+        Notice::Odd(_) => names.options.odd,
+        Notice::Counting(_) => SignalNumber(NO_SIGNAL),
     }
 }
 
@@ -104,7 +131,9 @@ pub(crate) fn notice_values(notice: Notice) -> ArrayVec<Value, 4>
     let mut values = ArrayVec::new();
     match notice {
         Notice::AckSeen(left) => values.push(Value::Bool(left)),
+        Notice::Counting(on) => values.push(Value::Bool(on)),
         Notice::Unit(kind) => values.push(Value::Int(i32::from(kind))),
+        Notice::Odd(code) => values.push(Value::Int(i32::from(code))),
         Notice::Good | Notice::Errored | Notice::Bad | Notice::MsuSent => {}
     }
     values
@@ -113,22 +142,22 @@ pub(crate) fn notice_values(notice: Notice) -> ArrayVec<Value, 4>
 /// What a signal that came to the environment says, by its number and its first parameter; nothing where it is none that a terminal
 /// knows.
 #[tactic(auto, unfolding(crate::specs::Offering::told_by))]
-pub(crate) fn told_by(outputs: &Outputs, emitted: &Emitted) -> Option<EnvSignal>
-    ensures { result ≡ told_by outputs.now emitted.now }
+pub(crate) fn told_by(names: &Names, emitted: &Emitted) -> Option<EnvSignal>
+    ensures { result ≡ told_by names.now emitted.now }
 {
     match emitted.parameters.as_slice().first() {
-        Some(value) => value_told(outputs, emitted.signal, *value),
-        None => plain_told(outputs, emitted.signal),
+        Some(value) => value_told(names, emitted.signal, *value),
+        None => plain_told(names, emitted.signal),
     }
 }
 
 /// A signal with a parameter.
-fn value_told(outputs: &Outputs, signal: SignalNumber, value: Value) -> Option<EnvSignal>
-    ensures { result ≡ value_told outputs.now signal value }
+fn value_told(names: &Names, signal: SignalNumber, value: Value) -> Option<EnvSignal>
+    ensures { result ≡ value_told names.now signal value }
 {
     match value {
-        Value::Int(number) => integer_told(outputs, signal, number),
-        Value::Bool(on) => boolean_told(outputs, signal, on),
+        Value::Int(number) => integer_told(&names.outputs, signal, number),
+        Value::Bool(on) => boolean_told(names, signal, on),
     }
 }
 
@@ -146,22 +175,25 @@ fn integer_told(outputs: &Outputs, signal: SignalNumber, number: i32) -> Option<
 }
 
 /// A signal with a truth value.
-fn boolean_told(outputs: &Outputs, signal: SignalNumber, on: bool) -> Option<EnvSignal>
-    ensures { result ≡ boolean_told outputs.now signal on }
+fn boolean_told(names: &Names, signal: SignalNumber, on: bool) -> Option<EnvSignal>
+    ensures { result ≡ boolean_told names.now signal on }
 {
-    if signal.0 == outputs.take.0 {
+    if signal.0 == names.outputs.take.0 {
         Some(EnvSignal::Take(on))
-    } else if signal.0 == outputs.withhold.0 {
+    } else if signal.0 == names.outputs.withhold.0 {
         Some(EnvSignal::Withhold(on))
+    } else if signal.0 == names.options.deliver.0 {
+        Some(EnvSignal::Deliver(on))
     } else {
         None
     }
 }
 
 /// A signal without parameters.
-fn plain_told(outputs: &Outputs, signal: SignalNumber) -> Option<EnvSignal>
-    ensures { result ≡ plain_told outputs.now signal }
+fn plain_told(names: &Names, signal: SignalNumber) -> Option<EnvSignal>
+    ensures { result ≡ plain_told names.now signal }
 {
+    let outputs = &names.outputs;
     if signal.0 == outputs.fresh.0 {
         Some(EnvSignal::Fresh)
     } else if signal.0 == outputs.in_service_now.0 {
@@ -170,6 +202,10 @@ fn plain_told(outputs: &Outputs, signal: SignalNumber) -> Option<EnvSignal>
         Some(EnvSignal::RemoteOut)
     } else if signal.0 == outputs.remote_back.0 {
         Some(EnvSignal::RemoteBack)
+    } else if signal.0 == names.options.cleared.0 {
+        Some(EnvSignal::Cleared)
+    } else if signal.0 == names.options.clear.0 {
+        Some(EnvSignal::Clear)
     } else {
         None
     }

@@ -1,5 +1,7 @@
 //! A terminal's actors, and what it keeps beside them.
-ghost use Rattle.std.specs.Prelude.{◌≡◌, ◌+◌, ◌<◌, ◌≤◌, [], true, false, length, None, Some, OnOk, OnErr, IfErr, IfSome};
+ghost use Rattle.std.specs.Prelude.{◌≡◌, ◌+◌, ◌<◌, ◌≤◌, ◌↔◌, [], true, false, length, All, None, Some, Err, IfOk, OnOk, OnErr, IfErr, IfSome};
+ghost use Rattle.resend_store.specs.Messages.{IsMessage};
+ghost use Rattle.resend_store.specs.Window.{retrieved, count_known};
 ghost use Rattle.su_octets.specs.Whole.{IsWhole};
 ghost use Rattle.actor_machine.specs.Ledger.{ask};
 ghost use Rattle.actor_machine.specs.declared.event.Event.TheVariants.{Advance};
@@ -8,15 +10,17 @@ ghost use Rattle.actor_book.specs.Answered.{answer_by};
 ghost use Rattle.link_transceiver.specs.Laws.{Loses};
 ghost use Rattle.link_transceiver.specs.Limits.{KEPT_MESSAGES};
 ghost use Rattle.link_processes.specs.Offering.{command_event, offer_event};
-ghost use Rattle.link_processes.specs.Machine.{with_book, with_transceiver, heard, rested, offered, all_offered, noted_by, unit_taken, error_taken, told_of, sent, tidied, is_low, tick_refusal};
+ghost use Rattle.link_processes.specs.Machine.{with_book, with_transceiver, heard, rested, offered, all_offered, noted_by, unit_taken, error_taken, told_of, none_out, handed_out, buffers_emptied, clear_obeyed, to_clear, sent, tidied, is_low, tick_refusal};
 
 use crate::commands::{Command, command_number, command_signal};
 use crate::laws::{accepted_messages_wait_in_order, unacknowledged_messages_stay};
 use crate::names::{Names, actor_of, notice_signal, notice_values};
 use actor_book::Book;
 use actor_machine::Refusal;
-use link_transceiver::{Offer, Transceiver, UnitOut, error_offers};
+use link_transceiver::{Notice, Offer, Party, Transceiver, UnitOut, error_offers};
+use resend_store::{Msu, RetrieveError};
 use std::alloc::AllocError;
+use std::collections::VecDeque;
 use su_octets::Unit;
 
 /// Where fewer places of the journal are free than that, `tidy` makes room.
@@ -94,7 +98,7 @@ impl Processes {
         ensures { self.new ≡ offered (offer_event self.old.names offer) self.old }
     {
         let actor = actor_of(&self.names.parties, offer.to);
-        let signal = notice_signal(&self.names.notices, offer.notice);
+        let signal = notice_signal(&self.names, offer.notice);
         let values = notice_values(offer.notice);
         let _refused = self.book.offer(actor, signal, values.as_slice()).is_err();
         self.rest();
@@ -107,6 +111,70 @@ impl Processes {
     {
         for offer in offers {
             self.offer(*offer);
+        }
+    }
+
+    /// Hands out, in order, what the far side may lack (Q.704, retrieval), as `Transceiver::retrieve` does. Where messages were out it is told
+    /// behind that that none is out any more, so that nobody waits for an acknowledgement of what is gone.
+    ///
+    /// # Errors
+    ///
+    /// Those of `Transceiver::retrieve`. Then nothing changes.
+    #[tactic(auto, unfolding(crate::specs::Machine::handed_out))]
+    pub fn retrieve(&mut self, accepted: Option<u8>) -> Result<VecDeque<Msu>, RetrieveError>
+        requires { IfSome accepted (λ fsn. fsn < 128) }
+        ensures bad { (result ≡ Err RetrieveError.BadAck) ↔ (self.old.transceiver.sender.sent < count_known self.old.transceiver.sender accepted) }
+        ensures messages { IfOk result (λ messages. messages.items ≡ retrieved self.old.transceiver.sender accepted) }
+        ensures whole { IfOk result (λ messages. All IsMessage messages.items) }
+        ensures ok { OnOk result (self.new ≡ handed_out accepted self.old) }
+        ensures err { OnErr result (self.new ≡ self.old) }
+    {
+        let sent = self.transceiver.sent();
+        match self.transceiver.retrieve(accepted) {
+            Ok(messages) => {
+                self.tell_none_out(sent > 0);
+                Ok(messages)
+            }
+            Err(why) => Err(why),
+        }
+    }
+
+    /// Empties the buffers, where an actor asked for that since it was last done (Q.703, figure 13): what waits and what is unacknowledged goes,
+    /// and is counted. The actors are told that no message is out, and come to rest. How many messages went.
+    #[tactic(auto, unfolding(crate::specs::Machine::clear_obeyed))]
+    pub fn obey_clear(&mut self) -> usize
+        ensures count { result ≡ to_clear self.old }
+        ensures processes { self.new ≡ clear_obeyed self.old }
+    {
+        if !self.transceiver.is_to_clear() {
+            return 0;
+        }
+        let kept = self.transceiver.held();
+        self.empty_buffers();
+        kept
+    }
+
+    /// Empties the buffers.
+    #[tactic(auto, unfolding(crate::specs::Machine::buffers_emptied))]
+    fn empty_buffers(&mut self)
+        ensures { self.new ≡ buffers_emptied self.old }
+    {
+        self.transceiver.clear();
+        self.offer(Offer {
+            to: Party::Txc,
+            notice: Notice::AckSeen(false),
+        });
+    }
+
+    /// Tells that no message is out, where some were.
+    fn tell_none_out(&mut self, were: bool)
+        ensures { self.new ≡ told_of (none_out were) self.old }
+    {
+        if were {
+            self.offer(Offer {
+                to: Party::Txc,
+                notice: Notice::AckSeen(false),
+            });
         }
     }
 

@@ -13,7 +13,7 @@ impl Processes {
     fn heed(&mut self, emitted: &Emitted)
         ensures { self.new ≡ heard emitted.now self.old }
     {
-        if let Some(signal) = told_by(&self.names.outputs, emitted) {
+        if let Some(signal) = told_by(&self.names, emitted) {
             self.transceiver.on_signal(signal);
         }
     }

@@ -1,9 +1,10 @@
 //! Which signals the routes of a set bring from and to the environment.
-ghost use Rattle.std.specs.Prelude.{◌≡◌, ◌&&◌, ◌==◌, not};
-ghost use Rattle.std.specs.List.{list_any};
+ghost use Rattle.std.specs.Prelude.{◌≡◌, ◌&&◌, ◌||◌, ◌==◌, not};
+ghost use Rattle.std.specs.List.{list_any, list_all};
 ghost use Rattle.actor_machine.specs.Refusals.{is_environment, is_process, offers};
 ghost use Rattle.turn_code.specs.declared.numbers.SignalNumber.{SignalNumber as PlainSignal};
-ghost use Rattle.link_processes.specs.Wanted.{tells};
+ghost use Rattle.link_processes.specs.Known.{touches};
+ghost use Rattle.link_processes.specs.Wanted.{tells, sends_alone, tells_alone};
 
 use turn_check::Verified;
 use turn_code::{DraftRoute, Party, ProcessNumber, SignalNumber};
@@ -79,4 +80,70 @@ pub(crate) fn is_heard(set: &Verified, signal: SignalNumber) -> bool
     ensures { result ≡ list_any (tells signal) set.now.routes }
 {
     some_brings_out(set.draft().routes.as_slice(), signal)
+}
+
+/// Whether a route from or to the environment carries a signal.
+fn touches(route: &DraftRoute, signal: SignalNumber) -> bool
+    ensures { result ≡ touches signal route.now }
+{
+    (is_environment(route.from) || is_environment(route.to))
+        && carries(route.signals.as_slice(), signal)
+}
+
+/// Whether some route from or to the environment carries a signal.
+fn some_touches(routes: &[DraftRoute], signal: SignalNumber) -> bool
+    ensures { result ≡ list_any (touches signal) routes.now }
+{
+    routes.iter().any(|route| touches(route, signal))
+}
+
+/// Whether a route that carries it from or to the environment brings it from there to a process.
+fn sends_alone(route: &DraftRoute, process: ProcessNumber, signal: SignalNumber) -> bool
+    ensures { result ≡ sends_alone process.0 signal route.now }
+{
+    !touches(route, signal) || brings_in(route, process, signal)
+}
+
+/// Whether it brings it from a process to there.
+fn tells_alone(route: &DraftRoute, signal: SignalNumber) -> bool
+    ensures { result ≡ tells_alone signal route.now }
+{
+    !touches(route, signal) || brings_out(route, signal)
+}
+
+/// Whether all routes do the first.
+fn all_send(routes: &[DraftRoute], process: ProcessNumber, signal: SignalNumber) -> bool
+    ensures { result ≡ list_all (sends_alone process.0 signal) routes.now }
+{
+    routes
+        .iter()
+        .all(|route| sends_alone(route, process, signal))
+}
+
+/// Whether all routes do the second.
+fn all_tell(routes: &[DraftRoute], signal: SignalNumber) -> bool
+    ensures { result ≡ list_all (tells_alone signal) routes.now }
+{
+    routes.iter().all(|route| tells_alone(route, signal))
+}
+
+/// Whether some route of a set carries a signal from or to the environment.
+pub(crate) fn is_touched(set: &Verified, signal: SignalNumber) -> bool
+    ensures { result ≡ list_any (touches signal) set.now.routes }
+{
+    some_touches(set.draft().routes.as_slice(), signal)
+}
+
+/// Whether all such routes of a set bring it to that process.
+pub(crate) fn is_sent_alone(set: &Verified, process: ProcessNumber, signal: SignalNumber) -> bool
+    ensures { result ≡ list_all (sends_alone process.0 signal) set.now.routes }
+{
+    all_send(set.draft().routes.as_slice(), process, signal)
+}
+
+/// Whether all such routes of a set bring it to the environment.
+pub(crate) fn is_heard_alone(set: &Verified, signal: SignalNumber) -> bool
+    ensures { result ≡ list_all (tells_alone signal) set.now.routes }
+{
+    all_tell(set.draft().routes.as_slice(), signal)
 }

@@ -2,10 +2,11 @@
 ghost use Rattle.std.specs.Prelude.{◌≡◌, ◌↔◌, All, IsTrue, IfSome, IfNone, slice_get};
 ghost use Rattle.turn_code.specs.Transitions.{parameters_of};
 ghost use Rattle.turn_code.specs.declared.numbers.SignalNumber.{SignalNumber as PlainSignal};
-ghost use Rattle.link_processes.specs.Wanted.{wanted, IsSpoken, HasSent, HasHeard, Has, IsFirstLacking};
+ghost use Rattle.link_processes.specs.Known.{IsTouched};
+ghost use Rattle.link_processes.specs.Wanted.{wanted, IsSpoken, HasSent, HasHeard, FitsSent, FitsHeard, MaySendIt, MayHearIt, Has, IsFirstLacking};
 
-use crate::routes::{is_heard, is_sent};
-use crate::words::{ProcessName, SignalName};
+use crate::routes::{is_heard, is_heard_alone, is_sent, is_sent_alone, is_touched};
+use crate::words::{OptionName, ProcessName, SignalName};
 use std::fmt;
 use thiserror::Error;
 use turn_check::Verified;
@@ -20,6 +21,11 @@ pub enum Wanted {
     Sent(ProcessName, SignalName),
     /// A signal that a route brings from some process to the environment.
     Heard(SignalName),
+    /// A signal that a text may have. Where a route from or to the environment carries it, each such route brings it from the environment to
+    /// that process.
+    MaySend(ProcessName, OptionName),
+    /// The same, where each such route brings it from some process to the environment.
+    MayHear(OptionName),
 }
 
 impl fmt::Display for Wanted {
@@ -33,13 +39,15 @@ impl fmt::Display for Wanted {
             Self::Process(name) => f.write_str(name.word()),
             Self::Sent(to, name) => write!(f, "{}/{}", to.word(), name.word()),
             Self::Heard(name) => write!(f, "ENV/{}", name.word()),
+            Self::MaySend(to, name) => write!(f, "{}/{}", to.word(), name.word()),
+            Self::MayHear(name) => write!(f, "ENV/{}", name.word()),
         }
     }
 }
 
 /// All that a terminal wants, in the order in which it is asked for: the processes, what the environment sends to each, and what comes to
 /// it.
-pub(crate) fn all_wanted() -> [Wanted; 31]
+pub(crate) fn all_wanted() -> [Wanted; 38]
     ensures { result ≡ wanted }
 {
     [
@@ -74,6 +82,13 @@ pub(crate) fn all_wanted() -> [Wanted; 31]
         Wanted::Heard(SignalName::Down),
         Wanted::Heard(SignalName::RemoteOut),
         Wanted::Heard(SignalName::RemoteBack),
+        Wanted::MaySend(ProcessName::Lsc, OptionName::Flush),
+        Wanted::MaySend(ProcessName::Lsc, OptionName::Continue),
+        Wanted::MaySend(ProcessName::Cc, OptionName::Overload),
+        Wanted::MayHear(OptionName::Deliver),
+        Wanted::MayHear(OptionName::Cleared),
+        Wanted::MayHear(OptionName::Clear),
+        Wanted::MaySend(ProcessName::Rc, OptionName::Odd),
     ]
 }
 
@@ -134,6 +149,63 @@ fn has_heard(set: &Verified, name: SignalName) -> bool
     }
 }
 
+/// Whether the routes from and to the environment that carry a signal are all such as a terminal knows of that name, by its parameters too.
+fn fits_sent(set: &Verified, to: ProcessName, name: OptionName, signal: SignalNumber) -> bool
+    ensures { IsTrue result ↔ FitsSent set.now to name signal }
+{
+    match set.process_of(to.word()) {
+        Some(process) => {
+            are_sorts(sorts_of(set, signal), name.sorts()) && is_sent_alone(set, process, signal)
+        }
+        None => false,
+    }
+}
+
+/// The same of a signal that comes to the environment.
+fn fits_heard(set: &Verified, name: OptionName, signal: SignalNumber) -> bool
+    ensures { IsTrue result ↔ FitsHeard set.now name signal }
+{
+    are_sorts(sorts_of(set, signal), name.sorts()) && is_heard_alone(set, signal)
+}
+
+/// The number of the signal of a name, where a route from or to the environment carries it.
+pub(crate) fn touched(set: &Verified, name: OptionName) -> Option<SignalNumber>
+    ensures found { IfSome result (IsTouched set.now name) }
+    ensures none { IfNone result ((k : PlainSignal) → IsTouched set.now name k → ⊥) }
+{
+    match set.signal_of(name.word()) {
+        Some(signal) => {
+            if is_touched(set, signal) {
+                Some(signal)
+            } else {
+                None
+            }
+        }
+        None => None,
+    }
+}
+
+/// Whether a signal of that name, if there is one on a route from or to the environment, is sent to that process alone, with the parameters
+/// that a terminal knows.
+fn may_send(set: &Verified, to: ProcessName, name: OptionName) -> bool
+    ensures { IsTrue result ↔ MaySendIt set.now to name }
+{
+    match touched(set, name) {
+        Some(signal) => fits_sent(set, to, name, signal),
+        None => true,
+    }
+}
+
+/// Whether one, if there is one, comes to the environment alone.
+fn may_hear(set: &Verified, name: OptionName) -> bool
+    ensures { IsTrue result ↔ MayHearIt set.now name }
+{
+    match touched(set, name) {
+        Some(signal) => fits_heard(set, name, signal),
+        None => true,
+    }
+}
+
 /// Whether a set has what is wanted.
 fn has(set: &Verified, wanted: Wanted) -> bool
     ensures { IsTrue result ↔ Has set.now wanted }
@@ -142,6 +214,8 @@ fn has(set: &Verified, wanted: Wanted) -> bool
         Wanted::Process(name) => set.process_of(name.word()).is_some(),
         Wanted::Sent(to, name) => has_sent(set, to, name),
         Wanted::Heard(name) => has_heard(set, name),
+        Wanted::MaySend(to, name) => may_send(set, to, name),
+        Wanted::MayHear(name) => may_hear(set, name),
     }
 }
 

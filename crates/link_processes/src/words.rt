@@ -1,6 +1,6 @@
 //! The names of the processes and signals that a terminal speaks of.
 ghost use Rattle.std.specs.Prelude.{◌≡◌};
-ghost use Rattle.link_processes.specs.Known.{process_word, signal_word, signal_sorts};
+ghost use Rattle.link_processes.specs.Known.{process_word, signal_word, signal_sorts, option_word, option_sorts};
 
 use turn_code::Sort;
 
@@ -41,6 +41,18 @@ pub enum SignalName {
     Down,
     RemoteOut,
     RemoteBack,
+}
+
+/// A signal that a text may have, by which the environment and its actors then speak.
+#[derive(Clone, Copy, PartialEq, Eq, Debug)]
+pub enum OptionName {
+    Flush,
+    Continue,
+    Overload,
+    Deliver,
+    Cleared,
+    Clear,
+    Odd,
 }
 
 impl ProcessName {
@@ -115,6 +127,38 @@ impl SignalName {
             | SignalName::InServiceNow
             | SignalName::RemoteOut
             | SignalName::RemoteBack => &[],
+        }
+    }
+}
+
+impl OptionName {
+    /// The name as it is written.
+    pub fn word(self) -> &'static str
+        ensures { result.now ≡ option_word self }
+    {
+        match self {
+            OptionName::Flush => "Flush",
+            OptionName::Continue => "Continue",
+            OptionName::Overload => "Overload",
+            OptionName::Deliver => "Deliver",
+            OptionName::Cleared => "Cleared",
+            OptionName::Clear => "Clear",
+            OptionName::Odd => "Odd",
+        }
+    }
+
+    /// The sorts of its parameters.
+    pub fn sorts(self) -> &'static [Sort]
+        ensures { result.now ≡ option_sorts self }
+    {
+        match self {
+            OptionName::Deliver => &[Sort::Boolean],
+            OptionName::Odd => &[Sort::Integer],
+            OptionName::Flush
+            | OptionName::Continue
+            | OptionName::Overload
+            | OptionName::Cleared
+            | OptionName::Clear => &[],
         }
     }
 }

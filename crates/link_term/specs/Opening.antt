@@ -6,8 +6,11 @@ use Rattle.bit_line.specs.Deframing.{Stands}
 use Rattle.bit_line.specs.Stuffers.{Gave}
 use Rattle.resend_store.specs.declared.messages.Mode.{Mode}
 use Rattle.actor_machine.specs.Kept.{opened_book}
-use Rattle.link_transceiver.specs.TransceiverState.{first_transceiver}
-use Rattle.link_processes.specs.Known.{AreNames}
+use Rattle.resend_store.specs.declared.messages.RoundLimits.{RoundLimits}
+use Rattle.resend_store.specs.Messages.{usual_limits}
+use Rattle.link_transceiver.specs.TransceiverState.{TransceiverState, first_within}
+use Rattle.link_processes.specs.declared.names.Names.{Names}
+use Rattle.link_processes.specs.Known.{AreNames, is_there}
 use Rattle.link_processes.specs.Wanted.{wanted, Has, IsFirstLacking}
 use Rattle.link_term.specs.declared.opening.OpenError.{OpenError}
 use Rattle.link_term.specs.declared.opening.OpenError.TheVariants.{NoName, NoMemory}
@@ -24,15 +27,25 @@ ENVIRONMENT = MOST_ENVIRONMENT
 abbrev pub JOURNAL : ℕ
 JOURNAL = MOST_JOURNAL
 
+-- Nothing is kept, nothing came and nothing went; Odd tells of units at fault where the set has it.
+abbrev pub first_over : Names → RoundLimits → Mode → TransceiverState
+first_over names limits mode =
+    record (first_within limits mode) { odd = is_there names.options.odd }
+
 -- The set has all that a terminal wants of it, each by its number. No actor has begun, nothing is
--- kept, nothing came and nothing went.
-pub record IsOver (d : Draft) (mode : Mode) (t : Term) : Type 0 where
+-- kept, nothing came and nothing went. These are the limits of forced retransmission.
+pub record IsOverWithin (d : Draft) (limits : RoundLimits) (mode : Mode) (t : Term)
+    : Type 0 where
   pub has : All (Has d) wanted
   pub names : AreNames d t.processes.names
   pub book : t.processes.book ≡ opened_book d PORT ENVIRONMENT JOURNAL
-  pub transceiver : t.processes.transceiver ≡ first_transceiver mode
+  pub transceiver : t.processes.transceiver ≡ first_over t.processes.names limits mode
   pub line : Stands [] t.line
   pub sending : Gave [] [] t.sending
+
+-- the same with the usual limits
+abbrev pub IsOver : Draft → Mode → Term → Type 0
+IsOver d mode t = IsOverWithin d usual_limits mode t
 
 -- a name is the first of those wanted that the set lacks; or it has them all, and there is no
 -- memory

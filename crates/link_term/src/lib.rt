@@ -14,5 +14,5 @@ pub use laws::{accepted_messages_are_delivered, cuttings_agree, unacknowledged_m
 pub use link_processes::{Command, Names, Wanted};
 pub use link_transceiver::{Hold, LineKind, LinkStatus, Report};
 pub use opening::OpenError;
-pub use resend_store::{Mode, Msu, PutError, RetrieveError};
+pub use resend_store::{Mode, Msu, PutError, RetrieveError, RoundLimits, USUAL_LIMITS};
 pub use terminal::Terminal;

@@ -3,11 +3,11 @@ ghost use Rattle.std.specs.Prelude.{◌≡◌, All, IfOk, IfErr};
 ghost use Rattle.actor_machine.specs.Kept.{opened_book};
 ghost use Rattle.link_processes.specs.Known.{AreNames};
 ghost use Rattle.link_processes.specs.Wanted.{wanted, Has};
-ghost use Rattle.link_term.specs.Opening.{PORT, ENVIRONMENT, JOURNAL, IsOver, IsRefusedOver};
+ghost use Rattle.link_term.specs.Opening.{PORT, ENVIRONMENT, JOURNAL, IsOver, IsOverWithin, IsRefusedOver};
 
 use crate::terminal::Terminal;
 use link_processes::{Book, Limits, Names, Wanted};
-use resend_store::Mode;
+use resend_store::{Mode, RoundLimits, USUAL_LIMITS};
 use std::alloc::{AllocError, Global};
 use std::fmt;
 use thiserror::Error;
@@ -61,14 +61,15 @@ fn open_terminal(
     alloc: Global,
     set: &Verified,
     names: Names,
+    limits: RoundLimits,
     mode: Mode,
 ) -> Result<Terminal, AllocError>
     requires names { AreNames set.now names }
     requires all { All (Has set.now) wanted }
-    ensures { IfOk result (IsOver set.now mode) }
+    ensures { IfOk result (IsOverWithin set.now limits mode) }
 {
     let book = open_book(alloc, set)?;
-    Terminal::of_book(alloc, book, names, mode)
+    Terminal::of_book(alloc, book, names, limits, mode)
 }
 
 impl Terminal {
@@ -78,18 +79,36 @@ impl Terminal {
     /// a route from ENV to LSC with PowerOn, StartLink, StopLink, Emergency, Calm, LocalOut and LocalBack, to CC with Busy and Free, to AERM
     /// and to SUERM with Good and Errored, to TXC with AckSeen(Boolean) and MsuSent, to RC with Bad and Unit(Integer); and routes from some
     /// process to ENV with Fresh, Take(Boolean), Line(Integer), Withhold(Boolean), InServiceNow, Down(Integer), RemoteOut and RemoteBack.
-    /// What else it has is its own.
+    /// What else it has is its own, but for names that it may have, in this form alone: from ENV to LSC Flush and Continue, to CC Overload, to
+    /// RC Odd(Integer), and from some process to ENV Deliver(Boolean), Clear and Cleared.
     ///
     /// # Errors
     ///
-    /// `X2 NoName` with the first of these that the set lacks: one that isn't there, has other parameters, or is on no such route. Want of
-    /// memory, of a set that has them all.
+    /// `X2 NoName` with the first of these that the set lacks: one that isn't there, has other parameters, or is on no such route; or with the
+    /// first of those that it may have which is on a route from or to ENV in another form. Want of memory, of a set with which nothing is wrong.
     pub fn of_set(alloc: Global, mode: Mode, set: &Verified) -> Result<Terminal, OpenError>
         ensures ok { IfOk result (IsOver set.now mode) }
         ensures err { IfErr result (IsRefusedOver set.now) }
     {
+        Terminal::of_set_within(alloc, USUAL_LIMITS, mode, set)
+    }
+
+    /// The same with these limits of forced retransmission (Q.703, 6.4), which count in cyclic retransmission alone.
+    ///
+    /// # Errors
+    ///
+    /// Those of `of_set`.
+    pub fn of_set_within(
+        alloc: Global,
+        limits: RoundLimits,
+        mode: Mode,
+        set: &Verified,
+    ) -> Result<Terminal, OpenError>
+        ensures ok { IfOk result (IsOverWithin set.now limits mode) }
+        ensures err { IfErr result (IsRefusedOver set.now) }
+    {
         match Names::find(set) {
-            Ok(names) => match open_terminal(alloc, set, names, mode) {
+            Ok(names) => match open_terminal(alloc, set, names, limits, mode) {
                 Ok(terminal) => Ok(terminal),
                 Err(_) => Err(OpenError::NoMemory),
             },

@@ -5,17 +5,18 @@ ghost use Rattle.resend_store.specs.Messages.{IsMessage};
 ghost use Rattle.resend_store.specs.Window.{IsWindow, waiting, with_put, retrieved, emptied, count_known, last_acknowledged};
 ghost use Rattle.bit_line.specs.Deframing.{Stands};
 ghost use Rattle.bit_line.specs.Stuffers.{Gave};
-ghost use Rattle.link_transceiver.specs.TransceiverState.{first_transceiver};
+ghost use Rattle.link_term.specs.Opening.{first_over};
 ghost use Rattle.link_transceiver.specs.Reporting.{reported};
 ghost use Rattle.resend_store.specs.Limits.{MOST_WAITING, MOST_KEPT};
 ghost use Rattle.link_transceiver.specs.Limits.{KEPT_MESSAGES};
 ghost use Rattle.link_term.specs.Kept.{window_of};
-ghost use Rattle.link_term.specs.Term.{term_with_transceiver};
+ghost use Rattle.link_term.specs.Term.{with_processes, term_with_transceiver};
+ghost use Rattle.link_processes.specs.Machine.{handed_out, clear_obeyed, to_clear};
 
 use bit_line::{Deframer, Stuffer};
-use link_processes::{Book, Names, Processes};
+use link_processes::{Book, Names, Processes, is_there};
 use link_transceiver::{Hold, LineKind, Report, Transceiver};
-use resend_store::{Mode, Msu, PutError, RetrieveError};
+use resend_store::{Mode, Msu, PutError, RetrieveError, RoundLimits};
 use std::alloc::{AllocError, Global};
 use std::collections::VecDeque;
 use std::marker::Model;
@@ -53,13 +54,15 @@ impl Terminal {
         alloc: Global,
         book: Book,
         names: Names,
+        limits: RoundLimits,
         mode: Mode,
     ) -> Result<Terminal, AllocError>
-        ensures processes { IfOk result (λ t. t.processes ≡ record { book = book; transceiver = first_transceiver mode; names = names }) }
+        ensures processes { IfOk result (λ t. t.processes ≡ record { book = book; transceiver = first_over names limits mode; names = names }) }
         ensures line { IfOk result (λ t. Stands [] t.line) }
         ensures sending { IfOk result (λ t. Gave [] [] t.sending) }
     {
-        let transceiver = Transceiver::new(alloc, mode)?;
+        let mut transceiver = Transceiver::within(alloc, limits, mode)?;
+        transceiver.tell_odd(is_there(names.options.odd));
         Ok(Terminal {
             alloc,
             processes: Processes {
@@ -101,7 +104,7 @@ impl Terminal {
     }
 
     /// Hands out, in order, what the far side may lack (Q.704, retrieval): what comes after the number, 0 to 127, that it
-    /// accepted last, or, where that number isn't known, what was never sent. Nothing is kept to send then.
+    /// accepted last, or, where that number isn't known, what was never sent. Nothing is kept to send then. The actors aren't told.
     ///
     /// # Errors
     ///
@@ -115,6 +118,43 @@ impl Terminal {
         ensures err { OnErr result (self.new ≡ self.old) }
     {
         self.processes.transceiver.retrieve(accepted)
+    }
+
+    /// The same; and where messages were out the actors are told that none is out any more, so that nobody waits for an acknowledgement of what
+    /// is gone.
+    ///
+    /// # Errors
+    ///
+    /// Those of `retrieve`. Nothing changes then.
+    pub fn retrieve_telling(&mut self, accepted: Option<u8>) -> Result<VecDeque<Msu>, RetrieveError>
+        requires { IfSome accepted (λ fsn. fsn < 128) }
+        ensures bad { (result ≡ Err RetrieveError.BadAck) ↔ (self.old.processes.transceiver.sender.sent < count_known self.old.processes.transceiver.sender accepted) }
+        ensures messages { IfOk result (λ messages. messages.items ≡ retrieved self.old.processes.transceiver.sender accepted) }
+        ensures whole { IfOk result (λ messages. All IsMessage messages.items) }
+        ensures ok { OnOk result (self.new ≡ with_processes self.old (handed_out accepted self.old.processes)) }
+        ensures err { OnErr result (self.new ≡ self.old) }
+    {
+        self.processes.retrieve(accepted)
+    }
+
+    /// Empties the buffers, where the text asked for that by Clear since this was last called (Q.703, figure 13): what waits and what is
+    /// unacknowledged goes, the next new message has the number behind the last that was acknowledged, and the actors are told that no message is
+    /// out. How many messages went.
+    ///
+    /// It is called behind each other call by whoever lets a text clear; no other call takes messages away but by an acknowledgement, and
+    /// `retrieve`.
+    pub fn obey_clear(&mut self) -> usize
+        ensures count { result ≡ to_clear self.old.processes }
+        ensures terminal { self.new ≡ with_processes self.old (clear_obeyed self.old.processes) }
+    {
+        self.processes.obey_clear()
+    }
+
+    /// How many messages were cleared since the terminal was made: 2^64 - 1 where there were that many or more.
+    pub fn cleared(&self) -> u64
+        ensures { result ≡ self.now.processes.transceiver.cleared }
+    {
+        self.processes.transceiver.cleared()
     }
 
     /// What is to be handed out next: messages first, then what was told of the link, each in order.

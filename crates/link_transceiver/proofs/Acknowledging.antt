@@ -9,7 +9,7 @@ use Rattle.su_octets.specs.declared.units.Head.{Head}
 use Rattle.su_octets.specs.declared.units.Unit.{Unit}
 use Rattle.su_octets.specs.declared.units.Unit.TheVariants as unit
 use Rattle.link_transceiver.specs.TransceiverState.{TransceiverState}
-use Rattle.link_transceiver.specs.Judging.{judged, by_stores, through, left_aside, Stored, stored, refused, taken, acknowledged, is_abnormal}
+use Rattle.link_transceiver.specs.Judging.{Judged, judged, by_stores, through, left_aside, Stored, stored, refused, taken, heard, discarded, bsn_heeded, head_heeded, acknowledged, is_abnormal}
 use Rattle.link_transceiver.specs.Laws.{Loses, KeepsUnacknowledged, acknowledged_messages, acknowledged_by, acknowledged_of}
 use Rattle.link_transceiver.proofs.Keeping.{same_loses, effect-loses, gone-kept, gone-sent, reported-sender, kept_if}
 use Rattle.std.proofs.lemmas.Bool.{ltb-false as not_more}
@@ -99,12 +99,21 @@ stored-takes : (h : TransceiverState) (head : Head) (msu : Option Msu) →
 unfolding stored
 stored-takes h head msu = stored_by h head msu (is_abnormal h.sender head.bsn) refl
 
+heard-takes : (h : TransceiverState) (head : Head) (msu : Option Msu) →
+    Takes (if not h.behind_odd && not (is_abnormal h.sender (bsn_heeded h head.bsn)) then acknowledged_messages h.sender (bsn_heeded h head.bsn) else []) h.sender
+    (heard h head msu).transceiver.sender
+unfolding heard
+heard-takes h head msu = elim h.behind_odd
+    as (λ b. Takes (if not b && not (is_abnormal h.sender (bsn_heeded h head.bsn)) then acknowledged_messages h.sender (bsn_heeded h head.bsn) else []) h.sender
+    (if◌then◌else◌ {A = Stored} b (discarded h (head_heeded h head)) (stored h (head_heeded h head) msu)).transceiver.sender)
+    [ true ↦ none_taken h.sender | false ↦ stored-takes h (head_heeded h head) msu ]
+
 by_stores-takes : (h : TransceiverState) (head : Head) (msu : Option Msu) → Takes (acknowledged_by h head) h.sender (by_stores h head msu).transceiver.sender
 unfolding by_stores
 by_stores-takes h head msu = elim h.take
-    as (λ b. Takes (if b && not (is_abnormal h.sender head.bsn) then acknowledged_messages h.sender head.bsn else []) h.sender
-    (if b then through (stored h head msu) else left_aside h).transceiver.sender)
-    [ true ↦ stored-takes h head msu | false ↦ none_taken h.sender ]
+    as (λ b. Takes (if b && not h.behind_odd && not (is_abnormal h.sender (bsn_heeded h head.bsn)) then acknowledged_messages h.sender (bsn_heeded h head.bsn) else []) h.sender
+    (if◌then◌else◌ {A = Judged} b (through h (heard h head msu)) (left_aside 8 h)).transceiver.sender)
+    [ true ↦ heard-takes h head msu | false ↦ none_taken h.sender ]
 
 judged-takes : (h : TransceiverState) (u : Unit) → Takes (acknowledged_of h u) h.sender (judged h u).transceiver.sender
 unfolding judged

@@ -44,15 +44,20 @@ unfolding is_accept
 aside-none Basic r fib = basic-none r (fib == r.bib)
 aside-none Cyclic r fib = refl
 
-pub none_accepted : (held : Bool) (r : Intake) (head : Head) (has_msu : Bool) → held ≡ true → is_accept (hearing (not held) r head has_msu).verdict ≡ false
+pub none_accepted : (accepting : Bool) (r : Intake) (head : Head) (has_msu : Bool) → accepting ≡ false → is_accept (hearing accepting r head has_msu).verdict ≡ false
 unfolding hearing sets_aside
-none_accepted true r head has_msu e = aside-none r.mode r head.fib
-none_accepted false r head has_msu e = absurd (cc)
+none_accepted true r head has_msu e = absurd (cc)
+none_accepted false r head has_msu e = aside-none r.mode r head.fib
 
-pub known_held : (held : Bool) (r : Intake) (head : Head) (has_msu : Bool) → held ≡ true → (hearing (not held) r head has_msu).known ≡ r
+pub known_aside : (accepting : Bool) (r : Intake) (head : Head) (has_msu : Bool) → accepting ≡ false → (hearing accepting r head has_msu).known ≡ r
 unfolding hearing sets_aside
-known_held true r head has_msu e = aside-known r.mode r head.fib
-known_held false r head has_msu e = absurd (cc)
+known_aside true r head has_msu e = absurd (cc)
+known_aside false r head has_msu e = aside-known r.mode r head.fib
+
+pub held_accepts : (deliver held : Bool) → held ≡ true → (deliver && not held) ≡ false
+held_accepts true true e = refl
+held_accepts true false e = absurd (cc)
+held_accepts false held e = refl
 
 -- ---- faults
 

@@ -1,5 +1,5 @@
 -- Messages are handed out as they were accepted.
-use Rattle.std.proofs.Common.{◌≡◌, ◌&&◌, true, false, not, Option, Some, None, Result, Ok, Err, List, [], ◌∷◌, ◌++◌, drop, slice_get, refl, sym, ◌∙◌, ap, append_assoc, append-nil}
+use Rattle.std.proofs.Common.{◌≡◌, ◌&&◌, Bool, true, false, not, Option, Some, None, Result, Ok, Err, List, [], ◌∷◌, ◌++◌, drop, slice_get, refl, sym, ◌∙◌, ap, append_assoc, append-nil}
 use Rattle.std.specs.Prelude.{if◌then◌else◌}
 use Rattle.resend_store.specs.declared.messages.Msu.{Msu}
 use Rattle.resend_store.specs.declared.messages.Verdict.{Verdict}
@@ -11,7 +11,7 @@ use Rattle.su_octets.specs.declared.units.Unit.TheVariants as unit
 use Rattle.link_transceiver.specs.declared.signals.LinkStatus.{LinkStatus}
 use Rattle.link_transceiver.specs.TransceiverState.{TransceiverState}
 use Rattle.link_transceiver.specs.Effects.{effect, directed, is_busy_named}
-use Rattle.link_transceiver.specs.Judging.{judged, by_stores, through, left_aside, Stored, stored, refused, taken, delivered, accepts, hearing, is_abnormal}
+use Rattle.link_transceiver.specs.Judging.{Judged, judged, by_stores, through, left_aside, Stored, stored, refused, taken, heard, discarded, bsn_heeded, head_heeded, delivered, accepts, hearing, is_abnormal}
 use Rattle.link_transceiver.specs.Going.{gone}
 use Rattle.link_transceiver.specs.Reporting.{reported, message_reported, status_reported}
 use Rattle.link_transceiver.specs.Laws.{Call, Told, Came, Went, Asked, is_accept, accepted_by, accepted_of, handed_by, after_call, after, accepted, handed, message_of, HandsOutInOrder, BusyGoesOutOnce}
@@ -49,19 +49,34 @@ stored-some h head m = elim (is_abnormal h.sender head.bsn)
       | false ↦ some-delivered (hearing (accepts h) h.receiver head true).verdict m h.messages
     ]
 
+heard-none : (h : TransceiverState) (head : Head) → (heard h head None).transceiver.messages ≡ h.messages
+unfolding heard
+heard-none h head = elim h.behind_odd
+    as (λ b. (if◌then◌else◌ {A = Stored} b (discarded h (head_heeded h head)) (stored h (head_heeded h head) None)).transceiver.messages ≡ h.messages)
+    [ true ↦ refl | false ↦ stored-none h (head_heeded h head) ]
+
 by_stores-none : (h : TransceiverState) (head : Head) → (by_stores h head None).transceiver.messages ≡ h.messages
 unfolding by_stores
 by_stores-none h head = elim h.take
-    as (λ b. (if b then through (stored h head None) else left_aside h).transceiver.messages ≡ h.messages)
-    [ true ↦ stored-none h head | false ↦ refl ]
+    as (λ b. (if◌then◌else◌ {A = Judged} b (through h (heard h head None)) (left_aside 8 h)).transceiver.messages ≡ h.messages)
+    [ true ↦ heard-none h head | false ↦ refl ]
 
-by_stores-some : (h : TransceiverState) (head : Head) (m : Msu) → (by_stores h head (Some m)).transceiver.messages
-    ≡ h.messages ++ (if h.take && not (is_abnormal h.sender head.bsn) && is_accept (hearing (accepts h) h.receiver head true).verdict then m ∷ [] else [])
+-- the message, where a unit behind none at fault has these
+abbrev if_accepted : TransceiverState → Head → Bool → Bool → Msu → List Msu
+if_accepted h head takes heeds m =
+    if takes && heeds && not (is_abnormal h.sender (bsn_heeded h head.bsn)) && is_accept (hearing (accepts h) h.receiver (head_heeded h head) true).verdict then m ∷ [] else []
+
+heard-some : (h : TransceiverState) (head : Head) (m : Msu) → (heard h head (Some m)).transceiver.messages ≡ h.messages ++ if_accepted h head true (not h.behind_odd) m
+unfolding heard
+heard-some h head m = elim h.behind_odd
+    as (λ b. (if◌then◌else◌ {A = Stored} b (discarded h (head_heeded h head)) (stored h (head_heeded h head) (Some m))).transceiver.messages ≡ h.messages ++ if_accepted h head true (not b) m)
+    [ true ↦ sym (append-nil h.messages) | false ↦ stored-some h (head_heeded h head) m ]
+
+by_stores-some : (h : TransceiverState) (head : Head) (m : Msu) → (by_stores h head (Some m)).transceiver.messages ≡ h.messages ++ if_accepted h head h.take (not h.behind_odd) m
 unfolding by_stores
 by_stores-some h head m = elim h.take
-    as (λ b. (if b then through (stored h head (Some m)) else left_aside h).transceiver.messages
-    ≡ h.messages ++ (if b && not (is_abnormal h.sender head.bsn) && is_accept (hearing (accepts h) h.receiver head true).verdict then m ∷ [] else []))
-    [ true ↦ stored-some h head m | false ↦ sym (append-nil h.messages) ]
+    as (λ b. (if◌then◌else◌ {A = Judged} b (through h (heard h head (Some m))) (left_aside 8 h)).transceiver.messages ≡ h.messages ++ if_accepted h head b (not h.behind_odd) m)
+    [ true ↦ heard-some h head m | false ↦ sym (append-nil h.messages) ]
 
 judged-messages : (h : TransceiverState) (u : Unit) → (judged h u).transceiver.messages ≡ h.messages ++ accepted_of h u
 unfolding judged

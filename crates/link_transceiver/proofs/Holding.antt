@@ -14,11 +14,11 @@ use Rattle.link_transceiver.specs.declared.signals.LinkStatus.{LinkStatus}
 use Rattle.link_transceiver.specs.Limits.{BUSY_CODE}
 use Rattle.link_transceiver.specs.TransceiverState.{TransceiverState, is_held}
 use Rattle.link_transceiver.specs.Effects.{effect, renewed, directed, told, sends, kind_named, is_busy_named}
-use Rattle.link_transceiver.specs.Judging.{judged, by_stores, through, left_aside, Stored, stored, refused, taken, accepts, hearing, is_abnormal}
+use Rattle.link_transceiver.specs.Judging.{Judged, judged, by_stores, through, left_aside, Stored, stored, refused, taken, heard, discarded, bsn_heeded, head_heeded, accepts, hearing, is_abnormal}
 use Rattle.link_transceiver.specs.Going.{Gone, gone, gone_by, gives, status_gone, fill_in_gone, sender_gone}
 use Rattle.link_transceiver.specs.Reporting.{reported, message_reported, status_reported}
 use Rattle.link_transceiver.specs.Laws.{BearsNone, HoldsBack, hold_after, accepted_of, is_accept, is_accepted}
-use Rattle.link_transceiver.proofs.Aside.{none_accepted, known_held, same_fault}
+use Rattle.link_transceiver.proofs.Aside.{none_accepted, known_aside, held_accepts, same_fault}
 
 -- ---- units that go out
 
@@ -73,32 +73,39 @@ gone-hold h = elim h.busy
 
 -- ---- units that come
 
-none_if : (a b c : Bool) (ms : List Msu) → c ≡ false → (if a && b && c then ms else []) ≡ []
-none_if true true true ms e = absurd (cc)
-none_if true true false ms e = refl
-none_if true false c ms e = refl
-none_if false b c ms e = refl
+none_if : (a b c d : Bool) (ms : List Msu) → d ≡ false → (if a && b && c && d then ms else []) ≡ []
+none_if true true true true ms e = absurd (cc)
+none_if true true true false ms e = refl
+none_if true true false d ms e = refl
+none_if true false c d ms e = refl
+none_if false b c d ms e = refl
 
-judged-accepts : (h : TransceiverState) (u : Unit) → is_held h.hold ≡ true → accepted_of h u ≡ []
+judged-accepts : (h : TransceiverState) (u : Unit) → accepts h ≡ false → accepted_of h u ≡ []
 judged-accepts h (unit.Fisu head) e = refl
 judged-accepts h (unit.Lssu head status second) e = refl
 judged-accepts h (unit.Msu head sio sif) e =
-    none_if h.take (not (is_abnormal h.sender head.bsn)) (is_accept (hearing (accepts h) h.receiver head true).verdict) (record { sio = sio; sif = sif } ∷ [])
-    (none_accepted (is_held h.hold) h.receiver head true e)
+    none_if h.take (not h.behind_odd) (not (is_abnormal h.sender (bsn_heeded h head.bsn))) (is_accept (hearing (accepts h) h.receiver (head_heeded h head) true).verdict) (record { sio = sio; sif = sif } ∷ [])
+    (none_accepted (accepts h) h.receiver (head_heeded h head) true e)
 
-stored-receiver : (h : TransceiverState) (head : Head) (msu : Option Msu) → is_held h.hold ≡ true → (stored h head msu).transceiver.receiver ≡ h.receiver
+stored-receiver : (h : TransceiverState) (head : Head) (msu : Option Msu) → accepts h ≡ false → (stored h head msu).transceiver.receiver ≡ h.receiver
 unfolding stored
 stored-receiver h head msu e = elim (is_abnormal h.sender head.bsn)
     as (λ b. (if◌then◌else◌ {A = Stored} b (refused h) (taken h head msu)).transceiver.receiver ≡ h.receiver)
-    [ true ↦ refl | false ↦ known_held (is_held h.hold) h.receiver head (is_some msu) e ]
+    [ true ↦ refl | false ↦ known_aside (accepts h) h.receiver head (is_some msu) e ]
 
-by_stores-receiver : (h : TransceiverState) (head : Head) (msu : Option Msu) → is_held h.hold ≡ true → (by_stores h head msu).transceiver.receiver ≡ h.receiver
+heard-receiver : (h : TransceiverState) (head : Head) (msu : Option Msu) → accepts h ≡ false → (heard h head msu).transceiver.receiver ≡ h.receiver
+unfolding heard
+heard-receiver h head msu e = elim h.behind_odd
+    as (λ b. (if◌then◌else◌ {A = Stored} b (discarded h (head_heeded h head)) (stored h (head_heeded h head) msu)).transceiver.receiver ≡ h.receiver)
+    [ true ↦ refl | false ↦ stored-receiver h (head_heeded h head) msu e ]
+
+by_stores-receiver : (h : TransceiverState) (head : Head) (msu : Option Msu) → accepts h ≡ false → (by_stores h head msu).transceiver.receiver ≡ h.receiver
 unfolding by_stores
 by_stores-receiver h head msu e = elim h.take
-    as (λ b. (if b then through (stored h head msu) else left_aside h).transceiver.receiver ≡ h.receiver)
-    [ true ↦ stored-receiver h head msu e | false ↦ refl ]
+    as (λ b. (if◌then◌else◌ {A = Judged} b (through h (heard h head msu)) (left_aside 8 h)).transceiver.receiver ≡ h.receiver)
+    [ true ↦ heard-receiver h head msu e | false ↦ refl ]
 
-judged-receiver : (h : TransceiverState) (u : Unit) → is_held h.hold ≡ true → (judged h u).transceiver.receiver ≡ h.receiver
+judged-receiver : (h : TransceiverState) (u : Unit) → accepts h ≡ false → (judged h u).transceiver.receiver ≡ h.receiver
 unfolding judged
 judged-receiver h (unit.Fisu head) e = by_stores-receiver h head None e
 judged-receiver h (unit.Msu head sio sif) e = by_stores-receiver h head (Some (record { sio = sio; sif = sif })) e
@@ -110,11 +117,17 @@ stored-hold h head msu = elim (is_abnormal h.sender head.bsn)
     as (λ b. (if◌then◌else◌ {A = Stored} b (refused h) (taken h head msu)).transceiver.hold ≡ h.hold)
     [ true ↦ refl | false ↦ refl ]
 
+heard-hold : (h : TransceiverState) (head : Head) (msu : Option Msu) → (heard h head msu).transceiver.hold ≡ h.hold
+unfolding heard
+heard-hold h head msu = elim h.behind_odd
+    as (λ b. (if◌then◌else◌ {A = Stored} b (discarded h (head_heeded h head)) (stored h (head_heeded h head) msu)).transceiver.hold ≡ h.hold)
+    [ true ↦ refl | false ↦ stored-hold h (head_heeded h head) msu ]
+
 by_stores-hold : (h : TransceiverState) (head : Head) (msu : Option Msu) → (by_stores h head msu).transceiver.hold ≡ h.hold
 unfolding by_stores
 by_stores-hold h head msu = elim h.take
-    as (λ b. (if b then through (stored h head msu) else left_aside h).transceiver.hold ≡ h.hold)
-    [ true ↦ stored-hold h head msu | false ↦ refl ]
+    as (λ b. (if◌then◌else◌ {A = Judged} b (through h (heard h head msu)) (left_aside 8 h)).transceiver.hold ≡ h.hold)
+    [ true ↦ heard-hold h head msu | false ↦ refl ]
 
 judged-hold : (h : TransceiverState) (u : Unit) → (judged h u).transceiver.hold ≡ h.hold
 unfolding judged
@@ -150,6 +163,7 @@ effect-hold : (s : EnvSignal) (h : TransceiverState) → (effect s h).hold ≡ h
 unfolding effect renewed told
 effect-hold signal.Fresh h = refl
 effect-hold (signal.Take on) h = refl
+effect-hold (signal.Deliver on) h = refl
 effect-hold (signal.Line number) h = directed-hold number h
 effect-hold (signal.Withhold true) h = refl
 effect-hold (signal.Withhold false) h = refl
@@ -157,13 +171,17 @@ effect-hold signal.InServiceNow h = refl
 effect-hold (signal.Down reason) h = refl
 effect-hold signal.RemoteOut h = refl
 effect-hold signal.RemoteBack h = refl
+effect-hold signal.Clear h = refl
+effect-hold signal.Cleared h = refl
 
 pub holds_back : HoldsBack
 holds_back = record {
   unit_out = gone-bears;
   sender = gone-sender;
-  on_unit = judged-accepts;
-  receiver = judged-receiver;
+  discards = judged-accepts;
+  knows = judged-receiver;
+  on_unit = λ h u e. judged-accepts h u (held_accepts h.deliver (is_held h.hold) e);
+  receiver = λ h u e. judged-receiver h u (held_accepts h.deliver (is_held h.hold) e);
   faults = same_fault;
   stays_in = judged-hold;
   stays_out = gone-hold;

@@ -51,6 +51,7 @@ pub effect-loses : (s : EnvSignal) (h : TransceiverState) → Loses [] h.sender 
 unfolding effect renewed told
 effect-loses signal.Fresh h = fresh_loses h.sender
 effect-loses (signal.Take on) h = same_loses h.sender h.sender refl
+effect-loses (signal.Deliver on) h = same_loses h.sender h.sender refl
 effect-loses (signal.Line number) h = same_loses h.sender (directed number h).sender (directed-sender number h)
 effect-loses (signal.Withhold true) h = same_loses h.sender h.sender refl
 effect-loses (signal.Withhold false) h = same_loses h.sender h.sender refl
@@ -58,11 +59,14 @@ effect-loses signal.InServiceNow h = same_loses h.sender h.sender refl
 effect-loses (signal.Down reason) h = same_loses h.sender h.sender refl
 effect-loses signal.RemoteOut h = same_loses h.sender h.sender refl
 effect-loses signal.RemoteBack h = same_loses h.sender h.sender refl
+effect-loses signal.Clear h = same_loses h.sender h.sender refl
+effect-loses signal.Cleared h = same_loses h.sender h.sender refl
 
 pub effect-messages : (s : EnvSignal) (h : TransceiverState) → (effect s h).messages ≡ h.messages
 unfolding effect renewed told
 effect-messages signal.Fresh h = refl
 effect-messages (signal.Take on) h = refl
+effect-messages (signal.Deliver on) h = refl
 effect-messages (signal.Line number) h = directed-messages number h
 effect-messages (signal.Withhold true) h = refl
 effect-messages (signal.Withhold false) h = refl
@@ -70,6 +74,8 @@ effect-messages signal.InServiceNow h = refl
 effect-messages (signal.Down reason) h = refl
 effect-messages signal.RemoteOut h = refl
 effect-messages signal.RemoteBack h = refl
+effect-messages signal.Clear h = refl
+effect-messages signal.Cleared h = refl
 
 pub kept_if : (b : Bool) (x y : Window) (ms : List Msu) → x.kept ≡ ms → y.kept ≡ ms → (if b then x else y).kept ≡ ms
 kept_if true x y ms p q = p

@@ -4,4 +4,5 @@ pub mod Handing
 pub mod Holding
 pub mod Keeping
 pub mod Latest
+pub mod Odds
 pub mod Withholding

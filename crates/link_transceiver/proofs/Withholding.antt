@@ -12,7 +12,7 @@ use Rattle.link_transceiver.specs.declared.signals.LineKind.TheVariants as kind
 use Rattle.link_transceiver.specs.Limits.{BUSY_CODE}
 use Rattle.link_transceiver.specs.TransceiverState.{TransceiverState, is_held}
 use Rattle.link_transceiver.specs.Effects.{effect, backward_of}
-use Rattle.link_transceiver.specs.Judging.{judged, by_stores, through, left_aside, Stored, stored, refused, taken, is_abnormal}
+use Rattle.link_transceiver.specs.Judging.{Judged, judged, by_stores, through, left_aside, Stored, stored, refused, taken, heard, discarded, head_heeded, is_abnormal}
 use Rattle.link_transceiver.specs.Going.{Gone, gone, gone_by, gives, head_with, idle_head, idle_fsn, filled, status_gone, fill_in_gone, sender_gone}
 use Rattle.link_transceiver.specs.Laws.{Tells, Withholds}
 
@@ -24,11 +24,17 @@ stored-withheld h head msu = elim (is_abnormal h.sender head.bsn)
     as (λ b. (if◌then◌else◌ {A = Stored} b (refused h) (taken h head msu)).transceiver.withheld ≡ h.withheld)
     [ true ↦ refl | false ↦ refl ]
 
+heard-withheld : (h : TransceiverState) (head : Head) (msu : Option Msu) → (heard h head msu).transceiver.withheld ≡ h.withheld
+unfolding heard
+heard-withheld h head msu = elim h.behind_odd
+    as (λ b. (if◌then◌else◌ {A = Stored} b (discarded h (head_heeded h head)) (stored h (head_heeded h head) msu)).transceiver.withheld ≡ h.withheld)
+    [ true ↦ refl | false ↦ stored-withheld h (head_heeded h head) msu ]
+
 by_stores-withheld : (h : TransceiverState) (head : Head) (msu : Option Msu) → (by_stores h head msu).transceiver.withheld ≡ h.withheld
 unfolding by_stores
 by_stores-withheld h head msu = elim h.take
-    as (λ b. (if b then through (stored h head msu) else left_aside h).transceiver.withheld ≡ h.withheld)
-    [ true ↦ stored-withheld h head msu | false ↦ refl ]
+    as (λ b. (if◌then◌else◌ {A = Judged} b (through h (heard h head msu)) (left_aside 8 h)).transceiver.withheld ≡ h.withheld)
+    [ true ↦ heard-withheld h head msu | false ↦ refl ]
 
 judged-withheld : (h : TransceiverState) (u : Unit) → (judged h u).transceiver.withheld ≡ h.withheld
 unfolding judged

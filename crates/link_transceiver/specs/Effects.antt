@@ -1,7 +1,7 @@
 -- What the signals that actors send to the environment do.
-use Rattle.std.specs.Prelude.{ℕ, ℤ, pos, negsuc, ◌-◌, ◌==◌, nat_lt, Bool, true, false}
+use Rattle.std.specs.Prelude.{ℕ, ℤ, pos, negsuc, ◌+◌, ◌-◌, min, ◌==◌, nat_lt, Bool, true, false}
 use Rattle.std.specs.Prelude.{if◌then◌else◌, Option, Some, None, List, [], ◌∷◌, ◌++◌, length, drop}
-use Rattle.resend_store.specs.Window.{refreshed}
+use Rattle.resend_store.specs.Window.{refreshed, emptied}
 use Rattle.resend_store.specs.Intake.{Intake, first_intake}
 use Rattle.link_transceiver.specs.declared.signals.Backward.{Backward}
 use Rattle.link_transceiver.specs.declared.signals.EnvSignal.{EnvSignal}
@@ -12,7 +12,7 @@ use Rattle.link_transceiver.specs.declared.signals.LineKind.{LineKind}
 use Rattle.link_transceiver.specs.declared.signals.LineKind.TheVariants as kind
 use Rattle.link_transceiver.specs.declared.signals.LinkStatus.{LinkStatus}
 use Rattle.link_transceiver.specs.declared.signals.LinkStatus.TheVariants as status
-use Rattle.link_transceiver.specs.Limits.{KEPT_STATUSES}
+use Rattle.link_transceiver.specs.Limits.{KEPT_STATUSES, MOST_COUNTED}
 use Rattle.link_transceiver.specs.Faults.{no_faults}
 use Rattle.link_transceiver.specs.TransceiverState.{TransceiverState}
 
@@ -31,14 +31,32 @@ renewed_hold hold.Free = hold.Free
 renewed_hold hold.UntilAnew = hold.Free
 renewed_hold hold.Kept = hold.Kept
 
--- The link is aligned anew: both stores begin anew, and units before that tell of no fault.
+-- The link is aligned anew: both stores begin anew, units before that tell of no fault, and
+-- messages are accepted.
 unfoldable pub renewed : TransceiverState → TransceiverState
 renewed h = record h {
   sender = refreshed h.sender;
   receiver = first_intake h.receiver.mode;
   withheld = renewed_backward h.withheld;
   hold = renewed_hold h.hold;
+  deliver = true;
+  behind_odd = false;
+  spare = 0;
   faults = no_faults;
+}
+
+-- so many more were cleared
+abbrev pub counted : ℕ → ℕ → ℕ
+counted before more = min MOST_COUNTED (before + more)
+
+-- The buffers are emptied (Q.703, figure 13): what waits and what is unacknowledged goes, and the
+-- numbers go on after the last acknowledged one.
+unfoldable pub clears : TransceiverState → TransceiverState
+clears h = record h {
+  sender = emptied h.sender None;
+  spare = if nat_lt 0 h.sender.sent then h.sender.sent else h.spare;
+  clearing = false;
+  cleared = counted h.cleared (length h.sender.kept);
 }
 
 -- what goes out from then on, by number; other numbers name nothing
@@ -84,6 +102,7 @@ withheld_by false h = record h { withheld = None }
 unfoldable pub effect : EnvSignal → TransceiverState → TransceiverState
 effect signal.Fresh h = renewed h
 effect (signal.Take on) h = record h { take = on }
+effect (signal.Deliver on) h = record h { deliver = on }
 effect (signal.Line number) h = directed number h
 effect (signal.Withhold on) h = withheld_by on h
 effect signal.InServiceNow h = told status.InService (record h { in_service = true; came = true })
@@ -91,3 +110,5 @@ effect (signal.Down reason) h =
     told (status.Down reason) (record h { in_service = false; far_out = false })
 effect signal.RemoteOut h = told status.RemoteOut (record h { far_out = true })
 effect signal.RemoteBack h = told status.RemoteBack (record h { far_out = false })
+effect signal.Clear h = record h { clearing = true }
+effect signal.Cleared h = told status.Cleared h

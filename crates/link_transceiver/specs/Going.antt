@@ -57,9 +57,14 @@ abbrev pub filled : Head → Option Msu → UnitOut
 filled head (Some msu) = record { unit = unit.Msu head msu.sio msu.sif; offer = Some message_sent }
 filled head None = quiet (unit.Fisu head)
 
+-- Behind a message that goes out no number acknowledges what was cleared before it.
+abbrev pub spare_behind : Option Msu → ℕ → ℕ
+spare_behind (Some msu) spare = 0
+spare_behind None spare = spare
+
 abbrev pub sender_gone : TransceiverState → Sending → Gone
 sender_gone h s = record {
-  transceiver = record h { sender = s.left };
+  transceiver = record h { sender = s.left; spare = spare_behind s.unit.msu h.spare };
   out = Some (filled (head_with h s.unit.fsn s.unit.fib) s.unit.msu);
 }
 

@@ -3,6 +3,7 @@ use Rattle.std.specs.Prelude.{◌≡◌, ℕ, pos, ◌+◌, ◌≤◌, ◌&&◌,
 use Rattle.std.specs.Prelude.{Option, Some, None, Result, Ok, Err, List, [], ◌∷◌, ◌++◌, length}
 use Rattle.std.specs.Prelude.{take}
 use Rattle.resend_store.specs.Window.{Window, unacknowledged, waiting, count_by}
+use Rattle.resend_store.specs.Window.{last_acknowledged}
 use Rattle.resend_store.specs.Intake.{Intake}
 use Rattle.resend_store.specs.declared.messages.Msu.{Msu}
 use Rattle.resend_store.specs.declared.messages.Verdict.{Verdict}
@@ -20,9 +21,9 @@ use Rattle.link_transceiver.specs.declared.signals.Hold.{Hold}
 use Rattle.link_transceiver.specs.declared.signals.Report.{Report}
 use Rattle.link_transceiver.specs.declared.signals.Report.TheVariants as report
 use Rattle.link_transceiver.specs.TransceiverState.{TransceiverState, is_held}
-use Rattle.link_transceiver.specs.Effects.{effect, renewed_hold, backward_of}
+use Rattle.link_transceiver.specs.Effects.{effect, renewed_hold, backward_of, counted, clears}
 use Rattle.link_transceiver.specs.Judging.{hears, sets_aside, accepts, hearing, fault_in}
-use Rattle.link_transceiver.specs.Judging.{is_abnormal, judged}
+use Rattle.link_transceiver.specs.Judging.{is_abnormal, bsn_heeded, head_heeded, judged}
 use Rattle.link_transceiver.specs.Going.{gone}
 use Rattle.link_transceiver.specs.Reporting.{reported}
 
@@ -37,11 +38,11 @@ abbrev pub acknowledged_messages : Window → ℕ → List Msu
 acknowledged_messages w bsn = take (count_by w bsn) (unacknowledged w)
 
 -- Those that a fill-in or message signal unit acknowledges: none where such units aren't taken, or
--- where its number is abnormal.
+-- where it is discarded behind one at fault, or where its number is abnormal.
 abbrev pub acknowledged_by : TransceiverState → Head → List Msu
 acknowledged_by h head =
-    if h.take && not (is_abnormal h.sender head.bsn) then acknowledged_messages h.sender head.bsn
-    else []
+    if h.take && not h.behind_odd && not (is_abnormal h.sender (bsn_heeded h head.bsn))
+    then acknowledged_messages h.sender (bsn_heeded h head.bsn) else []
 
 -- those that a unit acknowledges
 abbrev pub acknowledged_of : TransceiverState → Unit → List Msu
@@ -63,6 +64,18 @@ pub record KeepsUnacknowledged : Type 0 where
   pub one_sent : (h : TransceiverState) → (gone h).transceiver.sender.sent ≤ h.sender.sent + 1
   pub report : (h : TransceiverState) → (reported h).transceiver.sender ≡ h.sender
 
+-- What Clear takes it counts, and it takes all; no other call counts any.
+pub record CountsCleared : Type 0 where
+  pub clear : (h : TransceiverState) → (clears h).sender.kept ≡ []
+  pub counts :
+      (h : TransceiverState) → (clears h).cleared ≡ counted h.cleared (length h.sender.kept)
+  pub number :
+      (h : TransceiverState) → last_acknowledged (clears h).sender ≡ last_acknowledged h.sender
+  pub on_signal : (s : EnvSignal) (h : TransceiverState) → (effect s h).cleared ≡ h.cleared
+  pub on_unit : (h : TransceiverState) (u : Unit) → (judged h u).transceiver.cleared ≡ h.cleared
+  pub unit_out : (h : TransceiverState) → (gone h).transceiver.cleared ≡ h.cleared
+  pub report : (h : TransceiverState) → (reported h).transceiver.cleared ≡ h.cleared
+
 unfoldable pub is_accept : Result Verdict UnitError → Bool
 is_accept (Ok Accept) = true
 is_accept (Ok Discard) = false
@@ -72,8 +85,8 @@ is_accept (Err e) = false
 -- whether a unit with a message goes to the receiver, and is accepted there
 abbrev pub is_accepted : TransceiverState → Head → Bool
 is_accepted h head =
-    h.take && not (is_abnormal h.sender head.bsn)
-    && is_accept (hearing (accepts h) h.receiver head true).verdict
+    h.take && not h.behind_odd && not (is_abnormal h.sender (bsn_heeded h head.bsn))
+    && is_accept (hearing (accepts h) h.receiver (head_heeded h head) true).verdict
 
 -- the message of a unit, where it is accepted
 abbrev pub accepted_of : TransceiverState → Unit → List Msu
@@ -174,11 +187,16 @@ hold_after _ x = x
 -- While level 3 holds a link no message goes out and none is accepted. What is to be sent, or sent
 -- once more, waits. What was accepted last, the bit that goes out and what is asked for stay. A
 -- unit is at fault just where it is else. Nothing ends this but what level 3 says, or a new
--- beginning of both directions where it was held until that.
+-- beginning of both directions where it was held until that. Where messages aren't to be
+-- delivered none is accepted either, and what is known stays.
 pub record HoldsBack : Type 0 where
   pub unit_out : (h : TransceiverState) → is_held h.hold ≡ true → BearsNone (gone h).out
   pub sender :
       (h : TransceiverState) → is_held h.hold ≡ true → (gone h).transceiver.sender ≡ h.sender
+  pub discards : (h : TransceiverState) (u : Unit) → accepts h ≡ false → accepted_of h u ≡ []
+  pub knows :
+      (h : TransceiverState) (u : Unit) → accepts h ≡ false
+      → (judged h u).transceiver.receiver ≡ h.receiver
   pub on_unit :
       (h : TransceiverState) (u : Unit) → is_held h.hold ≡ true → accepted_of h u ≡ []
   pub receiver :
@@ -193,3 +211,20 @@ pub record HoldsBack : Type 0 where
   pub stays_told : (h : TransceiverState) → (reported h).transceiver.hold ≡ h.hold
   pub on_signal :
       (s : EnvSignal) (h : TransceiverState) → (effect s h).hold ≡ hold_after s h.hold
+
+-- Behind a unit at fault, where Odd tells of that, the next one acknowledges nothing, asks for
+-- nothing and isn't accepted. Units that are at fault by their forward indicator alone have
+-- acknowledged before.
+pub record DiscardsBehindOdd : Type 0 where
+  pub sender :
+      (h : TransceiverState) (u : Unit) → h.behind_odd ≡ true
+      → (judged h u).transceiver.sender ≡ h.sender
+  pub receiver :
+      (h : TransceiverState) (u : Unit) → h.behind_odd ≡ true
+      → (judged h u).transceiver.receiver ≡ h.receiver
+  pub accepted :
+      (h : TransceiverState) (u : Unit) → h.behind_odd ≡ true → accepted_of h u ≡ []
+  pub named : (h : TransceiverState) (u : Unit) → (judged h u).transceiver.odd ≡ h.odd
+  pub unnamed :
+      (h : TransceiverState) (u : Unit) → h.odd ≡ false → h.behind_odd ≡ false
+      → (judged h u).transceiver.behind_odd ≡ false

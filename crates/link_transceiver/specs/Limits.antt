@@ -1,5 +1,5 @@
 -- Numbers of a terminal's transceiver.
-use Rattle.std.specs.Prelude.{ℕ}
+use Rattle.std.specs.Prelude.{ℕ, ◌-◌, ◌^◌}
 
 -- the code of the status 'busy' (Q.703, 11.1.3)
 abbrev pub BUSY_CODE : ℕ
@@ -8,6 +8,10 @@ BUSY_CODE = 5
 -- how many accepted messages wait until they are handed out (this profile's)
 abbrev pub KEPT_MESSAGES : ℕ
 KEPT_MESSAGES = 256
+
+-- the greatest count of messages that were cleared: it stays there
+abbrev pub MOST_COUNTED : ℕ
+MOST_COUNTED = 2 ^ 64 - 1
 
 -- and how many statuses, of which the latest stay (this profile's)
 abbrev pub KEPT_STATUSES : ℕ

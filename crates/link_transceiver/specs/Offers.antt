@@ -22,6 +22,14 @@ two_bad = record { to = party.Rc; notice = notice.Bad }
 abbrev pub unit_seen : ℕ → Offer
 unit_seen kind = record { to = party.Rc; notice = notice.Unit kind }
 
+-- one came that was discarded: 1 for its backward number, 2 for its forward indicator
+abbrev pub odd_seen : ℕ → Offer
+odd_seen code = record { to = party.Rc; notice = notice.Odd code }
+
+-- octet counting begins, or ends
+abbrev pub counting_offers : Bool → List Offer
+counting_offers on = to_monitors (notice.Counting on)
+
 -- a message went out
 abbrev pub message_sent : Offer
 message_sent = record { to = party.Txc; notice = notice.MsuSent }

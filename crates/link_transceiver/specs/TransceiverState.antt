@@ -1,9 +1,11 @@
 -- What a signalling link terminal keeps beside its actors and its line.
-use Rattle.std.specs.Prelude.{◌<◌, Bool, true, false, not, Option, None, List, []}
-use Rattle.resend_store.specs.Window.{Window, start}
+use Rattle.std.specs.Prelude.{◌<◌, ℕ, Bool, true, false, not, Option, None, List, []}
+use Rattle.resend_store.specs.Window.{Window, start_within}
 use Rattle.resend_store.specs.Intake.{Intake, first_intake}
 use Rattle.resend_store.specs.declared.messages.Mode.{Mode}
 use Rattle.resend_store.specs.declared.messages.Msu.{Msu}
+use Rattle.resend_store.specs.declared.messages.RoundLimits.{RoundLimits}
+use Rattle.resend_store.specs.Messages.{usual_limits}
 use Rattle.link_transceiver.specs.declared.faults.Fault.{Fault}
 use Rattle.link_transceiver.specs.declared.signals.Hold.{Hold}
 use Rattle.link_transceiver.specs.declared.signals.Hold.TheVariants as hold
@@ -30,6 +32,8 @@ pub record TransceiverState : Type 0 where
   pub receiver : Intake
   -- whether fill-in and message signal units go through both
   pub take : Bool
+  -- whether messages that come are accepted, and not discarded once their units were judged
+  pub deliver : Bool
   -- the backward sequence number and indicator bit that go out in place of the receiver's
   pub withheld : Option Backward
   -- what goes out; nothing before that was said for the first time
@@ -38,6 +42,16 @@ pub record TransceiverState : Type 0 where
   pub busy : Bool
   -- whether level 3 holds the link: it gives no message for the line then, and accepts none
   pub hold : Hold
+  -- whether a unit at fault is told of by Odd, and the next one discarded
+  pub odd : Bool
+  -- whether the last one was at fault, so that the next is discarded
+  pub behind_odd : Bool
+  -- how many messages were out as the buffers were emptied, until a message goes out
+  pub spare : ℕ
+  -- whether the buffers are to be emptied
+  pub clearing : Bool
+  -- how many messages were cleared
+  pub cleared : ℕ
   -- what was wrong with the last three units that went through the stores, the newest first
   pub faults : List (Option Fault)
   -- messages that were accepted and not handed out yet, the oldest first
@@ -51,16 +65,22 @@ pub record TransceiverState : Type 0 where
   -- whether it came into service since that was last asked
   pub came : Bool
 
--- that of a terminal that is made
-unfoldable pub first_transceiver : Mode → TransceiverState
-first_transceiver mode = record {
-  sender = start mode;
+-- that of a terminal that is made, with these limits of forced retransmission
+abbrev pub first_within : RoundLimits → Mode → TransceiverState
+first_within limits mode = record {
+  sender = start_within limits mode;
   receiver = first_intake mode;
   take = false;
+  deliver = true;
   withheld = None;
   line = None;
   busy = false;
   hold = hold.Free;
+  odd = false;
+  behind_odd = false;
+  spare = 0;
+  clearing = false;
+  cleared = 0;
   faults = no_faults;
   messages = [];
   statuses = [];
@@ -68,3 +88,7 @@ first_transceiver mode = record {
   far_out = false;
   came = false;
 }
+
+-- with the usual ones
+unfoldable pub first_transceiver : Mode → TransceiverState
+first_transceiver mode = first_within usual_limits mode

@@ -5,8 +5,8 @@ ghost use Rattle.arrayvec.specs.ArrayVec.{array_vec_len};
 ghost use Rattle.resend_store.specs.Window.{count_by};
 ghost use Rattle.su_octets.specs.Whole.{IsWhole, IsWholeHead};
 ghost use Rattle.link_transceiver.specs.Limits.{KEPT_MESSAGES};
-ghost use Rattle.link_transceiver.specs.Judging.{acknowledged, accepts, hears, sets_aside, hearing, is_abnormal, fault_in, received, stored, through, by_stores, judged, acknowledgement_offers, fault_offers, of_kind};
-ghost use Rattle.link_transceiver.specs.Offers.{to_monitors, unit_seen};
+ghost use Rattle.link_transceiver.specs.Judging.{acknowledged, accepts, hears, sets_aside, hearing, is_abnormal, fault_in, received, stored, bsn_heeded, head_heeded, fault_of, discarded, led, heard, through, by_stores, judged, acknowledgement_offers, fault_offers, sign_by};
+ghost use Rattle.link_transceiver.specs.Offers.{to_monitors, unit_seen, odd_seen};
 
 use crate::faults::Fault;
 use crate::offers::{Notice, Offer, Party, to_monitors};
@@ -27,7 +27,12 @@ impl Transceiver {
     /// abnormal backward number, or two an abnormal forward indicator; `Unit` with its kind.
     ///
     /// While units are taken (`EnvSignal::Take`) a fill-in or message signal unit first goes through the stores, and a message
-    /// that is accepted waits to be handed out. While level 3 holds the link a message is discarded once the unit was judged.
+    /// that is accepted waits to be handed out. While level 3 holds the link, or messages
+    /// aren't to be delivered (`EnvSignal::Deliver`), a message is discarded once the unit was judged.
+    ///
+    /// Where `Odd` tells of faults (`tell_odd`), it comes in place of `Unit` for such a unit that is at fault; the next one is judged
+    /// alone: it acknowledges nothing, asks for nothing and isn't accepted, and of it come `Good`, and `Bad` and `Odd` where it is at
+    /// fault itself (Q.703, 5.3 and 6.3.1).
     #[tactic(auto, unfolding(crate::specs::Judging::judged))]
     pub fn on_unit(&mut self, unit: Unit) -> Offers
         requires whole { IsWhole unit }
@@ -38,7 +43,7 @@ impl Transceiver {
         match unit {
             Unit::Fisu(head) => self.pass(&head, None),
             Unit::Msu(head, sio, sif) => self.pass(&head, Some(Msu { sio, sif })),
-            Unit::Lssu(_, status, _) => around(None, None, status % 8),
+            Unit::Lssu(_, status, _) => around(None, None, Some(unit_seen(status % 8))),
         }
     }
 
@@ -48,12 +53,12 @@ impl Transceiver {
         requires whole { IsWholeHead head.now }
         requires room { length self.old.messages < KEPT_MESSAGES }
         ensures transceiver { self.new ≡ (by_stores self.old head.now msu).transceiver }
-        ensures offers { result.items ≡ (of_kind 8 (by_stores self.old head.now msu)).offers }
+        ensures offers { result.items ≡ to_monitors Notice.Good ++ (by_stores self.old head.now msu).offers }
     {
         if self.take {
             self.go_through(head, msu)
         } else {
-            around(None, None, FILL_IN_OR_MESSAGE)
+            around(None, None, Some(unit_seen(FILL_IN_OR_MESSAGE)))
         }
     }
 
@@ -61,29 +66,129 @@ impl Transceiver {
     fn go_through(&mut self, head: &Head, msu: Option<Msu>) -> Offers
         requires whole { IsWholeHead head.now }
         requires room { length self.old.messages < KEPT_MESSAGES }
-        ensures transceiver { self.new ≡ (through (stored self.old head.now msu)).transceiver }
-        ensures offers { result.items ≡ (of_kind 8 (through (stored self.old head.now msu))).offers }
+        ensures transceiver { self.new ≡ (through self.old (heard self.old head.now msu)).transceiver }
+        ensures offers { result.items ≡ to_monitors Notice.Good ++ (through self.old (heard self.old head.now msu)).offers }
     {
-        let count = self.store(head, msu);
-        around(self.seen(count), self.failing(), FILL_IN_OR_MESSAGE)
+        let odd = self.odd;
+        let behind = self.behind_odd;
+        let (count, fault) = self.hear_unit(head, msu);
+        around(
+            self.seen(count),
+            self.failing(fault),
+            sign_of(odd, behind, fault),
+        )
     }
 
-    /// Leads a unit through the stores, and answers how many messages it acknowledges.
+    /// Leads a unit through the stores, or behind one at fault judges it alone, and minds whether the next is behind one. How many messages it
+    /// acknowledges, and what is wrong with it.
+    #[tactic(auto, unfolding(crate::specs::Judging::heard))]
+    fn hear_unit(&mut self, head: &Head, msu: Option<Msu>) -> (usize, Option<Fault>)
+        requires whole { IsWholeHead head.now }
+        requires room { length self.old.messages < KEPT_MESSAGES }
+        ensures transceiver { self.new ≡ (heard self.old head.now msu).transceiver }
+        ensures count { result.0 ≡ (heard self.old head.now msu).count }
+        ensures fault { result.1 ≡ (heard self.old head.now msu).fault }
+    {
+        let head = self.heed(head);
+        let odd = self.odd;
+        let (count, fault) = self.lead(&head, msu);
+        self.behind_odd = odd && fault.is_some();
+        (count, fault)
+    }
+
+    /// Leads a unit through the stores, or behind one at fault judges it alone.
+    fn lead(&mut self, head: &Head, msu: Option<Msu>) -> (usize, Option<Fault>)
+        requires whole { IsWholeHead head.now }
+        requires room { length self.old.messages < KEPT_MESSAGES }
+        ensures transceiver { self.new ≡ (led self.old head.now msu).transceiver }
+        ensures count { result.0 ≡ (led self.old head.now msu).count }
+        ensures fault { result.1 ≡ (led self.old head.now msu).fault }
+    {
+        if self.behind_odd {
+            let fault = self.discard(head);
+            (0, fault)
+        } else {
+            self.store(head, msu)
+        }
+    }
+
+    /// Judges a unit behind one at fault, which then counts among the last three. What is wrong with it.
+    fn discard(&mut self, head: &Head) -> Option<Fault>
+        requires { head.now.bsn < 128 }
+        ensures transceiver { self.new ≡ (discarded self.old head.now).transceiver }
+        ensures fault { result ≡ (discarded self.old head.now).fault }
+    {
+        let fault = self.fault_of(head);
+        self.faults.remember(fault);
+        fault
+    }
+
+    /// What is wrong with a unit.
+    #[tactic(auto, unfolding(crate::specs::Judging::fault_of))]
+    fn fault_of(&self, head: &Head) -> Option<Fault>
+        requires { head.now.bsn < 128 }
+        ensures { result ≡ fault_of self.now head.now }
+    {
+        if self.count_of(head.bsn) > self.sender.sent() {
+            return Some(Fault::AbnormalBsn);
+        }
+        fault_in(set_aside(&self.receiver, head))
+    }
+
+    /// How many messages a backward number acknowledges.
+    fn count_of(&self, bsn: u8) -> usize
+        requires { bsn < 128 }
+        ensures { result ≡ count_by self.now.sender bsn }
+    {
+        (usize::from(bsn) + 128 - usize::from(self.acknowledged())) % 128
+    }
+
+    /// The backward number as it counts.
+    #[tactic(auto, unfolding(crate::specs::Judging::bsn_heeded))]
+    fn heed_bsn(&self, bsn: u8) -> u8
+        requires { bsn < 128 }
+        ensures value { result ≡ bsn_heeded self.now bsn }
+        ensures within { result < 128 }
+    {
+        if self.spare > 0 && self.count_of(bsn) <= usize::from(self.spare) {
+            self.acknowledged()
+        } else {
+            bsn
+        }
+    }
+
+    /// The head with that number.
+    fn heed(&self, head: &Head) -> Head
+        requires whole { IsWholeHead head.now }
+        ensures value { result ≡ head_heeded self.now head.now }
+        ensures whole { IsWholeHead result }
+    {
+        Head {
+            bsn: self.heed_bsn(head.bsn),
+            bib: head.bib,
+            fsn: head.fsn,
+            fib: head.fib,
+        }
+    }
+
+    /// Leads a unit through the stores, and answers how many messages it acknowledges, and what is wrong with it.
     #[tactic(auto, unfolding(crate::specs::Judging::stored))]
-    fn store(&mut self, head: &Head, msu: Option<Msu>) -> usize
+    fn store(&mut self, head: &Head, msu: Option<Msu>) -> (usize, Option<Fault>)
         requires whole { IsWholeHead head.now }
         requires room { length self.old.messages < KEPT_MESSAGES }
         ensures transceiver { self.new ≡ (stored self.old head.now msu).transceiver }
-        ensures count { result ≡ (stored self.old head.now msu).count }
+        ensures count { result.0 ≡ (stored self.old head.now msu).count }
+        ensures fault { result.1 ≡ (stored self.old head.now msu).fault }
     {
         match acknowledge(&mut self.sender, head) {
             Ok(count) => {
-                self.receive(head, msu);
-                count
+                let fault = self.receive(head, msu);
+                (count, fault)
             }
             Err(AckError::BadAck) => {
-                self.faults.remember(Some(Fault::AbnormalBsn));
-                0
+                let fault = Some(Fault::AbnormalBsn);
+                self.faults.remember(fault);
+                (0, fault)
             }
         }
     }
@@ -104,10 +209,10 @@ impl Transceiver {
 
     /// What is offered where two of the last three units had one fault.
     #[tactic(auto, unfolding(crate::specs::Judging::fault_offers))]
-    fn failing(&self) -> Option<Offer>
-        ensures { option_to_list result ≡ fault_offers self.now }
+    fn failing(&self, fault: Option<Fault>) -> Option<Offer>
+        ensures { option_to_list result ≡ fault_offers self.now fault }
     {
-        if !self.faults.is_failing() {
+        if !(self.faults.is_failing() && (!self.odd || fault.is_some())) {
             return None;
         }
         Some(Offer {
@@ -116,21 +221,26 @@ impl Transceiver {
         })
     }
 
-    /// The receiver's part of it.
-    fn receive(&mut self, head: &Head, msu: Option<Msu>)
-        requires room { length self.old.messages < KEPT_MESSAGES }
-        ensures { self.new ≡ received (hearing (accepts self.old) self.old.receiver head.now (is_some msu)) msu self.old }
+    /// Whether messages that come are accepted.
+    fn accepts(&self) -> bool
+        ensures { result ≡ accepts self.now }
     {
-        let heard = hear_by(
-            !self.hold.is_held(),
-            &mut self.receiver,
-            head,
-            msu.is_some(),
-        );
-        self.faults.remember(fault_in(heard));
+        self.deliver && !self.hold.is_held()
+    }
+
+    /// The receiver's part of it.
+    fn receive(&mut self, head: &Head, msu: Option<Msu>) -> Option<Fault>
+        requires room { length self.old.messages < KEPT_MESSAGES }
+        ensures transceiver { self.new ≡ received (hearing (accepts self.old) self.old.receiver head.now (is_some msu)) msu self.old }
+        ensures fault { result ≡ fault_in (hearing (accepts self.old) self.old.receiver head.now (is_some msu)).verdict }
+    {
+        let heard = hear_by(self.accepts(), &mut self.receiver, head, msu.is_some());
+        let fault = fault_in(heard);
+        self.faults.remember(fault);
         if let (Ok(Verdict::Accept), Some(msu)) = (heard, msu) {
             self.messages.push(msu);
         }
+        fault
     }
 }
 
@@ -193,9 +303,49 @@ fn fault_in(heard: Result<Verdict, UnitError>) -> Option<Fault>
     }
 }
 
-/// What the monitors are offered, then what was noted, then the kind of the unit.
-fn around(seen: Option<Offer>, failing: Option<Offer>, kind: u8) -> Offers
-    ensures { result.items ≡ to_monitors Notice.Good ++ (option_to_list seen ++ option_to_list failing) ++ unit_seen kind ∷ [] }
+/// What tells of a unit's kind.
+fn unit_seen(kind: u8) -> Offer
+    ensures { result ≡ unit_seen kind }
+{
+    Offer {
+        to: Party::Rc,
+        notice: Notice::Unit(kind),
+    }
+}
+
+/// What tells of a unit that was discarded for a fault.
+fn odd_seen(code: u8) -> Offer
+    ensures { result ≡ odd_seen code }
+{
+    Offer {
+        to: Party::Rc,
+        notice: Notice::Odd(code),
+    }
+}
+
+/// What reception control is told of a unit that went through the stores.
+fn sign_of(odd: bool, behind: bool, fault: Option<Fault>) -> Option<Offer>
+    ensures { option_to_list result ≡ sign_by odd behind fault }
+{
+    if !odd {
+        return Some(unit_seen(FILL_IN_OR_MESSAGE));
+    }
+    match fault {
+        Some(Fault::AbnormalBsn) => Some(odd_seen(1)),
+        Some(Fault::AbnormalFib) => Some(odd_seen(2)),
+        None => {
+            if behind {
+                None
+            } else {
+                Some(unit_seen(FILL_IN_OR_MESSAGE))
+            }
+        }
+    }
+}
+
+/// What the monitors are offered, then what was noted, then what the unit was.
+fn around(seen: Option<Offer>, failing: Option<Offer>, sign: Option<Offer>) -> Offers
+    ensures { result.items ≡ to_monitors Notice.Good ++ option_to_list seen ++ option_to_list failing ++ option_to_list sign }
 {
     let [alignment, service] = to_monitors(Notice::Good);
     let mut offers = Offers::new();
@@ -203,10 +353,7 @@ fn around(seen: Option<Offer>, failing: Option<Offer>, kind: u8) -> Offers
     offers.push(service);
     add(&mut offers, seen);
     add(&mut offers, failing);
-    offers.push(Offer {
-        to: Party::Rc,
-        notice: Notice::Unit(kind),
-    });
+    add(&mut offers, sign);
     offers
 }
 

@@ -1,11 +1,21 @@
 //! Laws over every list of calls.
-ghost use Rattle.link_transceiver.specs.Laws.{KeepsUnacknowledged, HandsOutInOrder, BusyGoesOutOnce, Withholds, HoldsBack};
+ghost use Rattle.link_transceiver.specs.Laws.{KeepsUnacknowledged, CountsCleared, HandsOutInOrder, BusyGoesOutOnce, Withholds, HoldsBack, DiscardsBehindOdd};
 
 /// Of the messages that are kept to send a unit from the far side takes away those that it acknowledges, the oldest of those that
 /// were sent. Nothing else takes any but `retrieve`, which hands out what stands behind the number that it is given or, without one,
 /// what was never sent, and keeps nothing.
 pub fn unacknowledged_messages_are_kept()
     ensures { KeepsUnacknowledged }
+{}
+
+/// `clear` takes all that is kept to send, and counts it; the numbers go on. No other call counts any.
+pub fn cleared_messages_are_counted()
+    ensures { CountsCleared }
+{}
+
+/// Behind a unit at fault, where `Odd` tells of that, the next one acknowledges nothing, asks for nothing and isn't accepted.
+pub fn units_behind_odd_ones_are_discarded()
+    ensures { DiscardsBehindOdd }
 {}
 
 /// Over every list of signals, units and reports the messages that are handed out, and then those that still wait, are the

@@ -2,6 +2,7 @@
 //! both stores, what goes out next, faults and reports.
 #![tactic(auto)]
 
+mod clearing;
 mod faults;
 mod hearing;
 mod kept;
@@ -14,10 +15,11 @@ mod transceiver;
 pub use faults::Fault;
 pub use hearing::Offers;
 pub use laws::{
-    accepted_messages_are_handed_out_in_order, busy_goes_out_once, held_messages_stay,
-    unacknowledged_messages_are_kept, withheld_acknowledgement_stays,
+    accepted_messages_are_handed_out_in_order, busy_goes_out_once, cleared_messages_are_counted,
+    held_messages_stay, unacknowledged_messages_are_kept, units_behind_odd_ones_are_discarded,
+    withheld_acknowledgement_stays,
 };
-pub use offers::{Notice, Offer, Party, UnitOut, error_offers};
+pub use offers::{Notice, Offer, Party, UnitOut, counting_offers, error_offers};
 pub use signals::{
     BUSY, Backward, EnvSignal, Hold, LineKind, LinkStatus, MESSAGES, Report, STATUSES,
 };

@@ -1,6 +1,6 @@
 //! What the actors are told of units.
 ghost use Rattle.std.specs.Prelude.{◌≡◌};
-ghost use Rattle.link_transceiver.specs.Offers.{error_offers, to_monitors};
+ghost use Rattle.link_transceiver.specs.Offers.{error_offers, counting_offers, to_monitors};
 
 use su_octets::Unit;
 
@@ -30,6 +30,10 @@ pub enum Notice {
     Bad,
     /// A unit came: its status code, or 8 where it is a fill-in or message signal unit.
     Unit(u8),
+    /// In place of `Unit(8)`: a fill-in or message signal unit was discarded, 1 for its backward number, 2 for its forward indicator.
+    Odd(u8),
+    /// Octet counting begins, or ends.
+    Counting(bool),
     /// A message went out, for the first time or again.
     MsuSent,
 }
@@ -70,6 +74,13 @@ pub fn error_offers() -> [Offer; 2]
     ensures { result ≡ error_offers }
 {
     to_monitors(Notice::Errored)
+}
+
+/// What is offered as octet counting begins or ends, in this order.
+pub fn counting_offers(on: bool) -> [Offer; 2]
+    ensures { result ≡ counting_offers on }
+{
+    to_monitors(Notice::Counting(on))
 }
 
 /// Both error rate monitors are told, that of alignment first.

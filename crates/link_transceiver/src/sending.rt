@@ -102,6 +102,9 @@ impl Transceiver {
         ensures whole { IsWhole result.unit }
     {
         let Outgoing { fsn, fib, msu } = give(&mut self.sender);
+        if msu.is_some() {
+            self.spare = 0;
+        }
         filled(self.head_with(fsn, fib), msu)
     }
 }

@@ -17,7 +17,8 @@ pub const BUSY: u8 = 5;
 /// A signal of an actor to the environment of its link.
 #[derive(Clone, Copy, Debug, PartialEq, Eq)]
 pub enum EnvSignal {
-    /// Both stores begin anew: the link is aligned again (Q.703, 7). A number and a bit that are withheld become 127 and 1.
+    /// Both stores begin anew: the link is aligned again (Q.703, 7). A number and a bit that are withheld become 127 and 1, and messages are
+    /// accepted.
     Fresh,
     /// Whether fill-in and message signal units go through the stores from now on.
     Take(bool),
@@ -27,6 +28,8 @@ pub enum EnvSignal {
     /// Whether acknowledgement is withheld from now on: the backward sequence number and the backward indicator bit stay as they are,
     /// whatever unit comes (Q.703, 9). What fell due meanwhile shows as it ends.
     Withhold(bool),
+    /// Whether messages that come are accepted from now on, as ever, or discarded once their units were judged (Q.703, figures 14 and 16).
+    Deliver(bool),
     /// The link is in service.
     InServiceNow,
     /// The link is out of service, for the reason that the actor numbers so.
@@ -35,6 +38,10 @@ pub enum EnvSignal {
     RemoteOut,
     /// It is back.
     RemoteBack,
+    /// The buffers are to be emptied (Q.703, figure 13). That is done once it is asked for (`Transceiver::clear`).
+    Clear,
+    /// The buffers were emptied (Q.703, figure 13).
+    Cleared,
 }
 
 /// What a unit says of the other direction: which message was accepted last, and by its bit whether one was lost (Q.703, 5.2).
@@ -80,6 +87,8 @@ pub enum LinkStatus {
     RemoteOut,
     /// It is back.
     RemoteBack,
+    /// The buffers were emptied.
+    Cleared,
 }
 
 /// What is handed out to whoever uses a link.

@@ -5,7 +5,7 @@ ghost use Rattle.resend_store.specs.Limits.{MOST_WAITING, MOST_KEPT};
 ghost use Rattle.resend_store.specs.Messages.{IsMessage};
 ghost use Rattle.resend_store.specs.Window.{IsWindow, waiting, with_put, retrieved, emptied, count_known, last_acknowledged};
 ghost use Rattle.link_transceiver.specs.Effects.{effect, backward_of, renewed, directed, kind_named, kind_by, is_busy_named, withheld_by, told, latest};
-ghost use Rattle.link_transceiver.specs.TransceiverState.{IsBackward, first_transceiver};
+ghost use Rattle.link_transceiver.specs.TransceiverState.{IsBackward, first_transceiver, first_within};
 ghost use Rattle.link_transceiver.specs.Limits.{KEPT_MESSAGES};
 ghost use Rattle.link_transceiver.specs.Reporting.{reported};
 
@@ -14,7 +14,9 @@ use crate::kept::KeptQueue;
 use crate::signals::{
     BUSY, Backward, EnvSignal, Hold, LineKind, LinkStatus, MESSAGES, Report, STATUSES,
 };
-use resend_store::{Mode, Msu, PutError, Receiver, RetrieveError, Sender};
+use resend_store::{
+    Mode, Msu, PutError, Receiver, RetrieveError, RoundLimits, Sender, USUAL_LIMITS,
+};
 use std::alloc::{AllocError, Global};
 use std::collections::VecDeque;
 use std::marker::Model;
@@ -27,12 +29,24 @@ pub struct Transceiver {
     pub(crate) sender: Sender,
     pub(crate) receiver: Receiver,
     pub(crate) take: bool,
+    /// Whether messages that come are accepted, and not discarded.
+    pub(crate) deliver: bool,
     /// The backward number and bit that go out in place of the receiver's.
     pub(crate) withheld: Option<Backward>,
     pub(crate) line: Option<LineKind>,
     /// Whether one unit of status 'busy' goes out first.
     pub(crate) busy: bool,
     pub(crate) hold: Hold,
+    /// Whether a unit at fault is told of by `Notice::Odd`, and the next one discarded.
+    pub(crate) odd: bool,
+    /// Whether the last one was at fault, so that the next is discarded.
+    pub(crate) behind_odd: bool,
+    /// How many messages were out as the buffers were emptied, until a message goes out.
+    pub(crate) spare: u8,
+    /// Whether the buffers are to be emptied.
+    pub(crate) clearing: bool,
+    /// How many messages were cleared.
+    pub(crate) cleared: u64,
     pub(crate) faults: LastThree,
     pub(crate) messages: KeptQueue<Msu, MESSAGES>,
     statuses: KeptQueue<LinkStatus, STATUSES>,
@@ -60,17 +74,30 @@ impl Transceiver {
     pub fn new(alloc: Global, mode: Mode) -> Result<Transceiver, AllocError>
         ensures { IfOk result (λ transceiver. transceiver ≡ first_transceiver mode) }
     {
-        let sender = Sender::new(alloc, mode)?;
+        Transceiver::within(alloc, USUAL_LIMITS, mode)
+    }
+
+    /// The same with these limits of forced retransmission.
+    pub fn within(alloc: Global, limits: RoundLimits, mode: Mode) -> Result<Transceiver, AllocError>
+        ensures { IfOk result (λ transceiver. transceiver ≡ first_within limits mode) }
+    {
+        let sender = Sender::within(alloc, limits, mode)?;
         let messages = KeptQueue::new(alloc)?;
         let statuses = KeptQueue::new(alloc)?;
         Ok(Transceiver {
             sender,
             receiver: Receiver::new(mode),
             take: false,
+            deliver: true,
             withheld: None,
             line: None,
             busy: false,
             hold: Hold::Free,
+            odd: false,
+            behind_odd: false,
+            spare: 0,
+            clearing: false,
+            cleared: 0,
             faults: LastThree::new(),
             messages,
             statuses,
@@ -88,6 +115,7 @@ impl Transceiver {
         match signal {
             EnvSignal::Fresh => self.renew(),
             EnvSignal::Take(on) => self.take = on,
+            EnvSignal::Deliver(on) => self.deliver = on,
             EnvSignal::Line(number) => self.direct(number),
             EnvSignal::Withhold(on) => self.withhold(on),
             EnvSignal::InServiceNow => {
@@ -108,6 +136,8 @@ impl Transceiver {
                 self.far_out = false;
                 self.tell(LinkStatus::RemoteBack);
             }
+            EnvSignal::Clear => self.clearing = true,
+            EnvSignal::Cleared => self.tell(LinkStatus::Cleared),
         }
     }
 
@@ -264,6 +294,9 @@ impl Transceiver {
         self.receiver.fresh();
         self.faults = LastThree::new();
         self.hold = self.hold.renewed();
+        self.deliver = true;
+        self.behind_odd = false;
+        self.spare = 0;
         if self.withheld.is_some() {
             self.withheld = Some(self.backward());
         }

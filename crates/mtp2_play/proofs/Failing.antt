@@ -3,7 +3,7 @@ use Rattle.std.proofs.Common.{◌≡◌, ◌⊎◌, ℕ, List, [], ◌∷◌, Op
 use Rattle.line_filter.specs.Filters.{Line as Octets}
 use Rattle.mtp2_words.specs.declared.words.Named.{Named}
 use Rattle.mtp2_words.specs.declared.words.Request.{Request}
-use Rattle.mtp2_words.specs.declared.words.Request.TheVariants.{Check, Play, Soak, Line, Frame, Draw, Diff}
+use Rattle.mtp2_words.specs.declared.words.Request.TheVariants.{Check, Play, Soak, Line, Frame, Draw, Print, Diff}
 use Rattle.mtp2_play.specs.Printed.{AreCheckedAll, IsAnswered}
 use Rattle.mtp2_play.specs.Served.{WasAnswered}
 
@@ -26,7 +26,7 @@ sets_failed sets old new = record {
 -- it failed, so no more is said of it than that what it wrote on a line is a beginning
 pub failed : (request : Request) (status : ℕ) (old new : Octets) → IsAnswered request status old new → IsAnswered request 4 old new
 failed (Check sets) status old new are = sets_failed sets.items old.written new.written
-failed (Play set script) status old new are = record { held = not_done; missed = not_missed; refused = not_refused }
+failed (Play set script seen) status old new are = record { held = not_done; missed = not_missed; refused = not_refused }
 failed (Soak script workers) status old new are = record {
   held = not_done;
   differs = not_missed;
@@ -42,12 +42,13 @@ failed (Line set end) status old new are = record {
 }
 failed (Frame octets) status old new are = record { held = not_done; refused = not_refused; ends = inr (inr refl) }
 failed (Draw set process states) status old new are = inr (inr refl)
+failed (Print set) status old new are = record { held = not_done; ends = inr refl }
 failed (Diff one other) status old new are = inr (inr (inr refl))
 
 -- it failed before anything was read or written
 pub not_begun : (request : Request) (there : Octets) → IsAnswered request 4 there there
 not_begun (Check sets) there = sets_failed sets.items there.written there.written
-not_begun (Play set script) there = record { held = not_done; missed = not_missed; refused = not_refused }
+not_begun (Play set script seen) there = record { held = not_done; missed = not_missed; refused = not_refused }
 not_begun (Soak script workers) there = record {
   held = not_done;
   differs = not_missed;
@@ -63,6 +64,7 @@ not_begun (Line set end) there = record {
 }
 not_begun (Frame octets) there = record { held = not_done; refused = not_refused; ends = inr (inr refl) }
 not_begun (Draw set process states) there = inr (inr refl)
+not_begun (Print set) there = record { held = not_done; ends = inr refl }
 not_begun (Diff one other) there = inr (inr (inr refl))
 
 pub was_run : (request : Request) (status : ℕ) (old new : Octets) → IsAnswered request status old new → WasAnswered request status

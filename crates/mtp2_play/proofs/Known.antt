@@ -1,5 +1,5 @@
 -- What holds of bytes of which something may be known holds of some bytes.
-use Rattle.std.proofs.Common.{◌≡◌, ℕ, inl, inr, List, Option, None, Some, rules}
+use Rattle.std.proofs.Common.{◌≡◌, ℕ, Bool, inl, inr, List, Option, None, Some, rules}
 use Rattle.script_check.specs.Checked.{given, IsGiven, PrintsCosts, PrintsRefusal}
 use Rattle.script_check.specs.declared.sets.SetWord.{SetWord}
 use Rattle.script_check.specs.declared.sets.SetWord.TheVariants.{Standard as standard_set, Monitors as monitors_set, Text}
@@ -64,11 +64,11 @@ turned_down known old new g = some_bytes known (IsTurnedDown old new) g
 
 -- ---- `play`: its script
 
-pub played : (set script old new : Option (List ℕ)) → IsOnSet set script (IsPlayed old new) → IsOnSet set None (IsPlayed old new)
-played set script old new s = record { draft = s.draft; is_set = s.is_set; of_script = some_bytes script (IsPlayed old new s.draft) s.of_script }
+pub played : (echo : Bool) (set script old new : Option (List ℕ)) → IsOnSet set script (IsPlayed echo old new) → IsOnSet set None (IsPlayed echo old new)
+played echo set script old new s = record { draft = s.draft; is_set = s.is_set; of_script = some_bytes script (IsPlayed echo old new s.draft) s.of_script }
 
-pub in_part : (set script old new : Option (List ℕ)) → IsOnSet set script (IsPlayedInPart old new) → IsOnSet set None (IsPlayedInPart old new)
-in_part set script old new s = record { draft = s.draft; is_set = s.is_set; of_script = some_bytes script (IsPlayedInPart old new s.draft) s.of_script }
+pub in_part : (echo : Bool) (set script old new : Option (List ℕ)) → IsOnSet set script (IsPlayedInPart echo old new) → IsOnSet set None (IsPlayedInPart echo old new)
+in_part echo set script old new s = record { draft = s.draft; is_set = s.is_set; of_script = some_bytes script (IsPlayedInPart echo old new s.draft) s.of_script }
 
 not_run_in : (set script old new : Option (List ℕ)) → IsOnSet set script (IsNotRun old new) → IsOnSet set None (IsNotRun old new)
 not_run_in set script old new s = record { draft = s.draft; is_set = s.is_set; of_script = some_bytes script (IsNotRun old new s.draft) s.of_script }
@@ -79,11 +79,11 @@ not_run set script old new (script_refused s) = script_refused (not_run_in set s
 
 -- ---- and its set
 
-pub played_on_some : (set old new : Option (List ℕ)) → IsOnSet set None (IsPlayed old new) → IsOnSet None None (IsPlayed old new)
-played_on_some set old new s = record { draft = s.draft; is_set = some_bytes set _ s.is_set; of_script = s.of_script }
+pub played_on_some : (echo : Bool) (set old new : Option (List ℕ)) → IsOnSet set None (IsPlayed echo old new) → IsOnSet None None (IsPlayed echo old new)
+played_on_some echo set old new s = record { draft = s.draft; is_set = some_bytes set _ s.is_set; of_script = s.of_script }
 
-pub in_part_on_some : (set old new : Option (List ℕ)) → IsOnSet set None (IsPlayedInPart old new) → IsOnSet None None (IsPlayedInPart old new)
-in_part_on_some set old new s = record { draft = s.draft; is_set = some_bytes set _ s.is_set; of_script = s.of_script }
+pub in_part_on_some : (echo : Bool) (set old new : Option (List ℕ)) → IsOnSet set None (IsPlayedInPart echo old new) → IsOnSet None None (IsPlayedInPart echo old new)
+in_part_on_some echo set old new s = record { draft = s.draft; is_set = some_bytes set _ s.is_set; of_script = s.of_script }
 
 not_run_on : (set old new : Option (List ℕ)) → IsOnSet set None (IsNotRun old new) → IsOnSet None None (IsNotRun old new)
 not_run_on set old new s = record { draft = s.draft; is_set = some_bytes set _ s.is_set; of_script = s.of_script }

@@ -1,6 +1,8 @@
 -- What each command prints, by the exit status that it gives. Of a text that isn't the program's
 -- own it is said of some bytes, since none are known of a file or of standard input.
-use Rattle.std.specs.Prelude.{◌≡◌, ◌≢◌, ◌⊎◌, ◌≤◌, ℕ, List, [], ◌∷◌, Option, None}
+use Rattle.std.specs.Prelude.{◌≡◌, ◌≢◌, ◌⊎◌, ◌≤◌, ℕ, Bool, List, [], ◌∷◌, Option, None}
+use Rattle.std.specs.Prelude.{IsSomeAnd}
+use Rattle.std.specs.Io.KnownBytes.{Appends}
 use Rattle.clap.specs.declared.error.kind.ErrorKind.{ErrorKind}
 use Rattle.clap.specs.declared.error.kind.ErrorKind.TheVariants.{DisplayHelp, DisplayVersion}
 use Rattle.plain_limits.specs.Limits.{LEAST_WORKERS, MOST_WORKERS}
@@ -16,7 +18,7 @@ use Rattle.mtp2_play.specs.Sets.{own_text_of}
 use Rattle.mtp2_words.specs.declared.words.Named.{Named}
 use Rattle.mtp2_words.specs.declared.words.Request.{Request}
 use Rattle.mtp2_words.specs.declared.words.Request.TheVariants.{Check, Play, Soak, Line, Frame}
-use Rattle.mtp2_words.specs.declared.words.Request.TheVariants.{Draw, Diff}
+use Rattle.mtp2_words.specs.declared.words.Request.TheVariants.{Draw, Print, Diff}
 
 -- the exit statuses: done, an expectation failed or something differs, refused, usage, failed
 abbrev pub IsStatus : ℕ → Type 0
@@ -43,10 +45,11 @@ pub record AreCheckedAll (sets : List Named) (status : ℕ) (old new : Option (L
   pub ends : IsDone status
 
 -- what `play` prints of a script on a set: what came of its commands, of those before one whose
--- expectation failed, or why nothing ran
-pub record IsPlayedOn (set : Named) (status : ℕ) (old new : Option (List ℕ)) : Type 0 where
-  pub held : status ≡ 0 → IsOnSet (own_text_of set) None (IsPlayed old new)
-  pub missed : status ≡ 1 → IsOnSet (own_text_of set) None (IsPlayedInPart old new)
+-- expectation failed, or why nothing ran; with its lines in front where they are asked for
+pub record IsPlayedOn (set : Named) (echo : Bool) (status : ℕ) (old new : Option (List ℕ)) :
+    Type 0 where
+  pub held : status ≡ 0 → IsOnSet (own_text_of set) None (IsPlayed echo old new)
+  pub missed : status ≡ 1 → IsOnSet (own_text_of set) None (IsPlayedInPart echo old new)
   pub refused : status ≡ 2 → IsRefused (own_text_of set) None old new
 
 -- what `soak` prints of a script: its two lines, where so many workers can work, or why it is
@@ -74,6 +77,11 @@ pub record IsSpoken (known : Option (List ℕ)) (end : LineEnd) (status : ℕ) (
   pub untouched : status ≡ 2 → IsUntouched old new
   pub ends : IsDone status
 
+-- what `text` prints: the text of the set of the program's own that is named
+pub record IsPrinted (set : Named) (status : ℕ) (old new : Option (List ℕ)) : Type 0 where
+  pub held : status ≡ 0 → IsSomeAnd (own_text_of set) (Appends old new)
+  pub ends : (status ≡ 0) ⊎ (status ≡ 4)
+
 -- the exit statuses of `diff`: alike, different, refused, failed
 abbrev pub IsCompared : ℕ → Type 0
 IsCompared status = (status ≡ 0) ⊎ (status ≡ 1) ⊎ (status ≡ 2) ⊎ (status ≡ 4)
@@ -83,9 +91,11 @@ IsCompared status = (status ≡ 0) ⊎ (status ≡ 1) ⊎ (status ≡ 2) ⊎ (st
 abbrev pub IsAnswered : Request → ℕ → Octets → Octets → Type 0
 IsAnswered (Check sets) status old new =
     AreCheckedAll sets.items status old.written new.written
-IsAnswered (Play set script) status old new = IsPlayedOn set status old.written new.written
+IsAnswered (Play set script seen) status old new =
+    IsPlayedOn set seen.echo status old.written new.written
 IsAnswered (Soak script workers) status old new = IsServed workers status old.written new.written
 IsAnswered (Line set end) status old new = IsSpoken (own_text_of set) end status old new
 IsAnswered (Frame octets) status old new = IsFramed octets.now status old.written new.written
 IsAnswered (Draw set process states) status old new = IsDone status
+IsAnswered (Print set) status old new = IsPrinted set status old.written new.written
 IsAnswered (Diff one other) status old new = IsCompared status

@@ -17,6 +17,7 @@ mod lines;
 mod pictures;
 mod running;
 mod sets;
+mod texts;
 
 use crate::captures::{capture_of, end_capture};
 use crate::checks::run_checks;
@@ -24,9 +25,10 @@ use crate::differences::run_diff;
 use crate::lines::run_line;
 use crate::pictures::{picture_of, run_draw};
 use crate::sets::{STDIN, own_set, set_word};
+use crate::texts::print_own;
 use line_streams::{Plan, open_records, tap};
 use mtp2_frame::frame;
-use mtp2_words::{Error, ErrorKind, Named, Request, Source, read};
+use mtp2_words::{Error, ErrorKind, Named, Request, Seeing, Source, read};
 use plain_text::{NamedReader, Teller};
 use pool_soak::soak;
 use script_check::{FAILED, HELD, SetWord, USAGE};
@@ -67,7 +69,9 @@ fn run<
 {
     match request {
         Request::Check { sets } => run_checks(rt, teller, sets, writer),
-        Request::Play { set, script } => run_play(rt, teller, *set, *script, writer),
+        Request::Play { set, script, seen } => {
+            run_play(rt, teller, *set, *script, *seen, writer)
+        }
         Request::Soak { script, workers } => run_soak(rt, teller, *script, *workers, writer),
         Request::Line { set, end } => run_line(host, teller, set, end, reader, writer),
         Request::Frame { octets } => frame(rt.alloc(), octets, writer),
@@ -76,6 +80,7 @@ fn run<
             process,
             states,
         } => run_draw(rt, teller, *set, &picture_of(*process, *states), writer),
+        Request::Print { set } => print_own(set, writer),
         Request::Diff { old, new } => run_diff(rt, teller, *old, *new, writer),
     }
 }
@@ -88,14 +93,15 @@ fn play_on<H: Eprint, S: Read + Drop, T: Read + Drop, W: Write>(
     set: SetWord<S>,
     name: &str,
     script: T,
+    echo: bool,
     writer: &mut W,
 ) -> u8
-    ensures held { result ≡ 0 → IsOnSet (given S.remaining set) None (IsPlayed (W.contents writer.old) (W.contents writer.new)) }
-    ensures missed { result ≡ 1 → IsOnSet (given S.remaining set) None (IsPlayedInPart (W.contents writer.old) (W.contents writer.new)) }
+    ensures held { result ≡ 0 → IsOnSet (given S.remaining set) None (IsPlayed echo (W.contents writer.old) (W.contents writer.new)) }
+    ensures missed { result ≡ 1 → IsOnSet (given S.remaining set) None (IsPlayedInPart echo (W.contents writer.old) (W.contents writer.new)) }
     ensures refused { result ≡ 2 → IsRefused (given S.remaining set) None (W.contents writer.old) (W.contents writer.new) }
     ensures status { (result ≡ 0) ⊎ (result ≡ 1) ⊎ (result ≡ 2) ⊎ (result ≡ 4) }
 {
-    play(alloc, set, name, script, writer, &mut teller.errors())
+    play(alloc, set, name, script, echo, writer, &mut teller.errors())
 }
 
 /// Runs a script of a file, or of standard input, on a set.
@@ -105,17 +111,18 @@ fn play_source<R: Runtime + AllocGlobal, H: Eprint, S: Read + Drop, W: Write>(
     set: SetWord<S>,
     name: &str,
     script: Source<'_>,
+    echo: bool,
     writer: &mut W,
 ) -> u8
-    ensures held { result ≡ 0 → IsOnSet (given S.remaining set) None (IsPlayed (W.contents writer.old) (W.contents writer.new)) }
-    ensures missed { result ≡ 1 → IsOnSet (given S.remaining set) None (IsPlayedInPart (W.contents writer.old) (W.contents writer.new)) }
+    ensures held { result ≡ 0 → IsOnSet (given S.remaining set) None (IsPlayed echo (W.contents writer.old) (W.contents writer.new)) }
+    ensures missed { result ≡ 1 → IsOnSet (given S.remaining set) None (IsPlayedInPart echo (W.contents writer.old) (W.contents writer.new)) }
     ensures refused { result ≡ 2 → IsRefused (given S.remaining set) None (W.contents writer.old) (W.contents writer.new) }
     ensures status { (result ≡ 0) ⊎ (result ≡ 1) ⊎ (result ≡ 2) ⊎ (result ≡ 4) }
 {
     match script {
         Source::Stdin => {
             let script = NamedReader::new(teller, STDIN, rt.reader());
-            play_on(rt.alloc(), teller, set, name, script, writer)
+            play_on(rt.alloc(), teller, set, name, script, echo, writer)
         }
         Source::File(path) => match fs::open(rt, path) {
             Ok(file) => play_on(
@@ -124,6 +131,7 @@ fn play_source<R: Runtime + AllocGlobal, H: Eprint, S: Read + Drop, W: Write>(
                 set,
                 name,
                 NamedReader::new(teller, path, file),
+                echo,
                 writer,
             ),
             Err(error) => teller.fail(path, &error),
@@ -137,13 +145,14 @@ fn play_own<R: Runtime + AllocGlobal, H: Eprint, W: Write>(
     teller: &Teller<'_, H>,
     set: Named<'_>,
     script: Source<'_>,
+    echo: bool,
     writer: &mut W,
 ) -> u8
-    ensures printed { IsPlayedOn set.entry result (W.contents writer.old) (W.contents writer.new) }
+    ensures printed { IsPlayedOn set.entry echo result (W.contents writer.old) (W.contents writer.new) }
     ensures status { (result ≡ 0) ⊎ (result ≡ 1) ⊎ (result ≡ 2) ⊎ (result ≡ 4) }
 {
     match own_set(&set) {
-        Some(own) => play_source(rt, teller, own, set_word(&set), script, writer),
+        Some(own) => play_source(rt, teller, own, set_word(&set), script, echo, writer),
         None => FAILED,
     }
 }
@@ -156,14 +165,15 @@ fn play_text<R: Runtime + AllocGlobal, H: Eprint, S: Read + Drop, W: Write>(
     name: &str,
     text: S,
     script: Source<'_>,
+    echo: bool,
     writer: &mut W,
 ) -> u8
-    ensures held { result ≡ 0 → IsOnSet None None (IsPlayed (W.contents writer.old) (W.contents writer.new)) }
-    ensures missed { result ≡ 1 → IsOnSet None None (IsPlayedInPart (W.contents writer.old) (W.contents writer.new)) }
+    ensures held { result ≡ 0 → IsOnSet None None (IsPlayed echo (W.contents writer.old) (W.contents writer.new)) }
+    ensures missed { result ≡ 1 → IsOnSet None None (IsPlayedInPart echo (W.contents writer.old) (W.contents writer.new)) }
     ensures refused { result ≡ 2 → IsRefused None None (W.contents writer.old) (W.contents writer.new) }
     ensures status { (result ≡ 0) ⊎ (result ≡ 1) ⊎ (result ≡ 2) ⊎ (result ≡ 4) }
 {
-    play_source(rt, teller, SetWord::Text(text), name, script, writer)
+    play_source(rt, teller, SetWord::Text(text), name, script, echo, writer)
 }
 
 /// Runs `play` on the set and the script that the command line names. A file that can't be opened is a failure, whatever there is to say
@@ -173,21 +183,23 @@ fn run_play<R: Runtime + AllocGlobal, H: Eprint, W: Write>(
     teller: &Teller<'_, H>,
     set: Named<'_>,
     script: Source<'_>,
+    seen: Seeing,
     writer: &mut W,
 ) -> u8
-    ensures printed { IsPlayedOn set.entry result (W.contents writer.old) (W.contents writer.new) }
+    ensures printed { IsPlayedOn set.entry seen.echo result (W.contents writer.old) (W.contents writer.new) }
     ensures status { (result ≡ 0) ⊎ (result ≡ 1) ⊎ (result ≡ 2) ⊎ (result ≡ 4) }
 {
+    let echo = seen.echo;
     match set {
-        Named::Standard | Named::Monitors => play_own(rt, teller, set, script, writer),
+        Named::Standard | Named::Monitors => play_own(rt, teller, set, script, echo, writer),
         Named::Stdin => {
             let text = NamedReader::new(teller, STDIN, rt.reader());
-            play_text(rt, teller, set_word(&set), text, script, writer)
+            play_text(rt, teller, set_word(&set), text, script, echo, writer)
         }
         Named::File(path) => match fs::open(rt, path) {
             Ok(file) => {
                 let text = NamedReader::new(teller, path, file);
-                play_text(rt, teller, path, text, script, writer)
+                play_text(rt, teller, path, text, script, echo, writer)
             }
             Err(error) => teller.fail(path, &error),
         },

@@ -11,11 +11,12 @@ use Rattle.clap.proofs.WalkLemmas.{first_value-rows, raw_values-rows}
 use Rattle.mtp2_words.specs.Ends.{IsEndOf}
 use Rattle.mtp2_words.specs.declared.ends.LineEnd.{LineEnd}
 use Rattle.mtp2_words.specs.declared.ends.LineWords.{LineWords}
-use Rattle.mtp2_words.specs.Words.{command_of, workers_of, AreStdin, IsNamed, IsDiff, IsPlay, IsSoak, IsSource, says_true}
-use Rattle.mtp2_words.specs.Asked.{Given, given_by, given_in, AreAllAsked, AreNamed, AreBothStdin, AreUnderIds, AsksEnd, AsksNothing, IsAsked, IsAskedBy, IsNoPlay, IsNoSoak, SaysNothing, AreTwoStdin, AsksDiff, AsksDraw, IsNoDiff}
+use Rattle.mtp2_words.specs.Words.{command_of, workers_of, AreStdin, IsNamed, IsDiff, IsOwnNamed, IsPlay, IsPrint, IsSoak, IsSource, NamesNone, says_true}
+use Rattle.mtp2_words.specs.declared.seeing.Seeing.{Seeing}
+use Rattle.mtp2_words.specs.Asked.{Given, given_by, given_in, AreAllAsked, AreNamed, AreBothStdin, AreUnderIds, AsksEnd, AreSeen, AsksNothing, IsAsked, IsAskedBy, IsNoPlay, IsNoPrint, IsNoSoak, SaysNothing, AreTwoStdin, AsksDiff, AsksDraw, IsNoDiff}
 use Rattle.mtp2_words.specs.declared.words.Named.{Named}
 use Rattle.mtp2_words.specs.declared.words.Request.{Request}
-use Rattle.mtp2_words.specs.declared.words.Request.TheVariants.{Check, Play, Soak, Line, Frame, Draw, Diff}
+use Rattle.mtp2_words.specs.declared.words.Request.TheVariants.{Check, Play, Soak, Line, Frame, Draw, Print, Diff}
 
 -- ---- words under their ids
 
@@ -45,45 +46,50 @@ both_words : (given : Given) (set_word script_word : Text) → Some set_word ≡
     → AreBothStdin given → AreStdin set_word script_word
 both_words given set_word script_word e f b = (same_Some set_word _ (e ∙ b.set_is), same_Some script_word _ (f ∙ b.script_is))
 
-pub plays : (given : Given) (set_word script_word : Text) (request : Request) → Some set_word ≡ given (codes "SET")
-    → Some script_word ≡ given (codes "SCRIPT") → IsPlay set_word script_word request → IsAsked given request
-plays given set_word script_word (Check sets) e f h = absurd h
-plays given set_word script_word (Play set script) e f h = record {
-  set_is = some_word (given (codes "SET")) set_word (IsNamed set) e h.set_is;
-  script_is = some_word (given (codes "SCRIPT")) script_word (IsSource script) f h.script_is;
-  one_input = λ b. h.one_input (both_words given set_word script_word e f b);
+pub plays : (given : Given) (set_word script_word : Text) (wanted : Seeing) (request : Request) → Some set_word ≡ given (codes "SET")
+    → Some script_word ≡ given (codes "SCRIPT") → AreSeen given wanted → IsPlay set_word script_word wanted request → IsAsked given request
+plays given set_word script_word wanted (Check sets) e f a h = absurd h
+plays given set_word script_word wanted (Play set script seen) e f a h = record {
+  set_is = some_word (given (codes "SET")) set_word (IsNamed set) e h.0.set_is;
+  script_is = some_word (given (codes "SCRIPT")) script_word (IsSource script) f h.0.script_is;
+  one_input = λ b. h.0.one_input (both_words given set_word script_word e f b);
+  seen_is = let P : Seeing → Type 0 = λ s. AreSeen given s in subst P (sym h.1) a;
 }
-plays given set_word script_word (Soak script workers) e f h = absurd h
-plays given set_word script_word (Line set end) e f h = absurd h
-plays given set_word script_word (Frame octets) e f h = absurd h
-plays given set_word script_word (Draw set process states) e f h = absurd h
-plays given set_word script_word (Diff old new) e f h = absurd h
+plays given set_word script_word wanted (Soak script workers) e f a h = absurd h
+plays given set_word script_word wanted (Line set end) e f a h = absurd h
+plays given set_word script_word wanted (Frame octets) e f a h = absurd h
+plays given set_word script_word wanted (Draw set process states) e f a h = absurd h
+plays given set_word script_word wanted (Print set) e f a h = absurd h
+plays given set_word script_word wanted (Diff old new) e f a h = absurd h
 
-pub is_play : (set_word script_word : Text) (request : Request) → IsPlay set_word script_word request → command_of request ≡ codes "play"
-is_play set_word script_word (Check sets) h = absurd h
-is_play set_word script_word (Play set script) h = refl
-is_play set_word script_word (Soak script workers) h = absurd h
-is_play set_word script_word (Line set end) h = absurd h
-is_play set_word script_word (Frame octets) h = absurd h
-is_play set_word script_word (Draw set process states) h = absurd h
-is_play set_word script_word (Diff old new) h = absurd h
+pub is_play : (set_word script_word : Text) (wanted : Seeing) (request : Request) → IsPlay set_word script_word wanted request → command_of request ≡ codes "play"
+is_play set_word script_word wanted (Check sets) h = absurd h
+is_play set_word script_word wanted (Play set script seen) h = refl
+is_play set_word script_word wanted (Soak script workers) h = absurd h
+is_play set_word script_word wanted (Line set end) h = absurd h
+is_play set_word script_word wanted (Frame octets) h = absurd h
+is_play set_word script_word wanted (Draw set process states) h = absurd h
+is_play set_word script_word wanted (Print set) h = absurd h
+is_play set_word script_word wanted (Diff old new) h = absurd h
 
-pub play_all : (rows : List Row) (set_word script_word : Text) (request : Request) → IsPlay set_word script_word request → AreAllAsked rows request
-play_all rows set_word script_word (Check sets) h = absurd h
-play_all rows set_word script_word (Play set script) h = tt
-play_all rows set_word script_word (Soak script workers) h = tt
-play_all rows set_word script_word (Line set end) h = tt
-play_all rows set_word script_word (Frame octets) h = tt
-play_all rows set_word script_word (Draw set process states) h = tt
-play_all rows set_word script_word (Diff old new) h = tt
+pub play_all : (rows : List Row) (set_word script_word : Text) (wanted : Seeing) (request : Request) → IsPlay set_word script_word wanted request → AreAllAsked rows request
+play_all rows set_word script_word wanted (Check sets) h = absurd h
+play_all rows set_word script_word wanted (Play set script seen) h = tt
+play_all rows set_word script_word wanted (Soak script workers) h = tt
+play_all rows set_word script_word wanted (Line set end) h = tt
+play_all rows set_word script_word wanted (Frame octets) h = tt
+play_all rows set_word script_word wanted (Draw set process states) h = tt
+play_all rows set_word script_word wanted (Print set) h = tt
+play_all rows set_word script_word wanted (Diff old new) h = tt
 
 pub soak_all : (rows : List Row) (script_word workers_word : Text) (request : Request) → IsSoak script_word workers_word request → AreAllAsked rows request
 soak_all rows script_word workers_word (Check sets) h = absurd h
-soak_all rows script_word workers_word (Play set script) h = tt
+soak_all rows script_word workers_word (Play set script seen) h = tt
 soak_all rows script_word workers_word (Soak script workers) h = tt
 soak_all rows script_word workers_word (Line set end) h = tt
 soak_all rows script_word workers_word (Frame octets) h = tt
 soak_all rows script_word workers_word (Draw set process states) h = tt
+soak_all rows script_word workers_word (Print set) h = tt
 soak_all rows script_word workers_word (Diff old new) h = tt
 
 pub plays_nothing : (given : Given) (set_word script_word : Text) → Some set_word ≡ given (codes "SET")
@@ -96,7 +102,7 @@ plays_nothing given set_word script_word e f h = inr (inr (record {
 pub soaks : (given : Given) (script_word workers_word : Text) (request : Request) → Some script_word ≡ given (codes "SCRIPT")
     → Some workers_word ≡ given (codes "workers") → IsSoak script_word workers_word request → IsAsked given request
 soaks given script_word workers_word (Check sets) e f h = absurd h
-soaks given script_word workers_word (Play set script) e f h = absurd h
+soaks given script_word workers_word (Play set script seen) e f h = absurd h
 soaks given script_word workers_word (Soak script workers) e f h = record {
   script_is = some_word (given (codes "SCRIPT")) script_word (IsSource script) e h.0;
   workers_are = ap (option_and_then workers_of) (sym f) ∙ h.1;
@@ -104,15 +110,17 @@ soaks given script_word workers_word (Soak script workers) e f h = record {
 soaks given script_word workers_word (Line set end) e f h = absurd h
 soaks given script_word workers_word (Frame octets) e f h = absurd h
 soaks given script_word workers_word (Draw set process states) e f h = absurd h
+soaks given script_word workers_word (Print set) e f h = absurd h
 soaks given script_word workers_word (Diff old new) e f h = absurd h
 
 pub is_soak : (script_word workers_word : Text) (request : Request) → IsSoak script_word workers_word request → command_of request ≡ codes "soak"
 is_soak script_word workers_word (Check sets) h = absurd h
-is_soak script_word workers_word (Play set script) h = absurd h
+is_soak script_word workers_word (Play set script seen) h = absurd h
 is_soak script_word workers_word (Soak script workers) h = refl
 is_soak script_word workers_word (Line set end) h = absurd h
 is_soak script_word workers_word (Frame octets) h = absurd h
 is_soak script_word workers_word (Draw set process states) h = absurd h
+is_soak script_word workers_word (Print set) h = absurd h
 is_soak script_word workers_word (Diff old new) h = absurd h
 
 pub soaks_nothing : (given : Given) (workers_word : Text) → Some workers_word ≡ given (codes "workers") → workers_of workers_word ≡ None
@@ -196,6 +204,41 @@ draws_process given word set flag states process e h f t p = record {
   states_are = ap says_true (sym f) ∙ sym t;
   of_process = λ b. none-some process (sym (p ∙ b.process_is));
 }
+
+-- ---- texts
+
+pub prints : (given : Given) (word : Text) (request : Request) → Some word ≡ given (codes "SET") → IsPrint word request → IsAsked given request
+prints given word (Check sets) e h = absurd h
+prints given word (Play set script seen) e h = absurd h
+prints given word (Soak script workers) e h = absurd h
+prints given word (Line set end) e h = absurd h
+prints given word (Frame octets) e h = absurd h
+prints given word (Draw set process states) e h = absurd h
+prints given word (Print set) e h = some_word (given (codes "SET")) word (IsOwnNamed set) e h
+prints given word (Diff old new) e h = absurd h
+
+pub is_print : (word : Text) (request : Request) → IsPrint word request → command_of request ≡ codes "text"
+is_print word (Check sets) h = absurd h
+is_print word (Play set script seen) h = absurd h
+is_print word (Soak script workers) h = absurd h
+is_print word (Line set end) h = absurd h
+is_print word (Frame octets) h = absurd h
+is_print word (Draw set process states) h = absurd h
+is_print word (Print set) h = refl
+is_print word (Diff old new) h = absurd h
+
+pub print_all : (rows : List Row) (word : Text) (request : Request) → IsPrint word request → AreAllAsked rows request
+print_all rows word (Check sets) h = absurd h
+print_all rows word (Play set script seen) h = tt
+print_all rows word (Soak script workers) h = tt
+print_all rows word (Line set end) h = tt
+print_all rows word (Frame octets) h = tt
+print_all rows word (Draw set process states) h = tt
+print_all rows word (Print set) h = tt
+print_all rows word (Diff old new) h = tt
+
+pub prints_nothing : (given : Given) (word : Text) → Some word ≡ given (codes "SET") → NamesNone word → IsNoPrint given
+prints_nothing given word e h = inr (some_word (given (codes "SET")) word NamesNone e h)
 
 -- ---- two texts side by side
 

@@ -9,12 +9,14 @@ use Rattle.clap.specs.declared.parser.matches.ArgMatches.{ArgMatches}
 use Rattle.mtp2_words.specs.Ends.{IsEndOf, IsNoEnd}
 use Rattle.mtp2_words.specs.declared.ends.LineEnd.{LineEnd}
 use Rattle.mtp2_words.specs.declared.ends.LineWords.{LineWords}
-use Rattle.mtp2_words.specs.Words.{command_of, says_true, workers_of, IsNamed, IsSource, IsText}
+use Rattle.mtp2_words.specs.Words.{command_of, says_true, workers_of, IsNamed, IsOwnNamed}
+use Rattle.mtp2_words.specs.Words.{IsSource, IsText, NamesNone}
+use Rattle.mtp2_words.specs.declared.seeing.Seeing.{Seeing}
 use Rattle.mtp2_words.specs.declared.words.Named.{Named}
 use Rattle.mtp2_words.specs.declared.words.Source.{Source}
 use Rattle.mtp2_words.specs.declared.words.Request.{Request}
 use Rattle.mtp2_words.specs.declared.words.Request.TheVariants.{Check, Play, Soak, Line, Frame}
-use Rattle.mtp2_words.specs.declared.words.Request.TheVariants.{Draw, Diff}
+use Rattle.mtp2_words.specs.declared.words.Request.TheVariants.{Draw, Print, Diff}
 
 -- the first word under each id, if there is one
 abbrev pub Given : Type 0
@@ -35,11 +37,17 @@ pub record AreBothStdin (given : Given) : Type 0 where
   pub set_is : given (codes "SET") ≡ Some (codes "stdin")
   pub script_is : given (codes "SCRIPT") ≡ Some (codes "stdin")
 
+-- this of a run is seen beside its replies, by the options that are there
+pub record AreSeen (given : Given) (seen : Seeing) : Type 0 where
+  pub echo : says_true (given (codes "echo")) ≡ seen.echo
+
 -- `play`: the set that SET names, and the script that SCRIPT names; standard input isn't both
-pub record AsksPlay (given : Given) (set : Named) (script : Source) : Type 0 where
+pub record AsksPlay (given : Given) (set : Named) (script : Source) (seen : Seeing) :
+    Type 0 where
   pub set_is : IsSomeAnd (given (codes "SET")) (IsNamed set)
   pub script_is : IsSomeAnd (given (codes "SCRIPT")) (IsSource script)
   pub one_input : AreBothStdin given → ⊥
+  pub seen_is : AreSeen given seen
 
 -- `soak`: the script that SCRIPT names, and as many workers as --workers says
 pub record AsksSoak (given : Given) (script : Source) (workers : ℕ) : Type 0 where
@@ -94,15 +102,16 @@ pub record AsksDiff (given : Given) (old new : Named) : Type 0 where
   pub one_input : AreTwoStdin given → ⊥
 
 -- the words of a command ask for this, by the first of each id; `check` asks by all of them, and
--- `frame` for the octets of HEX
+-- `frame` for the octets of HEX, `text` for the set of the program's own that SET names
 abbrev pub IsAsked : Given → Request → Type 0
 IsAsked given (Check sets) = Unit {0}
-IsAsked given (Play set script) = AsksPlay given set script
+IsAsked given (Play set script seen) = AsksPlay given set script seen
 IsAsked given (Soak script workers) = AsksSoak given script workers
 IsAsked given (Line set end) = AsksLine given set end
 IsAsked given (Frame octets) = given (codes "HEX") ≡ Some octets.now
 IsAsked given (Draw set process states) =
     AsksDraw given set (option_map (λ w. w.now) process) states
+IsAsked given (Print set) = IsSomeAnd (given (codes "SET")) (IsOwnNamed set)
 IsAsked given (Diff old new) = AsksDiff given old new
 
 -- the sets that words name, each one its own, in their order
@@ -112,11 +121,12 @@ AreNamed sets words = AllZip IsNamed sets words
 -- `check` asks for the sets of all words of SET
 abbrev pub AreAllAsked : List Row → Request → Type 0
 AreAllAsked rows (Check sets) = IsSomeAnd (all_of (codes "SET") rows) (AreNamed sets.items)
-AreAllAsked rows (Play set script) = Unit {0}
+AreAllAsked rows (Play set script seen) = Unit {0}
 AreAllAsked rows (Soak script workers) = Unit {0}
 AreAllAsked rows (Line set end) = Unit {0}
 AreAllAsked rows (Frame octets) = Unit {0}
 AreAllAsked rows (Draw set process states) = Unit {0}
+AreAllAsked rows (Print set) = Unit {0}
 AreAllAsked rows (Diff old new) = Unit {0}
 
 -- the command that was entered, and its rows: its name is that of the request, and its words ask
@@ -163,6 +173,10 @@ IsNoFrame given = given (codes "HEX") ≡ None
 abbrev pub IsNoDraw : Given → Type 0
 IsNoDraw given = (given (codes "SET") ≡ None) ⊎ AreStatesOfNothing given
 
+-- `text`: no SET, or one that names no set of the program's own
+abbrev pub IsNoPrint : Given → Type 0
+IsNoPrint given = (given (codes "SET") ≡ None) ⊎ IsSomeAnd (given (codes "SET")) NamesNone
+
 -- `diff`: no OLD or no NEW, or standard input for both
 abbrev pub IsNoDiff : Given → Type 0
 IsNoDiff given =
@@ -176,6 +190,7 @@ pub record IsNoCommand (name : Text) : Type 0 where
   pub not_line : name ≡ codes "line" → ⊥
   pub not_frame : name ≡ codes "frame" → ⊥
   pub not_draw : name ≡ codes "draw" → ⊥
+  pub not_text : name ≡ codes "text" → ⊥
   pub not_diff : name ≡ codes "diff" → ⊥
 
 -- the words of a command of this name ask for nothing
@@ -187,6 +202,7 @@ pub data AsksNothing (name : Text) (given : Given) : Type 0 where
   no_line : name ≡ codes "line" → IsNoLine given → AsksNothing name given
   no_frame : name ≡ codes "frame" → IsNoFrame given → AsksNothing name given
   no_draw : name ≡ codes "draw" → IsNoDraw given → AsksNothing name given
+  no_print : name ≡ codes "text" → IsNoPrint given → AsksNothing name given
   no_diff : name ≡ codes "diff" → IsNoDiff given → AsksNothing name given
 
 -- no command was entered, or its words ask for nothing

@@ -26,11 +26,19 @@ plain_words id = record (plain_word id) { action = Some Append }
 abbrev pub check_command : App
 check_command = with_rule (new_app (codes "check")) (plain_words (codes "SET"))
 
--- `play SET SCRIPT`
-abbrev pub play_command : App
-play_command =
+-- `play SET SCRIPT`, without its options
+abbrev pub play_begun : App
+play_begun =
     with_rule (with_rule (new_app (codes "play")) (plain_word (codes "SET")))
     (plain_word (codes "SCRIPT"))
+
+-- a command with the options that say what of a run is seen beside its replies
+abbrev pub with_seeing_options : App → App
+with_seeing_options command = with_rule command (flag_word (codes "echo"))
+
+-- `play SET SCRIPT`, with its options
+abbrev pub play_command : App
+play_command = with_seeing_options play_begun
 
 -- `soak SCRIPT --workers N`, which has to be there
 abbrev pub soak_command : App
@@ -73,6 +81,10 @@ draw_command =
     (with_rule (with_rule (new_app (codes "draw")) (plain_word (codes "SET")))
     (new_rule (codes "PROCESS"))) (flag_word (codes "states"))
 
+-- `text SET`
+abbrev pub text_command : App
+text_command = with_rule (new_app (codes "text")) (plain_word (codes "SET"))
+
 -- `diff OLD NEW`
 abbrev pub diff_command : App
 diff_command =
@@ -93,8 +105,10 @@ all_commands =
     (with_subcommand
     (with_subcommand
     (with_subcommand
+    (with_subcommand
     (with_subcommand (with_subcommand program_begun check_command.top) play_command.top)
-    soak_command.top) line_command.top) frame_command.top) draw_command.top) diff_command.top
+    soak_command.top) line_command.top) frame_command.top) draw_command.top) text_command.top)
+    diff_command.top
 
 -- a word of the command is one of its commands' too
 abbrev pub has_globals : Command → Bool

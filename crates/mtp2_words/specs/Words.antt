@@ -8,9 +8,10 @@ use Rattle.mtp2_words.specs.declared.words.Named.{Named}
 use Rattle.mtp2_words.specs.declared.words.Named.TheVariants.{Standard, Monitors, Stdin, File}
 use Rattle.mtp2_words.specs.declared.words.Source.{Source}
 use Rattle.mtp2_words.specs.declared.words.Source.TheVariants.{Stdin as stdin, File as script_file}
+use Rattle.mtp2_words.specs.declared.seeing.Seeing.{Seeing}
 use Rattle.mtp2_words.specs.declared.words.Request.{Request}
 use Rattle.mtp2_words.specs.declared.words.Request.TheVariants.{Check, Play, Soak, Line, Frame}
-use Rattle.mtp2_words.specs.declared.words.Request.TheVariants.{Draw, Diff}
+use Rattle.mtp2_words.specs.declared.words.Request.TheVariants.{Draw, Print, Diff}
 
 -- a file may have any name but these
 pub record IsFileName (word : List ℕ) : Type 0 where
@@ -40,14 +41,17 @@ pub record IsPlayOf (set_word script_word : List ℕ) (set : Named) (script : So
   pub script_is : IsSource script script_word
   pub one_input : AreStdin set_word script_word → ⊥
 
-abbrev pub IsPlay : List ℕ → List ℕ → Request → Type 0
-IsPlay set_word script_word (Check sets) = ⊥
-IsPlay set_word script_word (Play set script) = IsPlayOf set_word script_word set script
-IsPlay set_word script_word (Soak script workers) = ⊥
-IsPlay set_word script_word (Line set end) = ⊥
-IsPlay set_word script_word (Frame octets) = ⊥
-IsPlay set_word script_word (Draw set process states) = ⊥
-IsPlay set_word script_word (Diff old new) = ⊥
+-- and this is seen of the run
+abbrev pub IsPlay : List ℕ → List ℕ → Seeing → Request → Type 0
+IsPlay set_word script_word wanted (Check sets) = ⊥
+IsPlay set_word script_word wanted (Play set script seen) =
+    IsPlayOf set_word script_word set script × (seen ≡ wanted)
+IsPlay set_word script_word wanted (Soak script workers) = ⊥
+IsPlay set_word script_word wanted (Line set end) = ⊥
+IsPlay set_word script_word wanted (Frame octets) = ⊥
+IsPlay set_word script_word wanted (Draw set process states) = ⊥
+IsPlay set_word script_word wanted (Print set) = ⊥
+IsPlay set_word script_word wanted (Diff old new) = ⊥
 
 -- as many workers as may serve
 abbrev pub as_many : ℕ → Option ℕ
@@ -60,13 +64,37 @@ workers_of word = option_and_then as_many (count_of word)
 -- what `soak` asks for by two words
 abbrev pub IsSoak : List ℕ → List ℕ → Request → Type 0
 IsSoak script_word workers_word (Check sets) = ⊥
-IsSoak script_word workers_word (Play set script) = ⊥
+IsSoak script_word workers_word (Play set script seen) = ⊥
 IsSoak script_word workers_word (Soak script workers) =
     IsSource script script_word × (workers_of workers_word ≡ Some workers)
 IsSoak script_word workers_word (Line set end) = ⊥
 IsSoak script_word workers_word (Frame octets) = ⊥
 IsSoak script_word workers_word (Draw set process states) = ⊥
+IsSoak script_word workers_word (Print set) = ⊥
 IsSoak script_word workers_word (Diff old new) = ⊥
+
+-- the set of the program's own that a word names
+abbrev pub IsOwnNamed : Named → List ℕ → Type 0
+IsOwnNamed Standard word = word ≡ codes "standard"
+IsOwnNamed Monitors word = word ≡ codes "monitors"
+IsOwnNamed Stdin word = ⊥
+IsOwnNamed (File path) word = ⊥
+
+-- what `text` asks for by a word
+abbrev pub IsPrint : List ℕ → Request → Type 0
+IsPrint word (Check sets) = ⊥
+IsPrint word (Play set script seen) = ⊥
+IsPrint word (Soak script workers) = ⊥
+IsPrint word (Line set end) = ⊥
+IsPrint word (Frame octets) = ⊥
+IsPrint word (Draw set process states) = ⊥
+IsPrint word (Print set) = IsOwnNamed set word
+IsPrint word (Diff old new) = ⊥
+
+-- a word names none of them
+pub record NamesNone (word : List ℕ) : Type 0 where
+  pub not_standard : word ≡ codes "standard" → ⊥
+  pub not_monitors : word ≡ codes "monitors" → ⊥
 
 -- what `diff` asks for by two words; standard input isn't both
 pub record IsDiff (old_word new_word : List ℕ) (old new : Named) : Type 0 where
@@ -94,9 +122,10 @@ says_true (Some word) = bytes_eq word (codes "true")
 -- the word that names the command
 abbrev pub command_of : Request → List ℕ
 command_of (Check sets) = codes "check"
-command_of (Play set script) = codes "play"
+command_of (Play set script seen) = codes "play"
 command_of (Soak script workers) = codes "soak"
 command_of (Line set end) = codes "line"
 command_of (Frame octets) = codes "frame"
 command_of (Draw set process states) = codes "draw"
+command_of (Print set) = codes "text"
 command_of (Diff old new) = codes "diff"

@@ -1,7 +1,7 @@
 //! The commands of the program, and the words that they take.
 ghost use Rattle.std.specs.Prelude.{◌≡◌, IfOk, false};
 ghost use Rattle.clap.specs.Words.{rule_of, new_app, new_rule, app_of};
-ghost use Rattle.mtp2_words.specs.Commands.{plain_word, option_word, flag_word, check_command, play_command, soak_command, line_begun, line_command, frame_command, draw_command, diff_command, all_commands, program_begun, with_line_options, with_capture_options, has_globals, IsCommand};
+ghost use Rattle.mtp2_words.specs.Commands.{plain_word, option_word, flag_word, check_command, play_command, soak_command, line_begun, line_command, frame_command, draw_command, diff_command, text_command, play_begun, with_seeing_options, all_commands, program_begun, with_line_options, with_capture_options, has_globals, IsCommand};
 
 use clap::{Arg, ArgAction, Command};
 use std::alloc::{AllocError, Global};
@@ -17,6 +17,7 @@ pub fn all_commands<'a>(alloc: Global) -> Result<Command<'a>, AllocError>
         .subcommand(line_command(alloc)?)?
         .subcommand(frame_command(alloc)?)?
         .subcommand(draw_command(alloc)?)?
+        .subcommand(text_command(alloc)?)?
         .subcommand(diff_command(alloc)?)
 }
 
@@ -98,9 +99,9 @@ fn check_command<'a>(alloc: Global) -> Result<Command<'a>, AllocError>
     .arg(set)
 }
 
-/// The command `play`.
-fn play_command<'a>(alloc: Global) -> Result<Command<'a>, AllocError>
-    ensures { IfOk result (IsCommand play_command) }
+/// The command `play`, without what is seen of a run beside its replies.
+fn play_begun<'a>(alloc: Global) -> Result<Command<'a>, AllocError>
+    ensures { IfOk result (IsCommand play_begun) }
 {
     let set = plain_word(
         alloc,
@@ -120,6 +121,25 @@ fn play_command<'a>(alloc: Global) -> Result<Command<'a>, AllocError>
     )
     .arg(set)?
     .arg(script)
+}
+
+/// The options that say what of a run is seen beside its replies.
+fn with_seeing_options<'a>(alloc: Global, command: Command<'a>) -> Result<Command<'a>, AllocError>
+    ensures { has_globals command.entry ≡ false → IfOk result (IsCommand (with_seeing_options (app_of command.entry))) }
+{
+    let echo = flag_word(
+        alloc,
+        "echo",
+        "Prints each command in front of what it prints, behind `> `",
+    );
+    command.arg(echo)
+}
+
+/// The command `play`.
+fn play_command<'a>(alloc: Global) -> Result<Command<'a>, AllocError>
+    ensures { IfOk result (IsCommand play_command) }
+{
+    with_seeing_options(alloc, play_begun(alloc)?)
 }
 
 /// The command `soak`.
@@ -284,4 +304,18 @@ fn draw_command<'a>(alloc: Global) -> Result<Command<'a>, AllocError>
     .arg(set)?
     .arg(process)?
     .arg(states)
+}
+
+/// The command `text`.
+fn text_command<'a>(alloc: Global) -> Result<Command<'a>, AllocError>
+    ensures { IfOk result (IsCommand text_command) }
+{
+    let set = plain_word(alloc, "SET", "standard or monitors");
+    bare_command(
+        alloc,
+        "text",
+        "Prints the text of a set of the program's own",
+        "Exits with 0, or with 4 where a write fails.",
+    )
+    .arg(set)
 }

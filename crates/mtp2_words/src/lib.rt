@@ -4,9 +4,11 @@
 mod commands;
 mod ends;
 mod flags;
+mod seeing;
 mod words;
 
 pub use clap::Error;
 pub use clap::error::ErrorKind;
 pub use ends::{LineEnd, LineWords, line_end};
+pub use seeing::Seeing;
 pub use words::{Named, Request, Source, read};

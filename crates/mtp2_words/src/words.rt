@@ -1,14 +1,15 @@
 //! The command line.
 ghost use Rattle.std.specs.Prelude.{◌≡◌, ◌↔◌, ◌⊎◌, Some, None, [], true, map, string_bytes, IfSome, IfOk, IfErr, IsNone, IsTrue, option_map, codes};
 ghost use Rattle.clap.specs.Words.{fault_of, found_of, kind_of, rows_of, subcommand_name_of, subcommand_of, subcommand_rows_of, takes};
-ghost use Rattle.mtp2_words.specs.Words.{IsDiff, command_of, workers_of, IsNamed, IsSource, AreStdin, IsPlay, IsSoak, IsTextNamed, IsText};
-ghost use Rattle.mtp2_words.specs.Asked.{given_by, AreAllAsked, AreNamed, AsksEnd, AsksNothing, IsAsked, IsAskedBy, IsNoCheck, IsNoFrame, IsNoLine, IsNoPlay, IsNoSoak, SaysNoEnd, SaysNothing, IsNoDiff, IsNoDraw};
+ghost use Rattle.mtp2_words.specs.Words.{IsDiff, command_of, workers_of, IsNamed, IsSource, AreStdin, IsPrint, NamesNone, IsPlay, IsSoak, IsTextNamed, IsText};
+ghost use Rattle.mtp2_words.specs.Asked.{given_by, AreAllAsked, AreNamed, AsksEnd, AsksNothing, IsAsked, IsAskedBy, IsNoCheck, IsNoFrame, IsNoLine, IsNoPlay, IsNoPrint, IsNoSoak, SaysNoEnd, SaysNothing, IsNoDiff, IsNoDraw};
 ghost use Rattle.mtp2_words.specs.Commands.{all_commands};
 ghost use Rattle.mtp2_words.specs.TurnedDown.{IsTurnedDown};
 
 use crate::commands::all_commands;
 use crate::ends::{LineEnd, LineWords, line_end};
 use crate::flags::is_given;
+use crate::seeing::{Seeing, seen_of};
 use clap::error::ErrorKind;
 use clap::{ArgMatches, Error};
 use script_lines::count;
@@ -43,10 +44,11 @@ pub enum Request<'a> {
     Check {
         sets: Vec<Named<'a>>,
     },
-    /// `play SET SCRIPT`: a set as for `check`, and a file with a script, or standard input.
+    /// `play SET SCRIPT`: a set as for `check`, and a file with a script, or standard input; and what of the run is seen beside its replies.
     Play {
         set: Named<'a>,
         script: Source<'a>,
+        seen: Seeing,
     },
     /// `soak SCRIPT --workers N`: a file with a script, or standard input, and the number of threads, 1 to 16.
     Soak {
@@ -72,6 +74,10 @@ pub enum Request<'a> {
     /// `frame HEX`: the octets of a signal unit in hexadecimal digits, with its check octets.
     Frame {
         octets: &'a str,
+    },
+    /// `text SET`: a set of the program's own.
+    Print {
+        set: Named<'a>,
     },
 }
 
@@ -104,9 +110,9 @@ fn are_stdin(set: &str, script: &str) -> bool
     set == "stdin" && script == "stdin"
 }
 
-/// The set and the script that two words name; none where standard input is to be both.
-fn played<'a>(set: &'a str, script: &'a str) -> Option<Request<'a>>
-    ensures play { IfSome result (IsPlay set.now script.now) }
+/// The set and the script that two words name, with what is seen of the run; none where standard input is to be both.
+fn played<'a>(set: &'a str, script: &'a str, seen: Seeing) -> Option<Request<'a>>
+    ensures play { IfSome result (IsPlay set.now script.now seen) }
     ensures none { IsNone result → AreStdin set.now script.now }
 {
     if are_stdin(set, script) {
@@ -115,6 +121,7 @@ fn played<'a>(set: &'a str, script: &'a str) -> Option<Request<'a>>
     Some(Request::Play {
         set: set_named(set),
         script: script_named(script),
+        seen,
     })
 }
 
@@ -231,7 +238,7 @@ fn asked_play<'a>(given: &ArgMatches<'a>) -> Option<Request<'a>>
 {
     let set = given.get_str("SET")?;
     let script = given.get_str("SCRIPT")?;
-    played(set, script)
+    played(set, script, seen_of(given))
 }
 
 /// What the matches of `soak` ask for.
@@ -287,6 +294,33 @@ fn drawn<'a>(given: &ArgMatches<'a>) -> Option<Request<'a>>
     }
 }
 
+/// The set of the program's own that a word names, to be printed; none where it names none.
+fn printed<'a>(word: &'a str) -> Option<Request<'a>>
+    ensures print { IfSome result (IsPrint word.now) }
+    ensures none { IsNone result → NamesNone word.now }
+{
+    match word {
+        "standard" => Some(Request::Print {
+            set: Named::Standard,
+        }),
+        "monitors" => Some(Request::Print {
+            set: Named::Monitors,
+        }),
+        _ => None,
+    }
+}
+
+/// What the matches of `text` ask for.
+fn asked_print<'a>(given: &ArgMatches<'a>) -> Option<Request<'a>>
+    ensures named { IfSome result (λ r. command_of r ≡ codes "text") }
+    ensures asked { IfSome result (IsAsked (given_by given.now)) }
+    ensures all { IfSome result (AreAllAsked (rows_of (found_of given.now))) }
+    ensures none { IsNone result → IsNoPrint (given_by given.now) }
+{
+    let word = given.get_str("SET")?;
+    printed(word)
+}
+
 /// The two sets that two words name; none where standard input is to be both.
 fn sides<'a>(old: &'a str, new: &'a str) -> Option<(Named<'a>, Named<'a>)>
     ensures some { IfSome result (λ p. IsDiff old.now new.now p.0 p.1) }
@@ -331,6 +365,7 @@ fn asked<'a>(
         "line" => Ok(lined(given)),
         "frame" => Ok(framed(given)),
         "draw" => Ok(drawn(given)),
+        "text" => Ok(asked_print(given)),
         "diff" => Ok(compared(given)),
         _ => Ok(None),
     }
@@ -370,6 +405,7 @@ fn complaint_of(matches: &ArgMatches<'_>) -> &'static str {
             "MODE is basic or cyclic, --bits low or high, --ahead a number up to 8000; standard input is the line, so it can't be --text"
         }
         "draw" => "--states is for a PROCESS",
+        "text" => "SET is standard or monitors",
         "diff" => "standard input can be OLD or NEW, not both",
         _ => "no such command",
     }

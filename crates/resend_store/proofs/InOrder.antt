@@ -8,7 +8,7 @@ use Rattle.resend_store.specs.declared.messages.Mode.TheVariants.{Basic, Cyclic}
 use Rattle.resend_store.specs.declared.messages.Msu.{Msu}
 use Rattle.resend_store.specs.declared.messages.Outgoing.{Outgoing}
 use Rattle.resend_store.specs.Numbers.{plus}
-use Rattle.resend_store.specs.Window.{Window, Sending, unacknowledged, waiting, start, with_put, next, count_by, without, asked, after_back, count_known, emptied, refreshed}
+use Rattle.resend_store.specs.Window.{Window, Sending, unacknowledged, waiting, start_within, with_put, next, count_by, without, asked, after_back, count_known, emptied, refreshed}
 use Rattle.resend_store.specs.Runs.{Call, put, put_diverted, next_unit, on_back, retrieve, fresh, is_accepted, accepted, step, after, message_of, brought, newly_given, all_brought, all_given, is_beginning, NoBeginning, counted, InOrder, number_after, NewInOrder}
 use Rattle.resend_store.proofs.Given.{again, new, SameNumbers, next_is}
 use Rattle.std.proofs.lemmas.Bool.{cases_Bool as true_or_false, leb-true as test_of}
@@ -226,11 +226,11 @@ number_known w None = omega arith
 
 pub new_in_order : NewInOrder
 new_in_order = record {
-  since_new = λ mode calls plain. in_order (start mode) calls (omega arith) plain;
-  since_fresh = λ mode before calls plain.
-      let w = after (start mode) before in
+  since_new = λ limits mode calls plain. in_order (start_within limits mode) calls (omega arith) plain;
+  since_fresh = λ limits mode before calls plain.
+      let w = after (start_within limits mode) before in
       at_held w.kept (unacknowledged w ++ waiting w) 0 (refreshed w) calls (sym (take-append-drop w.sent w.kept)) (in_order (refreshed w) calls (omega arith) plain);
-  since_retrieve = λ mode before fsn calls known plain.
-      let w = after (start mode) before in
+  since_retrieve = λ limits mode before fsn calls known plain.
+      let w = after (start_within limits mode) before in
       at_number [] (plus (emptied w fsn).first (emptied w fsn).sent) (number_after w fsn) (emptied w fsn) calls (number_known w fsn) (in_order (emptied w fsn) calls (omega arith) plain);
 }

@@ -21,7 +21,7 @@ unforced w e f a = rw (f, a, e) refl
 
 round_over : (w : Window) → w.mode ≡ Cyclic → w.again ≡ 0 → (b : Bool) → at_limit w ≡ b → w.forced ≡ true → next_by Cyclic w ≡ gives (settled w)
 round_over w e a true l f =
-    let sent : 0 < w.sent = front_at_limit w.sent w.kept l in
+    let sent : 0 < w.sent = front_at_limit w.limits w.sent w.kept l in
     let p : nat_lt 0 w.sent ≡ true = grind (arith, nat_tests) in
     rw (f, a, l, p) refl
 round_over w e a false l f = rw (f, a, l, e) refl

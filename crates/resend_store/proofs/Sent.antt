@@ -109,7 +109,7 @@ forced_fine w f =
     by_test P (nat_lt 0 w.again) (repeats w) (if at_limit w then repeats (round w) else next_ordinary v)
     (λ some. repeats_fine w f (ltb-true 0 w.again some))
     (λ _. by_test P (at_limit w) (repeats (round w)) (next_ordinary v)
-    (λ full. repeats_fine (round w) (round_fine w f) (limit_sent w.sent w.kept full)) (λ _. ordinary_fine v f'))
+    (λ full. repeats_fine (round w) (round_fine w f) (limit_sent w.limits w.sent w.kept full)) (λ _. ordinary_fine v f'))
 
 by_mode_fine : (m : Mode) (w : Window) → Fine w → NextFine w.kept w.first w.sent (next_by m w)
 by_mode_fine Basic w f = basic_fine w f

@@ -4,16 +4,17 @@ use Rattle.std.specs.Prelude.{Option, Some, None, slice_get}
 use Rattle.std.proofs.lemmas.Bool.Decides.{nat_tests}
 use Rattle.std.proofs.lemmas.List.{drop-drop, drop-append-le, length-drop, length-take, length_push, drop-take, drop_all}
 use Rattle.resend_store.specs.declared.messages.Mode.{Mode}
+use Rattle.resend_store.specs.declared.messages.RoundLimits.{RoundLimits}
 use Rattle.resend_store.specs.declared.messages.Mode.TheVariants.{Basic, Cyclic}
 use Rattle.resend_store.specs.declared.messages.Msu.{Msu}
 use Rattle.resend_store.specs.declared.messages.Outgoing.{Outgoing}
 use Rattle.resend_store.specs.Limits.{MOST_UNACKNOWLEDGED, MOST_WAITING, MOST_KEPT}
 use Rattle.resend_store.specs.Numbers.{plus, minus}
 use Rattle.resend_store.specs.Messages.{reaches_limit}
-use Rattle.resend_store.specs.Window.{Window, Sending, waiting, number_at, start, with_put, may_send, at_limit, unit_at, fill_in, repeats, round, after_new, sends_new, cycles, next_basic, next_ordinary, next_forced, next_by, next, count_by, without, asked, retrieved, count_known, emptied, refreshed}
+use Rattle.resend_store.specs.Window.{Window, Sending, unacknowledged, waiting, number_at, start_within, with_put, may_send, at_limit, unit_at, fill_in, repeats, round, after_new, sends_new, cycles, next_basic, next_ordinary, next_forced, next_by, next, count_by, without, asked, retrieved, count_known, emptied, refreshed}
 use Rattle.resend_store.specs.Runs.{Call, put, put_diverted, next_unit, on_back, retrieve, fresh, is_accepted, accepted, step, after}
 use Rattle.resend_store.specs.Whole.{Whole, number_of, in_window, whole_start, WholeSending, carries, fills_in, goes_again, forces, forces_by, goes_out, goes_in_turn, is_open, whole_next_basic, whole_next_ordinary, whole_next_forced, whole_next_by, whole_next, whole_count, acknowledges, whole_asked, whole_known, handed, whole_emptied, whole_refreshed, whole_accepts, whole_accepted, whole_step, whole_after, StandsFor, KeptIsEnough}
-use Rattle.resend_store.proofs.WindowTests.{may_waits, limit_sent}
+use Rattle.resend_store.proofs.WindowTests.{may_waits, limit_sent, same_lt, same_eq, both_same, not_above_zero}
 use Rattle.std.proofs.lemmas.Bool.{leb-true as le_by_test, ltb-true}
 
 -- ---- tests and lists
@@ -22,30 +23,6 @@ use Rattle.std.proofs.lemmas.Bool.{leb-true as le_by_test, ltb-true}
 pick : {A B : Type 0} (R : A → B → Type 0) (b c : Bool) (x y : A) (z v : B) → b ≡ c → (b ≡ true → R x z) → (b ≡ false → R y v) → R (if b then x else y) (if c then z else v)
 pick R true c x y z v e h k = let P : Bool → Type 0 = λ d. R x (if d then z else v) in subst P e (h refl)
 pick R false c x y z v e h k = let P : Bool → Type 0 = λ d. R y (if d then z else v) in subst P e (k refl)
-
-lt_alike : (b c : Bool) (m n i j : ℕ) → nat_lt m n ≡ b → nat_lt i j ≡ c → (m < n → i < j) → (i < j → m < n) → b ≡ c
-lt_alike true true m n i j e f h k = refl
-lt_alike false false m n i j e f h k = refl
-lt_alike true false m n i j e f h k = let lt : m < n = grind (arith, nat_tests) in let il = h lt in grind (arith, nat_tests)
-lt_alike false true m n i j e f h k = let lt : i < j = grind (arith, nat_tests) in let il = k lt in grind (arith, nat_tests)
-
-same_lt : (m n i j : ℕ) → (m < n → i < j) → (i < j → m < n) → nat_lt m n ≡ nat_lt i j
-same_lt m n i j h k = lt_alike (nat_lt m n) (nat_lt i j) m n i j refl refl h k
-
-eq_alike : (b c : Bool) (m n i j : ℕ) → (m == n) ≡ b → (i == j) ≡ c → (m ≡ n → i ≡ j) → (i ≡ j → m ≡ n) → b ≡ c
-eq_alike true true m n i j e f h k = refl
-eq_alike false false m n i j e f h k = refl
-eq_alike true false m n i j e f h k = let same : m ≡ n = grind (arith, nat_tests) in let others = h same in grind (arith, nat_tests)
-eq_alike false true m n i j e f h k = let same : i ≡ j = grind (arith, nat_tests) in let others = k same in grind (arith, nat_tests)
-
-same_eq : (m n i j : ℕ) → (m ≡ n → i ≡ j) → (i ≡ j → m ≡ n) → (m == n) ≡ (i == j)
-same_eq m n i j h k = eq_alike (m == n) (i == j) m n i j refl refl h k
-
-both_same : (a b c d : Bool) → a ≡ b → c ≡ d → (a && c) ≡ (b && d)
-both_same a b c d e f = rw (e, f) refl
-
-not_above_zero : (n : ℕ) → nat_lt 0 n ≡ false → n ≡ 0
-not_above_zero n h = grind (arith, nat_tests)
 
 pub slice_get_drop : (n : ℕ) (ms : List Msu) (i : ℕ) → slice_get (drop n ms) i ≡ slice_get ms (n + i)
 slice_get_drop zero ms i = ap (λ (k : ℕ). slice_get ms k) (sym (zero-add i))
@@ -90,6 +67,7 @@ repeat_alike h w st some =
       unit = unit_alike h w (w.sent - w.again) h.repeat_from st (omega arith);
       left = record {
         mode = st.mode;
+        limits = st.limits;
         kept = st.kept;
         sent = st.sent;
         first = st.first;
@@ -104,14 +82,16 @@ repeat_alike h w st some =
       };
     }
 
-limit_alike : (h : Whole) (w : Window) → StandsFor h w → at_limit w ≡ reaches_limit (in_window h)
+limit_alike : (h : Whole) (w : Window) → StandsFor h w → at_limit w ≡ reaches_limit h.limits (in_window h)
 limit_alike h w st =
-    ap (λ (ms : List Msu). reaches_limit ms)
+    ap (λ (l : RoundLimits). reaches_limit l (unacknowledged w)) st.limits
+    ∙ ap (λ (ms : List Msu). reaches_limit h.limits ms)
     (ap (λ (ms : List Msu). take w.sent ms) st.kept ∙ sym (drop-take h.acknowledged w.sent h.messages) ∙ ap (λ (k : ℕ). drop h.acknowledged (take k h.messages)) st.sent)
 
 round_alike : (h : Whole) (w : Window) → StandsFor h w → StandsFor (forces h) (round w)
 round_alike h w st = record {
   mode = st.mode;
+  limits = st.limits;
   kept = st.kept;
   sent = st.sent;
   first = st.first;
@@ -129,7 +109,7 @@ forces_alike : (m : Mode) (h : Whole) (w : Window) → StandsFor h w → StandsF
 forces_alike Basic h w st = st
 forces_alike Cyclic h w st =
     let R : Window → Whole → Type 0 = λ v k. StandsFor k v in
-    pick R (at_limit w) (reaches_limit (in_window h)) (round w) w (forces h) h (limit_alike h w st) (λ _. round_alike h w st) (λ _. st)
+    pick R (at_limit w) (reaches_limit h.limits (in_window h)) (round w) w (forces h) h (limit_alike h w st) (λ _. round_alike h w st) (λ _. st)
 
 kept_length : (h : Whole) (w : Window) → StandsFor h w → length w.kept ≡ length h.messages - h.acknowledged
 kept_length h w st = ap (λ (ms : List Msu). length ms) st.kept ∙ length-drop h.acknowledged h.messages
@@ -138,7 +118,7 @@ kept_length h w st = ap (λ (ms : List Msu). length ms) st.kept ∙ length-drop 
 more_sent : (h : Whole) (w : Window) → StandsFor h w → w.sent < length w.kept → w.again ≡ 0 → StandsFor (record h { sent = h.sent + 1; repeat_from = h.sent + 1 }) (record w { sent = w.sent + 1 })
 more_sent h w st more none =
     let sent = st.sent in let size = kept_length h w st in
-    record { mode = st.mode; kept = st.kept; sent = omega arith; first = st.first; fib = st.fib; again = omega arith; forced = st.forced; turn = st.turn; origin = st.origin; inside = omega arith; repeats = omega arith; idle = λ m f. refl }
+    record { mode = st.mode; limits = st.limits; kept = st.kept; sent = omega arith; first = st.first; fib = st.fib; again = omega arith; forced = st.forced; turn = st.turn; origin = st.origin; inside = omega arith; repeats = omega arith; idle = λ m f. refl }
 
 new_alike : (h : Whole) (w : Window) → StandsFor h w → w.sent < length w.kept → w.again ≡ 0 → SendAlike (sends_new w) (goes_out h)
 new_alike h w st more none =
@@ -158,6 +138,7 @@ turn_alike h w st =
       unit = unit_alike h w w.turn h.turn st st.turn;
       left = record {
         mode = st.mode;
+        limits = st.limits;
         kept = st.kept;
         sent = st.sent;
         first = st.first;
@@ -208,18 +189,18 @@ ordinary_alike h w st none =
 unforced : (h : Whole) (w : Window) → StandsFor h w → w.again ≡ 0 → StandsFor (record h { forced = false }) (record w { forced = false })
 unforced h w st none =
     let again = st.again in
-    record { mode = st.mode; kept = st.kept; sent = st.sent; first = st.first; fib = st.fib; again = st.again; forced = refl; turn = st.turn; origin = st.origin; inside = st.inside; repeats = st.repeats; idle = λ m f. omega arith }
+    record { mode = st.mode; limits = st.limits; kept = st.kept; sent = st.sent; first = st.first; fib = st.fib; again = st.again; forced = refl; turn = st.turn; origin = st.origin; inside = st.inside; repeats = st.repeats; idle = λ m f. omega arith }
 
 forced_alike : (h : Whole) (w : Window) → StandsFor h w → SendAlike (next_forced w) (whole_next_forced h)
 forced_alike h w st =
     let R : Sending → WholeSending → Type 0 = λ s t. SendAlike s t in
     let v : Window = record w { forced = false } in
     let k : Whole = record h { forced = false } in
-    pick R (nat_lt 0 w.again) (nat_lt h.repeat_from h.sent) (repeats w) (if at_limit w then repeats (round w) else next_ordinary v) (goes_again h) (if reaches_limit (in_window h) then goes_again (forces h) else whole_next_ordinary k)
+    pick R (nat_lt 0 w.again) (nat_lt h.repeat_from h.sent) (repeats w) (if at_limit w then repeats (round w) else next_ordinary v) (goes_again h) (if reaches_limit h.limits (in_window h) then goes_again (forces h) else whole_next_ordinary k)
     (again_alike h w st)
     (λ some. repeat_alike h w st (ltb-true 0 w.again some))
-    (λ none. pick R (at_limit w) (reaches_limit (in_window h)) (repeats (round w)) (next_ordinary v) (goes_again (forces h)) (whole_next_ordinary k) (limit_alike h w st)
-    (λ full. repeat_alike (forces h) (round w) (round_alike h w st) (limit_sent w.sent w.kept full))
+    (λ none. pick R (at_limit w) (reaches_limit h.limits (in_window h)) (repeats (round w)) (next_ordinary v) (goes_again (forces h)) (whole_next_ordinary k) (limit_alike h w st)
+    (λ full. repeat_alike (forces h) (round w) (round_alike h w st) (limit_sent w.limits w.sent w.kept full))
     (λ _. ordinary_alike k v (unforced h w st (not_above_zero w.again none)) (not_above_zero w.again none)))
 
 idle_again : (h : Whole) (w : Window) → StandsFor h w → h.mode ≡ Cyclic → w.forced ≡ false → w.again ≡ 0
@@ -244,6 +225,7 @@ add_alike h w m st =
     let sent = st.sent in let inside = st.inside in let longer = length_push h.messages m in
     record {
       mode = st.mode;
+      limits = st.limits;
       sent = st.sent;
       first = st.first;
       fib = st.fib;
@@ -275,6 +257,7 @@ without_alike h w n st few =
     let sent = st.sent in let again = st.again in let turn = st.turn in let repeats = st.repeats in let origin = st.origin in
     record {
       mode = st.mode;
+      limits = st.limits;
       fib = st.fib;
       forced = st.forced;
       inside = st.inside;
@@ -295,6 +278,7 @@ asked_alike Basic bib h w e st =
     (ap (λ (n : ℕ). bib == n) st.fib) (λ _. st)
     (λ _. record {
       mode = st.mode;
+      limits = st.limits;
       kept = st.kept;
       sent = st.sent;
       first = st.first;
@@ -324,6 +308,7 @@ emptied_alike h w fsn m st e few =
     let P : ℕ → Type 0 = λ k. StandsFor (whole_emptied h k) (emptied w fsn) in
     let front : StandsFor (whole_emptied h n) (emptied w fsn) = record {
       mode = st.mode;
+      limits = st.limits;
       fib = st.fib;
       forced = refl;
       kept = sym (drop_all a (take a h.messages) (omega arith));
@@ -341,7 +326,7 @@ emptied_alike h w fsn m st e few =
 refreshed_alike : (h : Whole) (w : Window) → StandsFor h w → StandsFor (whole_refreshed h) (refreshed w)
 refreshed_alike h w st =
     let sent = st.sent in let inside = st.inside in
-    record { mode = st.mode; kept = st.kept; sent = omega arith; first = omega arith; fib = refl; again = omega arith; forced = refl; turn = omega arith; origin = omega arith; inside = omega arith; repeats = omega arith; idle = λ m f. refl }
+    record { mode = st.mode; limits = st.limits; kept = st.kept; sent = omega arith; first = omega arith; fib = refl; again = omega arith; forced = refl; turn = omega arith; origin = omega arith; inside = omega arith; repeats = omega arith; idle = λ m f. refl }
 
 -- ---- both answer alike, and go on alike
 
@@ -380,8 +365,8 @@ run_alike : (h : Whole) (w : Window) (calls : List Call) → StandsFor h w → S
 run_alike h w [] st = st
 run_alike h w (call ∷ calls) st = run_alike (whole_step h call) (step w call) calls (step_alike h w call st)
 
-start_alike : (mode : Mode) → StandsFor (whole_start mode) (start mode)
-start_alike mode = record { mode = refl; kept = refl; sent = refl; first = refl; fib = refl; again = refl; forced = refl; turn = refl; origin = omega arith; inside = omega arith; repeats = omega arith; idle = λ m f. refl }
+start_alike : (limits : RoundLimits) (mode : Mode) → StandsFor (whole_start limits mode) (start_within limits mode)
+start_alike limits mode = record { mode = refl; limits = refl; kept = refl; sent = refl; first = refl; fib = refl; again = refl; forced = refl; turn = refl; origin = omega arith; inside = omega arith; repeats = omega arith; idle = λ m f. refl }
 
 pub kept_is_enough : KeptIsEnough
 kept_is_enough = record {
@@ -392,5 +377,5 @@ kept_is_enough = record {
     accepts = λ call. accepts_alike h w call st;
   };
   steps = λ h w call st. step_alike h w call st;
-  runs = λ mode calls. run_alike (whole_start mode) (start mode) calls (start_alike mode);
+  runs = λ limits mode calls. run_alike (whole_start limits mode) (start_within limits mode) calls (start_alike limits mode);
 }

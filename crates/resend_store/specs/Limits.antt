@@ -15,10 +15,14 @@ abbrev pub MOST_KEPT : ℕ
 MOST_KEPT = 1151
 
 -- so many unacknowledged messages begin forced retransmission (Q.703, 6.4; the value is this
--- profile's)
+-- profile's, where nothing else is chosen)
 abbrev pub N1 : ℕ
 N1 = 127
 
--- and so many unacknowledged octets of SIO and SIF (Q.703, 6.4; the value is this profile's)
+-- and so many unacknowledged octets of SIO and SIF (Q.703, 6.4; likewise)
 abbrev pub N2 : ℕ
 N2 = 8192
+
+-- the fewest octets that may be chosen: a message of the greatest length doesn't reach them alone
+abbrev pub LEAST_N2 : ℕ
+LEAST_N2 = 300

@@ -1,7 +1,9 @@
 -- Messages as signal units carry them.
-use Rattle.std.specs.Prelude.{ℕ, ◌+◌, ◌≤◌, ◌||◌, nat_le, Bool, List, length, sum_by}
+use Rattle.std.specs.Prelude.{ℕ, ◌+◌, ◌≤◌, ◌&&◌, ◌||◌, nat_le, nat_lt, Bool, if◌then◌else◌}
+use Rattle.std.specs.Prelude.{Option, Some, None, List, length, sum_by}
 use Rattle.resend_store.specs.declared.messages.Msu.{Msu}
-use Rattle.resend_store.specs.Limits.{N1, N2}
+use Rattle.resend_store.specs.declared.messages.RoundLimits.{RoundLimits}
+use Rattle.resend_store.specs.Limits.{N1, N2, LEAST_N2}
 
 -- a signalling information field has 2 to 272 octets
 pub record IsMessage (m : Msu) : Type 0 where
@@ -15,7 +17,19 @@ octets_of m = length m.sif.items + 1
 abbrev pub octets : List Msu → ℕ
 octets ms = sum_by octets_of ms
 
+-- where nothing else is chosen
+abbrev pub usual_limits : RoundLimits
+usual_limits = record { messages = N1; octets = N2 }
+
+-- those that may be chosen: 1 to 127 messages, and 300 to 8,192 octets
+abbrev pub chosen_limits : ℕ → ℕ → Option RoundLimits
+chosen_limits messages octets =
+    if (nat_le 1 messages && nat_le messages N1) && (nat_le LEAST_N2 octets && nat_le octets N2)
+    then Some (record { messages = messages; octets = octets }) else None
+
 -- whether so many messages, or so many octets of them, are unacknowledged that they have to go
--- again
-abbrev pub reaches_limit : List Msu → Bool
-reaches_limit ms = nat_le N1 (length ms) || nat_le N2 (octets ms)
+-- again; never where there is none
+abbrev pub reaches_limit : RoundLimits → List Msu → Bool
+reaches_limit limits ms =
+    nat_lt 0 (length ms)
+    && (nat_le limits.messages (length ms) || nat_le limits.octets (octets ms))

@@ -4,12 +4,13 @@ use Rattle.std.specs.Prelude.{◌≡◌, ℕ, ◌≤◌, zero, suc, nat_lt, nat_
 use Rattle.std.specs.Prelude.{if◌then◌else◌, List, [], ◌∷◌, ◌++◌, length, map, Option, Some, None}
 use Rattle.resend_store.specs.declared.messages.Msu.{Msu}
 use Rattle.resend_store.specs.declared.messages.Mode.{Mode}
+use Rattle.resend_store.specs.declared.messages.RoundLimits.{RoundLimits}
 use Rattle.resend_store.specs.declared.messages.Outgoing.{Outgoing}
 use Rattle.resend_store.specs.Limits.{MOST_WAITING, MOST_KEPT}
 use Rattle.resend_store.specs.Numbers.{plus}
-use Rattle.resend_store.specs.Window.{Window, unacknowledged, waiting, last_acknowledged, start}
-use Rattle.resend_store.specs.Window.{with_put, next, count_by, after_back, count_known, emptied}
-use Rattle.resend_store.specs.Window.{refreshed}
+use Rattle.resend_store.specs.Window.{Window, unacknowledged, waiting, last_acknowledged}
+use Rattle.resend_store.specs.Window.{start_within, with_put, next, count_by, after_back}
+use Rattle.resend_store.specs.Window.{count_known, emptied, refreshed}
 
 -- A call of a sender. One for which there was no memory changes nothing, and isn't among them.
 pub data Call : Type 0 where
@@ -119,13 +120,16 @@ number_after w None = plus (last_acknowledged w) 1
 -- `retrieve`.
 pub record NewInOrder : Type 0 where
   pub since_new :
-      (mode : Mode) (calls : List Call) → NoBeginning (start mode) calls
-      → InOrder [] 0 (start mode) calls
-  pub since_fresh : (mode : Mode) (before calls : List Call) →
-      let w = after (start mode) before in
+      (limits : RoundLimits) (mode : Mode) (calls : List Call)
+      → NoBeginning (start_within limits mode) calls
+      → InOrder [] 0 (start_within limits mode) calls
+  pub since_fresh : (limits : RoundLimits) (mode : Mode) (before calls : List Call) →
+      let w = after (start_within limits mode) before in
       NoBeginning (refreshed w) calls
       → InOrder (unacknowledged w ++ waiting w) 0 (refreshed w) calls
-  pub since_retrieve : (mode : Mode) (before : List Call) (fsn : Option ℕ) (calls : List Call) →
-      let w = after (start mode) before in
+  pub since_retrieve :
+      (limits : RoundLimits) (mode : Mode) (before : List Call) (fsn : Option ℕ)
+      (calls : List Call) →
+      let w = after (start_within limits mode) before in
       count_known w fsn ≤ w.sent → NoBeginning (emptied w fsn) calls
       → InOrder [] (number_after w fsn) (emptied w fsn) calls

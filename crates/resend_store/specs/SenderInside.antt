@@ -5,6 +5,7 @@ use Rattle.resend_store.specs.Window.{Window, IsWindow}
 abbrev pub window_of : Inside → Window
 window_of a = record {
   mode = a.mode;
+  limits = a.limits;
   kept = a.store.kept;
   sent = a.store.sent;
   first = a.first;

@@ -7,16 +7,19 @@ use Rattle.resend_store.specs.declared.messages.Msu.{Msu}
 use Rattle.resend_store.specs.declared.messages.Mode.{Mode}
 use Rattle.resend_store.specs.declared.messages.Mode.TheVariants.{Basic, Cyclic}
 use Rattle.resend_store.specs.declared.messages.Outgoing.{Outgoing}
+use Rattle.resend_store.specs.declared.messages.RoundLimits.{RoundLimits}
 use Rattle.resend_store.specs.Limits.{MOST_UNACKNOWLEDGED, MOST_WAITING, MOST_KEPT}
 use Rattle.resend_store.specs.Numbers.{minus}
 use Rattle.resend_store.specs.Messages.{reaches_limit}
-use Rattle.resend_store.specs.Window.{Window, start, next, count_by, retrieved}
+use Rattle.resend_store.specs.Window.{Window, start_within, next, count_by, retrieved}
 use Rattle.resend_store.specs.Runs.{Call, put, put_diverted, next_unit, on_back, retrieve, fresh}
 use Rattle.resend_store.specs.Runs.{is_accepted, step, after}
 
 -- Places are places in the list of all messages, so none of them ever changes its place.
 pub record Whole : Type 0 where
   pub mode : Mode
+  -- with how many unacknowledged ones cyclic retransmission is forced
+  pub limits : RoundLimits
   -- all messages put, oldest first, but for those that were handed back
   pub messages : List Msu
   -- the place of the number 0
@@ -44,10 +47,11 @@ abbrev pub in_window : Whole → List Msu
 in_window h = drop h.acknowledged (take h.sent h.messages)
 
 -- nothing put yet
-abbrev pub whole_start : Mode → Whole
-whole_start mode =
+abbrev pub whole_start : RoundLimits → Mode → Whole
+whole_start limits mode =
     record {
       mode = mode;
+      limits = limits;
       messages = [];
       origin = 0;
       acknowledged = 0;
@@ -86,7 +90,7 @@ forces h = record h { repeat_from = h.acknowledged; forced = true }
 
 abbrev pub forces_by : Mode → Whole → Whole
 forces_by Basic h = h
-forces_by Cyclic h = if reaches_limit (in_window h) then forces h else h
+forces_by Cyclic h = if reaches_limit h.limits (in_window h) then forces h else h
 
 -- the first message not sent goes out
 abbrev pub goes_out : Whole → WholeSending
@@ -120,7 +124,7 @@ whole_next_ordinary h =
 abbrev pub whole_next_forced : Whole → WholeSending
 whole_next_forced h =
     if nat_lt h.repeat_from h.sent then goes_again h
-    else (if reaches_limit (in_window h) then goes_again (forces h)
+    else (if reaches_limit h.limits (in_window h) then goes_again (forces h)
     else whole_next_ordinary (record h { forced = false }))
 
 abbrev pub whole_next_by : Mode → Whole → WholeSending
@@ -212,6 +216,7 @@ whole_after h (call ∷ calls) = whole_after (whole_step h call) calls
 -- acknowledged one.
 pub record StandsFor (h : Whole) (w : Window) : Type 0 where
   pub mode : w.mode ≡ h.mode
+  pub limits : w.limits ≡ h.limits
   pub kept : w.kept ≡ drop h.acknowledged h.messages
   pub sent : h.acknowledged + w.sent ≡ h.sent
   pub first : w.first ≡ number_of h h.acknowledged
@@ -240,5 +245,6 @@ pub record KeptIsEnough : Type 0 where
   pub steps :
       (h : Whole) (w : Window) (call : Call) → StandsFor h w
       → StandsFor (whole_step h call) (step w call)
-  pub runs : (mode : Mode) (calls : List Call)
-      → StandsFor (whole_after (whole_start mode) calls) (after (start mode) calls)
+  pub runs : (limits : RoundLimits) (mode : Mode) (calls : List Call)
+      → StandsFor (whole_after (whole_start limits mode) calls)
+      (after (start_within limits mode) calls)

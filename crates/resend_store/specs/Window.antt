@@ -7,13 +7,16 @@ use Rattle.resend_store.specs.declared.messages.Msu.{Msu}
 use Rattle.resend_store.specs.declared.messages.Mode.{Mode}
 use Rattle.resend_store.specs.declared.messages.Mode.TheVariants.{Basic, Cyclic}
 use Rattle.resend_store.specs.declared.messages.Outgoing.{Outgoing}
+use Rattle.resend_store.specs.declared.messages.RoundLimits.{RoundLimits}
 use Rattle.resend_store.specs.Limits.{MOST_UNACKNOWLEDGED, MOST_KEPT}
 use Rattle.resend_store.specs.Numbers.{plus, minus}
-use Rattle.resend_store.specs.Messages.{IsMessage, reaches_limit}
+use Rattle.resend_store.specs.Messages.{IsMessage, usual_limits, reaches_limit}
 
 -- The messages beyond the last acknowledged one, and the numbers that go with them.
 pub record Window : Type 0 where
   pub mode : Mode
+  -- with how many unacknowledged ones cyclic retransmission is forced
+  pub limits : RoundLimits
   -- oldest first: those that are sent and not acknowledged, then those that wait
   pub kept : List Msu
   -- how many of them are sent
@@ -65,10 +68,11 @@ pub record IsWindow (w : Window) : Type 0 where
   pub by_mode : UsesOnly w.mode w
 
 -- nothing put yet, and the numbers at their start
-abbrev pub start : Mode → Window
-start mode =
+abbrev pub start_within : RoundLimits → Mode → Window
+start_within limits mode =
     record {
       mode = mode;
+      limits = limits;
       kept = [];
       sent = 0;
       first = 0;
@@ -77,6 +81,10 @@ start mode =
       forced = false;
       turn = 0;
     }
+
+-- the same with the usual limits
+abbrev pub start : Mode → Window
+start mode = start_within usual_limits mode
 
 -- one more message waits
 abbrev pub with_put : Window → Msu → Window
@@ -88,7 +96,7 @@ may_send w = nat_lt w.sent (length w.kept) && nat_lt w.sent MOST_UNACKNOWLEDGED
 
 -- Whether the unacknowledged messages have to go again without being asked for.
 abbrev pub at_limit : Window → Bool
-at_limit w = reaches_limit (unacknowledged w)
+at_limit w = reaches_limit w.limits (unacknowledged w)
 
 -- What a call to send gives: the unit, and what is kept then.
 pub record Sending : Type 0 where

@@ -15,8 +15,8 @@ pub use laws::{
     messages_are_delivered_in_order, new_messages_go_out_in_order,
 };
 pub use messages::{
-    FORCED_MESSAGES, FORCED_OCTETS, MAX_KEPT, MAX_UNACKNOWLEDGED, MAX_WAITING, Mode, Msu, Outgoing,
-    Verdict,
+    FORCED_MESSAGES, FORCED_OCTETS, LEAST_FORCED_OCTETS, MAX_KEPT, MAX_UNACKNOWLEDGED, MAX_WAITING,
+    Mode, Msu, Outgoing, RoundLimits, USUAL_LIMITS, Verdict,
 };
 pub use receiving::Receiver;
 pub use refusals::{AckError, PutError, RetrieveError, UnitError};

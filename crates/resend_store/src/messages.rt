@@ -1,6 +1,6 @@
 //! Messages, and what a sender and a receiver answer.
 ghost use Rattle.std.specs.Prelude.{◌≡◌, ◌≤◌, ⊤};
-ghost use Rattle.resend_store.specs.Messages.{octets_of};
+ghost use Rattle.resend_store.specs.Messages.{octets_of, usual_limits, chosen_limits};
 
 use arrayvec::ArrayVec;
 use std::alloc::AllocError;
@@ -19,6 +19,25 @@ pub const FORCED_MESSAGES: usize = 127;
 
 /// How many unacknowledged octets of SIO and SIF begin forced retransmission (Q.703's N2).
 pub const FORCED_OCTETS: usize = 8192;
+
+/// The fewest unacknowledged octets that may be chosen to begin forced retransmission.
+pub const LEAST_FORCED_OCTETS: usize = 300;
+
+/// With how many unacknowledged messages, or octets of SIO and SIF, cyclic retransmission is forced (Q.703, 6.4: N1 and N2, which follow the
+/// delay of the loop).
+#[derive(Clone, Copy, Debug, PartialEq, Eq)]
+pub struct RoundLimits {
+    /// N1.
+    pub messages: u8,
+    /// N2.
+    pub octets: u16,
+}
+
+/// Those of a sender for which none were chosen: [`FORCED_MESSAGES`] and [`FORCED_OCTETS`].
+pub const USUAL_LIMITS: RoundLimits = RoundLimits {
+    messages: FORCED_MESSAGES as u8,
+    octets: FORCED_OCTETS as u16,
+};
 
 /// Which error correction a link uses.
 #[derive(Clone, Copy, Debug, PartialEq, Eq)]
@@ -64,6 +83,25 @@ impl Msu {
         ensures within { result ≤ 273 }
     {
         self.sif.len() as u16 + 1
+    }
+}
+
+impl RoundLimits {
+    /// Those with so many messages, 1 to 127, and octets, 300 to 8,192; none with others.
+    pub fn chosen(messages: u64, octets: u64) -> Option<RoundLimits>
+        ensures { result ≡ chosen_limits messages octets }
+    {
+        let few = FORCED_MESSAGES as u64;
+        let least = LEAST_FORCED_OCTETS as u64;
+        let most = FORCED_OCTETS as u64;
+        if (1 <= messages && messages <= few) && (least <= octets && octets <= most) {
+            Some(RoundLimits {
+                messages: messages as u8,
+                octets: octets as u16,
+            })
+        } else {
+            None
+        }
     }
 }
 

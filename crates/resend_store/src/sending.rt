@@ -1,12 +1,14 @@
 //! The sending side.
-ghost use Rattle.std.specs.Prelude.{◌≡◌, ◌+◌, ◌-◌, ◌<◌, ◌≤◌, ◌↔◌, length, All, IfOk, OnOk, OnErr, IfSome, slice_get};
+ghost use Rattle.std.specs.Prelude.{◌≡◌, ◌+◌, ◌-◌, ◌<◌, ◌≤◌, ◌↔◌, None, length, All, IfOk, OnOk, OnErr, IfSome, slice_get};
 ghost use Rattle.std.specs.Option.{option_copied};
 ghost use Rattle.resend_store.specs.Limits.{MOST_KEPT, MOST_UNACKNOWLEDGED, MOST_WAITING};
 ghost use Rattle.resend_store.specs.Messages.{IsMessage};
 ghost use Rattle.resend_store.specs.Steps.{settled, gives};
-ghost use Rattle.resend_store.specs.Window.{IsWindow, waiting, start, with_put, may_send, unit_at, fill_in, repeats, sends_new, cycles, next, count_by, without, after_back, retrieved, count_known, emptied, refreshed};
+ghost use Rattle.resend_store.specs.Window.{IsWindow, waiting, start, start_within, with_put, may_send, unit_at, fill_in, repeats, sends_new, cycles, next, count_by, without, after_back, retrieved, count_known, emptied, refreshed};
 
-use crate::messages::{MAX_KEPT, MAX_UNACKNOWLEDGED, MAX_WAITING, Mode, Msu, Outgoing};
+use crate::messages::{
+    MAX_KEPT, MAX_UNACKNOWLEDGED, MAX_WAITING, Mode, Msu, Outgoing, RoundLimits, USUAL_LIMITS,
+};
 use crate::numbers::{minus, plus};
 use crate::refusals::{AckError, PutError, RetrieveError};
 use crate::store::{Store, drop_front};
@@ -20,6 +22,8 @@ use std::marker::Model;
 #[derive(Debug, Drop)]
 pub struct Sender {
     mode: Mode,
+    /// With how many unacknowledged ones cyclic retransmission is forced.
+    limits: RoundLimits,
     store: Store,
     /// Forward sequence number of the first kept message.
     first: u8,
@@ -48,8 +52,16 @@ impl Sender {
     pub fn new(alloc: Global, mode: Mode) -> Result<Sender, AllocError>
         ensures { IfOk result (λ sender. sender ≡ start mode) }
     {
+        Sender::within(alloc, USUAL_LIMITS, mode)
+    }
+
+    /// The same with these limits of forced retransmission.
+    pub fn within(alloc: Global, limits: RoundLimits, mode: Mode) -> Result<Sender, AllocError>
+        ensures { IfOk result (λ sender. sender ≡ start_within limits mode) }
+    {
         Ok(Sender {
             mode,
+            limits,
             store: Store::new(alloc)?,
             first: 0,
             fib: 1,
@@ -198,6 +210,17 @@ impl Sender {
         Ok(messages)
     }
 
+    /// What is kept is gone, as behind `retrieve` without a number, and nothing is handed out (Q.703, figure 13). The numbers go on after the
+    /// last acknowledged one.
+    pub fn clear(&mut self)
+        ensures { self.new ≡ emptied self.old None }
+    {
+        self.store.clear();
+        self.again = 0;
+        self.forced = false;
+        self.turn = 0;
+    }
+
     /// Begins anew, as when the link is aligned again: all kept messages wait, and numbers and bits are at their start.
     pub fn fresh(&mut self)
         ensures { self.new ≡ refreshed self.old }
@@ -236,7 +259,7 @@ impl Sender {
         ensures window { IsWindow self.old }
     {
         if self.forced && self.again == 0 {
-            if self.store.reaches_limit() {
+            if self.store.reaches_limit(self.limits) {
                 self.again = self.store.sent();
             } else {
                 self.forced = false;
@@ -295,7 +318,7 @@ impl Sender {
     {
         let unit = self.unit_at(self.store.sent());
         self.store.send_one();
-        if self.mode == Mode::Cyclic && self.store.reaches_limit() {
+        if self.mode == Mode::Cyclic && self.store.reaches_limit(self.limits) {
             self.forced = true;
             self.again = self.store.sent();
         }

@@ -5,7 +5,7 @@ ghost use Rattle.std.specs.VecDeque.{deque_capacity};
 ghost use Rattle.resend_store.specs.Limits.{MOST_KEPT, MOST_UNACKNOWLEDGED};
 ghost use Rattle.resend_store.specs.Messages.{IsMessage, octets, reaches_limit};
 
-use crate::messages::{FORCED_MESSAGES, FORCED_OCTETS, MAX_KEPT, MAX_UNACKNOWLEDGED, Msu};
+use crate::messages::{MAX_KEPT, MAX_UNACKNOWLEDGED, Msu, RoundLimits};
 use std::alloc::{AllocError, Global};
 use std::collections::VecDeque;
 use std::marker::Model;
@@ -71,10 +71,10 @@ impl Store {
     }
 
     /// Whether the sent ones have to go again without being asked for.
-    pub(crate) fn reaches_limit(&self) -> bool
-        ensures { result ≡ reaches_limit (take self.now.sent self.now.kept) }
+    pub(crate) fn reaches_limit(&self, limits: RoundLimits) -> bool
+        ensures { result ≡ reaches_limit limits (take self.now.sent self.now.kept) }
     {
-        self.sent as usize >= FORCED_MESSAGES || self.octets as usize >= FORCED_OCTETS
+        self.sent > 0 && (self.sent >= limits.messages || self.octets >= limits.octets)
     }
 
     /// One more waits.
@@ -111,6 +111,15 @@ impl Store {
     pub(crate) fn unsend(&mut self)
         ensures { self.new ≡ record self.old { sent = 0 } }
     {
+        self.sent = 0;
+        self.octets = 0;
+    }
+
+    /// All leave, and their room stays.
+    pub(crate) fn clear(&mut self)
+        ensures { self.new ≡ record { kept = []; sent = 0 } }
+    {
+        self.kept.clear();
         self.sent = 0;
         self.octets = 0;
     }

@@ -24,8 +24,17 @@ pub struct Player {
 }
 
 impl Player {
-    /// Does what a command says. Whether the run goes on.
-    fn obey<W: Write>(&mut self, alloc: Global, said: &Said<'_>, writer: &mut W) -> io::Result<bool>
+    /// Does what a command says. Whether the run goes on: it doesn't behind `failed line N`.
+    ///
+    /// # Errors
+    ///
+    /// Where a write fails, or memory is wanting.
+    pub fn obey<W: Write>(
+        &mut self,
+        alloc: Global,
+        said: &Said<'_>,
+        writer: &mut W,
+    ) -> io::Result<bool>
         ensures goes { IfOk result (λ on. on ≡ true → (b : Ledger) (before : List PlainSaid) (first : Option (List ℕ))
             → IsRun b before first (W.contents writer.old) self.old.book (last_of self.old)
             → IsRun b (before ++ plain_said said.now ∷ []) first (W.contents writer.new) self.new.book (last_of self.new)) }
@@ -49,7 +58,7 @@ impl Player {
     }
 
     /// Tells why the command that was obeyed last was refused by B3, where it was.
-    fn explain<E: Write>(&self, alloc: Global, said: &Said<'_>, errors: &mut E) {
+    pub fn explain<E: Write>(&self, alloc: Global, said: &Said<'_>, errors: &mut E) {
         let (Command::Offer(given) | Command::Flood(_, given)) = &said.command else {
             return;
         };

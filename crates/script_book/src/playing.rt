@@ -14,7 +14,7 @@ use std::io::Write;
 use turn_check::Verified;
 
 /// How much a link may hold, as a script sets it.
-fn limits_of(settings: Settings) -> Limits
+pub(crate) fn limits_of(settings: Settings) -> Limits
     requires { AreInRange settings }
     ensures { result ≡ record { port = settings.ports; env = settings.env; journal = settings.journal } }
 {

@@ -4,6 +4,7 @@
 mod answers;
 mod calls;
 mod lines;
+mod opened;
 mod opening;
 mod outputs;
 mod player;
@@ -12,5 +13,10 @@ mod retrievals;
 mod saying;
 mod shown;
 
+pub use opened::{end_player, open_group};
+pub use player::GroupPlayer;
 pub use playing::play_group;
-pub use script_terminal::{FAILED, play_book, play_terminal, refuse, write_line};
+pub use script_terminal::{
+    FAILED, HELD, MISSED, OpenError, Player, TermPlayer, new_player, open_player, play_book,
+    play_terminal, refuse, refuse_set, write_line,
+};

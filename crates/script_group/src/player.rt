@@ -21,8 +21,12 @@ pub struct GroupPlayer {
 }
 
 impl GroupPlayer {
-    /// Does what a command says. Whether the run goes on.
-    fn obey<W: Write>(
+    /// Does what a command says. Whether the run goes on: it doesn't behind `failed line N`.
+    ///
+    /// # Errors
+    ///
+    /// Where a write fails, or memory is wanting.
+    pub fn obey<W: Write>(
         &mut self,
         alloc: Global,
         said: &GroupSaid<'_>,

@@ -1,17 +1,21 @@
 -- What the status of `play` says of the script and of what was written.
-use Rattle.std.specs.Prelude.{◌≡◌, ◌++◌, ℕ, List, Option, Ok, Err, IsUtf8, codes}
+use Rattle.std.specs.Prelude.{◌≡◌, ◌++◌, ℕ, Bool, true, false, List, Option, Ok, Err, IsUtf8}
+use Rattle.std.specs.Prelude.{codes}
 use Rattle.std.specs.Fmt.{decimal}
 use Rattle.std.specs.Io.KnownBytes.{Appends}
 use Rattle.turn_code.specs.declared.draft.Draft.{Draft}
 use Rattle.script_lines.specs.declared.script.ScriptFault.{ScriptFault}
 use Rattle.script_lines.specs.declared.script.ScriptFault.TheVariants.{BadLine, NoMemory}
-use Rattle.script_group.specs.Played.{first_book, IsWritten, IsMissed}
+use Rattle.script_seen.specs.Played.{first_book, IsWritten, IsMissed}
 use Rattle.script_links.specs.TermScripts.{PlainAnyScript, book, terminal}
 use Rattle.script_links.specs.GroupScripts.{PlainPlayScript, other, group, play_script_of}
 use Rattle.script_check.specs.Checked.{IsGiven, IsSetOf, PrintsRefusal}
-use Rattle.script_group.specs.Lines.{line_of}
-use Rattle.script_group.specs.TermRuns.{IsOfNew, IsTermWritten, IsTermMissed, LacksName}
-use Rattle.script_group.specs.GroupRuns.{IsOfNewSet, IsGroupWritten, IsGroupMissed}
+use Rattle.script_seen.specs.Lines.{line_of}
+use Rattle.script_seen.specs.TermRuns.{IsOfNew, IsTermWritten, IsTermMissed, LacksName}
+use Rattle.script_lines.specs.Lines.{PlainLine, lines_of}
+use Rattle.script_seen.specs.Kinds.{IsBookShown, IsBookShownMissed, IsTermShown}
+use Rattle.script_seen.specs.Kinds.{IsTermShownMissed, IsGroupShown, IsGroupShownMissed}
+use Rattle.script_seen.specs.GroupRuns.{IsOfNewSet, IsGroupWritten, IsGroupMissed}
 
 -- all commands of a script were obeyed, and their lines written: by a book of the set, or by a new
 -- terminal over it
@@ -24,13 +28,6 @@ abbrev pub IsObeyed : Draft → PlainPlayScript → Option (List ℕ) → Option
 IsObeyed d (other s) old new = IsOtherObeyed d s old new
 IsObeyed d (group s) old new = IsOfNewSet d s.head (IsGroupWritten s.commands old new)
 
--- the bytes are a script, all of whose commands were obeyed
-pub record IsPlayed (old new : Option (List ℕ)) (d : Draft) (bytes : List ℕ) : Type 0 where
-  pub utf8 : IsUtf8 bytes
-  pub script : PlainPlayScript
-  pub reads : play_script_of bytes ≡ Ok script
-  pub run : IsObeyed d script old new
-
 -- an expectation of a script failed behind commands that were obeyed
 abbrev pub IsOtherMissed : Draft → PlainAnyScript → Option (List ℕ) → Option (List ℕ) → Type 0
 IsOtherMissed d (book s) old new = IsMissed (first_book d s.settings) s.commands old new
@@ -40,12 +37,59 @@ abbrev pub IsMissedIn : Draft → PlainPlayScript → Option (List ℕ) → Opti
 IsMissedIn d (other s) old new = IsOtherMissed d s old new
 IsMissedIn d (group s) old new = IsOfNewSet d s.head (IsGroupMissed s.commands old new)
 
--- the bytes are a script, an expectation of which failed
-pub record IsPlayedInPart (old new : Option (List ℕ)) (d : Draft) (bytes : List ℕ) : Type 0 where
+-- ---- with each command's line in front of what it prints
+
+abbrev pub IsOtherShown :
+    List PlainLine → Draft → PlainAnyScript → Option (List ℕ) → Option (List ℕ) → Type 0
+IsOtherShown lines d (book s) old new =
+    IsBookShown lines (first_book d s.settings) s.commands old new
+IsOtherShown lines d (terminal s) old new =
+    IsOfNew d s.mode (IsTermShown lines s.commands old new)
+
+abbrev pub AreShown :
+    List PlainLine → Draft → PlainPlayScript → Option (List ℕ) → Option (List ℕ) → Type 0
+AreShown lines d (other s) old new = IsOtherShown lines d s old new
+AreShown lines d (group s) old new = IsOfNewSet d s.head (IsGroupShown lines s.commands old new)
+
+abbrev pub IsOtherShownMissed :
+    List PlainLine → Draft → PlainAnyScript → Option (List ℕ) → Option (List ℕ) → Type 0
+IsOtherShownMissed lines d (book s) old new =
+    IsBookShownMissed lines (first_book d s.settings) s.commands old new
+IsOtherShownMissed lines d (terminal s) old new =
+    IsOfNew d s.mode (IsTermShownMissed lines s.commands old new)
+
+abbrev pub AreShownMissed :
+    List PlainLine → Draft → PlainPlayScript → Option (List ℕ) → Option (List ℕ) → Type 0
+AreShownMissed lines d (other s) old new = IsOtherShownMissed lines d s old new
+AreShownMissed lines d (group s) old new =
+    IsOfNewSet d s.head (IsGroupShownMissed lines s.commands old new)
+
+-- ---- either way
+
+-- a script was obeyed on a set; with the lines of its text in front, where that is asked for
+abbrev pub IsObeyedAs :
+    Bool → List PlainLine → Draft → PlainPlayScript → Option (List ℕ) → Option (List ℕ) → Type 0
+IsObeyedAs false lines d s old new = IsObeyed d s old new
+IsObeyedAs true lines d s old new = AreShown lines d s old new
+
+abbrev pub IsMissedAs :
+    Bool → List PlainLine → Draft → PlainPlayScript → Option (List ℕ) → Option (List ℕ) → Type 0
+IsMissedAs false lines d s old new = IsMissedIn d s old new
+IsMissedAs true lines d s old new = AreShownMissed lines d s old new
+
+-- the bytes are a script, all of whose commands were obeyed
+pub record IsPlayed (echo : Bool) (old new : Option (List ℕ)) (d : Draft) (bytes : List ℕ) : Type 0 where
   pub utf8 : IsUtf8 bytes
   pub script : PlainPlayScript
   pub reads : play_script_of bytes ≡ Ok script
-  pub missed : IsMissedIn d script old new
+  pub run : IsObeyedAs echo (lines_of bytes) d script old new
+
+-- the bytes are a script, an expectation of which failed
+pub record IsPlayedInPart (echo : Bool) (old new : Option (List ℕ)) (d : Draft) (bytes : List ℕ) : Type 0 where
+  pub utf8 : IsUtf8 bytes
+  pub script : PlainPlayScript
+  pub reads : play_script_of bytes ≡ Ok script
+  pub missed : IsMissedAs echo (lines_of bytes) d script old new
 
 -- ---- refusals
 

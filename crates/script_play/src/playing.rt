@@ -4,13 +4,17 @@ ghost use Rattle.plain_text.specs.Reading.{Keeps};
 ghost use Rattle.script_check.specs.Checked.{given, IsAccepted};
 ghost use Rattle.script_links.specs.TermScripts.{plain_any_script, IsInRange};
 ghost use Rattle.script_links.specs.GroupScripts.{plain_play_script, IsFit};
-ghost use Rattle.script_play.specs.Played.{IsOtherObeyed, IsObeyed, IsPlayed, IsOtherMissed, IsMissedIn, IsPlayedInPart, HasNoOther, HasNoTerminal, IsNotRun, PrintsFault, IsOnSet, IsRefused};
+ghost use Rattle.script_lines.specs.Lines.{lines_of};
+ghost use Rattle.script_play.specs.Played.{IsOtherShown, IsOtherShownMissed, AreShown, AreShownMissed, IsObeyedAs, IsMissedAs, IsOtherObeyed, IsObeyed, IsPlayed, IsOtherMissed, IsMissedIn, IsPlayedInPart, HasNoOther, HasNoTerminal, IsNotRun, PrintsFault, IsOnSet, IsRefused};
 
 use plain_text::{MOST_BYTES, TextRead, line_at_limit, read_text};
 use script_check::{SetWord, find_set, refuse_set};
-use script_group::{FAILED, play_book, play_group, play_terminal, refuse, write_line};
 use script_lines::ScriptFault;
 use script_links::{AnyScript, PlayScript, play_fault, play_script_in};
+use script_seen::{
+    FAILED, play_book, play_group, play_terminal, refuse, show_book, show_group, show_terminal,
+    write_line,
+};
 use std::alloc::Global;
 use std::io::{Read, Write};
 use std::str;
@@ -19,6 +23,8 @@ use turn_check::Verified;
 /// Runs a script on a set of processes, or, where its first line is `terminal basic` or `terminal cyclic`, on a signalling link terminal over
 /// that set, or, where it is `group basic N` or `group cyclic N`, on N links between two points with such terminals; and prints a line for each
 /// command but `on` and `expect`, and for each unit that goes out.
+///
+/// Where `echo` says so each command's line of the script stands in front of what it prints: `> ` and its words, parted by one space.
 ///
 /// Both texts are read whole before anything is written: the set, then the script. A refusal of the set comes before one of
 /// the script, a line of the script that is none is refused before anything runs, and then a set that lacks a name that a terminal wants, for
@@ -34,14 +40,15 @@ pub fn play<S: Read + Drop, R: Read + Drop, W: Write, E: Write>(
     set: SetWord<S>,
     name: &str,
     mut script: R,
+    echo: bool,
     writer: &mut W,
     errors: &mut E,
 ) -> u8
     ensures accepted { (result ≡ 0) ⊎ (result ≡ 1) → IfSome (given S.remaining set) IsAccepted }
     ensures held { result ≡ 0
-        → IsOnSet (given S.remaining set) (R.remaining script) (IsPlayed (W.contents writer.old) (W.contents writer.new)) }
+        → IsOnSet (given S.remaining set) (R.remaining script) (IsPlayed echo (W.contents writer.old) (W.contents writer.new)) }
     ensures missed { result ≡ 1
-        → IsOnSet (given S.remaining set) (R.remaining script) (IsPlayedInPart (W.contents writer.old) (W.contents writer.new)) }
+        → IsOnSet (given S.remaining set) (R.remaining script) (IsPlayedInPart echo (W.contents writer.old) (W.contents writer.new)) }
     ensures refused { result ≡ 2
         → IsRefused (given S.remaining set) (R.remaining script) (W.contents writer.old) (W.contents writer.new) }
     ensures status { (result ≡ 0) ⊎ (result ≡ 1) ⊎ (result ≡ 2) ⊎ (result ≡ 4) }
@@ -50,7 +57,7 @@ pub fn play<S: Read + Drop, R: Read + Drop, W: Write, E: Write>(
     let read = read_text(alloc, &mut script);
     match set {
         Ok(set) => match read {
-            Ok(read) => play_text(alloc, &set, &read, writer, errors),
+            Ok(read) => play_text(alloc, &set, &read, echo, writer, errors),
             Err(_) => FAILED,
         },
         Err(refusal) => refuse_set(alloc, name, &refusal, writer, errors),
@@ -96,12 +103,13 @@ fn play_text<W: Write, E: Write>(
     alloc: Global,
     set: &Verified,
     read: &TextRead,
+    echo: bool,
     writer: &mut W,
     errors: &mut E,
 ) -> u8
-    ensures held { result ≡ 0 → (bytes : List ℕ) → Keeps bytes read.now → IsPlayed (W.contents writer.old) (W.contents writer.new) set.now bytes }
+    ensures held { result ≡ 0 → (bytes : List ℕ) → Keeps bytes read.now → IsPlayed echo (W.contents writer.old) (W.contents writer.new) set.now bytes }
     ensures missed { result ≡ 1 → (bytes : List ℕ) → Keeps bytes read.now
-        → IsPlayedInPart (W.contents writer.old) (W.contents writer.new) set.now bytes }
+        → IsPlayedInPart echo (W.contents writer.old) (W.contents writer.new) set.now bytes }
     ensures refused { result ≡ 2 → (bytes : List ℕ) → Keeps bytes read.now → IsNotRun (W.contents writer.old) (W.contents writer.new) set.now bytes }
     ensures status { (result ≡ 0) ⊎ (result ≡ 1) ⊎ (result ≡ 2) ⊎ (result ≡ 4) }
 {
@@ -115,7 +123,7 @@ fn play_text<W: Write, E: Write>(
     }
     match str::from_utf8(&read.kept) {
         Ok(text) => match play_script_in(alloc, text) {
-            Ok(script) => play_script(alloc, set, &script, writer, errors),
+            Ok(script) => run_script(alloc, set, &script, text, echo, writer, errors),
             Err(fault) => {
                 explain(alloc, text, fault, errors);
                 refuse_script(alloc, writer, fault)
@@ -162,5 +170,74 @@ fn play_script<W: Write, E: Write>(
     match script {
         PlayScript::Other(script) => play_other(alloc, set, script, writer, errors),
         PlayScript::Group(script) => play_group(alloc, set, script, writer),
+    }
+}
+
+/// Runs a script of a book or of a terminal, and shows the lines of its text.
+fn show_other<W: Write, E: Write>(
+    alloc: Global,
+    set: &Verified,
+    script: &AnyScript<'_>,
+    text: &str,
+    writer: &mut W,
+    errors: &mut E,
+) -> u8
+    requires { IsInRange script.now }
+    ensures held { result ≡ 0 → IsOtherShown (lines_of text.now) set.now (plain_any_script script.now) (W.contents writer.old) (W.contents writer.new) }
+    ensures missed { result ≡ 1
+        → IsOtherShownMissed (lines_of text.now) set.now (plain_any_script script.now) (W.contents writer.old) (W.contents writer.new) }
+    ensures refused { result ≡ 2 → HasNoOther set.now (plain_any_script script.now) (W.contents writer.old) (W.contents writer.new) }
+    ensures status { (result ≡ 0) ⊎ (result ≡ 1) ⊎ (result ≡ 2) ⊎ (result ≡ 4) }
+{
+    match script {
+        AnyScript::Book(script) => show_book(alloc, set, script, text, writer, errors),
+        AnyScript::Terminal(script) => show_terminal(alloc, set, script, text, writer),
+    }
+}
+
+/// Runs a script, and shows the lines of its text.
+fn show_script<W: Write, E: Write>(
+    alloc: Global,
+    set: &Verified,
+    script: &PlayScript<'_>,
+    text: &str,
+    writer: &mut W,
+    errors: &mut E,
+) -> u8
+    requires { IsFit script.now }
+    ensures held { result ≡ 0 → AreShown (lines_of text.now) set.now (plain_play_script script.now) (W.contents writer.old) (W.contents writer.new) }
+    ensures missed { result ≡ 1
+        → AreShownMissed (lines_of text.now) set.now (plain_play_script script.now) (W.contents writer.old) (W.contents writer.new) }
+    ensures refused { result ≡ 2 → HasNoTerminal set.now (plain_play_script script.now) (W.contents writer.old) (W.contents writer.new) }
+    ensures status { (result ≡ 0) ⊎ (result ≡ 1) ⊎ (result ≡ 2) ⊎ (result ≡ 4) }
+{
+    match script {
+        PlayScript::Other(script) => show_other(alloc, set, script, text, writer, errors),
+        PlayScript::Group(script) => show_group(alloc, set, script, text, writer),
+    }
+}
+
+/// Runs the script of a text, and shows its lines where that is asked for.
+fn run_script<W: Write, E: Write>(
+    alloc: Global,
+    set: &Verified,
+    script: &PlayScript<'_>,
+    text: &str,
+    echo: bool,
+    writer: &mut W,
+    errors: &mut E,
+) -> u8
+    requires { IsFit script.now }
+    ensures held { result ≡ 0
+        → IsObeyedAs echo (lines_of text.now) set.now (plain_play_script script.now) (W.contents writer.old) (W.contents writer.new) }
+    ensures missed { result ≡ 1
+        → IsMissedAs echo (lines_of text.now) set.now (plain_play_script script.now) (W.contents writer.old) (W.contents writer.new) }
+    ensures refused { result ≡ 2 → HasNoTerminal set.now (plain_play_script script.now) (W.contents writer.old) (W.contents writer.new) }
+    ensures status { (result ≡ 0) ⊎ (result ≡ 1) ⊎ (result ≡ 2) ⊎ (result ≡ 4) }
+{
+    if echo {
+        show_script(alloc, set, script, text, writer, errors)
+    } else {
+        play_script(alloc, set, script, writer, errors)
     }
 }

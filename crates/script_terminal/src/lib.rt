@@ -10,8 +10,8 @@ pub use answers::{answer, message};
 pub use link_term::OpenError;
 pub use orders::command_of;
 pub use script_book::{
-    FAILED, HELD, MISSED, Printer, play_book, refuse, refused_line, state_line, text_line,
-    value_line, write_line,
+    FAILED, HELD, MISSED, Player, Printer, open_player, play_book, refuse, refused_line,
+    state_line, text_line, value_line, write_line,
 };
-pub use terminals::{play_terminal, refuse_set};
+pub use terminals::{TermPlayer, new_player, play_terminal, refuse_set};
 pub use unit_line::line_of_unit;

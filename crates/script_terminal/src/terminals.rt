@@ -1,5 +1,5 @@
 //! A terminal's script as it runs.
-ghost use Rattle.std.specs.Prelude.{◌≡◌, ◌⊎◌, ◌++◌, ◌∷◌, [], List, ℕ, Option, map, is_some, OnOk, IfOk, true, false};
+ghost use Rattle.std.specs.Prelude.{◌≡◌, ◌⊎◌, ◌++◌, ◌∷◌, [], List, ℕ, Option, map, is_some, None, OnOk, IfOk, true, false};
 ghost use Rattle.link_term.specs.Term.{Term};
 ghost use Rattle.script_links.specs.TermScripts.{PlainTermSaid, plain_term_said};
 ghost use Rattle.script_terminal.specs.TermAnswers.{next_of, behind_next, unit_line};
@@ -55,8 +55,12 @@ impl TermPlayer {
         Ok(())
     }
 
-    /// Does what a command says. Whether the run goes on.
-    fn obey<W: Write>(
+    /// Does what a command says. Whether the run goes on: it doesn't behind `failed line N`.
+    ///
+    /// # Errors
+    ///
+    /// Where a write fails, or memory is wanting.
+    pub fn obey<W: Write>(
         &mut self,
         alloc: Global,
         said: &TermSaid<'_>,
@@ -115,6 +119,15 @@ impl TermPlayer {
         }
         Ok(HELD)
     }
+}
+
+/// A terminal of which nothing is printed yet.
+pub fn new_player(terminal: Terminal) -> TermPlayer
+    ensures terminal { result.terminal ≡ terminal }
+    ensures last { last_of result ≡ None }
+{
+    let printer = Printer { last: None };
+    TermPlayer { terminal, printer }
 }
 
 /// Runs the commands of a script on a new terminal. Gives the exit status.

@@ -16,6 +16,8 @@
 //!   first line has numbers: the seed, how many links and workers there are, how many steps the client makes, and, where it is to go on for long, so
 //!   many minutes in place of the steps. Behind it stands the text of a set, or `standard`. Shows whether the seats agree with the journals; with
 //!   minutes also what was done, and how often what was refused. `bench/soak` asks for that.
+//! - `events`: events that happen to a link of a text ([`events`]), by `run_text` of `actor_headline`; behind a line `rebase` the book that it gives goes
+//!   on. Shows what is answered to each.
 //! - `ports`: a port in each line ([`ports`]), which is held against a plain one, a vector, through many calls by a seeded generator. Shows
 //!   how often there was no room, how often an item was taken behind saved ones, and in how many calls the two differed.
 //! - `reports`: what is done with two such terminals, a step in each line ([`steps`]), over a line without damage. Shows what the near one
@@ -30,6 +32,7 @@
 
 mod calls;
 mod end;
+mod events;
 mod figures;
 mod heard;
 mod lines;
@@ -48,6 +51,7 @@ mod steps;
 mod wheels;
 
 use crate::calls::Stopped;
+use crate::events::run_all;
 use crate::heard::compare;
 use crate::lines::make_runs;
 use crate::pools::serve_all;
@@ -82,6 +86,7 @@ fn make<R: Runtime + AllocGlobal + Threads + Wait + Sync>(
         "heard" => compare(rt.alloc(), text, trial),
         "runs" => make_runs(rt.alloc(), text, trial),
         "pools" => serve_all(rt, text, trial),
+        "events" => run_all(rt.alloc(), text, trial),
         "ports" => hold_ports(rt.alloc(), text, trial),
         "reports" => report_all(rt.alloc(), text, trial),
         "rounds" => make_rounds(rt, text, trial),

@@ -8,7 +8,7 @@ use crate::schedule::Schedule;
 use crate::set_end::SetEnd;
 
 /// How many rounds a run has at most.
-const MOST_ROUNDS: u32 = 6_000;
+const MOST_ROUNDS: u32 = 60_000;
 
 /// How many messages each end is given in a round, and how many units go one way on each link.
 const GIVEN: u32 = 8;
@@ -103,6 +103,8 @@ fn round(
     }
     schedule.deliver(near, far, dice);
     schedule.deliver(far, near, dice);
+    schedule.repeat(near, far, dice);
+    schedule.repeat(far, near, dice);
     near.rebalance();
     far.rebalance();
     near.wait(TICKS)?;

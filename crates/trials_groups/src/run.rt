@@ -14,6 +14,8 @@ pub struct Run {
     pub messages: u32,
     /// One in so many messages of changeover is lost; 0 for none.
     pub lost: u32,
+    /// Whether messages of changeover come once more, late, and links fail two at a time.
+    pub late: bool,
 }
 
 /// The mode of a word.
@@ -33,18 +35,28 @@ fn number(words: &mut SplitWhitespace<'_>) -> Option<u32> {
     }
 }
 
-/// The run of these words, if they are one and no more.
+/// The run of five words.
+fn plain_run(words: &mut SplitWhitespace<'_>) -> Option<Run> {
+    Some(Run {
+        mode: mode_of(words.next()?)?,
+        links: number(words)? as usize,
+        seed: number(words)?,
+        messages: number(words)?,
+        lost: number(words)?,
+        late: false,
+    })
+}
+
+/// The run of these words, if they are one and no more; `late` may stand behind the five.
 pub fn run_of(line: &str) -> Option<Run> {
     let mut words = line.split_whitespace();
-    let run = Run {
-        mode: mode_of(words.next()?)?,
-        links: number(&mut words)? as usize,
-        seed: number(&mut words)?,
-        messages: number(&mut words)?,
-        lost: number(&mut words)?,
-    };
+    let mut run = plain_run(&mut words)?;
     match words.next() {
-        None => Some(run),
-        Some(_) => None,
+        None => return Some(run),
+        Some(word) => run.late = word == "late",
+    }
+    match words.next() {
+        None if run.late => Some(run),
+        _ => None,
     }
 }

@@ -7,6 +7,12 @@
 //! - A cut is healed some rounds after both ends have their retrieval out and no message of changeover about it is under way. Then both ends start the
 //!   link.
 //! - An end shares selections out anew once a link came into service, as soon as that isn't refused.
+//!
+//! In a run that is late beside these:
+//!
+//! - Where one link is cut another one may be in the same round.
+//! - Half of the messages of changeover come once more, any time until the link is cut again, or was in service there for more than three rounds.
+//! - An end stops a link that is in service and held, and of which no changeover goes on.
 
 use crate::calls::{Stopped, serves};
 use crate::dice::Dice;
@@ -18,6 +24,12 @@ const CUTS: u32 = 12;
 
 const HEALS: u32 = 6;
 
+/// For so many rounds behind a return to service a message may come once more: fewer than 1,400 ticks.
+const LATE_ROUNDS: u32 = 3;
+
+/// In how many rounds one such message comes.
+const REPEATS: u32 = 16;
+
 /// What happened to the links.
 #[derive(Clone, Copy)]
 pub struct Schedule {
@@ -25,6 +37,7 @@ pub struct Schedule {
     cut: [bool; 16],
     /// One in so many messages of changeover is lost; 0 for none.
     lost: u32,
+    late: bool,
     pub cuts: u32,
     /// How many messages of changeover were sent, and how many of them were lost.
     pub orders: u32,
@@ -36,6 +49,25 @@ fn link_in(sif: &Sif) -> usize {
     match sif.as_slice() {
         [_, _, _, selection, ..] => usize::from(*selection / 16),
         _ => 0,
+    }
+}
+
+/// The same octets once more.
+fn copy_of(sif: &Sif) -> Sif {
+    let mut copy = Sif::new();
+    let _fits = copy.try_extend_from_slice(sif.as_slice()).is_ok();
+    copy
+}
+
+/// What was to come once more about a link comes no more.
+fn forget(end: &mut SetEnd, link: usize) {
+    for _ in 0..end.late.len() {
+        let Some(sif) = end.late.pop_front() else {
+            return;
+        };
+        if link_in(&sif) != link {
+            let _kept = end.late.push_back(sif).is_ok();
+        }
     }
 }
 
@@ -51,10 +83,11 @@ fn has_mail(end: &SetEnd, link: usize) -> bool {
 
 impl Schedule {
     /// No link is cut.
-    pub fn new(lost: u32) -> Schedule {
+    pub fn new(lost: u32, late: bool) -> Schedule {
         Schedule {
             cut: [false; 16],
             lost,
+            late,
             cuts: 0,
             orders: 0,
             losses: 0,
@@ -73,16 +106,26 @@ impl Schedule {
         self.cuts = self.cuts.wrapping_add(1);
         near.due[place] = true;
         far.due[place] = true;
+        forget(near, link);
+        forget(far, link);
     }
 
-    /// Cuts a link now and then.
+    /// Cuts a link that isn't cut and works at both ends.
+    fn cut_free(&mut self, near: &mut SetEnd, far: &mut SetEnd, link: usize) {
+        if !self.is_cut(link) && near.is_free(link) && far.is_free(link) {
+            self.cut(near, far, link);
+        }
+    }
+
+    /// Cuts a link now and then, and in a late run maybe another one with it.
     pub fn cut_one(&mut self, near: &mut SetEnd, far: &mut SetEnd, links: usize, dice: &mut Dice) {
         let link = (dice.draw() % (links as u64).max(1)) as usize;
-        if !dice.one_in(CUTS) || self.is_cut(link) {
+        if !dice.one_in(CUTS) {
             return;
         }
-        if near.is_free(link) && far.is_free(link) {
-            self.cut(near, far, link);
+        self.cut_free(near, far, link);
+        if self.late && dice.one_in(2) {
+            self.cut_free(near, far, (link + 1) % links.max(1));
         }
     }
 
@@ -105,9 +148,12 @@ impl Schedule {
         }
     }
 
-    /// Sends a message of changeover to an end, or loses it.
+    /// Sends a message of changeover to an end, or loses it. In a late run it may come once more.
     pub fn send(&mut self, to: &mut SetEnd, sif: Sif, dice: &mut Dice) {
         self.orders = self.orders.wrapping_add(1);
+        if self.late && to.late.len() < MOST_MAIL && dice.one_in(2) {
+            let _kept = to.late.push_back(copy_of(&sif)).is_ok();
+        }
         if dice.one_in(self.lost) || to.mail.len() >= MOST_MAIL {
             self.losses = self.losses.wrapping_add(1);
             return;
@@ -139,7 +185,31 @@ impl Schedule {
         }
     }
 
-    /// What an end does for a link that is down or in changeover.
+    /// Hands an end a message that comes once more, and the other one the answer; or it is for later, or comes no more.
+    fn repeat_one(&self, to: &mut SetEnd, from: &mut SetEnd, dice: &mut Dice) {
+        let Some(sif) = to.late.pop_front() else {
+            return;
+        };
+        if !to.is_new(link_in(&sif), LATE_ROUNDS) {
+            return;
+        }
+        if !dice.one_in(REPEATS) {
+            let _kept = to.late.push_back(sif).is_ok();
+            return;
+        }
+        if let Some(answer) = to.group.changeover_message(sif.as_slice()).reply {
+            let _heard = from.group.changeover_message(answer.as_slice());
+        }
+    }
+
+    /// Hands an end what comes once more now.
+    pub fn repeat(&self, to: &mut SetEnd, from: &mut SetEnd, dice: &mut Dice) {
+        for _ in 0..to.late.len() {
+            self.repeat_one(to, from, dice);
+        }
+    }
+
+    /// What an end does for a link that is down or in changeover, and in a late run for one that is held.
     pub fn tend(
         &mut self,
         end: &mut SetEnd,
@@ -147,6 +217,9 @@ impl Schedule {
         link: usize,
         dice: &mut Dice,
     ) -> Result<(), Stopped> {
+        if self.late {
+            end.stop_held(link)?;
+        }
         if let Some(order) = end.tend(link, dice)? {
             self.send(other, order, dice);
         }

@@ -19,25 +19,37 @@ pub struct SetEnd {
     way: Way,
     /// Messages of changeover on their way to this end.
     pub mail: VecDeque<Sif>,
+    /// Those of them that come once more, late.
+    pub late: VecDeque<Sif>,
     /// Whether each link is down, and its messages weren't handed out since.
     pub due: [bool; 16],
     /// Whether each link was told to start since it went down.
     started: [bool; 16],
+    /// How many rounds ago each link came into service.
+    back: [u32; 16],
     /// Whether selections are to be shared out anew, since a link came into service.
     pub uneven: bool,
 }
 
 impl SetEnd {
     /// An end at which nothing has happened.
-    pub fn new(group: Group, retrievals: Retrievals, way: Way, mail: VecDeque<Sif>) -> SetEnd {
+    pub fn new(
+        group: Group,
+        retrievals: Retrievals,
+        way: Way,
+        mail: VecDeque<Sif>,
+        late: VecDeque<Sif>,
+    ) -> SetEnd {
         SetEnd {
             group,
             retrievals,
             counts: Counts::new(),
             way,
             mail,
+            late,
             due: [false; 16],
             started: [false; 16],
+            back: [0; 16],
             uneven: false,
         }
     }
@@ -75,13 +87,24 @@ impl SetEnd {
         self.started[place] = false;
     }
 
+    /// A link came into service.
+    fn come_back(&mut self, link: usize) {
+        self.back[link % 16] = 0;
+        self.uneven = true;
+    }
+
+    /// Whether a link came into service no more than so many rounds ago, or is out of service.
+    pub fn is_new(&self, link: usize, rounds: u32) -> bool {
+        !serves(&self.group, link) || self.back[link % 16] <= rounds
+    }
+
     /// Takes a report of a link.
     fn heed(&mut self, link: usize, report: Report) {
         let Way { from, to } = self.way;
         match report {
             Report::Message(msu) => self.counts.take(Way { from: to, to: from }, &msu),
             Report::Status(LinkStatus::Down(_)) => self.fall(link),
-            Report::Status(LinkStatus::InService) => self.uneven = true,
+            Report::Status(LinkStatus::InService) => self.come_back(link),
             Report::Status(_) => {}
         }
     }
@@ -133,6 +156,8 @@ impl SetEnd {
     pub fn wait(&mut self, ticks: u64) -> Result<(), Stopped> {
         pass(&mut self.group, ticks)?;
         for link in 0..self.group.len() {
+            let place = link % 16;
+            self.back[place] = self.back[place].saturating_add(1);
             self.read(link);
         }
         Ok(())
@@ -148,6 +173,17 @@ impl SetEnd {
     /// Whether a link is in service, and no changeover of it goes on.
     pub fn is_free(&self, link: usize) -> bool {
         serves(&self.group, link) && !self.group.in_changeover(link)
+    }
+
+    /// Stops a link that is in service and held, and of which no changeover goes on: a late order may have come for it.
+    pub fn stop_held(&mut self, link: usize) -> Result<(), Stopped> {
+        match self.group.state(link) {
+            Some(state) if state.held && self.is_free(link) => {
+                let _taken = tell(&mut self.group, link, Command::Stop)?;
+                Ok(())
+            }
+            _ => Ok(()),
+        }
     }
 
     /// Whether a link has nothing to do any more.
@@ -176,8 +212,10 @@ impl SetEnd {
             counts: _,
             way: _,
             mail: _mail,
+            late: _late,
             due: _,
             started: _,
+            back: _,
             uneven: _,
         } = self;
         let _ended = group.end(retrievals);

@@ -23,6 +23,7 @@ fn write_head(text: &mut String, run: Run, schedule: &Schedule) -> Result<(), Al
         seed,
         messages,
         lost,
+        ..
     } = run;
     let mode = word_of(mode);
     let Schedule {
@@ -63,6 +64,41 @@ fn write_way(text: &mut String, way: &str, from: &SetEnd, to: &SetEnd) -> Result
     )
 }
 
+/// Writes the same of a run that is late: each message came once, or counts as unsure.
+fn write_late(text: &mut String, run: Run, near: &SetEnd, far: &SetEnd) -> Result<(), AllocError> {
+    let Run {
+        mode,
+        links,
+        seed,
+        messages,
+        lost,
+        ..
+    } = run;
+    let mode = word_of(mode);
+    writeln!(
+        text,
+        "{mode} links {links} seed {seed} lost {lost} late: {messages} messages each way"
+    )?;
+    write_late_way(text, "near to far", near, far)?;
+    write_late_way(text, "far to near", far, near)
+}
+
+/// Writes what went one way of it.
+fn write_late_way(
+    text: &mut String,
+    way: &str,
+    from: &SetEnd,
+    to: &SetEnd,
+) -> Result<(), AllocError> {
+    let missing = u64::from(from.counts.sent.saturating_sub(to.counts.came));
+    let verdict = if missing <= from.group.unsure() && to.counts.wrong == 0 {
+        "each once or unsure, in order"
+    } else {
+        verdict(&from.counts, &to.counts, from.group.unsure())
+    };
+    writeln!(text, "  {way}: {verdict}")
+}
+
 /// Writes what came of a run.
 pub fn write_run(
     text: &mut String,
@@ -71,9 +107,16 @@ pub fn write_run(
     near: &SetEnd,
     far: &SetEnd,
 ) -> Result<(), AllocError> {
-    write_head(text, run, schedule)?;
+    if run.late {
+        write_late(text, run, near, far)?;
+    } else {
+        write_head(text, run, schedule)?;
+    }
     if !near.is_done(run.messages) || !far.is_done(run.messages) {
         text.push_str("  NOT DONE\n")?;
+    }
+    if run.late {
+        return Ok(());
     }
     write_way(text, "near to far", near, far)?;
     write_way(text, "far to near", far, near)

@@ -21,9 +21,10 @@ const FAR: u16 = 16_383;
 /// An end with a new set of a run.
 fn open_end(alloc: Global, set: &Verified, run: Run, way: Way) -> Result<SetEnd, Stopped> {
     let mail = VecDeque::with_capacity(alloc, MOST_MAIL)?;
+    let late = VecDeque::with_capacity(alloc, MOST_MAIL)?;
     let group = open_set(alloc, set, run.mode, run.links, way)?;
     match Retrievals::new(alloc) {
-        Ok(retrievals) => Ok(SetEnd::new(group, retrievals, way, mail)),
+        Ok(retrievals) => Ok(SetEnd::new(group, retrievals, way, mail, late)),
         Err(_) => Err(Stopped::NoMemory),
     }
 }
@@ -35,7 +36,7 @@ fn make_run(
     far: &mut SetEnd,
     run: Run,
 ) -> Result<(), Stopped> {
-    let mut schedule = Schedule::new(run.lost);
+    let mut schedule = Schedule::new(run.lost, run.late);
     make_rounds(&mut schedule, near, far, run)?;
     write_run(text, run, &schedule, near, far)?;
     Ok(())
@@ -83,7 +84,7 @@ fn run_line(alloc: Global, text: &mut String, set: &Verified, line: &str) -> Res
 }
 
 /// Makes the run of each line, and writes what came of it: `basic` or `cyclic`, how many links, the seed, how many messages each end takes, and one in how
-/// many messages of changeover is lost, 0 for none.
+/// many messages of changeover is lost, 0 for none. `late` behind these has messages of changeover come once more, late, and links fail two at a time.
 ///
 /// # Errors
 ///

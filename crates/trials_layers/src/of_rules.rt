@@ -42,6 +42,8 @@ pub(crate) enum Change {
     Saves(&'static [Trigger]),
     /// Run saves nothing and waits for this, which has that code.
     Input(Trigger, Plan),
+    /// Both: START has this code, and Run saves nothing and waits for this, which has that code.
+    Both(Plan, Trigger, Plan),
     /// Up has these parameters.
     Parameters(&'static [Sort]),
     /// So many states stand behind Run.
@@ -65,6 +67,12 @@ pub(crate) fn changed(change: Change) -> Recipe {
             recipe.trigger = trigger;
             recipe.up = up;
         }
+        Change::Both(start, trigger, up) => {
+            recipe.start = start;
+            recipe.saves = &[];
+            recipe.trigger = trigger;
+            recipe.up = up;
+        }
         Change::Parameters(parameters) => recipe.parameters = parameters,
         Change::More(more) => recipe.more = more,
         Change::Instances(count) => recipe.instances = count,
@@ -81,7 +89,7 @@ const INPUT_1: Spot = Spot {
 };
 
 /// Changes, and what becomes of the counter with each.
-const SETS: [(Change, Verdict); 15] = [
+const SETS: [(Change, Verdict); 17] = [
     (Change::Nothing, Verdict::Accepted),
     (Change::Initial(Value::Int(1)), Verdict::Accepted),
     (
@@ -109,6 +117,15 @@ const SETS: [(Change, Verdict); 15] = [
     (
         Change::Input(Trigger::Timer(TICK), ANSWER),
         Verdict::Refused(Rule::Number, INPUT_1),
+    ),
+    // of two that are broken the first is named: START stands before Run, and place 0 before place 1
+    (
+        Change::Both(STOP, Trigger::Timer(TimerNumber(1)), STOP),
+        Verdict::Refused(Rule::Unset, START_0),
+    ),
+    (
+        Change::Input(Trigger::Timer(TimerNumber(1)), ANSWER),
+        Verdict::Refused(Rule::Number, INPUT_0),
     ),
     // a signal has 4 parameters at most, a process 64 states and 8 instances
     (

@@ -17,6 +17,8 @@ mod of_compile;
 #[cfg(test)]
 mod of_gates;
 #[cfg(test)]
+mod of_last_steps;
+#[cfg(test)]
 mod of_pools;
 #[cfg(test)]
 mod of_rebases;

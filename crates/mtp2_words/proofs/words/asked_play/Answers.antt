@@ -5,14 +5,14 @@ use Rattle.mtp2_words.proofs.Asking.{is_play, play_all, plays, plays_nothing}
 use Rattle.mtp2_words.proofs.words.asked_play.Goals as goal
 
 pub returns-clause-named : goal.returns-clause-named
-returns-clause-named c = IfSome_then c.played.result c.played.ensures.play (λ r h. is_play _ _ r h)
+returns-clause-named c = IfSome_then c.played.result c.played.ensures.play (λ r h. is_play _ _ _ r h)
 
 pub returns-clause-asked : goal.returns-clause-asked
 returns-clause-asked c = IfSome_then c.played.result c.played.ensures.play
-    (λ r h. plays (given_by c.args.given.now) _ _ r c.in_ok-set.ensures c.in_ok-script.ensures h)
+    (λ r h. plays (given_by c.args.given.now) _ _ _ r c.in_ok-set.ensures c.in_ok-script.ensures c.seen_of.ensures h)
 
 pub returns-clause-none : goal.returns-clause-none
 returns-clause-none c = λ n. plays_nothing (given_by c.args.given.now) _ _ c.in_ok-set.ensures c.in_ok-script.ensures (c.played.ensures.none n)
 
 pub returns-clause-all : goal.returns-clause-all
-returns-clause-all c = IfSome_then c.played.result c.played.ensures.play (λ r h. play_all (rows_of (found_of c.args.given.now)) _ _ r h)
+returns-clause-all c = IfSome_then c.played.result c.played.ensures.play (λ r h. play_all (rows_of (found_of c.args.given.now)) _ _ _ r h)

@@ -2,7 +2,8 @@ use Rattle.std.proofs.Common.{◌≡◌, ◌∙◌, ◌+◌, ◌==◌, List, ℕ
 use Rattle.std.specs.Prelude.{IsTrue, IsUtf8, count_by, take}
 use Rattle.plain_text.specs.Reading.{LONGEST}
 use Rattle.script_links.specs.GroupScripts.{plain_play_script, play_script_of}
-use Rattle.script_play.specs.Played.{no_text, bad_line, no_script, no_terminal}
+use Rattle.script_lines.specs.Lines.{lines_of}
+use Rattle.script_play.specs.Played.{IsObeyedAs, IsMissedAs, no_text, bad_line, no_script, no_terminal}
 use Rattle.script_play.proofs.Refusals.{too_long, no_script_in}
 use Rattle.script_play.proofs.Texts.{not_held, not_missed}
 use Rattle.script_play.proofs.playing.play_text.Goals as goal
@@ -19,11 +20,14 @@ returns-in-Ok-play_script_in-clause-held g c zero bytes keeps =
     let is_text : IsTrue c.args.read.now.is_text = search rules in
     let same : c.in-Ok.text.now ≡ bytes =
     c.in-Ok.ensures.cases.0 ∙ (c.deref-2.ensures.value ∙ all_kept bytes c.args.read.now keeps (sym c.is_too_long.ensures ∙ c.if-is_too_long.false)) in
+    let R : List ℕ → Type 0 =
+    λ bs. IsObeyedAs c.args.echo (lines_of bs) c.args.set.now (plain_play_script c.in-Ok-play_script_in.script) (g.W.Write.contents c.args.writer.now)
+    (g.W.Write.contents c.run_script.new.writer) in
     record {
       utf8 = keeps.utf8.0 is_text;
       script = plain_play_script c.in-Ok-play_script_in.script;
       reads = ap play_script_of (sym same) ∙ c.in-Ok-play_script_in.ensures.script;
-      run = c.play_script.ensures.held zero;
+      run = subst R same (c.run_script.ensures.held zero);
     }
 
 pub returns-in-Err-play_script_in-clause-held : goal.returns-in-Err-play_script_in-clause-held
@@ -43,11 +47,14 @@ returns-in-Ok-play_script_in-clause-missed g c one bytes keeps =
     let is_text : IsTrue c.args.read.now.is_text = search rules in
     let same : c.in-Ok.text.now ≡ bytes =
     c.in-Ok.ensures.cases.0 ∙ (c.deref-2.ensures.value ∙ all_kept bytes c.args.read.now keeps (sym c.is_too_long.ensures ∙ c.if-is_too_long.false)) in
+    let R : List ℕ → Type 0 =
+    λ bs. IsMissedAs c.args.echo (lines_of bs) c.args.set.now (plain_play_script c.in-Ok-play_script_in.script) (g.W.Write.contents c.args.writer.now)
+    (g.W.Write.contents c.run_script.new.writer) in
     record {
       utf8 = keeps.utf8.0 is_text;
       script = plain_play_script c.in-Ok-play_script_in.script;
       reads = ap play_script_of (sym same) ∙ c.in-Ok-play_script_in.ensures.script;
-      missed = c.play_script.ensures.missed one;
+      missed = subst R same (c.run_script.ensures.missed one);
     }
 
 pub returns-in-Err-play_script_in-clause-missed : goal.returns-in-Err-play_script_in-clause-missed
@@ -84,7 +91,7 @@ returns-in-Ok-play_script_in-clause-refused g c two bytes keeps =
       utf8 = keeps.utf8.0 is_text;
       script = plain_play_script c.in-Ok-play_script_in.script;
       reads = ap play_script_of (sym same) ∙ c.in-Ok-play_script_in.ensures.script;
-      lacks = c.play_script.ensures.refused two;
+      lacks = c.run_script.ensures.refused two;
     })
 
 pub returns-in-Err-play_script_in-clause-refused : goal.returns-in-Err-play_script_in-clause-refused

@@ -1,0 +1,32 @@
+//! The command `text`.
+ghost use Rattle.std.specs.Prelude.{◌≡◌, ◌⊎◌};
+ghost use Rattle.std.specs.Io.KnownBytes.{Appends};
+ghost use Rattle.mtp2_play.specs.Printed.{IsPrinted};
+
+use mtp2_text::{MONITORS, STANDARD};
+use mtp2_words::Named;
+use script_check::{FAILED, HELD};
+use std::io::Write;
+
+/// Prints a text. Gives the exit status.
+fn print_text<W: Write>(text: &str, writer: &mut W) -> u8
+    ensures held { result ≡ 0 → Appends (W.contents writer.old) (W.contents writer.new) text.now }
+    ensures ends { (result ≡ 0) ⊎ (result ≡ 4) }
+{
+    match writer.write_all(text.as_bytes()) {
+        Ok(()) => HELD,
+        Err(_) => FAILED,
+    }
+}
+
+/// Prints the text of a set of the program's own. Gives the exit status: 0, or 4 where a write fails or the set is none of these.
+pub fn print_own<W: Write>(set: &Named<'_>, writer: &mut W) -> u8
+    ensures { IsPrinted set.now result (W.contents writer.old) (W.contents writer.new) }
+{
+    match set {
+        Named::Standard => print_text(STANDARD, writer),
+        Named::Monitors => print_text(MONITORS, writer),
+        Named::Stdin => FAILED,
+        Named::File(_) => FAILED,
+    }
+}

@@ -1,0 +1,2 @@
+mod Showings
+mod Kinds

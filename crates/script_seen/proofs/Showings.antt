@@ -1,0 +1,76 @@
+-- What is shown of commands, one command more.
+use Rattle.std.proofs.Common.{◌≡◌, ◌∙◌, ℕ, ◌+◌, ◌<◌, ◌≤◌, List, [], ◌∷◌, ◌++◌, length, map, take, drop, get_or, Option, refl, sym, ap, subst}
+use Rattle.std.specs.Io.KnownBytes.{Appends}
+use Rattle.std.proofs.KnownBytes.{Appends-nil, Appends-trans}
+use Rattle.std.proofs.lemmas.List.{take_all, take_more, map-append, take-append-drop, drop_more}
+use Rattle.script_lines.specs.Lines.{PlainLine}
+use Rattle.script_group.specs.Lines.{line_of}
+use Rattle.script_group.specs.Played.{missed_text}
+use Rattle.script_seen.specs.Shown.{IsLine, Shows, begins, more, IsShowing, IsMissing}
+
+-- the line of a command is in front
+pub record HasFront (lines : List PlainLine) (number : ℕ) (old new : Option (List ℕ)) : Type 0 where
+  pub front : List ℕ
+  pub is_front : IsLine lines number front
+  pub grew : Appends old new front
+
+pub has_front : (lines : List PlainLine) (number : ℕ) (old new : Option (List ℕ)) → ((front : List ℕ) × IsLine lines number front × Appends old new front)
+    → HasFront lines number old new
+has_front lines number old new f = record { front = f.0; is_front = f.1; grew = f.2 }
+
+pub showing_begins : {S : Type 0} (lines : List PlainLine) (line : S → ℕ) (P : List S → List ℕ → Type 0) (old : Option (List ℕ))
+    → IsShowing lines line P [] old old []
+showing_begins lines line P old = record { shown = []; shows = begins; written = Appends-nil old }
+
+pub showing_more : {S : Type 0} (lines : List PlainLine) (line : S → ℕ) (P : List S → List ℕ → Type 0) (commands : List S) (said : S)
+    (first old mid new : Option (List ℕ)) (printed next : List ℕ) → IsShowing lines line P commands first old printed → HasFront lines (line said) old mid
+    → Appends mid new (drop (length printed) next) → P (commands ++ said ∷ []) next → IsShowing lines line P (commands ++ said ∷ []) first new next
+showing_more lines line P commands said first old mid new printed next s f behind p = record {
+  shown = s.shown ++ (f.front ++ drop (length printed) next);
+  shows = more said f.front next s.shows f.is_front p;
+  written =
+      Appends-trans first old new s.shown (f.front ++ drop (length printed) next) s.written
+      (Appends-trans old mid new f.front (drop (length printed) next) f.grew behind);
+}
+
+-- what stands behind a list that is in front
+drop_behind : (xs ys : List ℕ) → drop (length xs) (xs ++ ys) ≡ ys
+drop_behind [] ys = refl
+drop_behind (x ∷ xs) ys = drop_behind xs ys
+
+pub missing_is : {S : Type 0} (lines : List PlainLine) (line : S → ℕ) (P M : List S → List ℕ → Type 0) (commands : List S) (said : S)
+    (first old mid new : Option (List ℕ)) (printed next : List ℕ) → IsShowing lines line P commands first old printed → HasFront lines (line said) old mid
+    → next ≡ printed ++ line_of (missed_text (line said)) → Appends mid new (drop (length printed) next) → M (commands ++ said ∷ []) next
+    → IsMissing lines line P M commands said first new
+missing_is lines line P M commands said first old mid new printed next s f is behind missed =
+    let text : List ℕ = line_of (missed_text (line said)) in
+    let B : List ℕ → Type 0 = λ bs. Appends mid new bs in
+    let N : List ℕ → Type 0 = λ bs. M (commands ++ said ∷ []) bs in
+    record {
+      printed = printed;
+      shown = s.shown;
+      front = f.front;
+      shows = s.shows;
+      is_front = f.is_front;
+      missed = subst N is missed;
+      written =
+          Appends-trans first old new s.shown (f.front ++ text) s.written
+          (Appends-trans old mid new f.front text f.grew (subst B (ap (drop (length printed)) is ∙ drop_behind printed text) behind));
+    }
+
+-- ---- commands of a list
+
+pub one_more : {A S : Type 0} (f : A → S) (items : List A) (i : ℕ) (x : A) → i < length items → x ≡ get_or items i x
+    → map f (take i items) ++ f x ∷ [] ≡ map f (take (i + 1) items)
+one_more f items i x within is =
+    sym (map-append f (take i items) (x ∷ [])) ∙ ap (map f) (sym (take_more items i x within ∙ ap (λ y. take i items ++ y ∷ []) (sym is)))
+
+pub parts_at : {A S : Type 0} (f : A → S) (items : List A) (i : ℕ) (x : A) → i < length items → x ≡ get_or items i x
+    → map f items ≡ map f (take i items) ++ f x ∷ map f (drop (i + 1) items)
+parts_at f items i x within is =
+    let rest : drop i items ≡ x ∷ drop (i + 1) items = drop_more items i x within ∙ ap (λ y. y ∷ drop (i + 1) items) (sym is) in
+    ap (map f) (sym (take-append-drop i items) ∙ ap (λ ys. take i items ++ ys) rest) ∙ map-append f (take i items) (x ∷ drop (i + 1) items)
+
+-- all of them
+pub all_taken : {A S : Type 0} (f : A → S) (items : List A) (i : ℕ) → length items ≤ i → map f (take i items) ≡ map f items
+all_taken f items i over = ap (map f) (take_all i items over)

@@ -1,0 +1,25 @@
+use Rattle.std.proofs.Common.{map}
+use Rattle.script_lines.specs.Lines.{plain_line}
+use Rattle.script_lines.specs.Scripts.{plain_said}
+use Rattle.script_seen.proofs.Kinds.{book_starts, book_one_more, book_shown, book_missed}
+use Rattle.script_seen.proofs.books.show_each.Goals as goal
+
+pub loop-said-init : goal.loop-said-init
+loop-said-init g c none = book_starts (map plain_line c.args.lines.now) c.args.player.now.book (g.W.Write.contents c.args.writer.now) _ none
+
+pub loop-said-preserved : goal.loop-said-preserved
+loop-said-preserved g c none =
+    book_one_more (map plain_line c.args.lines.now) c.args.player.now.book c.args.commands.now c.loop-said.said-index c.said-item.result _ _ _ _ _
+    c.loop-said-test.true c.said-item.is
+    (c.in_ok-show_next.ensures.goes c.if-not-branch.false c.args.player.now.book _ _ (c.loop-said.invariant none))
+
+pub returns-then-not-branch-clause-missed : goal.returns-then-not-branch-clause-missed
+returns-then-not-branch-clause-missed g c one none =
+    book_missed (map plain_line c.args.lines.now) c.args.player.now.book c.args.commands.now c.loop-said.said-index c.said-item.result _ _
+    c.loop-said-test.true c.said-item.is
+    (c.in_ok-show_next.ensures.missed c.if-not-branch.true c.args.player.now.book _ _ (c.loop-said.invariant none))
+
+pub returns-clause-held : goal.returns-clause-held
+returns-clause-held g c zero none =
+    book_shown (map plain_line c.args.lines.now) c.args.player.now.book c.args.commands.now c.loop-said.said-index _ _ _ _ _ c.loop-said-test.false
+    (c.loop-said.invariant none)

@@ -1,0 +1,117 @@
+-- What is shown of a run of each kind of script.
+use Rattle.std.specs.Prelude.{ℕ, List, [], Option, Some}
+use Rattle.actor_machine.specs.Ledger.{Ledger}
+use Rattle.script_lines.specs.Lines.{PlainLine}
+use Rattle.script_lines.specs.Scripts.{PlainSaid}
+use Rattle.script_links.specs.TermScripts.{PlainTermSaid}
+use Rattle.script_links.specs.GroupScripts.{PlainGroupSaid}
+use Rattle.link_term.specs.Term.{Term}
+use Rattle.script_group.specs.Played.{IsRun, IsWritten, IsMissed}
+use Rattle.script_group.specs.TermRuns.{IsTermRun, IsTermWritten, IsTermMissed}
+use Rattle.script_group.specs.GroupAnswers.{Playing}
+use Rattle.script_group.specs.GroupRuns.{IsGroupRun, IsGroupWritten, IsGroupMissed}
+use Rattle.script_seen.specs.Shown.{IsShowing, IsMissing, IsShown, IsShownMissed}
+
+-- ---- books
+
+abbrev pub book_line : PlainSaid → ℕ
+book_line s = s.line
+
+-- commands print this on a link, from this book on
+abbrev pub Prints : Ledger → List PlainSaid → List ℕ → Type 0
+Prints b commands printed = IsWritten b commands (Some []) (Some printed)
+
+-- and this, where an expectation fails
+abbrev pub PrintsMissed : Ledger → List PlainSaid → List ℕ → Type 0
+PrintsMissed b commands printed = IsMissed b commands (Some []) (Some printed)
+
+abbrev pub IsBookShown :
+    List PlainLine → Ledger → List PlainSaid → Option (List ℕ) → Option (List ℕ) → Type 0
+IsBookShown lines b commands old new = IsShown lines book_line (Prints b) commands old new
+
+abbrev pub IsBookShownMissed :
+    List PlainLine → Ledger → List PlainSaid → Option (List ℕ) → Option (List ℕ) → Type 0
+IsBookShownMissed lines b commands old new =
+    IsShownMissed lines book_line (Prints b) (PrintsMissed b) commands old new
+
+-- so far these commands were obeyed, and shown
+abbrev pub BookShowing :
+    List PlainLine → Ledger → List PlainSaid → Option (List ℕ) → Option (List ℕ) → List ℕ
+    → Ledger → Option (List ℕ) → Type 0
+BookShowing lines b commands first now printed book last =
+    IsShowing lines book_line (Prints b) commands first now printed
+    × IsRun b commands (Some []) (Some printed) book last
+
+-- an expectation behind them fails
+abbrev pub BookMissing :
+    List PlainLine → Ledger → List PlainSaid → PlainSaid → Option (List ℕ) → Option (List ℕ)
+    → Type 0
+BookMissing lines b before said first now =
+    IsMissing lines book_line (Prints b) (PrintsMissed b) before said first now
+
+-- ---- terminals
+
+abbrev pub term_line : PlainTermSaid → ℕ
+term_line s = s.line
+
+abbrev pub TermPrints : Term → List PlainTermSaid → List ℕ → Type 0
+TermPrints t commands printed = IsTermWritten commands (Some []) (Some printed) t
+
+abbrev pub TermPrintsMissed : Term → List PlainTermSaid → List ℕ → Type 0
+TermPrintsMissed t commands printed = IsTermMissed commands (Some []) (Some printed) t
+
+abbrev pub IsTermShown :
+    List PlainLine → List PlainTermSaid → Option (List ℕ) → Option (List ℕ) → Term → Type 0
+IsTermShown lines commands old new t = IsShown lines term_line (TermPrints t) commands old new
+
+abbrev pub IsTermShownMissed :
+    List PlainLine → List PlainTermSaid → Option (List ℕ) → Option (List ℕ) → Term → Type 0
+IsTermShownMissed lines commands old new t =
+    IsShownMissed lines term_line (TermPrints t) (TermPrintsMissed t) commands old new
+
+abbrev pub TermShowing :
+    List PlainLine → Term → List PlainTermSaid → Option (List ℕ) → Option (List ℕ) → List ℕ
+    → Term → Option (List ℕ) → Type 0
+TermShowing lines t commands first now printed terminal last =
+    IsShowing lines term_line (TermPrints t) commands first now printed
+    × IsTermRun t commands (Some []) (Some printed) terminal last
+
+abbrev pub TermMissing :
+    List PlainLine → Term → List PlainTermSaid → PlainTermSaid → Option (List ℕ)
+    → Option (List ℕ) → Type 0
+TermMissing lines t before said first now =
+    IsMissing lines term_line (TermPrints t) (TermPrintsMissed t) before said first now
+
+-- ---- link sets
+
+abbrev pub group_line : PlainGroupSaid → ℕ
+group_line s = s.line
+
+abbrev pub GroupPrints : Playing → List PlainGroupSaid → List ℕ → Type 0
+GroupPrints p commands printed = IsGroupWritten commands (Some []) (Some printed) p
+
+abbrev pub GroupPrintsMissed : Playing → List PlainGroupSaid → List ℕ → Type 0
+GroupPrintsMissed p commands printed = IsGroupMissed commands (Some []) (Some printed) p
+
+abbrev pub IsGroupShown :
+    List PlainLine → List PlainGroupSaid → Option (List ℕ) → Option (List ℕ) → Playing → Type 0
+IsGroupShown lines commands old new p =
+    IsShown lines group_line (GroupPrints p) commands old new
+
+abbrev pub IsGroupShownMissed :
+    List PlainLine → List PlainGroupSaid → Option (List ℕ) → Option (List ℕ) → Playing → Type 0
+IsGroupShownMissed lines commands old new p =
+    IsShownMissed lines group_line (GroupPrints p) (GroupPrintsMissed p) commands old new
+
+abbrev pub GroupShowing :
+    List PlainLine → Playing → List PlainGroupSaid → Option (List ℕ) → Option (List ℕ) → List ℕ
+    → Playing → Option (List ℕ) → Type 0
+GroupShowing lines p commands first now printed playing last =
+    IsShowing lines group_line (GroupPrints p) commands first now printed
+    × IsGroupRun p commands (Some []) (Some printed) playing last
+
+abbrev pub GroupMissing :
+    List PlainLine → Playing → List PlainGroupSaid → PlainGroupSaid → Option (List ℕ)
+    → Option (List ℕ) → Type 0
+GroupMissing lines p before said first now =
+    IsMissing lines group_line (GroupPrints p) (GroupPrintsMissed p) before said first now

@@ -1,0 +1,111 @@
+//! Book scripts as they run, with their lines shown.
+ghost use Rattle.std.specs.Prelude.{◌≡◌, ◌⊎◌, ◌++◌, ◌∷◌, [], List, ℕ, Option, None, Some, map, IfOk, true, false};
+ghost use Rattle.script_lines.specs.Lines.{plain_line, lines_of};
+ghost use Rattle.script_lines.specs.Scripts.{AreInRange, PlainSaid, plain_said, plain_script};
+ghost use Rattle.actor_machine.specs.Ledger.{Ledger};
+ghost use Rattle.script_group.specs.Played.{first_book, last_of};
+ghost use Rattle.script_seen.specs.Kinds.{IsBookShown, IsBookShownMissed, BookShowing, BookMissing};
+
+use crate::fronts::{first_of, show_line, write_behind};
+use script_group::{FAILED, HELD, MISSED, Player, open_player};
+use script_lines::{Line, Said, Script, lines_in};
+use std::alloc::Global;
+use std::io::{self, Write};
+use turn_check::Verified;
+
+/// Does what a command says, and shows its line, which stands at a place of the script's, in front of what it prints. Whether the run goes on.
+fn show_next<W: Write>(
+    alloc: Global,
+    player: &mut Player,
+    said: &Said<'_>,
+    lines: &[Line<'_>],
+    place: usize,
+    printed: &mut Vec<u8>,
+    writer: &mut W,
+) -> io::Result<bool>
+    ensures goes { IfOk result (λ on. on ≡ true → (b : Ledger) (before : List PlainSaid) (first : Option (List ℕ))
+        → BookShowing (map plain_line lines.now) b before first (W.contents writer.old) printed.old.items player.old.book (last_of player.old)
+        → BookShowing (map plain_line lines.now) b (before ++ plain_said said.now ∷ []) first (W.contents writer.new) printed.new.items player.new.book (last_of player.new)) }
+    ensures missed { IfOk result (λ on. on ≡ false → (b : Ledger) (before : List PlainSaid) (first : Option (List ℕ))
+        → BookShowing (map plain_line lines.now) b before first (W.contents writer.old) printed.old.items player.old.book (last_of player.old)
+        → BookMissing (map plain_line lines.now) b before (plain_said said.now) first (W.contents writer.new)) }
+{
+    show_line(alloc, lines, place, said.line, writer)?;
+    let before = printed.len();
+    let on = player.obey(alloc, said, printed)?;
+    write_behind(before, printed.as_slice(), writer)?;
+    Ok(on)
+}
+
+/// Does what the commands say, in order, up to an expectation that fails, and shows their lines. Gives the exit status, 0 or 1 where one failed.
+fn show_each<W: Write, E: Write>(
+    alloc: Global,
+    player: &mut Player,
+    commands: &[Said<'_>],
+    lines: &[Line<'_>],
+    writer: &mut W,
+    errors: &mut E,
+) -> io::Result<u8>
+    ensures held { IfOk result (λ status. status ≡ 0 → last_of player.old ≡ None
+        → IsBookShown (map plain_line lines.now) player.old.book (map plain_said commands.now) (W.contents writer.old) (W.contents writer.new)) }
+    ensures missed { IfOk result (λ status. status ≡ 1 → last_of player.old ≡ None
+        → IsBookShownMissed (map plain_line lines.now) player.old.book (map plain_said commands.now) (W.contents writer.old) (W.contents writer.new)) }
+    ensures status { IfOk result (λ status. (status ≡ 0) ⊎ (status ≡ 1)) }
+{
+    let mut printed = Vec::new(alloc);
+    let mut place = first_of(lines, commands.len());
+    for said in commands {
+        if !show_next(alloc, player, said, lines, place, &mut printed, writer)? {
+            return Ok(MISSED);
+        }
+        player.explain(alloc, said, errors);
+        place = place.saturating_add(1);
+    }
+    Ok(HELD)
+}
+
+/// The same, from a new link of the set on.
+fn show_new<W: Write, E: Write>(
+    alloc: Global,
+    set: &Verified,
+    script: &Script<'_>,
+    text: &str,
+    writer: &mut W,
+    errors: &mut E,
+) -> io::Result<u8>
+    requires { AreInRange script.now.settings }
+    ensures held { IfOk result (λ status. status ≡ 0
+        → IsBookShown (lines_of text.now) (first_book set.now script.now.settings) (plain_script script.now).commands (W.contents writer.old) (W.contents writer.new)) }
+    ensures missed { IfOk result (λ status. status ≡ 1
+        → IsBookShownMissed (lines_of text.now) (first_book set.now script.now.settings) (plain_script script.now).commands (W.contents writer.old) (W.contents writer.new)) }
+    ensures status { IfOk result (λ status. (status ≡ 0) ⊎ (status ≡ 1)) }
+{
+    let lines = lines_in(alloc, text)?;
+    let mut player = open_player(alloc, set, script.settings)?;
+    show_each(alloc, &mut player, &script.commands, &lines, writer, errors)
+}
+
+/// Runs a book script on the processes of a set, as `play_book` does, and writes each command's line of the script's text in front of what it prints.
+///
+/// Gives the exit status: 0 where each command ran and all was written, 1 after `failed line N` where an expectation failed, 4 where memory or a
+/// write fails.
+pub fn show_book<W: Write, E: Write>(
+    alloc: Global,
+    set: &Verified,
+    script: &Script<'_>,
+    text: &str,
+    writer: &mut W,
+    errors: &mut E,
+) -> u8
+    requires { AreInRange script.now.settings }
+    ensures held { result ≡ 0
+        → IsBookShown (lines_of text.now) (first_book set.now script.now.settings) (plain_script script.now).commands (W.contents writer.old) (W.contents writer.new) }
+    ensures missed { result ≡ 1
+        → IsBookShownMissed (lines_of text.now) (first_book set.now script.now.settings) (plain_script script.now).commands (W.contents writer.old) (W.contents writer.new) }
+    ensures status { (result ≡ 0) ⊎ (result ≡ 1) ⊎ (result ≡ 4) }
+{
+    match show_new(alloc, set, script, text, writer, errors) {
+        Ok(status) => status,
+        Err(_) => FAILED,
+    }
+}

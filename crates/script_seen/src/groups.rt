@@ -1,0 +1,119 @@
+//! Link sets' scripts as they run, with their lines shown.
+ghost use Rattle.std.specs.Prelude.{◌≡◌, ◌⊎◌, ◌++◌, ◌∷◌, [], List, ℕ, Option, None, Some, map, IfOk, true, false};
+ghost use Rattle.script_lines.specs.Lines.{plain_line, lines_of};
+ghost use Rattle.script_links.specs.GroupScripts.{PlainGroupSaid, plain_group_said, IsFew};
+ghost use Rattle.script_group.specs.TermRuns.{LacksName};
+ghost use Rattle.script_group.specs.GroupAnswers.{Playing};
+ghost use Rattle.script_group.specs.GroupRuns.{playing_of, last_of, IsOfNewSet};
+ghost use Rattle.script_seen.specs.Kinds.{IsGroupShown, IsGroupShownMissed, GroupShowing, GroupMissing};
+
+use crate::fronts::{first_of, show_line, write_behind};
+use script_group::{FAILED, GroupPlayer, HELD, MISSED, end_player, open_group, refuse_set};
+use script_lines::{Line, lines_in};
+use script_links::{GroupSaid, GroupScript};
+use std::alloc::Global;
+use std::io::{self, Write};
+use turn_check::Verified;
+
+/// Does what a command says, and shows its line, which stands at a place of the script's, in front of what it prints. Whether the run goes on.
+fn show_next<W: Write>(
+    alloc: Global,
+    player: &mut GroupPlayer,
+    said: &GroupSaid<'_>,
+    lines: &[Line<'_>],
+    place: usize,
+    printed: &mut Vec<u8>,
+    writer: &mut W,
+) -> io::Result<bool>
+    ensures goes { IfOk result (λ on. on ≡ true → (p : Playing) (before : List PlainGroupSaid) (first : Option (List ℕ))
+        → GroupShowing (map plain_line lines.now) p before first (W.contents writer.old) printed.old.items (playing_of player.old) (last_of player.old)
+        → GroupShowing (map plain_line lines.now) p (before ++ plain_group_said said.now ∷ []) first (W.contents writer.new) printed.new.items (playing_of player.new) (last_of player.new)) }
+    ensures missed { IfOk result (λ on. on ≡ false → (p : Playing) (before : List PlainGroupSaid) (first : Option (List ℕ))
+        → GroupShowing (map plain_line lines.now) p before first (W.contents writer.old) printed.old.items (playing_of player.old) (last_of player.old)
+        → GroupMissing (map plain_line lines.now) p before (plain_group_said said.now) first (W.contents writer.new)) }
+{
+    show_line(alloc, lines, place, said.line, writer)?;
+    let before = printed.len();
+    let on = player.obey(alloc, said, printed)?;
+    write_behind(before, printed.as_slice(), writer)?;
+    Ok(on)
+}
+
+/// Does what the commands say, in order, up to an expectation that fails, and shows their lines. Gives the exit status, 0 or 1 where one failed.
+fn show_each<W: Write>(
+    alloc: Global,
+    player: &mut GroupPlayer,
+    commands: &[GroupSaid<'_>],
+    lines: &[Line<'_>],
+    writer: &mut W,
+) -> io::Result<u8>
+    ensures held { IfOk result (λ status. status ≡ 0 → last_of player.old ≡ None
+        → IsGroupShown (map plain_line lines.now) (map plain_group_said commands.now) (W.contents writer.old) (W.contents writer.new) (playing_of player.old)) }
+    ensures missed { IfOk result (λ status. status ≡ 1 → last_of player.old ≡ None
+        → IsGroupShownMissed (map plain_line lines.now) (map plain_group_said commands.now) (W.contents writer.old) (W.contents writer.new) (playing_of player.old)) }
+    ensures status { IfOk result (λ status. (status ≡ 0) ⊎ (status ≡ 1)) }
+{
+    let mut printed = Vec::new(alloc);
+    let mut place = first_of(lines, commands.len());
+    for said in commands {
+        if !show_next(alloc, player, said, lines, place, &mut printed, writer)? {
+            return Ok(MISSED);
+        }
+        place = place.saturating_add(1);
+    }
+    Ok(HELD)
+}
+
+/// The same with the lines of a text. Gives the exit status, 4 where memory or a write fails.
+fn show_all<W: Write>(
+    alloc: Global,
+    player: &mut GroupPlayer,
+    commands: &[GroupSaid<'_>],
+    text: &str,
+    writer: &mut W,
+) -> u8
+    ensures held { result ≡ 0 → last_of player.old ≡ None
+        → IsGroupShown (lines_of text.now) (map plain_group_said commands.now) (W.contents writer.old) (W.contents writer.new) (playing_of player.old) }
+    ensures missed { result ≡ 1 → last_of player.old ≡ None
+        → IsGroupShownMissed (lines_of text.now) (map plain_group_said commands.now) (W.contents writer.old) (W.contents writer.new) (playing_of player.old) }
+    ensures status { (result ≡ 0) ⊎ (result ≡ 1) ⊎ (result ≡ 4) }
+{
+    let Ok(lines) = lines_in(alloc, text) else {
+        return FAILED;
+    };
+    match show_each(alloc, player, commands, &lines, writer) {
+        Ok(status) => status,
+        Err(_) => FAILED,
+    }
+}
+
+/// Runs a link set's script on links with terminals over a set of processes, as `play_group` does, and writes each command's line of the script's
+/// text in front of what it prints.
+///
+/// Gives the exit status: 0 where each command ran and all was written, 1 after `failed line N` where an expectation failed, 2 after
+/// `refused X2 NoName NAME` alone where the set lacks a name that a terminal speaks to or hears, 4 where memory or a write fails.
+pub fn show_group<W: Write>(
+    alloc: Global,
+    set: &Verified,
+    script: &GroupScript<'_>,
+    text: &str,
+    writer: &mut W,
+) -> u8
+    requires { IsFew script.now.head.links }
+    ensures held { result ≡ 0
+        → IsOfNewSet set.now script.now.head (IsGroupShown (lines_of text.now) (map plain_group_said script.now.commands.items) (W.contents writer.old) (W.contents writer.new)) }
+    ensures missed { result ≡ 1
+        → IsOfNewSet set.now script.now.head (IsGroupShownMissed (lines_of text.now) (map plain_group_said script.now.commands.items) (W.contents writer.old) (W.contents writer.new)) }
+    ensures refused { result ≡ 2 → LacksName set.now (W.contents writer.old) (W.contents writer.new) }
+    ensures status { (result ≡ 0) ⊎ (result ≡ 1) ⊎ (result ≡ 2) ⊎ (result ≡ 4) }
+{
+    match open_group(alloc, set, script.head) {
+        Ok(player) => {
+            let mut player = player;
+            let status = show_all(alloc, &mut player, &script.commands, text, writer);
+            end_player(player);
+            status
+        }
+        Err(error) => refuse_set(alloc, writer, error),
+    }
+}

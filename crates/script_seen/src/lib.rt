@@ -1,0 +1,14 @@
+//! What of a script's run is seen beside its replies: its lines, each in front of what it prints.
+#![tactic(auto)]
+
+mod books;
+mod fronts;
+mod groups;
+mod terminals;
+
+pub use books::show_book;
+pub use groups::show_group;
+pub use script_group::{
+    FAILED, OpenError, play_book, play_group, play_terminal, refuse, refuse_set, write_line,
+};
+pub use terminals::show_terminal;

@@ -1,0 +1,129 @@
+//! Terminals' scripts as they run, with their lines shown.
+ghost use Rattle.std.specs.Prelude.{◌≡◌, ◌⊎◌, ◌++◌, ◌∷◌, [], List, ℕ, Option, None, Some, map, IfOk, true, false};
+ghost use Rattle.script_lines.specs.Lines.{plain_line, lines_of};
+ghost use Rattle.script_links.specs.TermScripts.{PlainTermSaid, plain_term_said};
+ghost use Rattle.link_term.specs.Term.{Term};
+ghost use Rattle.script_group.specs.TermRuns.{last_of, IsOfNew, LacksName};
+ghost use Rattle.script_seen.specs.Kinds.{IsTermShown, IsTermShownMissed, TermShowing, TermMissing};
+
+use crate::fronts::{first_of, show_line, write_behind};
+use link_term::Terminal;
+use script_group::{FAILED, HELD, MISSED, TermPlayer, new_player, refuse_set};
+use script_lines::{Line, lines_in};
+use script_links::{TermSaid, TermScript};
+use std::alloc::Global;
+use std::io::{self, Write};
+use turn_check::Verified;
+
+/// Does what a command says, and shows its line, which stands at a place of the script's, in front of what it prints. Whether the run goes on.
+fn show_next<W: Write>(
+    alloc: Global,
+    player: &mut TermPlayer,
+    said: &TermSaid<'_>,
+    lines: &[Line<'_>],
+    place: usize,
+    printed: &mut Vec<u8>,
+    writer: &mut W,
+) -> io::Result<bool>
+    ensures goes { IfOk result (λ on. on ≡ true → (t : Term) (before : List PlainTermSaid) (first : Option (List ℕ))
+        → TermShowing (map plain_line lines.now) t before first (W.contents writer.old) printed.old.items player.old.terminal (last_of player.old)
+        → TermShowing (map plain_line lines.now) t (before ++ plain_term_said said.now ∷ []) first (W.contents writer.new) printed.new.items player.new.terminal (last_of player.new)) }
+    ensures missed { IfOk result (λ on. on ≡ false → (t : Term) (before : List PlainTermSaid) (first : Option (List ℕ))
+        → TermShowing (map plain_line lines.now) t before first (W.contents writer.old) printed.old.items player.old.terminal (last_of player.old)
+        → TermMissing (map plain_line lines.now) t before (plain_term_said said.now) first (W.contents writer.new)) }
+{
+    show_line(alloc, lines, place, said.line, writer)?;
+    let before = printed.len();
+    let on = player.obey(alloc, said, printed)?;
+    write_behind(before, printed.as_slice(), writer)?;
+    Ok(on)
+}
+
+/// Does what the commands say, in order, up to an expectation that fails, and shows their lines. Gives the exit status, 0 or 1 where one failed.
+fn show_each<W: Write>(
+    alloc: Global,
+    player: &mut TermPlayer,
+    commands: &[TermSaid<'_>],
+    lines: &[Line<'_>],
+    writer: &mut W,
+) -> io::Result<u8>
+    ensures held { IfOk result (λ status. status ≡ 0 → last_of player.old ≡ None
+        → IsTermShown (map plain_line lines.now) (map plain_term_said commands.now) (W.contents writer.old) (W.contents writer.new) player.old.terminal) }
+    ensures missed { IfOk result (λ status. status ≡ 1 → last_of player.old ≡ None
+        → IsTermShownMissed (map plain_line lines.now) (map plain_term_said commands.now) (W.contents writer.old) (W.contents writer.new) player.old.terminal) }
+    ensures status { IfOk result (λ status. (status ≡ 0) ⊎ (status ≡ 1)) }
+{
+    let mut printed = Vec::new(alloc);
+    let mut place = first_of(lines, commands.len());
+    for said in commands {
+        if !show_next(alloc, player, said, lines, place, &mut printed, writer)? {
+            return Ok(MISSED);
+        }
+        place = place.saturating_add(1);
+    }
+    Ok(HELD)
+}
+
+/// The same, on a new terminal.
+fn show_new<W: Write>(
+    alloc: Global,
+    terminal: Terminal,
+    script: &TermScript<'_>,
+    text: &str,
+    writer: &mut W,
+) -> io::Result<u8>
+    ensures held { IfOk result (λ status. status ≡ 0
+        → IsTermShown (lines_of text.now) (map plain_term_said script.now.commands.items) (W.contents writer.old) (W.contents writer.new) terminal) }
+    ensures missed { IfOk result (λ status. status ≡ 1
+        → IsTermShownMissed (lines_of text.now) (map plain_term_said script.now.commands.items) (W.contents writer.old) (W.contents writer.new) terminal) }
+    ensures status { IfOk result (λ status. (status ≡ 0) ⊎ (status ≡ 1)) }
+{
+    let lines = lines_in(alloc, text)?;
+    let mut player = new_player(terminal);
+    show_each(alloc, &mut player, &script.commands, &lines, writer)
+}
+
+/// The same. Gives the exit status, 4 where memory or a write fails.
+fn show_on<W: Write>(
+    alloc: Global,
+    terminal: Terminal,
+    script: &TermScript<'_>,
+    text: &str,
+    writer: &mut W,
+) -> u8
+    ensures held { result ≡ 0
+        → IsTermShown (lines_of text.now) (map plain_term_said script.now.commands.items) (W.contents writer.old) (W.contents writer.new) terminal }
+    ensures missed { result ≡ 1
+        → IsTermShownMissed (lines_of text.now) (map plain_term_said script.now.commands.items) (W.contents writer.old) (W.contents writer.new) terminal }
+    ensures status { (result ≡ 0) ⊎ (result ≡ 1) ⊎ (result ≡ 4) }
+{
+    match show_new(alloc, terminal, script, text, writer) {
+        Ok(status) => status,
+        Err(_) => FAILED,
+    }
+}
+
+/// Runs a terminal's script on a terminal over a set, as `play_terminal` does, and writes each command's line of the script's text in front of what
+/// it prints.
+///
+/// Gives the exit status: 0 where each command ran and all was written, 1 after `failed line N` where an expectation failed, 2 after
+/// `refused X2 NoName NAME` alone where the set lacks a name that a terminal speaks to or hears, 4 where memory or a write fails.
+pub fn show_terminal<W: Write>(
+    alloc: Global,
+    set: &Verified,
+    script: &TermScript<'_>,
+    text: &str,
+    writer: &mut W,
+) -> u8
+    ensures held { result ≡ 0
+        → IsOfNew set.now script.now.mode (IsTermShown (lines_of text.now) (map plain_term_said script.now.commands.items) (W.contents writer.old) (W.contents writer.new)) }
+    ensures missed { result ≡ 1
+        → IsOfNew set.now script.now.mode (IsTermShownMissed (lines_of text.now) (map plain_term_said script.now.commands.items) (W.contents writer.old) (W.contents writer.new)) }
+    ensures refused { result ≡ 2 → LacksName set.now (W.contents writer.old) (W.contents writer.new) }
+    ensures status { (result ≡ 0) ⊎ (result ≡ 1) ⊎ (result ≡ 2) ⊎ (result ≡ 4) }
+{
+    match Terminal::of_set(alloc, script.mode, set) {
+        Ok(terminal) => show_on(alloc, terminal, script, text, writer),
+        Err(error) => refuse_set(alloc, writer, error),
+    }
+}

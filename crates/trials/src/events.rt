@@ -1,0 +1,64 @@
+//! Events that happen to a link of a text, by [`run_text`].
+
+mod read;
+mod told;
+
+use crate::calls::Stopped;
+use crate::events::read::{events_of, limits_of};
+use crate::events::told::write_replies;
+use actor_book::run_events;
+use actor_headline::{Book, LoadFault, run_text};
+use mtp2_text::STANDARD;
+use std::alloc::Global;
+
+/// Rebases a book, lets the events of these lines happen to it, and writes what is answered.
+fn go_on(alloc: Global, text: &mut String, book: &mut Book, lines: &str) -> Result<(), Stopped> {
+    book.rebase()?;
+    text.push_str("rebased\n")?;
+    let events = events_of(alloc, lines)?;
+    let replies = run_events(alloc, book, &events)?;
+    write_replies(alloc, text, &replies)?;
+    Ok(())
+}
+
+/// Writes why a text is refused.
+fn write_fault(text: &mut String, fault: LoadFault) -> Result<(), Stopped> {
+    match fault {
+        LoadFault::NoMemory => Err(Stopped::NoMemory),
+        fault => {
+            writeln!(text, "refused {fault}")?;
+            Ok(())
+        }
+    }
+}
+
+/// Lets the events of a trial happen to a link of a text, and writes what is answered to each. A line `rebase` has the book rebased.
+fn run(alloc: Global, text: &mut String, events: &str, source: &str) -> Result<(), Stopped> {
+    let Some((first, lines)) = events.split_once('\n') else {
+        return Err(Stopped::BadLine);
+    };
+    let Some(limits) = limits_of(first) else {
+        return Err(Stopped::BadLine);
+    };
+    let mut parts = lines.split("\nrebase\n");
+    let first = events_of(alloc, parts.next().unwrap_or(""))?;
+    match run_text(alloc, source, limits, &first) {
+        Ok(mut ran) => {
+            write_replies(alloc, text, &ran.replies)?;
+            for part in parts {
+                go_on(alloc, text, &mut ran.book, part)?;
+            }
+            Ok(())
+        }
+        Err(fault) => write_fault(text, fault),
+    }
+}
+
+/// Makes the trial of a text, or of `standard`.
+pub fn run_all(alloc: Global, text: &mut String, trial: &str) -> Result<(), Stopped> {
+    match trial.split_once("\ntext\n") {
+        Some((events, "standard")) => run(alloc, text, events, STANDARD),
+        Some((events, source)) => run(alloc, text, events, source),
+        None => Err(Stopped::BadLine),
+    }
+}

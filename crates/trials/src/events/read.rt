@@ -1,0 +1,123 @@
+//! Events as they are written: `offer ACTOR SIGNAL VALUE ..`, `begin ACTOR`, `skip ACTOR`, `finish ACTOR`, `tick N`, `env`. Actors and signals are
+//! named by their numbers. A number before the word says how often it happens. A trial's first line has the limits: how many signals a port holds,
+//! how many may wait for the environment, how many events the journal holds.
+
+use crate::calls::Stopped;
+use crate::run::number;
+use actor_book::Offer;
+use actor_headline::{Event, Limits};
+use arrayvec::ArrayVec;
+use std::alloc::{AllocError, Global};
+use std::str::SplitWhitespace;
+use turn_code::{SignalNumber, Value};
+
+/// The limits of a line.
+pub fn limits_of(line: &str) -> Option<Limits> {
+    let mut words = line.split_whitespace();
+    let port = number(&mut words)?;
+    let env = number(&mut words)?;
+    let journal = number(&mut words)?;
+    Limits::new(port as usize, env as usize, journal as usize)
+}
+
+/// The next word, as the number of an actor.
+fn actor_of(words: &mut SplitWhitespace<'_>) -> Option<u16> {
+    match words.next() {
+        Some(word) => word.parse::<u16>().ok(),
+        None => None,
+    }
+}
+
+/// The next word, as the number of a signal.
+fn signal_of(words: &mut SplitWhitespace<'_>) -> Option<SignalNumber> {
+    match words.next() {
+        Some(word) => match word.parse::<u8>() {
+            Ok(number) => Some(SignalNumber(number)),
+            Err(_) => None,
+        },
+        None => None,
+    }
+}
+
+/// The value of a word.
+fn value_of(word: &str) -> Option<Value> {
+    match word {
+        "true" => Some(Value::Bool(true)),
+        "false" => Some(Value::Bool(false)),
+        _ => match word.parse::<i32>() {
+            Ok(number) => Some(Value::Int(number)),
+            Err(_) => None,
+        },
+    }
+}
+
+/// The values of the words that are left, four at most.
+fn values_of(words: &mut SplitWhitespace<'_>) -> Option<ArrayVec<Value, 4>> {
+    let mut values: ArrayVec<Value, 4> = ArrayVec::new();
+    for word in words {
+        let value = value_of(word)?;
+        if values.is_full() {
+            return None;
+        }
+        values.push(value);
+    }
+    Some(values)
+}
+
+/// The offer of these words.
+fn offer_of(words: &mut SplitWhitespace<'_>) -> Option<Offer> {
+    let actor = actor_of(words)?;
+    let signal = signal_of(words)?;
+    let values = values_of(words)?;
+    Some(Offer {
+        actor,
+        signal,
+        values,
+    })
+}
+
+/// The event of a word and those behind it.
+fn event_of(word: &str, words: &mut SplitWhitespace<'_>) -> Option<Event> {
+    match word {
+        "offer" => Some(Event::Offer(offer_of(words)?)),
+        "begin" => Some(Event::Begin(actor_of(words)?)),
+        "skip" => Some(Event::Skip(actor_of(words)?)),
+        "finish" => Some(Event::Finish(actor_of(words)?)),
+        "tick" => Some(Event::Advance(u64::from(number(words)?))),
+        "env" => Some(Event::TakeEnv),
+        _ => None,
+    }
+}
+
+/// How often the event of a line happens, and the event.
+fn line_of(line: &str) -> Option<(u32, Event)> {
+    let mut words = line.split_whitespace();
+    let word = words.next()?;
+    match word.parse::<u32>() {
+        Ok(times) => {
+            let word = words.next()?;
+            Some((times, event_of(word, &mut words)?))
+        }
+        Err(_) => Some((1, event_of(word, &mut words)?)),
+    }
+}
+
+/// Adds an event so often.
+fn add(events: &mut Vec<Event>, times: u32, event: &Event) -> Result<(), AllocError> {
+    for _ in 0..times {
+        events.push(event.copy())?;
+    }
+    Ok(())
+}
+
+/// The events of all lines.
+pub fn events_of(alloc: Global, lines: &str) -> Result<Vec<Event>, Stopped> {
+    let mut events = Vec::new(alloc);
+    for line in lines.lines() {
+        match line_of(line) {
+            Some((times, event)) => add(&mut events, times, &event)?,
+            None => return Err(Stopped::BadLine),
+        }
+    }
+    Ok(events)
+}

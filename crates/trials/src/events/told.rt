@@ -1,0 +1,127 @@
+//! What is answered to events, a line each; of several that are alike how many there are.
+
+use actor_book::{Begun, Cause, Emitted, Lost, Report};
+use actor_headline::Reply;
+use std::alloc::{AllocError, Global};
+use turn_code::{End, Place, Trigger, Value};
+
+/// Writes a turn that began.
+fn write_begun(line: &mut String, begun: Begun) -> Result<(), AllocError> {
+    let (turn, input) = (begun.turn, begun.number);
+    match begun.place {
+        Place::Start => write!(line, "turn {turn} at START"),
+        Place::State(state) => {
+            let state = state.0;
+            write!(line, "turn {turn} at state {state} input {input}")
+        }
+    }
+}
+
+/// Writes what was thrown away.
+fn write_skipped(line: &mut String, trigger: Trigger) -> Result<(), AllocError> {
+    match trigger {
+        Trigger::Signal(number) => {
+            let number = number.0;
+            write!(line, "skipped signal {number}")
+        }
+        Trigger::Timer(number) => {
+            let number = number.0;
+            write!(line, "skipped timer {number}")
+        }
+    }
+}
+
+/// The word of a cause.
+fn word_of(cause: Cause) -> &'static str {
+    match cause {
+        Cause::Full => "full",
+        Cause::EnvFull => "environment full",
+        Cause::Stopped => "stopped",
+    }
+}
+
+/// Writes the outputs that reached nobody, with their places among the effects.
+fn write_lost(line: &mut String, lost: &[Lost]) -> Result<(), AllocError> {
+    for one in lost {
+        let (place, cause) = (one.place, word_of(one.cause));
+        write!(line, ", {place} {cause}")?;
+    }
+    Ok(())
+}
+
+/// Writes how a turn ended.
+fn write_report(line: &mut String, report: &Report) -> Result<(), AllocError> {
+    let count = report.count;
+    match report.end {
+        End::State(state) => {
+            let state = state.0;
+            write!(line, "end state {state} count {count}")?;
+        }
+        End::Stop => write!(line, "end STOP count {count}")?,
+    }
+    write_lost(line, report.lost.as_slice())
+}
+
+/// Writes a value.
+fn write_value(line: &mut String, value: Value) -> Result<(), AllocError> {
+    match value {
+        Value::Int(number) => write!(line, " {number}"),
+        Value::Bool(true) => line.push_str(" true"),
+        Value::Bool(false) => line.push_str(" false"),
+    }
+}
+
+/// Writes what waited for the environment.
+fn write_taken(line: &mut String, taken: &Emitted) -> Result<(), AllocError> {
+    let (process, instance) = (taken.sender.process.0, taken.sender.instance.0);
+    let signal = taken.signal.0;
+    write!(line, "from {process}.{instance} signal {signal}")?;
+    for value in taken.parameters.as_slice() {
+        write_value(line, *value)?;
+    }
+    Ok(())
+}
+
+/// Writes an answer.
+fn write_reply(line: &mut String, reply: &Reply) -> Result<(), AllocError> {
+    match reply {
+        Reply::Offered => line.push_str("ok"),
+        Reply::Begun(begun) => write_begun(line, *begun),
+        Reply::Skipped(trigger) => write_skipped(line, *trigger),
+        Reply::Finished(report) => write_report(line, report),
+        Reply::Passed(due) => write!(line, "due {due}"),
+        Reply::Taken(taken) => write_taken(line, taken),
+        Reply::Refused(refusal) => write!(line, "refused {refusal}"),
+    }
+}
+
+/// Writes a line that stands so often.
+fn write_times(text: &mut String, line: &str, times: u32) -> Result<(), AllocError> {
+    match times {
+        0 => Ok(()),
+        1 => writeln!(text, "{line}"),
+        _ => writeln!(text, "{line}, {times} times"),
+    }
+}
+
+/// Writes what was answered.
+pub fn write_replies(
+    alloc: Global,
+    text: &mut String,
+    replies: &[Reply],
+) -> Result<(), AllocError> {
+    let mut last = String::new(alloc);
+    let mut times = 0u32;
+    for reply in replies {
+        let mut line = String::new(alloc);
+        write_reply(&mut line, reply)?;
+        if times > 0 && line.as_str() == last.as_str() {
+            times = times.saturating_add(1);
+        } else {
+            write_times(text, last.as_str(), times)?;
+            last = line;
+            times = 1;
+        }
+    }
+    write_times(text, last.as_str(), times)
+}

@@ -1,0 +1,358 @@
+#!/usr/bin/env python3
+"""What happens as a script runs, by the plain players of plain_play.py, plain_term.py and plain_group.py, which were written apart from the program: a line for
+each event, a chart, and what of the text was taken.
+
+usage: tools/oracles/plain_trace.py SET SCRIPT [--every]      prints the trace of a script of a book or of a terminal
+       tools/oracles/plain_trace.py SET SCRIPT --chart [--turns A..B]     prints it as a chart in mscgen's language
+       tools/oracles/plain_trace.py SET SCRIPT --coverage     prints which transitions, answers and lines of the text were taken, in lcov's format
+       tools/oracles/plain_trace.py SET SCRIPT --thrown       prints which signals were thrown away in which states, and how often
+
+SET and SCRIPT are as plain_term.py has them; the status is that of the script. Lines of a trace, behind the ticks gone by:
+
+    > COMMAND                                               a line of the script, but for state, value and expect
+    T offer ACTOR SIG v ..
+    T due ACTOR TIMER
+    T skip ACTOR STATE/SIG v .. from SENDER                 with --every; a timer has no sender
+    T turn N ACTOR STATE/SIG v .. from SENDER, STATE count C of BUDGET, EFFECT .., VAR := V ..
+
+A turn has a line as it ends, with its number from 0 as it began, in the order of all turns. Without --every one that keeps its state and has no effect has none.
+EFFECT is `SIG v .. to ACTOR`, with `lost WHY` behind it where nobody got it, `set TIMER at T` or `reset TIMER`; of variables those stand there that the turn changed."""
+import collections
+import pathlib
+import sys
+
+sys.path += map(str, pathlib.Path(__file__).resolve().parents[1].glob("*"))
+
+import plain_group
+import plain_play
+import plain_term
+import plain_turn
+from plain_check import P, Refusal, check, lex, lo
+from plain_play import Actor, Book, Failed, Refused, shown
+from plain_reader import line_of
+
+
+def words(*parts):
+    return " ".join(it for it in parts if it)
+
+
+def values(given):
+    return " ".join(map(shown, given))
+
+
+# What is taken of a text.
+
+
+class Taken:
+    """How often each transition of a text, each answer of its decisions and each of its lines was taken."""
+
+    def __init__(self, text):
+        self.text = text
+        entities = P(text, lex(text)).block()
+        self.transitions, self.decisions, self.lines = {}, {}, {}
+        for it in entities:
+            if it[0] == "process":
+                self.process(it[1])
+        self.turns = collections.Counter()
+        self.answers, self.asked, self.passed = collections.Counter(), collections.Counter(), collections.Counter()
+        self.thrown = collections.Counter()
+
+    def at(self, place):
+        return line_of(self.text, place)
+
+    def process(self, parsed):
+        (name, _), _, (at, start), states, connections, _ = parsed
+        self.transitions[name.lower(), "START", None] = (f"{name} START", self.at(at))
+        self.body(start)
+        for names, clauses in states:
+            for it in clauses:
+                if it[0] == "input":
+                    for state in names:
+                        for (signal, _), _ in it[2]:
+                            key = name.lower(), lo(state), signal.lower()
+                            self.transitions[key] = (f"{name} {state[0]}/{signal}", self.at(it[1]))
+                    self.body(it[3])
+        for _, _, body in connections:
+            self.body(body)
+
+    def body(self, text):
+        for act in text[0]:
+            if act[0] == "decide":
+                self.decisions[act[1]] = len(act[3]) + (act[4] is not None)
+                self.lines[self.at(act[1])] = 0
+                for _, body in act[3]:
+                    self.body(body)
+                if act[4] is not None:
+                    self.body(act[4])
+            else:
+                self.lines[self.at(act[-1])] = 0
+        if text[1] is not None:
+            self.lines[self.at(text[1][1])] = 0
+
+    def lcov(self, path):
+        """In lcov's format, for the file of this path."""
+        out = ["TN:scripts", f"SF:{path}"]
+        ordered = sorted(self.transitions.items(), key=lambda it: (it[1][1], it[1][0]))
+        out += [f"FN:{line},{name}" for _, (name, line) in ordered]
+        out += [f"FNDA:{self.turns[key]},{name}" for key, (name, _) in ordered]
+        out += [f"FNF:{len(ordered)}", f"FNH:{sum(self.turns[key] > 0 for key, _ in ordered)}"]
+        branches = [(place, number, answer) for number, (place, count) in enumerate(sorted(self.decisions.items())) for answer in range(count)]
+        for place, number, answer in branches:
+            times = self.answers[place, answer] if self.asked[place] else "-"
+            out.append(f"BRDA:{self.at(place)},{number},{answer},{times}")
+        out += [f"BRF:{len(branches)}", f"BRH:{sum(self.answers[place, answer] > 0 for place, _, answer in branches)}"]
+        lines = dict(self.lines)
+        for place, times in self.passed.items():
+            lines[self.at(place)] = lines.get(self.at(place), 0) + times
+        for key, (_, line) in self.transitions.items():
+            lines[line] = lines.get(line, 0) + self.turns[key]
+        out += [f"DA:{line},{times}" for line, times in sorted(lines.items())]
+        return out + [f"LF:{len(lines)}", f"LH:{sum(times > 0 for times in lines.values())}", "end_of_record"]
+
+
+class SeenTurn(plain_turn.Turn):
+    """A turn of which it is told what it takes."""
+
+    def __init__(self, book, actor):
+        self.taken, self.answers = book.seen.taken, {}
+        self.taken.turns[actor.process.name.lower(), actor.place, actor.out[0]] += 1
+        super().__init__(book, actor)
+
+    def run(self, text):
+        if id(text) in self.answers:
+            self.taken.answers[self.answers[id(text)]] += 1
+        for act in text[0]:
+            self.taken.passed[act[1] if act[0] == "decide" else act[-1]] += 1
+            end = self.do(act)
+            if end is not False:
+                return end
+        if text[1] is not None:
+            self.taken.passed[text[1][1]] += 1
+        return super().run(([], text[1]))
+
+    def decide(self, act):
+        self.taken.asked[act[1]] += 1
+        bodies = [body for _, body in act[3]] + ([act[4]] if act[4] is not None else [])
+        self.answers.update({id(body): (act[1], number) for number, body in enumerate(bodies)})
+        return super().decide(act)
+
+
+# What is told.
+
+
+class SeenBook(Book):
+    """A book of which it is told what happens."""
+
+    seen = None
+
+    def __init__(self, text, *limits, **named):
+        super().__init__(text, *limits, **named)
+        self.begun, self.laid = 0, []
+
+    def named(self, sender):
+        return sender.shown() if isinstance(sender, Actor) else "ENV"
+
+    def offer(self, name, signal, given):
+        super().offer(name, signal, given)
+        self.seen.tell("offer", self.clock, actor=self.actor(name).shown(), what=words(self.signals[signal.lower()][0], values(given)))
+
+    def begin(self, actor):
+        place = super().begin(actor)
+        actor.turn, actor.began = (self.begun, place, dict(actor.variables)), self.clock
+        self.begun += 1
+        return place
+
+    def finish(self, actor):
+        if actor.out is None:
+            return super().finish(actor)
+        (number, place, before), (trigger, given, sender) = actor.turn, actor.out
+        stood, self.laid = actor.place, []
+        said = super().finish(actor)
+        end, _, count = said.split(" ")[:3]
+        after = {it: shown(actor.variables[it]) for it in actor.process.variables if actor.variables[it] is not before[it] and actor.variables[it] != before[it]}
+        source = None if trigger is None or sender is None else self.named(sender)
+        dull = stood == actor.place and not self.laid
+        self.seen.turn(self, number, actor, place, trigger, given, source, end, int(count), self.laid, after, dull)
+        return said
+
+    def lay(self, actor, effect):
+        if effect[0] == "output":
+            _, signal, given, to = effect
+            receiver = to if to == "ENV" or isinstance(to, Actor) else self.instance(to, actor.number) or self.instance(to, 1)
+            stopped = receiver != "ENV" and receiver.place is None
+            took = super().lay(actor, effect)
+            why = "" if took else "EnvFull" if receiver == "ENV" else "Stopped" if stopped else "Full"
+            self.laid.append(("output", self.signals[signal][0], given, self.named(receiver), why))
+            return took
+        timer = actor.process.timers[effect[1]]
+        self.laid.append(("set", timer, self.clock + max(effect[2], 1)) if effect[0] == "set" else ("reset", timer))
+        return super().lay(actor, effect)
+
+    def skip(self, actor):
+        ready = actor.out is None and actor.place not in (None, "START") and actor.first() is not None
+        item = actor.port[actor.first()] if ready else None
+        what = super().skip(actor)
+        state = actor.process.states[actor.place][0]
+        self.seen.taken.thrown[actor.process.name, state, what] += 1
+        source = f"from {self.named(item[2])}" if item[2] is not None else ""
+        self.seen.tell("skip", self.clock, actor=actor.shown(), what=words(f"{state}/{what}", values(item[1]), source))
+        return what
+
+    def advance(self, ticks):
+        waits = dict(self.timers)
+        due = super().advance(ticks)
+        order = lambda it: (waits[it], self.actors.index(it[0]), list(it[0].process.timers).index(it[1]))
+        for actor, timer in sorted((it for it in waits if it not in self.timers), key=order):
+            self.seen.tell("due", self.clock, actor=actor.shown(), what=actor.process.timers[timer])
+        return due
+
+
+class Seen:
+    """What is seen of a script as it runs."""
+
+    def __init__(self, text, every=False):
+        self.text, self.every, self.lines, self.turns = text, every, [], []
+        self.taken = Taken(text)
+        self.budgets = {line.split(" budget ")[0]: line.split()[-5] for line in check(text)[:-1]}
+        self.names = {(it[1][0][0].lower(), lo(name)): name[0] for it in P(text, lex(text)).block() if it[0] == "process" for part in it[1][1] if part[0] != "timer" for name in part[1]}
+
+    def command(self, text):
+        if text.split(" ")[0] not in ("state", "value", "expect"):
+            self.lines.append(f"> {text}")
+
+    def tell(self, kind, clock, actor, what):
+        if kind != "skip" or self.every:
+            self.lines.append(f"{clock} {kind} {actor} {what}")
+
+    def turn(self, book, number, actor, place, trigger, given, source, end, count, laid, after, dull):
+        if not dull:
+            self.turns.append((number, book.clock, actor.shown(), place, trigger, given, source, end, laid))
+        if dull and not self.every:
+            return
+        budget = self.budgets[f"{actor.process.name} {place}"]
+        head = words(str(book.clock), "turn", str(number), actor.shown(), place, values(given), f"from {source}" if source else "")
+        parts = [head, f"{end} count {count} of {budget}", *map(told, laid)]
+        process = actor.process.name.lower()
+        parts += [f"{self.names[process, it]} := {value}" for it, value in after.items()]
+        self.lines.append(", ".join(parts))
+
+
+def told(effect):
+    if effect[0] == "output":
+        _, signal, given, to, why = effect
+        return words(signal, values(given), f"to {to}", f"lost {why}" if why else "")
+    return f"set {effect[1]} at {effect[2]}" if effect[0] == "set" else f"reset {effect[1]}"
+
+
+def quoted(text):
+    return text.replace("\\", "\\\\").replace('"', '\\"')
+
+
+def called(signal, given):
+    return quoted(f"{signal}({', '.join(map(shown, given))})" if given else signal)
+
+
+def chart(seen, least=0, most=None):
+    """The turns as a chart in mscgen's language."""
+    turns = [it for it in seen.turns if it[0] >= least and (most is None or it[0] <= most)]
+    here = {it[2] for it in turns} | {it[6] for it in turns if it[6]} | {to for it in turns for part in it[8] if part[0] == "output" for to in [part[3]] if to == "ENV"}
+    ordered = [it for it in ["ENV", *(actor.shown() for actor in seen.book.actors)] if it in here]
+    out = ["msc {", f'  width="{140 * len(ordered)}", arcgradient="0";', "  " + ", ".join(f'"{it}" [label="{it}"]' for it in ordered) + ";"]
+    clock, states = None, {}
+    for number, at, actor, place, trigger, given, source, end, laid in turns:
+        if at != clock:
+            out.append(f'  --- [label="{at} ms"];')
+        clock = at
+        state, _, signal = place.partition("/")
+        if source:
+            out.append(f'  "{source}" => "{actor}" [label="{called(signal, given)}"];')
+        elif trigger is not None:
+            out.append(f'  "{actor}" note "{actor}" [label="{signal} runs out"];')
+        if end != state:
+            out.append(f'  "{actor}" abox "{actor}" [label="{end}"];')
+        out += [f'  "{actor}" => "ENV" [label="{called(part[1], part[2])}"];' for part in laid if part[0] == "output" and part[3] == "ENV"]
+        notes = [told(part) for part in laid if part[0] != "output"]
+        if notes:
+            out.append(f'  "{actor}" note "{actor}" [label="{quoted(chr(92) + "n".join(notes)) if False else (chr(92) + "n").join(notes)}"];')
+    return out + ["}"]
+
+
+# Scripts.
+
+
+def lines_of(script):
+    return dict((at, " ".join(it)) for at, it in plain_term.spoken(script))
+
+
+def run_book(text, script, seen, say):
+    limits, commands = plain_play.read(script)
+    book, last, lines = SeenBook(text, **limits), None, lines_of(script)
+    seen.book = book
+    for at, (word, *rest) in commands:
+        if word == "expect":
+            if rest[0] != last:
+                say(f"failed line {at}")
+                return 1
+            continue
+        seen.command(lines[at])
+        try:
+            last = plain_play.do(book, word, *rest)
+        except Refused as why:
+            last = f"refused {why}"
+        say(last)
+    return 0
+
+
+def run_terminal(text, script, seen, say):
+    (_, first), *rest = plain_term.spoken(script)
+    terminal = plain_term.Terminal(text, first[1] == "cyclic", *plain_term.limits_of(first))
+    seen.book = terminal.book
+    commands = [(at, plain_term.command(it)) for at, it in rest]
+    terminal.keeps, last, lines = any(it[0] == "told" for _, it in commands), [None], lines_of(script)
+
+    def told_too(line):
+        last[0] = line
+        say(line)
+
+    for at, command in commands:
+        if command[0] == "expect":
+            if command[1] != last[0]:
+                say(f"failed line {at}")
+                return 1
+            continue
+        seen.command(lines[at])
+        plain_term.run(terminal, [(at, command)], told_too)
+    return 0
+
+
+def seen_of(text, script, every=False, say=lambda line: None):
+    """What is seen of a script on a text, and the status."""
+    seen = SeenBook.seen = Seen(text, every)
+    plain_play.Turn, plain_term.Book = SeenTurn, SeenBook
+    if plain_group.is_group(script) if hasattr(plain_group, "is_group") else False:
+        raise SystemExit("scripts of link sets have no trace here")
+    run = run_terminal if plain_term.is_terminal(script) else run_book
+    return seen, run(text, script, seen, say)
+
+
+def main(given):
+    if len(given) < 2:
+        print(__doc__, file=sys.stderr)
+        return 3
+    word, path, *options = given
+    script = sys.stdin.buffer.read() if path == "stdin" else pathlib.Path(path).read_bytes()
+    seen, status = seen_of(plain_term.text_of(word).encode(), script, "--every" in options)
+    if "--chart" in options:
+        cut = options[options.index("--turns") + 1].split("..") if "--turns" in options else ["0", ""]
+        print("\n".join(chart(seen, int(cut[0] or 0), int(cut[1]) if cut[1] else None)))
+    elif "--coverage" in options:
+        print("\n".join(seen.taken.lcov(plain_term.SETS.get(word, word))))
+    elif "--thrown" in options:
+        print("\n".join(f"{process} {state}/{signal} {times}" for (process, state, signal), times in sorted(seen.taken.thrown.items())))
+    else:
+        print("\n".join(seen.lines))
+    return status
+
+
+if __name__ == "__main__":
+    sys.exit(main(sys.argv[1:]))
