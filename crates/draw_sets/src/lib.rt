@@ -21,7 +21,6 @@ mod state_pieces;
 mod svg;
 
 pub use drawing::draw;
-pub use mtp2_text::{MONITORS, STANDARD};
 pub use notes::with_statements;
 pub use pictures::Picture;
 pub use state_diagram::draw_states;

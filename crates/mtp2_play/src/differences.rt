@@ -3,8 +3,9 @@ ghost use Rattle.std.specs.Prelude.{◌≡◌, ◌⊎◌, [], IfErr};
 
 use crate::sets::{STDIN, own_set, set_word};
 use draw_diff::{Difference, compare, lines_in, ways_in};
-use draw_sets::{MONITORS, STANDARD, with_statements};
+use draw_sets::with_statements;
 use link_term::Names;
+use mtp2_text::{MONITORS, STANDARD};
 use mtp2_words::Named;
 use plain_text::{NamedReader, Teller, read_text};
 use script_check::{FAILED, HELD, REFUSED, Refusal, SetWord, find_set, in_front, refuse_set};
