@@ -17,7 +17,7 @@ use Rattle.group_changeover.proofs.Lists.{of-nil}
 use Rattle.group_changeover.specs.declared.errors.RebalanceError.TheVariants as rebalance
 use Rattle.group_members.specs.declared.link.Link.{Link}
 use Rattle.group_members.specs.OneLink.{held, is_changing}
-use Rattle.group_members.specs.Moving.{holds, holds_at, able_links}
+use Rattle.group_members.specs.Moving.{holds, holds_at, able_links, anew_links}
 use Rattle.group_members.specs.Tables.{changing_by, changing_at, held_by_any, or_kept, anew_on, stands_in_way, in_way, any_below, forgiven}
 use Rattle.link_group.specs.Set.{LinkSet}
 use Rattle.link_group.specs.Placing.{placed_anew, rebalance_fault, rebalanced}

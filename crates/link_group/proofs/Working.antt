@@ -18,9 +18,10 @@ use Rattle.group_changeover.specs.Availability.{changeover_begins, serves}
 use Rattle.group_changeover.specs.Saying.{is_late, is_order, begun_by_message, is_held_by, answer_after}
 use Rattle.group_changeover.proofs.Equal.{same}
 use Rattle.group_members.specs.declared.link.Link.{Link}
-use Rattle.group_members.specs.OneLink.{held, is_serving, with_hold, hold_by}
+use Rattle.group_members.specs.OneLink.{held, with_hold, hold_by}
 use Rattle.group_members.specs.Links.{set_at, change}
 use Rattle.group_members.specs.Failing.{changeover_begins_at, count_heard, marked, hears}
+use Rattle.group_members.specs.Term.{term_with_transceiver}
 use Rattle.group_members.specs.Doing.{came, came_first, marked_served, asked, came_by, admits_at, admits_by, AtLink}
 use Rattle.group_members.specs.Ticking.{roomy, passed}
 use Rattle.link_group.specs.Set.{LinkSet}

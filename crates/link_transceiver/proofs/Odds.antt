@@ -1,5 +1,5 @@
 -- Units behind one at fault, and what the buffers lose.
-use Rattle.std.proofs.Common.{◌≡◌, ℕ, ℤ, ◌+◌, ◌&&◌, Bool, true, false, not, Option, Some, None, List, [], ◌∷◌, slice_get, refl, arith}
+use Rattle.std.proofs.Common.{◌≡◌, ℤ, ◌&&◌, Bool, true, false, not, Option, Some, None, List, [], ◌∷◌, slice_get, refl, arith}
 use Rattle.std.specs.Prelude.{if◌then◌else◌}
 use Rattle.resend_store.specs.declared.messages.Msu.{Msu}
 use Rattle.resend_store.specs.Window.{last_acknowledged}

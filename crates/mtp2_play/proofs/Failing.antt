@@ -3,7 +3,7 @@ use Rattle.std.proofs.Common.{◌≡◌, ◌⊎◌, ℕ, List, [], ◌∷◌, Op
 use Rattle.line_filter.specs.Filters.{Line as Octets}
 use Rattle.mtp2_words.specs.declared.words.Named.{Named}
 use Rattle.mtp2_words.specs.declared.words.Request.{Request}
-use Rattle.mtp2_words.specs.declared.words.Request.TheVariants.{Check, Play, Soak, Line, Frame, Draw, Print}
+use Rattle.mtp2_words.specs.declared.words.Request.TheVariants.{Check, Play, Soak, Line, Frame, Draw, Print, Diff}
 use Rattle.mtp2_play.specs.Printed.{AreCheckedAll, IsAnswered}
 use Rattle.mtp2_play.specs.Served.{WasAnswered}
 
@@ -43,6 +43,7 @@ failed (Line set end) status old new are = record {
 failed (Frame octets) status old new are = record { held = not_done; refused = not_refused; ends = inr (inr refl) }
 failed (Draw set process states) status old new are = inr (inr refl)
 failed (Print set) status old new are = record { held = not_done; ends = inr refl }
+failed (Diff one other) status old new are = inr (inr (inr refl))
 
 -- it failed before anything was read or written
 pub not_begun : (request : Request) (there : Octets) → IsAnswered request 4 there there
@@ -64,6 +65,7 @@ not_begun (Line set end) there = record {
 not_begun (Frame octets) there = record { held = not_done; refused = not_refused; ends = inr (inr refl) }
 not_begun (Draw set process states) there = inr (inr refl)
 not_begun (Print set) there = record { held = not_done; ends = inr refl }
+not_begun (Diff one other) there = inr (inr (inr refl))
 
 pub was_run : (request : Request) (status : ℕ) (old new : Octets) → IsAnswered request status old new → WasAnswered request status
 was_run request status old new are = record { old = old; new = new; answered = are }

@@ -18,7 +18,7 @@ use Rattle.mtp2_play.specs.Sets.{own_text_of}
 use Rattle.mtp2_words.specs.declared.words.Named.{Named}
 use Rattle.mtp2_words.specs.declared.words.Request.{Request}
 use Rattle.mtp2_words.specs.declared.words.Request.TheVariants.{Check, Play, Soak, Line, Frame}
-use Rattle.mtp2_words.specs.declared.words.Request.TheVariants.{Draw, Print}
+use Rattle.mtp2_words.specs.declared.words.Request.TheVariants.{Draw, Print, Diff}
 
 -- the exit statuses: done, an expectation failed or something differs, refused, usage, failed
 abbrev pub IsStatus : ℕ → Type 0
@@ -82,6 +82,10 @@ pub record IsPrinted (set : Named) (status : ℕ) (old new : Option (List ℕ)) 
   pub held : status ≡ 0 → IsSomeAnd (own_text_of set) (Appends old new)
   pub ends : (status ≡ 0) ⊎ (status ≡ 4)
 
+-- the exit statuses of `diff`: alike, different, refused, failed
+abbrev pub IsCompared : ℕ → Type 0
+IsCompared status = (status ≡ 0) ⊎ (status ≡ 1) ⊎ (status ≡ 2) ⊎ (status ≡ 4)
+
 -- what a request has printed, and with which exit status; only `line` reads what is handed to it
 -- here
 abbrev pub IsAnswered : Request → ℕ → Octets → Octets → Type 0
@@ -94,3 +98,4 @@ IsAnswered (Line set end) status old new = IsSpoken (own_text_of set) end status
 IsAnswered (Frame octets) status old new = IsFramed octets.now status old.written new.written
 IsAnswered (Draw set process states) status old new = IsDone status
 IsAnswered (Print set) status old new = IsPrinted set status old.written new.written
+IsAnswered (Diff one other) status old new = IsCompared status

@@ -12,6 +12,7 @@ ghost use Rattle.mtp2_play.specs.Served.{ComesTo, WasAnswered};
 
 mod captures;
 mod checks;
+mod differences;
 mod lines;
 mod pictures;
 mod running;
@@ -20,6 +21,7 @@ mod texts;
 
 use crate::captures::{capture_of, end_capture};
 use crate::checks::run_checks;
+use crate::differences::run_diff;
 use crate::lines::run_line;
 use crate::pictures::{picture_of, run_draw};
 use crate::sets::{STDIN, own_set, set_word};
@@ -79,6 +81,7 @@ fn run<
             states,
         } => run_draw(rt, teller, *set, &picture_of(*process, *states), writer),
         Request::Print { set } => print_own(set, writer),
+        Request::Diff { old, new } => run_diff(rt, teller, *old, *new, writer),
     }
 }
 

@@ -11,12 +11,12 @@ use Rattle.clap.proofs.WalkLemmas.{first_value-rows, raw_values-rows}
 use Rattle.mtp2_words.specs.Ends.{IsEndOf}
 use Rattle.mtp2_words.specs.declared.ends.LineEnd.{LineEnd}
 use Rattle.mtp2_words.specs.declared.ends.LineWords.{LineWords}
-use Rattle.mtp2_words.specs.Words.{command_of, workers_of, AreStdin, IsNamed, IsOwnNamed, IsPlay, IsPrint, IsSoak, IsSource, NamesNone, says_true}
+use Rattle.mtp2_words.specs.Words.{command_of, workers_of, AreStdin, IsNamed, IsDiff, IsOwnNamed, IsPlay, IsPrint, IsSoak, IsSource, NamesNone, says_true}
 use Rattle.mtp2_words.specs.declared.seeing.Seeing.{Seeing}
-use Rattle.mtp2_words.specs.Asked.{Given, given_by, given_in, AreAllAsked, AreNamed, AreBothStdin, AreUnderIds, AsksEnd, AreSeen, AsksNothing, IsAsked, IsAskedBy, IsNoPlay, IsNoPrint, IsNoSoak, SaysNothing, AsksDraw}
+use Rattle.mtp2_words.specs.Asked.{Given, given_by, given_in, AreAllAsked, AreNamed, AreBothStdin, AreUnderIds, AsksEnd, AreSeen, AsksNothing, IsAsked, IsAskedBy, IsNoPlay, IsNoPrint, IsNoSoak, SaysNothing, AreTwoStdin, AsksDiff, AsksDraw, IsNoDiff}
 use Rattle.mtp2_words.specs.declared.words.Named.{Named}
 use Rattle.mtp2_words.specs.declared.words.Request.{Request}
-use Rattle.mtp2_words.specs.declared.words.Request.TheVariants.{Check, Play, Soak, Line, Frame, Draw, Print}
+use Rattle.mtp2_words.specs.declared.words.Request.TheVariants.{Check, Play, Soak, Line, Frame, Draw, Print, Diff}
 
 -- ---- words under their ids
 
@@ -60,6 +60,7 @@ plays given set_word script_word wanted (Line set end) e f a h = absurd h
 plays given set_word script_word wanted (Frame octets) e f a h = absurd h
 plays given set_word script_word wanted (Draw set process states) e f a h = absurd h
 plays given set_word script_word wanted (Print set) e f a h = absurd h
+plays given set_word script_word wanted (Diff old new) e f a h = absurd h
 
 pub is_play : (set_word script_word : Text) (wanted : Seeing) (request : Request) → IsPlay set_word script_word wanted request → command_of request ≡ codes "play"
 is_play set_word script_word wanted (Check sets) h = absurd h
@@ -69,6 +70,7 @@ is_play set_word script_word wanted (Line set end) h = absurd h
 is_play set_word script_word wanted (Frame octets) h = absurd h
 is_play set_word script_word wanted (Draw set process states) h = absurd h
 is_play set_word script_word wanted (Print set) h = absurd h
+is_play set_word script_word wanted (Diff old new) h = absurd h
 
 pub play_all : (rows : List Row) (set_word script_word : Text) (wanted : Seeing) (request : Request) → IsPlay set_word script_word wanted request → AreAllAsked rows request
 play_all rows set_word script_word wanted (Check sets) h = absurd h
@@ -78,6 +80,7 @@ play_all rows set_word script_word wanted (Line set end) h = tt
 play_all rows set_word script_word wanted (Frame octets) h = tt
 play_all rows set_word script_word wanted (Draw set process states) h = tt
 play_all rows set_word script_word wanted (Print set) h = tt
+play_all rows set_word script_word wanted (Diff old new) h = tt
 
 pub soak_all : (rows : List Row) (script_word workers_word : Text) (request : Request) → IsSoak script_word workers_word request → AreAllAsked rows request
 soak_all rows script_word workers_word (Check sets) h = absurd h
@@ -87,6 +90,7 @@ soak_all rows script_word workers_word (Line set end) h = tt
 soak_all rows script_word workers_word (Frame octets) h = tt
 soak_all rows script_word workers_word (Draw set process states) h = tt
 soak_all rows script_word workers_word (Print set) h = tt
+soak_all rows script_word workers_word (Diff old new) h = tt
 
 pub plays_nothing : (given : Given) (set_word script_word : Text) → Some set_word ≡ given (codes "SET")
     → Some script_word ≡ given (codes "SCRIPT") → AreStdin set_word script_word → IsNoPlay given
@@ -107,6 +111,7 @@ soaks given script_word workers_word (Line set end) e f h = absurd h
 soaks given script_word workers_word (Frame octets) e f h = absurd h
 soaks given script_word workers_word (Draw set process states) e f h = absurd h
 soaks given script_word workers_word (Print set) e f h = absurd h
+soaks given script_word workers_word (Diff old new) e f h = absurd h
 
 pub is_soak : (script_word workers_word : Text) (request : Request) → IsSoak script_word workers_word request → command_of request ≡ codes "soak"
 is_soak script_word workers_word (Check sets) h = absurd h
@@ -116,6 +121,7 @@ is_soak script_word workers_word (Line set end) h = absurd h
 is_soak script_word workers_word (Frame octets) h = absurd h
 is_soak script_word workers_word (Draw set process states) h = absurd h
 is_soak script_word workers_word (Print set) h = absurd h
+is_soak script_word workers_word (Diff old new) h = absurd h
 
 pub soaks_nothing : (given : Given) (workers_word : Text) → Some workers_word ≡ given (codes "workers") → workers_of workers_word ≡ None
     → IsNoSoak given
@@ -209,6 +215,7 @@ prints given word (Line set end) e h = absurd h
 prints given word (Frame octets) e h = absurd h
 prints given word (Draw set process states) e h = absurd h
 prints given word (Print set) e h = some_word (given (codes "SET")) word (IsOwnNamed set) e h
+prints given word (Diff old new) e h = absurd h
 
 pub is_print : (word : Text) (request : Request) → IsPrint word request → command_of request ≡ codes "text"
 is_print word (Check sets) h = absurd h
@@ -218,6 +225,7 @@ is_print word (Line set end) h = absurd h
 is_print word (Frame octets) h = absurd h
 is_print word (Draw set process states) h = absurd h
 is_print word (Print set) h = refl
+is_print word (Diff old new) h = absurd h
 
 pub print_all : (rows : List Row) (word : Text) (request : Request) → IsPrint word request → AreAllAsked rows request
 print_all rows word (Check sets) h = absurd h
@@ -227,6 +235,24 @@ print_all rows word (Line set end) h = tt
 print_all rows word (Frame octets) h = tt
 print_all rows word (Draw set process states) h = tt
 print_all rows word (Print set) h = tt
+print_all rows word (Diff old new) h = tt
 
 pub prints_nothing : (given : Given) (word : Text) → Some word ≡ given (codes "SET") → NamesNone word → IsNoPrint given
 prints_nothing given word e h = inr (some_word (given (codes "SET")) word NamesNone e h)
+
+-- ---- two texts side by side
+
+pub compares : (given : Given) (old_word new_word : Text) (old new : Named) → Some old_word ≡ given (codes "OLD") → Some new_word ≡ given (codes "NEW")
+    → IsDiff old_word new_word old new → AsksDiff given old new
+compares given old_word new_word old new e f h = record {
+  old_is = some_word (given (codes "OLD")) old_word (IsNamed old) e h.old_is;
+  new_is = some_word (given (codes "NEW")) new_word (IsNamed new) f h.new_is;
+  one_input = λ b. h.one_input (same_Some old_word _ (e ∙ b.old_is), same_Some new_word _ (f ∙ b.new_is));
+}
+
+pub compares_nothing : (given : Given) (old_word new_word : Text) → Some old_word ≡ given (codes "OLD") → Some new_word ≡ given (codes "NEW")
+    → AreStdin old_word new_word → IsNoDiff given
+compares_nothing given old_word new_word e f h = inr (inr (record {
+  old_is = sym e ∙ ap Some h.0;
+  new_is = sym f ∙ ap Some h.1;
+}))

@@ -16,7 +16,7 @@ use Rattle.mtp2_words.specs.declared.words.Named.{Named}
 use Rattle.mtp2_words.specs.declared.words.Source.{Source}
 use Rattle.mtp2_words.specs.declared.words.Request.{Request}
 use Rattle.mtp2_words.specs.declared.words.Request.TheVariants.{Check, Play, Soak, Line, Frame}
-use Rattle.mtp2_words.specs.declared.words.Request.TheVariants.{Draw, Print}
+use Rattle.mtp2_words.specs.declared.words.Request.TheVariants.{Draw, Print, Diff}
 
 -- the first word under each id, if there is one
 abbrev pub Given : Type 0
@@ -90,6 +90,17 @@ pub record AsksDraw (given : Given) (set : Named) (process : Option Text) (state
   pub states_are : says_true (given (codes "states")) ≡ states
   pub of_process : AreStatesOfNothing given → ⊥
 
+-- both texts are standard input
+pub record AreTwoStdin (given : Given) : Type 0 where
+  pub old_is : given (codes "OLD") ≡ Some (codes "stdin")
+  pub new_is : given (codes "NEW") ≡ Some (codes "stdin")
+
+-- `diff`: the sets that OLD and NEW name; standard input isn't both
+pub record AsksDiff (given : Given) (old new : Named) : Type 0 where
+  pub old_is : IsSomeAnd (given (codes "OLD")) (IsNamed old)
+  pub new_is : IsSomeAnd (given (codes "NEW")) (IsNamed new)
+  pub one_input : AreTwoStdin given → ⊥
+
 -- the words of a command ask for this, by the first of each id; `check` asks by all of them, and
 -- `frame` for the octets of HEX, `text` for the set of the program's own that SET names
 abbrev pub IsAsked : Given → Request → Type 0
@@ -101,6 +112,7 @@ IsAsked given (Frame octets) = given (codes "HEX") ≡ Some octets.now
 IsAsked given (Draw set process states) =
     AsksDraw given set (option_map (λ w. w.now) process) states
 IsAsked given (Print set) = IsSomeAnd (given (codes "SET")) (IsOwnNamed set)
+IsAsked given (Diff old new) = AsksDiff given old new
 
 -- the sets that words name, each one its own, in their order
 abbrev pub AreNamed : List Named → List Text → Type 0
@@ -115,6 +127,7 @@ AreAllAsked rows (Line set end) = Unit {0}
 AreAllAsked rows (Frame octets) = Unit {0}
 AreAllAsked rows (Draw set process states) = Unit {0}
 AreAllAsked rows (Print set) = Unit {0}
+AreAllAsked rows (Diff old new) = Unit {0}
 
 -- the command that was entered, and its rows: its name is that of the request, and its words ask
 -- for it
@@ -164,6 +177,11 @@ IsNoDraw given = (given (codes "SET") ≡ None) ⊎ AreStatesOfNothing given
 abbrev pub IsNoPrint : Given → Type 0
 IsNoPrint given = (given (codes "SET") ≡ None) ⊎ IsSomeAnd (given (codes "SET")) NamesNone
 
+-- `diff`: no OLD or no NEW, or standard input for both
+abbrev pub IsNoDiff : Given → Type 0
+IsNoDiff given =
+    (given (codes "OLD") ≡ None) ⊎ ((given (codes "NEW") ≡ None) ⊎ AreTwoStdin given)
+
 -- the name of none of the commands
 pub record IsNoCommand (name : Text) : Type 0 where
   pub not_check : name ≡ codes "check" → ⊥
@@ -173,6 +191,7 @@ pub record IsNoCommand (name : Text) : Type 0 where
   pub not_frame : name ≡ codes "frame" → ⊥
   pub not_draw : name ≡ codes "draw" → ⊥
   pub not_text : name ≡ codes "text" → ⊥
+  pub not_diff : name ≡ codes "diff" → ⊥
 
 -- the words of a command of this name ask for nothing
 pub data AsksNothing (name : Text) (given : Given) : Type 0 where
@@ -184,6 +203,7 @@ pub data AsksNothing (name : Text) (given : Given) : Type 0 where
   no_frame : name ≡ codes "frame" → IsNoFrame given → AsksNothing name given
   no_draw : name ≡ codes "draw" → IsNoDraw given → AsksNothing name given
   no_print : name ≡ codes "text" → IsNoPrint given → AsksNothing name given
+  no_diff : name ≡ codes "diff" → IsNoDiff given → AsksNothing name given
 
 -- no command was entered, or its words ask for nothing
 abbrev pub SaysNothing : Option (Text × List Row) → Type 0

@@ -85,6 +85,12 @@ draw_command =
 abbrev pub text_command : App
 text_command = with_rule (new_app (codes "text")) (plain_word (codes "SET"))
 
+-- `diff OLD NEW`
+abbrev pub diff_command : App
+diff_command =
+    with_rule (with_rule (new_app (codes "diff")) (plain_word (codes "OLD")))
+    (plain_word (codes "NEW"))
+
 -- the program without its commands, of which one has to be named; it has a version
 abbrev pub program_begun : App
 program_begun = record (new_app (codes "mtp2_play")) {
@@ -99,8 +105,10 @@ all_commands =
     (with_subcommand
     (with_subcommand
     (with_subcommand
+    (with_subcommand
     (with_subcommand (with_subcommand program_begun check_command.top) play_command.top)
-    soak_command.top) line_command.top) frame_command.top) draw_command.top) text_command.top
+    soak_command.top) line_command.top) frame_command.top) draw_command.top) text_command.top)
+    diff_command.top
 
 -- a word of the command is one of its commands' too
 abbrev pub has_globals : Command → Bool

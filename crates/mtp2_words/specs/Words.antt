@@ -11,7 +11,7 @@ use Rattle.mtp2_words.specs.declared.words.Source.TheVariants.{Stdin as stdin, F
 use Rattle.mtp2_words.specs.declared.seeing.Seeing.{Seeing}
 use Rattle.mtp2_words.specs.declared.words.Request.{Request}
 use Rattle.mtp2_words.specs.declared.words.Request.TheVariants.{Check, Play, Soak, Line, Frame}
-use Rattle.mtp2_words.specs.declared.words.Request.TheVariants.{Draw, Print}
+use Rattle.mtp2_words.specs.declared.words.Request.TheVariants.{Draw, Print, Diff}
 
 -- a file may have any name but these
 pub record IsFileName (word : List ℕ) : Type 0 where
@@ -53,6 +53,7 @@ IsPlay set_word script_word wanted (Line set end) = ⊥
 IsPlay set_word script_word wanted (Frame octets) = ⊥
 IsPlay set_word script_word wanted (Draw set process states) = ⊥
 IsPlay set_word script_word wanted (Print set) = ⊥
+IsPlay set_word script_word wanted (Diff old new) = ⊥
 
 -- as many workers as may serve
 abbrev pub as_many : ℕ → Option ℕ
@@ -72,6 +73,7 @@ IsSoak script_word workers_word (Line set end) = ⊥
 IsSoak script_word workers_word (Frame octets) = ⊥
 IsSoak script_word workers_word (Draw set process states) = ⊥
 IsSoak script_word workers_word (Print set) = ⊥
+IsSoak script_word workers_word (Diff old new) = ⊥
 
 -- the set of the program's own that a word names
 abbrev pub IsOwnNamed : Named → List ℕ → Type 0
@@ -90,12 +92,19 @@ IsPrint word (Line set end) = ⊥
 IsPrint word (Frame octets) = ⊥
 IsPrint word (Draw set process states) = ⊥
 IsPrint word (Print set) = IsOwnNamed set word
+IsPrint word (Diff old new) = ⊥
 
 -- a word names none of them
 pub record NamesNone (word : List ℕ) : Type 0 where
   pub not_standard : word ≡ codes "standard" → ⊥
   pub not_q703 : word ≡ codes "q703" → ⊥
   pub not_monitors : word ≡ codes "monitors" → ⊥
+
+-- what `diff` asks for by two words; standard input isn't both
+pub record IsDiff (old_word new_word : List ℕ) (old new : Named) : Type 0 where
+  pub old_is : IsNamed old old_word
+  pub new_is : IsNamed new new_word
+  pub one_input : AreStdin old_word new_word → ⊥
 
 -- the set that a word names for a terminal on a line: standard input is the line, and no text
 abbrev pub IsTextNamed : Named → List ℕ → Type 0
@@ -124,3 +133,4 @@ command_of (Line set end) = codes "line"
 command_of (Frame octets) = codes "frame"
 command_of (Draw set process states) = codes "draw"
 command_of (Print set) = codes "text"
+command_of (Diff old new) = codes "diff"

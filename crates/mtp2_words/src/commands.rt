@@ -1,7 +1,7 @@
 //! The commands of the program, and the words that they take.
 ghost use Rattle.std.specs.Prelude.{◌≡◌, IfOk, false};
 ghost use Rattle.clap.specs.Words.{rule_of, new_app, new_rule, app_of};
-ghost use Rattle.mtp2_words.specs.Commands.{plain_word, option_word, flag_word, check_command, play_command, soak_command, line_begun, line_command, frame_command, draw_command, text_command, play_begun, with_seeing_options, all_commands, program_begun, with_line_options, with_capture_options, has_globals, IsCommand};
+ghost use Rattle.mtp2_words.specs.Commands.{plain_word, option_word, flag_word, check_command, play_command, soak_command, line_begun, line_command, frame_command, draw_command, diff_command, text_command, play_begun, with_seeing_options, all_commands, program_begun, with_line_options, with_capture_options, has_globals, IsCommand};
 
 use clap::{Arg, ArgAction, Command};
 use std::alloc::{AllocError, Global};
@@ -17,7 +17,8 @@ pub fn all_commands<'a>(alloc: Global) -> Result<Command<'a>, AllocError>
         .subcommand(line_command(alloc)?)?
         .subcommand(frame_command(alloc)?)?
         .subcommand(draw_command(alloc)?)?
-        .subcommand(text_command(alloc)?)
+        .subcommand(text_command(alloc)?)?
+        .subcommand(diff_command(alloc)?)
 }
 
 /// The program without its commands.
@@ -257,6 +258,26 @@ fn frame_command<'a>(alloc: Global) -> Result<Command<'a>, AllocError>
         "Prints FISU, LSSU or MSU with the unit's fields, then the number of its bits on the line.\nExits with 0, or with 2 where the octets are refused (H1, U1 to U4), 4 where memory or a write fails.",
     )
     .arg(octets)
+}
+
+/// The command `diff`.
+fn diff_command<'a>(alloc: Global) -> Result<Command<'a>, AllocError>
+    ensures { IfOk result (IsCommand diff_command) }
+{
+    let old = plain_word(
+        alloc,
+        "OLD",
+        "standard, monitors, a file with the text of a set of processes, or stdin for standard input",
+    );
+    let new = plain_word(alloc, "NEW", "The same, for the set beside it");
+    bare_command(
+        alloc,
+        "diff",
+        "Says what two sets of processes differ in",
+        "Prints a line for what they declare and each transition that is gone (-), means or says something else (~) or is\nadded (+), by names; then same K of N transitions, and whether a terminal finds its names in them.\nExits with 0 where they are alike, 1 where they differ, 2 after a line OLD: refused CODE Name .. or NEW: .. where a\ntext is refused (as for check), 4 where memory, a file, a read or a write fails.",
+    )
+    .arg(old)?
+    .arg(new)
 }
 
 /// The command `draw`.

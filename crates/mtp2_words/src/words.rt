@@ -1,8 +1,8 @@
 //! The command line.
 ghost use Rattle.std.specs.Prelude.{◌≡◌, ◌↔◌, ◌⊎◌, Some, None, [], true, map, string_bytes, IfSome, IfOk, IfErr, IsNone, IsTrue, option_map, codes};
 ghost use Rattle.clap.specs.Words.{fault_of, found_of, kind_of, rows_of, subcommand_name_of, subcommand_of, subcommand_rows_of, takes};
-ghost use Rattle.mtp2_words.specs.Words.{command_of, workers_of, IsNamed, IsSource, AreStdin, IsPrint, NamesNone, IsPlay, IsSoak, IsTextNamed, IsText};
-ghost use Rattle.mtp2_words.specs.Asked.{given_by, AreAllAsked, AreNamed, AsksEnd, AsksNothing, IsAsked, IsAskedBy, IsNoCheck, IsNoFrame, IsNoLine, IsNoPlay, IsNoPrint, IsNoSoak, SaysNoEnd, SaysNothing, IsNoDraw};
+ghost use Rattle.mtp2_words.specs.Words.{IsDiff, command_of, workers_of, IsNamed, IsSource, AreStdin, IsPrint, NamesNone, IsPlay, IsSoak, IsTextNamed, IsText};
+ghost use Rattle.mtp2_words.specs.Asked.{given_by, AreAllAsked, AreNamed, AsksEnd, AsksNothing, IsAsked, IsAskedBy, IsNoCheck, IsNoFrame, IsNoLine, IsNoPlay, IsNoPrint, IsNoSoak, SaysNoEnd, SaysNothing, IsNoDiff, IsNoDraw};
 ghost use Rattle.mtp2_words.specs.Commands.{all_commands};
 ghost use Rattle.mtp2_words.specs.TurnedDown.{IsTurnedDown};
 
@@ -67,6 +67,11 @@ pub enum Request<'a> {
         set: Named<'a>,
         process: Option<&'a str>,
         states: bool,
+    },
+    /// `diff OLD NEW`: two sets as for `check`.
+    Diff {
+        old: Named<'a>,
+        new: Named<'a>,
     },
     /// `frame HEX`: the octets of a signal unit in hexadecimal digits, with its check octets.
     Frame {
@@ -321,6 +326,32 @@ fn asked_print<'a>(given: &ArgMatches<'a>) -> Option<Request<'a>>
     printed(word)
 }
 
+/// The two sets that two words name; none where standard input is to be both.
+fn sides<'a>(old: &'a str, new: &'a str) -> Option<(Named<'a>, Named<'a>)>
+    ensures some { IfSome result (λ p. IsDiff old.now new.now p.0 p.1) }
+    ensures none { IsNone result → AreStdin old.now new.now }
+{
+    if are_stdin(old, new) {
+        return None;
+    }
+    Some((set_named(old), set_named(new)))
+}
+
+/// What the matches of `diff` ask for.
+fn compared<'a>(given: &ArgMatches<'a>) -> Option<Request<'a>>
+    ensures named { IfSome result (λ r. command_of r ≡ codes "diff") }
+    ensures asked { IfSome result (IsAsked (given_by given.now)) }
+    ensures all { IfSome result (AreAllAsked (rows_of (found_of given.now))) }
+    ensures none { IsNone result → IsNoDiff (given_by given.now) }
+{
+    let old = given.get_str("OLD")?;
+    let new = given.get_str("NEW")?;
+    match sides(old, new) {
+        Some((old, new)) => Some(Request::Diff { old, new }),
+        None => None,
+    }
+}
+
 /// What the matches of the command of this name ask for.
 fn asked<'a>(
     alloc: Global,
@@ -340,6 +371,7 @@ fn asked<'a>(
         "frame" => Ok(framed(given)),
         "draw" => Ok(drawn(given)),
         "text" => Ok(asked_print(given)),
+        "diff" => Ok(compared(given)),
         _ => Ok(None),
     }
 }
@@ -379,6 +411,7 @@ fn complaint_of(matches: &ArgMatches<'_>) -> &'static str {
         }
         "draw" => "--states is for a PROCESS",
         "text" => "SET is standard, q703 or monitors",
+        "diff" => "standard input can be OLD or NEW, not both",
         _ => "no such command",
     }
 }

@@ -7,7 +7,7 @@ use crate::calls::Stopped;
 use crate::events::read::{events_of, limits_of};
 use crate::events::told::write_replies;
 use actor_book::run_events;
-use actor_headline::{Book, LoadFault, run_text};
+use actor_headline::{Book, LoadFault, TextRun, run_text};
 use mtp2_text::STANDARD;
 use std::alloc::Global;
 
@@ -43,10 +43,12 @@ fn run(alloc: Global, text: &mut String, events: &str, source: &str) -> Result<(
     let mut parts = lines.split("\nrebase\n");
     let first = events_of(alloc, parts.next().unwrap_or(""))?;
     match run_text(alloc, source, limits, &first) {
-        Ok(mut ran) => {
-            write_replies(alloc, text, &ran.replies)?;
+        Ok(ran) => {
+            let TextRun { book, replies } = ran;
+            let mut book = book;
+            write_replies(alloc, text, &replies)?;
             for part in parts {
-                go_on(alloc, text, &mut ran.book, part)?;
+                go_on(alloc, text, &mut book, part)?;
             }
             Ok(())
         }
@@ -54,11 +56,18 @@ fn run(alloc: Global, text: &mut String, events: &str, source: &str) -> Result<(
     }
 }
 
+/// The text that is named, or that stands there.
+fn text_of(source: &str) -> &str {
+    match source {
+        "standard" => STANDARD,
+        _ => source,
+    }
+}
+
 /// Makes the trial of a text, or of `standard`.
 pub fn run_all(alloc: Global, text: &mut String, trial: &str) -> Result<(), Stopped> {
     match trial.split_once("\ntext\n") {
-        Some((events, "standard")) => run(alloc, text, events, STANDARD),
-        Some((events, source)) => run(alloc, text, events, source),
+        Some((events, source)) => run(alloc, text, events, text_of(source)),
         None => Err(Stopped::BadLine),
     }
 }

@@ -11,6 +11,8 @@ mod of_code;
 #[cfg(test)]
 mod of_lines;
 #[cfg(test)]
+mod of_odds;
+#[cfg(test)]
 mod of_orders;
 #[cfg(test)]
 mod of_paths;

@@ -9,7 +9,7 @@ use su_octets::{Head, Unit};
 
 /// One line of an exchange.
 #[derive(Clone, Copy)]
-enum Step {
+pub(crate) enum Step {
     /// An actor tells that.
     Tell(EnvSignal),
     /// Level 3 holds the link so.
@@ -19,6 +19,12 @@ enum Step {
     /// A unit with these first two octets comes, a message where the third word says so. Messages were acknowledged of which
     /// some are left, or all; two units were at fault.
     Hear(u8, u8, bool, Option<bool>, bool),
+    /// Odd tells of units at fault from now on.
+    Odd,
+    /// Such a unit comes, and Odd tells of it with this number, behind Bad or alone; or nothing does.
+    Discard(u8, u8, bool, Option<u8>, bool),
+    /// The buffers are emptied.
+    Clear,
     /// A unit goes out that is printed so.
     Out(&'static str),
     /// That is reported.
@@ -75,6 +81,20 @@ fn offered(seen: Option<bool>, bad: bool) -> Offers {
     offers
 }
 
+/// What is offered for one that is discarded.
+fn discarded(code: Option<u8>, bad: bool) -> Offers {
+    let mut offers = Offers::new();
+    offers.push(told(Party::Aerm, Notice::Good));
+    offers.push(told(Party::Suerm, Notice::Good));
+    if bad {
+        offers.push(told(Party::Rc, Notice::Bad));
+    }
+    if let Some(code) = code {
+        offers.push(told(Party::Rc, Notice::Odd(code)));
+    }
+    offers
+}
+
 /// Whether that is offered for a unit, which is whole and for which there is room.
 fn hears(transceiver: &mut Transceiver, unit: Unit, offers: &[Offer]) -> bool {
     unit.whole() && transceiver.has_room() && transceiver.on_unit(unit).as_slice() == offers
@@ -111,6 +131,18 @@ fn does(alloc: Global, transceiver: &mut Transceiver, step: Step) -> bool {
         Step::Hear(first, second, has_msu, seen, bad) => {
             let unit = unit(first, second, has_msu);
             hears(transceiver, unit, offered(seen, bad).as_slice())
+        }
+        Step::Discard(first, second, has_msu, code, bad) => {
+            let unit = unit(first, second, has_msu);
+            hears(transceiver, unit, discarded(code, bad).as_slice())
+        }
+        Step::Odd => {
+            transceiver.tell_odd(true);
+            true
+        }
+        Step::Clear => {
+            transceiver.clear();
+            true
         }
         Step::Out(text) => gives(alloc, transceiver, text),
         Step::Report(status) => transceiver.report() == Some(Report::Status(status)),
@@ -263,7 +295,7 @@ const WAITS_TO_REPEAT: [Step; 10] = [
 ];
 
 /// The numbers of the first steps at which a new side does something else as it comes up, and then; nothing where it can't be made.
-fn first_others(alloc: Global, steps: &[Step]) -> Option<[Option<usize>; 2]> {
+pub(crate) fn first_others(alloc: Global, steps: &[Step]) -> Option<[Option<usize>; 2]> {
     let mut transceiver = Transceiver::new(alloc, Mode::Basic).ok()?;
     let coming = first_other(alloc, &mut transceiver, &COMES_UP);
     Some([coming, first_other(alloc, &mut transceiver, steps)])

@@ -9,6 +9,8 @@ use turn_machine::Room;
 enum Act {
     /// An actor of a link begins a turn into it.
     Begin(usize, u16),
+    /// An actor of a link begins a turn whose job is lost.
+    Lose(usize, u16),
     /// What lies there runs.
     Run,
     /// What ran there ends on a link.
@@ -127,6 +129,54 @@ const STEPS: [Step; 19] = [
     },
 ];
 
+/// The same. Both have their first turn out, the same actor's on the same input: which of them lies in the room nothing tells.
+const EQUAL: [Step; 7] = [
+    Step {
+        act: Act::Begin(0, 0),
+        answer: "ok",
+        events: [1, 0],
+    },
+    Step {
+        act: Act::Lose(1, 0),
+        answer: "ok",
+        events: [1, 1],
+    },
+    Step {
+        act: Act::Run,
+        answer: "ok",
+        events: [1, 1],
+    },
+    Step {
+        act: Act::Finish(1),
+        answer: "ok",
+        events: [1, 2],
+    },
+    // it ended, so it lies nowhere, and the other link's actor has it out
+    Step {
+        act: Act::Finish(0),
+        answer: "B6 Stranger",
+        events: [1, 2],
+    },
+    Step {
+        act: Act::Begin(0, 0),
+        answer: "B4 Busy",
+        events: [1, 2],
+    },
+    Step {
+        act: Act::Begin(0, 1),
+        answer: "ok",
+        events: [2, 2],
+    },
+];
+
+/// What is answered as an actor of a book begins a turn whose job is lost.
+fn lost(book: &mut Book, actor: u16) -> &'static str {
+    match book.begin(actor) {
+        Ok(_) => "ok",
+        Err(refusal) => refusal.name(),
+    }
+}
+
 /// What is answered as an actor of a book begins a turn into a room.
 fn begun(book: &mut Book, room: &mut Room, actor: u16) -> &'static str {
     match book.begin_in(room, actor) {
@@ -148,6 +198,10 @@ fn answer(books: &mut [Book], room: &mut Room, act: Act) -> &'static str {
     match act {
         Act::Begin(link, actor) => match books.get_mut(link) {
             Some(book) => begun(book, room, actor),
+            None => "no link",
+        },
+        Act::Lose(link, actor) => match books.get_mut(link) {
+            Some(book) => lost(book, actor),
             None => "no link",
         },
         Act::Run => {
@@ -192,4 +246,9 @@ fn first_other_of(alloc: Global, steps: &[Step]) -> Option<usize> {
 #[test]
 fn a_room_is_refused_by_name_and_stays(rt: HostRuntime) {
     assert_eq!(rt; first_other_of(rt.alloc(), &STEPS), None);
+}
+
+#[test]
+fn an_equal_turn_ends_on_either_link(rt: HostRuntime) {
+    assert_eq!(rt; first_other_of(rt.alloc(), &EQUAL), None);
 }

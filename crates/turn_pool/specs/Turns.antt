@@ -2,7 +2,7 @@
 use Rattle.std.specs.Prelude.{IsSome, IsOk, ◌≡◌, ◌<◌, ℕ, Bool, true, false, Option, None, Some, Ok}
 use Rattle.std.specs.Prelude.{Err, option_map}
 use Rattle.std.specs.Prelude.{slice_get}
-use Rattle.turn_machine.specs.Rooms.{Lying, Free, Begun, Ran}
+use Rattle.turn_machine.specs.Rooms.{Lying, Free, Begun, Ran, IsToRun}
 use Rattle.turn_machine.specs.Turn.{Turn}
 use Rattle.actor_machine.specs.Core.{names_in}
 use Rattle.actor_machine.specs.Ledger.{Ledger, room, state_of, turn_out}
@@ -28,6 +28,28 @@ abbrev pub move_by : Bool → ℕ → Option Refusal → Option Move
 move_by looked n None = Some (turn_by looked n)
 move_by looked n (Some SkipFirst) = Some (move.Skip n)
 move_by looked n _ = None
+
+-- so of a step: where a gate looks no turn is a whole one, and where none does none begins apart
+abbrev pub IsStepBy : Bool → Move → Type 0
+IsStepBy true (move.Begin n) = Unit {0}
+IsStepBy true (move.Skip n) = Unit {0}
+IsStepBy true move.Finish = Unit {0}
+IsStepBy true (move.Turn n) = ⊥
+IsStepBy false (move.Begin n) = ⊥
+IsStepBy false (move.Skip n) = Unit {0}
+IsStepBy false move.Finish = Unit {0}
+IsStepBy false (move.Turn n) = Unit {0}
+
+-- so of what the book answered
+abbrev pub IsAnswerBy : Bool → Moved → Type 0
+IsAnswerBy true (moved.Begun answer) = Unit {0}
+IsAnswerBy true (moved.Skipped answer) = Unit {0}
+IsAnswerBy true (moved.Finished answer) = Unit {0}
+IsAnswerBy true (moved.Turned answer) = ⊥
+IsAnswerBy false (moved.Begun answer) = ⊥
+IsAnswerBy false (moved.Skipped answer) = Unit {0}
+IsAnswerBy false (moved.Finished answer) = Unit {0}
+IsAnswerBy false (moved.Turned answer) = Unit {0}
 
 -- what an actor can do: have a turn, or throw away an item that is none of its state's inputs; the
 -- journal's room aside
@@ -82,3 +104,17 @@ IsNamed (moved.Begun answer) name = IsOk answer → IsSome name
 IsNamed (moved.Skipped answer) name = Unit {0}
 IsNamed (moved.Finished answer) name = Unit {0}
 IsNamed (moved.Turned answer) name = Unit {0}
+
+-- no turn lies in the room that is still to run
+abbrev pub NoneToRun : Lying → Type 0
+NoneToRun Free = Unit {0}
+NoneToRun (Begun t) = ⊥
+NoneToRun (Ran t) = Unit {0}
+
+-- where a step began a turn it lies in the room and is to run; else none is
+abbrev pub LeavesToRun : Moved → Lying → Type 0
+LeavesToRun (moved.Begun (Ok x)) r = IsToRun r
+LeavesToRun (moved.Begun (Err refusal)) r = NoneToRun r
+LeavesToRun (moved.Skipped answer) r = NoneToRun r
+LeavesToRun (moved.Finished answer) r = NoneToRun r
+LeavesToRun (moved.Turned answer) r = NoneToRun r

@@ -1,7 +1,9 @@
 //! Workers.
 
-ghost use Rattle.std.specs.Prelude.{◌≡◌, IfSome};
-ghost use Rattle.turn_pool.specs.Turns.{move_by, IsNext, told_of, told_there, told, NamesBegun, IsNamed};
+ghost use Rattle.std.specs.Prelude.{◌≡◌, IfSome, IfNone};
+ghost use Rattle.turn_machine.specs.Rooms.{Free, HasRun, IsToRun};
+ghost use Rattle.turn_pool.specs.Moves.{Moves};
+ghost use Rattle.turn_pool.specs.Turns.{move_by, IsStepBy, IsAnswerBy, IsNext, told_of, told_there, told, NamesBegun, IsNamed, NoneToRun, LeavesToRun};
 
 use crate::gate::{Gate, JobName};
 use crate::moves::{Move, Moved, work};
@@ -19,7 +21,8 @@ const LAST_STEPS: usize = 1000;
 
 /// What an actor does whose turn is refused for this reason, or for none, where a gate looks or none does.
 fn move_at(looked: bool, actor: u16, refusal: Option<Refusal>) -> Option<Move>
-    ensures { result ≡ move_by looked actor refusal }
+    ensures value { result ≡ move_by looked actor refusal }
+    ensures way { IfSome result (IsStepBy looked) }
 {
     match refusal {
         None if looked => Some(Move::Begin(actor)),
@@ -31,7 +34,8 @@ fn move_at(looked: bool, actor: u16, refusal: Option<Refusal>) -> Option<Move>
 
 /// What the least actor of a link that can do something does; nothing on a link whose journal is full.
 fn next_step(book: &Book, looked: bool) -> Option<Move>
-    ensures { IsNext looked book.now result }
+    ensures next { IsNext looked book.now result }
+    ensures way { IfSome result (IsStepBy looked) }
 {
     if book.room() == 0 {
         return None;
@@ -105,6 +109,7 @@ fn step_on<L: Ledger>(
     link: usize,
     step: Move,
 ) -> (Moved, Option<JobName>)
+    ensures moves { Moves slot.old.book room.old step result.0 slot.new.book room.new }
     ensures value { result.1 ≡ told link slot.new.book room.new result.0 }
     ensures named { IsNamed result.0 result.1 }
 {
@@ -113,31 +118,66 @@ fn step_on<L: Ledger>(
     (moved, name)
 }
 
-/// Does one step on a link, under its lock, if an actor there can do something: what the book answered, and what a gate is told of a turn that
-/// began.
-fn step<R: Wait, L: Ledger>(
-    pool: &Pool<'_, R, L>,
+/// Does a step on a link that is lent, with a room where no turn is to run: where that began one it lies there then and is to run, else none is.
+fn step_by<L: Ledger>(
+    slot: &mut Slot<L>,
     seat: &mut Seat<L>,
+    totals: &Totals<L>,
     room: &mut Room,
     link: usize,
     looked: bool,
-) -> Option<(Moved, Option<JobName>)>
-    ensures { IfSome result (λ r. IsNamed r.0 r.1) }
+    step: Move,
+) -> (Moved, Option<JobName>)
+    requires way { IsStepBy looked step }
+    requires none { NoneToRun room.old }
+    ensures way { IsAnswerBy looked result.0 }
+    ensures named { IsNamed result.0 result.1 }
+    ensures begun { LeavesToRun result.0 room.new }
 {
-    let mut slot = pool.links.get(link)?.lock(pool.rt);
-    let step = next_step(slot.book(), looked)?;
-    Some(step_on(&mut slot, seat, &pool.totals, room, link, step))
+    step_on(slot, seat, totals, room, link, step)
 }
 
-/// Ends the turn that ran in a room and is out on a link.
-fn end<R: Wait, L: Ledger>(
+/// Does one step on a link, under its lock, if an actor there can do something: what the book answered, and what a gate is told of a turn that
+/// began. Where the gate looks turns begin, and where it doesn't each is a whole one.
+fn step<R: Wait, L: Ledger, G: Gate>(
     pool: &Pool<'_, R, L>,
+    gate: &G,
     seat: &mut Seat<L>,
     room: &mut Room,
     link: usize,
-) -> Option<Moved> {
+) -> Option<(Moved, Option<JobName>)>
+    requires { NoneToRun room.old }
+    ensures way { IfSome result (λ r. IsAnswerBy (G.looking gate.now) r.0) }
+    ensures named { IfSome result (λ r. IsNamed r.0 r.1) }
+    ensures begun { IfSome result (λ r. LeavesToRun r.0 room.new) }
+    ensures none { IfNone result (NoneToRun room.new) }
+{
+    let looked = gate.looks();
     let mut slot = pool.links.get(link)?.lock(pool.rt);
-    Some(work(&mut slot, seat, &pool.totals, room, Move::Finish))
+    let step = next_step(slot.book(), looked)?;
+    Some(step_by(&mut slot, seat, &pool.totals, room, link, looked, step))
+}
+
+/// Ends the turn that ran in a room on a link that is lent.
+fn end_on<L: Ledger>(slot: &mut Slot<L>, seat: &mut Seat<L>, totals: &Totals<L>, room: &mut Room)
+    requires { HasRun room.old }
+    ensures { NoneToRun room.new }
+{
+    let _ended = work(slot, seat, totals, room, Move::Finish);
+}
+
+/// Ends the turn that ran in a room and is out on a link.
+fn end<R: Wait, L: Ledger>(pool: &Pool<'_, R, L>, seat: &mut Seat<L>, room: &mut Room, link: usize)
+    requires { HasRun room.old }
+    ensures { NoneToRun room.new }
+{
+    match pool.links.get(link) {
+        Some(held) => {
+            let mut slot = held.lock(pool.rt);
+            end_on(&mut slot, seat, &pool.totals, room);
+        }
+        None => {}
+    }
 }
 
 /// Runs the turn that lies in a room with no lock held, and ends it.
@@ -147,10 +187,13 @@ fn run_there<R: Wait, L: Ledger, G: Gate>(
     seat: &mut Seat<L>,
     room: &mut Room,
     name: JobName,
-) {
+)
+    requires { IsToRun room.old }
+    ensures { NoneToRun room.new }
+{
     gate.enter(name);
     room.run();
-    let _ended = end(pool, seat, room, name.link);
+    end(pool, seat, room, name.link);
     gate.leave(name);
 }
 
@@ -163,7 +206,9 @@ fn follow<R: Wait, L: Ledger, G: Gate>(
     moved: Moved,
     name: Option<JobName>,
 ) -> bool
-    requires { IsNamed moved name }
+    requires named { IsNamed moved name }
+    requires begun { LeavesToRun moved room.old }
+    ensures { NoneToRun room.new }
 {
     match moved {
         Moved::Begun(Ok(_)) => match name {
@@ -180,15 +225,18 @@ fn follow<R: Wait, L: Ledger, G: Gate>(
     }
 }
 
-/// Lets an actor of a link do something, if one can. Whether one did.
+/// Lets an actor of a link do something, if one can, and runs and ends the turn that began. Whether one did.
 fn turn<R: Wait, L: Ledger, G: Gate>(
     pool: &Pool<'_, R, L>,
     gate: &G,
     seat: &mut Seat<L>,
     room: &mut Room,
     link: usize,
-) -> bool {
-    match step(pool, seat, room, link, gate.looks()) {
+) -> bool
+    requires { NoneToRun room.old }
+    ensures { NoneToRun room.new }
+{
+    match step(pool, gate, seat, room, link) {
         Some((moved, name)) => follow(pool, gate, seat, room, moved, name),
         None => false,
     }
@@ -200,7 +248,10 @@ fn round<R: Wait, L: Ledger, G: Gate>(
     gate: &G,
     seat: &mut Seat<L>,
     room: &mut Room,
-) -> usize {
+) -> usize
+    requires { NoneToRun room.old }
+    ensures { NoneToRun room.new }
+{
     let mut steps = 0;
     for link in 0..pool.links.len() {
         if turn(pool, gate, seat, room, link) {

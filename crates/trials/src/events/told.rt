@@ -66,8 +66,7 @@ fn write_report(line: &mut String, report: &Report) -> Result<(), AllocError> {
 fn write_value(line: &mut String, value: Value) -> Result<(), AllocError> {
     match value {
         Value::Int(number) => write!(line, " {number}"),
-        Value::Bool(true) => line.push_str(" true"),
-        Value::Bool(false) => line.push_str(" false"),
+        Value::Bool(truth) => write!(line, " {truth}"),
     }
 }
 

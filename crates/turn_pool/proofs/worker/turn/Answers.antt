@@ -1,4 +1,7 @@
 use Rattle.turn_pool.proofs.worker.turn.Goals as goal
 
-pub follow-requires : goal.follow-requires
-follow-requires g c = c.in-Some.ensures
+pub follow-requires-clause-named : goal.follow-requires-clause-named
+follow-requires-clause-named g c = c.in-Some.ensures.named
+
+pub follow-requires-clause-begun : goal.follow-requires-clause-begun
+follow-requires-clause-begun g c = c.in-Some.ensures.begun

@@ -1,0 +1,3 @@
+mod AlikeRuns
+mod Sameness
+mod Tests

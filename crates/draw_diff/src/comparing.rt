@@ -1,0 +1,72 @@
+//! What two sets differ in.
+ghost use Rattle.std.specs.Prelude.{◌≡◌, ◌++◌, IfOk};
+ghost use Rattle.draw_diff.specs.Items.{item_lines, items_of};
+ghost use Rattle.draw_diff.specs.Ways.{new_way_lines, old_way_lines};
+
+use crate::items::items_of;
+use crate::lines::push_items;
+use crate::walk::{push_new_ways, push_old_ways};
+use std::alloc::{AllocError, Global};
+use turn_code::Draft;
+
+/// What two sets differ in, as lines: none where they are alike.
+#[derive(Drop)]
+pub struct Difference {
+    /// Of what they declare: `- ` before what is gone, `~ ` before what is something else, then `+ ` before what is added.
+    pub items: Vec<u8>,
+    /// Of the old set's transitions: `- ` before those that are gone, `~ ` before those that mean something else.
+    pub olds: Vec<u8>,
+    /// Of the new set's transitions: `+ ` before those that are added.
+    pub news: Vec<u8>,
+}
+
+/// The lines of what two sets declare.
+fn item_difference(alloc: Global, old: &Draft, new: &Draft) -> Result<Vec<u8>, AllocError>
+    ensures { IfOk result (λ v. v.items ≡ item_lines (items_of old.now) (items_of new.now)) }
+{
+    let olds = items_of(alloc, old)?;
+    let news = items_of(alloc, new)?;
+    let mut text = Vec::new(alloc);
+    push_items(&mut text, &olds, &news)?;
+    Ok(text)
+}
+
+/// The lines of the old set's transitions.
+fn old_difference(alloc: Global, old: &Draft, new: &Draft) -> Result<Vec<u8>, AllocError>
+    ensures { IfOk result (λ v. v.items ≡ old_way_lines old.now new.now) }
+{
+    let mut text = Vec::new(alloc);
+    push_old_ways(alloc, &mut text, old, new)?;
+    Ok(text)
+}
+
+/// The lines of the new set's transitions.
+fn new_difference(alloc: Global, old: &Draft, new: &Draft) -> Result<Vec<u8>, AllocError>
+    ensures { IfOk result (λ v. v.items ≡ new_way_lines old.now new.now) }
+{
+    let mut text = Vec::new(alloc);
+    push_new_ways(alloc, &mut text, old, new)?;
+    Ok(text)
+}
+
+/// What two sets differ in, by names: numbers, and the order in which things stand, make no difference. A transition of both has
+/// no line exactly where its code in the new set is that in the old one, renamed; then it means the same on all inputs
+/// ([`crate::runs_law`]).
+///
+/// # Errors
+///
+/// Want of memory.
+pub fn compare(alloc: Global, old: &Draft, new: &Draft) -> Result<Difference, AllocError>
+    ensures items { IfOk result (λ d. d.items.items ≡ item_lines (items_of old.now) (items_of new.now)) }
+    ensures old { IfOk result (λ d. d.olds.items ≡ old_way_lines old.now new.now) }
+    ensures new { IfOk result (λ d. d.news.items ≡ new_way_lines old.now new.now) }
+{
+    let items = item_difference(alloc, old, new)?;
+    let olds = old_difference(alloc, old, new)?;
+    let news = new_difference(alloc, old, new)?;
+    Ok(Difference {
+        items,
+        olds,
+        news,
+    })
+}

@@ -1,0 +1,130 @@
+//! Code of one set in the numbers of another, by its names.
+ghost use Rattle.std.specs.Prelude.{◌≡◌};
+ghost use Rattle.draw_diff.specs.Names.{moved_signal, moved_state, moved_timer, moved_variable};
+ghost use Rattle.draw_diff.specs.Renaming.{renamed_party, renamed_receiver, sent_to, renamed, is_renamed, are_renamed};
+
+use crate::names::{Pair, moved_process, moved_signal, moved_state, moved_timer, moved_variable};
+use turn_code::{
+    Instruction, Party, ProcessNumber, Receiver, SignalNumber, StateNumber, TimerNumber,
+    VariableNumber,
+};
+
+/// A party in the other set's numbers.
+fn renamed_party(pair: &Pair<'_>, party: Party) -> Option<Party>
+    ensures { result ≡ renamed_party pair.now party }
+{
+    match party {
+        Party::Environment => Some(Party::Environment),
+        Party::Process(number) => match moved_process(pair, number) {
+            Some(number) => Some(Party::Process(ProcessNumber(number))),
+            None => None,
+        },
+    }
+}
+
+/// Who gets a signal, in the other set's numbers.
+fn renamed_receiver(pair: &Pair<'_>, receiver: Receiver) -> Option<Receiver>
+    ensures { result ≡ renamed_receiver pair.now receiver }
+{
+    match receiver {
+        Receiver::Party(party) => match renamed_party(pair, party) {
+            Some(party) => Some(Receiver::Party(party)),
+            None => None,
+        },
+        Receiver::Sender => Some(Receiver::Sender),
+    }
+}
+
+/// A signal that goes out, in the other set's numbers.
+fn renamed_output(
+    pair: &Pair<'_>,
+    signal: SignalNumber,
+    receiver: Receiver,
+    count: u8,
+) -> Option<Instruction>
+    ensures { result ≡ sent_to count (moved_signal pair.now signal.0) (renamed_receiver pair.now receiver) }
+{
+    match moved_signal(pair, signal) {
+        Some(number) => match renamed_receiver(pair, receiver) {
+            Some(receiver) => Some(Instruction::Output(SignalNumber(number), receiver, count)),
+            None => None,
+        },
+        None => None,
+    }
+}
+
+/// An instruction in the other set's numbers, where all that it names is there.
+fn renamed(pair: &Pair<'_>, instruction: &Instruction) -> Option<Instruction>
+    ensures { result ≡ renamed pair.now instruction.now }
+{
+    match instruction {
+        Instruction::Load(number) => match moved_variable(pair, *number) {
+            Some(moved) => Some(Instruction::Load(VariableNumber(moved))),
+            None => None,
+        },
+        Instruction::Store(number) => match moved_variable(pair, *number) {
+            Some(moved) => Some(Instruction::Store(VariableNumber(moved))),
+            None => None,
+        },
+        Instruction::Output(signal, receiver, count) => {
+            renamed_output(pair, *signal, *receiver, *count)
+        }
+        Instruction::Set(number) => match moved_timer(pair, *number) {
+            Some(moved) => Some(Instruction::Set(TimerNumber(moved))),
+            None => None,
+        },
+        Instruction::Reset(number) => match moved_timer(pair, *number) {
+            Some(moved) => Some(Instruction::Reset(TimerNumber(moved))),
+            None => None,
+        },
+        Instruction::Next(number) => match moved_state(pair, *number) {
+            Some(moved) => Some(Instruction::Next(StateNumber(moved))),
+            None => None,
+        },
+        Instruction::Int(_) => Some(*instruction),
+        Instruction::Bool(_) => Some(*instruction),
+        Instruction::Param(_) => Some(*instruction),
+        Instruction::Add => Some(*instruction),
+        Instruction::Sub => Some(*instruction),
+        Instruction::Mul => Some(*instruction),
+        Instruction::Div(_) => Some(*instruction),
+        Instruction::Mod(_) => Some(*instruction),
+        Instruction::Rem(_) => Some(*instruction),
+        Instruction::Neg => Some(*instruction),
+        Instruction::Not => Some(*instruction),
+        Instruction::And => Some(*instruction),
+        Instruction::Or => Some(*instruction),
+        Instruction::Xor => Some(*instruction),
+        Instruction::Same => Some(*instruction),
+        Instruction::Compare(_) => Some(*instruction),
+        Instruction::Case(_, _, _) => Some(*instruction),
+        Instruction::CaseWithin(_, _, _) => Some(*instruction),
+        Instruction::Pick(_, _) => Some(*instruction),
+        Instruction::Drop => Some(*instruction),
+        Instruction::Jump(_) => Some(*instruction),
+        Instruction::Stop => Some(*instruction),
+    }
+}
+
+/// Whether an instruction, renamed, is another.
+fn is_renamed(pair: &Pair<'_>, old: &Instruction, new: &Instruction) -> bool
+    ensures { result ≡ is_renamed pair.now old.now new.now }
+{
+    match renamed(pair, old) {
+        Some(renamed) => renamed == *new,
+        None => false,
+    }
+}
+
+/// Whether the instructions of the one, renamed, are those of the other.
+pub(crate) fn are_renamed(pair: &Pair<'_>, olds: &[Instruction], news: &[Instruction]) -> bool
+    ensures { result ≡ are_renamed pair.now olds.now news.now }
+{
+    match olds {
+        [] => news.is_empty(),
+        [old, olds @ ..] => match news {
+            [] => false,
+            [new, news @ ..] => is_renamed(pair, old, new) && are_renamed(pair, olds, news),
+        },
+    }
+}

@@ -1,0 +1,260 @@
+//! The command `diff` on the sets that the command line names.
+ghost use Rattle.std.specs.Prelude.{◌≡◌, ◌⊎◌, [], IfErr};
+
+use crate::sets::{STDIN, own_set, set_word};
+use draw_diff::{Difference, compare, lines_in, ways_in};
+use draw_sets::with_statements;
+use link_term::Names;
+use mtp2_text::{MONITORS, STANDARD};
+use mtp2_words::Named;
+use plain_text::{NamedReader, Teller, read_text};
+use script_check::{FAILED, HELD, REFUSED, Refusal, SetWord, find_set, in_front, refuse_set};
+use std::alloc::{AllocError, Global};
+use std::fs;
+use std::io::{self, Read, Write};
+use std::rt::Runtime;
+use std::str;
+use turn_check::Verified;
+
+/// What two sets are, where they differ.
+const DIFFERENT: u8 = 1;
+
+/// Octets that are no text.
+const NO_TEXT: &[u8] = b"\xFF";
+
+/// What is called what: the side, and its text.
+#[derive(Clone, Copy)]
+struct SideName<'a> {
+    /// OLD or NEW.
+    side: &'a str,
+    /// The name of the text.
+    name: &'a str,
+}
+
+/// Writes lines with the name of one side in front of each.
+fn write_side<W: Write>(
+    alloc: Global,
+    side: &str,
+    lines: &[u8],
+    writer: &mut W,
+) -> io::Result<()> {
+    let named = in_front(alloc, side, lines)?;
+    writer.write_all(&named)
+}
+
+/// Says why one of the sets is refused. Gives the exit status.
+fn refuse_side<H: Eprint, W: Write>(
+    alloc: Global,
+    teller: &Teller<'_, H>,
+    named: SideName<'_>,
+    refusal: &Refusal,
+    writer: &mut W,
+) -> u8
+    ensures { (result ≡ 2) ⊎ (result ≡ 4) }
+{
+    let mut lines: Vec<u8> = Vec::new(alloc);
+    if refuse_set(alloc, named.name, refusal, &mut lines, &mut teller.errors()) == FAILED {
+        return FAILED;
+    }
+    match write_side(alloc, named.side, &lines, writer) {
+        Ok(()) => REFUSED,
+        Err(_) => FAILED,
+    }
+}
+
+/// One of the two: its set and its text.
+#[derive(Drop)]
+struct Side {
+    set: Verified,
+    text: Vec<u8>,
+}
+
+/// A set with its text, or the exit status where there is none.
+fn with_text<H: Eprint, S: Read + Drop, W: Write>(
+    alloc: Global,
+    teller: &Teller<'_, H>,
+    named: SideName<'_>,
+    set: SetWord<S>,
+    text: &[u8],
+    writer: &mut W,
+) -> Result<Side, u8>
+    ensures { IfErr result (λ s. (s ≡ 2) ⊎ (s ≡ 4)) }
+{
+    match find_set(alloc, set) {
+        Ok(set) => match Vec::from_slice(alloc, text) {
+            Ok(text) => Ok(Side { set, text }),
+            Err(_) => Err(FAILED),
+        },
+        Err(refusal) => Err(refuse_side(alloc, teller, named, &refusal, writer)),
+    }
+}
+
+/// The set of the text that a reader gives, or the exit status where there is none.
+fn read_side<H: Eprint, S: Read + Drop, W: Write>(
+    alloc: Global,
+    teller: &Teller<'_, H>,
+    named: SideName<'_>,
+    mut reader: S,
+    writer: &mut W,
+) -> Result<Side, u8>
+    ensures { IfErr result (λ s. (s ≡ 2) ⊎ (s ≡ 4)) }
+{
+    match read_text(alloc, &mut reader) {
+        Ok(read) => {
+            let bytes = if read.is_text { read.kept.as_slice() } else { NO_TEXT };
+            with_text(alloc, teller, named, SetWord::Text(bytes), bytes, writer)
+        }
+        Err(_) => Err(FAILED),
+    }
+}
+
+/// The text of a set of the program's own.
+fn own_text(set: &Named<'_>) -> &'static str {
+    match set {
+        Named::Monitors => MONITORS,
+        _ => STANDARD,
+    }
+}
+
+/// One of the sets that the command line names, or the exit status where there is none.
+fn named_side<R: Runtime + AllocGlobal, H: Eprint, W: Write>(
+    rt: &R,
+    teller: &Teller<'_, H>,
+    side: &str,
+    set: Named<'_>,
+    writer: &mut W,
+) -> Result<Side, u8>
+    ensures { IfErr result (λ s. (s ≡ 2) ⊎ (s ≡ 4)) }
+{
+    let name = set_word(&set);
+    let named = SideName { side, name };
+    match set {
+        Named::Standard | Named::Monitors => match own_set(&set) {
+            Some(own) => {
+                let text = own_text(&set).as_bytes();
+                with_text(rt.alloc(), teller, named, own, text, writer)
+            }
+            None => Err(FAILED),
+        },
+        Named::Stdin => {
+            let reader = NamedReader::new(teller, STDIN, rt.reader());
+            read_side(rt.alloc(), teller, named, reader, writer)
+        }
+        Named::File(path) => match fs::open(rt, path) {
+            Ok(file) => {
+                let reader = NamedReader::new(teller, path, file);
+                read_side(rt.alloc(), teller, named, reader, writer)
+            }
+            Err(error) => Err(teller.fail(path, &error)),
+        },
+    }
+}
+
+/// Whether a terminal finds its names in a set: `yes`, or `no` with the first that it doesn't.
+fn terminal_word(alloc: Global, set: &Verified) -> Result<String, AllocError> {
+    match Names::find(set) {
+        Ok(_) => String::from_str(alloc, "yes"),
+        Err(name) => format!(in alloc; "no {name}"),
+    }
+}
+
+/// The line that says how many transitions mean the same, and the one on terminals.
+fn summary(
+    alloc: Global,
+    old: &Verified,
+    new: &Verified,
+    found: &Difference,
+) -> Result<String, AllocError> {
+    let known = ways_in(alloc, old.draft())?;
+    let same = known.saturating_sub(lines_in(&found.olds));
+    let all = known.saturating_add(lines_in(&found.news));
+    let before = terminal_word(alloc, old)?;
+    let after = terminal_word(alloc, new)?;
+    if before.as_str() == after.as_str() {
+        format!(in alloc; "same {same} of {all}\nterminal {before}\n")
+    } else {
+        format!(in alloc; "same {same} of {all}\nterminal {before} -> {after}\n")
+    }
+}
+
+/// The lines of transitions that differ, with the statements in which they do.
+fn way_lines(
+    alloc: Global,
+    old: &Side,
+    new: &Side,
+    found: &Difference,
+) -> Result<Vec<u8>, AllocError> {
+    let mut lines = Vec::new(alloc);
+    lines.extend_from_slice(&found.olds)?;
+    lines.extend_from_slice(&found.news)?;
+    let Ok(old_text) = str::from_utf8(&old.text) else {
+        return Ok(lines);
+    };
+    let Ok(new_text) = str::from_utf8(&new.text) else {
+        return Ok(lines);
+    };
+    with_statements(alloc, old_text, new_text, &lines)
+}
+
+/// Writes what two sets differ in, in one write.
+fn write_difference<W: Write>(
+    alloc: Global,
+    old: &Side,
+    new: &Side,
+    found: &Difference,
+    writer: &mut W,
+) -> io::Result<()> {
+    let ways = way_lines(alloc, old, new, found)?;
+    let end = summary(alloc, &old.set, &new.set, found)?;
+    let mut text = Vec::new(alloc);
+    text.extend_from_slice(&found.items)?;
+    text.extend_from_slice(&ways)?;
+    text.extend_from_slice(end.as_bytes())?;
+    writer.write_all(&text)
+}
+
+/// The exit status of a difference.
+fn status_of(found: &Difference) -> u8
+    ensures alike { result ≡ 0 → (found.now.items.items ≡ []) × (found.now.olds.items ≡ []) × (found.now.news.items ≡ []) }
+    ensures status { (result ≡ 0) ⊎ (result ≡ 1) }
+{
+    if found.items.is_empty() && found.olds.is_empty() && found.news.is_empty() {
+        HELD
+    } else {
+        DIFFERENT
+    }
+}
+
+/// Says what two sets differ in. Gives the exit status: 0 where nothing is gone, added or something else, 1 where something is, 4 where memory or
+/// the write fails.
+fn compare_sides<W: Write>(alloc: Global, old: &Side, new: &Side, writer: &mut W) -> u8
+    ensures { (result ≡ 0) ⊎ (result ≡ 1) ⊎ (result ≡ 4) }
+{
+    match compare(alloc, old.set.draft(), new.set.draft()) {
+        Ok(found) => match write_difference(alloc, old, new, &found, writer) {
+            Ok(()) => status_of(&found),
+            Err(_) => FAILED,
+        },
+        Err(_) => FAILED,
+    }
+}
+
+/// Runs `diff` on the two sets that the command line names. Gives the exit status: 0 where they are alike, 1 where they differ, 2 after a
+/// line with the side in front where one is refused, 4 where memory, a file, a read or a write fails.
+pub fn run_diff<R: Runtime + AllocGlobal, H: Eprint, W: Write>(
+    rt: &R,
+    teller: &Teller<'_, H>,
+    old: Named<'_>,
+    new: Named<'_>,
+    writer: &mut W,
+) -> u8
+    ensures { (result ≡ 0) ⊎ (result ≡ 1) ⊎ (result ≡ 2) ⊎ (result ≡ 4) }
+{
+    match named_side(rt, teller, "OLD", old, writer) {
+        Ok(old) => match named_side(rt, teller, "NEW", new, writer) {
+            Ok(new) => compare_sides(rt.alloc(), &old, &new, writer),
+            Err(status) => status,
+        },
+        Err(status) => status,
+    }
+}
