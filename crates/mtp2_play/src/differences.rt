@@ -5,7 +5,7 @@ use crate::sets::{STDIN, own_set, set_word};
 use draw_diff::{Difference, compare, lines_in, ways_in};
 use draw_sets::with_statements;
 use link_term::Names;
-use mtp2_text::{MONITORS, STANDARD};
+use mtp2_text::{MONITORS, Q703, STANDARD};
 use mtp2_words::Named;
 use plain_text::{NamedReader, Teller, read_text};
 use script_check::{FAILED, HELD, REFUSED, Refusal, SetWord, find_set, in_front, refuse_set};
@@ -112,6 +112,7 @@ fn read_side<H: Eprint, S: Read + Drop, W: Write>(
 fn own_text(set: &Named<'_>) -> &'static str {
     match set {
         Named::Monitors => MONITORS,
+        Named::Q703 => Q703,
         _ => STANDARD,
     }
 }
@@ -129,7 +130,7 @@ fn named_side<R: Runtime + AllocGlobal, H: Eprint, W: Write>(
     let name = set_word(&set);
     let named = SideName { side, name };
     match set {
-        Named::Standard | Named::Monitors => match own_set(&set) {
+        Named::Standard | Named::Q703 | Named::Monitors => match own_set(&set) {
             Some(own) => {
                 let text = own_text(&set).as_bytes();
                 with_text(rt.alloc(), teller, named, own, text, writer)

@@ -4,6 +4,7 @@
 mod commands;
 mod ends;
 mod flags;
+mod says;
 mod seeing;
 mod words;
 

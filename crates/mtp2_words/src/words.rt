@@ -9,10 +9,10 @@ ghost use Rattle.mtp2_words.specs.TurnedDown.{IsTurnedDown};
 use crate::commands::all_commands;
 use crate::ends::{LineEnd, LineWords, line_end};
 use crate::flags::is_given;
+use crate::says::{are_stdin, complaint_of, workers_of};
 use crate::seeing::{Seeing, seen_of};
 use clap::error::ErrorKind;
 use clap::{ArgMatches, Error};
-use script_lines::count;
 use std::alloc::{AllocError, Global};
 
 /// A text or a set, as a word of the command line names it.
@@ -106,13 +106,6 @@ fn script_named(word: &str) -> Source<'_>
     }
 }
 
-/// Whether two words both name standard input.
-fn are_stdin(set: &str, script: &str) -> bool
-    ensures { IsTrue result ↔ AreStdin set.now script.now }
-{
-    set == "stdin" && script == "stdin"
-}
-
 /// The set and the script that two words name, with what is seen of the run; none where standard input is to be both.
 fn played<'a>(set: &'a str, script: &'a str, seen: Seeing) -> Option<Request<'a>>
     ensures play { IfSome result (IsPlay set.now script.now seen) }
@@ -126,16 +119,6 @@ fn played<'a>(set: &'a str, script: &'a str, seen: Seeing) -> Option<Request<'a>
         script: script_named(script),
         seen,
     })
-}
-
-/// The number of workers that a word says: digits without a sign, 1 to 16.
-fn workers_of(word: &str) -> Option<usize>
-    ensures { result ≡ workers_of word.now }
-{
-    match count(word) {
-        Some(workers) if 1 <= workers && workers <= 16 => Some(workers as usize),
-        _ => None,
-    }
 }
 
 /// The script and the number of workers that two words name; none where the second says no such number.
@@ -395,24 +378,6 @@ pub fn read<'a>(alloc: Global, given: &'a [String]) -> Result<Request<'a>, Error
     match request {
         Some(request) => Ok(request),
         None => Err(commands.error(ErrorKind::InvalidSubcommand, complaint_of(&matches))?),
-    }
-}
-
-/// What is said where the words of a command are there, and one of them says nothing.
-fn complaint_of(matches: &ArgMatches<'_>) -> &'static str {
-    let Some(name) = matches.subcommand_name() else {
-        return "no such command";
-    };
-    match name {
-        "play" => "standard input can be the set or the script, not both",
-        "soak" => "--workers is a number from 1 to 16",
-        "line" => {
-            "MODE is basic or cyclic, --bits low or high, --ahead a number up to 8000; standard input is the line, so it can't be --text"
-        }
-        "draw" => "--states is for a PROCESS",
-        "text" => "SET is standard, q703 or monitors",
-        "diff" => "standard input can be OLD or NEW, not both",
-        _ => "no such command",
     }
 }
 

@@ -1,0 +1,41 @@
+//! What single words say.
+ghost use Rattle.std.specs.Prelude.{◌≡◌, ◌↔◌, IsTrue};
+ghost use Rattle.mtp2_words.specs.Words.{workers_of, AreStdin};
+
+use clap::ArgMatches;
+use script_lines::count;
+
+/// Whether two words both name standard input.
+pub(crate) fn are_stdin(set: &str, script: &str) -> bool
+    ensures { IsTrue result ↔ AreStdin set.now script.now }
+{
+    set == "stdin" && script == "stdin"
+}
+
+/// The number of workers that a word says: digits without a sign, 1 to 16.
+pub(crate) fn workers_of(word: &str) -> Option<usize>
+    ensures { result ≡ workers_of word.now }
+{
+    match count(word) {
+        Some(workers) if 1 <= workers && workers <= 16 => Some(workers as usize),
+        _ => None,
+    }
+}
+
+/// What is said where the words of a command are there, and one of them says nothing.
+pub(crate) fn complaint_of(matches: &ArgMatches<'_>) -> &'static str {
+    let Some(name) = matches.subcommand_name() else {
+        return "no such command";
+    };
+    match name {
+        "play" => "standard input can be the set or the script, not both",
+        "soak" => "--workers is a number from 1 to 16",
+        "line" => {
+            "MODE is basic or cyclic, --bits low or high, --ahead a number up to 8000; standard input is the line, so it can't be --text"
+        }
+        "draw" => "--states is for a PROCESS",
+        "text" => "SET is standard, q703 or monitors",
+        "diff" => "standard input can be OLD or NEW, not both",
+        _ => "no such command",
+    }
+}
