@@ -1,5 +1,5 @@
 //! The command line.
-ghost use Rattle.std.specs.Prelude.{◌≡◌, ◌↔◌, ◌⊎◌, Some, None, [], true, map, string_bytes, IfSome, IfOk, IfErr, IsNone, IsTrue, option_map, codes};
+ghost use Rattle.std.specs.Prelude.{◌≡◌, ◌⊎◌, Some, None, [], true, map, string_bytes, IfSome, IfOk, IfErr, IsNone, option_map, codes};
 ghost use Rattle.clap.specs.Words.{fault_of, found_of, kind_of, rows_of, subcommand_name_of, subcommand_of, subcommand_rows_of, takes};
 ghost use Rattle.mtp2_words.specs.Words.{IsDiff, command_of, workers_of, IsNamed, IsSource, AreStdin, IsPrint, NamesNone, IsPlay, IsSoak, IsTextNamed, IsText};
 ghost use Rattle.mtp2_words.specs.Asked.{given_by, AreAllAsked, AreNamed, AsksEnd, AsksNothing, IsAsked, IsAskedBy, IsNoCheck, IsNoFrame, IsNoLine, IsNoPlay, IsNoPrint, IsNoSoak, SaysNoEnd, SaysNothing, IsNoDiff, IsNoDraw};
