@@ -38,7 +38,7 @@ SORTS = {
     "AckSeen": "BOOLEAN", "Unit": "INTEGER", "Take": "BOOLEAN", "Line": "INTEGER", "Withhold": "BOOLEAN", "Down": "INTEGER", "Deliver": "BOOLEAN",
     "Odd": "INTEGER", "Counting": "BOOLEAN",
 }
-# Whether texts have the names, and scripts the words, that tools/q781 knows beside those of `play`.
+# Whether a text is told that octet counting begins and ends, and the first line may say N1 and N2: that is beside what `play` has.
 ALL_NAMES = False
 # What a text may have besides.
 OPTIONAL = "ENV/Deliver RC/Odd ENV/Clear ENV/Cleared LSC/Flush LSC/Continue CC/Overload AERM/Counting SUERM/Counting".split()
@@ -66,7 +66,7 @@ class Terminal:
         # Whether a link set holds it, and whether it does so behind the next beginning of both directions too.
         self.is_held = self.stays_held = False
         self.messages, self.statuses = [], []
-        self.names = {it for it in OPTIONAL if ALL_NAMES and has(self.book, it)}
+        self.names = {it for it in OPTIONAL if (ALL_NAMES or not it.endswith("/Counting")) and has(self.book, it)}
         self.deliver, self.behind_odd, self.spare, self.cleared, self.left, self.keeps = True, False, 0, 0, False, False
 
     def rebase(self):
@@ -321,7 +321,7 @@ def command(words):
         return word, rest[0]
     if word == "command" and rest[0] in COMMANDS:
         return word, COMMANDS[rest[0]]
-    if word == "command" and ALL_NAMES and rest[0] in MORE:
+    if word == "command" and rest[0] in MORE:
         return word, MORE[rest[0]]
     if word == "unit":
         return "line", framed(octets_in(rest[0]))
@@ -382,7 +382,7 @@ def retrieved(terminal, behind):
     sender.acknowledged = len(sender.all)
     sender.sent = sender.again = sender.turn = sender.acknowledged
     sender.forced = False
-    if out and ALL_NAMES:
+    if out:
         terminal.offer("TXC", "AckSeen", False)
     return handed
 
