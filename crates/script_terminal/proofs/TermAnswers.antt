@@ -80,8 +80,8 @@ asked_same n m c d t u text names commands asked =
 -- ---- messages to send
 
 below : (n m : ℕ) → (n < m) ⊎ (m ≤ n) → (m ≤ n → ⊥) → n < m
-below n m (inl less) never = less
-below n m (inr many) never = absurd (never many)
+below n m (inl less) no = less
+below n m (inr many) no = absurd (no many)
 
 put_text : (octets : List ℕ) (t u : Term) (m : Msu) (text said : List ℕ) (v : Term) → IsMessageOf octets m → text ≡ said → u ≡ v → Puts m t said v
     → IsPut octets t text u
@@ -107,8 +107,8 @@ put_full octets t u m text Full are says many makes = put_text octets t u m text
 -- ---- messages that are handed out
 
 at_most : (n m : ℕ) → (n < m) ⊎ (m ≤ n) → (n < m → ⊥) → m ≤ n
-at_most n m (inl less) never = absurd (never less)
-at_most n m (inr most) never = most
+at_most n m (inl less) no = absurd (no less)
+at_most n m (inr most) no = most
 
 pub given_out : {V : Type 0} (behind : Option ℕ) (t u : Term) (text : List ℕ) (items : List Msu) (x : V) → text ≡ codes "ok " ++ decimal (length items)
     → (◌≡◌ {A = Result V RetrieveError} (Ok x) (Err BadAck)) ↔ (t.processes.transceiver.sender.sent < count_known t.processes.transceiver.sender behind)
@@ -122,13 +122,12 @@ given_out {V} behind t u text items x says many are makes =
     let Q : Term → Type 0 = λ v. Retrieves behind t (codes "ok " ++ decimal (length (retrieved w behind))) v in
     subst P (sym (says ∙ ap (λ (ms : List Msu). codes "ok " ++ decimal (length ms)) are)) (subst Q (sym makes) (given few))
 
-pub not_given : {V : Type 0} (behind : Option ℕ) (t u : Term) (text : List ℕ) → text ≡ codes "refused E2 BadAck"
-    → (◌≡◌ {A = Result V RetrieveError} (Err BadAck) (Err BadAck)) ↔ (t.processes.transceiver.sender.sent < count_known t.processes.transceiver.sender behind)
-    → u ≡ t → Retrieves behind t text u
-not_given behind t u text says many makes =
+pub not_given : (behind : Option ℕ) (t u : Term) (text : List ℕ) → text ≡ codes "refused E2 BadAck"
+    → t.processes.transceiver.sender.sent < count_known t.processes.transceiver.sender behind → u ≡ t → Retrieves behind t text u
+not_given behind t u text says less makes =
     let P : List ℕ → Type 0 = λ said. Retrieves behind t said u in
     let Q : Term → Type 0 = λ v. Retrieves behind t (codes "refused E2 BadAck") v in
-    subst P (sym says) (subst Q (sym makes) (bad (many.0 refl)))
+    subst P (sym says) (subst Q (sym makes) (bad less))
 
 -- ---- reports
 
@@ -295,7 +294,7 @@ times_more keeps octets n t m u before takes =
     subst P number (again n t m u before takes)
 
 pub times_all : (keeps : Bool) (octets : List ℕ) (n m : ℕ) (t u : Term) → n ≤ m → m ≤ n → TakesTimes keeps octets n t u → TakesTimes keeps octets m t u
-times_all keeps octets n m t u most least taken =
+times_all keeps octets n m t u most least times =
     let P : ℕ → Type 0 = λ k. TakesTimes keeps octets k t u in
     let number : n ≡ m = omega (arith, most, least) in
-    subst P number taken
+    subst P number times

@@ -1,5 +1,5 @@
 //! What is printed for each command of a terminal's script.
-ghost use Rattle.std.specs.Prelude.{◌≡◌, ◌<◌, IfOk, IfSome, IsNone, IsTrue, codes};
+ghost use Rattle.std.specs.Prelude.{◌≡◌, ◌<◌, IfOk, IfSome, IsNone, IsTrue, codes, length};
 ghost use Rattle.actor_machine.specs.declared.event.Event.TheVariants.{Advance};
 ghost use Rattle.link_term.specs.Offering.{command_event};
 ghost use Rattle.script_links.specs.TermCommands.{plain_term_command};
@@ -13,6 +13,7 @@ use link_term::{CallError, Msu, PutError, RetrieveError, Terminal};
 use script_book::{refused_line, state_line, text_line, value_line};
 use script_links::{Order, TermCommand};
 use std::alloc::{AllocError, Global};
+use std::collections::VecDeque;
 
 /// A signal unit with errors, between two flags: a single octet is too short.
 const ERROR: [u8; 3] = [0x7E, 0x00, 0x7E];
@@ -116,6 +117,13 @@ fn is_number(behind: Option<u8>) -> bool
     }
 }
 
+/// How many messages there are.
+fn how_many(messages: &VecDeque<Msu>) -> usize
+    ensures { result ≡ length messages.now.items }
+{
+    messages.len()
+}
+
 /// `retrieve N`, `retrieve`: hands messages out. A number above 127 would be told as want of memory, but none comes here: a line with such a
 /// number is no command.
 fn retrieve(
@@ -130,7 +138,7 @@ fn retrieve(
     }
     match terminal.retrieve_telling(behind) {
         Ok(messages) => {
-            let count = messages.len();
+            let count = how_many(&messages);
             text_line(alloc, &format_args!("ok {count}"))
         }
         Err(RetrieveError::BadAck) => Vec::from_slice(alloc, b"refused E2 BadAck"),

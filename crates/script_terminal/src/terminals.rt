@@ -1,5 +1,6 @@
 //! A terminal's script as it runs.
 ghost use Rattle.std.specs.Prelude.{◌≡◌, ◌⊎◌, ◌++◌, ◌∷◌, [], List, ℕ, Option, map, is_some, None, OnOk, IfOk, true, false};
+ghost use Rattle.std.specs.List.{list_any};
 ghost use Rattle.link_term.specs.Term.{Term};
 ghost use Rattle.script_links.specs.TermScripts.{PlainTermSaid, plain_term_said, is_told, asks_told};
 ghost use Rattle.script_terminal.specs.TermAnswers.{next_of, behind_next, unit_line};
@@ -146,11 +147,18 @@ fn is_told(said: &TermSaid<'_>) -> bool
     }
 }
 
+/// Whether a command among these asks what the terminal tells.
+fn has_told(commands: &[TermSaid<'_>]) -> bool
+    ensures { result ≡ list_any (λ said. is_told (plain_term_said said)) commands.now }
+{
+    commands.iter().any(|said| is_told(said))
+}
+
 /// Whether one of the commands asks what the terminal tells.
 pub fn asks_told(commands: &[TermSaid<'_>]) -> bool
     ensures { result ≡ asks_told (map plain_term_said commands.now) }
 {
-    commands.iter().any(|said| is_told(said))
+    has_told(commands)
 }
 
 /// A terminal of which nothing is printed yet.

@@ -6,4 +6,4 @@ loop-taken-init c = times_none c.args.keeps c.args.octets.now c.args.terminal.no
 
 pub loop-taken-preserved : goal.loop-taken-preserved
 loop-taken-preserved c =
-    times_more c.args.keeps c.args.octets.now c.loop-taken.taken c.args.terminal.now c.loop-taken.terminal _ c.loop-taken.invariant c.take_once.ensures
+    times_more c.args.keeps c.args.octets.now c.loop-taken.taken c.args.terminal.now c.loop-taken.terminal _ c.loop-taken.invariant c.in_ok-take_once.ensures

@@ -3,4 +3,4 @@ use Rattle.script_terminal.proofs.TermRuns.{any_told}
 use Rattle.script_terminal.proofs.terminals.asks_told.Goals as goal
 
 pub returns : goal.returns
-returns c = c.any.ensures ∙ any_told c.args.commands.now
+returns c = c.has_told.ensures ∙ any_told c.args.commands.now
