@@ -16,7 +16,7 @@ import sys
 sys.path += map(str, pathlib.Path(__file__).resolve().parents[1].glob("*"))
 
 from plain_play import Refused
-from plain_term import COMMANDS, ROOT, SETS, Terminal, command, shown
+from plain_term import COMMANDS, ROOT, SETS, Terminal, command, do, shown
 from plain_play import BadLine, number
 from plain_units import FLAG, bits_of, check_octets, octets_of, stuffed
 
@@ -114,7 +114,7 @@ def said(lines):
             if words[1:2] == ["ok"] and len(words) > 2:
                 at = max(at, int(words[0]))
                 yield at, " ".join(words[2:])
-            elif not words[1:] or words[1] not in {"in", "down", "far", "message", "state", "value", "refused", "lost"}:
+            elif not words[1:] or words[1] not in {"in", "down", "far", "message", "state", "value", "cleared", "told", "accepted", "retrieve", "refused", "lost"}:
                 yield at, " ".join(words)
         elif words[0] == "at" and len(words) == 2 and words[1].isdigit():
             at = max(at, int(words[1]))
@@ -133,6 +133,8 @@ def obeyed(end, order):
             end.command(*rest[0])
         elif word == "msu":
             end.sender.put(rest[0])
+        elif word in ("told", "accepted", "retrieve"):
+            return [f"ok {order}", f"{order} {do(end, word, *rest)[0]}"]
         elif word == "state":
             actor = end.book.actor(rest[0])
             place = "STOPPED" if actor.place is None else actor.place if actor.place == "START" else actor.process.states[actor.place][0]

@@ -4,7 +4,7 @@
 usage: tools/oracles/plain_term.py SET SCRIPT      prints the lines that play prints for them, and ends with its status
        tools/oracles/plain_term.py --table FILE    plays each entry of a table of scripts, and ends with status 1 where one prints something else
 
-SET is `standard`, `monitors` or the file of a text; ` | OLD -> NEW` behind it is an edit, made everywhere in the text, and there may be several.
+SET is `standard`, `q703`, `monitors` or the file of a text; ` | OLD -> NEW` behind it is an edit, made everywhere in the text, and there may be several.
 Its actors are those of plain_play.py, which plays book scripts too. The line, the stores and the terminal
 are as Q.703 and the profile say them, on whole lists: no bit of the line and no message is ever forgotten.
 
@@ -23,7 +23,7 @@ from plain_play import LONGEST, BadLine, Book, Failed, Refused, number, play as 
 from plain_units import FLAG, Line, Receiver, Sender, bits_of, check_octets, decoded, octets_of, stuffed
 
 ROOT = pathlib.Path(__file__).resolve().parents[2]
-SETS = {"standard": "standard.sdl", "monitors": "monitors.sdl"}
+SETS = {"standard": "standard.sdl", "q703": "q703.sdl", "monitors": "monitors.sdl"}
 STATUSES = ["SIO", "SIN", "SIE", "SIOS", "SIPO", "SIB", "6", "7"]
 COPIES = re.compile(r"%(?:(\d+)-)?(\d+)\{([^}]*)\}")
 UP = ["command power", "command start", "unit FFFF0100", "unit FFFF0101", "tick 8200", "unit FFFF00"]
@@ -38,8 +38,8 @@ SORTS = {
     "AckSeen": "BOOLEAN", "Unit": "INTEGER", "Take": "BOOLEAN", "Line": "INTEGER", "Withhold": "BOOLEAN", "Down": "INTEGER", "Deliver": "BOOLEAN",
     "Odd": "INTEGER", "Counting": "BOOLEAN",
 }
-# Whether scripts have the words, and texts the names, that tools/q781 knows beside those of `play`.
-ALL_WORDS = False
+# Whether texts have the names, and scripts the words, that tools/q781 knows beside those of `play`.
+ALL_NAMES = False
 # What a text may have besides.
 OPTIONAL = "ENV/Deliver RC/Odd ENV/Clear ENV/Cleared LSC/Flush LSC/Continue CC/Overload AERM/Counting SUERM/Counting".split()
 
@@ -66,7 +66,7 @@ class Terminal:
         # Whether a link set holds it, and whether it does so behind the next beginning of both directions too.
         self.is_held = self.stays_held = False
         self.messages, self.statuses = [], []
-        self.names = {it for it in OPTIONAL if ALL_WORDS and has(self.book, it)}
+        self.names = {it for it in OPTIONAL if ALL_NAMES and has(self.book, it)}
         self.deliver, self.behind_odd, self.spare, self.cleared, self.left, self.keeps = True, False, 0, 0, False, False
 
     def rebase(self):
@@ -303,12 +303,10 @@ def command(words):
         return word, " ".join(rest)
     if word == "value" and len(rest) == 2:
         return word, *rest
-    if not ALL_WORDS and (word in ("told", "accepted", "retrieve", "units", "errors") or word == "unit" and len(rest) > 1):
-        raise BadLine
     if word in ("told", "accepted", "retrieve") and not rest:
         return word, None
-    if word == "units" and len(rest) == 2:
-        return "lines", times(rest[0]), framed(octets_in(rest[1]))
+    if word == "units" and len(rest) > 1:
+        return "lines", times(rest[0]), framed(octets_in(rest[1]) if len(rest) == 2 else octets_of_words(rest[1:]))
     if word == "unit" and len(rest) > 1:
         return "line", framed(octets_of_words(rest))
     if len(rest) != 1:
@@ -323,7 +321,7 @@ def command(words):
         return word, rest[0]
     if word == "command" and rest[0] in COMMANDS:
         return word, COMMANDS[rest[0]]
-    if word == "command" and ALL_WORDS and rest[0] in MORE:
+    if word == "command" and ALL_NAMES and rest[0] in MORE:
         return word, MORE[rest[0]]
     if word == "unit":
         return "line", framed(octets_in(rest[0]))
@@ -384,7 +382,7 @@ def retrieved(terminal, behind):
     sender.acknowledged = len(sender.all)
     sender.sent = sender.again = sender.turn = sender.acknowledged
     sender.forced = False
-    if out:
+    if out and ALL_NAMES:
         terminal.offer("TXC", "AckSeen", False)
     return handed
 
@@ -451,7 +449,7 @@ def limits_of(words):
     """The limits N1 and N2 that the first line of a terminal script says, if it is one."""
     if words in (["terminal", "basic"], ["terminal", "cyclic"]):
         return []
-    if not ALL_WORDS or words[:2] != ["terminal", "cyclic"] or len(words) != 4:
+    if not ALL_NAMES or words[:2] != ["terminal", "cyclic"] or len(words) != 4:
         return None
     try:
         messages, octets = map(number, words[2:])

@@ -3,7 +3,7 @@ ghost use Rattle.std.specs.Prelude.{◌≡◌, ◌⊎◌};
 
 use crate::pictures::{Picture, draw_resolved};
 use draw_text::Block;
-use mtp2_text::{LexFault, LoadFault, MONITORS, STANDARD, load};
+use mtp2_text::{LexFault, LoadFault, MONITORS, Q703, STANDARD, load};
 use plain_text::{MOST_BYTES, TextRead, line_at_limit, read_text};
 use script_check::{FAILED, SetFault, SetWord, write_refusal};
 use sdl_lex::tokens;
@@ -80,6 +80,7 @@ pub fn draw<R: Read + Drop, W: Write>(
 {
     match set {
         SetWord::Standard => draw_from_text(alloc, STANDARD, picture, writer),
+        SetWord::Q703 => draw_from_text(alloc, Q703, picture, writer),
         SetWord::Monitors => draw_from_text(alloc, MONITORS, picture, writer),
         SetWord::Text(mut reader) => match read_text(alloc, &mut reader) {
             Ok(read) => draw_read(alloc, &read, picture, writer),

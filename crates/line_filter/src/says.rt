@@ -62,6 +62,10 @@ fn is_report(word: &str) -> bool
         || word == "message"
         || word == "state"
         || word == "value"
+        || word == "cleared"
+        || word == "told"
+        || word == "accepted"
+        || word == "retrieve"
         || word == "refused"
         || word == "lost"
 }

@@ -1,5 +1,5 @@
 -- What a signalling link terminal does on a line.
-use Rattle.std.specs.Prelude.{◌≡◌, ℕ, List, [], ◌∷◌, Option, None, Some, option_map}
+use Rattle.std.specs.Prelude.{◌≡◌, ℕ, true, List, [], ◌∷◌, Option, None, Some, option_map}
 use Rattle.su_octets.specs.declared.units.Unit as units
 use Rattle.script_lines.specs.Words.{words_of}
 use Rattle.actor_machine.specs.declared.event.Event.TheVariants.{Advance}
@@ -9,10 +9,11 @@ use Rattle.link_term.specs.Term.{Term, with_processes, term_with_transceiver}
 use Rattle.link_term.specs.Hearing.{Heard}
 use Rattle.script_links.specs.TermCommands.{PlainTermCommand}
 use Rattle.script_terminal.specs.TermAnswers.{next_of, behind_next, Answers}
+use Rattle.script_terminal.specs.Told.{report_text}
 use Rattle.line_filter.specs.Acts.{Act, asked, heard, passed, reported as told, obeyed}
 use Rattle.line_filter.specs.declared.terminal.Answer.{Answer}
 use Rattle.line_play.specs.Commands.{is_question, line_command_of}
-use Rattle.line_play.specs.Told.{report_text, IsAnswerOf, IsBadLine}
+use Rattle.line_play.specs.Told.{IsAnswerOf, IsBadLine}
 
 -- it was asked for its next unit
 pub record Gives (t : Term) (unit : Option units.Unit) (u : Term) : Type 0 where
@@ -37,7 +38,7 @@ pub record Tells (t : Term) (text : Option (List ℕ)) (u : Term) : Type 0 where
 pub record ObeysOne (command : PlainTermCommand) (t : Term) (order : List ℕ) (answer : Answer)
     (u : Term) : Type 0 where
   pub line : List ℕ
-  pub answers : Answers command t line u
+  pub answers : Answers true command t line u
   pub answer_is : IsAnswerOf (is_question command) order line answer
 
 -- what reads as no order is refused, and nothing changes

@@ -1,9 +1,9 @@
 //! What an order on a line says.
-ghost use Rattle.std.specs.Prelude.{◌≡◌, IfOk, option_map};
+ghost use Rattle.std.specs.Prelude.{◌≡◌, ◌∷◌, [], IfOk, option_map, option_and_then};
 ghost use Rattle.script_lines.specs.Lines.{texts};
 ghost use Rattle.script_links.specs.Orders.{order_of};
-ghost use Rattle.script_links.specs.TermCommands.{order, plain_term_command};
-ghost use Rattle.line_play.specs.Commands.{is_on_line, is_question, line_command_of};
+ghost use Rattle.script_links.specs.TermCommands.{plain_term_command, term_command_of};
+ghost use Rattle.line_play.specs.Commands.{is_on_line, is_question, where_on_line, by_order, line_command_of};
 
 use script_links::{TermCommand, order_in, term_command_in};
 use std::alloc::{AllocError, Global};
@@ -15,9 +15,14 @@ fn is_on_line(command: &TermCommand<'_>) -> bool
     match command {
         TermCommand::Order(_)
         | TermCommand::Msu(_)
+        | TermCommand::Told
+        | TermCommand::Accepted
+        | TermCommand::Retrieve(_)
         | TermCommand::State(_)
         | TermCommand::Value(_, _) => true,
         TermCommand::Unit(_)
+        | TermCommand::Units(_, _)
+        | TermCommand::Errors(_)
         | TermCommand::Line(_)
         | TermCommand::Out(_)
         | TermCommand::Tick(_)
@@ -25,15 +30,21 @@ fn is_on_line(command: &TermCommand<'_>) -> bool
     }
 }
 
-/// Whether a command asks for something, and changes nothing.
+/// Whether what a command is answered says more than that it was obeyed.
 pub fn is_question(command: &TermCommand<'_>) -> bool
     ensures { result ≡ is_question (plain_term_command command.now) }
 {
     match command {
-        TermCommand::State(_) | TermCommand::Value(_, _) => true,
+        TermCommand::Told
+        | TermCommand::Accepted
+        | TermCommand::Retrieve(_)
+        | TermCommand::State(_)
+        | TermCommand::Value(_, _) => true,
         TermCommand::Order(_)
         | TermCommand::Msu(_)
         | TermCommand::Unit(_)
+        | TermCommand::Units(_, _)
+        | TermCommand::Errors(_)
         | TermCommand::Line(_)
         | TermCommand::Out(_)
         | TermCommand::Tick(_)
@@ -41,13 +52,27 @@ pub fn is_question(command: &TermCommand<'_>) -> bool
     }
 }
 
-/// What a word tells a terminal.
-fn word_command<'a>(word: &str) -> Option<TermCommand<'a>>
-    ensures { option_map plain_term_command result ≡ option_map order (order_of word.now) }
+/// The command that the words read as, where it may stand on a line.
+fn command_on_line<'a>(
+    alloc: Global,
+    words: &[&'a str],
+) -> Result<Option<TermCommand<'a>>, AllocError>
+    ensures { IfOk result (λ r. option_map plain_term_command r ≡ option_and_then where_on_line (term_command_of (texts words.now))) }
+{
+    match term_command_in(alloc, words)? {
+        Some(command) if is_on_line(&command) => Ok(Some(command)),
+        _ => Ok(None),
+    }
+}
+
+/// What a word that stands alone tells a terminal.
+fn word_command<'a>(alloc: Global, word: &'a str) -> Result<Option<TermCommand<'a>>, AllocError>
+    ensures { IfOk result (λ r. option_map plain_term_command r
+        ≡ by_order (order_of word.now) (option_and_then where_on_line (term_command_of (word.now ∷ [])))) }
 {
     match order_in(word) {
-        Some(order) => Some(TermCommand::Order(order)),
-        None => None,
+        Some(order) => Ok(Some(TermCommand::Order(order))),
+        None => command_on_line(alloc, &[word]),
     }
 }
 
@@ -61,10 +86,7 @@ pub fn line_command<'a>(
 {
     match words {
         [] => Ok(None),
-        [word] => Ok(word_command(word)),
-        [_, _, ..] => match term_command_in(alloc, words)? {
-            Some(command) if is_on_line(&command) => Ok(Some(command)),
-            _ => Ok(None),
-        },
+        [word] => word_command(alloc, word),
+        [_, _, ..] => command_on_line(alloc, words),
     }
 }

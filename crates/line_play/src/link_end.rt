@@ -7,12 +7,12 @@ ghost use Rattle.line_play.specs.Commands.{line_command_of};
 ghost use Rattle.line_play.specs.LinkActs.{link_acts, Passes, Tells, ObeysOne, ObeysBy};
 
 use crate::commands::{is_question, line_command};
-use crate::texts::{answer_of, bad_line, report_text};
+use crate::texts::{answer_of, bad_line};
 use line_filter::{Answer, LineTerminal};
 use link_term::Terminal;
 use script_lines::words_in;
 use script_links::TermCommand;
-use script_terminal::answer;
+use script_terminal::{answer, report_text};
 use std::alloc::Global;
 use std::io::{self, ErrorKind};
 use su_octets::Unit;
@@ -68,7 +68,7 @@ fn obey_command(
 ) -> io::Result<Answer>
     ensures { IfOk result (λ a. ObeysOne (plain_term_command command.now) terminal.old order.now a terminal.new) }
 {
-    let line = answer(alloc, terminal, command)?;
+    let line = answer(alloc, terminal, command, true)?;
     answer_of(alloc, is_question(command), order, &line)
 }
 

@@ -2,7 +2,7 @@
 use Rattle.std.proofs.Common.{◌≡◌, ℕ, Bool, inl, inr, List, Option, None, Some, rules}
 use Rattle.script_check.specs.Checked.{given, IsGiven, PrintsCosts, PrintsRefusal}
 use Rattle.script_check.specs.declared.sets.SetWord.{SetWord}
-use Rattle.script_check.specs.declared.sets.SetWord.TheVariants.{Standard as standard_set, Monitors as monitors_set, Text}
+use Rattle.script_check.specs.declared.sets.SetWord.TheVariants.{Standard as standard_set, Q703 as q703_set, Monitors as monitors_set, Text}
 use Rattle.script_play.specs.Played.{IsOnSet, IsPlayed, IsPlayedInPart, IsNotRun, IsRefused, set_refused, script_refused}
 use Rattle.pool_soak.specs.Findings.{IsSoaked, IsSoakedInVain, IsTurnedDown}
 use Rattle.line_filter.specs.Filters.{Line}
@@ -12,7 +12,7 @@ use Rattle.mtp2_words.specs.declared.ends.LineEnd.{LineEnd}
 use Rattle.mtp2_play.specs.Printed.{IsSpoken}
 use Rattle.mtp2_play.specs.Sets.{own_set_of, own_text_of}
 use Rattle.mtp2_words.specs.declared.words.Named.{Named}
-use Rattle.mtp2_words.specs.declared.words.Named.TheVariants.{Standard, Monitors, Stdin, File}
+use Rattle.mtp2_words.specs.declared.words.Named.TheVariants.{Standard, Q703, Monitors, Stdin, File}
 
 some_bytes : (known : Option (List ℕ)) (P : List ℕ → Type 0) → IsGiven known P → IsGiven None P
 some_bytes known P g = record { bytes = g.bytes; are_known = tt; holds = g.holds }
@@ -43,9 +43,15 @@ spoken known end status old new s = record {
 pub spoken_over_own : {R : Type 0} (remaining : R → Option (List ℕ)) (set : Named) (own : SetWord R) (end : LineEnd) (status : ℕ) (old new : Line)
     → own_set_of set ≡ Some own → IsSpoken (given remaining own) end status old new → IsSpoken (own_text_of set) end status old new
 spoken_over_own remaining Standard standard_set end status old new is s = s
+spoken_over_own remaining Standard q703_set end status old new is s = search (rules, is)
 spoken_over_own remaining Standard monitors_set end status old new is s = search (rules, is)
 spoken_over_own remaining Standard (Text text) end status old new is s = search (rules, is)
+spoken_over_own remaining Q703 standard_set end status old new is s = search (rules, is)
+spoken_over_own remaining Q703 q703_set end status old new is s = s
+spoken_over_own remaining Q703 monitors_set end status old new is s = search (rules, is)
+spoken_over_own remaining Q703 (Text text) end status old new is s = search (rules, is)
 spoken_over_own remaining Monitors standard_set end status old new is s = search (rules, is)
+spoken_over_own remaining Monitors q703_set end status old new is s = search (rules, is)
 spoken_over_own remaining Monitors monitors_set end status old new is s = s
 spoken_over_own remaining Monitors (Text text) end status old new is s = search (rules, is)
 spoken_over_own remaining Stdin own end status old new is s = search (rules, is)

@@ -14,6 +14,7 @@ pub fn own_set<'a>(set: &Named<'_>) -> Option<SetWord<&'a [u8]>>
 {
     match set {
         Named::Standard => Some(SetWord::Standard),
+        Named::Q703 => Some(SetWord::Q703),
         Named::Monitors => Some(SetWord::Monitors),
         Named::Stdin => None,
         Named::File(_) => None,
@@ -26,6 +27,7 @@ pub fn set_word<'a>(set: &Named<'a>) -> &'a str
 {
     match set {
         Named::Standard => "standard",
+        Named::Q703 => "q703",
         Named::Monitors => "monitors",
         Named::Stdin => "stdin",
         Named::File(path) => path,

@@ -3,7 +3,7 @@ ghost use Rattle.std.specs.Prelude.{◌≡◌, ◌⊎◌};
 ghost use Rattle.std.specs.Io.KnownBytes.{Appends};
 ghost use Rattle.mtp2_play.specs.Printed.{IsPrinted};
 
-use mtp2_text::{MONITORS, STANDARD};
+use mtp2_text::{MONITORS, Q703, STANDARD};
 use mtp2_words::Named;
 use script_check::{FAILED, HELD};
 use std::io::Write;
@@ -25,6 +25,7 @@ pub fn print_own<W: Write>(set: &Named<'_>, writer: &mut W) -> u8
 {
     match set {
         Named::Standard => print_text(STANDARD, writer),
+        Named::Q703 => print_text(Q703, writer),
         Named::Monitors => print_text(MONITORS, writer),
         Named::Stdin => FAILED,
         Named::File(_) => FAILED,

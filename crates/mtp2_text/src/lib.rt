@@ -9,9 +9,11 @@ ghost use Rattle.turn_verify.specs.Meant.{IsSetOf};
 ghost use Rattle.turn_verify.specs.Loaded.{IsLoaded, IsRead, IsSoundText, Gives, IsRefused};
 
 mod monitors_text;
+mod q703_text;
 mod standard_text;
 
 pub use monitors_text::MONITORS;
+pub use q703_text::Q703;
 pub use standard_text::STANDARD;
 use std::alloc::Global;
 pub use turn_verify::{LexFault, LoadFault, Verified, load};
@@ -55,4 +57,19 @@ pub fn monitors(alloc: Global) -> Result<Verified, LoadFault>
     ensures refused { IfErr result (λ e. IsRefused MONITORS.now e) }
 {
     set_of(alloc, MONITORS)
+}
+
+/// The set of the text [`Q703`].
+///
+/// # Errors
+///
+/// What `load` answers for the text. It is accepted, as the table of texts shows, so [`LoadFault::NoMemory`] alone comes.
+pub fn q703(alloc: Global) -> Result<Verified, LoadFault>
+    ensures utf8 { IsUtf8 Q703.now }
+    ensures accepted { IfOk result (λ v. IsLoaded Q703.now v) }
+    ensures exact { (ts : List lexeme.Token) (b : PlainBlock) → IsSoundText Q703.now ts b → Gives result (MatchesBlock b) }
+    ensures every { (ts : List lexeme.Token) (b : PlainBlock) → IsRead Q703.now ts b → IfOk result (IsSetOf b) }
+    ensures refused { IfErr result (λ e. IsRefused Q703.now e) }
+{
+    set_of(alloc, Q703)
 }

@@ -5,7 +5,7 @@ use Rattle.std.specs.Int.{is_in_range}
 use Rattle.plain_limits.specs.Limits.{LEAST_WORKERS, MOST_WORKERS}
 use Rattle.script_lines.specs.Numbers.{count_of}
 use Rattle.mtp2_words.specs.declared.words.Named.{Named}
-use Rattle.mtp2_words.specs.declared.words.Named.TheVariants.{Standard, Monitors, Stdin, File}
+use Rattle.mtp2_words.specs.declared.words.Named.TheVariants.{Standard, Q703, Monitors, Stdin, File}
 use Rattle.mtp2_words.specs.declared.words.Source.{Source}
 use Rattle.mtp2_words.specs.declared.words.Source.TheVariants.{Stdin as stdin, File as script_file}
 use Rattle.mtp2_words.specs.declared.seeing.Seeing.{Seeing}
@@ -16,12 +16,14 @@ use Rattle.mtp2_words.specs.declared.words.Request.TheVariants.{Draw, Print, Dif
 -- a file may have any name but these
 pub record IsFileName (word : List ℕ) : Type 0 where
   pub not_standard : word ≡ codes "standard" → ⊥
+  pub not_q703 : word ≡ codes "q703" → ⊥
   pub not_monitors : word ≡ codes "monitors" → ⊥
   pub not_stdin : word ≡ codes "stdin" → ⊥
 
 -- the set that a word names
 abbrev pub IsNamed : Named → List ℕ → Type 0
 IsNamed Standard word = word ≡ codes "standard"
+IsNamed Q703 word = word ≡ codes "q703"
 IsNamed Monitors word = word ≡ codes "monitors"
 IsNamed Stdin word = word ≡ codes "stdin"
 IsNamed (File path) word = (path.now ≡ word) × IsFileName word
@@ -76,6 +78,7 @@ IsSoak script_word workers_word (Diff old new) = ⊥
 -- the set of the program's own that a word names
 abbrev pub IsOwnNamed : Named → List ℕ → Type 0
 IsOwnNamed Standard word = word ≡ codes "standard"
+IsOwnNamed Q703 word = word ≡ codes "q703"
 IsOwnNamed Monitors word = word ≡ codes "monitors"
 IsOwnNamed Stdin word = ⊥
 IsOwnNamed (File path) word = ⊥
@@ -94,6 +97,7 @@ IsPrint word (Diff old new) = ⊥
 -- a word names none of them
 pub record NamesNone (word : List ℕ) : Type 0 where
   pub not_standard : word ≡ codes "standard" → ⊥
+  pub not_q703 : word ≡ codes "q703" → ⊥
   pub not_monitors : word ≡ codes "monitors" → ⊥
 
 -- what `diff` asks for by two words; standard input isn't both
@@ -105,6 +109,7 @@ pub record IsDiff (old_word new_word : List ℕ) (old new : Named) : Type 0 wher
 -- the set that a word names for a terminal on a line: standard input is the line, and no text
 abbrev pub IsTextNamed : Named → List ℕ → Type 0
 IsTextNamed Standard word = word ≡ codes "standard"
+IsTextNamed Q703 word = word ≡ codes "q703"
 IsTextNamed Monitors word = word ≡ codes "monitors"
 IsTextNamed Stdin word = ⊥
 IsTextNamed (File path) word = (path.now ≡ word) × IsFileName word

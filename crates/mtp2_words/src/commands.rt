@@ -87,7 +87,7 @@ fn check_command<'a>(alloc: Global) -> Result<Command<'a>, AllocError>
     let set = plain_word(
         alloc,
         "SET",
-        "standard, monitors, a file with the text of a set of processes, or stdin for standard input",
+        "standard, q703, monitors, a file with the text of a set of processes, or stdin for standard input",
     )
     .action(ArgAction::Append);
     bare_command(
@@ -106,7 +106,7 @@ fn play_begun<'a>(alloc: Global) -> Result<Command<'a>, AllocError>
     let set = plain_word(
         alloc,
         "SET",
-        "standard, monitors, a file with the text of a set of processes, or stdin for standard input",
+        "standard, q703, monitors, a file with the text of a set of processes, or stdin for standard input",
     );
     let script = plain_word(
         alloc,
@@ -117,7 +117,7 @@ fn play_begun<'a>(alloc: Global) -> Result<Command<'a>, AllocError>
         alloc,
         "play",
         "Runs a script on a set of processes, or on one end of a signalling link or of a set of links",
-        "First lines: ports N (1 to 64), env N (1 to 1024), journal N (16 to 65536).\nCommands: offer P SIG v.., begin P, finish P, skip P, tick N, env, rest, flood N P SIG v.., state P, value P x, expect TEXT.\nA script may begin with terminal basic or terminal cyclic: then one end of a link runs on the set, with the commands\ncommand W (power, start, stop, emergency, calm, outage, back, busy, free), unit HEX, line HEX, msu HEX, out N, tick N, state P, value P x, expect TEXT.\nWith group basic N or group cyclic N (1 to 16) one end of N links runs, with these commands of link L behind on L, but for msu send HEX, and\nfail, message HEX, retrieve, abandon, divert, rebalance, table, held, unsure.\nPrints a line for each command but on and expect, and for each unit that goes out; one that is refused prints refused CODE Name (B1 to B12, W1, W2, E1, K1 to K4), and the run goes on.\nExits with 0, or 1 after failed line N where an expect failed, 2 after refused CODE Name where the set or the script is refused\n(F1, L1 to L3, P1, P2, S1 to S11, X1; X2 NoName NAME where the set lacks a name that a terminal wants), 4 where memory, a file, a read or a write fails.",
+        "First lines: ports N (1 to 64), env N (1 to 1024), journal N (16 to 65536).\nCommands: offer P SIG v.., begin P, finish P, skip P, tick N, env, rest, flood N P SIG v.., state P, value P x, expect TEXT.\nA script may begin with terminal basic or terminal cyclic: then one end of a link runs on the set, with the commands\ncommand W (power, start, stop, emergency, calm, outage, back, busy, free), unit HEX, units N HEX, errors N, line HEX, msu HEX, out N, tick N,\ntold, accepted, retrieve, retrieve N, state P, value P x, expect TEXT. A unit may be HEX, or words as out prints them (of an MSU sio HEX sif HEX).\nWith group basic N or group cyclic N (1 to 16) one end of N links runs, with command, unit, line, out, tick, state, value and expect of link L behind on L, and\nsend HEX, fail, message HEX, retrieve, abandon, divert, rebalance, table, held, unsure.\nPrints a line for each command but on and expect, and for each unit that goes out; one that is refused prints refused CODE Name (B1 to B12, W1, W2, E1, K1 to K4), and the run goes on.\nExits with 0, or 1 after failed line N where an expect failed, 2 after refused CODE Name where the set or the script is refused\n(F1, L1 to L3, P1, P2, S1 to S11, X1; X2 NoName NAME where the set lacks a name that a terminal wants), 4 where memory, a file, a read or a write fails.",
     )
     .arg(set)?
     .arg(script)
@@ -222,13 +222,13 @@ fn line_begun<'a>(alloc: Global) -> Result<Command<'a>, AllocError>
         alloc,
         "text",
         "TEXT",
-        "standard (as where nothing is said), or a file with the text of a set of processes",
+        "standard (as where nothing is said), q703, or a file with the text of a set of processes",
     );
     bare_command(
         alloc,
         "line",
         "Puts one end of a signalling link on a channel of 64 kbit/s: line octets come on standard input and go to standard output",
-        "Writes one octet for each that it reads; 8 octets are a millisecond, and no clock is read. Orders: power, start, stop, emergency, calm,\noutage, back, busy, free, msu HEX, at MS (what follows waits until that millisecond), state P, value P x, quit; # begins a comment,\nand a report MS ok ORDER is obeyed as at MS and that order. Reports, each behind its millisecond: in service, down R, far out,\nfar back, message HEX, state P S, value P x V, ok ORDER, refused CODE Name, lost N (what a FIFO had no room for).\nUnits that a capture's FIFO had no room for are told at the end on standard error: MS lost N capture.\nExits with 0 at the end of input or after quit, 2 after refused CODE Name on standard error where the text is refused, 4 where memory,\na file, a read or a write fails.",
+        "Writes one octet for each that it reads; 8 octets are a millisecond, and no clock is read. Orders: power, start, stop, emergency, calm,\noutage, back, busy, free, msu HEX, told, accepted, retrieve, retrieve N, at MS (what follows waits until that millisecond), state P, value P x, quit; # begins a comment,\nand a report MS ok ORDER is obeyed as at MS and that order. Reports, each behind its millisecond: in service, down R, far out,\nfar back, message HEX, state P S, value P x V, told TEXT, accepted ok N, retrieve ok N, ok ORDER, refused CODE Name, lost N (what a FIFO had no room for).\nUnits that a capture's FIFO had no room for are told at the end on standard error: MS lost N capture.\nExits with 0 at the end of input or after quit, 2 after refused CODE Name on standard error where the text is refused, 4 where memory,\na file, a read or a write fails.",
     )
     .arg(mode)?
     .arg(text)
@@ -287,7 +287,7 @@ fn draw_command<'a>(alloc: Global) -> Result<Command<'a>, AllocError>
     let set = plain_word(
         alloc,
         "SET",
-        "standard, monitors, a file with the text of a set of processes, or stdin for standard input",
+        "standard, q703, monitors, a file with the text of a set of processes, or stdin for standard input",
     );
     let process = optional_word(alloc, "PROCESS", "The name of one of its processes");
     let states = flag_word(
@@ -310,7 +310,7 @@ fn draw_command<'a>(alloc: Global) -> Result<Command<'a>, AllocError>
 fn text_command<'a>(alloc: Global) -> Result<Command<'a>, AllocError>
     ensures { IfOk result (IsCommand text_command) }
 {
-    let set = plain_word(alloc, "SET", "standard or monitors");
+    let set = plain_word(alloc, "SET", "standard, q703 or monitors");
     bare_command(
         alloc,
         "text",

@@ -20,6 +20,8 @@ use std::alloc::{AllocError, Global};
 pub enum Named<'a> {
     /// `standard`: a set of the program's own.
     Standard,
+    /// `q703`: a set of the program's own.
+    Q703,
     /// `monitors`: a set of the program's own.
     Monitors,
     /// `stdin`: standard input.
@@ -87,6 +89,7 @@ fn set_named(word: &str) -> Named<'_>
 {
     match word {
         "standard" => Named::Standard,
+        "q703" => Named::Q703,
         "monitors" => Named::Monitors,
         "stdin" => Named::Stdin,
         path => Named::File(path),
@@ -156,6 +159,7 @@ fn text_named(word: &str) -> Option<Named<'_>>
 {
     match word {
         "standard" => Some(Named::Standard),
+        "q703" => Some(Named::Q703),
         "monitors" => Some(Named::Monitors),
         "stdin" => None,
         path => Some(Named::File(path)),
@@ -303,6 +307,7 @@ fn printed<'a>(word: &'a str) -> Option<Request<'a>>
         "standard" => Some(Request::Print {
             set: Named::Standard,
         }),
+        "q703" => Some(Request::Print { set: Named::Q703 }),
         "monitors" => Some(Request::Print {
             set: Named::Monitors,
         }),
@@ -405,7 +410,7 @@ fn complaint_of(matches: &ArgMatches<'_>) -> &'static str {
             "MODE is basic or cyclic, --bits low or high, --ahead a number up to 8000; standard input is the line, so it can't be --text"
         }
         "draw" => "--states is for a PROCESS",
-        "text" => "SET is standard or monitors",
+        "text" => "SET is standard, q703 or monitors",
         "diff" => "standard input can be OLD or NEW, not both",
         _ => "no such command",
     }

@@ -3,6 +3,7 @@ use Rattle.std.specs.Prelude.{◌≡◌, ◌⊎◌, ℕ, ◌+◌, ◌<◌, ◌�
 use Rattle.std.specs.Prelude.{Option, Some, IfSome, IsUtf8, codes}
 use Rattle.std.specs.Io.KnownBytes.{Appends}
 use Rattle.script_point.specs.mtp2_text_types.standard_text.TheConstants.{STANDARD}
+use Rattle.script_point.specs.mtp2_text_types.q703_text.TheConstants.{Q703 as Q703_TEXT}
 use Rattle.script_point.specs.mtp2_text_types.monitors_text.TheConstants.{MONITORS}
 use Rattle.plain_text.specs.Reading.{LONGEST}
 use Rattle.turn_code.specs.declared.draft.Draft.{Draft}
@@ -15,18 +16,20 @@ use Rattle.script_check.specs.declared.sets.Refusal.{Refusal}
 use Rattle.script_check.specs.declared.sets.SetFault.{SetFault}
 use Rattle.script_check.specs.declared.sets.SetFault.TheVariants.{NotRead, NotText, Load}
 use Rattle.script_check.specs.declared.sets.SetWord.{SetWord}
-use Rattle.script_check.specs.declared.sets.SetWord.TheVariants.{Standard, Monitors, Text}
+use Rattle.script_check.specs.declared.sets.SetWord.TheVariants.{Standard, Q703, Monitors, Text}
 use Rattle.script_check.specs.Printed.{refusal_line, set_lines}
 
 -- the bytes of a set's text, where they are known
 abbrev pub given : {R : Type 0} → (R → Option (List ℕ)) → SetWord R → Option (List ℕ)
 given remaining Standard = Some STANDARD.now
+given remaining Q703 = Some Q703_TEXT.now
 given remaining Monitors = Some MONITORS.now
 given remaining (Text reader) = remaining reader
 
 -- the set is one that the caller gives as a text, and no set of the program's own
 abbrev pub IsText : {R : Type 0} → SetWord R → Type 0
 IsText Standard = ⊥
+IsText Q703 = ⊥
 IsText Monitors = ⊥
 IsText (Text reader) = Unit {0}
 

@@ -7,8 +7,8 @@ ghost use Rattle.script_check.specs.declared.sets.SetFault.TheVariants.{NotRead}
 
 use plain_text::{MOST_BYTES, TextRead, line_at_limit, read_text};
 use script_point::{
-    LexFault, LoadFault, MONITORS, STANDARD, Verified, load, monitors, point_head, point_nowhere,
-    point_out, standard,
+    LexFault, LoadFault, MONITORS, Q703, STANDARD, Verified, load, monitors, point_head,
+    point_nowhere, point_out, q703, standard,
 };
 use std::alloc::{AllocError, Global};
 use std::io::Read;
@@ -20,6 +20,8 @@ use thiserror::Error;
 pub enum SetWord<R> {
     /// `standard`: the signalling link terminal, a text of the program's own.
     Standard,
+    /// `q703`: the signalling link terminal by the letter of Q.703, a text of the program's own.
+    Q703,
     /// `monitors`: the two error rate monitors, a text of the program's own.
     Monitors,
     /// The set of the text that a reader gives.
@@ -119,6 +121,18 @@ fn standard_set(alloc: Global) -> Result<Verified, SetFault>
     ensures own { IfErr result (λ e. e ≡ NotRead → ⊥) }
 {
     match standard(alloc) {
+        Ok(set) => Ok(set),
+        Err(fault) => Err(SetFault::Load(fault)),
+    }
+}
+
+/// The set of `q703`.
+fn q703_set(alloc: Global) -> Result<Verified, SetFault>
+    ensures set { IfOk result (IsSetOf Q703.now) }
+    ensures fault { IfErr result (λ e. IsRefusal e → IsRefusalOf Q703.now e) }
+    ensures own { IfErr result (λ e. e ≡ NotRead → ⊥) }
+{
+    match q703(alloc) {
         Ok(set) => Ok(set),
         Err(fault) => Err(SetFault::Load(fault)),
     }
@@ -227,6 +241,7 @@ pub fn find_set<R: Read + Drop>(alloc: Global, set: SetWord<R>) -> Result<Verifi
 {
     match set {
         SetWord::Standard => pointed_set(alloc, STANDARD.as_bytes(), standard_set(alloc)),
+        SetWord::Q703 => pointed_set(alloc, Q703.as_bytes(), q703_set(alloc)),
         SetWord::Monitors => pointed_set(alloc, MONITORS.as_bytes(), monitors_set(alloc)),
         SetWord::Text(mut reader) => read_set(alloc, &mut reader),
     }

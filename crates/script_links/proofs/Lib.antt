@@ -1,2 +1,3 @@
 mod GroupReadings
 mod Readings
+mod Spelled

@@ -65,15 +65,20 @@ way_of word =
     if bytes_eq word (codes "yes") then Some true
     else (if bytes_eq word (codes "no") then Some false else None)
 
--- ---- those that it has in common with a terminal: all but `msu`
+-- ---- those that it has in common with a terminal
 
 abbrev pub shared_of : PlainTermCommand → Option PlainGroupCommand
 shared_of (terminal.order o) = Some (order o)
 shared_of (terminal.unit octets) = Some (unit octets)
+shared_of (terminal.units n octets) = None
+shared_of (terminal.errors n) = None
 shared_of (terminal.line octets) = Some (line octets)
 shared_of (terminal.msu octets) = None
 shared_of (terminal.out n) = Some (out n)
 shared_of (terminal.ticks n) = Some (ticks n)
+shared_of terminal.told = None
+shared_of terminal.accepted = None
+shared_of (terminal.retrieving behind) = None
 shared_of (terminal.state process) = Some (state process)
 shared_of (terminal.shown process variable) = Some (shown process variable)
 shared_of (terminal.expected text) = Some (expected text)

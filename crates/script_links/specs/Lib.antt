@@ -5,3 +5,4 @@ pub mod Octets
 pub mod Orders
 pub mod TermCommands
 pub mod TermScripts
+pub mod UnitWords

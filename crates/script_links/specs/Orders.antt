@@ -6,6 +6,7 @@ use Rattle.resend_store.specs.declared.messages.Mode.TheVariants.{Basic, Cyclic}
 use Rattle.script_links.specs.declared.orders.Order.{Order}
 use Rattle.script_links.specs.declared.orders.Order.TheVariants.{Power, Start, Stop, Emergency}
 use Rattle.script_links.specs.declared.orders.Order.TheVariants.{Calm, Outage, Back, Busy, Free}
+use Rattle.script_links.specs.declared.orders.Order.TheVariants.{Flush, Continue, Overload}
 
 abbrev pub order_text : Order → List ℕ
 order_text Power = codes "power"
@@ -17,6 +18,9 @@ order_text Outage = codes "outage"
 order_text Back = codes "back"
 order_text Busy = codes "busy"
 order_text Free = codes "free"
+order_text Flush = codes "flush"
+order_text Continue = codes "continue"
+order_text Overload = codes "overload"
 
 -- the first of these that has the text
 abbrev pub order_among : List ℕ → List Order → Option Order
@@ -26,7 +30,9 @@ order_among word (order ∷ more) =
 
 unfoldable pub order_of : List ℕ → Option Order
 order_of word =
-    order_among word (Power ∷ Start ∷ Stop ∷ Emergency ∷ Calm ∷ Outage ∷ Back ∷ Busy ∷ Free ∷ [])
+    order_among word
+    (Power ∷ Start ∷ Stop ∷ Emergency ∷ Calm ∷ Outage ∷ Back ∷ Busy ∷ Free ∷ Flush ∷ Continue
+    ∷ Overload ∷ [])
 
 -- the kinds of error correction (Q.703, 1.4)
 abbrev pub mode_named : List ℕ → Option Mode

@@ -1,7 +1,7 @@
 -- What a script reads as: one for a terminal where its first line says so, else one for a book.
 use Rattle.std.specs.Prelude.{ℕ, ◌≡◌, Bool, nat_lt, if◌then◌else◌, List, [], ◌∷◌, length, map}
 use Rattle.std.specs.Prelude.{Option, None, Some, option_map, is_none, find, Result, Ok, Err}
-use Rattle.std.specs.List.{filter_map}
+use Rattle.std.specs.List.{filter_map, list_any}
 use Rattle.plain_text.specs.Reading.{LONGEST}
 use Rattle.resend_store.specs.declared.messages.Mode.{Mode}
 use Rattle.script_lines.specs.Lines.{PlainLine, lines_of, line_at}
@@ -10,6 +10,7 @@ use Rattle.script_lines.specs.declared.script.ScriptFault.{ScriptFault}
 use Rattle.script_lines.specs.declared.script.ScriptFault.TheVariants.{BadLine, NoMemory}
 use Rattle.script_links.specs.Orders.{mode_of}
 use Rattle.script_links.specs.TermCommands.{PlainTermCommand, plain_term_command, term_command_of}
+use Rattle.script_links.specs.TermCommands.{is_told as asks_told_by}
 use Rattle.script_links.specs.declared.script.TermSaid.{TermSaid}
 use Rattle.script_links.specs.declared.script.TermScript.{TermScript}
 use Rattle.script_links.specs.declared.script.AnyScript.{AnyScript}
@@ -30,6 +31,14 @@ abbrev pub term_said_of : PlainLine → Option PlainTermSaid
 term_said_of line =
     option_map (λ command. record { line = line.number; command = command })
     (term_command_of line.words)
+
+-- whether a command asks what the terminal tells
+abbrev pub is_told : PlainTermSaid → Bool
+is_told said = asks_told_by said.command
+
+-- whether one of them does
+abbrev pub asks_told : List PlainTermSaid → Bool
+asks_told commands = list_any is_told commands
 
 pub record PlainTermScript : Type 0 where
   pub mode : Mode

@@ -1,25 +1,34 @@
 //! The commands of a terminal's script.
-ghost use Rattle.std.specs.Prelude.{◌≡◌, IfOk, option_map, option_and_then};
+ghost use Rattle.std.specs.Prelude.{◌≡◌, ◌∷◌, [], Some, IfOk, option_map, option_and_then};
 ghost use Rattle.script_lines.specs.Lines.{texts};
 ghost use Rattle.script_lines.specs.Commands.{command_of};
 ghost use Rattle.script_lines.specs.Numbers.{count_of};
 ghost use Rattle.script_links.specs.Octets.{octets_of};
 ghost use Rattle.script_links.specs.Orders.{order_of};
-ghost use Rattle.script_links.specs.TermCommands.{plain_term_command, unit_by, msu_by, shared_call, shared_of, by_term_verb, term_command_of, order, line, out};
+ghost use Rattle.script_links.specs.TermCommands.{plain_term_command, unit_by, units_by, units_of, unit_octets_of, words_of, msu_by, times_of, asked_of, shared_call, shared_of, by_term_verb, term_command_of, order, line, out, errors, retrieving};
+ghost use Rattle.script_links.specs.UnitWords.{number_to, unit_of_words};
 
 use crate::octets::{is_message, is_unit, octets_in};
 use crate::orders::{Order, order_in};
+use crate::unit_words::{number_in, unit_in_words};
 use crate::verbs::{TermVerb, term_verb_in};
 use script_lines::{Call, Command, command_in, count};
 use std::alloc::{AllocError, Global};
+
+/// The most times that a line of a script says a signal unit.
+const MOST_TIMES: u32 = 1_000_000;
 
 /// A command of a terminal's script. Processes and variables are words: what they name is for the run to say.
 #[derive(Drop)]
 pub enum TermCommand<'a> {
     /// `command W`: the terminal is told something.
     Order(Order),
-    /// `unit HEX`: a signal unit comes in. Its octets without the check octets, 3 to 276.
+    /// `unit HEX`, or the unit in words: a signal unit comes in. Its octets without the check octets, 3 to 276.
     Unit(Vec<u8>),
+    /// `units N HEX`, or the unit in words: so many times this signal unit, 1 to 1,000,000.
+    Units(u32, Vec<u8>),
+    /// `errors N`: so many signal units with errors, 1 to 1,000,000.
+    Errors(u32),
     /// `line HEX`: octets come in as they stand on the line.
     Line(Vec<u8>),
     /// `msu HEX`: a message is to go out. Its service information octet and its signalling information field, 3 to 273 octets.
@@ -28,6 +37,12 @@ pub enum TermCommand<'a> {
     Out(u32),
     /// `tick N`: the clock goes on by N.
     Tick(u32),
+    /// `told`: what the terminal tells next is printed.
+    Told,
+    /// `accepted`: the number of the message that was accepted last is printed.
+    Accepted,
+    /// `retrieve N`, `retrieve`: the messages behind this number, or those that never were sent, are handed out. The number is 127 at most.
+    Retrieve(Option<u8>),
     /// `state P`: the state of P is printed.
     State(&'a str),
     /// `value P x`: the value of variable x of P is printed.
@@ -53,6 +68,98 @@ fn unit_in<'a>(alloc: Global, word: &str) -> Result<Option<TermCommand<'a>>, All
     match octets_in(alloc, word)? {
         Some(octets) if is_unit(&octets) => Ok(Some(TermCommand::Unit(octets))),
         _ => Ok(None),
+    }
+}
+
+/// How many times, by a word: 1 to 1,000,000.
+fn times_in(word: &str) -> Option<u32>
+    ensures { result ≡ times_of word.now }
+{
+    match count(word) {
+        Some(times) if 1 <= times && times <= MOST_TIMES => Some(times),
+        _ => None,
+    }
+}
+
+/// The octets of a unit that are digits in one word, or words.
+fn unit_octets_in(alloc: Global, words: &[&str]) -> Result<Option<Vec<u8>>, AllocError>
+    ensures { IfOk result (λ r. option_map (λ v. v.items) r ≡ unit_octets_of (texts words.now)) }
+{
+    match words {
+        [word] => octets_in(alloc, word),
+        _ => unit_in_words(alloc, words),
+    }
+}
+
+/// `unit`, and the unit in words.
+fn unit_said<'a>(alloc: Global, words: &[&str]) -> Result<Option<TermCommand<'a>>, AllocError>
+    ensures { IfOk result (λ r. option_map plain_term_command r ≡ unit_by (unit_of_words (texts words.now))) }
+{
+    match unit_in_words(alloc, words)? {
+        Some(octets) if is_unit(&octets) => Ok(Some(TermCommand::Unit(octets))),
+        _ => Ok(None),
+    }
+}
+
+/// So many times a unit.
+fn units_said<'a>(
+    alloc: Global,
+    number: &str,
+    words: &[&str],
+) -> Result<Option<TermCommand<'a>>, AllocError>
+    ensures { IfOk result (λ r. option_map plain_term_command r ≡ units_by (times_of number.now) (unit_octets_of (texts words.now))) }
+{
+    let Some(times) = times_in(number) else {
+        return Ok(None);
+    };
+    match unit_octets_in(alloc, words)? {
+        Some(octets) if is_unit(&octets) => Ok(Some(TermCommand::Units(times, octets))),
+        _ => Ok(None),
+    }
+}
+
+/// `units N`, and a unit in digits or in words.
+fn units_in<'a>(alloc: Global, words: &[&str]) -> Result<Option<TermCommand<'a>>, AllocError>
+    ensures { IfOk result (λ r. option_map plain_term_command r ≡ units_of (texts words.now)) }
+{
+    match words {
+        [number, more @ ..] => units_said(alloc, number, more),
+        [] => Ok(None),
+    }
+}
+
+/// `errors N`.
+fn errors_in<'a>(word: &str) -> Option<TermCommand<'a>>
+    ensures { option_map plain_term_command result ≡ option_map errors (times_of word.now) }
+{
+    match times_in(word) {
+        Some(times) => Some(TermCommand::Errors(times)),
+        None => None,
+    }
+}
+
+/// `retrieve N`.
+fn retrieve_in<'a>(word: &str) -> Option<TermCommand<'a>>
+    ensures { option_map plain_term_command result ≡ option_map (λ n. retrieving (Some n)) (number_to 127 word.now) }
+{
+    match number_in(word, 127) {
+        Some(number) => Some(TermCommand::Retrieve(Some(number))),
+        None => None,
+    }
+}
+
+/// A word that stands alone.
+fn asked_in<'a>(word: &str) -> Option<TermCommand<'a>>
+    ensures { option_map plain_term_command result ≡ asked_of word.now }
+{
+    if word == "told" {
+        Some(TermCommand::Told)
+    } else if word == "accepted" {
+        Some(TermCommand::Accepted)
+    } else if word == "retrieve" {
+        Some(TermCommand::Retrieve(None))
+    } else {
+        None
     }
 }
 
@@ -126,6 +233,40 @@ fn command_by<'a>(
         TermVerb::Line => line_in(alloc, word),
         TermVerb::Msu => msu_in(alloc, word),
         TermVerb::Out => Ok(out_in(word)),
+        TermVerb::Errors => Ok(errors_in(word)),
+        TermVerb::Retrieve => Ok(retrieve_in(word)),
+    }
+}
+
+/// What two words read as.
+fn pair_in<'a>(
+    alloc: Global,
+    first: &'a str,
+    word: &'a str,
+) -> Result<Option<TermCommand<'a>>, AllocError>
+    ensures { IfOk result (λ r. option_map plain_term_command r ≡ term_command_of (first.now ∷ word.now ∷ [])) }
+{
+    match term_verb_in(first) {
+        Some(verb) => command_by(alloc, verb, word),
+        None => shared_in(alloc, &[first, word]),
+    }
+}
+
+/// What three words and more read as.
+fn words_in<'a>(alloc: Global, words: &[&'a str]) -> Result<Option<TermCommand<'a>>, AllocError>
+    ensures { IfOk result (λ r. option_map plain_term_command r ≡ words_of (texts words.now)) }
+{
+    match words {
+        [first, more @ ..] => {
+            if *first == "unit" {
+                unit_said(alloc, more)
+            } else if *first == "units" {
+                units_in(alloc, more)
+            } else {
+                shared_in(alloc, words)
+            }
+        }
+        [] => Ok(None),
     }
 }
 
@@ -137,10 +278,9 @@ pub fn term_command_in<'a>(
     ensures { IfOk result (λ r. option_map plain_term_command r ≡ term_command_of (texts words.now)) }
 {
     match words {
-        [first, word] => match term_verb_in(first) {
-            Some(verb) => command_by(alloc, verb, word),
-            None => shared_in(alloc, words),
-        },
-        _ => shared_in(alloc, words),
+        [] => Ok(None),
+        [word] => Ok(asked_in(word)),
+        [first, word] => pair_in(alloc, first, word),
+        [_, _, _, ..] => words_in(alloc, words),
     }
 }

@@ -118,7 +118,7 @@ fn command_by<'a>(
     }
 }
 
-/// The command of a terminal's script that the words read as, where a link set's script has it too: all but `msu`.
+/// The command of a terminal's script that the words read as, where a link set's script has it too.
 fn shared_in<'a>(alloc: Global, words: &[&'a str]) -> Result<Option<GroupCommand<'a>>, AllocError>
     ensures { IfOk result (λ r. option_map plain_group_command r ≡ option_and_then shared_of (term_command_of (texts words.now))) }
 {
@@ -129,9 +129,10 @@ fn shared_in<'a>(alloc: Global, words: &[&'a str]) -> Result<Option<GroupCommand
         TermCommand::Order(order) => Ok(Some(GroupCommand::Order(order))),
         TermCommand::Unit(octets) => Ok(Some(GroupCommand::Unit(octets))),
         TermCommand::Line(octets) => Ok(Some(GroupCommand::Line(octets))),
-        TermCommand::Msu(_) => Ok(None),
+        TermCommand::Units(_, _) | TermCommand::Errors(_) | TermCommand::Msu(_) => Ok(None),
         TermCommand::Out(units) => Ok(Some(GroupCommand::Out(units))),
         TermCommand::Tick(ticks) => Ok(Some(GroupCommand::Tick(ticks))),
+        TermCommand::Told | TermCommand::Accepted | TermCommand::Retrieve(_) => Ok(None),
         TermCommand::State(process) => Ok(Some(GroupCommand::State(process))),
         TermCommand::Value(process, variable) => Ok(Some(GroupCommand::Value(process, variable))),
         TermCommand::Expect(text) => Ok(Some(GroupCommand::Expect(text))),
@@ -160,8 +161,9 @@ pub fn group_command_in<'a>(
     ensures { IfOk result (λ r. option_map plain_group_command r ≡ group_command_of (texts words.now)) }
 {
     match words {
+        [] => Ok(None),
         [word] => Ok(own_in(word)),
         [first, word] => pair_in(alloc, first, word),
-        _ => shared_in(alloc, words),
+        [_, _, _, ..] => shared_in(alloc, words),
     }
 }

@@ -8,7 +8,9 @@ mod heads;
 mod octets;
 mod orders;
 mod play_faults;
+mod reasons;
 mod script;
+mod unit_words;
 mod verbs;
 mod words;
 

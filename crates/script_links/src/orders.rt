@@ -26,6 +26,12 @@ pub enum Order {
     Busy,
     /// `free`: it isn't any more.
     Free,
+    /// `flush`: behind an outage the buffers are to be emptied, and messages go again.
+    Flush,
+    /// `continue`: behind an outage messages go again.
+    Continue,
+    /// `overload`: level 2 is congested, and discards messages that come.
+    Overload,
 }
 
 /// What a word tells a terminal, in this case alone.
@@ -42,6 +48,9 @@ pub fn order_in(word: &str) -> Option<Order>
         "back" => Some(Order::Back),
         "busy" => Some(Order::Busy),
         "free" => Some(Order::Free),
+        "flush" => Some(Order::Flush),
+        "continue" => Some(Order::Continue),
+        "overload" => Some(Order::Overload),
         _ => None,
     }
 }

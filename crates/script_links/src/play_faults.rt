@@ -3,6 +3,8 @@
 use crate::heads::head_in;
 use crate::octets::octets_in;
 use crate::orders::{mode_in, mode_named, order_in};
+use crate::reasons::PlayFault;
+use crate::unit_words::unit_in_words;
 use crate::verbs::{TermVerb, term_verb_in};
 use crate::words::{GroupVerb, group_verb_in, group_word_in};
 use script_lines::{
@@ -10,75 +12,12 @@ use script_lines::{
     words_fault,
 };
 use std::alloc::{AllocError, Global};
-use std::fmt;
 
 /// The greatest count.
 const MOST: u32 = 2_147_483_647;
 
-/// Why the words of a line are none of a script's.
-#[derive(Clone, Copy, PartialEq, Eq, Debug)]
-pub enum PlayFault<'a> {
-    /// A reason that scripts of all kinds have.
-    Line(LineFault<'a>),
-    /// The word isn't made of pairs of hexadecimal digits.
-    NoOctets {
-        word: &'a str,
-    },
-    /// Behind the first word stand fewer octets than `least`, or more than `most`.
-    Octets {
-        word: &'a str,
-        least: usize,
-        most: usize,
-        there: usize,
-    },
-    /// The length indicator of a unit says this number, and so many octets follow it.
-    Indicator {
-        says: u8,
-        there: usize,
-    },
-    /// The word tells a terminal nothing.
-    NoOrder {
-        word: &'a str,
-    },
-    /// The word is no kind of error correction.
-    NoMode {
-        word: &'a str,
-    },
-    /// The word is neither `yes` nor `no`.
-    NoWay {
-        word: &'a str,
-    },
-}
-
-impl fmt::Display for PlayFault<'_> {
-    fn fmt<W: fmt::Write>(&self, f: &mut fmt::Formatter<W>) -> fmt::Result {
-        match self {
-            Self::Line(fault) => fmt::Display::fmt(fault, f),
-            Self::NoOctets { word } => {
-                write!(f, "'{word}' isn't made of pairs of hexadecimal digits")
-            }
-            Self::Octets {
-                word,
-                least,
-                most,
-                there,
-            } => write!(
-                f,
-                "'{word}' wants {least} to {most} octets, and has {there}"
-            ),
-            Self::Indicator { says, there } => write!(
-                f,
-                "the length indicator says {says}, and {there} octets follow it",
-            ),
-            Self::NoOrder { word } => write!(
-                f,
-                "'{word}' is none of power, start, stop, emergency, calm, outage, back, busy and free",
-            ),
-            Self::NoMode { word } => write!(f, "'{word}' is neither basic nor cyclic"),
-            Self::NoWay { word } => write!(f, "'{word}' is neither yes nor no"),
-        }
-    }
-}
+/// The most times that a line of a script says a signal unit.
+const MOST_TIMES: u32 = 1_000_000;
 
 /// A reason that scripts of all kinds have.
 fn of_line<'a>(fault: Option<LineFault<'a>>) -> Option<PlayFault<'a>> {
@@ -170,7 +109,55 @@ fn behind_term_verb<'a>(
         TermVerb::Line => octets_fault(alloc, word, next, 0, MANY),
         TermVerb::Msu => octets_fault(alloc, word, next, 3, 273),
         TermVerb::Out => Ok(of_line(number_fault(next, 0, MOST))),
+        TermVerb::Errors => Ok(of_line(number_fault(next, 1, MOST_TIMES))),
+        TermVerb::Retrieve => Ok(of_line(number_fault(next, 0, 127))),
     }
+}
+
+/// Why the words behind `units`, or behind `unit`, are none of its.
+fn said_fault<'a>(
+    alloc: Global,
+    word: &'a str,
+    unit: &[&'a str],
+) -> Result<Option<PlayFault<'a>>, AllocError> {
+    match unit {
+        [hex] => unit_fault(alloc, word, hex),
+        _ => match unit_in_words(alloc, unit)? {
+            Some(_) => Ok(None),
+            None => Ok(Some(PlayFault::NoUnit { word })),
+        },
+    }
+}
+
+/// Why the words behind `units` are none of its.
+fn units_fault<'a>(
+    alloc: Global,
+    word: &'a str,
+    more: &[&'a str],
+) -> Result<Option<PlayFault<'a>>, AllocError> {
+    let [number, _, ..] = more else {
+        return Ok(of_line(words_fault(word, more, 2, 2)));
+    };
+    match of_line(number_fault(number, 1, MOST_TIMES)) {
+        Some(fault) => Ok(Some(fault)),
+        None => said_fault(alloc, word, &more[1..]),
+    }
+}
+
+/// Why the words behind a word of a terminal's own that has more than one behind it, or none, are none of its.
+fn own_fault<'a>(
+    alloc: Global,
+    word: &'a str,
+    more: &[&'a str],
+    script: &'static str,
+) -> Result<Option<PlayFault<'a>>, AllocError> {
+    if word == "told" || word == "accepted" {
+        return Ok(of_line(words_fault(word, more, 0, 0)));
+    }
+    if word == "units" {
+        return units_fault(alloc, word, more);
+    }
+    Ok(Some(PlayFault::Line(LineFault::NoCommand { word, script })))
 }
 
 /// Why a word is neither `yes` nor `no`.
@@ -219,12 +206,24 @@ fn term_fault<'a>(
         return Ok(of_line(verb_fault(verb, word, more)));
     }
     let Some(verb) = term_verb_in(word) else {
-        return Ok(Some(PlayFault::Line(LineFault::NoCommand { word, script })));
+        return own_fault(alloc, word, more, script);
     };
     match more {
         [next] => behind_term_verb(alloc, verb, word, next),
+        [] if verb == TermVerb::Retrieve => Ok(None),
+        [_, _, ..] if verb == TermVerb::Unit => said_fault(alloc, word, more),
         _ => Ok(of_line(words_fault(word, more, 1, 1))),
     }
+}
+
+/// Whether a word of a terminal's script is none of a link set's.
+fn is_terminals(word: &str) -> bool {
+    word == "msu"
+        || word == "units"
+        || word == "errors"
+        || word == "told"
+        || word == "accepted"
+        || word == "retrieve"
 }
 
 /// Why the words of a line are none of a terminal's script, behind its first line.
@@ -250,7 +249,7 @@ fn shared_fault<'a>(
     more: &[&'a str],
 ) -> Result<Option<PlayFault<'a>>, AllocError> {
     let script = "a link set's script";
-    if word == "msu" {
+    if is_terminals(word) {
         return Ok(Some(PlayFault::Line(LineFault::NoCommand { word, script })));
     }
     term_fault(alloc, word, more, script)

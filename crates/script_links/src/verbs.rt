@@ -15,6 +15,10 @@ pub enum TermVerb {
     Msu,
     /// `out`.
     Out,
+    /// `errors`.
+    Errors,
+    /// `retrieve`.
+    Retrieve,
 }
 
 /// The command that a word begins, in this case alone.
@@ -27,6 +31,8 @@ pub fn term_verb_in(word: &str) -> Option<TermVerb>
         "line" => Some(TermVerb::Line),
         "msu" => Some(TermVerb::Msu),
         "out" => Some(TermVerb::Out),
+        "errors" => Some(TermVerb::Errors),
+        "retrieve" => Some(TermVerb::Retrieve),
         _ => None,
     }
 }

@@ -1,5 +1,5 @@
 -- What is shown of a run of each kind of script, one command more.
-use Rattle.std.proofs.Common.{◌≡◌, ℕ, ◌+◌, ◌<◌, ◌≤◌, List, [], ◌∷◌, ◌++◌, length, map, take, drop, get_or, Option, None, Some, refl, sym, ap, subst}
+use Rattle.std.proofs.Common.{◌≡◌, ℕ, Bool, ◌+◌, ◌<◌, ◌≤◌, List, [], ◌∷◌, ◌++◌, length, map, take, drop, get_or, Option, None, Some, refl, sym, ap, subst}
 use Rattle.std.specs.Io.KnownBytes.{Appends}
 use Rattle.std.proofs.KnownBytes.{Appends-nil}
 use Rattle.actor_machine.specs.Ledger.{Ledger}
@@ -16,7 +16,7 @@ use Rattle.script_group.specs.TermRuns.{begins as term_begins, IsTermRun, IsTerm
 use Rattle.script_group.specs.GroupAnswers.{Playing}
 use Rattle.script_group.specs.GroupRuns.{begins as group_begins, IsGroupRun, IsGroupMissedBy}
 use Rattle.script_seen.specs.Kinds.{book_line, Prints, PrintsMissed, BookShowing, BookMissing, IsBookShown, IsBookShownMissed}
-use Rattle.script_seen.specs.Kinds.{term_line, TermPrints, TermPrintsMissed, TermShowing, TermMissing, IsTermShown, IsTermShownMissed}
+use Rattle.script_seen.specs.Kinds.{term_line, TermPrints, TermPrintsMissed, TermShowing, TermMissing, IsTermShownBy, IsTermShownMissedBy}
 use Rattle.script_seen.specs.Kinds.{group_line, GroupPrints, GroupPrintsMissed, GroupShowing, GroupMissing, IsGroupShown, IsGroupShownMissed}
 use Rattle.script_seen.proofs.Showings.{HasFront, showing_begins, showing_more, missing_is, one_more, parts_at, all_taken}
 
@@ -74,47 +74,47 @@ book_missed lines b items i x first now within is m = record {
 -- ---- terminals
 
 -- nothing was obeyed yet
-pub term_starts : (lines : List PlainLine) (b : Term) (old last : Option (List ℕ)) → last ≡ None → TermShowing lines b [] old old [] b last
-term_starts lines b old last none =
-    let P : Option (List ℕ) → Type 0 = λ l. IsTermRun b [] (Some []) (Some []) b l in
-    (showing_begins lines term_line (TermPrints b) old, subst P (sym none) (record { lines = []; goes = term_begins; written = Appends-nil (Some []) }))
+pub term_starts : (keeps : Bool) (lines : List PlainLine) (b : Term) (old last : Option (List ℕ)) → last ≡ None → TermShowing keeps lines b [] old old [] b last
+term_starts keeps lines b old last none =
+    let P : Option (List ℕ) → Type 0 = λ l. IsTermRun keeps b [] (Some []) (Some []) b l in
+    (showing_begins lines term_line (TermPrints keeps b) old, subst P (sym none) (record { lines = []; goes = term_begins; written = Appends-nil (Some []) }))
 
-pub term_goes : (lines : List PlainLine) (b : Term) (before : List PlainTermSaid) (said : PlainTermSaid) (first old mid new : Option (List ℕ)) (printed next : List ℕ)
-    (now after : Term) (last latest : Option (List ℕ)) → TermShowing lines b before first old printed now last → HasFront lines said.line old mid
-    → Appends mid new (drop (length printed) next) → IsTermRun b (before ++ said ∷ []) (Some []) (Some next) after latest
-    → TermShowing lines b (before ++ said ∷ []) first new next after latest
-term_goes lines b before said first old mid new printed next now after last latest s f behind run = (
-  showing_more lines term_line (TermPrints b) before said first old mid new printed next s.0 f behind (record { now = after; last = latest; run = run }),
+pub term_goes : (keeps : Bool) (lines : List PlainLine) (b : Term) (before : List PlainTermSaid) (said : PlainTermSaid) (first old mid new : Option (List ℕ)) (printed next : List ℕ)
+    (now after : Term) (last latest : Option (List ℕ)) → TermShowing keeps lines b before first old printed now last → HasFront lines said.line old mid
+    → Appends mid new (drop (length printed) next) → IsTermRun keeps b (before ++ said ∷ []) (Some []) (Some next) after latest
+    → TermShowing keeps lines b (before ++ said ∷ []) first new next after latest
+term_goes keeps lines b before said first old mid new printed next now after last latest s f behind run = (
+  showing_more lines term_line (TermPrints keeps b) before said first old mid new printed next s.0 f behind (record { now = after; last = latest; run = run }),
   run,
 )
 
-pub term_misses : (lines : List PlainLine) (b : Term) (before : List PlainTermSaid) (said : PlainTermSaid) (first old mid new : Option (List ℕ)) (printed next : List ℕ)
-    (now : Term) (last : Option (List ℕ)) → TermShowing lines b before first old printed now last → HasFront lines said.line old mid
-    → Appends mid new (drop (length printed) next) → IsTermMissedBy said last (Some printed) (Some next) → TermMissing lines b before said first new
-term_misses lines b before said first old mid new printed next now last s f behind m =
-    missing_is lines term_line (TermPrints b) (TermPrintsMissed b) before said first old mid new printed next s.0 f m.printed behind
+pub term_misses : (keeps : Bool) (lines : List PlainLine) (b : Term) (before : List PlainTermSaid) (said : PlainTermSaid) (first old mid new : Option (List ℕ)) (printed next : List ℕ)
+    (now : Term) (last : Option (List ℕ)) → TermShowing keeps lines b before first old printed now last → HasFront lines said.line old mid
+    → Appends mid new (drop (length printed) next) → IsTermMissedBy said last (Some printed) (Some next) → TermMissing keeps lines b before said first new
+term_misses keeps lines b before said first old mid new printed next now last s f behind m =
+    missing_is lines term_line (TermPrints keeps b) (TermPrintsMissed keeps b) before said first old mid new printed next s.0 f m.printed behind
     (record { before = before; said = said; after = []; stands = refl; middle = Some printed; now = now; last = last; run = s.1; missed = m })
 
 -- one command more of a list
-pub term_one_more : (lines : List PlainLine) (b : Term) (items : List TermSaid) (i : ℕ) (x : TermSaid) (first now : Option (List ℕ)) (printed : List ℕ)
+pub term_one_more : (keeps : Bool) (lines : List PlainLine) (b : Term) (items : List TermSaid) (i : ℕ) (x : TermSaid) (first now : Option (List ℕ)) (printed : List ℕ)
     (state : Term) (last : Option (List ℕ)) → i < length items → x ≡ get_or items i x
-    → TermShowing lines b (map plain_term_said (take i items) ++ plain_term_said x ∷ []) first now printed state last
-    → TermShowing lines b (map plain_term_said (take (i + 1) items)) first now printed state last
-term_one_more lines b items i x first now printed state last within is s =
-    let P : List PlainTermSaid → Type 0 = λ commands. TermShowing lines b commands first now printed state last in subst P (one_more plain_term_said items i x within is) s
+    → TermShowing keeps lines b (map plain_term_said (take i items) ++ plain_term_said x ∷ []) first now printed state last
+    → TermShowing keeps lines b (map plain_term_said (take (i + 1) items)) first now printed state last
+term_one_more keeps lines b items i x first now printed state last within is s =
+    let P : List PlainTermSaid → Type 0 = λ commands. TermShowing keeps lines b commands first now printed state last in subst P (one_more plain_term_said items i x within is) s
 
 -- all commands of a list
-pub term_shown : (lines : List PlainLine) (b : Term) (items : List TermSaid) (i : ℕ) (first now : Option (List ℕ)) (printed : List ℕ)
-    (state : Term) (last : Option (List ℕ)) → length items ≤ i → TermShowing lines b (map plain_term_said (take i items)) first now printed state last
-    → IsTermShown lines (map plain_term_said items) first now b
-term_shown lines b items i first now printed state last over s =
-    let P : List PlainTermSaid → Type 0 = λ commands. TermShowing lines b commands first now printed state last in
+pub term_shown : (keeps : Bool) (lines : List PlainLine) (b : Term) (items : List TermSaid) (i : ℕ) (first now : Option (List ℕ)) (printed : List ℕ)
+    (state : Term) (last : Option (List ℕ)) → length items ≤ i → TermShowing keeps lines b (map plain_term_said (take i items)) first now printed state last
+    → IsTermShownBy keeps lines (map plain_term_said items) first now b
+term_shown keeps lines b items i first now printed state last over s =
+    let P : List PlainTermSaid → Type 0 = λ commands. TermShowing keeps lines b commands first now printed state last in
     record { printed = printed; showing = (subst P (all_taken plain_term_said items i over) s).0 }
 
 -- an expectation of a list that fails
-pub term_missed : (lines : List PlainLine) (b : Term) (items : List TermSaid) (i : ℕ) (x : TermSaid) (first now : Option (List ℕ)) → i < length items
-    → x ≡ get_or items i x → TermMissing lines b (map plain_term_said (take i items)) (plain_term_said x) first now → IsTermShownMissed lines (map plain_term_said items) first now b
-term_missed lines b items i x first now within is m = record {
+pub term_missed : (keeps : Bool) (lines : List PlainLine) (b : Term) (items : List TermSaid) (i : ℕ) (x : TermSaid) (first now : Option (List ℕ)) → i < length items
+    → x ≡ get_or items i x → TermMissing keeps lines b (map plain_term_said (take i items)) (plain_term_said x) first now → IsTermShownMissedBy keeps lines (map plain_term_said items) first now b
+term_missed keeps lines b items i x first now within is m = record {
   before = map plain_term_said (take i items);
   said = plain_term_said x;
   after = map plain_term_said (drop (i + 1) items);

@@ -1,13 +1,13 @@
 -- What is shown of a run of each kind of script.
-use Rattle.std.specs.Prelude.{ℕ, List, [], Option, Some}
+use Rattle.std.specs.Prelude.{ℕ, Bool, List, [], Option, Some}
 use Rattle.actor_machine.specs.Ledger.{Ledger}
 use Rattle.script_lines.specs.Lines.{PlainLine}
 use Rattle.script_lines.specs.Scripts.{PlainSaid}
-use Rattle.script_links.specs.TermScripts.{PlainTermSaid}
+use Rattle.script_links.specs.TermScripts.{PlainTermSaid, asks_told}
 use Rattle.script_links.specs.GroupScripts.{PlainGroupSaid}
 use Rattle.link_term.specs.Term.{Term}
 use Rattle.script_group.specs.Played.{IsRun, IsWritten, IsMissed}
-use Rattle.script_group.specs.TermRuns.{IsTermRun, IsTermWritten, IsTermMissed}
+use Rattle.script_group.specs.TermRuns.{IsTermRun, IsTermMissed}
 use Rattle.script_group.specs.GroupAnswers.{Playing}
 use Rattle.script_group.specs.GroupRuns.{IsGroupRun, IsGroupWritten, IsGroupMissed}
 use Rattle.script_seen.specs.Shown.{IsShowing, IsMissing, IsShown, IsShownMissed}
@@ -54,33 +54,51 @@ BookMissing lines b before said first now =
 abbrev pub term_line : PlainTermSaid → ℕ
 term_line s = s.line
 
-abbrev pub TermPrints : Term → List PlainTermSaid → List ℕ → Type 0
-TermPrints t commands printed = IsTermWritten commands (Some []) (Some printed) t
+-- commands print this on a terminal, from this one on; whether what it tells is kept
+pub record TermPrints (keeps : Bool) (t : Term) (commands : List PlainTermSaid)
+    (printed : List ℕ) : Type 0 where
+  pub now : Term
+  pub last : Option (List ℕ)
+  pub run : IsTermRun keeps t commands (Some []) (Some printed) now last
 
-abbrev pub TermPrintsMissed : Term → List PlainTermSaid → List ℕ → Type 0
-TermPrintsMissed t commands printed = IsTermMissed commands (Some []) (Some printed) t
+abbrev pub TermPrintsMissed : Bool → Term → List PlainTermSaid → List ℕ → Type 0
+TermPrintsMissed keeps t commands printed = IsTermMissed keeps commands (Some []) (Some printed) t
 
+abbrev pub IsTermShownBy :
+    Bool → List PlainLine → List PlainTermSaid → Option (List ℕ) → Option (List ℕ) → Term
+    → Type 0
+IsTermShownBy keeps lines commands old new t =
+    IsShown lines term_line (TermPrints keeps t) commands old new
+
+abbrev pub IsTermShownMissedBy :
+    Bool → List PlainLine → List PlainTermSaid → Option (List ℕ) → Option (List ℕ) → Term
+    → Type 0
+IsTermShownMissedBy keeps lines commands old new t =
+    IsShownMissed lines term_line (TermPrints keeps t) (TermPrintsMissed keeps t) commands old new
+
+-- it is kept where one of the commands asks for it
 abbrev pub IsTermShown :
     List PlainLine → List PlainTermSaid → Option (List ℕ) → Option (List ℕ) → Term → Type 0
-IsTermShown lines commands old new t = IsShown lines term_line (TermPrints t) commands old new
+IsTermShown lines commands old new t =
+    IsTermShownBy (asks_told commands) lines commands old new t
 
 abbrev pub IsTermShownMissed :
     List PlainLine → List PlainTermSaid → Option (List ℕ) → Option (List ℕ) → Term → Type 0
 IsTermShownMissed lines commands old new t =
-    IsShownMissed lines term_line (TermPrints t) (TermPrintsMissed t) commands old new
+    IsTermShownMissedBy (asks_told commands) lines commands old new t
 
 abbrev pub TermShowing :
-    List PlainLine → Term → List PlainTermSaid → Option (List ℕ) → Option (List ℕ) → List ℕ
-    → Term → Option (List ℕ) → Type 0
-TermShowing lines t commands first now printed terminal last =
-    IsShowing lines term_line (TermPrints t) commands first now printed
-    × IsTermRun t commands (Some []) (Some printed) terminal last
+    Bool → List PlainLine → Term → List PlainTermSaid → Option (List ℕ) → Option (List ℕ)
+    → List ℕ → Term → Option (List ℕ) → Type 0
+TermShowing keeps lines t commands first now printed terminal last =
+    IsShowing lines term_line (TermPrints keeps t) commands first now printed
+    × IsTermRun keeps t commands (Some []) (Some printed) terminal last
 
 abbrev pub TermMissing :
-    List PlainLine → Term → List PlainTermSaid → PlainTermSaid → Option (List ℕ)
+    Bool → List PlainLine → Term → List PlainTermSaid → PlainTermSaid → Option (List ℕ)
     → Option (List ℕ) → Type 0
-TermMissing lines t before said first now =
-    IsMissing lines term_line (TermPrints t) (TermPrintsMissed t) before said first now
+TermMissing keeps lines t before said first now =
+    IsMissing lines term_line (TermPrints keeps t) (TermPrintsMissed keeps t) before said first now
 
 -- ---- link sets
 

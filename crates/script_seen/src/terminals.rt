@@ -4,11 +4,11 @@ ghost use Rattle.script_lines.specs.Lines.{plain_line, lines_of};
 ghost use Rattle.script_links.specs.TermScripts.{PlainTermSaid, plain_term_said};
 ghost use Rattle.link_term.specs.Term.{Term};
 ghost use Rattle.script_group.specs.TermRuns.{last_of, IsOfNew, LacksName};
-ghost use Rattle.script_seen.specs.Kinds.{IsTermShown, IsTermShownMissed, TermShowing, TermMissing};
+ghost use Rattle.script_seen.specs.Kinds.{IsTermShown, IsTermShownBy, IsTermShownMissed, IsTermShownMissedBy, TermShowing, TermMissing};
 
 use crate::fronts::{first_of, show_line, write_behind};
 use link_term::Terminal;
-use script_group::{FAILED, HELD, MISSED, TermPlayer, new_player, refuse_set};
+use script_group::{FAILED, HELD, MISSED, TermPlayer, asks_told, new_player, refuse_set};
 use script_lines::{Line, lines_in};
 use script_links::{TermSaid, TermScript};
 use std::alloc::Global;
@@ -22,19 +22,20 @@ fn show_next<W: Write>(
     said: &TermSaid<'_>,
     lines: &[Line<'_>],
     place: usize,
+    keeps: bool,
     printed: &mut Vec<u8>,
     writer: &mut W,
 ) -> io::Result<bool>
     ensures goes { IfOk result (λ on. on ≡ true → (t : Term) (before : List PlainTermSaid) (first : Option (List ℕ))
-        → TermShowing (map plain_line lines.now) t before first (W.contents writer.old) printed.old.items player.old.terminal (last_of player.old)
-        → TermShowing (map plain_line lines.now) t (before ++ plain_term_said said.now ∷ []) first (W.contents writer.new) printed.new.items player.new.terminal (last_of player.new)) }
+        → TermShowing keeps (map plain_line lines.now) t before first (W.contents writer.old) printed.old.items player.old.terminal (last_of player.old)
+        → TermShowing keeps (map plain_line lines.now) t (before ++ plain_term_said said.now ∷ []) first (W.contents writer.new) printed.new.items player.new.terminal (last_of player.new)) }
     ensures missed { IfOk result (λ on. on ≡ false → (t : Term) (before : List PlainTermSaid) (first : Option (List ℕ))
-        → TermShowing (map plain_line lines.now) t before first (W.contents writer.old) printed.old.items player.old.terminal (last_of player.old)
-        → TermMissing (map plain_line lines.now) t before (plain_term_said said.now) first (W.contents writer.new)) }
+        → TermShowing keeps (map plain_line lines.now) t before first (W.contents writer.old) printed.old.items player.old.terminal (last_of player.old)
+        → TermMissing keeps (map plain_line lines.now) t before (plain_term_said said.now) first (W.contents writer.new)) }
 {
     show_line(alloc, lines, place, said.line, writer)?;
     let before = printed.len();
-    let on = player.obey(alloc, said, printed)?;
+    let on = player.obey(alloc, said, keeps, printed)?;
     write_behind(before, printed.as_slice(), writer)?;
     Ok(on)
 }
@@ -45,18 +46,28 @@ fn show_each<W: Write>(
     player: &mut TermPlayer,
     commands: &[TermSaid<'_>],
     lines: &[Line<'_>],
+    keeps: bool,
     writer: &mut W,
 ) -> io::Result<u8>
     ensures held { IfOk result (λ status. status ≡ 0 → last_of player.old ≡ None
-        → IsTermShown (map plain_line lines.now) (map plain_term_said commands.now) (W.contents writer.old) (W.contents writer.new) player.old.terminal) }
+        → IsTermShownBy keeps (map plain_line lines.now) (map plain_term_said commands.now) (W.contents writer.old) (W.contents writer.new) player.old.terminal) }
     ensures missed { IfOk result (λ status. status ≡ 1 → last_of player.old ≡ None
-        → IsTermShownMissed (map plain_line lines.now) (map plain_term_said commands.now) (W.contents writer.old) (W.contents writer.new) player.old.terminal) }
+        → IsTermShownMissedBy keeps (map plain_line lines.now) (map plain_term_said commands.now) (W.contents writer.old) (W.contents writer.new) player.old.terminal) }
     ensures status { IfOk result (λ status. (status ≡ 0) ⊎ (status ≡ 1)) }
 {
     let mut printed = Vec::new(alloc);
     let mut place = first_of(lines, commands.len());
     for said in commands {
-        if !show_next(alloc, player, said, lines, place, &mut printed, writer)? {
+        if !show_next(
+            alloc,
+            player,
+            said,
+            lines,
+            place,
+            keeps,
+            &mut printed,
+            writer,
+        )? {
             return Ok(MISSED);
         }
         place = place.saturating_add(1);
@@ -80,7 +91,9 @@ fn show_new<W: Write>(
 {
     let lines = lines_in(alloc, text)?;
     let mut player = new_player(terminal);
-    show_each(alloc, &mut player, &script.commands, &lines, writer)
+    let commands = script.commands.as_slice();
+    let keeps = asks_told(commands);
+    show_each(alloc, &mut player, commands, &lines, keeps, writer)
 }
 
 /// The same. Gives the exit status, 4 where memory or a write fails.

@@ -1,14 +1,16 @@
 -- What commands make of a terminal.
-use Rattle.std.proofs.Common.{◌≡◌, ℕ, zero, suc, ◌+◌, ◌<◌, ◌≤◌, List, [], ◌∷◌, ◌++◌, length, take, drop, Option, None, Some, Result, Ok, Err, Bool, true, false, inl, inr, refl, sym, ap, subst, arith, ◌∙◌}
+use Rattle.std.proofs.Common.{◌≡◌, ℕ, zero, suc, ◌+◌, ◌-◌, ◌<◌, ◌≤◌, List, [], ◌∷◌, ◌++◌, length, take, drop, Option, None, Some, Result, Ok, Err, Bool, true, false, inl, inr, refl, sym, ap, subst, arith, ◌∙◌}
 use Rattle.std.specs.Prelude.{◌⊎◌, ◌↔◌, codes, if◌then◌else◌, slice_get, is_some}
 use Rattle.std.specs.Fmt.{decimal}
 use Rattle.std.proofs.Math.Seq.{drop-nil}
 use Rattle.std.proofs.lemmas.Bool.{cases_lt}
-use Rattle.std.proofs.lemmas.List.{take-append-drop, drop-drop}
+use Rattle.std.proofs.lemmas.List.{take-append-drop, take_all, drop-drop, length-drop}
 use Rattle.resend_store.specs.Limits.{MOST_WAITING}
-use Rattle.resend_store.specs.Window.{waiting, with_put}
+use Rattle.resend_store.specs.Window.{waiting, with_put, retrieved, count_known}
 use Rattle.resend_store.specs.declared.refusals.PutError.{PutError}
 use Rattle.resend_store.specs.declared.refusals.PutError.TheVariants.{Full}
+use Rattle.resend_store.specs.declared.refusals.RetrieveError.{RetrieveError}
+use Rattle.resend_store.specs.declared.refusals.RetrieveError.TheVariants.{BadAck}
 use Rattle.resend_store.specs.declared.messages.Msu.{Msu}
 use Rattle.actor_machine.specs.Ledger.{ask, rebased}
 use Rattle.actor_machine.specs.Step.{Says}
@@ -29,7 +31,7 @@ use Rattle.link_term.specs.Hearing.{Heard}
 use Rattle.link_term.specs.declared.answers.CallError.{CallError}
 use Rattle.link_term.specs.declared.answers.CallError.TheVariants.{Refused, NoMemory}
 use Rattle.script_book.specs.Answers.{answer_text}
-use Rattle.script_terminal.specs.TermAnswers.{after_answer, IsAsked, IsRefusedLine, Puts, taken, full, IsMessageOf, IsPut, without_reports, TakesNoMore, Listens, done, part}
+use Rattle.script_terminal.specs.TermAnswers.{after_answer, IsAsked, IsRefusedLine, Puts, taken, full, IsMessageOf, IsPut, without_reports, TakesNoMore, Listens, done, part, Hears, heard_all, in_parts, Takes, TakesTimes, never, again, behind_retrieve, Retrieves, given, bad}
 
 -- ---- events
 
@@ -101,6 +103,32 @@ pub put_full : (octets : List ℕ) (t u : Term) (m : Msu) (text : List ℕ) (e :
     → (◌≡◌ {A = Result (Unit {0}) PutError} (Err e) (Err Full)) ↔ (MOST_WAITING ≤ length (waiting t.processes.transceiver.sender)) → u ≡ t
     → IsPut octets t text u
 put_full octets t u m text Full are says many makes = put_text octets t u m text (codes "refused E1 Full") t are says makes (full (many.0 refl))
+
+-- ---- messages that are handed out
+
+at_most : (n m : ℕ) → (n < m) ⊎ (m ≤ n) → (n < m → ⊥) → m ≤ n
+at_most n m (inl less) never = absurd (never less)
+at_most n m (inr most) never = most
+
+pub given_out : {V : Type 0} (behind : Option ℕ) (t u : Term) (text : List ℕ) (items : List Msu) (x : V) → text ≡ codes "ok " ++ decimal (length items)
+    → (◌≡◌ {A = Result V RetrieveError} (Ok x) (Err BadAck)) ↔ (t.processes.transceiver.sender.sent < count_known t.processes.transceiver.sender behind)
+    → items ≡ retrieved t.processes.transceiver.sender behind → u ≡ behind_retrieve behind t → Retrieves behind t text u
+given_out {V} behind t u text items x says many are makes =
+    let w = t.processes.transceiver.sender in
+    let few : count_known w behind ≤ w.sent =
+    at_most w.sent (count_known w behind) (cases_lt w.sent (count_known w behind))
+    (λ so. let e : ◌≡◌ {A = Result V RetrieveError} (Ok x) (Err BadAck) = many.1 so in cc) in
+    let P : List ℕ → Type 0 = λ said. Retrieves behind t said u in
+    let Q : Term → Type 0 = λ v. Retrieves behind t (codes "ok " ++ decimal (length (retrieved w behind))) v in
+    subst P (sym (says ∙ ap (λ (ms : List Msu). codes "ok " ++ decimal (length ms)) are)) (subst Q (sym makes) (given few))
+
+pub not_given : {V : Type 0} (behind : Option ℕ) (t u : Term) (text : List ℕ) → text ≡ codes "refused E2 BadAck"
+    → (◌≡◌ {A = Result V RetrieveError} (Err BadAck) (Err BadAck)) ↔ (t.processes.transceiver.sender.sent < count_known t.processes.transceiver.sender behind)
+    → u ≡ t → Retrieves behind t text u
+not_given behind t u text says many makes =
+    let P : List ℕ → Type 0 = λ said. Retrieves behind t said u in
+    let Q : Term → Type 0 = λ v. Retrieves behind t (codes "refused E2 BadAck") v in
+    subst P (sym says) (subst Q (sym makes) (bad (many.0 refl)))
 
 -- ---- reports
 
@@ -201,3 +229,73 @@ part_more t m w u octets xs from n same some within heard stops without others =
 -- nothing is left
 pub listens_end : (t : Term) (octets : List ℕ) (from : ℕ) → length octets ≤ from → Listens t (drop from octets) t
 listens_end t octets from over = let P : List ℕ → Type 0 = λ xs. Listens t xs t in subst P (sym (nothing_behind from octets over)) (done t)
+
+-- ---- what is told is kept
+
+-- all octets were taken
+pub hears_all : (t u : Term) (octets : List ℕ) (n : ℕ) → n ≡ length octets → Heard t (take n octets) u → Hears t octets u
+hears_all t u octets n all heard =
+    let P : ℕ → Type 0 = λ k. Heard t (take k octets) u in
+    let Q : List ℕ → Type 0 = λ xs. Heard t xs u in
+    let least : length octets ≤ length octets = omega arith in
+    heard_all t u octets (subst Q (take_all (length octets) octets least) (subst P all heard))
+
+-- the terminal took no more, and what was told is dropped
+pub hears_part : (t m w u : Term) (octets xs : List ℕ) (n : ℕ) → n < length octets → Heard t (take n octets) m
+    → (n < length octets → TakesNoMore m) → w ≡ without_reports m → xs ≡ drop n octets → Hears w xs u → Hears t octets u
+hears_part t m w u octets xs n less heard stops without rest hears =
+    let P : List ℕ → Type 0 = λ ys. Hears t ys u in
+    let Q : Term → Type 0 = λ v. Hears v xs u in
+    let R : List ℕ → Type 0 = λ ys. Hears (without_reports m) ys u in
+    subst P (take-append-drop n octets) (in_parts t m u (take n octets) (drop n octets) heard (stops less) (subst R rest (subst Q without hears)))
+
+-- So far these octets were heard, with what was told dropped where the terminal took no more: all of
+-- them, or those before a place where it takes no more.
+pub record Hearing (t m : Term) (octets : List ℕ) (from : ℕ) : Type 0 where
+  pub within : from ≤ length octets
+  pub all : length octets ≤ from → Hears t octets m
+  pub others : from < length octets → (u : Term) → Hears (without_reports m) (drop from octets) u → Hears t octets u
+
+pub hearing_begun : (t m : Term) (octets : List ℕ) (n : ℕ) → n ≤ length octets → Heard t (take n octets) m → (n < length octets → TakesNoMore m)
+    → Hearing t m octets n
+hearing_begun t m octets n few heard stops = record {
+  within = few;
+  all = λ over. hears_all t m octets n (omega (arith, few, over)) heard;
+  others = λ less u hears. hears_part t m (without_reports m) u octets (drop n octets) n less heard stops refl refl hears;
+}
+
+pub hearing_on : (t m w v : Term) (octets xs : List ℕ) (from k : ℕ) → Hearing t m octets from → from < length octets → w ≡ without_reports m
+    → xs ≡ drop from octets → k ≤ length xs → Heard w (take k xs) v → (k < length xs → TakesNoMore v) → Hearing t v octets (from + k)
+hearing_on t m w v octets xs from k before less without same few heard stops =
+    let count : length xs ≡ length octets - from = ap length same ∙ length-drop from octets in
+    let P : Term → Type 0 = λ z. Hears z xs v in
+    let Q : List ℕ → Type 0 = λ ys. Hears (without_reports m) ys v in
+    record {
+      within = omega (arith, count, few, less);
+      all = λ over. before.others less v (subst Q same (subst P without (hears_all w v xs k (omega (arith, count, few, over, less)) heard)));
+      others = λ more u hears.
+          let rest : drop (from + k) octets ≡ drop k xs = sym (drop-drop k from octets) ∙ ap (drop k) (sym same) in
+          let R : List ℕ → Type 0 = λ ys. Hears (without_reports v) ys u in
+          let S : Term → Type 0 = λ z. Hears z xs u in
+          let T : List ℕ → Type 0 = λ ys. Hears (without_reports m) ys u in
+          before.others less u
+          (subst T same (subst S without (hears_part w v (without_reports v) u xs (drop k xs) k (omega (arith, count, more, less)) heard stops refl refl (subst R rest hears))));
+    }
+
+-- ---- so many times
+
+pub times_none : (keeps : Bool) (octets : List ℕ) (t : Term) → TakesTimes keeps octets 0 t t
+times_none keeps octets t = never t
+
+pub times_more : (keeps : Bool) (octets : List ℕ) (n : ℕ) (t m u : Term) → TakesTimes keeps octets n t m → Takes keeps m octets u
+    → TakesTimes keeps octets (n + 1) t u
+times_more keeps octets n t m u before takes =
+    let P : ℕ → Type 0 = λ k. TakesTimes keeps octets k t u in
+    let number : suc n ≡ n + 1 = omega arith in
+    subst P number (again n t m u before takes)
+
+pub times_all : (keeps : Bool) (octets : List ℕ) (n m : ℕ) (t u : Term) → n ≤ m → m ≤ n → TakesTimes keeps octets n t u → TakesTimes keeps octets m t u
+times_all keeps octets n m t u most least taken =
+    let P : ℕ → Type 0 = λ k. TakesTimes keeps octets k t u in
+    let number : n ≡ m = omega (arith, most, least) in
+    subst P number taken

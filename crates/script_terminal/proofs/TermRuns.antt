@@ -1,7 +1,7 @@
 -- A run, one command more, and lines, one more.
 use Rattle.std.proofs.Common.{◌≡◌, ℕ, suc, ◌+◌, ◌-◌, ◌<◌, ◌≤◌, Bool, true, false, List, [], ◌∷◌, ◌++◌, length, map, take, drop, get_or, append_assoc, append-nil, Option, None, Some, refl, sym, ap, subst, arith, ◌∙◌}
-use Rattle.std.specs.Prelude.{codes, is_some}
-use Rattle.std.specs.List.{flat_map}
+use Rattle.std.specs.Prelude.{◌||◌, codes, is_some}
+use Rattle.std.specs.List.{flat_map, list_any}
 use Rattle.std.specs.Io.KnownBytes.{Appends}
 use Rattle.std.proofs.KnownBytes.{Appends-trans, Appends-nil}
 use Rattle.std.proofs.lemmas.Grind.{flat_map-append}
@@ -10,13 +10,13 @@ use Rattle.su_octets.specs.Printed.{unit_text}
 use Rattle.su_octets.specs.declared.units.Unit as units
 use Rattle.link_term.specs.Term.{Term}
 use Rattle.script_links.specs.TermCommands.{expected, plain_term_command}
-use Rattle.script_links.specs.TermScripts.{PlainTermSaid, plain_term_said}
+use Rattle.script_links.specs.TermScripts.{PlainTermSaid, plain_term_said, is_told, asks_told}
 use Rattle.script_links.specs.declared.script.TermSaid.{TermSaid}
 use Rattle.script_links.specs.declared.commands.TermCommand.{TermCommand}
 use Rattle.script_links.specs.declared.commands.TermCommand.TheVariants as code
 use Rattle.script_book.specs.Lines.{line_of}
 use Rattle.script_terminal.specs.TermAnswers.{next_of, behind_next, unit_line, GoOut, nothing, silent, one_goes, Answers, Obeys}
-use Rattle.script_terminal.specs.TermRuns.{latest, Goes, begins, prints, holds, IsTermRun, HasPrinted, HasGivenOut, IsTermMissedBy, IsTermMissed}
+use Rattle.script_terminal.specs.TermRuns.{latest, Goes, begins, prints, holds, IsTermRun, HasPrinted, HasGivenOut, IsTermMissedBy, IsTermMissed, IsTermWritten, IsTermFailed}
 
 -- ---- lines
 
@@ -134,25 +134,25 @@ gives_all k asked old now last mid t u most least gives =
 -- ---- runs
 
 -- nothing was obeyed yet
-pub run_begins : (t : Term) (now : Option (List ℕ)) → IsTermRun t [] now now t None
-run_begins t now = record { lines = []; goes = begins; written = Appends-nil now }
+pub run_begins : (keeps : Bool) (t : Term) (now : Option (List ℕ)) → IsTermRun keeps t [] now now t None
+run_begins keeps t now = record { lines = []; goes = begins; written = Appends-nil now }
 
 -- an expectation that holds
-pub run_held : (t : Term) (before : List PlainTermSaid) (said : PlainTermSaid) (text : List ℕ) (first written : Option (List ℕ)) (now : Term)
+pub run_held : (keeps : Bool) (t : Term) (before : List PlainTermSaid) (said : PlainTermSaid) (text : List ℕ) (first written : Option (List ℕ)) (now : Term)
     (last : Option (List ℕ)) → said.command ≡ expected text → last ≡ Some text
-    → IsTermRun t before first written now last → IsTermRun t (before ++ said ∷ []) first written now last
-run_held t before said text first written now last is same run =
-    let P : Option (List ℕ) → Type 0 = λ l. Goes t before run.lines now l in
-    let Q : Option (List ℕ) → Type 0 = λ l. Goes t (before ++ said ∷ []) run.lines now l in
+    → IsTermRun keeps t before first written now last → IsTermRun keeps t (before ++ said ∷ []) first written now last
+run_held keeps t before said text first written now last is same run =
+    let P : Option (List ℕ) → Type 0 = λ l. Goes keeps t before run.lines now l in
+    let Q : Option (List ℕ) → Type 0 = λ l. Goes keeps t (before ++ said ∷ []) run.lines now l in
     record { lines = run.lines; goes = subst Q (sym same) (holds said is (subst P same run.goes)); written = run.written }
 
 -- a command that printed its lines
-pub run_printed : (t : Term) (before : List PlainTermSaid) (said : PlainTermSaid) (lines : List (List ℕ)) (first old new : Option (List ℕ)) (now next : Term)
-    (last after : Option (List ℕ)) → Obeys said.command now lines next → HasPrinted old new last after lines
-    → IsTermRun t before first old now last → IsTermRun t (before ++ said ∷ []) first new next after
-run_printed t before said lines first old new now next last after obeys printed run =
+pub run_printed : (keeps : Bool) (t : Term) (before : List PlainTermSaid) (said : PlainTermSaid) (lines : List (List ℕ)) (first old new : Option (List ℕ)) (now next : Term)
+    (last after : Option (List ℕ)) → Obeys keeps said.command now lines next → HasPrinted old new last after lines
+    → IsTermRun keeps t before first old now last → IsTermRun keeps t (before ++ said ∷ []) first new next after
+run_printed keeps t before said lines first old new now next last after obeys printed run =
     let P : List ℕ → Type 0 = λ text. Appends first new text in
-    let Q : Option (List ℕ) → Type 0 = λ l. Goes t (before ++ said ∷ []) (run.lines ++ lines) next l in
+    let Q : Option (List ℕ) → Type 0 = λ l. Goes keeps t (before ++ said ∷ []) (run.lines ++ lines) next l in
     record {
       lines = run.lines ++ lines;
       goes = subst Q (sym printed.latest_is) (prints said lines next obeys run.goes);
@@ -162,29 +162,34 @@ run_printed t before said lines first old new now next last after obeys printed 
     }
 
 -- what is neither `out` nor an expectation prints one line
-pub obeys_one : (c : TermCommand) (t u : Term) (text : List ℕ) → ((x : _) → c ≡ code.Expect x → ⊥) → ((x : _) → c ≡ code.Out x → ⊥)
-    → Answers (plain_term_command c) t text u → Obeys (plain_term_command c) t (text ∷ []) u
-obeys_one (code.Order o) t u text no_expect no_out answers = record { text = text; one = refl; answers = answers }
-obeys_one (code.Unit x) t u text no_expect no_out answers = record { text = text; one = refl; answers = answers }
-obeys_one (code.Line x) t u text no_expect no_out answers = record { text = text; one = refl; answers = answers }
-obeys_one (code.Msu x) t u text no_expect no_out answers = record { text = text; one = refl; answers = answers }
-obeys_one (code.Out n) t u text no_expect no_out answers = absurd (no_out n refl)
-obeys_one (code.Tick n) t u text no_expect no_out answers = record { text = text; one = refl; answers = answers }
-obeys_one (code.State p) t u text no_expect no_out answers = record { text = text; one = refl; answers = answers }
-obeys_one (code.Value p x) t u text no_expect no_out answers = record { text = text; one = refl; answers = answers }
-obeys_one (code.Expect x) t u text no_expect no_out answers = absurd (no_expect x refl)
+pub obeys_one : (keeps : Bool) (c : TermCommand) (t u : Term) (text : List ℕ) → ((x : _) → c ≡ code.Expect x → ⊥) → ((x : _) → c ≡ code.Out x → ⊥)
+    → Answers keeps (plain_term_command c) t text u → Obeys keeps (plain_term_command c) t (text ∷ []) u
+obeys_one keeps (code.Order o) t u text no_expect no_out answers = record { text = text; one = refl; answers = answers }
+obeys_one keeps (code.Unit x) t u text no_expect no_out answers = record { text = text; one = refl; answers = answers }
+obeys_one keeps (code.Units n x) t u text no_expect no_out answers = record { text = text; one = refl; answers = answers }
+obeys_one keeps (code.Errors n) t u text no_expect no_out answers = record { text = text; one = refl; answers = answers }
+obeys_one keeps (code.Line x) t u text no_expect no_out answers = record { text = text; one = refl; answers = answers }
+obeys_one keeps (code.Msu x) t u text no_expect no_out answers = record { text = text; one = refl; answers = answers }
+obeys_one keeps (code.Out n) t u text no_expect no_out answers = absurd (no_out n refl)
+obeys_one keeps (code.Tick n) t u text no_expect no_out answers = record { text = text; one = refl; answers = answers }
+obeys_one keeps code.Told t u text no_expect no_out answers = record { text = text; one = refl; answers = answers }
+obeys_one keeps code.Accepted t u text no_expect no_out answers = record { text = text; one = refl; answers = answers }
+obeys_one keeps (code.Retrieve n) t u text no_expect no_out answers = record { text = text; one = refl; answers = answers }
+obeys_one keeps (code.State p) t u text no_expect no_out answers = record { text = text; one = refl; answers = answers }
+obeys_one keeps (code.Value p x) t u text no_expect no_out answers = record { text = text; one = refl; answers = answers }
+obeys_one keeps (code.Expect x) t u text no_expect no_out answers = absurd (no_expect x refl)
 
 -- `out`
-pub obeys_out : (c : TermCommand) (n : ℕ) (t u : Term) (lines : List (List ℕ)) → c ≡ code.Out n → GoOut n t lines u → Obeys (plain_term_command c) t lines u
-obeys_out c n t u lines is out = let P : TermCommand → Type 0 = λ d. Obeys (plain_term_command d) t lines u in subst P (sym is) out
+pub obeys_out : (keeps : Bool) (c : TermCommand) (n : ℕ) (t u : Term) (lines : List (List ℕ)) → c ≡ code.Out n → GoOut n t lines u → Obeys keeps (plain_term_command c) t lines u
+obeys_out keeps c n t u lines is out = let P : TermCommand → Type 0 = λ d. Obeys keeps (plain_term_command d) t lines u in subst P (sym is) out
 
 -- one command more of a list
-pub run_more : (t : Term) (before : List PlainTermSaid) (items : List TermSaid) (i : ℕ) (x : TermSaid) (first written : Option (List ℕ)) (now : Term)
+pub run_more : (keeps : Bool) (t : Term) (before : List PlainTermSaid) (items : List TermSaid) (i : ℕ) (x : TermSaid) (first written : Option (List ℕ)) (now : Term)
     (last : Option (List ℕ)) → i < length items → x ≡ get_or items i x
-    → IsTermRun t ((before ++ map plain_term_said (take i items)) ++ plain_term_said x ∷ []) first written now last
-    → IsTermRun t (before ++ map plain_term_said (take (i + 1) items)) first written now last
-run_more t before items i x first written now last within is run =
-    let P : List PlainTermSaid → Type 0 = λ commands. IsTermRun t commands first written now last in
+    → IsTermRun keeps t ((before ++ map plain_term_said (take i items)) ++ plain_term_said x ∷ []) first written now last
+    → IsTermRun keeps t (before ++ map plain_term_said (take (i + 1) items)) first written now last
+run_more keeps t before items i x first written now last within is run =
+    let P : List PlainTermSaid → Type 0 = λ commands. IsTermRun keeps t commands first written now last in
     let taken : take (i + 1) items ≡ take i items ++ x ∷ [] = take_more items i x within ∙ ap (λ y. take i items ++ y ∷ []) (sym is) in
     subst P
     (append_assoc before (map plain_term_said (take i items)) (plain_term_said x ∷ [])
@@ -192,10 +197,10 @@ run_more t before items i x first written now last within is run =
     run
 
 -- an expectation that fails behind the commands that were obeyed
-pub run_missed : (t : Term) (before : List PlainTermSaid) (items : List TermSaid) (i : ℕ) (x : TermSaid) (first old new : Option (List ℕ)) (now : Term)
-    (last : Option (List ℕ)) → i < length items → x ≡ get_or items i x → IsTermRun t (before ++ map plain_term_said (take i items)) first old now last
-    → IsTermMissedBy (plain_term_said x) last old new → IsTermMissed (before ++ map plain_term_said items) first new t
-run_missed t before items i x first old new now last within is run missed =
+pub run_missed : (keeps : Bool) (t : Term) (before : List PlainTermSaid) (items : List TermSaid) (i : ℕ) (x : TermSaid) (first old new : Option (List ℕ)) (now : Term)
+    (last : Option (List ℕ)) → i < length items → x ≡ get_or items i x → IsTermRun keeps t (before ++ map plain_term_said (take i items)) first old now last
+    → IsTermMissedBy (plain_term_said x) last old new → IsTermMissed keeps (before ++ map plain_term_said items) first new t
+run_missed keeps t before items i x first old new now last within is run missed =
     let rest : drop i items ≡ x ∷ drop (i + 1) items = drop_more items i x within ∙ ap (λ y. y ∷ drop (i + 1) items) (sym is) in
     let parts : items ≡ take i items ++ x ∷ drop (i + 1) items = sym (take-append-drop i items) ∙ ap (λ ys. take i items ++ ys) rest in
     record {
@@ -212,3 +217,28 @@ run_missed t before items i x first old new now last within is run missed =
       run = run;
       missed = missed;
     }
+
+-- ---- whole scripts
+
+-- by a list that is told as commands, or as what they are
+pub any_told : (xs : List TermSaid) → list_any (λ x. is_told (plain_term_said x)) xs ≡ asks_told (map plain_term_said xs)
+any_told [] = refl
+any_told (x ∷ xs) = ap (λ b. is_told (plain_term_said x) || b) (any_told xs)
+
+-- all commands of a script were obeyed
+pub written : (keeps : Bool) (commands items : List TermSaid) (old new : Option (List ℕ)) (t now : Term) (last : Option (List ℕ))
+    → keeps ≡ asks_told (map plain_term_said commands) → commands ≡ items
+    → IsTermRun keeps t (map plain_term_said commands) old new now last → IsTermWritten (map plain_term_said items) old new t
+written keeps commands items old new t now last told same run =
+    let P : Bool → Type 0 = λ k. IsTermRun k t (map plain_term_said commands) old new now last in
+    let Q : List TermSaid → Type 0 = λ xs. IsTermWritten (map plain_term_said xs) old new t in
+    subst Q same (record { now = now; last = last; run = subst P told run })
+
+-- an expectation of it fails
+pub failed : (keeps : Bool) (commands items : List TermSaid) (old new : Option (List ℕ)) (t : Term)
+    → keeps ≡ asks_told (map plain_term_said commands) → commands ≡ items
+    → IsTermMissed keeps (map plain_term_said commands) old new t → IsTermFailed (map plain_term_said items) old new t
+failed keeps commands items old new t told same missed =
+    let P : Bool → Type 0 = λ k. IsTermMissed k (map plain_term_said commands) old new t in
+    let Q : List TermSaid → Type 0 = λ xs. IsTermFailed (map plain_term_said xs) old new t in
+    subst Q same (subst P told missed)

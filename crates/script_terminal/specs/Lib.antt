@@ -1,5 +1,6 @@
 pub mod TermAnswers
 pub mod TermRuns
+pub mod Told
 pub mod UnitLines
 pub use Rattle.link_term.specs.Kept
 pub use Rattle.link_term.specs.Opening

@@ -1,11 +1,12 @@
 -- What each command of a terminal's script makes of the terminal, and the lines that it prints.
-use Rattle.std.specs.Prelude.{◌≡◌, ◌⊎◌, ℕ, ◌<◌, ◌≤◌, zero, suc, true, List, [], ◌∷◌, ◌++◌, length}
-use Rattle.std.specs.Prelude.{Option, None, Some, codes}
+use Rattle.std.specs.Prelude.{◌≡◌, ◌⊎◌, ℕ, ◌<◌, ◌≤◌, zero, suc, Bool, true, false, List, [], ◌∷◌}
+use Rattle.std.specs.Prelude.{◌++◌, length, Option, None, Some, codes}
+use Rattle.std.specs.Fmt.{decimal}
 use Rattle.resend_store.specs.Limits.{MOST_WAITING}
-use Rattle.resend_store.specs.Window.{waiting, with_put}
+use Rattle.resend_store.specs.Window.{waiting, with_put, retrieved, count_known}
 use Rattle.resend_store.specs.declared.messages.Msu.{Msu}
 use Rattle.su_octets.specs.Printed.{unit_text}
-use Rattle.su_octets.specs.declared.units.Unit as units
+use Rattle.su_octets.specs.declared.units.Unit as su
 use Rattle.actor_machine.specs.Ledger.{ask}
 use Rattle.actor_machine.specs.Step.{Answer, Stuck, Says}
 use Rattle.actor_machine.specs.declared.event.Event.{Event}
@@ -13,7 +14,8 @@ use Rattle.actor_machine.specs.declared.event.Event.TheVariants.{Advance}
 use Rattle.actor_machine.specs.declared.reply.Reply.{Reply}
 use Rattle.actor_machine.specs.declared.reply.Reply.TheVariants as reply
 use Rattle.link_transceiver.specs.Limits.{KEPT_MESSAGES}
-use Rattle.link_term.specs.Machine.{Sent, offered, sent, tidied, is_low}
+use Rattle.link_transceiver.specs.Reporting.{reported}
+use Rattle.link_term.specs.Machine.{Sent, offered, sent, tidied, is_low, handed_out, clear_obeyed}
 use Rattle.link_term.specs.Offering.{command_event}
 use Rattle.link_term.specs.link_processes_types.commands.Command.{Command}
 use Rattle.link_term.specs.link_processes_types.commands.Command.TheVariants as command
@@ -24,10 +26,12 @@ use Rattle.link_term.specs.declared.answers.CallError.{CallError}
 use Rattle.link_term.specs.declared.answers.CallError.TheVariants.{Refused, NoMemory}
 use Rattle.script_links.specs.declared.orders.Order.{Order}
 use Rattle.script_links.specs.declared.orders.Order.TheVariants as word
-use Rattle.script_links.specs.TermCommands.{PlainTermCommand, order, unit, line, msu, out, ticks}
-use Rattle.script_links.specs.TermCommands.{state, shown, expected}
+use Rattle.script_links.specs.TermCommands.{PlainTermCommand, order, unit, units, errors, line, msu}
+use Rattle.script_links.specs.TermCommands.{out, ticks, told, accepted, retrieving, state, shown}
+use Rattle.script_links.specs.TermCommands.{expected}
 use Rattle.script_book.specs.Refused.{refused_text}
 use Rattle.script_book.specs.Answers.{answer_text, actor_named, state_line, value_line}
+use Rattle.script_terminal.specs.Told.{told_line}
 use Rattle.script_terminal.specs.UnitLines.{IsLineOf}
 
 -- ---- calls that are one event of the book
@@ -43,6 +47,9 @@ command_of word.Outage = command.Outage
 command_of word.Back = command.Back
 command_of word.Busy = command.Busy
 command_of word.Free = command.Free
+command_of word.Flush = command.Flush
+command_of word.Continue = command.Continue
+command_of word.Overload = command.Overload
 
 -- Behind an event that the book takes the actors come to rest; one that it refuses changes nothing.
 -- Room is made in the journal before either, where fewer than half of its places are free.
@@ -116,11 +123,63 @@ pub data Listens : Term → List ℕ → Term → Type 0 where
       → ((more ≡ [] → ⊥) → TakesNoMore m)
       → Listens (without_reports m) more u → Listens t (first ∷ (octets ++ more)) u
 
--- what comes in of a signal unit, whose octets without the check octets these are
-pub record Receives (octets : List ℕ) (t u : Term) : Type 0 where
+-- Octets of the line come in, and what is told is kept. Only where the terminal takes no more what
+-- waits is dropped, and then the other octets come in so.
+pub data Hears : Term → List ℕ → Term → Type 0 where
+  heard_all : (t u : Term) (octets : List ℕ) → Heard t octets u → Hears t octets u
+  in_parts : (t m u : Term) (octets more : List ℕ) → Heard t octets m → TakesNoMore m
+      → Hears (without_reports m) more u → Hears t (octets ++ more) u
+
+-- whether what is told is kept
+abbrev pub Takes : Bool → Term → List ℕ → Term → Type 0
+Takes true t octets u = Hears t octets u
+Takes false t octets u = Listens t octets u
+
+-- these octets come in so many times
+pub data TakesTimes (keeps : Bool) (octets : List ℕ) : ℕ → Term → Term → Type 0 where
+  never : (t : Term) → TakesTimes keeps octets zero t t
+  again : (n : ℕ) (t m u : Term) → TakesTimes keeps octets n t m → Takes keeps m octets u
+      → TakesTimes keeps octets (suc n) t u
+
+-- so many times comes in a signal unit, whose octets without the check octets these are
+pub record ReceivesTimes (keeps : Bool) (octets : List ℕ) (n : ℕ) (t u : Term) : Type 0 where
   pub come : List ℕ
   pub are : IsLineOf octets come
-  pub listens : Listens t come u
+  pub takes : TakesTimes keeps come n t u
+
+-- a signal unit with errors: an octet between two flags, which is too short (Q.703, 4.1.1)
+abbrev pub error_line : List ℕ
+error_line = 126 ∷ 0 ∷ 126 ∷ []
+
+-- ---- what is told
+
+-- what is told next is handed out, and printed
+pub record Tells (t : Term) (text : List ℕ) (u : Term) : Type 0 where
+  pub says : text ≡ told_line (reported t.processes.transceiver).report
+  pub after : u ≡ term_with_transceiver t (reported t.processes.transceiver).transceiver
+
+-- the number of the message that was accepted last
+abbrev pub accepted_line : Term → List ℕ
+accepted_line t = codes "ok " ++ decimal t.processes.transceiver.receiver.last
+
+-- ---- messages that are handed out
+
+-- The terminal behind a retrieval: what it kept is gone, and where messages were out its processes
+-- hear that none is any more.
+abbrev pub behind_retrieve : Option ℕ → Term → Term
+behind_retrieve behind t = with_processes t (handed_out behind t.processes)
+
+-- Messages are handed out: those behind this number, or without one those that never were sent. A
+-- number that acknowledges more than was sent is refused.
+pub data Retrieves (behind : Option ℕ) (t : Term) : List ℕ → Term → Type 0 where
+  given : count_known t.processes.transceiver.sender behind
+      ≤ t.processes.transceiver.sender.sent
+      → Retrieves behind t
+      (codes "ok " ++ decimal (length (retrieved t.processes.transceiver.sender behind)))
+      (behind_retrieve behind t)
+  bad : t.processes.transceiver.sender.sent
+      < count_known t.processes.transceiver.sender behind
+      → Retrieves behind t (codes "refused E2 BadAck") t
 
 -- ---- units that go out
 
@@ -131,7 +190,7 @@ next_of t = sent (tidied t.processes)
 abbrev pub behind_next : Term → Term
 behind_next t = with_processes t (next_of t).processes
 
-abbrev pub unit_line : Option units.Unit → List ℕ
+abbrev pub unit_line : Option su.Unit → List ℕ
 unit_line None = codes "silent"
 unit_line (Some u) = unit_text u
 
@@ -141,36 +200,52 @@ pub data GoOut : ℕ → Term → List (List ℕ) → Term → Type 0 where
   nothing : (t : Term) → GoOut zero t [] t
   silent : (n : ℕ) (t : Term) → (next_of t).unit ≡ None
       → GoOut (suc n) t (codes "silent" ∷ []) (behind_next t)
-  one_goes : (n : ℕ) (t u : Term) (x : units.Unit) (lines : List (List ℕ))
+  one_goes : (n : ℕ) (t u : Term) (x : su.Unit) (lines : List (List ℕ))
       → (next_of t).unit ≡ Some x → GoOut n (behind_next t) lines u
       → GoOut (suc n) t (unit_text x ∷ lines) u
 
 -- ---- all commands
 
--- What a command that prints one line makes of a terminal, and that line. `out` and `expect` are
--- none of these: nothing is done for them here.
-abbrev pub Answers : PlainTermCommand → Term → List ℕ → Term → Type 0
-Answers (order o) t text u = IsAsked (command_event t.processes.names (command_of o)) t text u
-Answers (unit octets) t text u = (text ≡ codes "ok") × Receives octets t u
-Answers (line octets) t text u = (text ≡ codes "ok") × Listens t octets u
-Answers (msu octets) t text u = IsPut octets t text u
-Answers (out n) t text u = (text ≡ []) × (u ≡ t)
-Answers (ticks n) t text u = IsAsked (Advance n) t text u
-Answers (state process) t text u =
+-- What a command that prints one line makes of a terminal, and that line; whether what is told is
+-- kept. `out` and `expect` are none of these: nothing is done for them here.
+abbrev pub Does : Bool → PlainTermCommand → Term → List ℕ → Term → Type 0
+Does keeps (order o) t text u = IsAsked (command_event t.processes.names (command_of o)) t text u
+Does keeps (unit octets) t text u = (text ≡ codes "ok") × ReceivesTimes keeps octets 1 t u
+Does keeps (units n octets) t text u = (text ≡ codes "ok") × ReceivesTimes keeps octets n t u
+Does keeps (errors n) t text u = (text ≡ codes "ok") × TakesTimes keeps error_line n t u
+Does keeps (line octets) t text u = (text ≡ codes "ok") × TakesTimes keeps octets 1 t u
+Does keeps (msu octets) t text u = IsPut octets t text u
+Does keeps (out n) t text u = (text ≡ []) × (u ≡ t)
+Does keeps (ticks n) t text u = IsAsked (Advance n) t text u
+Does keeps told t text u = Tells t text u
+Does keeps accepted t text u = (text ≡ accepted_line t) × (u ≡ t)
+Does keeps (retrieving behind) t text u = Retrieves behind t text u
+Does keeps (state process) t text u =
     (text ≡ state_line t.processes.book (actor_named t.processes.book process)) × (u ≡ t)
-Answers (shown process variable) t text u =
+Does keeps (shown process variable) t text u =
     (text ≡ value_line t.processes.book variable (actor_named t.processes.book process)) × (u ≡ t)
-Answers (expected text) t said u = (said ≡ []) × (u ≡ t)
+Does keeps (expected text) t said u = (said ≡ []) × (u ≡ t)
 
-pub record AnswersOne (c : PlainTermCommand) (t : Term) (lines : List (List ℕ)) (u : Term) :
+-- the buffers are emptied, where the text asked for that
+abbrev pub behind_clear : Term → Term
+behind_clear t = with_processes t (clear_obeyed t.processes)
+
+-- a command was done, and the buffers emptied behind it where the text asked for that
+pub record Answers (keeps : Bool) (c : PlainTermCommand) (t : Term) (text : List ℕ) (u : Term) :
     Type 0 where
+  pub middle : Term
+  pub does : Does keeps c t text middle
+  pub after : u ≡ behind_clear middle
+
+pub record AnswersOne (keeps : Bool) (c : PlainTermCommand) (t : Term) (lines : List (List ℕ))
+    (u : Term) : Type 0 where
   pub text : List ℕ
   pub one : lines ≡ text ∷ []
-  pub answers : Answers c t text u
+  pub answers : Answers keeps c t text u
 
 -- a command was obeyed: what it makes of a terminal, and the lines that it prints; `expect` is no
 -- command to a terminal
-abbrev pub Obeys : PlainTermCommand → Term → List (List ℕ) → Term → Type 0
-Obeys (out n) t lines u = GoOut n t lines u
-Obeys (expected text) t lines u = ⊥
-Obeys c t lines u = AnswersOne c t lines u
+abbrev pub Obeys : Bool → PlainTermCommand → Term → List (List ℕ) → Term → Type 0
+Obeys keeps (out n) t lines u = GoOut n t lines u
+Obeys keeps (expected text) t lines u = ⊥
+Obeys keeps c t lines u = AnswersOne keeps c t lines u

@@ -1,5 +1,5 @@
 -- What a run of a terminal's script has printed, and what it made of its terminal.
-use Rattle.std.specs.Prelude.{◌≡◌, ℕ, List, [], ◌∷◌, ◌++◌, Option, None, Some, codes}
+use Rattle.std.specs.Prelude.{◌≡◌, ℕ, Bool, List, [], ◌∷◌, ◌++◌, Option, None, Some, codes}
 use Rattle.std.specs.List.{flat_map}
 use Rattle.std.specs.Io.KnownBytes.{Appends}
 use Rattle.turn_code.specs.declared.draft.Draft.{Draft}
@@ -14,7 +14,7 @@ use Rattle.link_term.specs.link_processes_types.wanted.Wanted.{Wanted}
 use Rattle.script_book.specs.Lines.{line_of}
 use Rattle.script_book.specs.Played.{last_in, Misses}
 use Rattle.script_links.specs.TermCommands.{expected}
-use Rattle.script_links.specs.TermScripts.{PlainTermSaid}
+use Rattle.script_links.specs.TermScripts.{PlainTermSaid, asks_told}
 use Rattle.script_terminal.specs.TermAnswers.{GoOut, Obeys}
 use Rattle.script_terminal.specs.declared.terminals.TermPlayer.{TermPlayer}
 
@@ -23,27 +23,28 @@ abbrev pub latest : Option (List ℕ) → List (List ℕ) → Option (List ℕ)
 latest last [] = last
 latest last (l ∷ ls) = latest (Some l) ls
 
--- A run from a terminal on: the commands that were obeyed, the lines that they printed, the
--- terminal now, and the line printed last. `expect` prints nothing, and holds where the line before
--- is the one that it names.
-pub data Goes (first : Term) :
+-- A run from a terminal on: whether what is told is kept, the commands that were obeyed, the lines
+-- that they printed, the terminal now, and the line printed last. `expect` prints nothing, and holds
+-- where the line before is the one that it names.
+pub data Goes (keeps : Bool) (first : Term) :
     List PlainTermSaid → List (List ℕ) → Term → Option (List ℕ) → Type 0 where
-  begins : Goes first [] [] first None
+  begins : Goes keeps first [] [] first None
   prints : {commands : List PlainTermSaid} {lines : List (List ℕ)} {now : Term} {last : Option
       (List ℕ)} (said : PlainTermSaid) (more : List (List ℕ))
-      (next : Term) → Obeys said.command now more next → Goes first commands lines now last
-      → Goes first (commands ++ said ∷ []) (lines ++ more) next (latest last more)
+      (next : Term) → Obeys keeps said.command now more next
+      → Goes keeps first commands lines now last
+      → Goes keeps first (commands ++ said ∷ []) (lines ++ more) next (latest last more)
   holds : {commands : List PlainTermSaid} {lines : List (List ℕ)} {now : Term} {text : List ℕ}
       (said : PlainTermSaid)
-      → said.command ≡ expected text → Goes first commands lines now (Some text)
-      → Goes first (commands ++ said ∷ []) lines now (Some text)
+      → said.command ≡ expected text → Goes keeps first commands lines now (Some text)
+      → Goes keeps first (commands ++ said ∷ []) lines now (Some text)
 
 -- these commands were obeyed, one after another, and what is written grew by their lines, each with
 -- its end
-pub record IsTermRun (first : Term) (commands : List PlainTermSaid) (old new : Option (List ℕ))
-    (now : Term) (last : Option (List ℕ)) : Type 0 where
+pub record IsTermRun (keeps : Bool) (first : Term) (commands : List PlainTermSaid)
+    (old new : Option (List ℕ)) (now : Term) (last : Option (List ℕ)) : Type 0 where
   pub lines : List (List ℕ)
-  pub goes : Goes first commands lines now last
+  pub goes : Goes keeps first commands lines now last
   pub written : Appends old new (flat_map line_of lines)
 
 -- these lines were printed behind what was there
@@ -60,12 +61,13 @@ pub record HasGivenOut (units : ℕ) (old new last next : Option (List ℕ)) (t 
   pub out : GoOut units t lines u
   pub printed : HasPrinted old new last next lines
 
--- the commands were obeyed, whatever the terminal is now, and was printed last
+-- the commands were obeyed, whatever the terminal is now, and was printed last; what is told was
+-- kept where one of them asks for it
 pub record IsTermWritten (commands : List PlainTermSaid) (old new : Option (List ℕ))
     (first : Term) : Type 0 where
   pub now : Term
   pub last : Option (List ℕ)
-  pub run : IsTermRun first commands old new now last
+  pub run : IsTermRun (asks_told commands) first commands old new now last
 
 -- an expectation of a terminal's script fails
 abbrev pub IsTermMissedBy :
@@ -74,8 +76,8 @@ IsTermMissedBy said last old new =
     Misses said.line (λ text. said.command ≡ expected text) last old new
 
 -- the commands up to an expectation were obeyed, and that fails; nothing else is written
-pub record IsTermMissed (commands : List PlainTermSaid) (old new : Option (List ℕ)) (first : Term) :
-    Type 0 where
+pub record IsTermMissed (keeps : Bool) (commands : List PlainTermSaid) (old new : Option (List ℕ))
+    (first : Term) : Type 0 where
   pub before : List PlainTermSaid
   pub said : PlainTermSaid
   pub after : List PlainTermSaid
@@ -83,8 +85,13 @@ pub record IsTermMissed (commands : List PlainTermSaid) (old new : Option (List 
   pub middle : Option (List ℕ)
   pub now : Term
   pub last : Option (List ℕ)
-  pub run : IsTermRun first before old middle now last
+  pub run : IsTermRun keeps first before old middle now last
   pub missed : IsTermMissedBy said last middle new
+
+-- the same of all commands of a script, by which is said whether what is told is kept
+abbrev pub IsTermFailed :
+    List PlainTermSaid → Option (List ℕ) → Option (List ℕ) → Term → Type 0
+IsTermFailed commands old new first = IsTermMissed (asks_told commands) commands old new first
 
 -- P holds of a terminal over the set that is new, with this error correction
 pub record IsOfNew (d : Draft) (mode : Mode) (P : Term → Type 0) : Type 0 where

@@ -1,17 +1,21 @@
 //! What is printed for each command of a terminal's script.
-ghost use Rattle.std.specs.Prelude.{◌≡◌, ◌≤◌, IfOk, IfSome, IsNone, OnOk, codes, length};
+ghost use Rattle.std.specs.Prelude.{◌≡◌, ◌<◌, IfOk, IfSome, IsNone, IsTrue, codes};
 ghost use Rattle.actor_machine.specs.declared.event.Event.TheVariants.{Advance};
 ghost use Rattle.link_term.specs.Offering.{command_event};
 ghost use Rattle.script_links.specs.TermCommands.{plain_term_command};
-ghost use Rattle.script_terminal.specs.TermAnswers.{command_of, IsAsked, IsRefusedLine, IsMessageOf, AreNoMessage, IsPut, without_reports, Listens, Receives, Answers};
+ghost use Rattle.script_terminal.specs.TermAnswers.{command_of, IsAsked, IsRefusedLine, IsMessageOf, AreNoMessage, IsPut, accepted_line, Tells, Retrieves, Does, Answers};
 
+use crate::hearing::{receive, take};
 use crate::orders::command_of;
-use crate::unit_line::line_of_unit;
+use crate::told::report_text;
 use arrayvec::ArrayVec;
-use link_term::{CallError, Msu, PutError, Terminal};
+use link_term::{CallError, Msu, PutError, RetrieveError, Terminal};
 use script_book::{refused_line, state_line, text_line, value_line};
 use script_links::{Order, TermCommand};
 use std::alloc::{AllocError, Global};
+
+/// A signal unit with errors, between two flags: a single octet is too short.
+const ERROR: [u8; 3] = [0x7E, 0x00, 0x7E];
 
 /// The line of a refusal; none where memory is wanting.
 fn refused(alloc: Global, error: CallError) -> Result<Vec<u8>, AllocError>
@@ -81,61 +85,98 @@ fn put(alloc: Global, terminal: &mut Terminal, octets: &[u8]) -> Result<Vec<u8>,
     }
 }
 
-/// Takes all reports out: a script doesn't print them.
-fn drop_reports(terminal: &mut Terminal)
-    ensures { terminal.new ≡ without_reports terminal.old }
+/// `told`: what the terminal tells next.
+fn told(alloc: Global, terminal: &mut Terminal) -> Result<Vec<u8>, AllocError>
+    ensures { IfOk result (λ v. Tells terminal.old v.items terminal.new) }
 {
-    'reports: loop {
-        if terminal.report().is_none() {
-            return;
+    match terminal.report() {
+        Some(report) => {
+            let text = report_text(alloc, &report)?;
+            Ok(text.into_bytes())
         }
+        None => Vec::from_slice(alloc, b"nothing"),
     }
 }
 
-/// `line HEX`: takes octets of the line, all of them.
-fn take(alloc: Global, terminal: &mut Terminal, octets: &[u8]) -> Result<Vec<u8>, AllocError>
-    ensures text { IfOk result (λ v. v.items ≡ codes "ok") }
-    ensures listens { OnOk result (Listens terminal.old octets.now terminal.new) }
+/// `accepted`: the number of the message that was accepted last.
+fn accepted(alloc: Global, terminal: &Terminal) -> Result<Vec<u8>, AllocError>
+    ensures { IfOk result (λ v. v.items ≡ accepted_line terminal.now) }
 {
-    let mut from = 0;
-    while from < octets.len() {
-        let taken = terminal.line_in(&octets[from..]);
-        drop_reports(terminal);
-        if taken == 0 {
-            return Err(AllocError);
-        }
-        from += taken;
+    let number = terminal.accepted();
+    text_line(alloc, &format_args!("ok {number}"))
+}
+
+/// Whether a number, if there is one, may be that of a message.
+fn is_number(behind: Option<u8>) -> bool
+    ensures { IsTrue result → IfSome behind (λ number. number < 128) }
+{
+    match behind {
+        Some(number) => number < 128,
+        None => true,
     }
-    Vec::from_slice(alloc, b"ok")
 }
 
-/// `unit HEX`: takes what comes in of a unit.
-fn receive(alloc: Global, terminal: &mut Terminal, octets: &[u8]) -> Result<Vec<u8>, AllocError>
-    ensures text { IfOk result (λ v. v.items ≡ codes "ok") }
-    ensures receives { OnOk result (Receives octets.now terminal.old terminal.new) }
+/// `retrieve N`, `retrieve`: hands messages out. A number above 127 would be told as want of memory, but none comes here: a line with such a
+/// number is no command.
+fn retrieve(
+    alloc: Global,
+    terminal: &mut Terminal,
+    behind: Option<u8>,
+) -> Result<Vec<u8>, AllocError>
+    ensures { IfOk result (λ v. Retrieves behind terminal.old v.items terminal.new) }
 {
-    let line = line_of_unit(alloc, octets)?;
-    take(alloc, terminal, &line)
+    if !is_number(behind) {
+        return Err(AllocError);
+    }
+    match terminal.retrieve_telling(behind) {
+        Ok(messages) => {
+            let count = messages.len();
+            text_line(alloc, &format_args!("ok {count}"))
+        }
+        Err(RetrieveError::BadAck) => Vec::from_slice(alloc, b"refused E2 BadAck"),
+        Err(RetrieveError::NoMemory) => Err(AllocError),
+    }
 }
 
-/// The line that a command prints, but for `out` and `expect`, for which there is none.
-pub fn answer(
+/// The line that a command prints, but for `out` and `expect`, for which there is none. Unless it `keeps` what the terminal tells, that is
+/// dropped behind a unit and behind octets of the line.
+fn done(
     alloc: Global,
     terminal: &mut Terminal,
     command: &TermCommand<'_>,
+    keeps: bool,
 ) -> Result<Vec<u8>, AllocError>
-    ensures { IfOk result (λ v. Answers (plain_term_command command.now) terminal.old v.items terminal.new) }
+    ensures { IfOk result (λ v. Does keeps (plain_term_command command.now) terminal.old v.items terminal.new) }
 {
     match command {
         TermCommand::Order(order) => tell(alloc, terminal, *order),
-        TermCommand::Unit(octets) => receive(alloc, terminal, octets),
-        TermCommand::Line(octets) => take(alloc, terminal, octets),
+        TermCommand::Unit(octets) => receive(alloc, terminal, octets, 1, keeps),
+        TermCommand::Units(times, octets) => receive(alloc, terminal, octets, *times, keeps),
+        TermCommand::Errors(times) => take(alloc, terminal, &ERROR, *times, keeps),
+        TermCommand::Line(octets) => take(alloc, terminal, octets, 1, keeps),
         TermCommand::Msu(octets) => put(alloc, terminal, octets),
         TermCommand::Tick(ticks) => tick(alloc, terminal, *ticks),
+        TermCommand::Told => told(alloc, terminal),
+        TermCommand::Accepted => accepted(alloc, terminal),
+        TermCommand::Retrieve(behind) => retrieve(alloc, terminal, *behind),
         TermCommand::State(process) => state_line(alloc, terminal.book(), process),
         TermCommand::Value(process, variable) => {
             value_line(alloc, terminal.book(), process, variable)
         }
         TermCommand::Out(_) | TermCommand::Expect(_) => Ok(Vec::new(alloc)),
     }
+}
+
+/// The same, and behind the command the terminal's buffers are emptied where its text asked for that.
+pub fn answer(
+    alloc: Global,
+    terminal: &mut Terminal,
+    command: &TermCommand<'_>,
+    keeps: bool,
+) -> Result<Vec<u8>, AllocError>
+    ensures { IfOk result (λ v. Answers keeps (plain_term_command command.now) terminal.old v.items terminal.new) }
+{
+    let line = done(alloc, terminal, command, keeps)?;
+    terminal.obey_clear();
+    Ok(line)
 }

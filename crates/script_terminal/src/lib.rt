@@ -2,8 +2,10 @@
 #![tactic(auto)]
 
 mod answers;
+mod hearing;
 mod orders;
 mod terminals;
+mod told;
 mod unit_line;
 
 pub use answers::{answer, message};
@@ -13,5 +15,6 @@ pub use script_book::{
     FAILED, HELD, MISSED, Player, Printer, open_player, play_book, refuse, refused_line,
     state_line, text_line, value_line, write_line,
 };
-pub use terminals::{TermPlayer, new_player, play_terminal, refuse_set};
+pub use terminals::{TermPlayer, asks_told, new_player, play_terminal, refuse_set};
+pub use told::report_text;
 pub use unit_line::line_of_unit;

@@ -19,5 +19,8 @@ pub fn command_of(order: Order) -> Command
         Order::Back => Command::Back,
         Order::Busy => Command::Busy,
         Order::Free => Command::Free,
+        Order::Flush => Command::Flush,
+        Order::Continue => Command::Continue,
+        Order::Overload => Command::Overload,
     }
 }

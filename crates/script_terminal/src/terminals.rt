@@ -1,9 +1,9 @@
 //! A terminal's script as it runs.
 ghost use Rattle.std.specs.Prelude.{◌≡◌, ◌⊎◌, ◌++◌, ◌∷◌, [], List, ℕ, Option, map, is_some, None, OnOk, IfOk, true, false};
 ghost use Rattle.link_term.specs.Term.{Term};
-ghost use Rattle.script_links.specs.TermScripts.{PlainTermSaid, plain_term_said};
+ghost use Rattle.script_links.specs.TermScripts.{PlainTermSaid, plain_term_said, is_told, asks_told};
 ghost use Rattle.script_terminal.specs.TermAnswers.{next_of, behind_next, unit_line};
-ghost use Rattle.script_terminal.specs.TermRuns.{last_of, HasPrinted, HasGivenOut, IsTermRun, IsTermWritten, IsTermMissed, IsTermMissedBy, IsOfNew, PrintsLacking, LacksName};
+ghost use Rattle.script_terminal.specs.TermRuns.{last_of, HasPrinted, HasGivenOut, IsTermRun, IsTermWritten, IsTermMissed, IsTermFailed, IsTermMissedBy, IsOfNew, PrintsLacking, LacksName};
 
 use crate::answers::answer;
 use link_term::{OpenError, Terminal};
@@ -55,7 +55,7 @@ impl TermPlayer {
         Ok(())
     }
 
-    /// Does what a command says. Whether the run goes on: it doesn't behind `failed line N`.
+    /// Does what a command says; whether what the terminal tells is kept. Whether the run goes on: it doesn't behind `failed line N`.
     ///
     /// # Errors
     ///
@@ -64,11 +64,12 @@ impl TermPlayer {
         &mut self,
         alloc: Global,
         said: &TermSaid<'_>,
+        keeps: bool,
         writer: &mut W,
     ) -> io::Result<bool>
         ensures goes { IfOk result (λ on. on ≡ true → (t : Term) (before : List PlainTermSaid) (first : Option (List ℕ))
-            → IsTermRun t before first (W.contents writer.old) self.old.terminal (last_of self.old)
-            → IsTermRun t (before ++ plain_term_said said.now ∷ []) first (W.contents writer.new) self.new.terminal (last_of self.new)) }
+            → IsTermRun keeps t before first (W.contents writer.old) self.old.terminal (last_of self.old)
+            → IsTermRun keeps t (before ++ plain_term_said said.now ∷ []) first (W.contents writer.new) self.new.terminal (last_of self.new)) }
         ensures missed { IfOk result (λ on. on ≡ false
             → IsTermMissedBy (plain_term_said said.now) (last_of self.old) (W.contents writer.old) (W.contents writer.new)) }
     {
@@ -86,14 +87,15 @@ impl TermPlayer {
                 Ok(true)
             }
             command => {
-                let line = answer(alloc, &mut self.terminal, command)?;
+                let line = answer(alloc, &mut self.terminal, command, keeps)?;
                 self.printer.print(line, writer)?;
                 Ok(true)
             }
         }
     }
 
-    /// Does what the commands say, in order, up to an expectation that fails. Gives the exit status, 0 or 1 where one failed.
+    /// Does what the commands say, in order, up to an expectation that fails; whether what the terminal tells is kept. Gives the exit status,
+    /// 0 or 1 where one failed.
     ///
     /// # Errors
     ///
@@ -102,23 +104,53 @@ impl TermPlayer {
         &mut self,
         alloc: Global,
         commands: &[TermSaid<'_>],
+        keeps: bool,
         writer: &mut W,
     ) -> io::Result<u8>
         ensures held { IfOk result (λ status. status ≡ 0 → (t : Term) (before : List PlainTermSaid) (first : Option (List ℕ))
-            → IsTermRun t before first (W.contents writer.old) self.old.terminal (last_of self.old)
-            → IsTermRun t (before ++ map plain_term_said commands.now) first (W.contents writer.new) self.new.terminal (last_of self.new)) }
+            → IsTermRun keeps t before first (W.contents writer.old) self.old.terminal (last_of self.old)
+            → IsTermRun keeps t (before ++ map plain_term_said commands.now) first (W.contents writer.new) self.new.terminal (last_of self.new)) }
         ensures missed { IfOk result (λ status. status ≡ 1 → (t : Term) (before : List PlainTermSaid) (first : Option (List ℕ))
-            → IsTermRun t before first (W.contents writer.old) self.old.terminal (last_of self.old)
-            → IsTermMissed (before ++ map plain_term_said commands.now) first (W.contents writer.new) t) }
+            → IsTermRun keeps t before first (W.contents writer.old) self.old.terminal (last_of self.old)
+            → IsTermMissed keeps (before ++ map plain_term_said commands.now) first (W.contents writer.new) t) }
         ensures status { IfOk result (λ status. (status ≡ 0) ⊎ (status ≡ 1)) }
     {
         for said in commands {
-            if !self.obey(alloc, said, writer)? {
+            if !self.obey(alloc, said, keeps, writer)? {
                 return Ok(MISSED);
             }
         }
         Ok(HELD)
     }
+}
+
+/// Whether a command asks what the terminal tells.
+fn is_told(said: &TermSaid<'_>) -> bool
+    ensures { result ≡ is_told (plain_term_said said.now) }
+{
+    match &said.command {
+        TermCommand::Told => true,
+        TermCommand::Order(_)
+        | TermCommand::Unit(_)
+        | TermCommand::Units(_, _)
+        | TermCommand::Errors(_)
+        | TermCommand::Line(_)
+        | TermCommand::Msu(_)
+        | TermCommand::Out(_)
+        | TermCommand::Tick(_)
+        | TermCommand::Accepted
+        | TermCommand::Retrieve(_)
+        | TermCommand::State(_)
+        | TermCommand::Value(_, _)
+        | TermCommand::Expect(_) => false,
+    }
+}
+
+/// Whether one of the commands asks what the terminal tells.
+pub fn asks_told(commands: &[TermSaid<'_>]) -> bool
+    ensures { result ≡ asks_told (map plain_term_said commands.now) }
+{
+    commands.iter().any(|said| is_told(said))
 }
 
 /// A terminal of which nothing is printed yet.
@@ -140,12 +172,14 @@ fn play_on<W: Write>(
     ensures held { result ≡ 0
         → IsTermWritten (map plain_term_said script.now.commands.items) (W.contents writer.old) (W.contents writer.new) terminal }
     ensures missed { result ≡ 1
-        → IsTermMissed (map plain_term_said script.now.commands.items) (W.contents writer.old) (W.contents writer.new) terminal }
+        → IsTermFailed (map plain_term_said script.now.commands.items) (W.contents writer.old) (W.contents writer.new) terminal }
     ensures status { (result ≡ 0) ⊎ (result ≡ 1) ⊎ (result ≡ 4) }
 {
     let printer = Printer { last: None };
     let mut player = TermPlayer { terminal, printer };
-    match player.run(alloc, &script.commands, writer) {
+    let commands = script.commands.as_slice();
+    let keeps = asks_told(commands);
+    match player.run(alloc, commands, keeps, writer) {
         Ok(status) => status,
         Err(_) => FAILED,
     }
@@ -163,7 +197,7 @@ pub fn refuse_set<W: Write>(alloc: Global, writer: &mut W, error: OpenError) -> 
 }
 
 /// Runs a terminal's script on a terminal over a set, and prints what each command but `expect` gives: one line, but for `out`, which prints
-/// one for each unit.
+/// one for each unit. What the terminal tells is kept where a command asks for it.
 ///
 /// Gives the exit status: 0 where each command ran and its lines were written, 1 after `failed line N` where an expectation failed, 2 after
 /// `refused X2 NoName NAME` alone where the set lacks a name that a terminal speaks to or hears, 4 where memory or a write fails. Nothing is
@@ -177,7 +211,7 @@ pub fn play_terminal<W: Write>(
     ensures held { result ≡ 0
         → IsOfNew set.now script.now.mode (IsTermWritten (map plain_term_said script.now.commands.items) (W.contents writer.old) (W.contents writer.new)) }
     ensures missed { result ≡ 1
-        → IsOfNew set.now script.now.mode (IsTermMissed (map plain_term_said script.now.commands.items) (W.contents writer.old) (W.contents writer.new)) }
+        → IsOfNew set.now script.now.mode (IsTermFailed (map plain_term_said script.now.commands.items) (W.contents writer.old) (W.contents writer.new)) }
     ensures refused { result ≡ 2 → LacksName set.now (W.contents writer.old) (W.contents writer.new) }
     ensures status { (result ≡ 0) ⊎ (result ≡ 1) ⊎ (result ≡ 2) ⊎ (result ≡ 4) }
 {

@@ -40,6 +40,18 @@ pub returns-in-free : goal.returns-in-free
 unfolding order_of
 returns-in-free c = rw c.in-free.is refl
 
+pub returns-in-flush : goal.returns-in-flush
+unfolding order_of
+returns-in-flush c = rw c.in-flush.is refl
+
+pub returns-in-continue : goal.returns-in-continue
+unfolding order_of
+returns-in-continue c = rw c.in-continue.is refl
+
+pub returns-in-overload : goal.returns-in-overload
+unfolding order_of
+returns-in-overload c = rw c.in-overload.is refl
+
 -- a word that is none of these
 no_order : (word : List ℕ)
     → word ≢ codes "power"
@@ -51,9 +63,12 @@ no_order : (word : List ℕ)
     → word ≢ codes "back"
     → word ≢ codes "busy"
     → word ≢ codes "free"
+    → word ≢ codes "flush"
+    → word ≢ codes "continue"
+    → word ≢ codes "overload"
     → None ≡ order_of word
 unfolding order_of
-no_order word n_power n_start n_stop n_emergency n_calm n_outage n_back n_busy n_free =
+no_order word n_power n_start n_stop n_emergency n_calm n_outage n_back n_busy n_free n_flush n_continue n_overload =
     rw (
       bytes_ne word (codes "power") n_power,
       bytes_ne word (codes "start") n_start,
@@ -64,7 +79,11 @@ no_order word n_power n_start n_stop n_emergency n_calm n_outage n_back n_busy n
       bytes_ne word (codes "back") n_back,
       bytes_ne word (codes "busy") n_busy,
       bytes_ne word (codes "free") n_free,
+      bytes_ne word (codes "flush") n_flush,
+      bytes_ne word (codes "continue") n_continue,
+      bytes_ne word (codes "overload") n_overload,
     ) refl
 
 pub returns-in_default : goal.returns-in_default
 returns-in_default c = no_order c.args.word.now c.in_default.not-power c.in_default.not-start c.in_default.not-stop c.in_default.not-emergency c.in_default.not-calm c.in_default.not-outage c.in_default.not-back c.in_default.not-busy c.in_default.not-free
+    c.in_default.not-flush c.in_default.not-continue c.in_default.not-overload

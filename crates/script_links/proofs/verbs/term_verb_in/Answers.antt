@@ -24,6 +24,14 @@ pub returns-in-out : goal.returns-in-out
 unfolding term_verb_of
 returns-in-out c = rw c.in-out.is refl
 
+pub returns-in-errors : goal.returns-in-errors
+unfolding term_verb_of
+returns-in-errors c = rw c.in-errors.is refl
+
+pub returns-in-retrieve : goal.returns-in-retrieve
+unfolding term_verb_of
+returns-in-retrieve c = rw c.in-retrieve.is refl
+
 -- a word that is none of these
 no_verb : (word : List ℕ)
     → word ≢ codes "command"
@@ -31,16 +39,21 @@ no_verb : (word : List ℕ)
     → word ≢ codes "line"
     → word ≢ codes "msu"
     → word ≢ codes "out"
+    → word ≢ codes "errors"
+    → word ≢ codes "retrieve"
     → None ≡ term_verb_of word
 unfolding term_verb_of
-no_verb word n_command n_unit n_line n_msu n_out =
+no_verb word n_command n_unit n_line n_msu n_out n_errors n_retrieve =
     rw (
       bytes_ne word (codes "command") n_command,
       bytes_ne word (codes "unit") n_unit,
       bytes_ne word (codes "line") n_line,
       bytes_ne word (codes "msu") n_msu,
       bytes_ne word (codes "out") n_out,
+      bytes_ne word (codes "errors") n_errors,
+      bytes_ne word (codes "retrieve") n_retrieve,
     ) refl
 
 pub returns-in_default : goal.returns-in_default
-returns-in_default c = no_verb c.args.word.now c.in_default.not-command c.in_default.not-unit c.in_default.not-line c.in_default.not-msu c.in_default.not-out
+returns-in_default c = no_verb c.args.word.now c.in_default.not-command c.in_default.not-unit c.in_default.not-line c.in_default.not-msu c.in_default.not-out c.in_default.not-errors
+    c.in_default.not-retrieve

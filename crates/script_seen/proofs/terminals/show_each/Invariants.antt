@@ -9,5 +9,5 @@ use Rattle.script_seen.proofs.terminals.show_each.Given as goal
 abbrev pub invariant-loop-said : goal.invariant-loop-said
 invariant-loop-said g l =
     last_of l.initial.player ≡ None
-    → TermShowing (map plain_line l.lines) l.initial.player.terminal (map plain_term_said (take l.said-index l.commands)) (g.W.Write.contents l.initial.writer)
+    → TermShowing l.keeps (map plain_line l.lines) l.initial.player.terminal (map plain_term_said (take l.said-index l.commands)) (g.W.Write.contents l.initial.writer)
     (g.W.Write.contents l.writer) l.printed.items l.player.terminal (last_of l.player)

@@ -7,10 +7,10 @@ use Rattle.script_seen.proofs.terminals.show_next.Goals as goal
 
 pub returns-clause-goes : goal.returns-clause-goes
 returns-clause-goes g c on b before first s =
-    term_goes (map plain_line c.args.lines.now) b before (plain_term_said c.args.said.now) first _ _ _ _ _ _ _ _ _ s
+    term_goes c.args.keeps (map plain_line c.args.lines.now) b before (plain_term_said c.args.said.now) first _ _ _ _ _ _ _ _ _ s
     (has_front _ _ _ _ c.in_ok-show_line.ensures) c.in_ok-write_behind.ensures (c.in_ok-on.ensures.goes on b before (Some []) s.1)
 
 pub returns-clause-missed : goal.returns-clause-missed
 returns-clause-missed g c off b before first s =
-    term_misses (map plain_line c.args.lines.now) b before (plain_term_said c.args.said.now) first _ _ _ _ _ _ _ s
+    term_misses c.args.keeps (map plain_line c.args.lines.now) b before (plain_term_said c.args.said.now) first _ _ _ _ _ _ _ s
     (has_front _ _ _ _ c.in_ok-show_line.ensures) c.in_ok-write_behind.ensures (c.in_ok-on.ensures.missed off)

@@ -6,17 +6,17 @@ use Rattle.script_terminal.proofs.terminals.TermPlayer.obey.Goals as goal
 
 pub returns-then-has_printed-clause-goes : goal.returns-then-has_printed-clause-goes
 returns-then-has_printed-clause-goes g c on t before first run =
-    run_held t before (plain_term_said c.args.said.now) c.in-Expect.text.items first _ _ _ (ap plain_term_command c.in-Expect.is)
+    run_held c.args.keeps t before (plain_term_said c.args.said.now) c.in-Expect.text.items first _ _ _ (ap plain_term_command c.in-Expect.is)
     (c.has_printed.ensures.0 c.if-has_printed.true ∙ ap Some c.deref.ensures.value) run
 
 pub returns-in_ok-print_units-in-Out-clause-goes : goal.returns-in_ok-print_units-in-Out-clause-goes
 returns-in_ok-print_units-in-Out-clause-goes g c on t before first run =
     let given = c.in_ok-print_units-in-Out.ensures in
-    run_printed t before (plain_term_said c.args.said.now) given.lines first _ _ _ _ _ _
-    (obeys_out c.args.said.now.command _ _ _ given.lines c.in-Out.is given.out) given.printed run
+    run_printed c.args.keeps t before (plain_term_said c.args.said.now) given.lines first _ _ _ _ _ _
+    (obeys_out c.args.keeps c.args.said.now.command _ _ _ given.lines c.in-Out.is given.out) given.printed run
 
 pub returns-in_ok-print-in_default-clause-goes : goal.returns-in_ok-print-in_default-clause-goes
 returns-in_ok-print-in_default-clause-goes g c on t before first run =
-    run_printed t before (plain_term_said c.args.said.now) _ first _ _ _ _ _ _
-    (obeys_one c.args.said.now.command _ _ c.in_ok-line-in_default.line.items c.in_default.not-Expect c.in_default.not-Out c.in_ok-line-in_default.ensures)
+    run_printed c.args.keeps t before (plain_term_said c.args.said.now) _ first _ _ _ _ _ _
+    (obeys_one c.args.keeps c.args.said.now.command _ _ c.in_ok-line-in_default.line.items c.in_default.not-Expect c.in_default.not-Out c.in_ok-line-in_default.ensures)
     (printed_one _ _ _ _ c.in_ok-line-in_default.line.items c.in_ok-print-in_default.ensures.last c.in_ok-print-in_default.ensures.written) run

@@ -8,5 +8,5 @@ use Rattle.script_terminal.proofs.terminals.TermPlayer.run.Given as goal
 abbrev pub invariant-loop-said : goal.invariant-loop-said
 invariant-loop-said g l =
     (t : Term) (before : List PlainTermSaid) (first : Option (List ℕ))
-    → IsTermRun t before first (g.W.Write.contents l.initial.writer) l.initial.self.terminal (last_of l.initial.self)
-    → IsTermRun t (before ++ map plain_term_said (take l.said-index l.commands)) first (g.W.Write.contents l.writer) l.self.terminal (last_of l.self)
+    → IsTermRun l.keeps t before first (g.W.Write.contents l.initial.writer) l.initial.self.terminal (last_of l.initial.self)
+    → IsTermRun l.keeps t (before ++ map plain_term_said (take l.said-index l.commands)) first (g.W.Write.contents l.writer) l.self.terminal (last_of l.self)

@@ -1,6 +1,6 @@
 use Rattle.std.proofs.Common.{not, ap, ◌∙◌}
 use Rattle.script_terminal.proofs.TermAnswers.{none_left, one_handed, fewer_reports}
-use Rattle.script_terminal.proofs.answers.drop_reports.Goals as goal
+use Rattle.script_terminal.proofs.hearing.drop_reports.Goals as goal
 
 pub returns-then-is_none : goal.returns-then-is_none
 returns-then-is_none c =

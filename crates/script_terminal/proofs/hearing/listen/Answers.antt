@@ -1,8 +1,7 @@
 use Rattle.std.proofs.Common.{ap, length, arith}
 use Rattle.std.proofs.lemmas.List.{length-drop}
-use Rattle.std.proofs.lemmas.Result.{IfOk-weaker}
 use Rattle.script_terminal.proofs.TermAnswers.{part_more, listens_end}
-use Rattle.script_terminal.proofs.answers.take.Goals as goal
+use Rattle.script_terminal.proofs.hearing.listen.Goals as goal
 use Rattle.plain_laws.proofs.Lists.{tail_is as all_left}
 
 pub loop-from-preserved : goal.loop-from-preserved
@@ -19,7 +18,6 @@ loop-from-preserved c =
           c.drop_reports.ensures others);
     }
 
-pub returns-clause-listens : goal.returns-clause-listens
-returns-clause-listens c =
-    IfOk-weaker c.from_slice.result _ _
-    (λ v is. c.loop-from.invariant.listens _ (listens_end _ c.args.octets.now c.loop-from.from c.loop-from-test.false)) c.from_slice.ensures.items
+pub returns : goal.returns
+returns c =
+    c.loop-from.invariant.listens _ (listens_end _ c.args.octets.now c.loop-from.from c.loop-from-test.false)

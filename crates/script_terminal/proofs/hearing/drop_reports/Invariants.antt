@@ -2,7 +2,7 @@
 use Rattle.std.proofs.Common.{◌≡◌}
 use Rattle.script_terminal.specs.TermAnswers.{without_reports}
 use Rattle.script_terminal.proofs.TermAnswers.{reports}
-use Rattle.script_terminal.proofs.answers.drop_reports.Given as goal
+use Rattle.script_terminal.proofs.hearing.drop_reports.Given as goal
 
 abbrev pub invariant-reports : goal.invariant-reports
 invariant-reports l = without_reports l.terminal ≡ without_reports l.initial.terminal

@@ -2,7 +2,7 @@
 use Rattle.std.proofs.Common.{◌≤◌, ◌-◌, length, drop}
 use Rattle.link_term.specs.Term.{Term}
 use Rattle.script_terminal.specs.TermAnswers.{Listens}
-use Rattle.script_terminal.proofs.answers.take.Given as goal
+use Rattle.script_terminal.proofs.hearing.listen.Given as goal
 
 abbrev pub invariant-loop-from : goal.invariant-loop-from
 invariant-loop-from l = record {

@@ -1,0 +1,172 @@
+//! Initial alignment control (Q.703) in the text `q703`.
+
+/// The process IAC, behind the parts before it; the next part goes on.
+macro_rules! initial_alignment_control {
+    ([$($before:literal)*] $next:ident $($rest:ident)*) => {
+        $next!([$($before)*
+"/* Initial alignment control. em: the emergency is on here; short: the proving period is Pe, the emergency one, else Pn; more: another
+   period is to follow; cp: aborted periods, of which M = 5 end the alignment. */
+PROCESS IAC (1, 1);
+DCL em, short, more Boolean := FALSE, cp, k Integer := 0;
+TIMER T2, T3, T4;
+START;
+NEXTSTATE Idle;
+
+STATE Idle;
+INPUT IacStart(em);
+  TASK short := em;
+  OUTPUT Tx(0);
+  SET(NOW + 25000, T2);
+  NEXTSTATE NotAligned;
+ENDSTATE Idle;
+
+STATE NotAligned;
+INPUT Stat(k);
+  DECISION k;
+  (0, 1):
+    JOIN meet;
+  (2):
+    TASK short := TRUE;
+    JOIN meet;
+  ELSE:
+    NEXTSTATE NotAligned;
+  ENDDECISION;
+INPUT IacUrgent;
+  TASK em := TRUE, short := TRUE;
+  NEXTSTATE NotAligned;
+INPUT T2;
+  OUTPUT AlignFail;
+  NEXTSTATE Idle;
+INPUT IacStop;
+  RESET(T2);
+  NEXTSTATE Idle;
+ENDSTATE NotAligned;
+
+STATE Aligned;
+INPUT Stat(k);
+  DECISION k;
+  (1):
+    JOIN prove;
+  (2):
+    TASK short := TRUE;
+    JOIN prove;
+  (3):
+    RESET(T3);
+    OUTPUT AlignFail;
+    NEXTSTATE Idle;
+  ELSE:
+    NEXTSTATE Aligned;
+  ENDDECISION;
+INPUT IacUrgent;
+  TASK em := TRUE, short := TRUE;
+  OUTPUT Tx(2);
+  NEXTSTATE Aligned;
+INPUT T3;
+  OUTPUT AlignFail;
+  NEXTSTATE Idle;
+INPUT IacStop;
+  RESET(T3);
+  NEXTSTATE Idle;
+ENDSTATE Aligned;
+
+STATE Proving;
+INPUT T4;
+  DECISION more;
+  (TRUE):
+    JOIN period;
+  (FALSE):
+    OUTPUT AeStop, AlignDone;
+    NEXTSTATE Idle;
+  ENDDECISION;
+INPUT Abort;
+  TASK cp := cp + 1;
+  DECISION cp >= 5;
+  (TRUE):
+    RESET(T4);
+    OUTPUT AeStop, AlignFail;
+    NEXTSTATE Idle;
+  (FALSE):
+    TASK more := TRUE;
+    NEXTSTATE Proving;
+  ENDDECISION;
+/* * the next period begins with the first unit without errors, or as T4 runs out (10.3, figure 9) */
+INPUT CorrectUnit;
+  DECISION more;
+  (TRUE):
+    JOIN period;
+  (FALSE):
+    NEXTSTATE Proving;
+  ENDDECISION;
+INPUT Stat(k);
+  DECISION k;
+  (0):
+    RESET(T4);
+    OUTPUT AeStop;
+    SET(NOW + 1500, T3);
+    NEXTSTATE Aligned;
+  (2):
+    DECISION short;
+    (TRUE):
+      NEXTSTATE Proving;
+    (FALSE):
+      TASK short := TRUE;
+      OUTPUT AeStop;
+      JOIN period;
+    ENDDECISION;
+  (3):
+    RESET(T4);
+    OUTPUT AeStop, AlignFail;
+    NEXTSTATE Idle;
+  ELSE:
+    NEXTSTATE Proving;
+  ENDDECISION;
+INPUT IacUrgent;
+  TASK em := TRUE, short := TRUE;
+  OUTPUT Tx(2), AeStop;
+  JOIN period;
+INPUT IacStop;
+  RESET(T4);
+  OUTPUT AeStop;
+  NEXTSTATE Idle;
+ENDSTATE Proving;
+
+/* the other side was met */
+CONNECTION meet:
+  RESET(T2);
+  DECISION em;
+  (TRUE):
+    OUTPUT Tx(2);
+  (FALSE):
+    OUTPUT Tx(1);
+  ENDDECISION;
+  SET(NOW + 1500, T3);
+  NEXTSTATE Aligned;
+ENDCONNECTION meet;
+
+/* proving begins */
+CONNECTION prove:
+  RESET(T3);
+  TASK cp := 0;
+  JOIN period;
+ENDCONNECTION prove;
+
+/* a proving period begins: by Tie = 1 and Pe in an emergency, else by Tin = 4 and Pn */
+CONNECTION period:
+  TASK more := FALSE;
+  DECISION short;
+  (TRUE):
+    OUTPUT AeStart(1);
+    SET(NOW + 500, T4);
+  (FALSE):
+    OUTPUT AeStart(4);
+    SET(NOW + 8200, T4);
+  ENDDECISION;
+  NEXTSTATE Proving;
+ENDCONNECTION period;
+ENDPROCESS IAC;
+
+"] $($rest)*)
+    };
+}
+
+pub(crate) use initial_alignment_control;

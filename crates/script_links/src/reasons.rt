@@ -1,0 +1,77 @@
+//! Why the words of a line are none of a script that `play` runs.
+
+use script_lines::LineFault;
+use std::fmt;
+
+/// Why the words of a line are none of a script's.
+#[derive(Clone, Copy, PartialEq, Eq, Debug)]
+pub enum PlayFault<'a> {
+    /// A reason that scripts of all kinds have.
+    Line(LineFault<'a>),
+    /// The word isn't made of pairs of hexadecimal digits.
+    NoOctets {
+        word: &'a str,
+    },
+    /// Behind the first word stand fewer octets than `least`, or more than `most`.
+    Octets {
+        word: &'a str,
+        least: usize,
+        most: usize,
+        there: usize,
+    },
+    /// The length indicator of a unit says this number, and so many octets follow it.
+    Indicator {
+        says: u8,
+        there: usize,
+    },
+    /// The word tells a terminal nothing.
+    NoOrder {
+        word: &'a str,
+    },
+    /// The word is no kind of error correction.
+    NoMode {
+        word: &'a str,
+    },
+    /// These words are no unit, as one is written in words.
+    NoUnit {
+        word: &'a str,
+    },
+    /// The word is neither `yes` nor `no`.
+    NoWay {
+        word: &'a str,
+    },
+}
+
+impl fmt::Display for PlayFault<'_> {
+    fn fmt<W: fmt::Write>(&self, f: &mut fmt::Formatter<W>) -> fmt::Result {
+        match self {
+            Self::Line(fault) => fmt::Display::fmt(fault, f),
+            Self::NoOctets { word } => {
+                write!(f, "'{word}' isn't made of pairs of hexadecimal digits")
+            }
+            Self::Octets {
+                word,
+                least,
+                most,
+                there,
+            } => write!(
+                f,
+                "'{word}' wants {least} to {most} octets, and has {there}"
+            ),
+            Self::Indicator { says, there } => write!(
+                f,
+                "the length indicator says {says}, and {there} octets follow it",
+            ),
+            Self::NoOrder { word } => write!(
+                f,
+                "'{word}' is none of power, start, stop, emergency, calm, outage, back, busy, free, flush, continue and overload",
+            ),
+            Self::NoMode { word } => write!(f, "'{word}' is neither basic nor cyclic"),
+            Self::NoUnit { word } => write!(
+                f,
+                "'{word}' wants pairs of hexadecimal digits, or FISU, LSSU or MSU with bsn N bib B fsn N fib B and status NAME, or sio HEX sif HEX",
+            ),
+            Self::NoWay { word } => write!(f, "'{word}' is neither yes nor no"),
+        }
+    }
+}

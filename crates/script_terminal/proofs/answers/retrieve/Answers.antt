@@ -1,0 +1,20 @@
+use Rattle.std.proofs.Common.{◌∙◌, ◌++◌, ap}
+use Rattle.std.specs.Prelude.{codes}
+use Rattle.std.specs.Fmt.{decimal}
+use Rattle.std.proofs.lemmas.Result.{IfOk-weaker}
+use Rattle.script_terminal.specs.TermAnswers.{Retrieves}
+use Rattle.script_terminal.proofs.TermAnswers.{given_out, not_given}
+use Rattle.script_terminal.proofs.answers.retrieve.Goals as goal
+
+pub returns-in-Ok : goal.returns-in-Ok
+returns-in-Ok c =
+    IfOk-weaker c.text_line.result _ (λ v. Retrieves c.args.behind c.args.terminal.now v.items c.retrieve.new.self)
+    (λ v is.
+    given_out c.args.behind _ _ v.items c.in-Ok.messages.items _ (is ∙ ap (λ n. codes "ok " ++ decimal n) c.len-count.ensures) c.in-Ok.ensures.bad c.in-Ok.ensures.messages
+    c.in-Ok.ensures.ok)
+    c.text_line.ensures
+
+pub returns-in-Err-BadAck : goal.returns-in-Err-BadAck
+returns-in-Err-BadAck c =
+    IfOk-weaker c.from_slice.result _ (λ v. Retrieves c.args.behind c.args.terminal.now v.items c.retrieve.new.self)
+    (λ v is. not_given c.args.behind _ _ v.items is c.in-Err-BadAck.ensures.bad c.in-Err-BadAck.ensures.err) c.from_slice.ensures.items

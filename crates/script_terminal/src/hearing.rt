@@ -1,0 +1,106 @@
+//! Octets of the line that come in.
+ghost use Rattle.std.specs.Prelude.{◌≡◌, ◌≤◌, IfOk, OnOk, codes, length};
+ghost use Rattle.script_terminal.specs.TermAnswers.{without_reports, Listens, Hears, Takes, TakesTimes, ReceivesTimes};
+
+use crate::unit_line::line_of_unit;
+use link_term::Terminal;
+use std::alloc::{AllocError, Global};
+
+/// Takes all reports out.
+fn drop_reports(terminal: &mut Terminal)
+    ensures { terminal.new ≡ without_reports terminal.old }
+{
+    'reports: loop {
+        if terminal.report().is_none() {
+            return;
+        }
+    }
+}
+
+/// Takes octets of the line, all of them, and drops what the terminal tells.
+fn listen(terminal: &mut Terminal, octets: &[u8]) -> Result<(), AllocError>
+    ensures { OnOk result (Listens terminal.old octets.now terminal.new) }
+{
+    let mut from = 0;
+    while from < octets.len() {
+        let taken = terminal.line_in(&octets[from..]);
+        drop_reports(terminal);
+        if taken == 0 {
+            return Err(AllocError);
+        }
+        from += taken;
+    }
+    Ok(())
+}
+
+/// Takes octets of the line, all of them, and keeps what the terminal tells, but drops it where the terminal takes no more.
+fn hear(terminal: &mut Terminal, octets: &[u8]) -> Result<(), AllocError>
+    ensures { OnOk result (Hears terminal.old octets.now terminal.new) }
+{
+    let mut from = terminal.line_in(octets);
+    while from < octets.len() {
+        drop_reports(terminal);
+        let taken = terminal.line_in(&octets[from..]);
+        if taken == 0 {
+            return Err(AllocError);
+        }
+        from += taken;
+    }
+    Ok(())
+}
+
+/// Takes octets of the line, all of them; whether what the terminal tells is kept.
+fn take_once(terminal: &mut Terminal, octets: &[u8], keeps: bool) -> Result<(), AllocError>
+    ensures { OnOk result (Takes keeps terminal.old octets.now terminal.new) }
+{
+    if keeps {
+        hear(terminal, octets)
+    } else {
+        listen(terminal, octets)
+    }
+}
+
+/// Takes octets of the line so many times.
+fn take_times(
+    terminal: &mut Terminal,
+    octets: &[u8],
+    times: u32,
+    keeps: bool,
+) -> Result<(), AllocError>
+    ensures { OnOk result (TakesTimes keeps octets.now times terminal.old terminal.new) }
+{
+    for taken in 0..times {
+        take_once(terminal, octets, keeps)?;
+    }
+    Ok(())
+}
+
+/// `line HEX`: takes octets of the line so many times, all of them.
+pub fn take(
+    alloc: Global,
+    terminal: &mut Terminal,
+    octets: &[u8],
+    times: u32,
+    keeps: bool,
+) -> Result<Vec<u8>, AllocError>
+    ensures text { IfOk result (λ v. v.items ≡ codes "ok") }
+    ensures takes { OnOk result (TakesTimes keeps octets.now times terminal.old terminal.new) }
+{
+    take_times(terminal, octets, times, keeps)?;
+    Vec::from_slice(alloc, b"ok")
+}
+
+/// `unit HEX`: takes what comes in of so many equal units.
+pub fn receive(
+    alloc: Global,
+    terminal: &mut Terminal,
+    octets: &[u8],
+    times: u32,
+    keeps: bool,
+) -> Result<Vec<u8>, AllocError>
+    ensures text { IfOk result (λ v. v.items ≡ codes "ok") }
+    ensures receives { OnOk result (ReceivesTimes keeps octets.now times terminal.old terminal.new) }
+{
+    let line = line_of_unit(alloc, octets)?;
+    take(alloc, terminal, &line, times, keeps)
+}
