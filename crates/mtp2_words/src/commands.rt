@@ -267,7 +267,7 @@ fn diff_command<'a>(alloc: Global) -> Result<Command<'a>, AllocError>
     let old = plain_word(
         alloc,
         "OLD",
-        "standard, monitors, a file with the text of a set of processes, or stdin for standard input",
+        "standard, q703, monitors, a file with the text of a set of processes, or stdin for standard input",
     );
     let new = plain_word(alloc, "NEW", "The same, for the set beside it");
     bare_command(
