@@ -168,11 +168,7 @@ fn mark_more(marks: &mut Vec<bool>, sections: &[Section], process: &[u8]) {
 }
 
 /// The connections that a transition comes to.
-fn reached(
-    alloc: Global,
-    sections: &[Section],
-    from: &Section,
-) -> Result<Vec<bool>, AllocError> {
+fn reached(alloc: Global, sections: &[Section], from: &Section) -> Result<Vec<bool>, AllocError> {
     let mut marks = no_marks(alloc, sections)?;
     mark_joined(&mut marks, sections, &from.process, &from.rows);
     for _ in 0..FOLLOWED {

@@ -73,7 +73,11 @@ fn joined_by(alloc: Global, part: &Part) -> Result<Vec<u8>, AllocError> {
 
 /// The line of a statement; 0 for ELSE, whose place isn't known.
 fn line_at(source: &str, place: u32) -> usize {
-    if place == 0 { 0 } else { line_of(source, place) }
+    if place == 0 {
+        0
+    } else {
+        line_of(source, place)
+    }
 }
 
 /// A statement of a text.
