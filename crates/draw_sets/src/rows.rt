@@ -142,8 +142,9 @@ fn input_titles(
     takes: &[u8],
 ) -> Result<Vec<Vec<u8>>, AllocError> {
     let inputs = names_in(alloc, takes)?;
+    let states = names_in(alloc, states)?;
     let mut titles = Vec::new(alloc);
-    for state in &names_in(alloc, states)? {
+    for state in &states {
         let own = named(alloc, process, b" ", state)?;
         push_titles(alloc, &mut titles, &own, &inputs)?;
     }
