@@ -3,7 +3,7 @@
 lines that the program `trials` has to print for them. What was sent and what came stands in lists, from which all is counted at the end.
 
 usage: tools/oracles/plain_pairs.py                                    the runs of examples/links/pairs.txt, but for the late ones
-       tools/oracles/plain_pairs.py MODE LINKS SEED MESSAGES LOST      one run"""
+       tools/oracles/plain_pairs.py MODE LINKS SEED MESSAGES LOST [late]      one run"""
 import pathlib
 import sys
 
@@ -17,7 +17,7 @@ from plain_term import FLAG, ROOT, bits_of, check_octets, octets_of, stuffed
 RUNS = ROOT / "examples" / "links" / "pairs.txt"
 TEXT = (ROOT / "examples" / "standard.sdl").read_bytes()
 FILLER = bytes.fromhex("FF7E00FE3F5AFFFF117E7EC38001F81FAAFF3E990000F7EF")
-MOST_ROUNDS, GIVEN, UNITS, TICKS, CUTS, HEALS, MOST_MAIL = 60000, 8, 16, 300, 12, 6, 64
+MOST_ROUNDS, GIVEN, UNITS, TICKS, CUTS, HEALS, MOST_MAIL, LATE_ROUNDS, REPEATS = 60000, 8, 16, 300, 12, 6, 64, 3, 16
 NEAR, FAR = 1, 16383
 
 
@@ -45,7 +45,7 @@ class End:
     def __init__(self, cyclic, links, own, peer):
         self.set, self.hands, self.mail = Group([FarLink(TEXT, cyclic) for _ in range(links)], own, peer), {}, []
         self.sent, self.came, self.uneven = [], [], False
-        self.due, self.started = [False] * links, [False] * links
+        self.due, self.started, self.late, self.back = [False] * links, [False] * links, [], [0] * links
 
     def give(self, selection):
         number = sum(one == selection for one, _ in self.sent)
@@ -76,7 +76,7 @@ class End:
             if name == "Down":
                 self.due[at], self.started[at] = True, False
             if name == "InServiceNow":
-                self.uneven = True
+                self.uneven, self.back[at] = True, 0
         link.messages, link.statuses = [], []
 
     def hear(self, at, octets):
@@ -91,7 +91,15 @@ class End:
     def wait(self):
         self.set.tick(TICKS)
         for at in range(len(self.set.links)):
+            self.back[at] += 1
             self.read(at)
+
+    def forget(self, at):
+        self.late = [it for it in self.late if label_of(it)[2] != at]
+
+    def stop_held(self, at):
+        if self.set.links[at].is_held and self.free(at):
+            self.tell(at, "StopLink")
 
     def rebalance(self):
         if self.uneven:
@@ -136,7 +144,8 @@ class End:
 
 
 class Pair:
-    def __init__(self, mode, links, seed, messages, lost):
+    def __init__(self, mode, links, seed, messages, lost, late):
+        self.late = late
         self.near, self.far = (End(mode == "cyclic", links, own, peer) for own, peer in ((NEAR, FAR), (FAR, NEAR)))
         self.links, self.state, self.messages, self.lost = links, seed, messages, lost
         self.cut, self.cuts, self.orders, self.losses = [False] * links, 0, 0, 0
@@ -155,14 +164,21 @@ class Pair:
     def cut_link(self, at):
         self.cut[at] = self.near.due[at] = self.far.due[at] = True
         self.cuts += 1
+        self.near.forget(at)
+        self.far.forget(at)
 
     def cut_one(self):
         at = self.draw() % self.links
-        if self.one_in(CUTS) and not self.cut[at] and self.near.free(at) and self.far.free(at):
-            self.cut_link(at)
+        if not self.one_in(CUTS):
+            return
+        for it in [at, (at + 1) % self.links] if self.late and self.one_in(2) else [at]:
+            if not self.cut[it] and self.near.free(it) and self.far.free(it):
+                self.cut_link(it)
 
     def send(self, to, sif):
         self.orders += 1
+        if self.late and len(to.late) < MOST_MAIL and self.one_in(2):
+            to.late.append(sif)
         if self.one_in(self.lost) or len(to.mail) >= MOST_MAIL:
             self.losses += 1
         else:
@@ -178,6 +194,19 @@ class Pair:
             if answer is not None:
                 self.send(other, answer)
 
+    def repeat(self, to, other):
+        for _ in range(len(to.late)):
+            sif = to.late.pop(0)
+            at = label_of(sif)[2]
+            if to.set.links[at].serves and to.back[at] > LATE_ROUNDS:
+                continue
+            if not self.one_in(REPEATS):
+                to.late.append(sif)
+                continue
+            answer = to.set.changeover_message(sif)
+            if answer is not None:
+                other.set.changeover_message(answer)
+
     def work(self, at):
         cut = self.cut[at]
         for one, other in self.ends():
@@ -186,6 +215,8 @@ class Pair:
         if not cut and (self.near.due[at] or self.far.due[at]):
             self.cut_link(at)
         for one, other in self.ends():
+            if self.late:
+                one.stop_held(at)
             order = one.tend(at, self.one_in)
             if order is not None:
                 self.send(other, order)
@@ -206,8 +237,9 @@ class Pair:
                     end.give(selection)
         for at in range(self.links):
             self.work(at)
-        for to, other in self.ends():
-            self.deliver(to, other)
+        for deliver in (self.deliver, self.repeat):
+            for to, other in self.ends():
+                deliver(to, other)
         for end in (self.near, self.far):
             end.rebalance()
         for end in (self.near, self.far):
@@ -241,9 +273,15 @@ def verdict(one, other):
     return "none twice, in order, none missing but unsure ones" if missing else "each once, in order"
 
 
-def show(mode, links, seed, messages, lost):
-    pair = Pair(mode, links, seed, messages, lost)
+def show(mode, links, seed, messages, lost, late=False):
+    pair = Pair(mode, links, seed, messages, lost, late)
     ended = pair.make()
+    if late:
+        print(f"{mode} links {links} seed {seed} lost {lost} late: {messages} messages each way" + ("" if ended else "\n  NOT DONE"))
+        for name, (one, other) in zip(("near to far", "far to near"), pair.ends()):
+            said = verdict(one, other)
+            print(f"  {name}: {said if said.startswith('WRONG') else 'each once or unsure, in order'}", flush=True)
+        return
     print(f"{mode} links {links} seed {seed} lost {lost}: {messages} messages each way, {pair.cuts} cuts, {pair.orders} messages of changeover, {pair.losses} lost")
     if not ended:
         print("  NOT DONE")
@@ -260,10 +298,10 @@ def table():
 
 
 def main(words):
-    if words and len(words) != 5:
+    if words and len(words) != 5 and words[5:] != ["late"]:
         print(__doc__, file=sys.stderr)
         return 3
-    for run in [(words[0], *map(int, words[1:]))] if words else table():
+    for run in [(words[0], *map(int, words[1:5]), words[5:] == ["late"])] if words else table():
         show(*run)
     return 0
 

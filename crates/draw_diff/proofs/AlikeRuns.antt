@@ -87,8 +87,8 @@ effects_more : (s : Sides) (a b : Progress) (e f : Effect) → AreDone s a b →
 effects_more s a b e f d h = record {
   variables = d.variables;
   effects =
-    map-append (renamed_effect s) a.effects (e ∷ []) ∙ ap (λ u. u ++ renamed_effect s e ∷ []) d.effects
-    ∙ ap (λ u. map (λ (e : Effect). Some e) b.effects ++ u ∷ []) h ∙ sym (map-append (λ (e : Effect). Some e) b.effects (f ∷ []));
+      map-append (renamed_effect s) a.effects (e ∷ []) ∙ ap (λ u. u ++ renamed_effect s e ∷ []) d.effects
+      ∙ ap (λ u. map (λ (e : Effect). Some e) b.effects ++ u ∷ []) h ∙ sym (map-append (λ (e : Effect). Some e) b.effects (f ∷ []));
   count = d.count;
 }
 
@@ -165,11 +165,15 @@ store_after s k os a b v w x d m =
   where
     own : (o : Option (Option Value)) → slice_get a.variables v ≡ o → slice_get b.variables w ≡ o → AreAfter s (stored k os a v x o) (stored k os b w x o)
     own None e f = refl
-    own (Some old) e f = (refl, refl, record {
-      variables = agree_set s a.variables b.variables v w old old (Some x) d.variables m e f;
-      effects = d.effects;
-      count = d.count;
-    })
+    own (Some old) e f = (
+      refl,
+      refl,
+      record {
+        variables = agree_set s a.variables b.variables v w old old (Some x) d.variables m e f;
+        effects = d.effects;
+        count = d.count;
+      },
+    )
 
 param_after : (s : Sides) (k : ℕ) (os : List Value) (a b : Progress) (o p : Option Value) → AreDone s a b → o ≡ p
     → AreAfter s (given k os a o) (given k os b p)
@@ -188,10 +192,13 @@ sent_after s n m vs k os a b None None d e h = refl
 sent_after s n m vs k os a b None (Some q) d e h = absurd (none-some (Some q) h)
 sent_after s n m vs k os a b (Some p) None d e h = absurd (some_none h)
 sent_after s n m vs k os a b (Some p) (Some q) d e h =
-    let to : renamed_address s p ≡ Some q = same_Some (renamed_address s p) (Some q) h in
-    (refl, refl, effects_more s a b (sending n p vs) (sending m q vs) d
-    (ap (λ o. sent_as (record { signal = n; receiver = p; parameters = record { items = vs } }) o (renamed_address s p)) e
-    ∙ ap (λ o. sent_as (record { signal = n; receiver = p; parameters = record { items = vs } }) (Some m.0) o) to))
+    let to : renamed_address s p ≡ Some q = same_Some (renamed_address s p) (Some q) h in (
+      refl,
+      refl,
+      effects_more s a b (sending n p vs) (sending m q vs) d
+          (ap (λ o. sent_as (record { signal = n; receiver = p; parameters = record { items = vs } }) o (renamed_address s p)) e
+          ∙ ap (λ o. sent_as (record { signal = n; receiver = p; parameters = record { items = vs } }) (Some m.0) o) to),
+    )
 
 -- who gets it is the same by its name
 addressed : (s : Sides) (r q : Receiver) (o p : Option Address) → renamed_receiver s r ≡ Some q
@@ -260,12 +267,20 @@ module _ (s : Sides) (x y : Input) (same : AreInputs s x y) (k : ℕ) (os : List
   act_after (Output n r c) j e = output_after s x y n r c j k os a b same d (moved_signal s n.0) (renamed_receiver s r) refl refl e
   act_after (Set t) j e =
       given_mapped (λ j. AreAfter s (act (Set t) x k os a) (act j y k os b)) (λ u. Set (record { 0 = u })) (moved_timer s t.0) j e
-      (λ u m. integer_after s os _ _ (λ z rest. (refl, refl, effects_more s a b (effect.Set t z) (effect.Set (record { 0 = u }) z) d
-      (ap (λ o. option_map (λ u. effect.Set (record { 0 = u }) z) o) m))))
+      (λ u m. integer_after s os _ _ (λ z rest. (
+        refl,
+        refl,
+        effects_more s a b (effect.Set t z) (effect.Set (record { 0 = u }) z) d
+            (ap (λ o. option_map (λ u. effect.Set (record { 0 = u }) z) o) m),
+      )))
   act_after (Reset t) j e =
       given_mapped (λ j. AreAfter s (act (Reset t) x k os a) (act j y k os b)) (λ u. Reset (record { 0 = u })) (moved_timer s t.0) j e
-      (λ u m. (refl, refl, effects_more s a b (effect.Reset t) (effect.Reset (record { 0 = u })) d
-      (ap (λ o. option_map (λ u. effect.Reset (record { 0 = u })) o) m)))
+      (λ u m. (
+        refl,
+        refl,
+        effects_more s a b (effect.Reset t) (effect.Reset (record { 0 = u })) d
+            (ap (λ o. option_map (λ u. effect.Reset (record { 0 = u })) o) m),
+      ))
   act_after (Next q) j e =
       given_mapped (λ j. AreAfter s (act (Next q) x k os a) (act j y k os b)) (λ r. Next (record { 0 = r })) (moved_state s q.0) j e
       (λ r m. (ap (λ o. option_map (λ r. end.State (record { 0 = r })) o) m, d))

@@ -1,3 +1,4 @@
 mod AlikeRuns
+mod Moving
 mod Sameness
 mod Tests

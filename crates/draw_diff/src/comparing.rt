@@ -64,9 +64,5 @@ pub fn compare(alloc: Global, old: &Draft, new: &Draft) -> Result<Difference, Al
     let items = item_difference(alloc, old, new)?;
     let olds = old_difference(alloc, old, new)?;
     let news = new_difference(alloc, old, new)?;
-    Ok(Difference {
-        items,
-        olds,
-        news,
-    })
+    Ok(Difference { items, olds, news })
 }

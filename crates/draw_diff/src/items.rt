@@ -31,11 +31,7 @@ fn push_item(items: &mut Vec<Item>, head: Vec<u8>, tail: Vec<u8>) -> Result<(), 
 }
 
 /// A signal.
-fn push_signal(
-    alloc: Global,
-    items: &mut Vec<Item>,
-    signal: &DraftSignal,
-) -> Result<(), AllocError>
+fn push_signal(alloc: Global, items: &mut Vec<Item>, signal: &DraftSignal) -> Result<(), AllocError>
     ensures { OnOk result (map item_of items.new.items ≡ map item_of items.old.items ++ signal_item signal.now ∷ []) }
 {
     let mut head = Vec::new(alloc);
@@ -266,11 +262,7 @@ fn push_states(
 }
 
 /// The process itself.
-fn push_own(
-    alloc: Global,
-    items: &mut Vec<Item>,
-    process: &DraftProcess,
-) -> Result<(), AllocError>
+fn push_own(alloc: Global, items: &mut Vec<Item>, process: &DraftProcess) -> Result<(), AllocError>
     ensures { OnOk result (map item_of items.new.items ≡ map item_of items.old.items ++ process_item process.now ∷ []) }
 {
     let mut head = Vec::new(alloc);

@@ -87,11 +87,7 @@ fn push_news(text: &mut Vec<u8>, olds: &[Item], news: &[Item]) -> Result<(), All
 }
 
 /// The lines of what is gone, changed and added.
-pub(crate) fn push_items(
-    text: &mut Vec<u8>,
-    olds: &[Item],
-    news: &[Item],
-) -> Result<(), AllocError>
+pub(crate) fn push_items(text: &mut Vec<u8>, olds: &[Item], news: &[Item]) -> Result<(), AllocError>
     ensures { OnOk result (text.new.items ≡ text.old.items ++ item_lines (map item_of olds.now) (map item_of news.now)) }
 {
     push_olds(text, olds, news)?;

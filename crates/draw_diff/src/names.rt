@@ -8,8 +8,8 @@ ghost use Rattle.draw_diff.specs.Names.{same_name, octet, moved, own_name, proce
 
 use std::marker::Model;
 use turn_code::{
-    Draft, DraftProcess, DraftSignal, DraftState, DraftVariable, Name, ProcessNumber,
-    SignalNumber, StateNumber, TimerNumber, VariableNumber,
+    Draft, DraftProcess, DraftSignal, DraftState, DraftVariable, Name, ProcessNumber, SignalNumber,
+    StateNumber, TimerNumber, VariableNumber,
 };
 
 /// A process of one set, and a process of another.
@@ -65,7 +65,8 @@ fn octet(number: Option<usize>) -> Option<u8>
 fn signal_place(name: &[u8], news: &[DraftSignal]) -> Option<usize>
     ensures { result ≡ position (λ (y : PlainSignal). same_name name.now (signal_name y)) news.now }
 {
-    news.iter().position(|new| same_name(name, new.name.as_bytes()))
+    news.iter()
+        .position(|new| same_name(name, new.name.as_bytes()))
 }
 
 /// The number among other signals of the signal with a number, by its name.
@@ -82,7 +83,8 @@ fn signal_among(olds: &[DraftSignal], news: &[DraftSignal], number: usize) -> Op
 fn process_place(name: &[u8], news: &[DraftProcess]) -> Option<usize>
     ensures { result ≡ position (λ (y : PlainProcess). same_name name.now (process_name y)) news.now }
 {
-    news.iter().position(|new| same_name(name, new.name.as_bytes()))
+    news.iter()
+        .position(|new| same_name(name, new.name.as_bytes()))
 }
 
 /// The number among other processes of the process with a number, by its name.
@@ -99,7 +101,8 @@ fn process_among(olds: &[DraftProcess], news: &[DraftProcess], number: usize) ->
 fn state_place(name: &[u8], news: &[DraftState]) -> Option<usize>
     ensures { result ≡ position (λ (y : PlainState). same_name name.now (state_name y)) news.now }
 {
-    news.iter().position(|new| same_name(name, new.name.as_bytes()))
+    news.iter()
+        .position(|new| same_name(name, new.name.as_bytes()))
 }
 
 /// The number among other states of the state with a number, by its name.
@@ -133,7 +136,8 @@ fn timer_among(olds: &[Name], news: &[Name], number: usize) -> Option<u8>
 fn variable_place(name: &[u8], news: &[DraftVariable]) -> Option<usize>
     ensures { result ≡ position (λ (y : PlainVariable). same_name name.now (variable_name y)) news.now }
 {
-    news.iter().position(|new| same_name(name, new.name.as_bytes()))
+    news.iter()
+        .position(|new| same_name(name, new.name.as_bytes()))
 }
 
 /// The number among other variables of the variable with a number, by its name.

@@ -50,11 +50,7 @@ pub(crate) fn push_trigger(
 }
 
 /// ENV, or the name of a process.
-pub(crate) fn push_party(
-    text: &mut Vec<u8>,
-    draft: &Draft,
-    party: Party,
-) -> Result<(), AllocError>
+pub(crate) fn push_party(text: &mut Vec<u8>, draft: &Draft, party: Party) -> Result<(), AllocError>
     ensures { OnOk result (text.new.items ≡ text.old.items ++ party_text draft.now party) }
 {
     match party {

@@ -174,15 +174,7 @@ fn push_old_input(
     ensures { OnOk result (text.new.items ≡ text.old.items ++ old_input_lines pair.now state.now input.now others.now) }
 {
     match others {
-        [] => push_alone_input(
-            alloc,
-            text,
-            b"- ",
-            pair.old,
-            pair.old_process,
-            state,
-            input,
-        ),
+        [] => push_alone_input(alloc, text, b"- ", pair.old, pair.old_process, state, input),
         [other, rest @ ..] => {
             if takes_same(pair, input.trigger, other.trigger) {
                 push_both(alloc, text, pair, state, input, other)
@@ -332,15 +324,7 @@ fn push_new_input(
     ensures { OnOk result (text.new.items ≡ text.old.items ++ new_input_lines pair.now state.now input.now others.now) }
 {
     match others {
-        [] => push_alone_input(
-            alloc,
-            text,
-            b"+ ",
-            pair.new,
-            pair.new_process,
-            state,
-            input,
-        ),
+        [] => push_alone_input(alloc, text, b"+ ", pair.new, pair.new_process, state, input),
         [other, rest @ ..] => {
             if takes_same(pair, other.trigger, input.trigger) {
                 Ok(())

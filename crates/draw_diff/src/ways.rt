@@ -7,12 +7,7 @@ use std::alloc::{AllocError, Global};
 use turn_code::{Cert, Draft, DraftInput, DraftPiece, DraftProcess, DraftState};
 
 /// A count with its word.
-fn push_count(
-    alloc: Global,
-    text: &mut Vec<u8>,
-    word: &[u8],
-    count: u32,
-) -> Result<(), AllocError>
+fn push_count(alloc: Global, text: &mut Vec<u8>, word: &[u8], count: u32) -> Result<(), AllocError>
     ensures { OnOk result (text.new.items ≡ text.old.items ++ count_text word.now count) }
 {
     let digits = format!(in alloc; "{count}")?;
@@ -88,10 +83,7 @@ pub(crate) fn push_differs(
 }
 
 /// What a START is called.
-pub(crate) fn start_title(
-    alloc: Global,
-    process: &DraftProcess,
-) -> Result<Vec<u8>, AllocError>
+pub(crate) fn start_title(alloc: Global, process: &DraftProcess) -> Result<Vec<u8>, AllocError>
     ensures { IfOk result (λ v. v.items ≡ start_title process.now) }
 {
     let mut title = Vec::new(alloc);

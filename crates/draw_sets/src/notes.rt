@@ -1,6 +1,6 @@
 //! The statements in which transitions of two texts differ, below the lines that name these.
 use crate::rows::{Row, Section, sections_of};
-use draw_text::{push_bytes, push_number};
+use draw_text::push_bytes;
 use std::alloc::{AllocError, Global};
 
 /// Through how many connections a JOIN is followed.
@@ -14,7 +14,7 @@ fn same(one: &[u8], other: &[u8]) -> bool {
 /// How many statements are the same at the beginning.
 fn alike(one: &[Row], other: &[Row]) -> usize {
     let mut count: usize = 0;
-    for (left, right) in one.iter().zip(other) {
+    for (left, right) in one.iter().zip(other.iter()) {
         if !same(&left.text, &right.text) {
             return count;
         }
@@ -40,6 +40,12 @@ fn are_alike(one: &[Row], other: &[Row]) -> bool {
     one.len() == other.len() && alike(one, other) == one.len()
 }
 
+/// The number of a line.
+fn push_line(alloc: Global, text: &mut Vec<u8>, line: usize) -> Result<(), AllocError> {
+    let digits = format!(in alloc; "{line} ")?;
+    push_bytes(text, digits.as_bytes())
+}
+
 /// The lines of statements, but for so many at the beginning and at the end.
 fn push_rows(
     alloc: Global,
@@ -53,9 +59,7 @@ fn push_rows(
     for (index, row) in rows.iter().enumerate() {
         if index >= first && index < end {
             push_bytes(text, sign)?;
-            let line = u32::try_from(row.line).unwrap_or(0);
-            push_number(alloc, text, line)?;
-            push_bytes(text, b" ")?;
+            push_line(alloc, text, row.line)?;
             push_bytes(text, &row.text)?;
             push_bytes(text, b"\n")?;
         }
@@ -168,11 +172,7 @@ fn mark_more(marks: &mut Vec<bool>, sections: &[Section], process: &[u8]) {
 }
 
 /// The connections that a transition comes to.
-fn reached(
-    alloc: Global,
-    sections: &[Section],
-    from: &Section,
-) -> Result<Vec<bool>, AllocError> {
+fn reached(alloc: Global, sections: &[Section], from: &Section) -> Result<Vec<bool>, AllocError> {
     let mut marks = no_marks(alloc, sections)?;
     mark_joined(&mut marks, sections, &from.process, &from.rows);
     for _ in 0..FOLLOWED {

@@ -73,7 +73,11 @@ fn joined_by(alloc: Global, part: &Part) -> Result<Vec<u8>, AllocError> {
 
 /// The line of a statement; 0 for ELSE, whose place isn't known.
 fn line_at(source: &str, place: u32) -> usize {
-    if place == 0 { 0 } else { line_of(source, place) }
+    if place == 0 {
+        0
+    } else {
+        line_of(source, place)
+    }
 }
 
 /// A statement of a text.
@@ -138,8 +142,9 @@ fn input_titles(
     takes: &[u8],
 ) -> Result<Vec<Vec<u8>>, AllocError> {
     let inputs = names_in(alloc, takes)?;
+    let states = names_in(alloc, states)?;
     let mut titles = Vec::new(alloc);
-    for state in &names_in(alloc, states)? {
+    for state in &states {
         let own = named(alloc, process, b" ", state)?;
         push_titles(alloc, &mut titles, &own, &inputs)?;
     }

@@ -61,7 +61,12 @@ fn run_check<R: Runtime + AllocGlobal, H: Eprint, W: Write>(
     ensures status { (result ≡ 0) ⊎ (result ≡ 2) ⊎ (result ≡ 4) }
 {
     match set {
-        Named::Standard | Named::Q703 | Named::Monitors => check_own(rt.alloc(), teller, &set, writer),
+        Named::Standard | Named::Q703 | Named::Monitors => check_own(
+            rt.alloc(),
+            teller,
+            &set,
+            writer,
+        ),
         Named::Stdin => {
             let text = NamedReader::new(teller, STDIN, rt.reader());
             check_text(rt.alloc(), teller, set_word(&set), text, writer)

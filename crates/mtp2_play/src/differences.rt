@@ -10,10 +10,9 @@ use mtp2_words::Named;
 use plain_text::{NamedReader, Teller, read_text};
 use script_check::{FAILED, HELD, REFUSED, Refusal, SetWord, find_set, in_front, refuse_set};
 use std::alloc::{AllocError, Global};
-use std::fs;
 use std::io::{self, Read, Write};
 use std::rt::Runtime;
-use std::str;
+use std::{fs, str};
 use turn_check::Verified;
 
 /// What two sets are, where they differ.
@@ -32,12 +31,7 @@ struct SideName<'a> {
 }
 
 /// Writes lines with the name of one side in front of each.
-fn write_side<W: Write>(
-    alloc: Global,
-    side: &str,
-    lines: &[u8],
-    writer: &mut W,
-) -> io::Result<()> {
+fn write_side<W: Write>(alloc: Global, side: &str, lines: &[u8], writer: &mut W) -> io::Result<()> {
     let named = in_front(alloc, side, lines)?;
     writer.write_all(&named)
 }
@@ -101,7 +95,11 @@ fn read_side<H: Eprint, S: Read + Drop, W: Write>(
 {
     match read_text(alloc, &mut reader) {
         Ok(read) => {
-            let bytes = if read.is_text { read.kept.as_slice() } else { NO_TEXT };
+            let bytes = if read.is_text {
+                read.kept.as_slice()
+            } else {
+                NO_TEXT
+            };
             with_text(alloc, teller, named, SetWord::Text(bytes), bytes, writer)
         }
         Err(_) => Err(FAILED),
@@ -111,6 +109,7 @@ fn read_side<H: Eprint, S: Read + Drop, W: Write>(
 /// The text of a set of the program's own.
 fn own_text(set: &Named<'_>) -> &'static str {
     match set {
+        Named::Q703 => Q703,
         Named::Monitors => MONITORS,
         Named::Q703 => Q703,
         _ => STANDARD,

@@ -101,7 +101,9 @@ pub fn run_line<H: Files<File = File> + Threads + Eprint + Clock + AllocGlobal, 
             }
             Err(error) => teller.fail(path, &error),
         },
-        Named::Standard | Named::Q703 | Named::Monitors => line_own(host, teller, set, end, reader, writer),
+        Named::Standard | Named::Q703 | Named::Monitors => line_own(
+            host, teller, set, end, reader, writer,
+        ),
         Named::Stdin => FAILED,
     }
 }

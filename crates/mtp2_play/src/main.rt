@@ -191,7 +191,9 @@ fn run_play<R: Runtime + AllocGlobal, H: Eprint, W: Write>(
 {
     let echo = seen.echo;
     match set {
-        Named::Standard | Named::Q703 | Named::Monitors => play_own(rt, teller, set, script, echo, writer),
+        Named::Standard | Named::Q703 | Named::Monitors => play_own(
+            rt, teller, set, script, echo, writer,
+        ),
         Named::Stdin => {
             let text = NamedReader::new(teller, STDIN, rt.reader());
             play_text(rt, teller, set_word(&set), text, script, echo, writer)

@@ -46,7 +46,12 @@ pub fn run_draw<R: Runtime + AllocGlobal, H: Eprint, W: Write>(
     ensures { (result ≡ 0) ⊎ (result ≡ 2) ⊎ (result ≡ 4) }
 {
     match set {
-        Named::Standard | Named::Q703 | Named::Monitors => draw_own(rt.alloc(), &set, picture, writer),
+        Named::Standard | Named::Q703 | Named::Monitors => draw_own(
+            rt.alloc(),
+            &set,
+            picture,
+            writer,
+        ),
         Named::Stdin => {
             let text = NamedReader::new(teller, STDIN, rt.reader());
             draw(rt.alloc(), SetWord::Text(text), picture, writer)
