@@ -11,6 +11,7 @@ use Rattle.resend_store.specs.declared.refusals.PutError.{PutError}
 use Rattle.resend_store.specs.declared.refusals.PutError.TheVariants.{Full}
 use Rattle.resend_store.specs.declared.refusals.RetrieveError.{RetrieveError}
 use Rattle.resend_store.specs.declared.refusals.RetrieveError.TheVariants.{BadAck}
+use Rattle.resend_store.specs.declared.refusals.RetrieveError.TheVariants as unretrieved
 use Rattle.resend_store.specs.declared.messages.Msu.{Msu}
 use Rattle.actor_machine.specs.Ledger.{ask, rebased}
 use Rattle.actor_machine.specs.Step.{Says}
@@ -31,7 +32,7 @@ use Rattle.link_term.specs.Hearing.{Heard}
 use Rattle.link_term.specs.declared.answers.CallError.{CallError}
 use Rattle.link_term.specs.declared.answers.CallError.TheVariants.{Refused, NoMemory}
 use Rattle.script_book.specs.Answers.{answer_text}
-use Rattle.script_terminal.specs.TermAnswers.{after_answer, IsAsked, IsRefusedLine, Puts, taken, full, IsMessageOf, IsPut, without_reports, TakesNoMore, Listens, done, part, Hears, heard_all, in_parts, Takes, TakesTimes, never, again, behind_retrieve, Retrieves, given, bad}
+use Rattle.script_terminal.specs.TermAnswers.{after_answer, IsAsked, IsRefusedLine, Puts, taken, full, IsMessageOf, IsPut, without_reports, TakesNoMore, Listens, done, part, Hears, heard_all, in_parts, Takes, TakesTimes, never, again, behind_retrieve, IsRetrieveLine, Retrieves, given, bad}
 
 -- ---- events
 
@@ -80,8 +81,8 @@ asked_same n m c d t u text names commands asked =
 -- ---- messages to send
 
 below : (n m : ℕ) → (n < m) ⊎ (m ≤ n) → (m ≤ n → ⊥) → n < m
-below n m (inl less) no = less
-below n m (inr many) no = absurd (no many)
+below n m (inl less) refuted = less
+below n m (inr many) refuted = absurd (refuted many)
 
 put_text : (octets : List ℕ) (t u : Term) (m : Msu) (text said : List ℕ) (v : Term) → IsMessageOf octets m → text ≡ said → u ≡ v → Puts m t said v
     → IsPut octets t text u
@@ -107,8 +108,8 @@ put_full octets t u m text Full are says many makes = put_text octets t u m text
 -- ---- messages that are handed out
 
 at_most : (n m : ℕ) → (n < m) ⊎ (m ≤ n) → (n < m → ⊥) → m ≤ n
-at_most n m (inl less) no = absurd (no less)
-at_most n m (inr most) no = most
+at_most n m (inl less) refuted = absurd (refuted less)
+at_most n m (inr most) refuted = most
 
 pub given_out : {V : Type 0} (behind : Option ℕ) (t u : Term) (text : List ℕ) (items : List Msu) (x : V) → text ≡ codes "ok " ++ decimal (length items)
     → (◌≡◌ {A = Result V RetrieveError} (Ok x) (Err BadAck)) ↔ (t.processes.transceiver.sender.sent < count_known t.processes.transceiver.sender behind)
@@ -122,12 +123,14 @@ given_out {V} behind t u text items x says many are makes =
     let Q : Term → Type 0 = λ v. Retrieves behind t (codes "ok " ++ decimal (length (retrieved w behind))) v in
     subst P (sym (says ∙ ap (λ (ms : List Msu). codes "ok " ++ decimal (length ms)) are)) (subst Q (sym makes) (given few))
 
-pub not_given : (behind : Option ℕ) (t u : Term) (text : List ℕ) → text ≡ codes "refused E2 BadAck"
-    → t.processes.transceiver.sender.sent < count_known t.processes.transceiver.sender behind → u ≡ t → Retrieves behind t text u
-not_given behind t u text says less makes =
+pub not_given : {V : Type 0} (behind : Option ℕ) (t u : Term) (text : List ℕ) (e : RetrieveError) → IsRetrieveLine e text
+    → (◌≡◌ {A = Result V RetrieveError} (Err e) (Err BadAck)) ↔ (t.processes.transceiver.sender.sent < count_known t.processes.transceiver.sender behind)
+    → u ≡ t → Retrieves behind t text u
+not_given {V} behind t u text unretrieved.NoMemory says many makes = absurd says
+not_given {V} behind t u text unretrieved.BadAck says many makes =
     let P : List ℕ → Type 0 = λ said. Retrieves behind t said u in
     let Q : Term → Type 0 = λ v. Retrieves behind t (codes "refused E2 BadAck") v in
-    subst P (sym says) (subst Q (sym makes) (bad less))
+    subst P (sym says) (subst Q (sym makes) (bad (many.0 refl)))
 
 -- ---- reports
 

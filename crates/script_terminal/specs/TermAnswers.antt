@@ -5,6 +5,8 @@ use Rattle.std.specs.Fmt.{decimal}
 use Rattle.resend_store.specs.Limits.{MOST_WAITING}
 use Rattle.resend_store.specs.Window.{waiting, with_put, retrieved, count_known}
 use Rattle.resend_store.specs.declared.messages.Msu.{Msu}
+use Rattle.resend_store.specs.declared.refusals.RetrieveError.{RetrieveError}
+use Rattle.resend_store.specs.declared.refusals.RetrieveError.TheVariants as unretrieved
 use Rattle.su_octets.specs.Printed.{unit_text}
 use Rattle.su_octets.specs.declared.units.Unit as su
 use Rattle.actor_machine.specs.Ledger.{ask}
@@ -168,6 +170,11 @@ accepted_line t = codes "ok " ++ decimal t.processes.transceiver.receiver.last
 -- hear that none is any more.
 abbrev pub behind_retrieve : Option ℕ → Term → Term
 behind_retrieve behind t = with_processes t (handed_out behind t.processes)
+
+-- the line of a refused retrieval; want of memory has none
+abbrev pub IsRetrieveLine : RetrieveError → List ℕ → Type 0
+IsRetrieveLine unretrieved.BadAck text = text ≡ codes "refused E2 BadAck"
+IsRetrieveLine unretrieved.NoMemory text = ⊥
 
 -- Messages are handed out: those behind this number, or without one those that never were sent. A
 -- number that acknowledges more than was sent is refused.

@@ -3,7 +3,7 @@ ghost use Rattle.std.specs.Prelude.{◌≡◌, ◌<◌, IfOk, IfSome, IsNone, Is
 ghost use Rattle.actor_machine.specs.declared.event.Event.TheVariants.{Advance};
 ghost use Rattle.link_term.specs.Offering.{command_event};
 ghost use Rattle.script_links.specs.TermCommands.{plain_term_command};
-ghost use Rattle.script_terminal.specs.TermAnswers.{command_of, IsAsked, IsRefusedLine, IsMessageOf, AreNoMessage, IsPut, accepted_line, Tells, Retrieves, Does, Answers};
+ghost use Rattle.script_terminal.specs.TermAnswers.{command_of, IsAsked, IsRefusedLine, IsMessageOf, AreNoMessage, IsPut, accepted_line, Tells, IsRetrieveLine, Retrieves, Does, Answers};
 
 use crate::hearing::{receive, take};
 use crate::orders::command_of;
@@ -117,6 +117,16 @@ fn is_number(behind: Option<u8>) -> bool
     }
 }
 
+/// The line of a refused retrieval; none where memory is wanting.
+fn unretrieved(alloc: Global, error: RetrieveError) -> Result<Vec<u8>, AllocError>
+    ensures { IfOk result (λ v. IsRetrieveLine error v.items) }
+{
+    match error {
+        RetrieveError::BadAck => Vec::from_slice(alloc, b"refused E2 BadAck"),
+        RetrieveError::NoMemory => Err(AllocError),
+    }
+}
+
 /// How many messages there are.
 fn how_many(messages: &VecDeque<Msu>) -> usize
     ensures { result ≡ length messages.now.items }
@@ -141,8 +151,7 @@ fn retrieve(
             let count = how_many(&messages);
             text_line(alloc, &format_args!("ok {count}"))
         }
-        Err(RetrieveError::BadAck) => Vec::from_slice(alloc, b"refused E2 BadAck"),
-        Err(RetrieveError::NoMemory) => Err(AllocError),
+        Err(error) => unretrieved(alloc, error),
     }
 }
 
