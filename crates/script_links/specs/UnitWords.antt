@@ -25,7 +25,7 @@ octet_by (Some number) (Some bit) = Some (number + 128 * bit)
 abbrev pub half_of : List ℕ → List ℕ → List ℕ → List ℕ → List ℕ → List ℕ → Option ℕ
 half_of numbers bits first number second bit =
     if bytes_eq first numbers && bytes_eq second bits then
-        octet_by (number_to 127 number) (number_to 1 bit)
+    octet_by (number_to 127 number) (number_to 1 bit)
     else None
 
 -- the first of these that the word is, by its place from this one on
@@ -55,7 +55,7 @@ fisu_body kind = if bytes_eq kind (codes "FISU") then Some [] else None
 abbrev pub lssu_body : List ℕ → List ℕ → List ℕ → Option (List ℕ)
 lssu_body kind name status =
     if bytes_eq kind (codes "LSSU") && bytes_eq name (codes "status") then
-        status_body (status_of status)
+    status_body (status_of status)
     else None
 
 abbrev pub msu_body : List ℕ → List ℕ → List ℕ → List ℕ → List ℕ → Option (List ℕ)

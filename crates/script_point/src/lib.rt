@@ -9,7 +9,9 @@ mod shown;
 mod words;
 
 pub use fronts::in_front;
-pub use mtp2_text::{LexFault, LoadFault, MONITORS, Q703, STANDARD, Verified, load, monitors, q703, standard};
+pub use mtp2_text::{
+    LexFault, LoadFault, MONITORS, Q703, STANDARD, Verified, load, monitors, q703, standard,
+};
 pub use notes::Notes;
 pub use pointing::point_out;
 pub use shown::{Word, point, point_head, point_nowhere};
