@@ -111,7 +111,6 @@ fn own_text(set: &Named<'_>) -> &'static str {
     match set {
         Named::Q703 => Q703,
         Named::Monitors => MONITORS,
-        Named::Q703 => Q703,
         _ => STANDARD,
     }
 }

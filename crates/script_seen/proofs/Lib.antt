@@ -1,2 +1,2 @@
 mod Showings
-mod Kinds
+mod ShownRuns

@@ -1,7 +1,7 @@
 use Rattle.std.proofs.Common.{map}
 use Rattle.script_lines.specs.Lines.{plain_line}
 use Rattle.script_lines.specs.Scripts.{plain_said}
-use Rattle.script_seen.proofs.Kinds.{book_starts, book_one_more, book_shown, book_missed}
+use Rattle.script_seen.proofs.ShownRuns.{book_starts, book_one_more, book_shown, book_missed}
 use Rattle.script_seen.proofs.books.show_each.Goals as goal
 
 pub loop-said-init : goal.loop-said-init

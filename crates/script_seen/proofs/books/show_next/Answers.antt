@@ -2,7 +2,7 @@ use Rattle.std.proofs.Common.{[], Some, map}
 use Rattle.script_lines.specs.Lines.{plain_line}
 use Rattle.script_lines.specs.Scripts.{plain_said}
 use Rattle.script_seen.proofs.Showings.{has_front}
-use Rattle.script_seen.proofs.Kinds.{book_goes, book_misses}
+use Rattle.script_seen.proofs.ShownRuns.{book_goes, book_misses}
 use Rattle.script_seen.proofs.books.show_next.Goals as goal
 
 pub returns-clause-goes : goal.returns-clause-goes

@@ -1,7 +1,7 @@
 use Rattle.std.proofs.Common.{map}
 use Rattle.script_lines.specs.Lines.{plain_line}
 use Rattle.script_links.specs.TermScripts.{plain_term_said}
-use Rattle.script_seen.proofs.Kinds.{term_starts, term_one_more, term_shown, term_missed}
+use Rattle.script_seen.proofs.ShownRuns.{term_starts, term_one_more, term_shown, term_missed}
 use Rattle.script_seen.proofs.terminals.show_each.Goals as goal
 
 pub loop-said-init : goal.loop-said-init

@@ -2,7 +2,7 @@ use Rattle.std.proofs.Common.{[], Some, map}
 use Rattle.script_lines.specs.Lines.{plain_line}
 use Rattle.script_links.specs.TermScripts.{plain_term_said}
 use Rattle.script_seen.proofs.Showings.{has_front}
-use Rattle.script_seen.proofs.Kinds.{term_goes, term_misses}
+use Rattle.script_seen.proofs.ShownRuns.{term_goes, term_misses}
 use Rattle.script_seen.proofs.terminals.show_next.Goals as goal
 
 pub returns-clause-goes : goal.returns-clause-goes
