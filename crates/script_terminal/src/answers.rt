@@ -193,7 +193,11 @@ pub fn answer(
 ) -> Result<Vec<u8>, AllocError>
     ensures { IfOk result (λ v. Answers keeps (plain_term_command command.now) terminal.old v.items terminal.new) }
 {
-    let line = done(alloc, terminal, command, keeps)?;
-    terminal.obey_clear();
-    Ok(line)
+    match done(alloc, terminal, command, keeps) {
+        Ok(line) => {
+            let _cleared = terminal.obey_clear();
+            Ok(line)
+        }
+        Err(error) => Err(error),
+    }
 }
