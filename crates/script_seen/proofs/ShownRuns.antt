@@ -10,7 +10,7 @@ use Rattle.script_links.specs.TermScripts.{PlainTermSaid, plain_term_said}
 use Rattle.script_links.specs.declared.script.TermSaid.{TermSaid}
 use Rattle.script_links.specs.GroupScripts.{PlainGroupSaid, plain_group_said}
 use Rattle.script_links.specs.declared.group_script.GroupSaid.{GroupSaid}
-use Rattle.link_term.specs.Term.{Term}
+use Rattle.script_group.specs.Term.{Term}
 use Rattle.script_group.specs.Played.{begins as book_begins, IsRun, IsMissedBy}
 use Rattle.script_group.specs.TermRuns.{begins as term_begins, IsTermRun, IsTermMissedBy}
 use Rattle.script_group.specs.GroupAnswers.{Playing}

@@ -2,13 +2,12 @@
 ghost use Rattle.std.specs.Prelude.{◌≡◌, ◌⊎◌, ◌++◌, ◌∷◌, [], List, ℕ, Option, None, Some, map, IfOk, true, false};
 ghost use Rattle.script_lines.specs.Lines.{plain_line, lines_of};
 ghost use Rattle.script_links.specs.TermScripts.{PlainTermSaid, plain_term_said};
-ghost use Rattle.link_term.specs.Term.{Term};
+ghost use Rattle.script_group.specs.Term.{Term};
 ghost use Rattle.script_group.specs.TermRuns.{last_of, IsOfNew, LacksName};
 ghost use Rattle.script_seen.specs.Kinds.{IsTermShown, IsTermShownBy, IsTermShownMissed, IsTermShownMissedBy, TermShowing, TermMissing};
 
 use crate::fronts::{first_of, length_of, no_octets, show_line, write_behind};
-use link_term::Terminal;
-use script_group::{FAILED, HELD, MISSED, TermPlayer, asks_told, new_player, refuse_set};
+use script_group::{FAILED, HELD, MISSED, TermPlayer, Terminal, asks_told, new_player, refuse_set};
 use script_lines::{Line, lines_in};
 use script_links::{TermSaid, TermScript};
 use std::alloc::Global;
