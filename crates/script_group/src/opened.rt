@@ -1,5 +1,6 @@
 //! A link set on which commands of a script are obeyed one at a time.
 ghost use Rattle.std.specs.Prelude.{◌≡◌, [], None, IfOk, IfErr};
+ghost use Rattle.turn_code.specs.declared.draft.Draft.{Draft};
 ghost use Rattle.link_group.specs.Set.{LinkSet};
 ghost use Rattle.script_links.specs.GroupScripts.{IsFew};
 ghost use Rattle.script_group.specs.GroupRuns.{begun, playing_of, last_of, IsNewSet, LacksOne};
@@ -26,6 +27,18 @@ fn player_of(group: Group, retrievals: Retrievals) -> GroupPlayer
     }
 }
 
+/// The same; want of memory is told.
+fn begin(alloc: Global, group: Group) -> Result<GroupPlayer, OpenError>
+    ensures playing { IfOk result (λ p. playing_of p ≡ begun group) }
+    ensures last { IfOk result (λ p. last_of p ≡ None) }
+    ensures err { (d : Draft) → IfErr result (LacksOne d) }
+{
+    match Retrievals::new(alloc) {
+        Ok(retrievals) => Ok(player_of(group, retrievals)),
+        Err(_) => Err(OpenError::NoMemory),
+    }
+}
+
 /// The links of a script's first line, as the script begins with them. `end_player` takes the player.
 pub fn open_group(alloc: Global, set: &Verified, head: GroupHead) -> Result<GroupPlayer, OpenError>
     requires { IsFew head.links }
@@ -33,13 +46,9 @@ pub fn open_group(alloc: Global, set: &Verified, head: GroupHead) -> Result<Grou
     ensures last { IfOk result (λ p. last_of p ≡ None) }
     ensures err { IfErr result (LacksOne set.now) }
 {
-    let group = match open_set(alloc, set, head) {
-        Ok(group) => group,
-        Err(error) => return Err(error),
-    };
-    match Retrievals::new(alloc) {
-        Ok(retrievals) => Ok(player_of(group, retrievals)),
-        Err(_) => Err(OpenError::NoMemory),
+    match open_set(alloc, set, head) {
+        Ok(group) => begin(alloc, group),
+        Err(error) => Err(error),
     }
 }
 
