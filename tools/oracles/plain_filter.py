@@ -16,7 +16,7 @@ import sys
 sys.path += map(str, pathlib.Path(__file__).resolve().parents[1].glob("*"))
 
 from plain_play import Refused
-from plain_term import COMMANDS, ROOT, SETS, Terminal, command, do, shown
+from plain_term import COMMANDS, MORE, ROOT, SETS, Terminal, command, do, shown
 from plain_play import BadLine, number
 from plain_units import FLAG, bits_of, check_octets, octets_of, stuffed
 
@@ -96,7 +96,7 @@ class Voice:
 
 def told(end):
     """What the terminal has to tell: messages first."""
-    names = {"InServiceNow": "in service", "Down": "down", "RemoteOut": "far out", "RemoteBack": "far back"}
+    names = {"InServiceNow": "in service", "Down": "down", "RemoteOut": "far out", "RemoteBack": "far back", "Cleared": "cleared"}
     lines = [f"message {it.hex().upper()}" for it in end.messages]
     lines += [" ".join([names[signal], *map(str, values)]) for signal, *values in end.statuses]
     end.messages, end.statuses = [], []
@@ -126,11 +126,11 @@ def obeyed(end, order):
     """The lines that an order is answered."""
     words = order.split(" ")
     try:
-        if len(words) == 1 and words[0] in COMMANDS:
+        if len(words) == 1 and words[0] in {**COMMANDS, **MORE}:
             words = ["command", words[0]]
         word, *rest = command(words)
         if word == "command":
-            end.command(*rest[0])
+            do(end, word, *rest)
         elif word == "msu":
             end.sender.put(rest[0])
         elif word in ("told", "accepted", "retrieve"):

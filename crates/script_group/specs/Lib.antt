@@ -3,4 +3,5 @@ pub mod GroupRuns
 pub mod Shown
 pub use Rattle.script_terminal.specs.Lines
 pub use Rattle.script_terminal.specs.Played
+pub use Rattle.script_terminal.specs.Term
 pub use Rattle.script_terminal.specs.TermRuns

@@ -13,6 +13,7 @@ mod retrievals;
 mod saying;
 mod shown;
 
+pub use link_group::Terminal;
 pub use opened::{end_player, open_group};
 pub use player::GroupPlayer;
 pub use playing::play_group;

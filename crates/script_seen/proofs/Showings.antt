@@ -1,7 +1,8 @@
 -- What is shown of commands, one command more.
-use Rattle.std.proofs.Common.{◌≡◌, ◌∙◌, ℕ, ◌+◌, ◌<◌, ◌≤◌, List, [], ◌∷◌, ◌++◌, length, map, take, drop, get_or, Option, refl, sym, ap, subst}
+use Rattle.std.proofs.Common.{◌≡◌, ◌∙◌, ℕ, zero, suc, ◌+◌, ◌<◌, ◌≤◌, List, [], ◌∷◌, ◌++◌, length, map, take, drop, get_or, slice_get, option_map, Option, Some, arith, refl, sym, ap, subst}
 use Rattle.std.specs.Io.KnownBytes.{Appends}
 use Rattle.std.proofs.KnownBytes.{Appends-nil, Appends-trans}
+use Rattle.std.proofs.lemmas.Option.{slice_get-map}
 use Rattle.std.proofs.lemmas.List.{take_all, take_more, map-append, take-append-drop, drop_more}
 use Rattle.script_lines.specs.Lines.{PlainLine}
 use Rattle.script_group.specs.Lines.{line_of}
@@ -57,6 +58,23 @@ missing_is lines line P M commands said first old mid new printed next s f is be
           Appends-trans first old new s.shown (f.front ++ text) s.written
           (Appends-trans old mid new f.front text f.grew (subst B (ap (drop (length printed)) is ∙ drop_behind printed text) behind));
     }
+
+-- what stands behind, by other names
+pub behind_is : (n : ℕ) (part printed next : List ℕ) (mid new : Option (List ℕ)) → n ≡ length printed → part ≡ next → Appends mid new (drop n part)
+    → Appends mid new (drop (length printed) next)
+behind_is n part printed next mid new e f h =
+    let N : ℕ → Type 0 = λ k. Appends mid new (drop k part) in
+    let B : List ℕ → Type 0 = λ bs. Appends mid new (drop (length printed) bs) in
+    subst B f (subst N e h)
+
+-- the element at a place
+found_at : {A : Type 0} (xs : List A) (k : ℕ) (x : A) → k < length xs → x ≡ get_or xs k x → slice_get xs k ≡ Some x
+found_at [] k x lt is = absurd (omega (arith, lt))
+found_at (y ∷ xs) zero x lt is = ap Some (sym is)
+found_at (y ∷ xs) (suc k) x lt is = found_at xs k x (omega (arith, lt)) is
+
+pub found_in : {A B : Type 0} (f : A → B) (xs : List A) (k : ℕ) (x : A) → k < length xs → x ≡ get_or xs k x → slice_get (map f xs) k ≡ Some (f x)
+found_in f xs k x lt is = slice_get-map f xs k ∙ ap (option_map f) (found_at xs k x lt is)
 
 -- ---- commands of a list
 

@@ -10,7 +10,7 @@ use Rattle.script_links.specs.TermScripts.{PlainTermSaid, plain_term_said}
 use Rattle.script_links.specs.declared.script.TermSaid.{TermSaid}
 use Rattle.script_links.specs.GroupScripts.{PlainGroupSaid, plain_group_said}
 use Rattle.script_links.specs.declared.group_script.GroupSaid.{GroupSaid}
-use Rattle.link_term.specs.Term.{Term}
+use Rattle.script_group.specs.Term.{Term}
 use Rattle.script_group.specs.Played.{begins as book_begins, IsRun, IsMissedBy}
 use Rattle.script_group.specs.TermRuns.{begins as term_begins, IsTermRun, IsTermMissedBy}
 use Rattle.script_group.specs.GroupAnswers.{Playing}
@@ -18,30 +18,35 @@ use Rattle.script_group.specs.GroupRuns.{begins as group_begins, IsGroupRun, IsG
 use Rattle.script_seen.specs.Kinds.{book_line, Prints, PrintsMissed, BookShowing, BookMissing, IsBookShown, IsBookShownMissed}
 use Rattle.script_seen.specs.Kinds.{term_line, TermPrints, TermPrintsMissed, TermShowing, TermMissing, IsTermShownBy, IsTermShownMissedBy}
 use Rattle.script_seen.specs.Kinds.{group_line, GroupPrints, GroupPrintsMissed, GroupShowing, GroupMissing, IsGroupShown, IsGroupShownMissed}
-use Rattle.script_seen.proofs.Showings.{HasFront, showing_begins, showing_more, missing_is, one_more, parts_at, all_taken}
+use Rattle.script_seen.proofs.Showings.{HasFront, showing_begins, showing_more, missing_is, behind_is, one_more, parts_at, all_taken}
 
 -- ---- books
 
 -- nothing was obeyed yet
-pub book_starts : (lines : List PlainLine) (b : Ledger) (old last : Option (List ℕ)) → last ≡ None → BookShowing lines b [] old old [] b last
-book_starts lines b old last none =
+pub book_starts : (lines : List PlainLine) (b : Ledger) (old last : Option (List ℕ)) (printed : List ℕ) → printed ≡ [] → last ≡ None
+    → BookShowing lines b [] old old printed b last
+book_starts lines b old last printed empty none =
     let P : Option (List ℕ) → Type 0 = λ l. IsRun b [] (Some []) (Some []) b l in
-    (showing_begins lines book_line (Prints b) old, subst P (sym none) (record { lines = []; goes = book_begins; written = Appends-nil (Some []) }))
+    let Q : List ℕ → Type 0 = λ bs. BookShowing lines b [] old old bs b last in
+    subst Q (sym empty) (
+      showing_begins lines book_line (Prints b) old,
+      subst P (sym none) (record { lines = []; goes = book_begins; written = Appends-nil (Some []) }),
+    )
 
 pub book_goes : (lines : List PlainLine) (b : Ledger) (before : List PlainSaid) (said : PlainSaid) (first old mid new : Option (List ℕ)) (printed next : List ℕ)
     (now after : Ledger) (last latest : Option (List ℕ)) → BookShowing lines b before first old printed now last → HasFront lines said.line old mid
-    → Appends mid new (drop (length printed) next) → IsRun b (before ++ said ∷ []) (Some []) (Some next) after latest
+    → (n : ℕ) (part : List ℕ) → n ≡ length printed → part ≡ next → Appends mid new (drop n part) → IsRun b (before ++ said ∷ []) (Some []) (Some next) after latest
     → BookShowing lines b (before ++ said ∷ []) first new next after latest
-book_goes lines b before said first old mid new printed next now after last latest s f behind run = (
-  showing_more lines book_line (Prints b) before said first old mid new printed next s.0 f behind (record { now = after; last = latest; run = run }),
+book_goes lines b before said first old mid new printed next now after last latest s f n part e g behind run = (
+  showing_more lines book_line (Prints b) before said first old mid new printed next s.0 f (behind_is n part printed next mid new e g behind) (record { now = after; last = latest; run = run }),
   run,
 )
 
 pub book_misses : (lines : List PlainLine) (b : Ledger) (before : List PlainSaid) (said : PlainSaid) (first old mid new : Option (List ℕ)) (printed next : List ℕ)
     (now : Ledger) (last : Option (List ℕ)) → BookShowing lines b before first old printed now last → HasFront lines said.line old mid
-    → Appends mid new (drop (length printed) next) → IsMissedBy said last (Some printed) (Some next) → BookMissing lines b before said first new
-book_misses lines b before said first old mid new printed next now last s f behind m =
-    missing_is lines book_line (Prints b) (PrintsMissed b) before said first old mid new printed next s.0 f m.printed behind
+    → (n : ℕ) (part : List ℕ) → n ≡ length printed → part ≡ next → Appends mid new (drop n part) → IsMissedBy said last (Some printed) (Some next) → BookMissing lines b before said first new
+book_misses lines b before said first old mid new printed next now last s f n part e g behind m =
+    missing_is lines book_line (Prints b) (PrintsMissed b) before said first old mid new printed next s.0 f m.printed (behind_is n part printed next mid new e g behind)
     (record { before = before; said = said; after = []; stands = refl; middle = Some printed; now = now; last = last; run = s.1; missed = m })
 
 -- one command more of a list
@@ -74,25 +79,30 @@ book_missed lines b items i x first now within is m = record {
 -- ---- terminals
 
 -- nothing was obeyed yet
-pub term_starts : (keeps : Bool) (lines : List PlainLine) (b : Term) (old last : Option (List ℕ)) → last ≡ None → TermShowing keeps lines b [] old old [] b last
-term_starts keeps lines b old last none =
+pub term_starts : (keeps : Bool) (lines : List PlainLine) (b : Term) (old last : Option (List ℕ)) (printed : List ℕ) → printed ≡ [] → last ≡ None
+    → TermShowing keeps lines b [] old old printed b last
+term_starts keeps lines b old last printed empty none =
     let P : Option (List ℕ) → Type 0 = λ l. IsTermRun keeps b [] (Some []) (Some []) b l in
-    (showing_begins lines term_line (TermPrints keeps b) old, subst P (sym none) (record { lines = []; goes = term_begins; written = Appends-nil (Some []) }))
+    let Q : List ℕ → Type 0 = λ bs. TermShowing keeps lines b [] old old bs b last in
+    subst Q (sym empty) (
+      showing_begins lines term_line (TermPrints keeps b) old,
+      subst P (sym none) (record { lines = []; goes = term_begins; written = Appends-nil (Some []) }),
+    )
 
 pub term_goes : (keeps : Bool) (lines : List PlainLine) (b : Term) (before : List PlainTermSaid) (said : PlainTermSaid) (first old mid new : Option (List ℕ)) (printed next : List ℕ)
     (now after : Term) (last latest : Option (List ℕ)) → TermShowing keeps lines b before first old printed now last → HasFront lines said.line old mid
-    → Appends mid new (drop (length printed) next) → IsTermRun keeps b (before ++ said ∷ []) (Some []) (Some next) after latest
+    → (n : ℕ) (part : List ℕ) → n ≡ length printed → part ≡ next → Appends mid new (drop n part) → IsTermRun keeps b (before ++ said ∷ []) (Some []) (Some next) after latest
     → TermShowing keeps lines b (before ++ said ∷ []) first new next after latest
-term_goes keeps lines b before said first old mid new printed next now after last latest s f behind run = (
-  showing_more lines term_line (TermPrints keeps b) before said first old mid new printed next s.0 f behind (record { now = after; last = latest; run = run }),
+term_goes keeps lines b before said first old mid new printed next now after last latest s f n part e g behind run = (
+  showing_more lines term_line (TermPrints keeps b) before said first old mid new printed next s.0 f (behind_is n part printed next mid new e g behind) (record { now = after; last = latest; run = run }),
   run,
 )
 
 pub term_misses : (keeps : Bool) (lines : List PlainLine) (b : Term) (before : List PlainTermSaid) (said : PlainTermSaid) (first old mid new : Option (List ℕ)) (printed next : List ℕ)
     (now : Term) (last : Option (List ℕ)) → TermShowing keeps lines b before first old printed now last → HasFront lines said.line old mid
-    → Appends mid new (drop (length printed) next) → IsTermMissedBy said last (Some printed) (Some next) → TermMissing keeps lines b before said first new
-term_misses keeps lines b before said first old mid new printed next now last s f behind m =
-    missing_is lines term_line (TermPrints keeps b) (TermPrintsMissed keeps b) before said first old mid new printed next s.0 f m.printed behind
+    → (n : ℕ) (part : List ℕ) → n ≡ length printed → part ≡ next → Appends mid new (drop n part) → IsTermMissedBy said last (Some printed) (Some next) → TermMissing keeps lines b before said first new
+term_misses keeps lines b before said first old mid new printed next now last s f n part e g behind m =
+    missing_is lines term_line (TermPrints keeps b) (TermPrintsMissed keeps b) before said first old mid new printed next s.0 f m.printed (behind_is n part printed next mid new e g behind)
     (record { before = before; said = said; after = []; stands = refl; middle = Some printed; now = now; last = last; run = s.1; missed = m })
 
 -- one command more of a list
@@ -125,25 +135,30 @@ term_missed keeps lines b items i x first now within is m = record {
 -- ---- link sets
 
 -- nothing was obeyed yet
-pub group_starts : (lines : List PlainLine) (b : Playing) (old last : Option (List ℕ)) → last ≡ None → GroupShowing lines b [] old old [] b last
-group_starts lines b old last none =
+pub group_starts : (lines : List PlainLine) (b : Playing) (old last : Option (List ℕ)) (printed : List ℕ) → printed ≡ [] → last ≡ None
+    → GroupShowing lines b [] old old printed b last
+group_starts lines b old last printed empty none =
     let P : Option (List ℕ) → Type 0 = λ l. IsGroupRun b [] (Some []) (Some []) b l in
-    (showing_begins lines group_line (GroupPrints b) old, subst P (sym none) (record { lines = []; goes = group_begins; written = Appends-nil (Some []) }))
+    let Q : List ℕ → Type 0 = λ bs. GroupShowing lines b [] old old bs b last in
+    subst Q (sym empty) (
+      showing_begins lines group_line (GroupPrints b) old,
+      subst P (sym none) (record { lines = []; goes = group_begins; written = Appends-nil (Some []) }),
+    )
 
 pub group_goes : (lines : List PlainLine) (b : Playing) (before : List PlainGroupSaid) (said : PlainGroupSaid) (first old mid new : Option (List ℕ)) (printed next : List ℕ)
     (now after : Playing) (last latest : Option (List ℕ)) → GroupShowing lines b before first old printed now last → HasFront lines said.line old mid
-    → Appends mid new (drop (length printed) next) → IsGroupRun b (before ++ said ∷ []) (Some []) (Some next) after latest
+    → (n : ℕ) (part : List ℕ) → n ≡ length printed → part ≡ next → Appends mid new (drop n part) → IsGroupRun b (before ++ said ∷ []) (Some []) (Some next) after latest
     → GroupShowing lines b (before ++ said ∷ []) first new next after latest
-group_goes lines b before said first old mid new printed next now after last latest s f behind run = (
-  showing_more lines group_line (GroupPrints b) before said first old mid new printed next s.0 f behind (record { now = after; last = latest; run = run }),
+group_goes lines b before said first old mid new printed next now after last latest s f n part e g behind run = (
+  showing_more lines group_line (GroupPrints b) before said first old mid new printed next s.0 f (behind_is n part printed next mid new e g behind) (record { now = after; last = latest; run = run }),
   run,
 )
 
 pub group_misses : (lines : List PlainLine) (b : Playing) (before : List PlainGroupSaid) (said : PlainGroupSaid) (first old mid new : Option (List ℕ)) (printed next : List ℕ)
     (now : Playing) (last : Option (List ℕ)) → GroupShowing lines b before first old printed now last → HasFront lines said.line old mid
-    → Appends mid new (drop (length printed) next) → IsGroupMissedBy said last (Some printed) (Some next) → GroupMissing lines b before said first new
-group_misses lines b before said first old mid new printed next now last s f behind m =
-    missing_is lines group_line (GroupPrints b) (GroupPrintsMissed b) before said first old mid new printed next s.0 f m.printed behind
+    → (n : ℕ) (part : List ℕ) → n ≡ length printed → part ≡ next → Appends mid new (drop n part) → IsGroupMissedBy said last (Some printed) (Some next) → GroupMissing lines b before said first new
+group_misses lines b before said first old mid new printed next now last s f n part e g behind m =
+    missing_is lines group_line (GroupPrints b) (GroupPrintsMissed b) before said first old mid new printed next s.0 f m.printed (behind_is n part printed next mid new e g behind)
     (record { before = before; said = said; after = []; stands = refl; middle = Some printed; now = now; last = last; run = s.1; missed = m })
 
 -- one command more of a list

@@ -5,7 +5,7 @@ use Rattle.script_lines.specs.Lines.{PlainLine}
 use Rattle.script_lines.specs.Scripts.{PlainSaid}
 use Rattle.script_links.specs.TermScripts.{PlainTermSaid, asks_told}
 use Rattle.script_links.specs.GroupScripts.{PlainGroupSaid}
-use Rattle.link_term.specs.Term.{Term}
+use Rattle.script_group.specs.Term.{Term}
 use Rattle.script_group.specs.Played.{IsRun, IsWritten, IsMissed}
 use Rattle.script_group.specs.TermRuns.{IsTermRun, IsTermMissed}
 use Rattle.script_group.specs.GroupAnswers.{Playing}

@@ -6,7 +6,7 @@ ghost use Rattle.actor_machine.specs.Ledger.{Ledger};
 ghost use Rattle.script_group.specs.Played.{first_book, last_of};
 ghost use Rattle.script_seen.specs.Kinds.{IsBookShown, IsBookShownMissed, BookShowing, BookMissing};
 
-use crate::fronts::{first_of, show_line, write_behind};
+use crate::fronts::{first_of, length_of, no_octets, show_line, write_behind};
 use script_group::{FAILED, HELD, MISSED, Player, open_player};
 use script_lines::{Line, Said, Script, lines_in};
 use std::alloc::Global;
@@ -31,7 +31,7 @@ fn show_next<W: Write>(
         → BookMissing (map plain_line lines.now) b before (plain_said said.now) first (W.contents writer.new)) }
 {
     show_line(alloc, lines, place, said.line, writer)?;
-    let before = printed.len();
+    let before = length_of(printed.as_slice());
     let on = player.obey(alloc, said, printed)?;
     write_behind(before, printed.as_slice(), writer)?;
     Ok(on)
@@ -52,7 +52,7 @@ fn show_each<W: Write, E: Write>(
         → IsBookShownMissed (map plain_line lines.now) player.old.book (map plain_said commands.now) (W.contents writer.old) (W.contents writer.new)) }
     ensures status { IfOk result (λ status. (status ≡ 0) ⊎ (status ≡ 1)) }
 {
-    let mut printed = Vec::new(alloc);
+    let mut printed = no_octets(alloc);
     let mut place = first_of(lines, commands.len());
     for said in commands {
         if !show_next(alloc, player, said, lines, place, &mut printed, writer)? {
@@ -64,25 +64,46 @@ fn show_each<W: Write, E: Write>(
     Ok(HELD)
 }
 
-/// The same, from a new link of the set on.
-fn show_new<W: Write, E: Write>(
+/// The same. Gives the exit status, 4 where memory or a write fails.
+fn show_lines<W: Write, E: Write>(
     alloc: Global,
-    set: &Verified,
-    script: &Script<'_>,
+    player: &mut Player,
+    commands: &[Said<'_>],
+    lines: &[Line<'_>],
+    writer: &mut W,
+    errors: &mut E,
+) -> u8
+    ensures held { result ≡ 0 → last_of player.old ≡ None
+        → IsBookShown (map plain_line lines.now) player.old.book (map plain_said commands.now) (W.contents writer.old) (W.contents writer.new) }
+    ensures missed { result ≡ 1 → last_of player.old ≡ None
+        → IsBookShownMissed (map plain_line lines.now) player.old.book (map plain_said commands.now) (W.contents writer.old) (W.contents writer.new) }
+    ensures status { (result ≡ 0) ⊎ (result ≡ 1) ⊎ (result ≡ 4) }
+{
+    match show_each(alloc, player, commands, lines, writer, errors) {
+        Ok(status) => status,
+        Err(_) => FAILED,
+    }
+}
+
+/// The same with the lines of a text.
+fn show_all<W: Write, E: Write>(
+    alloc: Global,
+    player: &mut Player,
+    commands: &[Said<'_>],
     text: &str,
     writer: &mut W,
     errors: &mut E,
-) -> io::Result<u8>
-    requires { AreInRange script.now.settings }
-    ensures held { IfOk result (λ status. status ≡ 0
-        → IsBookShown (lines_of text.now) (first_book set.now script.now.settings) (plain_script script.now).commands (W.contents writer.old) (W.contents writer.new)) }
-    ensures missed { IfOk result (λ status. status ≡ 1
-        → IsBookShownMissed (lines_of text.now) (first_book set.now script.now.settings) (plain_script script.now).commands (W.contents writer.old) (W.contents writer.new)) }
-    ensures status { IfOk result (λ status. (status ≡ 0) ⊎ (status ≡ 1)) }
+) -> u8
+    ensures held { result ≡ 0 → last_of player.old ≡ None
+        → IsBookShown (lines_of text.now) player.old.book (map plain_said commands.now) (W.contents writer.old) (W.contents writer.new) }
+    ensures missed { result ≡ 1 → last_of player.old ≡ None
+        → IsBookShownMissed (lines_of text.now) player.old.book (map plain_said commands.now) (W.contents writer.old) (W.contents writer.new) }
+    ensures status { (result ≡ 0) ⊎ (result ≡ 1) ⊎ (result ≡ 4) }
 {
-    let lines = lines_in(alloc, text)?;
-    let mut player = open_player(alloc, set, script.settings)?;
-    show_each(alloc, &mut player, &script.commands, &lines, writer, errors)
+    match lines_in(alloc, text) {
+        Ok(lines) => show_lines(alloc, player, commands, &lines, writer, errors),
+        Err(_) => FAILED,
+    }
 }
 
 /// Runs a book script on the processes of a set, as `play_book` does, and writes each command's line of the script's text in front of what it prints.
@@ -104,8 +125,8 @@ pub fn show_book<W: Write, E: Write>(
         → IsBookShownMissed (lines_of text.now) (first_book set.now script.now.settings) (plain_script script.now).commands (W.contents writer.old) (W.contents writer.new) }
     ensures status { (result ≡ 0) ⊎ (result ≡ 1) ⊎ (result ≡ 4) }
 {
-    match show_new(alloc, set, script, text, writer, errors) {
-        Ok(status) => status,
-        Err(_) => FAILED,
-    }
+    let Ok(mut player) = open_player(alloc, set, script.settings) else {
+        return FAILED;
+    };
+    show_all(alloc, &mut player, &script.commands, text, writer, errors)
 }

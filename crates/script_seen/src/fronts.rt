@@ -1,5 +1,5 @@
 //! The lines of a script as they are shown.
-ghost use Rattle.std.specs.Prelude.{◌≡◌, ◌++◌, ◌∷◌, [], ℕ, List, map, drop, codes, OnOk, IfOk};
+ghost use Rattle.std.specs.Prelude.{◌≡◌, ◌++◌, ◌∷◌, [], ℕ, List, length, map, drop, codes, OnOk, IfOk};
 ghost use Rattle.std.specs.List.{flat_map};
 ghost use Rattle.std.specs.Io.KnownBytes.{Appends};
 ghost use Rattle.script_lines.specs.Lines.{texts, plain_line};
@@ -84,4 +84,18 @@ pub(crate) fn write_behind<W: Write>(
     let from = before.min(printed.len());
     writer.write_all(&printed[from..])?;
     Ok(())
+}
+
+/// How many octets there are.
+pub(crate) fn length_of(octets: &[u8]) -> usize
+    ensures { result ≡ length octets.now }
+{
+    octets.len()
+}
+
+/// Nothing that was printed.
+pub(crate) fn no_octets(alloc: Global) -> Vec<u8>
+    ensures { result.items ≡ [] }
+{
+    Vec::new(alloc)
 }

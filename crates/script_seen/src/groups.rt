@@ -7,7 +7,7 @@ ghost use Rattle.script_group.specs.GroupAnswers.{Playing};
 ghost use Rattle.script_group.specs.GroupRuns.{playing_of, last_of, IsOfNewSet};
 ghost use Rattle.script_seen.specs.Kinds.{IsGroupShown, IsGroupShownMissed, GroupShowing, GroupMissing};
 
-use crate::fronts::{first_of, show_line, write_behind};
+use crate::fronts::{first_of, length_of, no_octets, show_line, write_behind};
 use script_group::{FAILED, GroupPlayer, HELD, MISSED, end_player, open_group, refuse_set};
 use script_lines::{Line, lines_in};
 use script_links::{GroupSaid, GroupScript};
@@ -33,7 +33,7 @@ fn show_next<W: Write>(
         → GroupMissing (map plain_line lines.now) p before (plain_group_said said.now) first (W.contents writer.new)) }
 {
     show_line(alloc, lines, place, said.line, writer)?;
-    let before = printed.len();
+    let before = length_of(printed.as_slice());
     let on = player.obey(alloc, said, printed)?;
     write_behind(before, printed.as_slice(), writer)?;
     Ok(on)
@@ -53,7 +53,7 @@ fn show_each<W: Write>(
         → IsGroupShownMissed (map plain_line lines.now) (map plain_group_said commands.now) (W.contents writer.old) (W.contents writer.new) (playing_of player.old)) }
     ensures status { IfOk result (λ status. (status ≡ 0) ⊎ (status ≡ 1)) }
 {
-    let mut printed = Vec::new(alloc);
+    let mut printed = no_octets(alloc);
     let mut place = first_of(lines, commands.len());
     for said in commands {
         if !show_next(alloc, player, said, lines, place, &mut printed, writer)? {
@@ -64,7 +64,27 @@ fn show_each<W: Write>(
     Ok(HELD)
 }
 
-/// The same with the lines of a text. Gives the exit status, 4 where memory or a write fails.
+/// The same. Gives the exit status, 4 where memory or a write fails.
+fn show_lines<W: Write>(
+    alloc: Global,
+    player: &mut GroupPlayer,
+    commands: &[GroupSaid<'_>],
+    lines: &[Line<'_>],
+    writer: &mut W,
+) -> u8
+    ensures held { result ≡ 0 → last_of player.old ≡ None
+        → IsGroupShown (map plain_line lines.now) (map plain_group_said commands.now) (W.contents writer.old) (W.contents writer.new) (playing_of player.old) }
+    ensures missed { result ≡ 1 → last_of player.old ≡ None
+        → IsGroupShownMissed (map plain_line lines.now) (map plain_group_said commands.now) (W.contents writer.old) (W.contents writer.new) (playing_of player.old) }
+    ensures status { (result ≡ 0) ⊎ (result ≡ 1) ⊎ (result ≡ 4) }
+{
+    match show_each(alloc, player, commands, lines, writer) {
+        Ok(status) => status,
+        Err(_) => FAILED,
+    }
+}
+
+/// The same with the lines of a text.
 fn show_all<W: Write>(
     alloc: Global,
     player: &mut GroupPlayer,
@@ -78,11 +98,8 @@ fn show_all<W: Write>(
         → IsGroupShownMissed (lines_of text.now) (map plain_group_said commands.now) (W.contents writer.old) (W.contents writer.new) (playing_of player.old) }
     ensures status { (result ≡ 0) ⊎ (result ≡ 1) ⊎ (result ≡ 4) }
 {
-    let Ok(lines) = lines_in(alloc, text) else {
-        return FAILED;
-    };
-    match show_each(alloc, player, commands, &lines, writer) {
-        Ok(status) => status,
+    match lines_in(alloc, text) {
+        Ok(lines) => show_lines(alloc, player, commands, &lines, writer),
         Err(_) => FAILED,
     }
 }

@@ -2,13 +2,12 @@
 ghost use Rattle.std.specs.Prelude.{◌≡◌, ◌⊎◌, ◌++◌, ◌∷◌, [], List, ℕ, Option, None, Some, map, IfOk, true, false};
 ghost use Rattle.script_lines.specs.Lines.{plain_line, lines_of};
 ghost use Rattle.script_links.specs.TermScripts.{PlainTermSaid, plain_term_said};
-ghost use Rattle.link_term.specs.Term.{Term};
+ghost use Rattle.script_group.specs.Term.{Term};
 ghost use Rattle.script_group.specs.TermRuns.{last_of, IsOfNew, LacksName};
 ghost use Rattle.script_seen.specs.Kinds.{IsTermShown, IsTermShownBy, IsTermShownMissed, IsTermShownMissedBy, TermShowing, TermMissing};
 
-use crate::fronts::{first_of, show_line, write_behind};
-use link_term::Terminal;
-use script_group::{FAILED, HELD, MISSED, TermPlayer, asks_told, new_player, refuse_set};
+use crate::fronts::{first_of, length_of, no_octets, show_line, write_behind};
+use script_group::{FAILED, HELD, MISSED, TermPlayer, Terminal, asks_told, new_player, refuse_set};
 use script_lines::{Line, lines_in};
 use script_links::{TermSaid, TermScript};
 use std::alloc::Global;
@@ -34,7 +33,7 @@ fn show_next<W: Write>(
         → TermMissing keeps (map plain_line lines.now) t before (plain_term_said said.now) first (W.contents writer.new)) }
 {
     show_line(alloc, lines, place, said.line, writer)?;
-    let before = printed.len();
+    let before = length_of(printed.as_slice());
     let on = player.obey(alloc, said, keeps, printed)?;
     write_behind(before, printed.as_slice(), writer)?;
     Ok(on)
@@ -55,7 +54,7 @@ fn show_each<W: Write>(
         → IsTermShownMissedBy keeps (map plain_line lines.now) (map plain_term_said commands.now) (W.contents writer.old) (W.contents writer.new) player.old.terminal) }
     ensures status { IfOk result (λ status. (status ≡ 0) ⊎ (status ≡ 1)) }
 {
-    let mut printed = Vec::new(alloc);
+    let mut printed = no_octets(alloc);
     let mut place = first_of(lines, commands.len());
     for said in commands {
         if !show_next(
@@ -75,28 +74,48 @@ fn show_each<W: Write>(
     Ok(HELD)
 }
 
-/// The same, on a new terminal.
-fn show_new<W: Write>(
+/// The same. Gives the exit status, 4 where memory or a write fails.
+fn show_lines<W: Write>(
     alloc: Global,
-    terminal: Terminal,
-    script: &TermScript<'_>,
-    text: &str,
+    player: &mut TermPlayer,
+    commands: &[TermSaid<'_>],
+    lines: &[Line<'_>],
     writer: &mut W,
-) -> io::Result<u8>
-    ensures held { IfOk result (λ status. status ≡ 0
-        → IsTermShown (lines_of text.now) (map plain_term_said script.now.commands.items) (W.contents writer.old) (W.contents writer.new) terminal) }
-    ensures missed { IfOk result (λ status. status ≡ 1
-        → IsTermShownMissed (lines_of text.now) (map plain_term_said script.now.commands.items) (W.contents writer.old) (W.contents writer.new) terminal) }
-    ensures status { IfOk result (λ status. (status ≡ 0) ⊎ (status ≡ 1)) }
+) -> u8
+    ensures held { result ≡ 0 → last_of player.old ≡ None
+        → IsTermShown (map plain_line lines.now) (map plain_term_said commands.now) (W.contents writer.old) (W.contents writer.new) player.old.terminal }
+    ensures missed { result ≡ 1 → last_of player.old ≡ None
+        → IsTermShownMissed (map plain_line lines.now) (map plain_term_said commands.now) (W.contents writer.old) (W.contents writer.new) player.old.terminal }
+    ensures status { (result ≡ 0) ⊎ (result ≡ 1) ⊎ (result ≡ 4) }
 {
-    let lines = lines_in(alloc, text)?;
-    let mut player = new_player(terminal);
-    let commands = script.commands.as_slice();
     let keeps = asks_told(commands);
-    show_each(alloc, &mut player, commands, &lines, keeps, writer)
+    match show_each(alloc, player, commands, lines, keeps, writer) {
+        Ok(status) => status,
+        Err(_) => FAILED,
+    }
 }
 
-/// The same. Gives the exit status, 4 where memory or a write fails.
+/// The same with the lines of a text.
+fn show_all<W: Write>(
+    alloc: Global,
+    player: &mut TermPlayer,
+    commands: &[TermSaid<'_>],
+    text: &str,
+    writer: &mut W,
+) -> u8
+    ensures held { result ≡ 0 → last_of player.old ≡ None
+        → IsTermShown (lines_of text.now) (map plain_term_said commands.now) (W.contents writer.old) (W.contents writer.new) player.old.terminal }
+    ensures missed { result ≡ 1 → last_of player.old ≡ None
+        → IsTermShownMissed (lines_of text.now) (map plain_term_said commands.now) (W.contents writer.old) (W.contents writer.new) player.old.terminal }
+    ensures status { (result ≡ 0) ⊎ (result ≡ 1) ⊎ (result ≡ 4) }
+{
+    match lines_in(alloc, text) {
+        Ok(lines) => show_lines(alloc, player, commands, &lines, writer),
+        Err(_) => FAILED,
+    }
+}
+
+/// The same, on a new terminal.
 fn show_on<W: Write>(
     alloc: Global,
     terminal: Terminal,
@@ -110,10 +129,8 @@ fn show_on<W: Write>(
         → IsTermShownMissed (lines_of text.now) (map plain_term_said script.now.commands.items) (W.contents writer.old) (W.contents writer.new) terminal }
     ensures status { (result ≡ 0) ⊎ (result ≡ 1) ⊎ (result ≡ 4) }
 {
-    match show_new(alloc, terminal, script, text, writer) {
-        Ok(status) => status,
-        Err(_) => FAILED,
-    }
+    let mut player = new_player(terminal);
+    show_all(alloc, &mut player, &script.commands, text, writer)
 }
 
 /// Runs a terminal's script on a terminal over a set, as `play_terminal` does, and writes each command's line of the script's text in front of what

@@ -8,7 +8,7 @@ use crate::events::read::{events_of, limits_of};
 use crate::events::told::write_replies;
 use actor_book::run_events;
 use actor_headline::{Book, LoadFault, TextRun, run_text};
-use mtp2_text::STANDARD;
+use link_standard::STANDARD;
 use std::alloc::Global;
 
 /// Rebases a book, lets the events of these lines happen to it, and writes what is answered.

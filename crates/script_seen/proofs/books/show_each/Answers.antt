@@ -5,7 +5,7 @@ use Rattle.script_seen.proofs.ShownRuns.{book_starts, book_one_more, book_shown,
 use Rattle.script_seen.proofs.books.show_each.Goals as goal
 
 pub loop-said-init : goal.loop-said-init
-loop-said-init g c none = book_starts (map plain_line c.args.lines.now) c.args.player.now.book (g.W.Write.contents c.args.writer.now) _ none
+loop-said-init g c none = book_starts (map plain_line c.args.lines.now) c.args.player.now.book (g.W.Write.contents c.args.writer.now) _ _ c.no_octets-printed.ensures none
 
 pub loop-said-preserved : goal.loop-said-preserved
 loop-said-preserved g c none =

@@ -22,7 +22,7 @@ one_word ws i w before spaced after word all within space more is had =
 pub loop-word-preserved : goal.loop-word-preserved
 loop-word-preserved c =
     one_word c.args.words.now c.loop-word.word-index _ c.loop-word.text.items _ _ _ _ c.loop-word-test.true c.in_ok-push.ensures.items
-    c.in_ok-extend_from_slice-2.ensures.items c.as_bytes-in-loop-word.ensures.value c.loop-word.invariant
+    c.in_ok-extend_from_slice.ensures.items c.as_bytes.ensures.value c.loop-word.invariant
 
 pub returns : goal.returns
 returns c =

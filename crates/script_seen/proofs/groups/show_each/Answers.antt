@@ -6,7 +6,7 @@ use Rattle.script_seen.proofs.ShownRuns.{group_starts, group_one_more, group_sho
 use Rattle.script_seen.proofs.groups.show_each.Goals as goal
 
 pub loop-said-init : goal.loop-said-init
-loop-said-init g c none = group_starts (map plain_line c.args.lines.now) (playing_of c.args.player.now) (g.W.Write.contents c.args.writer.now) _ none
+loop-said-init g c none = group_starts (map plain_line c.args.lines.now) (playing_of c.args.player.now) (g.W.Write.contents c.args.writer.now) _ _ c.no_octets-printed.ensures none
 
 pub loop-said-preserved : goal.loop-said-preserved
 loop-said-preserved g c none =

@@ -5,7 +5,7 @@ use Rattle.script_seen.proofs.ShownRuns.{term_starts, term_one_more, term_shown,
 use Rattle.script_seen.proofs.terminals.show_each.Goals as goal
 
 pub loop-said-init : goal.loop-said-init
-loop-said-init g c none = term_starts c.args.keeps (map plain_line c.args.lines.now) c.args.player.now.terminal (g.W.Write.contents c.args.writer.now) _ none
+loop-said-init g c none = term_starts c.args.keeps (map plain_line c.args.lines.now) c.args.player.now.terminal (g.W.Write.contents c.args.writer.now) _ _ c.no_octets-printed.ensures none
 
 pub loop-said-preserved : goal.loop-said-preserved
 loop-said-preserved g c none =
