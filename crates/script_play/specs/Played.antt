@@ -11,7 +11,7 @@ use Rattle.script_links.specs.TermScripts.{PlainAnyScript, book, terminal}
 use Rattle.script_links.specs.GroupScripts.{PlainPlayScript, other, group, play_script_of}
 use Rattle.script_check.specs.Checked.{IsGiven, IsSetOf, PrintsRefusal}
 use Rattle.script_seen.specs.Lines.{line_of}
-use Rattle.script_seen.specs.TermRuns.{IsOfNew, IsTermWritten, IsTermMissed, LacksName}
+use Rattle.script_seen.specs.TermRuns.{IsOfNew, IsTermWritten, IsTermFailed, LacksName}
 use Rattle.script_lines.specs.Lines.{PlainLine, lines_of}
 use Rattle.script_seen.specs.Kinds.{IsBookShown, IsBookShownMissed, IsTermShown}
 use Rattle.script_seen.specs.Kinds.{IsTermShownMissed, IsGroupShown, IsGroupShownMissed}
@@ -31,7 +31,7 @@ IsObeyed d (group s) old new = IsOfNewSet d s.head (IsGroupWritten s.commands ol
 -- an expectation of a script failed behind commands that were obeyed
 abbrev pub IsOtherMissed : Draft → PlainAnyScript → Option (List ℕ) → Option (List ℕ) → Type 0
 IsOtherMissed d (book s) old new = IsMissed (first_book d s.settings) s.commands old new
-IsOtherMissed d (terminal s) old new = IsOfNew d s.mode (IsTermMissed s.commands old new)
+IsOtherMissed d (terminal s) old new = IsOfNew d s.mode (IsTermFailed s.commands old new)
 
 abbrev pub IsMissedIn : Draft → PlainPlayScript → Option (List ℕ) → Option (List ℕ) → Type 0
 IsMissedIn d (other s) old new = IsOtherMissed d s old new
