@@ -83,6 +83,19 @@ fn with_text<H: Eprint, S: Read + Drop, W: Write>(
     }
 }
 
+/// The set of a text of these octets, or the exit status where there is none.
+fn octets_side<H: Eprint, W: Write>(
+    alloc: Global,
+    teller: &Teller<'_, H>,
+    named: SideName<'_>,
+    octets: &[u8],
+    writer: &mut W,
+) -> Result<Side, u8>
+    ensures { IfErr result (λ s. (s ≡ 2) ⊎ (s ≡ 4)) }
+{
+    with_text(alloc, teller, named, SetWord::Text(octets), octets, writer)
+}
+
 /// The set of the text that a reader gives, or the exit status where there is none.
 fn read_side<H: Eprint, S: Read + Drop, W: Write>(
     alloc: Global,
@@ -95,12 +108,11 @@ fn read_side<H: Eprint, S: Read + Drop, W: Write>(
 {
     match read_text(alloc, &mut reader) {
         Ok(read) => {
-            let bytes = if read.is_text {
-                read.kept.as_slice()
+            if read.is_text {
+                octets_side(alloc, teller, named, read.kept.as_slice(), writer)
             } else {
-                NO_TEXT
-            };
-            with_text(alloc, teller, named, SetWord::Text(bytes), bytes, writer)
+                octets_side(alloc, teller, named, NO_TEXT, writer)
+            }
         }
         Err(_) => Err(FAILED),
     }
