@@ -49,6 +49,7 @@ fn write_status(text: &mut String, status: LinkStatus) -> Result<(), AllocError>
         LinkStatus::Down(reason) => writeln!(text, "  down {reason}"),
         LinkStatus::RemoteOut => text.push_str("  remote out\n"),
         LinkStatus::RemoteBack => text.push_str("  remote back\n"),
+        LinkStatus::Cleared => text.push_str("  cleared\n"),
     }
 }
 
