@@ -479,7 +479,7 @@ def play_text(text, script, say):
             say(f"refused X1 BadLine line {at}")
             return 2
     player = Player(text, *head(script))
-    lacking = [it for it in plain_term.WANTED if not plain_term.has(player.group.links[0].book, it)]
+    lacking = plain_term.lacking_in(player.group.links[0].book)
     if lacking:
         say(f"refused X2 NoName {lacking[0]}")
         return 2

@@ -268,6 +268,24 @@ def has(book, wanted):
     return brought and sorts == ([SORTS[name]] if name in SORTS else [])
 
 
+# What a text may have besides, in the order in which it is asked for.
+ASKED = "LSC/Flush LSC/Continue CC/Overload ENV/Deliver ENV/Cleared ENV/Clear RC/Odd".split()
+
+
+def is_otherwise(book, wanted):
+    """Whether a text has such a signal on a route from or to the environment in another form than the one that a terminal knows."""
+    party, _, name = wanted.partition("/")
+    _, sorts = book.signals.get(name.lower(), (name, None))
+    paths = [(a, b) for a, b, signal in book.paths if signal == name.lower() and "ENV" in (a, b)]
+    right = [(a, b) for a, b in paths if (a != "ENV" and b == "ENV" if party == "ENV" else (a, b) == ("ENV", party.lower()))]
+    return paths != right or (bool(paths) and sorts != ([SORTS[name]] if name in SORTS else []))
+
+
+def lacking_in(book):
+    """The names that a terminal misses in a text."""
+    return [it for it in WANTED if not has(book, it)] + [it for it in ASKED if is_otherwise(book, it)]
+
+
 # Scripts.
 
 TOLD = {"InServiceNow": "in service", "Down": "down", "RemoteOut": "far out", "RemoteBack": "far back", "Cleared": "cleared"}
@@ -498,7 +516,7 @@ def play_text(text, script, say):
             return 2
     terminal = Terminal(text, first[1] == "cyclic", *limits_of(first))
     terminal.keeps = any(it[0] == "told" for _, it in commands)
-    lacking = [it for it in WANTED if not has(terminal.book, it)]
+    lacking = lacking_in(terminal.book)
     if lacking:
         say(f"refused X2 NoName {lacking[0]}")
         return 2
