@@ -38,7 +38,6 @@ fn line_on<
 }
 
 /// Has a terminal over a set whose text comes from a reader speak on a line.
-#[tactic(auto, using(crate::proofs::Known::spoken))]
 fn line_text<
     H: Files<File = File> + Threads + Eprint + Clock + AllocGlobal,
     S: Read + Drop,
