@@ -1,7 +1,8 @@
 -- What a link does by its terminal, and that it comes into service.
 use Rattle.std.specs.Prelude.{◌≡◌, ℕ, ◌-◌, ◌<◌, ◌≤◌, ◌&&◌, ◌⊎◌, Bool, true, false, not}
 use Rattle.std.specs.Prelude.{if◌then◌else◌}
-use Rattle.std.specs.Prelude.{List, length, take, Option, Some, None, slice_get, slice_set}
+use Rattle.std.specs.Prelude.{List, [], ◌++◌, length, take, drop, filter, Option, Some, None}
+use Rattle.std.specs.Prelude.{slice_get, slice_set}
 use Rattle.link_transceiver.specs.Limits.{KEPT_MESSAGES}
 use Rattle.link_term.specs.Machine.{is_low, sent, tidied}
 use Rattle.link_term.specs.Term.{term_with_transceiver, with_processes}
@@ -13,7 +14,11 @@ use Rattle.link_transceiver.specs.declared.signals.Report.{Report}
 use Rattle.su_octets.specs.declared.units.Unit.{Unit}
 use Rattle.group_changeover.specs.Availability.{fewer, serves, takes_part, admits}
 use Rattle.group_members.specs.declared.link.Link.{Link}
-use Rattle.group_members.specs.OneLink.{held, shares, with_availability}
+use Rattle.resend_store.specs.declared.messages.Msu.{Msu}
+use Rattle.resend_store.specs.Window.{Window}
+use Rattle.group_changeover.specs.Bound.{is_bound, unbound}
+use Rattle.group_members.specs.OneLink.{held, window, shares, accepted_of, with_availability}
+use Rattle.group_members.specs.OneLink.{with_window}
 
 -- it came into service since that was last asked
 abbrev pub came : Link → Bool
@@ -44,13 +49,40 @@ admits_by way (Some k) = admits_first way k
 
 -- ---- what it does by its terminal
 
+-- ---- its directions begin anew
+
+abbrev pub began : Link → Bool
+began k = k.terminal.processes.transceiver.began
+
+-- of those that the far side told of, the bound ones that wait
+abbrev pub bound_told : Link → Option ℕ → List Msu
+bound_told k None = []
+bound_told k (Some n) = filter (is_bound k.points) (drop (window k).sent (take n (held k)))
+
+abbrev pub left_out : Link → Window
+left_out k = record (window k) {
+  kept = take (window k).sent (held k) ++ unbound k.points (drop (window k).sent (held k));
+}
+
+-- The messages that are bound to it and wait leave. What was told speaks of so many fewer.
+abbrev pub leaves_out : Link → Link
+leaves_out k =
+    with_availability (fewer (length (bound_told k (accepted_of k))) k.availability)
+    (with_window (left_out k) k)
+
+abbrev pub renewed : Link → Link
+renewed k = if began k then leaves_out k else k
+
 -- A link that came into service counts no longer as started anew.
-abbrev pub asked : Link → Link
-asked k = marked_served (record {
+abbrev pub asked_of : Link → Link
+asked_of k = marked_served (record k {
   terminal = term_with_transceiver k.terminal
-      (record k.terminal.processes.transceiver { came = false });
+      (record k.terminal.processes.transceiver { came = false; began = false });
   availability = if came k then serves k.availability else k.availability;
 })
+
+abbrev pub asked : Link → Link
+asked k = asked_of (renewed k)
 
 abbrev pub came_by : Option Link → Bool
 came_by None = false

@@ -22,11 +22,42 @@ impl Link {
         first
     }
 
-    /// Looks whether it came into service since this was last asked. Whether it may have selections for the first time.
+    /// Drops the messages that are bound to it and wait. How many of them stood among so many from the front.
+    fn leave_out(&mut self, told: usize) -> usize
+        ensures count { result ≡ length (filter (is_bound self.old.points) (drop (window self.old).sent (take told (held self.old)))) }
+        ensures link { self.new ≡ with_window (left_out self.old) self.old }
+    {
+        let mut place = self.terminal.sent();
+        let mut left = 0usize;
+        for stood in place..self.terminal.held() {
+            if self.is_bound_at(place) {
+                self.terminal.drop_waiting(place);
+                left += (stood < told) as usize;
+            } else {
+                place += 1;
+            }
+        }
+        left
+    }
+
+    /// The messages that are bound to it leave as its directions begin anew.
+    fn renew(&mut self)
+        ensures { self.new ≡ leaves_out self.old }
+    {
+        let told = self.accepted().unwrap_or(0);
+        let left = self.leave_out(told);
+        self.availability = self.availability.fewer(left);
+    }
+
+    /// Looks whether its directions began anew, and it came into service, since this was last asked. Whether it may have selections for the first
+    /// time.
     fn see(&mut self) -> bool
         ensures first { result ≡ came_first self.old }
         ensures link { self.new ≡ asked self.old }
     {
+        if self.terminal.began_anew() {
+            self.renew();
+        }
         if self.terminal.came_into_service() {
             self.availability = self.availability.serves();
         }

@@ -1,3 +1,4 @@
+pub mod Completing
 pub mod Delivery
 pub mod Given
 pub mod InOrder
