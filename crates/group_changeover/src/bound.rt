@@ -1,9 +1,11 @@
 //! Messages that belong to one link alone.
-ghost use Rattle.std.specs.Prelude.{◌≡◌, ◌%◌, length, Some};
-ghost use Rattle.group_changeover.specs.Bound.{is_short, is_long, is_testing, is_management, is_test, is_content, goes_between, is_bound_by, is_bound};
+ghost use Rattle.std.specs.Prelude.{◌≡◌, ◌%◌, Some, All};
+ghost use Rattle.resend_store.specs.Messages.{IsMessage};
+ghost use Rattle.group_changeover.specs.Bound.{is_short, is_long, is_testing, is_management, is_test, is_content, goes_between, is_bound_by, is_bound, unbound};
 
 use crate::labels::{Label, label_of_octets};
 use resend_store::Msu;
+use std::collections::VecDeque;
 
 /// The points between which the links of a set lie.
 #[derive(Clone, Copy, Debug, PartialEq, Eq)]
@@ -49,7 +51,8 @@ fn is_test(octets: &[u8]) -> bool
 {
     match octets {
         [heading, length, pattern @ ..] => {
-            is_testing(*heading) && (!pattern.is_empty() && usize::from(*length / 16) == pattern.len())
+            is_testing(*heading)
+                && (!pattern.is_empty() && usize::from(*length / 16) == pattern.len())
         }
         _ => false,
     }
@@ -93,4 +96,14 @@ impl Points {
     {
         self.binds(msu.sio, msu.sif.as_slice())
     }
+}
+
+/// Leaves out the messages that are bound to a link.
+#[tactic(auto, unfolding(crate::specs::Bound::unbound))]
+pub fn leave_out(points: Points, messages: &mut VecDeque<Msu>)
+    requires { All IsMessage messages.old.items }
+    ensures items { messages.new.items ≡ unbound points messages.old.items }
+    ensures whole { All IsMessage messages.new.items }
+{
+    messages.retain(|msu| !points.is_bound(msu));
 }

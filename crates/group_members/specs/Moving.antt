@@ -83,13 +83,16 @@ abbrev pub is_own : ℕ → List ℕ → Bool
 is_own l [] = false
 is_own l (t ∷ ts) = t == l
 
+abbrev pub is_unbound_on : Points → ℕ → Msu → Bool
+is_unbound_on p s m = not (is_bound p m) && is_on s m
+
 abbrev pub on_by : Points → ℕ → Option Msu → Bool
 on_by p s None = false
-on_by p s (Some m) = not (is_bound p m) && is_on s m
+on_by p s (Some m) = is_unbound_on p s m
 
 -- whether a link holds messages of a selection, those that are bound to it left out
 unfoldable pub holds : ℕ → Link → Bool
-holds s k = list_any (λ m. not (is_bound k.points m) && is_on s m) (held k)
+holds s k = list_any (is_unbound_on k.points s) (held k)
 
 abbrev pub holds_at : ℕ → Option Link → Bool
 holds_at s None = false

@@ -1,7 +1,7 @@
 -- One link of a set: its terminal, and what is marked there.
 use Rattle.std.specs.Prelude.{ℕ, ◌==◌, ◌&&◌, ◌||◌, nat_le, min, Bool, true, false, not}
-use Rattle.std.specs.Prelude.{if◌then◌else◌, List, [], ◌∷◌, ◌++◌, length}
-use Rattle.std.specs.Prelude.{drop, Option, Some, None, is_some, Result, Ok, Err}
+use Rattle.std.specs.Prelude.{if◌then◌else◌, List, [], length, take}
+use Rattle.std.specs.Prelude.{drop, filter, Option, Some, None, is_some, Result, Ok, Err}
 use Rattle.resend_store.specs.declared.messages.Msu.{Msu}
 use Rattle.resend_store.specs.Limits.{MOST_WAITING, MOST_KEPT}
 use Rattle.resend_store.specs.Numbers.{plus}
@@ -44,7 +44,7 @@ abbrev pub held : Link → List Msu
 held k = (window k).kept
 
 -- those that aren't bound to it
-unfoldable pub messages : Link → List Msu
+abbrev pub messages : Link → List Msu
 messages k = unbound k.points (held k)
 
 abbrev pub is_serving : Link → Bool
@@ -166,10 +166,9 @@ abbrev pub bound_by : Points → Option Msu → Bool
 bound_by p None = false
 bound_by p (Some m) = is_bound p m
 
--- the first goes to the end, or leaves where it is bound to the link
-abbrev pub turned : Points → List Msu → List Msu
-turned p [] = []
-turned p (m ∷ ms) = if is_bound p m then ms else ms ++ m ∷ []
+-- of those that it holds from a place on to another, those that are bound to it
+abbrev pub bound_between : Link → ℕ → ℕ → List Msu
+bound_between k from to = filter (is_bound k.points) (drop from (take to (held k)))
 
 -- K2 while its retrieval is out, and before an answer for as long as is waited; then K4
 unfoldable pub retrieve_fault_in : Link → Changing → Option RetrieveError

@@ -1,15 +1,15 @@
 //! One link of a set.
-ghost use Rattle.std.specs.Prelude.{◌≡◌, ◌≤◌, All, drop, length, IfSome, IfOk, OnOk, OnErr, Some, None};
+ghost use Rattle.std.specs.Prelude.{◌≡◌, ◌≤◌, All, drop, length, slice_get, IfSome, IfOk, OnOk, OnErr, Some, None};
 ghost use Rattle.resend_store.specs.Messages.{IsMessage};
 ghost use Rattle.group_changeover.specs.Changeovers.{IsKind};
 ghost use Rattle.link_term.specs.Kept.{window_of};
 ghost use Rattle.group_changeover.specs.Saying.{count_in};
 ghost use Rattle.group_members.specs.Failing.{fail_fault_of, changeover_begins_at, order_of, count_heard, replies, hears};
-ghost use Rattle.group_members.specs.OneLink.{fault_of, carries, shares, gives_messages, is_own_out, has_outage, put_fault, puts, window, count_of, hold_by, unsure_by, retrieve_fault, retrieve_refusal, accepted_of, lacking, emptied_behind, hands_out, abandon_fault, abandon_refusal};
+ghost use Rattle.group_members.specs.OneLink.{fault_of, carries, shares, gives_messages, is_own_out, has_outage, put_fault, puts, bind_fault, bound_by, bound_between, unknown, window, held, count_of, hold_by, unsure_by, retrieve_fault, retrieve_refusal, accepted_of, lacking, handed_by, emptied_behind, hands_out, abandon_fault, abandon_refusal};
 
 use group_changeover::{
-    AbandonError, Availability, BindError, Changing, FailError, Kind, Points, RetrieveError, SendError,
-    counts_of,
+    AbandonError, Availability, BindError, Changing, FailError, Kind, Points, RetrieveError,
+    SendError, counts_of, leave_out,
 };
 use link_term::{Hold, LineKind, Msu, Terminal};
 use std::alloc::AllocError;
@@ -79,33 +79,6 @@ fn take_out(terminal: &mut Terminal, accepted: Option<usize>) -> Result<VecDeque
     match terminal.retrieve(None) {
         Ok(messages) => Ok(messages),
         Err(_) => Err(AllocError),
-    }
-}
-
-/// Takes the first message to the end of the others, or drops it where it is bound to a link.
-fn turn_one(points: Points, messages: &mut VecDeque<Msu>)
-    requires { All IsMessage messages.old.items }
-    ensures items { messages.new.items ≡ turned points messages.old.items }
-    ensures whole { All IsMessage messages.new.items }
-{
-    match messages.pop_front() {
-        Some(msu) => {
-            if !points.is_bound(&msu) {
-                messages.push_back_reserved(msu);
-            }
-        }
-        None => {}
-    }
-}
-
-/// Leaves out those that are bound to a link.
-fn leave_out(points: Points, messages: &mut VecDeque<Msu>)
-    requires { All IsMessage messages.old.items }
-    ensures items { messages.new.items ≡ unbound points messages.old.items }
-    ensures whole { All IsMessage messages.new.items }
-{
-    for _turn in 0..messages.len() {
-        turn_one(points, messages);
     }
 }
 
@@ -208,19 +181,28 @@ impl Link {
         }
     }
 
+    /// How many of the messages that it holds from a place on to another are bound to it.
+    pub(crate) fn bound_between(&self, from: usize, to: usize) -> usize
+        ensures value { result ≡ length (bound_between self.now from to) }
+        ensures within { result ≤ to }
+    {
+        let mut count: usize = 0;
+        for place in from..to {
+            if self.is_bound_at(place) {
+                count += 1;
+            }
+        }
+        count
+    }
+
     /// How many are sent of those that aren't bound to it.
     #[tactic(auto, unfolding(crate::specs::OneLink::unknown))]
     pub(crate) fn unknown(&self) -> usize
         ensures { result ≡ unknown self.now }
     {
         let _window = self.terminal.held();
-        let mut count: usize = 0;
-        for place in 0..self.terminal.sent() {
-            if !self.is_bound_at(place) {
-                count += 1;
-            }
-        }
-        count
+        let sent = self.terminal.sent();
+        sent - self.bound_between(0, sent)
     }
 
     /// How many of the messages that are kept a number acknowledges, where they are no more than are sent.

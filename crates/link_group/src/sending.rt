@@ -14,9 +14,8 @@ use crate::group::{Group, Sif, sif_of};
 use crate::retrieved::Retrieved;
 use group_changeover::{Changeover, Hearing, Label, Points, read_changeover, selection_of};
 use group_members::{
-    AbandonError, BindError, FailError, Msu, RetrieveError, SendError, abandon_at, bind_at, fail_at,
-    hear_at, heard_at,
-    put_at, retrieve_at,
+    AbandonError, BindError, FailError, Msu, RetrieveError, SendError, abandon_at, bind_at,
+    fail_at, hear_at, heard_at, put_at, retrieve_at,
 };
 
 /// What a message that came was, and the field of the answer to send.

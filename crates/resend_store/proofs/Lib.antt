@@ -4,6 +4,7 @@ pub mod Given
 pub mod InOrder
 pub mod InTurn
 pub mod Nexts
+pub mod Removing
 pub mod Sent
 pub mod Stands
 pub mod Weights
