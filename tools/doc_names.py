@@ -3,7 +3,7 @@
 - docs/architecture.md: each crate has its row in the table of the rooms, and each row its crate.
 - docs/standards.md: each definition, function, edit, quoted word of examples/ and heading of docs/ is there, and a quoted
   name is that of one entry.
-- README.md and docs/*.md: each path that they write is there."""
+- README.md and docs/*.md: each path that they write is there, what is built aside."""
 import functools
 import re
 
@@ -94,7 +94,7 @@ def paths(root):
     found = []
     for document in [root / "README.md", *sorted((root / "docs").glob("*.md"))]:
         for path in sorted(set(PATH.findall(document.read_text()))):
-            if "CRATE" not in path and "NAME" not in path and not (root / path).exists():
+            if "CRATE" not in path and "NAME" not in path and "/out/" not in path and not (root / path).exists():
                 found.append(f"{document.relative_to(root)}: no file {path}")
     return found
 
