@@ -3,7 +3,8 @@
 - docs/architecture.md: each crate has its row in the table of the rooms, and each row its crate.
 - docs/standards.md: each definition, function, edit, quoted word of examples/ and heading of docs/ is there, and a quoted
   name is that of one entry.
-- README.md and docs/*.md: each path that they write is there, what is built aside."""
+- README.md and docs/*.md: each path that they write is there, what is built aside.
+- tools/README.md: each tool is named there."""
 import functools
 import re
 
@@ -99,9 +100,16 @@ def paths(root):
     return found
 
 
+def tools(root):
+    """The tools that their README doesn't name."""
+    named = set(re.findall(r"`([\w.-]+)`", (root / "tools" / "README.md").read_text()))
+    files = [it for it in sorted((root / "tools").rglob("*")) if it.is_file() and "__pycache__" not in it.parts]
+    return [f"tools/README.md: no {it.relative_to(root)}" for it in files if it.name not in named | {"README.md"}]
+
+
 def lacking(root):
     """What is to be mended, a line each."""
     look = Look(root)
     architecture(look, (root / "docs" / "architecture.md").read_text())
     standards(look, (root / "docs" / "standards.md").read_text())
-    return look.found + paths(root)
+    return look.found + paths(root) + tools(root)
