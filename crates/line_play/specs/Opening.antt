@@ -3,8 +3,8 @@ use Rattle.std.specs.Prelude.{ℕ, List, Option}
 use Rattle.turn_code.specs.declared.draft.Draft.{Draft}
 use Rattle.resend_store.specs.declared.messages.Mode.{Mode}
 use Rattle.resend_store.specs.declared.messages.RoundLimits.{RoundLimits}
-use Rattle.link_term.specs.Opening.{IsOverWithin}
-use Rattle.link_term.specs.Term.{Term}
+use Rattle.script_terminal.specs.Opening.{IsOverWithin}
+use Rattle.script_terminal.specs.Term.{Term}
 use Rattle.script_check.specs.Checked.{IsSetOf, PrintsRefusal}
 use Rattle.script_terminal.specs.TermRuns.{LacksName}
 

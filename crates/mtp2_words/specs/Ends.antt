@@ -3,7 +3,7 @@ use Rattle.std.specs.Prelude.{◌≡◌, ◌⊎◌, ℕ, nat_le, if◌then◌els
 use Rattle.std.specs.Prelude.{option_map, option_and_then, bytes_eq, codes}
 use Rattle.resend_store.specs.declared.messages.Mode.{Mode}
 use Rattle.resend_store.specs.declared.messages.RoundLimits.{RoundLimits}
-use Rattle.script_lines.specs.Numbers.{count_of}
+use Rattle.script_links.specs.Numbers.{count_of}
 use Rattle.script_links.specs.Orders.{mode_named}
 use Rattle.line_filter.specs.Filters.{MOST_AHEAD}
 use Rattle.line_filter.specs.declared.filter.Bits.{Bits}

@@ -7,7 +7,7 @@ use Rattle.resend_store.specs.Messages.{usual_limits}
 use Rattle.resend_store.specs.declared.messages.Mode.{Mode}
 use Rattle.resend_store.specs.declared.messages.Mode.TheVariants.{Basic, Cyclic}
 use Rattle.resend_store.specs.declared.messages.RoundLimits.{RoundLimits}
-use Rattle.script_lines.specs.Numbers.{count_of}
+use Rattle.script_links.specs.Numbers.{count_of}
 use Rattle.mtp2_words.specs.declared.words.Named.{Named}
 use Rattle.mtp2_words.specs.declared.words.Named.TheVariants.{Standard, Q703, Monitors, Stdin, File}
 

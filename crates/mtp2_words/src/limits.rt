@@ -4,7 +4,7 @@ ghost use Rattle.mtp2_words.specs.Limits.{usual_limits_of, messages_named, messa
 
 use crate::words::Named;
 use resend_store::{Mode, RoundLimits, USUAL_LIMITS};
-use script_lines::count;
+use script_links::count;
 
 /// With how many unacknowledged octets cyclic retransmission is forced over the set `q703` where nothing else is chosen. On a full line these last
 /// less long than the far side may take to acknowledge a message.

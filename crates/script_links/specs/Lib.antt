@@ -7,3 +7,4 @@ pub mod TermCommands
 pub mod TermScripts
 pub mod UnitWords
 pub use Rattle.resend_store.specs.declared as resend_store_types
+pub use Rattle.script_lines.specs.Numbers

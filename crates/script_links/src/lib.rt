@@ -23,5 +23,6 @@ pub use orders::{Order, mode_named, order_in};
 pub use play_faults::play_fault;
 pub use resend_store::RoundLimits;
 pub use script::{AnyScript, TermSaid, TermScript, any_script};
+pub use script_lines::count;
 pub use verbs::{TermVerb, term_verb_in};
 pub use words::GroupWord;
