@@ -1,11 +1,11 @@
 use Rattle.std.proofs.Common.{subst}
 use Rattle.resend_store.specs.declared.messages.RoundLimits.{RoundLimits}
-use Rattle.link_term.specs.Opening.{IsOverWithin}
+use Rattle.script_terminal.specs.TermRuns.{IsNewWithin}
 use Rattle.script_terminal.proofs.terminals.play_terminal.Goals as goal
 
 pub returns-in-Ok-clause-held : goal.returns-in-Ok-clause-held
 returns-in-Ok-clause-held g c held =
-    let P : RoundLimits → Type 0 = λ l. IsOverWithin c.args.set.now l c.args.script.now.head.mode c.in-Ok.terminal in
+    let P : RoundLimits → Type 0 = λ l. IsNewWithin c.args.set.now c.args.script.now.head.mode c.in-Ok.terminal l in
     record {
       terminal = c.in-Ok.terminal;
       is_new = subst P c.limits_over-limits.ensures c.in-Ok.ensures.ok;
@@ -14,7 +14,7 @@ returns-in-Ok-clause-held g c held =
 
 pub returns-in-Ok-clause-missed : goal.returns-in-Ok-clause-missed
 returns-in-Ok-clause-missed g c missed =
-    let P : RoundLimits → Type 0 = λ l. IsOverWithin c.args.set.now l c.args.script.now.head.mode c.in-Ok.terminal in
+    let P : RoundLimits → Type 0 = λ l. IsNewWithin c.args.set.now c.args.script.now.head.mode c.in-Ok.terminal l in
     record {
       terminal = c.in-Ok.terminal;
       is_new = subst P c.limits_over-limits.ensures c.in-Ok.ensures.ok;
