@@ -67,6 +67,9 @@ class Link(Terminal):
         # Behind the beginning of its last changeover: whether there was one, and the ticks since it last came into service then.
         self.had_one, self.since = False, None
 
+    def clear(self):
+        """A link set obeys no Clear: what its links keep is level 3's."""
+
     def hear(self, sender, signal, values):
         super().hear(sender, signal, values)
         if signal in ("InServiceNow", "Down"):
