@@ -20,7 +20,7 @@ use turn_machine::new_machine;
 
 /// The instances of the processes of a link as actors, with the journal of what happened to them.
 ///
-/// After `open` no call but `rebase` takes memory.
+/// After `open` only `rebase` can answer that memory is wanting.
 #[derive(Drop)]
 pub struct Book {
     pub(crate) set: Verified,

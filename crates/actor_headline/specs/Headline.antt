@@ -44,9 +44,10 @@ pub record RunsBy (act : Meaning) (d : Draft) (l : LimitNumbers) (es : List Even
 -- The turn that an actor has out comes to an end. The text's transition of the actor's process
 -- gives that end, with its variables, effects and count, on the turn's input: so it reads no
 -- variable that is unset, has no wrong operand nor lacks one, no answer, next state or receiver,
--- and doesn't leave its text, for each of which it would give a trouble. Each of its outputs goes to
--- the environment, or `number_for` finds an actor of the process that it goes to. The answer says
--- so; the count is within the certificate's budget; and that is the longest path of the transition.
+-- and doesn't leave its text, for each of which it would give a trouble. Each of its outputs goes
+-- to the environment, or `number_for` finds an actor of the process that it goes to. The answer
+-- says so; the count is within the certificate's budget; and that is the longest path of the
+-- transition.
 pub record EndsAsMeant (b : PlainBlock) (k : Ledger) (n : ℕ) (t : Turn) : Type 0 where
   pub outcome : Outcome
   pub name : ActorName
@@ -74,8 +75,8 @@ EachEnds b k (e ∷ es) = EndsAt b k e × EachEnds b (ask k e).book es
 
 -- What a block's set does: its numbers and names are in the order of the text, each turn is what
 -- the text's transition means, by the set's own code the answers are the same, and of the machine
--- by which it answers it holds, whatever its turns mean, that what is full or has stopped is told by
--- name, of outputs once and at its place, and of offers and outputs nothing else.
+-- by which it answers it holds, whatever its turns mean, that what is full or has stopped is told
+-- by name, of outputs once and at its place, and of offers and outputs nothing else.
 pub record RunsAsRead (b : PlainBlock) (d : Draft) (l : LimitNumbers) (es : List Event)
     (book : Ledger) (replies : List Reply) : Type 0 where
   pub is_set : IsSetOf b d

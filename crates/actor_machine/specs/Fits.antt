@@ -1,6 +1,6 @@
 -- What holds of every state of a link: each signal that waits came along a route with parameters of
--- its sorts, from the environment or an actor of the set, each timer is its receiver's own, both fit
--- wherever the receiver is, and each turn that is out has an input that fits it.
+-- its sorts, from the environment or an actor of the set, each timer is its receiver's own, both
+-- fit wherever the receiver is, and each turn that is out has an input that fits it.
 use Rattle.std.specs.Prelude.{◌≡◌, ◌⊎◌, ℕ, ◌<◌, List, length, map, Any, Option, None, Some, IfSome}
 use Rattle.std.specs.Prelude.{slice_get}
 use Rattle.std.specs.List.{AllByRecursion}

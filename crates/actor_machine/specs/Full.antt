@@ -1,4 +1,5 @@
--- What is full, or has stopped, is told by name, at its place and once, and nothing else is told so.
+-- What is full, or has stopped, is told by name, at its place and once, and nothing else is told
+-- so.
 use Rattle.std.specs.Prelude.{◌≡◌, ℕ, ◌<◌, ◌↔◌, true, false, List, [], ◌∷◌, ◌++◌, take, Some}
 use Rattle.std.specs.Prelude.{slice_get}
 use Rattle.std.specs.List.{AllByRecursion}
@@ -87,9 +88,9 @@ behind n me o w place = laid_all n me (started n o w) (take place o.progress.eff
 -- A signal from the environment is refused as B1 Full exactly where a route brings it to a full
 -- port, of an actor that hasn't stopped, whatever the turns mean. Of the outputs of a turn that
 -- ends, the report tells with their places, as Full exactly those to a full port of an actor that
--- hasn't stopped, as EnvFull exactly those to a full environment, and as Stopped, of those that have
--- a receiver, exactly those to an actor that has stopped. It tells of places of outputs alone, in
--- order, so of none twice.
+-- hasn't stopped, as EnvFull exactly those to a full environment, and as Stopped, of those that
+-- have a receiver, exactly those to an actor that has stopped. It tells of places of outputs alone,
+-- in order, so of none twice.
 pub record FullLaw : Type 0 where
   pub offer :
       (m : Meaning) (b : Ledger) (o : Offered)

@@ -33,7 +33,7 @@ pub enum Event {
 }
 
 impl Offer {
-    /// The same once more. It takes no memory.
+    /// The same once more. It can't fail.
     pub fn copy(&self) -> Offer
         ensures { result ≡ self.now }
     {
@@ -55,7 +55,7 @@ impl Offer {
 }
 
 impl Event {
-    /// The same event once more. It takes no memory.
+    /// The same event once more. It can't fail.
     pub fn copy(&self) -> Event
         ensures { result ≡ self.now }
     {

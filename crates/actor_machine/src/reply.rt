@@ -147,7 +147,7 @@ pub enum Reply {
 }
 
 impl Emitted {
-    /// The same once more. It takes no memory.
+    /// The same once more. It can't fail.
     pub fn copy(&self) -> Emitted
         ensures { result ≡ self.now }
     {

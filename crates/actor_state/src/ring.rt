@@ -13,7 +13,7 @@ use std::marker::Model;
 use turn_code::copied_values;
 
 /// Signals that actors sent to the environment, in the order in which they were sent, as many as there is room for.
-/// After `new` only `copy` takes memory.
+/// After `new` only `copy` can answer that memory is wanting.
 #[derive(Drop)]
 pub struct Ring {
     items: HeapCircularBuffer<Emitted>,
@@ -81,7 +81,7 @@ impl Ring {
     }
 }
 
-/// The same signal once more. It takes no memory.
+/// The same signal once more. It can't fail.
 pub(crate) fn copied(emitted: &Emitted) -> Emitted
     ensures { result ≡ emitted.now }
 {

@@ -76,7 +76,7 @@ impl fmt::Display for PutError {
 /// The items that wait for a process, in the order in which they came.
 ///
 /// The signals among them are as many as its capacity at most. Each timer has a place of its own beside these, so
-/// the ring that they lie in has a place for each item that may come. After `new` only `copy` takes memory.
+/// the ring that they lie in has a place for each item that may come. After `new` only `copy` can answer that memory is wanting.
 #[derive(Debug, Drop)]
 pub struct Port {
     capacity: usize,

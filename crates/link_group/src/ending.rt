@@ -68,7 +68,7 @@ impl Group {
     /// in service, not held, admitted and not in changeover. Those that never failed do so; where there are none, those that failed; and where
     /// there are none of these either, all go back to their own link, if that is in service, not held and admitted. So it is among the links
     /// without an outage of a processor, here or there, and where these give none, among those with one (Q.704, 3.2.4). Where all have gone, the
-    /// changeover ends: selections that are still that link's, and of which it holds nothing, get a link among those then. It takes no memory.
+    /// changeover ends: selections that are still that link's, and of which it holds nothing, get a link among those then. It never answers that memory is wanting.
     ///
     /// # Errors
     ///

@@ -29,7 +29,7 @@ pub const LOW: usize = 32_768;
 
 /// The actors of a terminal, its stores and flags, and the numbers of what the two tell each other.
 ///
-/// No call but `tidy` takes memory.
+/// No call but `tidy` can answer that memory is wanting.
 #[derive(Drop)]
 pub struct Processes {
     pub book: Book,

@@ -7,7 +7,7 @@ use std::marker::Model;
 
 /// Items in the order in which they came, `N` at most. Contracts see their list, the oldest first.
 ///
-/// Only `new` takes memory.
+/// Only `new` can answer that memory is wanting.
 #[derive(Debug, Drop)]
 pub struct KeptQueue<T, const N: usize> {
     items: VecDeque<T>,

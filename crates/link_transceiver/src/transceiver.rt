@@ -23,7 +23,7 @@ use std::marker::Model;
 
 /// What a link terminal keeps beside its actors and its line: its stores, what goes out, and what is to be handed out.
 ///
-/// All its room is made by `new`. Only `retrieve` takes memory after that.
+/// All its room is made by `new`. After that only `retrieve` can answer that memory is wanting.
 #[derive(Debug, Drop)]
 pub struct Transceiver {
     pub(crate) sender: Sender,

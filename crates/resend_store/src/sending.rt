@@ -18,7 +18,7 @@ use std::marker::Model;
 
 /// The messages of one link that are not acknowledged, and the numbers that they go out with (Q.703, sections 5 and 6).
 ///
-/// All its room is made by `new`. Only `retrieve` takes memory after that.
+/// All its room is made by `new`. After that only `retrieve` can answer that memory is wanting.
 #[derive(Debug, Drop)]
 pub struct Sender {
     mode: Mode,

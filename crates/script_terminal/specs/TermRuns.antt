@@ -27,8 +27,8 @@ latest last [] = last
 latest last (l ∷ ls) = latest (Some l) ls
 
 -- A run from a terminal on: whether what is told is kept, the commands that were obeyed, the lines
--- that they printed, the terminal now, and the line printed last. `expect` prints nothing, and holds
--- where the line before is the one that it names.
+-- that they printed, the terminal now, and the line printed last. `expect` prints nothing, and
+-- holds where the line before is the one that it names.
 pub data Goes (keeps : Bool) (first : Term) :
     List PlainTermSaid → List (List ℕ) → Term → Option (List ℕ) → Type 0 where
   begins : Goes keeps first [] [] first None

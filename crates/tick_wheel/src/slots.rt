@@ -26,7 +26,7 @@ struct Links {
 
 /// A list for each of 256 slots. The items are the numbers below 1,024; each is in one list at most, and there once.
 ///
-/// After `new` only `copy` takes memory.
+/// After `new` only `copy` can answer that memory is wanting.
 #[derive(Debug, Drop)]
 pub struct SlotLists {
     links: Links,

@@ -41,7 +41,7 @@ impl Model for Verified {
     ghost invariant = { λ v. IsSorted v.draft v.parameters v.variables };
 }
 
-/// Checks a draft against rules V1 to V9, and keeps it where none is broken; else it tells the first that is broken. It takes no memory.
+/// Checks a draft against rules V1 to V9, and keeps it where none is broken; else it tells the first that is broken. It can't answer that memory is wanting.
 pub fn verify(draft: Draft) -> Result<Verified, VerifyFault>
     ensures value { IfOk result (λ v. v ≡ draft) }
     ensures exact { IsOk result ↔ IsValid draft }
