@@ -33,9 +33,9 @@ impl Link {
             None => 0,
         };
         let sent = self.bound_among(self.terminal.sent());
-        let left = self.bound_among(told).saturating_sub(sent);
+        let gone = self.bound_among(told).saturating_sub(sent);
         drop_bound(&mut self.terminal, self.points);
-        self.availability = self.availability.fewer(left);
+        self.availability = self.availability.fewer(gone);
     }
 
     /// They leave where its directions began anew since that was last asked.
