@@ -14,7 +14,7 @@ mod table;
 pub use availability::{Answer, Availability, Behind, Changing, SELECTIONS, T2};
 pub use changeover::{Changeover, Kind, read_changeover};
 pub use errors::{
-    AbandonError, CommandError, DivertFault, FailError, LineError, LinkError, RebalanceError,
+    AbandonError, BindError, DivertFault, FailError, LineError, LinkError, RebalanceError,
     RetrieveError, SendError,
 };
 pub use labels::{Label, label_of};

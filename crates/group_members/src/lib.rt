@@ -12,11 +12,11 @@ mod open;
 mod tables;
 mod ticking;
 
-pub use commanding::command_at;
+pub use commanding::{CommandError, command_at};
 pub use doing::{admit_at, listen_at, see_all, see_at, send_at, speak_at, tell_at};
 pub use ending::{end_at, end_table, keep_at, retrieval_of};
 pub use group_changeover::{
-    AbandonError, CommandError, DivertFault, FailError, LineError, LinkError, RebalanceError,
+    AbandonError, BindError, DivertFault, FailError, LineError, LinkError, RebalanceError,
     RetrieveError, SendError,
 };
 pub use link::Link;
