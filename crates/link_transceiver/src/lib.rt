@@ -4,20 +4,27 @@
 
 mod clearing;
 mod faults;
+mod glances;
 mod hearing;
 mod kept;
 mod laws;
+mod measures;
+mod measuring;
 mod offers;
 mod sending;
 mod signals;
 mod transceiver;
 
 pub use faults::Fault;
+pub use glances::{Glance, Seen, seen_of};
 pub use hearing::Offers;
 pub use laws::{
     accepted_messages_are_handed_out_in_order, busy_goes_out_once, cleared_messages_are_counted,
     held_messages_stay, unacknowledged_messages_are_kept, units_behind_odd_ones_are_discarded,
     withheld_acknowledgement_stays,
+};
+pub use measures::{
+    Errors, Failures, Measure, Measures, Rounds, Spells, Traffic, all_measures, measure_named,
 };
 pub use offers::{Notice, Offer, Party, UnitOut, counting_offers, error_offers};
 pub use signals::{
