@@ -1,5 +1,5 @@
 //! The terminal.
-ghost use Rattle.std.specs.Prelude.{◌≡◌, ◌↔◌, ◌<◌, ◌≤◌, [], IsTrue, false, length, All, IfOk, OnOk, OnErr, IfSome, Err, slice_get};
+ghost use Rattle.std.specs.Prelude.{◌≡◌, ◌↔◌, ◌<◌, ◌≤◌, [], IsTrue, true, false, length, All, IfOk, OnOk, OnErr, IfSome, Err, slice_get};
 ghost use Rattle.std.specs.Option.{option_copied};
 ghost use Rattle.resend_store.specs.Messages.{IsMessage};
 ghost use Rattle.resend_store.specs.Window.{IsWindow, waiting, with_put, retrieved, emptied, count_known, last_acknowledged};
@@ -57,7 +57,7 @@ impl Terminal {
         limits: RoundLimits,
         mode: Mode,
     ) -> Result<Terminal, AllocError>
-        ensures processes { IfOk result (λ t. t.processes ≡ record { book = book; transceiver = first_over names limits mode; names = names }) }
+        ensures processes { IfOk result (λ t. t.processes ≡ record { book = book; transceiver = first_over names limits mode; names = names; counting = true }) }
         ensures line { IfOk result (λ t. Stands [] t.line) }
         ensures sending { IfOk result (λ t. Gave [] [] t.sending) }
     {
@@ -69,6 +69,7 @@ impl Terminal {
                 book,
                 transceiver,
                 names,
+                counting: true,
             },
             line: Deframer::new(),
             sending: Stuffer::new(),
