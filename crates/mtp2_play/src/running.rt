@@ -11,10 +11,11 @@ ghost use Rattle.mtp2_play.specs.Spoken.{AreOrdered, Spoke, SpokeOver, Begun, Be
 use line_filter::{LineOrders, Orders};
 use line_play::{Desk, LinkEnd, MOST_AHEAD, SetWord, Terminal, link_desk, new_terminal, run_link};
 use line_streams::{OrderStream, ReportStream, open_orders, open_reports};
+use link_term::{Measures, all_measures};
 use mtp2_words::{LineEnd, RoundLimits};
-use plain_text::{Errors, FAILED, Teller};
+use plain_text::{Errors, FAILED, Teller, write_line};
 use std::alloc::Global;
-use std::fs::File;
+use std::fs::{self, File};
 use std::io::{self, Read, Write};
 use std::rt::Files;
 use std::thread::Threads;
@@ -25,6 +26,8 @@ use std::time::Clock;
 struct Streams<'a, H: Eprint> {
     orders: LineOrders<OrderStream>,
     reports: ReportStream<Errors<'a, H>>,
+    /// Where measurements go, if somewhere.
+    measures: Option<File>,
 }
 
 /// Tells by its name that something couldn't be opened.
@@ -35,7 +38,45 @@ fn told<H: Eprint>(teller: &Teller<'_, H>, path: Option<&str>, error: io::Error)
     error
 }
 
-/// Opens what orders come from, and where reports go. What can't be opened is told by its name.
+/// Makes a file anew, if one is named. One that can't be made is told by its name.
+fn create<H: Files<File = File> + Eprint>(
+    host: &H,
+    teller: &Teller<'_, H>,
+    path: Option<&str>,
+) -> io::Result<Option<File>> {
+    match path {
+        Some(path) => match fs::create(host, path) {
+            Ok(file) => Ok(Some(file)),
+            Err(error) => Err(told(teller, Some(path), error)),
+        },
+        None => Ok(None),
+    }
+}
+
+/// Writes what was measured, `NAME N` a line.
+fn write_measures(alloc: Global, file: &mut File, measures: &Measures) -> io::Result<()> {
+    for measure in &all_measures() {
+        let name = measure.word();
+        let count = measures.count(*measure);
+        write_line(alloc, file, &format_args!("{name} {count}"))?;
+    }
+    Ok(())
+}
+
+/// Writes what was measured, where that goes somewhere. Gives the exit status: the one that is given, or 4 where a write fails.
+fn end_measures(alloc: Global, file: Option<File>, measures: &Measures, status: u8) -> u8
+    ensures { (result ≡ status) ⊎ (result ≡ 4) }
+{
+    match file {
+        Some(mut file) => match write_measures(alloc, &mut file, measures) {
+            Ok(()) => status,
+            Err(_) => FAILED,
+        },
+        None => status,
+    }
+}
+
+/// Opens what orders come from, where reports go and where measurements go. What can't be opened is told by its name.
 fn open_streams<'a, H: Files<File = File> + Threads + Eprint + AllocGlobal>(
     host: &'a H,
     teller: &Teller<'_, H>,
@@ -53,9 +94,11 @@ fn open_streams<'a, H: Files<File = File> + Threads + Eprint + AllocGlobal>(
         Ok(reports) => reports,
         Err(error) => return Err(told(teller, end.reports, error)),
     };
+    let measures = create(host, teller, end.measures)?;
     Ok(Streams {
         orders: LineOrders::new(alloc, orders),
         reports,
+        measures,
     })
 }
 
@@ -101,11 +144,20 @@ fn speak<H: Files<File = File> + Threads + Eprint + Clock + AllocGlobal, R: Read
         (record { read = R.remaining reader.new; written = W.contents writer.new }) }
     ensures status { (result ≡ 0) ⊎ (result ≡ 4) }
 {
-    let Ok(Streams { orders, reports }) = open_streams(host, teller, end) else {
+    let Ok(
+        Streams {
+            orders,
+            reports,
+            measures,
+        },
+    ) = open_streams(host, teller, end)
+    else {
         return FAILED;
     };
     let mut desk = link_desk(terminal, orders, reports);
-    let status = serve(host.alloc(), end, &mut desk, reader, writer);
+    let served = serve(host.alloc(), end, &mut desk, reader, writer);
+    let measured = desk.terminal.terminal.measures();
+    let status = end_measures(host.alloc(), measures, &measured, served);
     let now = desk.millisecond();
     match desk.reports.end(host, now) {
         Ok(()) => status,
