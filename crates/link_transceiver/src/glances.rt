@@ -7,7 +7,7 @@ use crate::transceiver::Transceiver;
 use su_octets::Unit;
 
 /// What measurements ask of a transceiver.
-#[derive(Clone, Copy, Debug, PartialEq, Eq)]
+#[derive(Clone, Copy)]
 pub struct Glance {
     /// Whether the link is in service, by what was told last.
     pub in_service: bool,
@@ -36,7 +36,7 @@ pub struct Glance {
 }
 
 /// What a unit is to measurements.
-#[derive(Clone, Copy, Debug, PartialEq, Eq)]
+#[derive(Clone, Copy)]
 pub enum Seen {
     /// A message with so many octets of SIO and SIF.
     Message(u64),

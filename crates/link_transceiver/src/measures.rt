@@ -5,7 +5,7 @@ ghost use Rattle.link_transceiver.specs.declared.measures.Measure.{Measure as Pl
 ghost use Rattle.link_transceiver.specs.MeasureNames.{measure_word, all_measures, measure_named, count_of};
 
 /// A measurement.
-#[derive(Clone, Copy, Debug, PartialEq, Eq)]
+#[derive(Clone, Copy)]
 pub enum Measure {
     /// `service_time`: Ticks in service (Q.752, 1.1).
     ServiceTime,
@@ -68,14 +68,14 @@ pub enum Measure {
 }
 
 /// How often something was so, and how many ticks in all.
-#[derive(Clone, Copy, Debug, PartialEq, Eq)]
+#[derive(Clone, Copy)]
 pub struct Spells {
     pub number: u64,
     pub time: u64,
 }
 
 /// How often a link went down, by the reason that was told (`EnvSignal::Down`).
-#[derive(Clone, Copy, Debug, PartialEq, Eq)]
+#[derive(Clone, Copy)]
 pub struct Failures {
     /// For any reason but a stop.
     pub all: u64,
@@ -90,7 +90,7 @@ pub struct Failures {
 }
 
 /// What went wrong with units, or was asked for once more.
-#[derive(Clone, Copy, Debug, PartialEq, Eq)]
+#[derive(Clone, Copy)]
 pub struct Errors {
     pub units: u64,
     pub octets: u64,
@@ -99,7 +99,7 @@ pub struct Errors {
 }
 
 /// Messages, and their octets of SIO and SIF.
-#[derive(Clone, Copy, Debug, PartialEq, Eq)]
+#[derive(Clone, Copy)]
 pub struct Traffic {
     pub octets_sent: u64,
     pub octets_repeated: u64,
@@ -109,14 +109,14 @@ pub struct Traffic {
 }
 
 /// Rounds of forced retransmission, by what forced them.
-#[derive(Clone, Copy, Debug, PartialEq, Eq)]
+#[derive(Clone, Copy)]
 pub struct Rounds {
     pub by_number: u64,
     pub by_octets: u64,
 }
 
 /// What a terminal measures. Times are in ticks; a count stays at 2^64 - 1.
-#[derive(Clone, Copy, Debug, PartialEq, Eq)]
+#[derive(Clone, Copy)]
 pub struct Measures {
     pub service_time: u64,
     pub failures: Failures,

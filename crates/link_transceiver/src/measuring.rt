@@ -9,7 +9,7 @@ use crate::signals::{EnvSignal, LineKind};
 use crate::transceiver::kind_named;
 
 /// Why a link went down.
-#[derive(Clone, Copy, Debug, PartialEq, Eq)]
+#[derive(Clone, Copy)]
 pub enum Cause {
     Stopped,
     Alignment,
