@@ -63,16 +63,11 @@ fn write_measures(alloc: Global, file: &mut File, measures: &Measures) -> io::Re
     Ok(())
 }
 
-/// Writes what was measured, where that goes somewhere. Gives the exit status: the one that is given, or 4 where a write fails.
-fn end_measures(alloc: Global, file: Option<File>, measures: &Measures, status: u8) -> u8
-    ensures { (result ≡ status) ⊎ (result ≡ 4) }
-{
+/// Writes what was measured, where that goes somewhere.
+fn end_measures(alloc: Global, file: Option<File>, measures: &Measures) -> io::Result<()> {
     match file {
-        Some(mut file) => match write_measures(alloc, &mut file, measures) {
-            Ok(()) => status,
-            Err(_) => FAILED,
-        },
-        None => status,
+        Some(mut file) => write_measures(alloc, &mut file, measures),
+        None => Ok(()),
     }
 }
 
@@ -155,14 +150,14 @@ fn speak<H: Files<File = File> + Threads + Eprint + Clock + AllocGlobal, R: Read
         return FAILED;
     };
     let mut desk = link_desk(terminal, orders, reports);
-    let served = serve(host.alloc(), end, &mut desk, reader, writer);
-    let measured = desk.terminal.terminal.measures();
-    let status = end_measures(host.alloc(), measures, &measured, served);
+    let status = serve(host.alloc(), end, &mut desk, reader, writer);
+    let measured = end_measures(host.alloc(), measures, &desk.terminal.terminal.measures());
     let now = desk.millisecond();
-    match desk.reports.end(host, now) {
-        Ok(()) => status,
-        Err(_) => FAILED,
+    let ended = desk.reports.end(host, now);
+    if measured.is_err() || ended.is_err() {
+        return FAILED;
     }
+    status
 }
 
 /// Puts one end of a link on a line: line octets come from a reader, and one goes to a writer for each, behind those that go ahead (of which
