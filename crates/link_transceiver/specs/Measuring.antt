@@ -3,6 +3,8 @@
 use Rattle.std.specs.Prelude.{ℕ, ℤ, pos, negsuc, ◌+◌, ◌%◌, ◌==◌, nat_lt, ◌&&◌, ◌||◌, Bool, true, false}
 use Rattle.std.specs.Prelude.{not, if◌then◌else◌, Option, Some, None, is_some, length}
 use Rattle.resend_store.specs.Window.{last_acknowledged, round_left, reaches_number}
+use Rattle.resend_store.specs.declared.measures.Measure.{Measure}
+use Rattle.resend_store.specs.declared.measures.Measure.TheVariants as name
 use Rattle.su_octets.specs.declared.units.Unit.{Unit}
 use Rattle.su_octets.specs.declared.units.Unit.TheVariants as unit
 use Rattle.link_transceiver.specs.declared.glances.Glance.{Glance}
@@ -308,3 +310,37 @@ went_counted before x after m = record m {
   traffic = sent_traffic before x after m.traffic;
   rounds = rounds_counted before x after m.rounds;
 }
+
+-- ---- by name
+
+-- what was counted
+abbrev pub count_of : Measure → Measures → ℕ
+count_of name.ServiceTime m = m.service_time
+count_of name.Failures m = m.failures.all
+count_of name.Stops m = m.failures.stops
+count_of name.AlignmentFailures m = m.failures.alignment
+count_of name.ErrorFailures m = m.failures.errors
+count_of name.FarFailures m = m.failures.far_end
+count_of name.T1Failures m = m.failures.t1
+count_of name.NumberFailures m = m.failures.numbers
+count_of name.T7Failures m = m.failures.t7
+count_of name.T6Failures m = m.failures.t6
+count_of name.ErroredUnits m = m.errors.units
+count_of name.ErroredOctets m = m.errors.octets
+count_of name.NacksReceived m = m.errors.nacks_received
+count_of name.NacksSent m = m.errors.nacks_sent
+count_of name.OctetsSent m = m.traffic.octets_sent
+count_of name.OctetsRepeated m = m.traffic.octets_repeated
+count_of name.OctetsReceived m = m.traffic.octets_received
+count_of name.MessagesSent m = m.traffic.messages_sent
+count_of name.MessagesReceived m = m.traffic.messages_received
+count_of name.FarOutages m = m.far_outages.number
+count_of name.FarOutageTime m = m.far_outages.time
+count_of name.Outages m = m.outages.number
+count_of name.OutageTime m = m.outages.time
+count_of name.Busy m = m.busy.number
+count_of name.BusyTime m = m.busy.time
+count_of name.FarBusy m = m.far_busy.number
+count_of name.FarBusyTime m = m.far_busy.time
+count_of name.RoundsByNumber m = m.rounds.by_number
+count_of name.RoundsByOctets m = m.rounds.by_octets

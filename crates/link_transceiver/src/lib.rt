@@ -23,9 +23,7 @@ pub use laws::{
     held_messages_stay, unacknowledged_messages_are_kept, units_behind_odd_ones_are_discarded,
     withheld_acknowledgement_stays,
 };
-pub use measures::{
-    Errors, Failures, Measure, Measures, Rounds, Spells, Traffic, all_measures, measure_named,
-};
+pub use measures::{Errors, Failures, Measures, Rounds, Spells, Traffic};
 pub use offers::{Notice, Offer, Party, UnitOut, counting_offers, error_offers};
 pub use signals::{
     BUSY, Backward, EnvSignal, Hold, LineKind, LinkStatus, MESSAGES, Report, STATUSES,

@@ -7,8 +7,8 @@ use Rattle.script_lines.specs.Commands.{PlainCommand, command_of, call, tick, va
 use Rattle.script_lines.specs.Commands.{flood, env, rest}
 use Rattle.script_lines.specs.declared.verbs.Call.{Call}
 use Rattle.script_lines.specs.declared.verbs.Call.TheVariants.{Begin, Finish, Skip, State}
-use Rattle.link_transceiver.specs.MeasureNames.{measure_named}
-use Rattle.link_transceiver.specs.declared.measures.Measure.{Measure}
+use Rattle.resend_store.specs.MeasureNames.{measure_named}
+use Rattle.resend_store.specs.declared.measures.Measure.{Measure}
 use Rattle.script_links.specs.Orders.{order_of}
 use Rattle.script_links.specs.Octets.{octets_of, is_unit, is_message}
 use Rattle.script_links.specs.UnitWords.{number_to, unit_of_words}

@@ -12,7 +12,7 @@ use crate::octets::{is_message, is_unit, octets_in};
 use crate::orders::{Order, order_in};
 use crate::unit_words::{number_in, unit_in_words};
 use crate::verbs::{TermVerb, term_verb_in};
-use link_transceiver::{Measure, measure_named};
+use resend_store::{Measure, measure_named};
 use script_lines::{Call, Command, command_in, count};
 use std::alloc::{AllocError, Global};
 

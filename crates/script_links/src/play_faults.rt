@@ -7,7 +7,7 @@ use crate::reasons::PlayFault;
 use crate::unit_words::unit_in_words;
 use crate::verbs::{TermVerb, term_verb_in};
 use crate::words::{GroupVerb, group_verb_in, group_word_in};
-use link_transceiver::measure_named;
+use resend_store::measure_named;
 use script_lines::{
     Call, LineFault, MANY, Verb, book_line_fault, lines_in, number_fault, verb_fault, verb_in,
     words_fault,

@@ -16,9 +16,8 @@ use Rattle.actor_machine.specs.declared.event.Event.TheVariants.{Advance}
 use Rattle.actor_machine.specs.declared.reply.Reply.{Reply}
 use Rattle.actor_machine.specs.declared.reply.Reply.TheVariants as reply
 use Rattle.link_transceiver.specs.Limits.{KEPT_MESSAGES}
-use Rattle.link_transceiver.specs.MeasureNames.{count_of}
-use Rattle.link_transceiver.specs.Measuring.{reset}
-use Rattle.link_transceiver.specs.declared.measures.Measure.{Measure}
+use Rattle.link_transceiver.specs.Measuring.{reset, count_of}
+use Rattle.resend_store.specs.declared.measures.Measure.{Measure}
 use Rattle.link_transceiver.specs.Reporting.{reported}
 use Rattle.link_term.specs.Machine.{Sent, offered, sent, tidied, is_low, handed_out, clear_obeyed}
 use Rattle.link_term.specs.Machine.{with_measures}

@@ -1,9 +1,9 @@
--- The names of what a terminal measures, in the order in which they are printed.
+-- The names of what is measured of a signalling link (ITU-T Q.752), in the order in which they are
+-- printed.
 use Rattle.std.specs.Prelude.{ℕ, List, [], ◌∷◌, Option, option_and_then, slice_get, position, codes}
 use Rattle.std.specs.Str.{bytes_eq}
-use Rattle.link_transceiver.specs.declared.measures.Measure.{Measure}
-use Rattle.link_transceiver.specs.declared.measures.Measure.TheVariants as measure
-use Rattle.link_transceiver.specs.declared.measures.Measures.{Measures}
+use Rattle.resend_store.specs.declared.measures.Measure.{Measure}
+use Rattle.resend_store.specs.declared.measures.Measure.TheVariants as measure
 
 abbrev pub measure_word : Measure → List ℕ
 measure_word measure.ServiceTime = codes "service_time"
@@ -52,35 +52,3 @@ abbrev pub measure_named : List ℕ → Option Measure
 measure_named word =
     option_and_then (slice_get all_measures)
     (position (λ m. bytes_eq (measure_word m) word) all_measures)
-
--- what was counted
-abbrev pub count_of : Measure → Measures → ℕ
-count_of measure.ServiceTime m = m.service_time
-count_of measure.Failures m = m.failures.all
-count_of measure.Stops m = m.failures.stops
-count_of measure.AlignmentFailures m = m.failures.alignment
-count_of measure.ErrorFailures m = m.failures.errors
-count_of measure.FarFailures m = m.failures.far_end
-count_of measure.T1Failures m = m.failures.t1
-count_of measure.NumberFailures m = m.failures.numbers
-count_of measure.T7Failures m = m.failures.t7
-count_of measure.T6Failures m = m.failures.t6
-count_of measure.ErroredUnits m = m.errors.units
-count_of measure.ErroredOctets m = m.errors.octets
-count_of measure.NacksReceived m = m.errors.nacks_received
-count_of measure.NacksSent m = m.errors.nacks_sent
-count_of measure.OctetsSent m = m.traffic.octets_sent
-count_of measure.OctetsRepeated m = m.traffic.octets_repeated
-count_of measure.OctetsReceived m = m.traffic.octets_received
-count_of measure.MessagesSent m = m.traffic.messages_sent
-count_of measure.MessagesReceived m = m.traffic.messages_received
-count_of measure.FarOutages m = m.far_outages.number
-count_of measure.FarOutageTime m = m.far_outages.time
-count_of measure.Outages m = m.outages.number
-count_of measure.OutageTime m = m.outages.time
-count_of measure.Busy m = m.busy.number
-count_of measure.BusyTime m = m.busy.time
-count_of measure.FarBusy m = m.far_busy.number
-count_of measure.FarBusyTime m = m.far_busy.time
-count_of measure.RoundsByNumber m = m.rounds.by_number
-count_of measure.RoundsByOctets m = m.rounds.by_octets
