@@ -151,7 +151,8 @@ fn speak<H: Files<File = File> + Threads + Eprint + Clock + AllocGlobal, R: Read
     };
     let mut desk = link_desk(terminal, orders, reports);
     let status = serve(host.alloc(), end, &mut desk, reader, writer);
-    let measured = end_measures(host.alloc(), measures, &desk.terminal.terminal.measures());
+    let counts = desk.terminal.terminal.measures();
+    let measured = end_measures(host.alloc(), measures, &counts);
     let now = desk.millisecond();
     let ended = desk.reports.end(host, now);
     if measured.is_err() || ended.is_err() {

@@ -143,11 +143,18 @@ pub fn all_measures() -> [Measure; 29]
     ]
 }
 
+/// Whether a measurement has a name.
+fn is_named(measure: Measure, word: &str) -> bool
+    ensures { result ≡ bytes_eq (measure_word measure) word.now }
+{
+    measure.word() == word
+}
+
 /// The place of the measurement with a name.
 fn place_named(all: &[Measure], word: &str) -> Option<usize>
     ensures { result ≡ position (λ (m : PlainMeasure). bytes_eq (measure_word m) word.now) all.now }
 {
-    all.iter().position(|measure| measure.word() == word)
+    all.iter().position(|measure| is_named(*measure, word))
 }
 
 /// The measurement with a name, in this case alone.

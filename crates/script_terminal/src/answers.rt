@@ -159,7 +159,8 @@ fn retrieve(
 fn measured(alloc: Global, terminal: &Terminal, measure: Measure) -> Result<Vec<u8>, AllocError>
     ensures { IfOk result (λ v. v.items ≡ measure_line measure terminal.now) }
 {
-    let count = terminal.measures().count(measure);
+    let measures = terminal.measures();
+    let count = measures.count(measure);
     text_line(alloc, &format_args!("ok {count}"))
 }
 
