@@ -155,10 +155,11 @@ fn speak<H: Files<File = File> + Threads + Eprint + Clock + AllocGlobal, R: Read
     let measured = end_measures(host.alloc(), measures, &counts);
     let now = desk.millisecond();
     let ended = desk.reports.end(host, now);
-    if measured.is_err() || ended.is_err() {
-        return FAILED;
+    if measured.is_ok() && ended.is_ok() {
+        status
+    } else {
+        FAILED
     }
-    status
 }
 
 /// Puts one end of a link on a line: line octets come from a reader, and one goes to a writer for each, behind those that go ahead (of which
