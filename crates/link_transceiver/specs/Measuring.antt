@@ -83,7 +83,7 @@ is_sib (seen.Status code) = code == BUSY_CODE
 
 -- one more, or so many more, where that is so
 abbrev pub more_if : Bool → ℕ → ℕ → ℕ
-more_if so more before = counted before (if so then more else 0)
+more_if so more before = if so then counted before more else before
 
 -- one more begins, where that is so
 abbrev pub begun_if : Bool → Spells → Spells

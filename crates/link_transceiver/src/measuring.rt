@@ -26,7 +26,11 @@ pub enum Cause {
 fn more_if(so: bool, more: u64, before: u64) -> u64
     ensures { result ≡ more_if so more before }
 {
-    before.saturating_add(if so { more } else { 0 })
+    if so {
+        before.saturating_add(more)
+    } else {
+        before
+    }
 }
 
 /// One more.

@@ -157,13 +157,20 @@ fn place_named(all: &[Measure], word: &str) -> Option<usize>
     all.iter().position(|measure| is_named(*measure, word))
 }
 
+/// The measurement at a place.
+fn measure_at(all: &[Measure], place: usize) -> Option<Measure>
+    ensures { result ≡ slice_get all.now place }
+{
+    all.get(place).copied()
+}
+
 /// The measurement with a name, in this case alone.
 pub fn measure_named(word: &str) -> Option<Measure>
     ensures { result ≡ measure_named word.now }
 {
     let all = all_measures();
     match place_named(&all, word) {
-        Some(place) => all.get(place).copied(),
+        Some(place) => measure_at(&all, place),
         None => None,
     }
 }
