@@ -1,5 +1,5 @@
 -- Octets of which none but the last reports anything.
-use Rattle.std.proofs.Common.{◌≡◌, ℕ, ◌+◌, ◌-◌, ◌<◌, ◌≤◌, min, Bool, true, false, ◌&&◌, ◌⊎◌, inl, inr, is_some, Option, List, [], ◌∷◌, ◌++◌, length, reverse, take, get_or, refl, sym, ap, ◌∙◌, subst, append-nil, append_assoc, length-append, arith}
+use Rattle.std.proofs.Common.{◌≡◌, ℕ, ◌+◌, ◌-◌, ◌<◌, ◌≤◌, Bool, true, false, ◌&&◌, ◌⊎◌, inl, inr, is_some, Option, List, [], ◌∷◌, ◌++◌, length, reverse, take, get_or, refl, sym, ap, ◌∙◌, subst, append-nil, append_assoc, length-append, arith}
 use Rattle.std.specs.Prelude.{if◌then◌else◌, ◌≢◌}
 use Rattle.std.proofs.lemmas.Bool.{true≢false}
 use Rattle.std.proofs.lemmas.List.{take_more, take-take, length-take, reverse-append}
@@ -120,7 +120,7 @@ hushed_more y ys t (inl none) = let f : ⊥ = omega (arith, ap length none) in a
 hushed_more y ys t (inr deaf) = deaf
 
 counted_by : (bits : List Bool) (all : List LineEvent) → AreEvents bits all → (on : Bool) × IsCounting bits on
-counted_by bits all are = (is_some are.0, are.0, all, are.1, refl)
+counted_by bits all are = (is_some are.0, (are.0, all, are.1, refl))
 
 -- ---- octets in turn
 
@@ -242,8 +242,7 @@ one_of t m part n is few one there =
 pub heard_of : (t u : Term) (octets part : List ℕ) (n : ℕ) → part ≡ take (length part) octets → n ≤ length part → Heard t (take n part) u → Heard t (take n octets) u
 heard_of t u octets part n is few heard =
     let P : List ℕ → Type 0 = λ xs. Heard t xs u in
-    let least : min n (length part) ≡ n = omega (arith, few) in
-    subst P (ap (take n) is ∙ take-take n (length part) octets ∙ ap (λ (k : ℕ). take k octets) least) heard
+    subst P (ap (take n) is ∙ take-take n (length part) octets few) heard
 
 -- at least one octet is taken
 pub some_taken : (d : Deframer) (bits : List Bool) (octets : List ℕ) (n : ℕ) (given : List LineEvent) → Stands bits d → 0 < length octets
