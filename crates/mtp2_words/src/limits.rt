@@ -3,8 +3,7 @@ ghost use Rattle.std.specs.Prelude.{◌≡◌, option_map};
 ghost use Rattle.mtp2_words.specs.Limits.{usual_limits_of, messages_named, messages_of, octets_named, octets_of};
 
 use crate::words::Named;
-use resend_store::{Mode, RoundLimits, USUAL_LIMITS};
-use script_lines::count;
+use script_links::{Mode, RoundLimits, USUAL_LIMITS, count};
 
 /// With how many unacknowledged octets cyclic retransmission is forced over the set `q703` where nothing else is chosen. On a full line these last
 /// less long than the far side may take to acknowledge a message.
