@@ -289,9 +289,9 @@ hearing_on t m w v octets xs from k before less packed without same few heard =
 
 -- as many messages wait as may where there is no room
 pub full_by : (b : Bool) (t : Term) → IsTrue b ↔ (length t.processes.transceiver.messages < KEPT_MESSAGES) → b ≡ false → IsFull t
-full_by b t room no =
+full_by b t room is =
     at_most (length t.processes.transceiver.messages) KEPT_MESSAGES (cases_lt (length t.processes.transceiver.messages) KEPT_MESSAGES)
-    (λ less. let e : true ≡ false = sym (room.1 less) ∙ no in cc)
+    (λ less. let e : true ≡ false = sym (room.1 less) ∙ is in cc)
 
 -- ---- so many times
 
