@@ -9,12 +9,13 @@ ghost use Rattle.line_streams.specs.Known.{known_of};
 ghost use Rattle.mtp2_words.specs.Limits.{usual_limits_of};
 ghost use Rattle.mtp2_play.specs.Spoken.{AreOrdered, Spoke, SpokeOver, Begun, BegunOver, IsUntouched};
 
+use crate::measuring::write_measures;
 use line_filter::{LineOrders, Orders};
 use line_play::{Desk, LinkEnd, MOST_AHEAD, SetWord, Terminal, link_desk, new_terminal, run_link};
 use line_streams::{OrderStream, ReportStream, open_orders, open_reports};
-use link_term::{Measures, all_measures};
+use link_term::Measures;
 use mtp2_words::{LineEnd, Named};
-use plain_text::{Errors, FAILED, Teller, write_line};
+use plain_text::{Errors, FAILED, Teller};
 use std::alloc::Global;
 use std::fs::{self, File};
 use std::io::{self, Read, Write};
@@ -52,16 +53,6 @@ fn create<H: Files<File = File> + Eprint>(
         },
         None => Ok(None),
     }
-}
-
-/// Writes what was measured, `NAME N` a line.
-fn write_measures(alloc: Global, file: &mut File, measures: &Measures) -> io::Result<()> {
-    for measure in &all_measures() {
-        let name = measure.word();
-        let count = measures.count(*measure);
-        write_line(alloc, file, &format_args!("{name} {count}"))?;
-    }
-    Ok(())
 }
 
 /// Writes what was measured, where that goes somewhere.
