@@ -19,9 +19,6 @@ use Rattle.group_changeover.specs.declared.errors.LinkError.{LinkError}
 use Rattle.group_changeover.specs.declared.errors.LinkError.TheVariants as link
 use Rattle.group_changeover.specs.declared.errors.LineError.{LineError}
 use Rattle.group_changeover.specs.declared.errors.LineError.TheVariants as line
-use Rattle.group_changeover.specs.declared.errors.CommandError.{CommandError}
-use Rattle.group_changeover.specs.declared.errors.CommandError.TheVariants as command
-use Rattle.actor_machine.specs.Printed.{refusal_text}
 
 abbrev pub send_error_text : SendError → List ℕ
 send_error_text send.Bound = codes "K5 Bound"
@@ -62,9 +59,3 @@ link_error_text link.NoLink = codes "K1 NoLink"
 abbrev pub line_error_text : LineError → List ℕ
 line_error_text line.NoLink = codes "K1 NoLink"
 line_error_text line.NoMemory = codes "out of memory"
-
-abbrev pub command_error_text : CommandError → List ℕ
-command_error_text command.NoLink = codes "K1 NoLink"
-command_error_text command.Waiting = codes "K2 Waiting"
-command_error_text (command.Refused refusal) = refusal_text refusal
-command_error_text command.NoMemory = codes "out of memory"

@@ -16,8 +16,8 @@ pub use availability::{Answer, Availability, Behind, Changing, SELECTIONS, T2};
 pub use bound::{Points, leave_out};
 pub use changeover::{Changeover, Kind, read_changeover};
 pub use errors::{
-    AbandonError, BindError, CommandError, DivertFault, FailError, LineError, LinkError,
-    RebalanceError, RetrieveError, SendError,
+    AbandonError, BindError, DivertFault, FailError, LineError, LinkError, RebalanceError,
+    RetrieveError, SendError,
 };
 pub use labels::{Label, label_of};
 pub use laws::steps_keep_places;

@@ -4,7 +4,8 @@ ghost use Rattle.std.specs.Prelude.{◌≡◌, ◌||◌, map, ◌<◌, ◌≤◌
 ghost use Rattle.link_term.specs.Machine.{is_low};
 ghost use Rattle.link_term.specs.Kept.{window_of};
 ghost use Rattle.group_members.specs.Links.{change};
-ghost use Rattle.group_members.specs.Doing.{AtLink, Listened, Spoken, Sent, Reported, low_at, leaves_out, anew, without_bound_at, without_bound, asked, came_first, came_by, marked_served, admits_first, admits_at, admits_by};
+ghost use Rattle.group_members.specs.OneLink.{accepted_of};
+ghost use Rattle.group_members.specs.Doing.{AtLink, Listened, Spoken, Sent, Reported, low_at, how_many, leaves_out, anew, without_bound_at, without_bound, asked, came_first, came_by, marked_served, admits_first, admits_at, admits_by};
 
 use crate::link::Link;
 use group_changeover::Points;
@@ -24,18 +25,24 @@ impl Link {
         first
     }
 
+    /// How many of the messages that it holds the far side told of.
+    fn told(&self) -> usize
+        ensures { result ≡ how_many (accepted_of self.now) }
+    {
+        match self.accepted() {
+            Some(count) => count,
+            None => 0,
+        }
+    }
+
     /// The messages that are bound to it and wait leave.
     fn leaves_out(&mut self)
         ensures { self.new ≡ leaves_out self.old }
     {
-        let told = match self.accepted() {
-            Some(count) => count,
-            None => 0,
-        };
         let sent = self.bound_among(self.terminal.sent());
-        let left = self.bound_among(told).saturating_sub(sent);
+        let gone = self.bound_among(self.told()).saturating_sub(sent);
         drop_bound(&mut self.terminal, self.points);
-        self.availability = self.availability.fewer(left);
+        self.availability = self.availability.fewer(gone);
     }
 
     /// They leave where its directions began anew since that was last asked.

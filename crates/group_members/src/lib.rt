@@ -12,12 +12,12 @@ mod open;
 mod tables;
 mod ticking;
 
-pub use commanding::command_at;
+pub use commanding::{CommandError, command_at};
 pub use doing::{admit_at, listen_at, see_all, see_at, send_at, speak_at, tell_at};
 pub use ending::{end_at, end_table, keep_at, retrieval_of};
 pub use group_changeover::{
-    AbandonError, BindError, CommandError, DivertFault, FailError, LineError, LinkError,
-    RebalanceError, RetrieveError, SendError,
+    AbandonError, BindError, DivertFault, FailError, LineError, LinkError, RebalanceError,
+    RetrieveError, SendError,
 };
 pub use link::Link;
 pub use link_term::{CallError, Command, LinkStatus, Mode, Msu, Report, Terminal};
