@@ -1,6 +1,19 @@
 -- Code, effects, ends and inputs of one set in the numbers of another, by their names.
 use Rattle.std.specs.Prelude.{
-  ◌≡◌, ℕ, Bool, true, false, ◌&&◌, List, [], ◌∷◌, Option, Some, None, option_map}
+  ◌≡◌,
+  ℕ,
+  Bool,
+  true,
+  false,
+  ◌&&◌,
+  List,
+  [],
+  ◌∷◌,
+  Option,
+  Some,
+  None,
+  option_map,
+}
 use Rattle.turn_code.specs.declared.numbers.ProcessNumber.{ProcessNumber}
 use Rattle.turn_code.specs.declared.numbers.SignalNumber.{SignalNumber}
 use Rattle.turn_code.specs.declared.value.Value.{Value}

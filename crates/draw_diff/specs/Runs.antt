@@ -41,7 +41,7 @@ sent_as e None a = None
 sent_as e (Some n) None = None
 sent_as e (Some n) (Some a) =
     Some (effects.Output
-      (record { signal = record { 0 = n }; receiver = a; parameters = e.parameters }))
+    (record { signal = record { 0 = n }; receiver = a; parameters = e.parameters }))
 
 abbrev pub renamed_effect : Sides → Effect → Option Effect
 renamed_effect s (effects.Output e) =

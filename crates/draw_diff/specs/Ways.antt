@@ -1,7 +1,20 @@
 -- The transitions of two sets, and the lines that they differ in. A transition of NEW is that of
 -- OLD whose process, state and input have the same names.
 use Rattle.std.specs.Prelude.{
-  ℕ, Bool, true, false, List, [], ◌∷◌, ◌++◌, codes, if◌then◌else◌, eqb, ◌==◌, count_by}
+  ℕ,
+  Bool,
+  true,
+  false,
+  List,
+  [],
+  ◌∷◌,
+  ◌++◌,
+  codes,
+  if◌then◌else◌,
+  eqb,
+  ◌==◌,
+  count_by,
+}
 use Rattle.std.specs.List.{flat_map}
 use Rattle.std.specs.Fmt.{decimal}
 use Rattle.turn_code.specs.declared.draft.Cert.{Cert}
@@ -41,7 +54,7 @@ cert_text c =
 abbrev pub certs_text : Cert → Cert → List ℕ
 certs_text c k =
     counts_text (codes " budget ") c.budget k.budget ++
-      counts_text (codes " depth ") c.depth k.depth
+    counts_text (codes " depth ") c.depth k.depth
     ++ counts_text (codes " effects ") c.effects k.effects
 
 -- a transition that the other set hasn't
@@ -102,7 +115,7 @@ old_states_lines s = flat_map (λ q. old_state_lines s q s.new_process.states) s
 abbrev pub old_pair_lines : Sides → List ℕ
 old_pair_lines s =
     pair_line s (start_title s.old_process) s.old_process.start s.new_process.start ++
-      old_states_lines s
+    old_states_lines s
 
 abbrev pub old_process_lines : Draft → Draft → DraftProcess → List DraftProcess → List ℕ
 old_process_lines d e p [] = alone_process (codes "- ") d p
@@ -116,7 +129,7 @@ old_process_lines d e p (r ∷ rs) =
 abbrev pub new_input_lines : Sides → DraftState → DraftInput → List DraftInput → List ℕ
 new_input_lines s r j [] = alone_input (codes "+ ") s.new s.new_process r j
 new_input_lines s r j (i ∷ is) =
-  if takes_same s i.trigger j.trigger then [] else new_input_lines s r j is
+    if takes_same s i.trigger j.trigger then [] else new_input_lines s r j is
 
 abbrev pub new_inputs_lines : Sides → DraftState → List DraftInput → List ℕ
 new_inputs_lines s r others = flat_map (λ j. new_input_lines s r j others) r.inputs

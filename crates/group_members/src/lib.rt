@@ -21,7 +21,7 @@ pub use group_changeover::{
 };
 pub use link::Link;
 pub use link_term::{CallError, Command, LinkStatus, Mode, Msu, Report, Terminal};
-pub use links::{abandon_at, fail_at, hear_at, heard_at, put_at, retrieve_at};
+pub use links::{abandon_at, bind_at, fail_at, hear_at, heard_at, put_at, retrieve_at};
 pub use moving::divert_all;
 pub use new::all_fresh;
 pub use open::{able_links, anew_links, takers};

@@ -18,6 +18,8 @@ fn is_on_line(command: &TermCommand<'_>) -> bool
         | TermCommand::Told
         | TermCommand::Accepted
         | TermCommand::Retrieve(_)
+        | TermCommand::Measure(_)
+        | TermCommand::Reset
         | TermCommand::State(_)
         | TermCommand::Value(_, _) => true,
         TermCommand::Unit(_)
@@ -38,9 +40,11 @@ pub fn is_question(command: &TermCommand<'_>) -> bool
         TermCommand::Told
         | TermCommand::Accepted
         | TermCommand::Retrieve(_)
+        | TermCommand::Measure(_)
         | TermCommand::State(_)
         | TermCommand::Value(_, _) => true,
         TermCommand::Order(_)
+        | TermCommand::Reset
         | TermCommand::Msu(_)
         | TermCommand::Unit(_)
         | TermCommand::Units(_, _)

@@ -20,9 +20,13 @@ use Rattle.link_transceiver.specs.declared.offers.Offer.{Offer}
 use Rattle.link_transceiver.specs.declared.offers.UnitOut.{UnitOut}
 use Rattle.link_transceiver.specs.declared.signals.EnvSignal.{EnvSignal}
 use Rattle.link_transceiver.specs.TransceiverState.{TransceiverState}
+use Rattle.link_transceiver.specs.declared.glances.Glance.{Glance}
+use Rattle.link_transceiver.specs.declared.measures.Measures.{Measures}
 use Rattle.link_transceiver.specs.Effects.{effect, clears}
 use Rattle.link_transceiver.specs.Judging.{Judged, judged}
 use Rattle.link_transceiver.specs.Going.{gone}
+use Rattle.link_transceiver.specs.Measuring.{glance, seen_of, calmed, passed, signal_counted}
+use Rattle.link_transceiver.specs.Measuring.{error_counted, octets_counted, came_counted, went_counted}
 use Rattle.link_transceiver.specs.Offers.{error_offers, acknowledgement_seen, counting_offers}
 use Rattle.link_processes.specs.declared.processes.Processes.{Processes}
 use Rattle.link_processes.specs.Known.{is_there}
@@ -33,6 +37,9 @@ with_book t b = record t { book = b }
 
 abbrev pub with_transceiver : Processes → TransceiverState → Processes
 with_transceiver t h = record t { transceiver = h }
+
+abbrev pub with_measures : Processes → Measures → Processes
+with_measures t m = record t { measures = m }
 
 -- the terminal after a step, and whether another step may follow
 pub record Step : Type 0 where
@@ -50,9 +57,16 @@ abbrev pub heeds : Option EnvSignal → TransceiverState → TransceiverState
 heeds None h = h
 heeds (Some s) h = effect s h
 
--- a signal of the environment is heeded
+abbrev pub signals_counted : Option EnvSignal → TransceiverState → Measures → Measures
+signals_counted None h m = m
+signals_counted (Some s) h m = signal_counted s (glance h) m
+
+-- a signal of the environment is counted, and heeded
 unfoldable pub heard : Emitted → Processes → Processes
-heard x t = with_transceiver t (heeds (told_by t.names x) t.transceiver)
+heard x t =
+    with_transceiver
+    (with_measures t (signals_counted (told_by t.names x) t.transceiver t.measures))
+    (heeds (told_by t.names x) t.transceiver)
 
 abbrev pub taken_reply : Processes → Ledger → Reply → Step
 taken_reply t b (reply.Taken x) = record { processes = heard x (with_book t b); goes = true }
@@ -88,10 +102,18 @@ rested t = repeated moved MOST_TURNS t
 
 -- ---- offers
 
+-- ticks that pass are counted, as the terminal is before them
+abbrev pub ticks_counted : Event → TransceiverState → Measures → Measures
+ticks_counted (Advance n) h m = passed n (glance h) m
+ticks_counted _ h m = m
+
+abbrev pub timed : Event → Processes → Processes
+timed e t = with_measures t (ticks_counted e t.transceiver t.measures)
+
 -- an event of the book, and a rest behind it; a refused one leaves the book, and the rest is made
 -- all the same
 unfoldable pub offered : Event → Processes → Processes
-offered e t = rested (with_book t (ask t.book e).book)
+offered e t = rested (with_book (timed e t) (ask t.book e).book)
 
 -- offers in their order, each with a rest behind it
 unfoldable pub all_offered : List Offer → Processes → Processes
@@ -103,13 +125,24 @@ all_offered (o ∷ os) t = all_offered os (offered (offer_event t.names o) t)
 abbrev pub noted_by : Processes → Judged → Processes
 noted_by t j = all_offered j.offers (with_transceiver t j.transceiver)
 
+-- what a unit that comes adds to what is measured
+abbrev pub unit_measured : Unit → Processes → Processes
+unit_measured u t =
+    with_measures t
+    (came_counted (glance t.transceiver) (seen_of u) (glance (judged t.transceiver u).transceiver)
+    t.measures)
+
 -- a unit without errors came: all that the stores make of it, then what is offered because of it
 unfoldable pub unit_taken : Unit → Processes → Processes
-unit_taken u t = noted_by t (judged t.transceiver u)
+unit_taken u t = noted_by (unit_measured u t) (judged t.transceiver u)
 
--- one with errors came, or sixteen octets without one
+-- one with errors came
 unfoldable pub error_taken : Processes → Processes
-error_taken t = all_offered error_offers t
+error_taken t = all_offered error_offers (with_measures t (error_counted t.measures))
+
+-- sixteen octets came without one
+unfoldable pub octets_taken : Processes → Processes
+octets_taken t = all_offered error_offers (with_measures t (octets_counted t.measures))
 
 -- what came of a request for a unit
 pub record Sent : Type 0 where
@@ -124,9 +157,22 @@ abbrev pub sent_by : Processes → Option UnitOut → Sent
 sent_by t None = record { processes = t; unit = None }
 sent_by t (Some out) = record { processes = told_of out.offer t; unit = Some out.unit }
 
+-- what a unit that goes out adds to what is measured, if one does
+abbrev pub out_counted : Glance → Option UnitOut → Glance → Measures → Measures
+out_counted before None after m = m
+out_counted before (Some out) after m = went_counted before (seen_of out.unit) after m
+
+abbrev pub out_measured : Processes → Processes
+out_measured t =
+    with_measures t
+    (out_counted (glance t.transceiver) (gone t.transceiver).out
+    (glance (gone t.transceiver).transceiver) t.measures)
+
 -- what goes out next, with what is offered then
 unfoldable pub sent : Processes → Sent
-sent t = sent_by (with_transceiver t (gone t.transceiver).transceiver) (gone t.transceiver).out
+sent t =
+    sent_by (with_transceiver (out_measured t) (gone t.transceiver).transceiver)
+    (gone t.transceiver).out
 
 -- ---- retrieval
 
@@ -135,12 +181,16 @@ abbrev pub none_out : Bool → Option Offer
 none_out true = Some (acknowledgement_seen false)
 none_out false = None
 
+-- no message is out, so the far side's congestion doesn't count any more
+abbrev pub calm_measured : Processes → Processes
+calm_measured t = with_measures t (calmed t.measures)
+
 -- what the far side may lack was handed out: nothing is kept, and where messages were out it is
 -- told that none is
 unfoldable pub handed_out : Option ℕ → Processes → Processes
 handed_out accepted t =
     told_of (none_out (nat_lt 0 t.transceiver.sender.sent))
-    (with_transceiver t
+    (with_transceiver (calm_measured t)
     (record t.transceiver { sender = without_kept t.transceiver.sender accepted }))
 
 -- ---- buffers that are emptied
@@ -149,7 +199,7 @@ handed_out accepted t =
 unfoldable pub buffers_emptied : Processes → Processes
 buffers_emptied t =
     offered (offer_event t.names (acknowledgement_seen false))
-    (with_transceiver t (clears t.transceiver))
+    (with_transceiver (calm_measured t) (clears t.transceiver))
 
 -- where an actor asked for that
 unfoldable pub clear_obeyed : Processes → Processes

@@ -14,6 +14,8 @@ impl Processes {
         ensures { self.new ≡ heard emitted.now self.old }
     {
         if let Some(signal) = told_by(&self.names, emitted) {
+            let before = self.transceiver.glance();
+            self.measures.on_signal(signal, &before);
             self.transceiver.on_signal(signal);
         }
     }

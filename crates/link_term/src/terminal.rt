@@ -6,16 +6,17 @@ ghost use Rattle.resend_store.specs.Window.{IsWindow, waiting, with_put, retriev
 ghost use Rattle.bit_line.specs.Deframing.{Stands};
 ghost use Rattle.bit_line.specs.Stuffers.{Gave};
 ghost use Rattle.link_term.specs.Opening.{first_over};
+ghost use Rattle.link_transceiver.specs.Measuring.{no_measures, reset};
 ghost use Rattle.link_transceiver.specs.Reporting.{reported};
 ghost use Rattle.resend_store.specs.Limits.{MOST_WAITING, MOST_KEPT};
 ghost use Rattle.link_transceiver.specs.Limits.{KEPT_MESSAGES};
 ghost use Rattle.link_term.specs.Kept.{window_of};
 ghost use Rattle.link_term.specs.Term.{with_processes, term_with_transceiver};
-ghost use Rattle.link_processes.specs.Machine.{handed_out, clear_obeyed, to_clear};
+ghost use Rattle.link_processes.specs.Machine.{handed_out, clear_obeyed, to_clear, with_measures};
 
 use bit_line::{Deframer, Stuffer};
 use link_processes::{Book, Names, Processes, is_there};
-use link_transceiver::{Hold, LineKind, Report, Transceiver};
+use link_transceiver::{Hold, LineKind, Measures, Report, Transceiver};
 use resend_store::{Mode, Msu, PutError, RetrieveError, RoundLimits};
 use std::alloc::{AllocError, Global};
 use std::collections::VecDeque;
@@ -57,7 +58,7 @@ impl Terminal {
         limits: RoundLimits,
         mode: Mode,
     ) -> Result<Terminal, AllocError>
-        ensures processes { IfOk result (λ t. t.processes ≡ record { book = book; transceiver = first_over names limits mode; names = names; counting = true }) }
+        ensures processes { IfOk result (λ t. t.processes ≡ record { book = book; transceiver = first_over names limits mode; names = names; counting = true; measures = no_measures }) }
         ensures line { IfOk result (λ t. Stands [] t.line) }
         ensures sending { IfOk result (λ t. Gave [] [] t.sending) }
     {
@@ -70,6 +71,7 @@ impl Terminal {
                 transceiver,
                 names,
                 counting: true,
+                measures: Measures::new(),
             },
             line: Deframer::new(),
             sending: Stuffer::new(),
@@ -156,6 +158,21 @@ impl Terminal {
         ensures { result ≡ self.now.processes.transceiver.cleared }
     {
         self.processes.transceiver.cleared()
+    }
+
+    /// What was measured (Q.752) since the terminal was made, or that was last reset. Each call adds to it what the definitions of link_transceiver say
+    /// (`signal_counted`, `passed`, `came_counted`, `went_counted`, ..).
+    pub fn measures(&self) -> Measures
+        ensures { result ≡ self.now.processes.measures }
+    {
+        self.processes.measures
+    }
+
+    /// All counts begin anew.
+    pub fn reset_measures(&mut self)
+        ensures { self.new ≡ with_processes self.old (with_measures self.old.processes (reset self.old.processes.measures)) }
+    {
+        self.processes.measures.reset();
     }
 
     /// What is to be handed out next: messages first, then what was told of the link, each in order.

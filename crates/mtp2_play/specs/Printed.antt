@@ -51,9 +51,9 @@ pub record AreCheckedAll (sets : List Named) (status : ℕ) (old new : Option (L
 pub record IsPlayedOn (set : Named) (echo : Bool) (status : ℕ) (old new : Option (List ℕ)) :
     Type 0 where
   pub held :
-    status ≡ 0 → IsOnSet (own_text_of set) None (IsPlayed (usual_limits_of set) echo old new)
+      status ≡ 0 → IsOnSet (own_text_of set) None (IsPlayed (usual_limits_of set) echo old new)
   pub missed :
-    status ≡ 1 →
+      status ≡ 1 →
       IsOnSet (own_text_of set) None (IsPlayedInPart (usual_limits_of set) echo old new)
   pub refused : status ≡ 2 → IsRefused (own_text_of set) None old new
 

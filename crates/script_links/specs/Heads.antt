@@ -35,7 +35,7 @@ of_mode mode = option_map (λ m. record { mode = m; limits = None }) mode
 -- `terminal`, and the kind
 abbrev pub head_of_mode : List ℕ → List ℕ → Option TermHead
 head_of_mode word mode =
-  if bytes_eq word (codes "terminal") then of_mode (mode_named mode) else None
+    if bytes_eq word (codes "terminal") then of_mode (mode_named mode) else None
 
 -- `terminal cyclic`, N1 and N2
 abbrev pub head_within : List ℕ → List ℕ → List ℕ → List ℕ → Option TermHead

@@ -25,7 +25,7 @@ abbrev pub IsOtherObeyed :
     RoundLimits → Draft → PlainAnyScript → Option (List ℕ) → Option (List ℕ) → Type 0
 IsOtherObeyed usual d (book s) old new = IsWritten (first_book d s.settings) s.commands old new
 IsOtherObeyed usual d (terminal s) old new =
-  IsOfNew d usual s.head (IsTermWritten s.commands old new)
+    IsOfNew d usual s.head (IsTermWritten s.commands old new)
 
 -- or by a set of links with such terminals
 abbrev pub IsObeyed :
@@ -38,7 +38,7 @@ abbrev pub IsOtherMissed :
     RoundLimits → Draft → PlainAnyScript → Option (List ℕ) → Option (List ℕ) → Type 0
 IsOtherMissed usual d (book s) old new = IsMissed (first_book d s.settings) s.commands old new
 IsOtherMissed usual d (terminal s) old new =
-  IsOfNew d usual s.head (IsTermFailed s.commands old new)
+    IsOfNew d usual s.head (IsTermFailed s.commands old new)
 
 abbrev pub IsMissedIn :
     RoundLimits → Draft → PlainPlayScript → Option (List ℕ) → Option (List ℕ) → Type 0
@@ -60,7 +60,7 @@ abbrev pub AreShown :
     Option (List ℕ) → Option (List ℕ) → Type 0
 AreShown usual lines d (other s) old new = IsOtherShown usual lines d s old new
 AreShown usual lines d (group s) old new =
-  IsOfNewSet d usual s.head (IsGroupShown lines s.commands old new)
+    IsOfNewSet d usual s.head (IsGroupShown lines s.commands old new)
 
 abbrev pub IsOtherShownMissed :
     RoundLimits → List PlainLine → Draft → PlainAnyScript →
