@@ -41,7 +41,7 @@ impl Bits {
     }
 
     /// Octets the other way round, where their first bit is the highest.
-    fn turn_all(self, octets: &mut [u8])
+    pub fn turn_all(self, octets: &mut [u8])
         ensures { octets.new ≡ map (turned self) octets.old }
     {
         for octet in octets.iter_mut() {

@@ -1,5 +1,5 @@
 //! The octets that go out.
-ghost use Rattle.std.specs.Prelude.{◌≡◌, ◌+◌, ◌-◌, ◌^◌, ◌<◌, true, ◌++◌, ◌∷◌, replicate, IfOk};
+ghost use Rattle.std.specs.Prelude.{◌≡◌, ◌+◌, ◌-◌, ◌^◌, ◌<◌, true, ◌++◌, ◌∷◌, [], replicate, IfOk, IfSome, IsNone};
 ghost use Rattle.su_octets.specs.Bits.{low_bits};
 ghost use Rattle.su_octets.specs.Whole.{IsWhole};
 ghost use Rattle.line_filter.specs.Speaking.{IsSilent, Stuffs, Fills, Gives};
@@ -75,6 +75,30 @@ impl Voice {
         let (bits, len) = self.sending.rest();
         self.sending = Stuffer::new();
         filled(bits, len)
+    }
+
+    /// The octet that goes out next of the unit under way; none where none is.
+    pub fn rest(&mut self) -> Option<u8>
+        ensures some { IfSome result (λ octet. (self.old.ready ≡ octet ∷ self.new.ready) × (self.new.sending ≡ self.old.sending)) }
+        ensures none { IsNone result → (self.old.ready ≡ []) × (self.new ≡ self.old) }
+    {
+        if self.gone < self.ready.len() {
+            let octet = self.ready[self.gone];
+            self.gone += 1;
+            return Some(octet);
+        }
+        None
+    }
+
+    /// The first octet that goes out for a unit, where none is under way; for none the octet that ends with 1s.
+    pub fn say(&mut self, unit: Option<&Unit>) -> u8
+        requires none { self.old.ready ≡ [] }
+        requires whole { IfSome unit.now (λ u. IsWhole u.now) }
+    {
+        match unit {
+            Some(unit) => self.begin(unit),
+            None => self.fall_silent(),
+        }
     }
 
     /// The octet that goes out next. The terminal is asked for a unit only where none is under way.

@@ -35,7 +35,7 @@ impl Read for OrderStream {
 }
 
 /// Opens a file to read and to write: a FIFO then neither waits for its other side nor ends as that goes.
-pub(crate) fn open_both<R: Files<File = File>>(rt: &R, path: &str) -> io::Result<File> {
+pub fn open_both<R: Files<File = File>>(rt: &R, path: &str) -> io::Result<File> {
     let mut how = OpenOptions::new();
     how.read(true).write(true);
     how.open(rt, path)

@@ -18,7 +18,9 @@ mod lines;
 mod measuring;
 mod pictures;
 mod running;
+mod set_lines;
 mod sets;
+mod tended;
 mod texts;
 
 use crate::captures::{capture_of, end_capture};
@@ -27,6 +29,7 @@ use crate::differences::run_diff;
 use crate::lines::run_line;
 use crate::pictures::{picture_of, run_draw};
 use crate::sets::{STDIN, own_set, set_word};
+use crate::tended::run_set;
 use crate::texts::print_own;
 use line_streams::{Plan, open_records, tap};
 use mtp2_frame::frame;
@@ -76,6 +79,7 @@ fn run<
         }
         Request::Soak { script, workers } => run_soak(rt, teller, *script, *workers, writer),
         Request::Line { set, end } => run_line(host, teller, set, end, reader, writer),
+        Request::Set { set, end } => run_set(host, teller, set, end),
         Request::Frame { octets } => frame(rt.alloc(), octets, writer),
         Request::Draw {
             set,

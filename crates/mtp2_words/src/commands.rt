@@ -3,6 +3,7 @@ ghost use Rattle.std.specs.Prelude.{◌≡◌, IfOk, false};
 ghost use Rattle.clap.specs.Words.{rule_of, new_app, new_rule, app_of};
 ghost use Rattle.mtp2_words.specs.Commands.{plain_word, option_word, flag_word, check_command, play_command, soak_command, line_begun, line_command, frame_command, draw_command, diff_command, text_command, play_begun, with_seeing_options, all_commands, program_begun, with_line_options, with_limit_options, with_capture_options, with_measures_option, has_globals, IsCommand};
 
+use crate::set_commands::set_command;
 use clap::{Arg, ArgAction, Command};
 use std::alloc::{AllocError, Global};
 
@@ -15,6 +16,7 @@ pub fn all_commands<'a>(alloc: Global) -> Result<Command<'a>, AllocError>
         .subcommand(play_command(alloc)?)?
         .subcommand(soak_command(alloc)?)?
         .subcommand(line_command(alloc)?)?
+        .subcommand(set_command(alloc)?)?
         .subcommand(frame_command(alloc)?)?
         .subcommand(draw_command(alloc)?)?
         .subcommand(text_command(alloc)?)?
@@ -36,14 +38,19 @@ fn program_begun<'a>(alloc: Global) -> Command<'a>
 }
 
 /// A command without words, with what its help says before them and behind them.
-fn bare_command<'a>(alloc: Global, name: &'a str, about: &'a str, after: &'a str) -> Command<'a>
+pub(crate) fn bare_command<'a>(
+    alloc: Global,
+    name: &'a str,
+    about: &'a str,
+    after: &'a str,
+) -> Command<'a>
     ensures { IsCommand (new_app name.entry.now) result }
 {
     Command::new(alloc, name).about(about).after_help(after)
 }
 
 /// A word that has to be there.
-fn plain_word<'a>(alloc: Global, id: &'a str, help: &'a str) -> Arg<'a>
+pub(crate) fn plain_word<'a>(alloc: Global, id: &'a str, help: &'a str) -> Arg<'a>
     ensures rule { rule_of result ≡ plain_word id.entry.now }
     ensures local { result.global ≡ false }
 {
@@ -51,7 +58,12 @@ fn plain_word<'a>(alloc: Global, id: &'a str, help: &'a str) -> Arg<'a>
 }
 
 /// An option with a word behind it.
-fn option_word<'a>(alloc: Global, name: &'a str, value: &'a str, help: &'a str) -> Arg<'a>
+pub(crate) fn option_word<'a>(
+    alloc: Global,
+    name: &'a str,
+    value: &'a str,
+    help: &'a str,
+) -> Arg<'a>
     ensures rule { rule_of result ≡ option_word name.entry.now }
     ensures local { result.global ≡ false }
 {
@@ -70,7 +82,7 @@ fn optional_word<'a>(alloc: Global, id: &'a str, help: &'a str) -> Arg<'a>
 }
 
 /// An option without a word behind it.
-fn flag_word<'a>(alloc: Global, name: &'a str, help: &'a str) -> Arg<'a>
+pub(crate) fn flag_word<'a>(alloc: Global, name: &'a str, help: &'a str) -> Arg<'a>
     ensures rule { rule_of result ≡ flag_word name.entry.now }
     ensures local { result.global ≡ false }
 {

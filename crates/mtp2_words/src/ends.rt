@@ -83,7 +83,7 @@ fn bits_named(word: &str) -> Option<Bits>
 }
 
 /// Which bit of an octet is the first, by the word for it.
-fn bits_of(word: Option<&str>) -> Option<Bits>
+pub(crate) fn bits_of(word: Option<&str>) -> Option<Bits>
     ensures { result ≡ bits_of (option_map (λ w. w.now) word.entry) }
 {
     match word {
@@ -93,7 +93,7 @@ fn bits_of(word: Option<&str>) -> Option<Bits>
 }
 
 /// How many octets go ahead, by a word.
-fn ahead_named(word: &str) -> Option<usize>
+pub(crate) fn ahead_named(word: &str) -> Option<usize>
     ensures { result ≡ ahead_named word.now }
 {
     match count(word) {

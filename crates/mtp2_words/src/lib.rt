@@ -7,6 +7,9 @@ mod flags;
 mod limits;
 mod says;
 mod seeing;
+mod set_commands;
+mod set_ends;
+mod set_words;
 mod words;
 
 pub use clap::Error;
@@ -14,4 +17,5 @@ pub use clap::error::ErrorKind;
 pub use ends::{LineEnd, LineWords, line_end};
 pub use script_links::RoundLimits;
 pub use seeing::Seeing;
+pub use set_ends::SetEnd;
 pub use words::{Named, Request, Source, read};

@@ -11,6 +11,8 @@ use crate::ends::{LineEnd, LineWords, line_end};
 use crate::flags::is_given;
 use crate::says::{are_stdin, complaint_of, workers_of};
 use crate::seeing::{Seeing, seen_of};
+use crate::set_ends::SetEnd;
+use crate::set_words::tended;
 use clap::error::ErrorKind;
 use clap::{ArgMatches, Error};
 use std::alloc::{AllocError, Global};
@@ -61,6 +63,11 @@ pub enum Request<'a> {
     Line {
         set: Named<'a>,
         end: LineEnd<'a>,
+    },
+    /// `set basic|cyclic`: one end of a set of links on lines, with a set of processes as for `line`.
+    Set {
+        set: Named<'a>,
+        end: SetEnd<'a>,
     },
     /// `draw SET`: a set as for `check`; `draw SET PROCESS`, with `--states` or without: one of its processes.
     Draw {
@@ -136,7 +143,7 @@ fn soaked<'a>(script: &'a str, workers: &str) -> Option<Request<'a>>
 }
 
 /// The set of a terminal on a line that a word names. Standard input is the line, and no text.
-fn text_named(word: &str) -> Option<Named<'_>>
+pub(crate) fn text_named(word: &str) -> Option<Named<'_>>
     ensures some { IfSome result (λ set. IsTextNamed set word.now) }
     ensures none { IsNone result → word.now ≡ codes "stdin" }
 {
@@ -354,6 +361,7 @@ fn asked<'a>(
         "play" => Ok(asked_play(given)),
         "soak" => Ok(asked_soak(given)),
         "line" => Ok(lined(given)),
+        "set" => tended(alloc, given),
         "frame" => Ok(framed(given)),
         "draw" => Ok(drawn(given)),
         "text" => Ok(asked_print(given)),

@@ -16,10 +16,16 @@ mod run;
 mod schedule;
 mod set_end;
 mod shown;
+mod tended;
+mod tended_channel;
+mod tended_end;
+mod tended_pair;
+mod tended_run;
 mod tending;
 mod working;
 
 pub use calling::make_calls;
 pub use calls::Stopped;
 pub use full_set::FullSet;
+pub use tended::run_tended;
 pub use working::run_sets;

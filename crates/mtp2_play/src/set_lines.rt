@@ -1,0 +1,208 @@
+//! The lines of a set, which threads read and write.
+
+use line_filter::Bits;
+use line_streams::{Departures, Fed, Feed, open_both};
+use set_play::{Came, Lines};
+use std::alloc::{AllocError, Global};
+use std::fs::File;
+use std::io::{self, ErrorKind};
+use std::rt::Files;
+use std::thread::Threads;
+
+/// How many rounds lie between two tries to open a line.
+const BETWEEN: u64 = 1_000;
+
+/// For so many rounds no line is open before the run ends.
+const PATIENCE: u64 = 10_000;
+
+/// A line that is open.
+#[derive(Drop)]
+struct Open {
+    feed: Feed,
+    sink: Departures,
+}
+
+/// A line, open or not.
+#[derive(Drop)]
+struct SetLine<'a> {
+    /// Where its octets come from.
+    input: &'a str,
+    /// Where they go to.
+    output: &'a str,
+    open: Option<Open>,
+    /// For how many rounds it hasn't been open.
+    shut: u64,
+    /// Whether it failed, and didn't end, as it was open last.
+    failed: bool,
+}
+
+/// The lines of a set.
+#[derive(Drop)]
+pub struct SetLines<'a, H> {
+    host: &'a H,
+    alloc: Global,
+    bits: Bits,
+    lines: Vec<SetLine<'a>>,
+    /// Octets as they go out.
+    part: Vec<u8>,
+}
+
+/// The two paths that a word names: `IN,OUT`, or one for both.
+fn paths(word: &str) -> (&str, &str) {
+    match word.split_once(',') {
+        Some((input, output)) => (input, output),
+        None => (word, word),
+    }
+}
+
+impl SetLine<'_> {
+    /// It isn't open any more.
+    fn close(&mut self, failed: bool) {
+        self.open = None;
+        self.shut = 1;
+        self.failed = failed;
+    }
+
+    /// Opens it.
+    fn try_open<H: Files<File = File> + Threads>(
+        &self,
+        host: &H,
+        alloc: Global,
+    ) -> io::Result<Open> {
+        let input = open_both(host, self.input)?;
+        let output = open_both(host, self.output)?;
+        Ok(Open {
+            feed: Feed::start(host, alloc, input)?,
+            sink: Departures::start(host, alloc, output)?,
+        })
+    }
+
+    /// Opens it, where it is time to try.
+    fn reopen<H: Files<File = File> + Threads>(&mut self, host: &H, alloc: Global) -> Came {
+        let first = self.shut == 0;
+        let tries = self.shut % BETWEEN == 0;
+        self.shut = self.shut.saturating_add(1);
+        if !tries {
+            return Came::Closed;
+        }
+        match self.try_open(host, alloc) {
+            Ok(open) => {
+                self.open = Some(open);
+                Came::Opened
+            }
+            Err(_) if first => {
+                self.failed = true;
+                Came::Failed
+            }
+            Err(_) => Came::Closed,
+        }
+    }
+
+    /// What came of it.
+    fn take<H: Files<File = File> + Threads>(
+        &mut self,
+        host: &H,
+        alloc: Global,
+        part: &mut [u8],
+    ) -> Came {
+        let fed = match &mut self.open {
+            Some(open) => open.feed.take(part),
+            None => return self.reopen(host, alloc),
+        };
+        match fed {
+            Fed::Octets(count) => Came::Octets(count),
+            Fed::Ended => {
+                self.close(false);
+                Came::Ended
+            }
+            Fed::Failed => {
+                self.close(true);
+                Came::Failed
+            }
+        }
+    }
+
+    /// Octets go out.
+    fn give(&mut self, octets: &[u8]) {
+        let failed = match &mut self.open {
+            Some(open) => open.sink.put_whole(octets).is_err(),
+            None => false,
+        };
+        if failed {
+            self.close(true);
+        }
+    }
+}
+
+impl<'a, H> SetLines<'a, H> {
+    /// Lines that these words name, none of them open.
+    ///
+    /// # Errors
+    ///
+    /// Where there is no memory.
+    pub fn new(
+        host: &'a H,
+        alloc: Global,
+        bits: Bits,
+        words: &[&'a str],
+    ) -> Result<SetLines<'a, H>, AllocError> {
+        let mut lines = Vec::with_capacity(alloc, words.len())?;
+        for word in words {
+            let (input, output) = paths(word);
+            lines.push(SetLine {
+                input,
+                output,
+                open: None,
+                shut: 0,
+                failed: false,
+            })?;
+        }
+        Ok(SetLines {
+            host,
+            alloc,
+            bits,
+            lines,
+            part: Vec::new(alloc),
+        })
+    }
+}
+
+impl<H: Files<File = File> + Threads> Lines for SetLines<'_, H> {
+    fn take(&mut self, link: usize, part: &mut [u8]) -> Came {
+        let Some(line) = self.lines.get_mut(link) else {
+            return Came::Closed;
+        };
+        let came = line.take(self.host, self.alloc, part);
+        if let Came::Octets(count) = came {
+            if let Some(octets) = part.get_mut(..count) {
+                self.bits.turn_all(octets);
+            }
+        }
+        came
+    }
+
+    fn give(&mut self, link: usize, octets: &[u8]) {
+        self.part.clear();
+        if self.part.extend_from_slice(octets).is_err() {
+            return;
+        }
+        self.bits.turn_all(self.part.as_mut_slice());
+        if let Some(line) = self.lines.get_mut(link) {
+            line.give(self.part.as_slice());
+        }
+    }
+
+    fn are_over(&mut self) -> io::Result<bool> {
+        let mut failed = false;
+        for line in &self.lines {
+            if line.open.is_some() || line.shut < PATIENCE {
+                return Ok(false);
+            }
+            failed = failed || line.failed;
+        }
+        if failed {
+            return Err(io::Error::from(ErrorKind::BrokenPipe));
+        }
+        Ok(true)
+    }
+}

@@ -1,0 +1,158 @@
+//! The command `set`.
+
+use crate::set_lines::SetLines;
+use crate::sets::own_set;
+use line_filter::LineOrders;
+use line_streams::{OrderStream, ReportStream, open_orders, open_reports};
+use mtp2_words::{Named, SetEnd};
+use plain_text::{Errors, FAILED, HELD, NamedReader, Teller};
+use script_check::SetWord;
+use set_play::{Ends, Lines, Plan, SetDesk, Tender, open_tender};
+use std::fs::{self, File};
+use std::io::{self, Read, Write};
+use std::rt::Files;
+use std::thread;
+use std::thread::Threads;
+use std::time::{Clock, Duration, Instant};
+
+/// How many octets of each line are taken in a round, and how many while rounds are late.
+const PART: usize = 4_096;
+
+const LATE_PART: usize = 16;
+
+/// So many milliseconds behind its time a round is late.
+const LATE: u64 = 4;
+
+/// Waits until a round is due, counted from the beginning. Whether it is late.
+fn wait<R: Clock>(rt: &R, begin: Instant, round: u64) -> io::Result<bool> {
+    let gone = begin.elapsed(rt)?.as_millis() as u64;
+    if gone < round {
+        thread::sleep(rt, Duration::from_millis(round - gone));
+        return Ok(false);
+    }
+    Ok(gone - round > LATE)
+}
+
+/// Round after round, each due with a millisecond of the clock, up to `quit` or the end of all lines.
+fn go_round<H: Clock + AllocGlobal, L: Lines, O: line_filter::Orders, P: Write>(
+    host: &H,
+    desk: &mut SetDesk<O, P>,
+    lines: &mut L,
+) -> io::Result<()> {
+    let begin = Instant::now(host)?;
+    let mut part = [0; PART];
+    let mut out = Vec::new(host.alloc());
+    for round in 0..u64::MAX {
+        let is_late = wait(host, begin, round)?;
+        let room = if is_late { LATE_PART } else { PART };
+        let goes_on = desk.round(host.alloc(), lines, &mut part[..room], &mut out)?;
+        if !goes_on || lines.are_over()? {
+            return Ok(());
+        }
+    }
+    Ok(())
+}
+
+/// Runs a set on its lines. Gives the exit status.
+fn serve<H: Files<File = File> + Threads + Eprint + Clock + AllocGlobal>(
+    host: &H,
+    end: &SetEnd<'_>,
+    tender: Tender,
+    orders: LineOrders<OrderStream>,
+    reports: ReportStream<Errors<'_, H>>,
+) -> u8 {
+    let Ok(mut lines) = SetLines::new(host, host.alloc(), end.bits, &end.lines) else {
+        tender.end();
+        return FAILED;
+    };
+    let mut desk = match SetDesk::new(host.alloc(), tender, end.ahead, orders, reports) {
+        Ok(desk) => desk,
+        Err(tender) => {
+            tender.end();
+            return FAILED;
+        }
+    };
+    let ran = go_round(host, &mut desk, &mut lines);
+    let now = desk.millisecond();
+    let (_orders, mut reports) = desk.end();
+    let ended = reports.end(host, now);
+    if ran.is_ok() && ended.is_ok() {
+        HELD
+    } else {
+        FAILED
+    }
+}
+
+/// Opens what orders come from and where reports go, and runs a set. What can't be opened is told by its name. Gives the exit status.
+fn begin<H: Files<File = File> + Threads + Eprint + Clock + AllocGlobal>(
+    host: &H,
+    teller: &Teller<'_, H>,
+    end: &SetEnd<'_>,
+    tender: Tender,
+) -> u8 {
+    let orders = match open_orders(host, host.alloc(), end.orders) {
+        Ok(orders) => orders,
+        Err(error) => {
+            tender.end();
+            return teller.fail(end.orders.unwrap_or("orders"), &error);
+        }
+    };
+    let reports = match open_reports(host, host.alloc(), end.reports, Errors { rt: host }) {
+        Ok(reports) => reports,
+        Err(error) => {
+            tender.end();
+            return teller.fail(end.reports.unwrap_or("reports"), &error);
+        }
+    };
+    let orders = LineOrders::new(host.alloc(), orders);
+    serve(host, end, tender, orders, reports)
+}
+
+/// Runs a set over processes. Gives the exit status.
+fn run_on<H: Files<File = File> + Threads + Eprint + Clock + AllocGlobal, S: Read + Drop>(
+    host: &H,
+    teller: &Teller<'_, H>,
+    named: &Named<'_>,
+    end: &SetEnd<'_>,
+    set: SetWord<S>,
+) -> u8 {
+    let plan = Plan {
+        mode: end.mode,
+        limits: named.usual_limits(),
+        ends: Ends {
+            own: end.own,
+            peer: end.peer,
+            network: end.network,
+        },
+        links: end.lines.len(),
+        tests: end.tests,
+    };
+    match open_tender(host.alloc(), plan, set, &mut Errors { rt: host }) {
+        Ok(tender) => begin(host, teller, end, tender),
+        Err(status) => status,
+    }
+}
+
+/// Runs `set`: one end of a set of links, each on its line. Gives the exit status: 0 behind `quit`, or once no line could be opened for 10 s and all
+/// have ended; 2 where the text is refused or lacks a name; 4 where memory, orders or reports fail, or a line did.
+pub fn run_set<H: Files<File = File> + Threads + Eprint + Clock + AllocGlobal>(
+    host: &H,
+    teller: &Teller<'_, H>,
+    named: &Named<'_>,
+    end: &SetEnd<'_>,
+) -> u8 {
+    match named {
+        Named::File(path) => match fs::open(host, path) {
+            Ok(file) => {
+                let text = NamedReader::new(teller, path, file);
+                run_on(host, teller, named, end, SetWord::Text(text))
+            }
+            Err(error) => teller.fail(path, &error),
+        },
+        Named::Standard | Named::Q703 | Named::Monitors => match own_set(named) {
+            Some(own) => run_on(host, teller, named, end, own),
+            None => FAILED,
+        },
+        Named::Stdin => FAILED,
+    }
+}

@@ -1,0 +1,102 @@
+//! The command `set`, and the words that it takes.
+
+use crate::commands::{bare_command, flag_word, option_word, plain_word};
+use clap::{Arg, ArgAction, Command};
+use std::alloc::{AllocError, Global};
+
+/// An option that has to be there, with a word behind it.
+fn needed_word<'a>(alloc: Global, name: &'a str, value: &'a str, help: &'a str) -> Arg<'a> {
+    option_word(alloc, name, value, help).required(true)
+}
+
+/// The command without what its end does on its lines.
+fn set_begun<'a>(alloc: Global) -> Result<Command<'a>, AllocError> {
+    let mode = plain_word(alloc, "MODE", "The error correction: basic or cyclic");
+    bare_command(
+        alloc,
+        "set",
+        "Runs one end of a set of up to 16 signalling links between two points, each link on a channel of 64 kbit/s",
+        "Writes one octet on a line for each that it reads there; a millisecond is one of the clock. Links that are to be in service are started and tested; as\none goes down its messages go on by the others, each once and in order. Orders: on L, on all, then power, start, stop, emergency, calm, outage, back, busy,\nfree, flush, continue, overload, state P, value P x; send HEX, table, held, unsure, rebalance, at MS, quit; # begins a comment. Reports, each behind its\nmillisecond: L in service, L down R, L far out, L far back, L message HEX, L started, L changeover, L says COO N by M, L hears COA N by M, L unsure N,\nL diverted N, L tested, L line silent, L line back, L line ended, L line failed, L line open, shared L .., ok ORDER, refused CODE Name, lost N.\nExits with 0 after quit, or once no line could be opened for 10 seconds and all have ended; 2 after refused CODE Name on standard error where the text is\nrefused, 4 where memory, orders or reports fail, or a line did.",
+    )
+    .arg(mode)
+}
+
+/// The options that say which links there are.
+fn with_links<'a>(alloc: Global, command: Command<'a>) -> Result<Command<'a>, AllocError> {
+    let link = needed_word(
+        alloc,
+        "link",
+        "LINE",
+        "A device, or IN,OUT: where line octets come from and go to. Once for each link, up to 16 times; a link's code is its place",
+    )
+    .action(ArgAction::Append);
+    let own = needed_word(alloc, "own", "N", "The code of this point, 0 to 16383");
+    let peer = needed_word(
+        alloc,
+        "peer",
+        "N",
+        "The code of the other point, 0 to 16383",
+    );
+    let network = option_word(
+        alloc,
+        "network",
+        "0..3",
+        "The network indicator of the set's own messages; 2 where nothing is said",
+    );
+    let text = option_word(
+        alloc,
+        "text",
+        "TEXT",
+        "q703 (as where nothing is said), standard, or a file with the text of a set of processes",
+    );
+    command
+        .arg(link)?
+        .arg(own)?
+        .arg(peer)?
+        .arg(network)?
+        .arg(text)
+}
+
+/// The options that say what an end does on its lines.
+fn with_streams<'a>(alloc: Global, command: Command<'a>) -> Result<Command<'a>, AllocError> {
+    let orders = option_word(
+        alloc,
+        "orders",
+        "PATH",
+        "A file or a FIFO with orders, one a line, read on as it grows",
+    );
+    let reports = option_word(
+        alloc,
+        "reports",
+        "PATH",
+        "A file or a FIFO for reports, one a line; else they go to standard error",
+    );
+    let bits = option_word(
+        alloc,
+        "bits",
+        "low|high",
+        "Which bit of an octet is the first on the lines; low where nothing is said",
+    );
+    let ahead = option_word(
+        alloc,
+        "ahead",
+        "N",
+        "How many octets of 1s go out on each line before any octet came in, and behind each second of silence, 0 to 8000; 64 where nothing is said",
+    );
+    let no_test = flag_word(
+        alloc,
+        "no-test",
+        "Has links carry messages without a test as they come into service",
+    );
+    command
+        .arg(orders)?
+        .arg(reports)?
+        .arg(bits)?
+        .arg(ahead)?
+        .arg(no_test)
+}
+
+/// The command `set`.
+pub(crate) fn set_command<'a>(alloc: Global) -> Result<Command<'a>, AllocError> {
+    with_streams(alloc, with_links(alloc, set_begun(alloc)?)?)
+}

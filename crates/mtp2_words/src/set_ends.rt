@@ -1,0 +1,124 @@
+//! What words say of one end of a set of links.
+
+use crate::ends::{ahead_named, bits_of};
+use line_filter::Bits;
+use script_links::{Mode, count, mode_named};
+use std::alloc::{AllocError, Global};
+
+/// How many octets of 1s go ahead on each line where nothing is said.
+const AHEAD: usize = 64;
+
+/// The network indicator where nothing is said: a national network.
+const NETWORK: u8 = 2;
+
+/// How many links a set has at most.
+const MOST_LINKS: usize = 16;
+
+/// One end of a set of links on lines.
+#[derive(Debug, Drop, PartialEq, Eq)]
+pub struct SetEnd<'a> {
+    /// The kind of error correction.
+    pub mode: Mode,
+    /// The lines, 1 to 16: the code of a link is the place of its line.
+    pub lines: Vec<&'a str>,
+    /// The code of this point, below 16,384.
+    pub own: u16,
+    /// That of the other.
+    pub peer: u16,
+    /// The network indicator, 0 to 3.
+    pub network: u8,
+    /// Where its orders stand; none, where nothing is said.
+    pub orders: Option<&'a str>,
+    /// Where its reports go; standard error, where nothing is said.
+    pub reports: Option<&'a str>,
+    /// Which bit of an octet is the first on the lines.
+    pub bits: Bits,
+    /// How many octets of 1s go out on each line before any octet came in, and behind each second of silence.
+    pub ahead: usize,
+    /// Whether links are tested before they carry messages.
+    pub tests: bool,
+}
+
+/// The words that say it.
+#[derive(Clone, Copy)]
+pub struct SetWords<'a> {
+    /// `basic` or `cyclic`.
+    pub mode: &'a str,
+    /// Digits, below 16,384.
+    pub own: &'a str,
+    /// Digits, below 16,384.
+    pub peer: &'a str,
+    /// Digits, of 3 at most; 2, where nothing is said.
+    pub network: Option<&'a str>,
+    /// A file or a FIFO with orders.
+    pub orders: Option<&'a str>,
+    /// A file or a FIFO for reports.
+    pub reports: Option<&'a str>,
+    /// `low` or `high`; `low`, where nothing is said.
+    pub bits: Option<&'a str>,
+    /// Digits, of 8,000 at most; 64, where nothing is said.
+    pub ahead: Option<&'a str>,
+    /// Whether links aren't tested.
+    pub no_test: bool,
+}
+
+/// The code of a point, by a word.
+fn point_named(word: &str) -> Option<u16> {
+    match count(word) {
+        Some(point) if point < 16_384 => Some(point as u16),
+        _ => None,
+    }
+}
+
+/// The network indicator, by the word for it.
+fn network_of(word: Option<&str>) -> Option<u8> {
+    match word {
+        Some(word) => match count(word) {
+            Some(network) if network < 4 => Some(network as u8),
+            _ => None,
+        },
+        None => Some(NETWORK),
+    }
+}
+
+/// How many octets go ahead, by the word for it.
+fn ahead_of(word: Option<&str>) -> Option<usize> {
+    match word {
+        Some(word) => ahead_named(word),
+        None => Some(AHEAD),
+    }
+}
+
+/// The end of a set that words say, without its lines.
+fn end_without_lines<'a>(alloc: Global, words: &SetWords<'a>) -> Option<SetEnd<'a>> {
+    Some(SetEnd {
+        mode: mode_named(words.mode)?,
+        lines: Vec::new(alloc),
+        own: point_named(words.own)?,
+        peer: point_named(words.peer)?,
+        network: network_of(words.network)?,
+        orders: words.orders,
+        reports: words.reports,
+        bits: bits_of(words.bits)?,
+        ahead: ahead_of(words.ahead)?,
+        tests: !words.no_test,
+    })
+}
+
+/// The end of a set that words say; none where one of them says nothing, or there is no line or there are more than 16.
+pub fn set_end<'a>(
+    alloc: Global,
+    words: &SetWords<'a>,
+    lines: &[&'a str],
+) -> Result<Option<SetEnd<'a>>, AllocError> {
+    if lines.is_empty() || lines.len() > MOST_LINKS {
+        return Ok(None);
+    }
+    let Some(mut end) = end_without_lines(alloc, words) else {
+        return Ok(None);
+    };
+    for line in lines {
+        end.lines.push(*line)?;
+    }
+    Ok(Some(end))
+}

@@ -1,0 +1,120 @@
+//! A set on its lines, with its orders and reports.
+
+use crate::orders::Focus;
+use crate::queue::Queue;
+use crate::wire::Wire;
+use plain_text::write_line;
+use set_tending::{TendError, Tender, Told};
+use std::alloc::{AllocError, Global};
+use std::fmt::Display;
+use std::io::{self, ErrorKind, Write};
+
+/// A set on its lines. It can't be dropped: its set ends with what is retrieved.
+pub struct SetDesk<O, P> {
+    /// The set.
+    pub tender: Tender,
+    /// What goes out on its lines.
+    pub(crate) wires: Vec<Wire>,
+    /// How many octets of 1s go out on a line at its beginning, and each 1,000 rounds of silence.
+    pub(crate) ahead: usize,
+    /// What gives orders.
+    pub orders: O,
+    /// Which links the next order speaks of.
+    pub(crate) focus: Focus,
+    /// Orders that wait.
+    pub(crate) queue: Queue,
+    /// Where things are told.
+    pub reports: P,
+}
+
+/// A failure to tend, as one of the run.
+pub(crate) fn failed(error: TendError) -> io::Error {
+    match error {
+        TendError::NoMemory => io::Error::from(ErrorKind::OutOfMemory),
+        TendError::NoTick => io::Error::from(ErrorKind::Other),
+    }
+}
+
+/// A voice for each line.
+fn wires(alloc: Global, links: usize) -> Result<Vec<Wire>, AllocError> {
+    let mut wires = Vec::with_capacity(alloc, links)?;
+    for _link in 0..links {
+        wires.push(Wire::new())?;
+    }
+    Ok(wires)
+}
+
+impl<O, P> SetDesk<O, P> {
+    /// A set on lines on which nothing came or went.
+    ///
+    /// # Errors
+    ///
+    /// Where there is no memory, the set.
+    pub fn new(
+        alloc: Global,
+        tender: Tender,
+        ahead: usize,
+        orders: O,
+        reports: P,
+    ) -> Result<SetDesk<O, P>, Tender>
+    where
+        O: Drop,
+        P: Drop,
+    {
+        match wires(alloc, tender.len()) {
+            Ok(wires) => Ok(SetDesk {
+                tender,
+                wires,
+                ahead,
+                orders,
+                focus: Focus::Link(0),
+                queue: Queue::new(alloc),
+                reports,
+            }),
+            Err(_) => Err(tender),
+        }
+    }
+
+    /// The millisecond: how many rounds there were.
+    pub fn millisecond(&self) -> u64 {
+        self.tender.now()
+    }
+
+    /// Ends the set. What orders came from, and where reports went.
+    pub fn end(self) -> (O, P) {
+        let SetDesk {
+            tender,
+            wires: _wires,
+            ahead: _,
+            orders,
+            focus: _,
+            queue: _queue,
+            reports,
+        } = self;
+        tender.end();
+        (orders, reports)
+    }
+}
+
+impl<O, P: Write> SetDesk<O, P> {
+    /// Tells a line, the millisecond first.
+    pub(crate) fn tell<D: Display>(&mut self, alloc: Global, text: &D) -> io::Result<()> {
+        let now = self.tender.now();
+        write_line(alloc, &mut self.reports, &format_args!("{now} {text}"))
+    }
+
+    /// Tells all that the set has to tell.
+    pub(crate) fn tell_all(&mut self, alloc: Global) -> io::Result<()> {
+        for _told in 0..u64::MAX {
+            match self.tender.take_told() {
+                Some(told) => self.tell_one(alloc, &told)?,
+                None => return Ok(()),
+            }
+        }
+        Err(io::Error::from(ErrorKind::Other))
+    }
+
+    fn tell_one(&mut self, alloc: Global, told: &Told) -> io::Result<()> {
+        self.tell(alloc, told)
+    }
+}

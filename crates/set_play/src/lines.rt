@@ -1,0 +1,46 @@
+//! What gives octets of lines and takes them.
+
+use std::io;
+
+/// What came of a line since it was last asked.
+#[derive(Clone, Copy, Debug, PartialEq, Eq)]
+pub enum Came {
+    /// So many octets, none where none came.
+    Octets(usize),
+    /// It has ended.
+    Ended,
+    /// It has failed.
+    Failed,
+    /// It was opened once more.
+    Opened,
+    /// It isn't open.
+    Closed,
+}
+
+/// The lines of a set.
+pub trait Lines {
+    /// What came of a line: octets, the oldest first, into a part of some octets.
+    fn take(&mut self, link: usize, part: &mut [u8]) -> Came;
+
+    /// Octets go out on a line. They are lost where it isn't open.
+    fn give(&mut self, link: usize, octets: &[u8]);
+
+    /// Whether a run ends, since no line could be opened for long: with the line that failed, where one did.
+    fn are_over(&mut self) -> io::Result<bool>;
+}
+
+/// No lines: nothing comes.
+#[derive(Clone, Copy)]
+pub struct NoLines;
+
+impl Lines for NoLines {
+    fn take(&mut self, _link: usize, _part: &mut [u8]) -> Came {
+        Came::Octets(0)
+    }
+
+    fn give(&mut self, _link: usize, _octets: &[u8]) {}
+
+    fn are_over(&mut self) -> io::Result<bool> {
+        Ok(false)
+    }
+}

@@ -1,0 +1,190 @@
+//! A round of a set on its lines.
+
+use crate::desk::{SetDesk, failed};
+use crate::lines::{Came, Lines};
+use crate::orders::{SetOrder, set_order_in};
+use crate::wire::Passed;
+use line_filter::Orders;
+use script_links::Order;
+use std::alloc::{AllocError, Global};
+use std::io::{self, Write};
+
+/// How many octets of a line are taken in a round.
+pub const PART: usize = 4_096;
+
+/// Whether a line sends a message.
+fn is_send(alloc: Global, text: &str) -> Result<bool, AllocError> {
+    match set_order_in(alloc, text)? {
+        Some(SetOrder::Send(_)) => Ok(true),
+        _ => Ok(false),
+    }
+}
+
+/// Whether a line stops links.
+fn is_stop(alloc: Global, text: &str) -> Result<bool, AllocError> {
+    match set_order_in(alloc, text)? {
+        Some(SetOrder::Link(Order::Stop)) => Ok(true),
+        _ => Ok(false),
+    }
+}
+
+impl<O: Orders, P: Write> SetDesk<O, P> {
+    /// Octets that came on a line go through it, and what goes out goes on.
+    fn pass<L: Lines>(
+        &mut self,
+        alloc: Global,
+        lines: &mut L,
+        link: usize,
+        came: &[u8],
+        out: &mut Vec<u8>,
+    ) -> io::Result<()> {
+        out.clear();
+        let Some(wire) = self.wires.get_mut(link) else {
+            return Ok(());
+        };
+        let passed = match wire.pass(&mut self.tender, link, self.ahead, came, out) {
+            Ok(passed) => passed,
+            Err(error) => return Err(failed(error)),
+        };
+        if !out.is_empty() {
+            lines.give(link, out.as_slice());
+        }
+        match passed {
+            Passed::Same => Ok(()),
+            Passed::Silent => self.tell(alloc, &format_args!("{link} line silent")),
+            Passed::Back => self.tell(alloc, &format_args!("{link} line back")),
+        }
+    }
+
+    /// A round of a line that isn't open.
+    fn miss(&mut self, link: usize) -> io::Result<()> {
+        let Some(wire) = self.wires.get_mut(link) else {
+            return Ok(());
+        };
+        match wire.miss(&mut self.tender, link) {
+            Ok(()) => Ok(()),
+            Err(error) => Err(failed(error)),
+        }
+    }
+
+    /// As many octets of 1s go out as at a line's beginning.
+    fn go_ahead<L: Lines>(&mut self, lines: &mut L, link: usize) {
+        for _octet in 0..self.ahead {
+            lines.give(link, &[255]);
+        }
+    }
+
+    /// A round of a line.
+    fn carry<L: Lines>(
+        &mut self,
+        alloc: Global,
+        lines: &mut L,
+        link: usize,
+        part: &mut [u8],
+        out: &mut Vec<u8>,
+    ) -> io::Result<()> {
+        match lines.take(link, part) {
+            Came::Octets(count) => {
+                let came = part.get(..count).unwrap_or(&[]);
+                self.pass(alloc, lines, link, came, out)
+            }
+            Came::Closed => self.miss(link),
+            Came::Ended => self.tell(alloc, &format_args!("{link} line ended")),
+            Came::Failed => self.tell(alloc, &format_args!("{link} line failed")),
+            Came::Opened => {
+                self.go_ahead(lines, link);
+                self.tell(alloc, &format_args!("{link} line open"))
+            }
+        }
+    }
+
+    /// Obeys the orders that wait, as far as they don't have to wait any more.
+    fn obey_waiting(&mut self, alloc: Global) -> io::Result<()> {
+        for _order in 0..u64::MAX {
+            let waits = match self.queue.first() {
+                Some(first) => self.tender.sends_wait() && is_send(alloc, &first.text)?,
+                None => return Ok(()),
+            };
+            if waits {
+                return Ok(());
+            }
+            if let Some(first) = self.queue.take() {
+                self.obey(alloc, first.focus, &first.text)?;
+            }
+        }
+        Ok(())
+    }
+
+    /// Takes an order: it is obeyed, or waits behind others, but for one that stops links.
+    fn take_order(&mut self, alloc: Global, text: String) -> io::Result<()> {
+        let focus = self.focus;
+        let waits = !self.queue.is_empty() || (self.tender.sends_wait() && is_send(alloc, &text)?);
+        if !waits || is_stop(alloc, &text)? {
+            return self.obey(alloc, focus, &text);
+        }
+        if let Some(SetOrder::On(_)) = set_order_in(alloc, &text)? {
+            return self.obey(alloc, focus, &text);
+        }
+        if self.queue.put(focus, text) {
+            Ok(())
+        } else {
+            Err(io::Error::from(AllocError))
+        }
+    }
+
+    /// Obeys the orders that are due. Whether the run goes on.
+    fn obey_due(&mut self, alloc: Global) -> io::Result<bool> {
+        self.obey_waiting(alloc)?;
+        for _order in 0..u64::MAX {
+            if self.queue.is_full() {
+                return Ok(true);
+            }
+            let now = self.tender.now();
+            match self.orders.next(alloc, now)? {
+                Some(text) if text.as_str() == "quit" => {
+                    self.tell(alloc, &"ok quit")?;
+                    return Ok(false);
+                }
+                Some(text) => self.take_order(alloc, text)?,
+                None => return Ok(true),
+            }
+        }
+        Ok(true)
+    }
+
+    /// What goes out before any octet came.
+    ///
+    /// # Errors
+    ///
+    /// Where there is no memory.
+    pub fn begin<L: Lines>(&mut self, lines: &mut L) -> io::Result<()> {
+        for link in 0..self.tender.len() {
+            self.go_ahead(lines, link);
+        }
+        Ok(())
+    }
+
+    /// A round: of each line what came is heard, and an octet goes out for each of its octets; a tick passes; what there is to tell is told; what is to be
+    /// done for the links is done; and orders that are due are obeyed. Whether the run goes on: it doesn't behind `quit`.
+    ///
+    /// # Errors
+    ///
+    /// Where memory, orders or reports fail, or no tick passes.
+    pub fn round<L: Lines>(
+        &mut self,
+        alloc: Global,
+        lines: &mut L,
+        part: &mut [u8],
+        out: &mut Vec<u8>,
+    ) -> io::Result<bool> {
+        for link in 0..self.tender.len() {
+            self.carry(alloc, lines, link, part, out)?;
+        }
+        self.tender.tick().map_err(failed)?;
+        self.tender.tend().map_err(failed)?;
+        self.tell_all(alloc)?;
+        let goes_on = self.obey_due(alloc)?;
+        self.tell_all(alloc)?;
+        Ok(goes_on)
+    }
+}

@@ -1,0 +1,150 @@
+//! One line of a set.
+
+use line_filter::Voice;
+use set_tending::{TendError, Tender};
+
+/// For so many rounds a line on which nothing comes isn't taken for silent.
+const PATIENCE: u64 = 1_000;
+
+/// An octet of 1s.
+const SILENCE: u8 = 255;
+
+/// What is heard of a line that is silent, or isn't there.
+const SILENT: [u8; 8] = [SILENCE; 8];
+
+/// What became of a line in a round.
+#[derive(Clone, Copy, Debug, PartialEq, Eq)]
+pub enum Passed {
+    /// Nothing new.
+    Same,
+    /// It fell silent.
+    Silent,
+    /// It isn't any more.
+    Back,
+}
+
+/// What goes out on a line, and for how many rounds nothing has come there.
+#[derive(Drop)]
+pub struct Wire {
+    voice: Voice,
+    quiet: u64,
+}
+
+/// Has a link hear octets, all of them.
+fn hear(tender: &mut Tender, link: usize, octets: &[u8]) -> Result<(), TendError> {
+    let mut rest = octets;
+    for _part in 0..octets.len() {
+        if rest.is_empty() {
+            return Ok(());
+        }
+        let taken = tender.line_in(link, rest);
+        if taken == 0 {
+            return Err(TendError::NoMemory);
+        }
+        tender.heed_link(link)?;
+        rest = rest.get(taken..).unwrap_or(&[]);
+    }
+    Ok(())
+}
+
+impl Wire {
+    /// Nothing came, nothing went out.
+    pub fn new() -> Wire {
+        Wire {
+            voice: Voice::new(),
+            quiet: 0,
+        }
+    }
+
+    /// The octet that goes out next.
+    fn next(&mut self, tender: &mut Tender, link: usize) -> Result<u8, TendError> {
+        if let Some(octet) = self.voice.rest() {
+            return Ok(octet);
+        }
+        match tender.unit_out(link)? {
+            Some(unit) => Ok(self.voice.say(Some(&unit))),
+            None => Ok(self.voice.say(None)),
+        }
+    }
+
+    /// So many octets go out, behind others.
+    fn speak(
+        &mut self,
+        tender: &mut Tender,
+        link: usize,
+        count: usize,
+        out: &mut Vec<u8>,
+    ) -> Result<(), TendError> {
+        for _octet in 0..count {
+            let octet = self.next(tender, link)?;
+            if out.push(octet).is_err() {
+                return Err(TendError::NoMemory);
+            }
+        }
+        Ok(())
+    }
+
+    /// A round of a line on which nothing came. Once it is silent 1s are heard, and each 1,000 rounds as many octets go out as at its beginning.
+    fn wait(
+        &mut self,
+        tender: &mut Tender,
+        link: usize,
+        ahead: usize,
+        out: &mut Vec<u8>,
+    ) -> Result<Passed, TendError> {
+        self.quiet = self.quiet.saturating_add(1);
+        if self.quiet < PATIENCE {
+            return Ok(Passed::Same);
+        }
+        hear(tender, link, &SILENT)?;
+        if self.quiet % PATIENCE != 0 {
+            return Ok(Passed::Same);
+        }
+        for _octet in 0..ahead {
+            if out.push(SILENCE).is_err() {
+                return Err(TendError::NoMemory);
+            }
+        }
+        if self.quiet == PATIENCE {
+            Ok(Passed::Silent)
+        } else {
+            Ok(Passed::Same)
+        }
+    }
+
+    /// A round of a line that is open: what came is heard, and an octet goes out for each that came, behind others.
+    ///
+    /// # Errors
+    ///
+    /// Where there is no memory.
+    pub fn pass(
+        &mut self,
+        tender: &mut Tender,
+        link: usize,
+        ahead: usize,
+        came: &[u8],
+        out: &mut Vec<u8>,
+    ) -> Result<Passed, TendError> {
+        if came.is_empty() {
+            return self.wait(tender, link, ahead, out);
+        }
+        let was = self.quiet >= PATIENCE;
+        self.quiet = 0;
+        hear(tender, link, came)?;
+        self.speak(tender, link, came.len(), out)?;
+        if was {
+            Ok(Passed::Back)
+        } else {
+            Ok(Passed::Same)
+        }
+    }
+
+    /// A round of a line that isn't open: 1s are heard.
+    ///
+    /// # Errors
+    ///
+    /// Where there is no memory.
+    pub fn miss(&mut self, tender: &mut Tender, link: usize) -> Result<(), TendError> {
+        hear(tender, link, &SILENT)
+    }
+}

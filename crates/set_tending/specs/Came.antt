@@ -1,0 +1,61 @@
+-- What a message that came is to a set.
+use Rattle.std.specs.Prelude.{ℕ, ◌==◌, ◌/◌, ◌%◌, ◌&&◌, nat_lt, Bool, if◌then◌else◌, List, [], ◌∷◌}
+use Rattle.std.specs.Prelude.{Option, Some, None, drop, length}
+use Rattle.resend_store.specs.declared.messages.Msu.{Msu}
+use Rattle.group_changeover.specs.declared.labels.Label.{Label}
+use Rattle.group_changeover.specs.declared.changeover.Kind.TheVariants as kind
+use Rattle.group_changeover.specs.Labels.{label_in}
+use Rattle.set_tending.specs.declared.came.Came.{Came}
+use Rattle.set_tending.specs.declared.came.Came.TheVariants.{Message, Changeover, Declaration}
+use Rattle.set_tending.specs.declared.came.Came.TheVariants.{Test, Answer}
+use Rattle.set_tending.specs.declared.ends.Ends.{Ends}
+
+-- from the other point to this one
+abbrev pub comes_between : Ends → Label → Bool
+comes_between e label = label.dpc == e.own && label.opc == e.peer
+
+-- a heading alone: ECO 18, ECA 34
+abbrev pub by_heading : ℕ → ℕ → Came
+by_heading link heading =
+    if heading == 18 then Changeover link kind.EmergencyOrder
+    else (if heading == 34 then Changeover link kind.EmergencyAcknowledgement else Message)
+
+-- a heading and an octet: COO 17, COA 33 and the number of the last message accepted, whose spare
+-- bit is ignored; a changeback declaration 81 and its code
+abbrev pub by_pair : ℕ → ℕ → ℕ → Came
+by_pair link heading octet =
+    if heading == 17 then Changeover link (kind.Order (octet % 128))
+    else (if heading == 33 then Changeover link (kind.Acknowledgement (octet % 128))
+    else (if heading == 81 then Declaration link octet else Message))
+
+abbrev pub management_in : ℕ → List ℕ → Came
+management_in link [] = Message
+management_in link (heading ∷ []) = by_heading link heading
+management_in link (heading ∷ octet ∷ []) = by_pair link heading octet
+management_in link (heading ∷ octet ∷ more ∷ others) = Message
+
+-- a test or its answer, with a pattern that is as long as it says
+abbrev pub test_by : ℕ → ℕ → Bool → Came
+test_by link heading whole =
+    if heading == 17 && whole then Test link
+    else (if heading == 33 && whole then Answer link else Message)
+
+abbrev pub test_in : ℕ → List ℕ → Came
+test_in link [] = Message
+test_in link (heading ∷ []) = Message
+test_in link (heading ∷ octet ∷ pattern) =
+    test_by link heading (nat_lt 0 (length pattern) && octet / 16 == length pattern)
+
+abbrev pub content_in : ℕ → ℕ → List ℕ → Came
+content_in indicator link content =
+    if indicator == 0 then management_in link content
+    else (if indicator == 1 then test_in link content else Message)
+
+abbrev pub came_by : Ends → Msu → Option Label → Came
+came_by e m None = Message
+came_by e m (Some label) =
+    if comes_between e label then content_in (m.sio % 16) label.sls (drop 4 m.sif.items) else Message
+
+-- What is none of these, and what isn't between these points, is for level 3.
+unfoldable pub came : Ends → Msu → Came
+came e m = came_by e m (label_in m.sif.items)

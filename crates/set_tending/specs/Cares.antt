@@ -1,0 +1,57 @@
+-- What is kept of each link, and how it changes.
+use Rattle.std.specs.Prelude.{ℕ, ◌+◌, ◌-◌, ◌^◌, ◌&&◌, ◌||◌, nat_lt, nat_le, not, Bool, true, false}
+use Rattle.std.specs.Prelude.{if◌then◌else◌, min, max, Option, Some, None}
+use Rattle.set_tending.specs.declared.care.Care.{Care}
+use Rattle.set_tending.specs.declared.care.Testing.TheVariants.{Rests}
+
+-- Q.704's T2 and T17, in ticks
+abbrev pub PATIENCE : ℕ
+PATIENCE = 1400
+
+abbrev pub REST : ℕ
+REST = 1000
+
+abbrev pub LAST : ℕ
+LAST = 2 ^ 64 - 1
+
+-- ticks later; it stays at its greatest value
+abbrev pub later : ℕ → ℕ → ℕ
+later now ticks = min LAST (now + ticks)
+
+-- it comes into service: its test begins now
+unfoldable pub risen : ℕ → Care → Care
+risen now c = record c { serves = true; served = true; test = Rests now }
+
+abbrev pub due_if : Bool → ℕ → Option ℕ
+due_if true at = Some at
+due_if false at = None
+
+-- it goes down: where it is to be in service its Start falls due 1,000 ticks later
+unfoldable pub fallen : ℕ → Care → Care
+fallen now c = record c {
+  serves = false;
+  started = false;
+  stopping = false;
+  resumes = false;
+  rested = later now REST;
+  due = due_if c.wanted (later now REST);
+}
+
+-- it is to be in service: its Start falls due now, and not before 1,000 ticks behind its last Down
+unfoldable pub desired : ℕ → Care → Care
+desired now c = record c {
+  wanted = true;
+  due = if c.serves || c.started then c.due else Some (max now c.rested);
+}
+
+unfoldable pub let_be : Care → Care
+let_be c = record c { wanted = false; due = None }
+
+abbrev pub due_by : Care → ℕ → Option ℕ → Option ℕ
+due_by c now None = None
+due_by c now (Some due) =
+    if nat_le due now && (c.wanted && (c.powered && not c.started)) then Some due else None
+
+-- since which tick its Start has been due
+unfoldable pub is_due : ℕ → Care → Option ℕ
+is_due now c = due_by c now c.due

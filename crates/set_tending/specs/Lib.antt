@@ -1,0 +1,5 @@
+pub mod Calling
+pub mod Came
+pub mod Cares
+pub mod Ends
+pub mod Telling

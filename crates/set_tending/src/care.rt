@@ -1,0 +1,156 @@
+//! What is kept of each link.
+
+use group_changeover::Kind;
+
+/// For so many ticks a message about a link is owed, a Start that is due waits, and an answer is waited for (Q.704's T2).
+pub const PATIENCE: u64 = 1_400;
+
+/// So many ticks behind its last Down a link may be started (Q.704's T17).
+pub const REST: u64 = 1_000;
+
+/// A message of changeover that is to go to the other point.
+#[derive(Clone, Copy, Debug, PartialEq, Eq)]
+pub struct Owed {
+    /// What is said.
+    pub kind: Kind,
+    /// The tick at which it fell due.
+    pub since: u64,
+    /// The link by which it went, where it did.
+    pub by: Option<usize>,
+}
+
+/// How a link's test goes (Q.707, 2.2).
+#[derive(Clone, Copy, Debug, PartialEq, Eq)]
+pub enum Testing {
+    /// None runs. The next begins at this tick.
+    Rests(u64),
+    /// Its test message isn't answered. It counts as failed at this tick.
+    Runs(u64),
+    /// Nor is the one that was sent in its place.
+    RunsAgain(u64),
+}
+
+/// What is kept of a link.
+#[derive(Clone, Copy, Debug, PartialEq, Eq)]
+pub struct Care {
+    /// Its power was switched on.
+    pub powered: bool,
+    /// It is to be in service.
+    pub wanted: bool,
+    /// It is in service, by what was heard last.
+    pub serves: bool,
+    /// It has been in service.
+    pub served: bool,
+    /// It was started, and hasn't gone down since.
+    pub started: bool,
+    /// It was stopped, and hasn't gone down since.
+    pub stopping: bool,
+    /// The tick from which it may be started.
+    pub rested: u64,
+    /// The tick at which its Start falls due, where that is to come.
+    pub due: Option<u64>,
+    /// This side's processor is out, as was ordered.
+    pub outage: bool,
+    /// Messages are to go on behind an outage.
+    pub resumes: bool,
+    /// What is to be said of it.
+    pub owed: Option<Owed>,
+    /// Its test.
+    pub test: Testing,
+    /// How many tests of it were sent.
+    pub tests: u16,
+    /// How many messages it handed out last.
+    pub handed: usize,
+}
+
+impl Owed {
+    /// Whether it is an order.
+    pub fn is_order(self) -> bool {
+        match self.kind {
+            Kind::Order(_) | Kind::EmergencyOrder => true,
+            Kind::Acknowledgement(_) | Kind::EmergencyAcknowledgement => false,
+        }
+    }
+
+    /// Whether it waits for a link to go by.
+    pub fn waits(self) -> bool {
+        self.by.is_none()
+    }
+}
+
+impl Care {
+    /// Nothing happened.
+    pub fn new() -> Care {
+        Care {
+            powered: false,
+            wanted: false,
+            serves: false,
+            served: false,
+            started: false,
+            stopping: false,
+            rested: 0,
+            due: None,
+            outage: false,
+            resumes: false,
+            owed: None,
+            test: Testing::Rests(0),
+            tests: 0,
+            handed: 0,
+        }
+    }
+
+    /// It comes into service.
+    pub fn risen(self, now: u64) -> Care {
+        Care {
+            serves: true,
+            served: true,
+            test: Testing::Rests(now),
+            ..self
+        }
+    }
+
+    /// It goes down.
+    pub fn fallen(self, now: u64) -> Care {
+        let rested = now.saturating_add(REST);
+        Care {
+            serves: false,
+            started: false,
+            stopping: false,
+            resumes: false,
+            rested,
+            due: if self.wanted { Some(rested) } else { None },
+            ..self
+        }
+    }
+
+    /// It is to be in service from now on.
+    pub fn desired(self, now: u64) -> Care {
+        let due = if self.serves || self.started {
+            self.due
+        } else {
+            Some(now.max(self.rested))
+        };
+        Care {
+            wanted: true,
+            due,
+            ..self
+        }
+    }
+
+    /// It isn't any more.
+    pub fn let_be(self) -> Care {
+        Care {
+            wanted: false,
+            due: None,
+            ..self
+        }
+    }
+
+    /// Since which tick its Start has been due, where it is.
+    pub fn is_due(self, now: u64) -> Option<u64> {
+        match self.due {
+            Some(due) if due <= now && self.wanted && self.powered && !self.started => Some(due),
+            _ => None,
+        }
+    }
+}

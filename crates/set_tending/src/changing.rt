@@ -1,0 +1,99 @@
+//! Changeover of links, step by step.
+
+use crate::care::PATIENCE;
+use crate::tender::{TendError, Tender};
+use crate::told::Told;
+use group_changeover::{Answer, read_changeover};
+use link_group::{AbandonError, Command, LinkState, RetrieveError, Retrieved};
+
+impl Tender {
+    /// A changeover begins, unless it goes on, and its order is owed.
+    pub(crate) fn begin_changeover(&mut self, link: usize) -> Result<(), TendError> {
+        let Ok(sif) = self.set.fail(link) else {
+            return Ok(());
+        };
+        if let Some(order) = read_changeover(sif.as_slice()) {
+            self.owe(link, order.kind);
+        }
+        self.tell(Told::Changeover(link))
+    }
+
+    /// A link that is held in service is stopped.
+    pub(crate) fn stop_held(&mut self, link: usize, state: LinkState) -> Result<(), TendError> {
+        if state.in_service && state.held && !self.care(link).stopping {
+            self.cares[link % 16].stopping = self.command(link, Command::Stop)?;
+        }
+        Ok(())
+    }
+
+    /// The next step of a changeover that goes on: the messages are handed out, and diverted.
+    pub(crate) fn change_over(&mut self, link: usize, state: LinkState) -> Result<(), TendError> {
+        let Some(waited) = state.changeover else {
+            return Ok(());
+        };
+        if !self.set.has_retrieval(link) && !self.care(link).serves {
+            self.hand_out(
+                link,
+                waited >= PATIENCE || state.answer == Some(Answer::Unknown),
+            )?;
+        }
+        self.divert(link)
+    }
+
+    /// Keeps what a link handed out.
+    fn keep_hand(&mut self, retrieved: Retrieved) -> Result<(), TendError> {
+        let at = retrieved.link() % 16;
+        self.cares[at].handed = retrieved.len();
+        self.put_hand(retrieved);
+        Ok(())
+    }
+
+    /// The same once more.
+    fn put_hand(&mut self, retrieved: Retrieved) {
+        match self.hands.put(retrieved) {
+            Ok(()) => {}
+            Err(_retrieved) => unreachable!(),
+        }
+    }
+
+    /// Has a link hand out its messages. Where it isn't known which of them arrived they are given up, if nothing more is to be waited for.
+    fn hand_out(&mut self, link: usize, is_over: bool) -> Result<(), TendError> {
+        match self.set.retrieve(link) {
+            Ok(retrieved) => self.keep_hand(retrieved),
+            Err(RetrieveError::Unsure(count)) if is_over => self.give_up(link, count),
+            Err(RetrieveError::NoMemory) => Err(TendError::NoMemory),
+            Err(RetrieveError::Unsure(_) | RetrieveError::NoLink | RetrieveError::Waiting) => {
+                Ok(())
+            }
+        }
+    }
+
+    /// Gives up the messages of a link that were sent, and keeps the others.
+    fn give_up(&mut self, link: usize, count: usize) -> Result<(), TendError> {
+        match self.set.abandon(link) {
+            Ok(retrieved) => {
+                self.keep_hand(retrieved)?;
+                self.tell(Told::Unsure(link, count))
+            }
+            Err(AbandonError::NoMemory) => Err(TendError::NoMemory),
+            Err(AbandonError::NoLink | AbandonError::Waiting) => Ok(()),
+        }
+    }
+
+    /// Diverts what a link handed out, as far as it goes.
+    fn divert(&mut self, link: usize) -> Result<(), TendError> {
+        let Some(retrieved) = self.hands.take(link) else {
+            return Ok(());
+        };
+        match self.set.divert(retrieved) {
+            Ok(()) => {
+                let count = self.care(link).handed;
+                self.tell(Told::Diverted(link, count))
+            }
+            Err(error) => {
+                self.put_hand(error.rest);
+                Ok(())
+            }
+        }
+    }
+}

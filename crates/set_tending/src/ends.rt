@@ -1,0 +1,81 @@
+//! The points between which a set lies, and the messages that it sends of its own.
+
+use arrayvec::ArrayVec;
+use group_changeover::Kind;
+use link_group::Msu;
+
+/// The service indicator of network management (Q.704, 14.2.1).
+const MANAGEMENT: u8 = 0;
+
+/// That of tests of a link.
+const TESTING: u8 = 1;
+
+/// The points between which the links of a set lie, and the network indicator of what the set sends of its own.
+#[derive(Clone, Copy, Debug, PartialEq, Eq)]
+pub struct Ends {
+    /// The code of this point, below 16,384.
+    pub own: u16,
+    /// That of the other.
+    pub peer: u16,
+    /// 0 to 3: the upper two bits of the service information octet.
+    pub network: u8,
+}
+
+/// A pattern by which a test of a link is known: the octets behind its length.
+pub type Pattern = [u8; 4];
+
+impl Ends {
+    /// The label of a message from this point to the other about a link.
+    fn label(self, link: usize) -> [u8; 4] {
+        let own = u32::from(self.own % 16_384);
+        let peer = u32::from(self.peer % 16_384);
+        let link = (link % 16) as u32;
+        (peer + own * 16_384 + link * 268_435_456).to_le_bytes()
+    }
+
+    /// A message from this point to the other about a link.
+    fn message(self, indicator: u8, link: usize, content: &[u8]) -> Msu {
+        let mut sif = ArrayVec::new();
+        let label = self.label(link);
+        let _fits = sif.try_extend_from_slice(&label).is_ok();
+        let _whole = sif.try_extend_from_slice(content).is_ok();
+        Msu {
+            sio: self.network % 4 * 64 + indicator,
+            sif,
+        }
+    }
+
+    /// A message of changeover (Q.704, 15.4).
+    pub(crate) fn changeover(self, link: usize, kind: Kind) -> Msu {
+        match kind {
+            Kind::Order(accepted) => self.message(MANAGEMENT, link, &[0x11, accepted]),
+            Kind::Acknowledgement(accepted) => self.message(MANAGEMENT, link, &[0x21, accepted]),
+            Kind::EmergencyOrder => self.message(MANAGEMENT, link, &[0x12]),
+            Kind::EmergencyAcknowledgement => self.message(MANAGEMENT, link, &[0x22]),
+        }
+    }
+
+    /// The acknowledgement of a changeback declaration with this code (Q.704, 15.5).
+    pub(crate) fn declared_back(self, link: usize, code: u8) -> Msu {
+        self.message(MANAGEMENT, link, &[0x61, code])
+    }
+
+    /// Traffic restart allowed (Q.704, 15.16).
+    pub(crate) fn restart_allowed(self) -> Msu {
+        self.message(MANAGEMENT, 0, &[0x17])
+    }
+
+    /// A test of a link (Q.707, 2.2).
+    pub(crate) fn test(self, link: usize, pattern: Pattern) -> Msu {
+        let [a, b, c, d] = pattern;
+        self.message(TESTING, link, &[0x11, 0x40, a, b, c, d])
+    }
+
+    /// The answer to a test: its link, its length and its pattern once more.
+    pub(crate) fn test_answer(self, link: usize, test: &[u8]) -> Msu {
+        let mut content: ArrayVec<u8, 17> = ArrayVec::new();
+        let _heading = content.try_push(0x21).is_ok();
+        let _whole = content.try_extend_from_slice(test).is_ok();
+        self.message(TESTING, link, content.as_slice())
+    }
+}

@@ -1,0 +1,26 @@
+//! A link set that tends itself, round by round: links that are to be in service are started and tested, a changeover begins as one goes down and is
+//! carried through, and selections are shared out anew. Sequential, and in memory: whoever has lines hands over what comes and takes what is told.
+#![tactic(auto)]
+
+mod came;
+mod care;
+mod changing;
+mod ends;
+mod heeding;
+mod obeying;
+mod owing;
+mod resuming;
+mod round;
+mod sharing;
+mod starting;
+mod tender;
+mod testing;
+mod told;
+
+pub use ends::Ends;
+pub use link_group::{
+    Command, CommandError, Group, Label, LinkError, LinkState, Mode, Msu, Retrievals, SendError,
+    Terminal,
+};
+pub use tender::{TendError, Tender};
+pub use told::{SharedOut, Told};

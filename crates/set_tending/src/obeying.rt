@@ -1,0 +1,90 @@
+//! Orders.
+
+use crate::tender::Tender;
+use crate::told::Told;
+use link_group::{Command, CommandError, Label, Msu, RebalanceError, SendError};
+
+/// So many messages that a link holds leave no room for more.
+const MOST_HELD: usize = 256;
+
+/// So many octets that it holds do, 450 ms of a line: an order of changeover and its answer stand behind them.
+const MOST_OCTETS: usize = 3_000;
+
+impl Tender {
+    /// How many octets a link holds, or more than it may.
+    fn octets_held(&self, link: usize, held: usize) -> usize {
+        let mut octets: usize = 0;
+        for place in 0..held {
+            if let Some(msu) = self.set.held_at(link, place) {
+                octets = octets.saturating_add(msu.sif.len() + 1);
+            }
+        }
+        octets
+    }
+
+    /// Whether a link holds as much as it may.
+    fn is_full(&self, link: usize) -> bool {
+        let held = self.set.held(link).unwrap_or(0);
+        held >= MOST_HELD || self.octets_held(link, held) >= MOST_OCTETS
+    }
+
+    /// Takes a message to send, whose field begins with this label.
+    ///
+    /// # Errors
+    ///
+    /// `E1 Full` also where the link of its selection, which isn't in changeover, holds 256 messages or 3,000 octets; else those of
+    /// [`link_group::Group::send`]. Nothing changes then.
+    pub fn send(&mut self, label: Label, msu: Msu) -> Result<(), SendError> {
+        match self.set.link_of(label.sls) {
+            Some(link) if !self.set.in_changeover(link) && self.is_full(link) => {
+                Err(SendError::Full)
+            }
+            _ => self.set.send(label, msu),
+        }
+    }
+
+    /// Obeys an order to a link. A link that is to start is started once that is due.
+    ///
+    /// # Errors
+    ///
+    /// Those of [`link_group::Group::command`], and nothing changes then; none for Start.
+    pub fn obey(&mut self, link: usize, command: Command) -> Result<(), CommandError> {
+        if link >= self.set.len() {
+            return Err(CommandError::NoLink);
+        }
+        let at = link % 16;
+        match command {
+            Command::Start => {
+                self.cares[at] = self.cares[at].desired(self.now);
+                return Ok(());
+            }
+            Command::Stop => self.cares[at] = self.cares[at].let_be(),
+            _ => {}
+        }
+        self.set.command(link, command)?;
+        match command {
+            Command::PowerOn => self.cares[at].powered = true,
+            Command::Outage => self.cares[at].outage = true,
+            Command::Back => {
+                self.cares[at].outage = false;
+                self.cares[at].resumes = true;
+            }
+            _ => {}
+        }
+        Ok(())
+    }
+
+    /// Shares all selections out anew, as [`link_group::Group::rebalance`].
+    ///
+    /// # Errors
+    ///
+    /// The same. Nothing changes then.
+    pub fn rebalance(&mut self) -> Result<(), RebalanceError> {
+        self.set.rebalance()
+    }
+
+    /// The links of selections, as they are told.
+    pub fn shared_out(&self) -> Told {
+        Told::Shared(self.table())
+    }
+}

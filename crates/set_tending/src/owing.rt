@@ -1,0 +1,111 @@
+//! Messages that are owed to the other point.
+
+use crate::care::{Owed, PATIENCE};
+use crate::tender::{TendError, Tender};
+use crate::told::Told;
+use link_group::Msu;
+
+impl Tender {
+    /// Has a message that is bound to a link go by it. Whether that takes it.
+    pub(crate) fn send_by(&mut self, link: usize, msu: Msu) -> bool {
+        if !self.set.is_bound(&msu) {
+            return false;
+        }
+        self.set.send_by(link, msu).is_ok()
+    }
+
+    /// Whether a link takes messages about others: it is in service and not held, and no processor is out there.
+    fn may_take(&self, link: usize) -> bool {
+        match self.state(link) {
+            Some(state) => state.in_service && !state.held && !state.far_out && !state.own_out,
+            None => false,
+        }
+    }
+
+    /// The link that takes messages about this one and holds the fewest, if there is one. It isn't this one.
+    pub(crate) fn least_loaded(&self, about: usize) -> Option<usize> {
+        let mut best: Option<(usize, usize)> = None;
+        for link in 0..self.set.len() {
+            if link == about || !self.may_take(link) {
+                continue;
+            }
+            let held = self.set.held(link).unwrap_or(usize::MAX);
+            best = match best {
+                Some((least, at)) if least <= held => Some((least, at)),
+                _ => Some((held, link)),
+            };
+        }
+        best.map(|(_, link)| link)
+    }
+
+    /// Whether a link keeps a message.
+    fn keeps(&self, link: usize, msu: &Msu) -> bool {
+        let held = self.set.held(link).unwrap_or(0);
+        for place in 0..held {
+            match self.set.held_at(link, place) {
+                Some(kept) if kept == msu => return true,
+                _ => {}
+            }
+        }
+        false
+    }
+
+    /// What of a link's last message that went by another one is left to do: nothing where that was acknowledged.
+    fn owed_still(&self, about: usize, owed: Owed) -> Option<Owed> {
+        match owed.by {
+            Some(by) if !self.keeps(by, &self.ends.changeover(about, owed.kind)) => None,
+            _ => Some(owed),
+        }
+    }
+
+    /// A link went down: what went by it and wasn't acknowledged is owed again.
+    pub(crate) fn owe_again(&mut self, by: usize) {
+        for about in 0..self.set.len() {
+            let owed = match self.care(about).owed {
+                Some(owed) if owed.by == Some(by) => owed,
+                _ => continue,
+            };
+            let left = self.owed_still(about, owed);
+            self.cares[about % 16].owed = left.map(|it| Owed { by: None, ..it });
+        }
+    }
+
+    /// What is owed about a link, once what is over was dropped: each after 1,400 ticks, an order as its changeover ends, and what was
+    /// acknowledged.
+    fn owed_now(&self, about: usize) -> Option<Owed> {
+        let owed = self.care(about).owed?;
+        if self.now.saturating_sub(owed.since) >= PATIENCE {
+            return None;
+        }
+        if owed.is_order() && owed.waits() && !self.set.in_changeover(about) {
+            return None;
+        }
+        self.owed_still(about, owed)
+    }
+
+    /// Has what is owed about a link go by another one, where one takes it.
+    fn pay(&mut self, about: usize, owed: Owed) -> Result<Owed, TendError> {
+        let Some(by) = self.least_loaded(about) else {
+            return Ok(owed);
+        };
+        let msu = self.ends.changeover(about, owed.kind);
+        if !self.send_by(by, msu) {
+            return Ok(owed);
+        }
+        self.tell(Told::Says(about, owed.kind, by))?;
+        Ok(Owed {
+            by: Some(by),
+            ..owed
+        })
+    }
+
+    /// Sends what is owed about a link.
+    pub(crate) fn pay_owed(&mut self, about: usize) -> Result<(), TendError> {
+        let left = match self.owed_now(about) {
+            Some(owed) if owed.waits() => Some(self.pay(about, owed)?),
+            left => left,
+        };
+        self.cares[about % 16].owed = left;
+        Ok(())
+    }
+}

@@ -1,0 +1,65 @@
+//! A round.
+
+use crate::tender::{TendError, Tender};
+use link_group::CallError;
+use std::alloc::AllocError;
+use su_octets::Unit;
+
+impl Tender {
+    /// Takes line octets of a link: how many, up to one that finds no room or no memory.
+    pub fn line_in(&mut self, link: usize, octets: &[u8]) -> usize {
+        self.set.line_in(link, octets).unwrap_or(0)
+    }
+
+    /// The next unit of a link, if one is to go out.
+    pub fn unit_out(&mut self, link: usize) -> Result<Option<Unit>, AllocError> {
+        match self.set.unit_out(link) {
+            Ok(unit) => Ok(unit),
+            Err(_) => Err(AllocError),
+        }
+    }
+
+    /// Lets a tick pass.
+    ///
+    /// # Errors
+    ///
+    /// Where a terminal refuses it, or there is no memory.
+    pub fn tick(&mut self) -> Result<(), TendError> {
+        match self.set.tick(1) {
+            Ok(_) => {
+                self.now = self.now.saturating_add(1);
+                Ok(())
+            }
+            Err(CallError::NoMemory) => Err(TendError::NoMemory),
+            Err(CallError::Refused(_)) => Err(TendError::NoTick),
+        }
+    }
+
+    /// Does what is to be done for a link.
+    fn tend_link(&mut self, link: usize) -> Result<(), TendError> {
+        let Some(state) = self.state(link) else {
+            return Ok(());
+        };
+        self.stop_held(link, state)?;
+        self.change_over(link, state)?;
+        self.test(link, state)?;
+        self.resume(link, state)?;
+        self.pay_owed(link)?;
+        self.start(link)
+    }
+
+    /// Takes what links tell, and does what is to be done for them.
+    ///
+    /// # Errors
+    ///
+    /// Where there is no memory.
+    pub fn tend(&mut self) -> Result<(), TendError> {
+        self.heed_all()?;
+        for link in 0..self.set.len() {
+            self.tend_link(link)?;
+        }
+        self.restart();
+        self.share()?;
+        self.tell_shared()
+    }
+}

@@ -1,0 +1,241 @@
+//! Selections are shared out anew.
+
+use crate::tender::{TendError, Tender};
+use crate::told::{SharedOut, Told};
+use arrayvec::ArrayVec;
+use group_changeover::{label_of, pick};
+use link_group::{LinkState, Msu, RebalanceError};
+
+/// For so many ticks messages to send wait at most, so that links run empty.
+const DRAIN: u64 = 1_000;
+
+/// Then they don't, for so many ticks.
+const CALM: u64 = 5_000;
+
+/// How sharing out goes.
+#[derive(Clone, Copy, Debug, PartialEq, Eq)]
+pub enum Sharing {
+    /// Messages to send don't wait, and don't before this tick.
+    Rests(u64),
+    /// They wait, up to this tick.
+    Drains(u64),
+    /// All that is in the way is on links with a processor out, up to this tick.
+    Blocked(u64),
+}
+
+impl Sharing {
+    pub fn new() -> Sharing {
+        Sharing::Rests(0)
+    }
+}
+
+/// Whether a link may have selections.
+fn takes_part(state: LinkState) -> bool {
+    state.in_service && !state.held && state.admitted
+}
+
+fn has_outage(state: LinkState) -> bool {
+    state.far_out || state.own_out
+}
+
+/// The selection of a message; none where it has no label.
+fn selection_of(msu: &Msu) -> Option<u8> {
+    match label_of(msu) {
+        Some(label) => Some(label.sls),
+        None => None,
+    }
+}
+
+impl Tender {
+    /// Whether messages to send wait.
+    pub fn sends_wait(&self) -> bool {
+        matches!(self.sharing, Sharing::Drains(_))
+    }
+
+    /// The links that may have selections, with an outage or without.
+    fn able_by(&self, outage: bool) -> ArrayVec<usize, 16> {
+        let mut able = ArrayVec::new();
+        for link in 0..self.set.len() {
+            match self.state(link) {
+                Some(state) if takes_part(state) && has_outage(state) == outage => {
+                    let _fits = able.try_push(link).is_ok();
+                }
+                _ => {}
+            }
+        }
+        able
+    }
+
+    /// The links among which selections are to be shared out.
+    fn able(&self) -> ArrayVec<usize, 16> {
+        let able = self.able_by(false);
+        if able.is_empty() {
+            self.able_by(true)
+        } else {
+            able
+        }
+    }
+
+    /// Whether a changeover goes on.
+    fn is_changing(&self) -> bool {
+        for link in 0..self.set.len() {
+            if self.set.in_changeover(link) {
+                return true;
+            }
+        }
+        false
+    }
+
+    /// Whether a link counts as one that failed, though it may have selections.
+    fn any_failed(&self, able: &[usize]) -> bool {
+        for link in able {
+            match self.state(*link) {
+                Some(state) if state.failed => return true,
+                _ => {}
+            }
+        }
+        false
+    }
+
+    /// The links of selections.
+    pub(crate) fn table(&self) -> SharedOut {
+        let mut table = [None; 16];
+        for selection in 0..16u8 {
+            table[usize::from(selection % 16)] = self.set.link_of(selection);
+        }
+        table
+    }
+
+    /// Tells the links of selections, where they are others than were told last.
+    pub(crate) fn tell_shared(&mut self) -> Result<(), TendError> {
+        let table = self.table();
+        if table == self.shared {
+            return Ok(());
+        }
+        self.shared = table;
+        self.tell(Told::Shared(table))
+    }
+
+    /// Whether all selections have the links that they are to have.
+    fn is_even(&self, able: &[usize]) -> bool {
+        for selection in 0..16u8 {
+            if self.set.link_of(selection) != pick(able, selection) {
+                return false;
+            }
+        }
+        !self.any_failed(able)
+    }
+
+    /// Whether a link holds a message of a selection that is to have another link.
+    fn is_in_way(&self, link: usize, able: &[usize]) -> bool {
+        let held = self.set.held(link).unwrap_or(0);
+        for place in 0..held {
+            let Some(selection) = self.set.held_at(link, place).and_then(selection_of) else {
+                continue;
+            };
+            if self.set.link_of(selection) == Some(link) && pick(able, selection) != Some(link) {
+                return true;
+            }
+        }
+        false
+    }
+
+    /// The links that hold messages of selections which are to have another one.
+    fn in_way(&self, able: &[usize]) -> ArrayVec<usize, 16> {
+        let mut links = ArrayVec::new();
+        for link in 0..self.set.len() {
+            if self.is_in_way(link, able) {
+                let _fits = links.try_push(link).is_ok();
+            }
+        }
+        links
+    }
+
+    /// Whether each of these links has a processor out.
+    fn all_out(&self, links: &[usize]) -> bool {
+        for link in links {
+            match self.state(*link) {
+                Some(state) if !has_outage(state) => return false,
+                _ => {}
+            }
+        }
+        true
+    }
+
+    /// Whether a link but these carries messages.
+    fn another_carries(&self, links: &[usize]) -> bool {
+        for link in 0..self.set.len() {
+            match self.state(link) {
+                Some(state) if state.carrying && state.admitted && !links.contains(&link) => {
+                    return true;
+                }
+                _ => {}
+            }
+        }
+        false
+    }
+
+    /// Changeover begins for links whose messages wait behind an outage.
+    fn leave(&mut self, links: &[usize]) -> Result<(), TendError> {
+        for link in links {
+            self.begin_changeover(*link)?;
+        }
+        Ok(())
+    }
+
+    /// What is done where messages are in the way.
+    fn drain(&mut self, able: &[usize]) -> Result<(), TendError> {
+        let links = self.in_way(able);
+        if self.all_out(links.as_slice()) {
+            return self.wait_for(links.as_slice());
+        }
+        self.sharing = match self.sharing {
+            Sharing::Rests(since) if self.now < since => Sharing::Rests(since),
+            Sharing::Drains(end) if self.now < end => Sharing::Drains(end),
+            Sharing::Drains(_) => Sharing::Rests(self.now.saturating_add(CALM)),
+            Sharing::Rests(_) | Sharing::Blocked(_) => {
+                Sharing::Drains(self.now.saturating_add(DRAIN))
+            }
+        };
+        Ok(())
+    }
+
+    /// What is done where all that is in the way is on links with a processor out.
+    fn wait_for(&mut self, links: &[usize]) -> Result<(), TendError> {
+        let end = match self.sharing {
+            Sharing::Blocked(end) => end,
+            Sharing::Rests(_) | Sharing::Drains(_) => self.now.saturating_add(DRAIN),
+        };
+        self.sharing = Sharing::Blocked(end);
+        if self.now < end || !self.another_carries(links) {
+            return Ok(());
+        }
+        self.sharing = Sharing::Rests(0);
+        self.leave(links)
+    }
+
+    /// Sharing out is over, or has nothing to do: no message to send waits.
+    fn settle(&mut self) {
+        match self.sharing {
+            Sharing::Rests(_) => {}
+            Sharing::Drains(_) | Sharing::Blocked(_) => self.sharing = Sharing::Rests(0),
+        }
+    }
+
+    /// Shares selections out anew, where that is wanted and may be.
+    pub(crate) fn share(&mut self) -> Result<(), TendError> {
+        let able = self.able();
+        if able.is_empty() || self.is_changing() || self.is_even(able.as_slice()) {
+            self.settle();
+            return Ok(());
+        }
+        match self.set.rebalance() {
+            Ok(()) => {
+                self.settle();
+                Ok(())
+            }
+            Err(RebalanceError::NotEmpty) => self.drain(able.as_slice()),
+            Err(RebalanceError::Waiting) => Ok(()),
+        }
+    }
+}

@@ -1,0 +1,115 @@
+//! What is told.
+
+use group_changeover::Kind;
+use link_group::Msu;
+use std::fmt;
+
+/// The link of each selection.
+pub type SharedOut = [Option<usize>; 16];
+
+/// What a set tells.
+#[derive(Debug, Drop, PartialEq, Eq)]
+pub enum Told {
+    /// A link came into service.
+    InService(usize),
+    /// A link went down, for the reason that its actor numbers so.
+    Down(usize, i32),
+    /// The processor at its far side is out.
+    FarOut(usize),
+    /// It is back.
+    FarBack(usize),
+    /// A message for level 3 came by a link.
+    Message(usize, Msu),
+    /// A link was started.
+    Started(usize),
+    /// Its changeover began.
+    Changeover(usize),
+    /// Something of changeover is said of a link, by another.
+    Says(usize, Kind, usize),
+    /// Something of changeover was heard of a link, by another.
+    Hears(usize, Kind, usize),
+    /// So many messages of a link may have arrived or not.
+    Unsure(usize, usize),
+    /// So many messages of a link went to others, or back to it.
+    Diverted(usize, usize),
+    /// A link was tested, and is admitted.
+    Tested(usize),
+    /// Selections have other links.
+    Shared(SharedOut),
+}
+
+/// A kind of message of changeover, as it is told.
+struct Named(Kind);
+
+impl fmt::Display for Named {
+    fn fmt<W: fmt::Write>(&self, f: &mut fmt::Formatter<W>) -> fmt::Result {
+        match self.0 {
+            Kind::Order(accepted) => write!(f, "COO {accepted}"),
+            Kind::Acknowledgement(accepted) => write!(f, "COA {accepted}"),
+            Kind::EmergencyOrder => f.write_str("ECO"),
+            Kind::EmergencyAcknowledgement => f.write_str("ECA"),
+        }
+    }
+}
+
+/// A message in hexadecimal digits, its service information octet first.
+struct Digits<'a>(&'a Msu);
+
+impl fmt::Display for Digits<'_> {
+    fn fmt<W: fmt::Write>(&self, f: &mut fmt::Formatter<W>) -> fmt::Result {
+        let sio = self.0.sio;
+        write!(f, "{sio:02X}")?;
+        for octet in self.0.sif.as_slice() {
+            let octet = *octet;
+            write!(f, "{octet:02X}")?;
+        }
+        Ok(())
+    }
+}
+
+/// The links of all selections.
+struct Links<'a>(&'a SharedOut);
+
+impl fmt::Display for Links<'_> {
+    fn fmt<W: fmt::Write>(&self, f: &mut fmt::Formatter<W>) -> fmt::Result {
+        for link in self.0 {
+            match *link {
+                Some(link) => write!(f, " {link}")?,
+                None => f.write_str(" -")?,
+            }
+        }
+        Ok(())
+    }
+}
+
+impl fmt::Display for Told {
+    fn fmt<W: fmt::Write>(&self, f: &mut fmt::Formatter<W>) -> fmt::Result {
+        match self {
+            Told::InService(link) => write!(f, "{link} in service"),
+            Told::Down(link, reason) => write!(f, "{link} down {reason}"),
+            Told::FarOut(link) => write!(f, "{link} far out"),
+            Told::FarBack(link) => write!(f, "{link} far back"),
+            Told::Message(link, msu) => {
+                let digits = Digits(msu);
+                write!(f, "{link} message {digits}")
+            }
+            Told::Started(link) => write!(f, "{link} started"),
+            Told::Changeover(link) => write!(f, "{link} changeover"),
+            Told::Says(link, kind, by) => {
+                let named = Named(*kind);
+                write!(f, "{link} says {named} by {by}")
+            }
+            Told::Hears(link, kind, by) => {
+                let named = Named(*kind);
+                write!(f, "{link} hears {named} by {by}")
+            }
+            Told::Unsure(link, count) => write!(f, "{link} unsure {count}"),
+            Told::Diverted(link, count) => write!(f, "{link} diverted {count}"),
+            Told::Tested(link) => write!(f, "{link} tested"),
+            Told::Shared(shared) => {
+                let links = Links(shared);
+                write!(f, "shared{links}")
+            }
+        }
+    }
+}
