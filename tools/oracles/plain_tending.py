@@ -73,7 +73,7 @@ class Terminal(Link):
         if signal == "LocalOut" and self.phase in ("aligning", "ready", "in"):
             self.own_out, self.paused, self.kind = True, True, 4 if self.phase == "in" else self.kind
         if signal == "LocalBack":
-            self.own_out, self.kind = False, 8 if self.phase == "in" else self.kind
+            self.own_out, self.paused, self.kind = False, self.paused and self.phase == "in", 8 if self.phase == "in" else self.kind
         if signal == "Continue" and not self.far_out and not self.own_out:
             self.paused = False
 
@@ -175,7 +175,7 @@ class Line:
 
 class Care:
     def __init__(self):
-        self.powered = self.wanted = self.serves = self.served = self.started = self.stopping = self.outage = self.resumes = False
+        self.powered = self.wanted = self.serves = self.served = self.started = self.stopping = self.outage = False
         self.rested, self.due, self.owed, self.test, self.tests, self.patience = 0, None, None, ("rests", 0), 0, PATIENCE
 
 
@@ -210,12 +210,10 @@ class Tender:
         if signal == "InServiceNow":
             care.serves = care.served = True
             care.test = ("rests", self.now)
-        elif signal == "RemoteBack":
-            care.resumes = True
         elif signal == "Down":
             if self.tested:
                 self.set.admit(at, False)
-            served, care.serves, care.started, care.stopping, care.resumes = care.serves, False, False, False, False
+            served, care.serves, care.started, care.stopping = care.serves, False, False, False
             care.rested = self.now + REST
             care.due = care.rested if care.wanted else None
             for about, other in enumerate(self.cares):
@@ -308,11 +306,8 @@ class Tender:
             self.change_over(at, link, care)
         if self.tested and link.serves and not link.is_held:
             self.test(at, link, care)
-        if care.resumes and not link.far_out and not link.own_out:
-            if not link.serves or link.is_held or link.carries():
-                care.resumes = False
-            else:
-                self.set.command(at, "LSC", "Continue")
+        if link.is_able() and not link.has_outage() and not link.carries():
+            self.set.command(at, "LSC", "Continue")
         self.pay(at, care)
         self.start(at, link, care)
 
@@ -445,7 +440,6 @@ class Tender:
     def outage(self, at, way):
         self.set.command(at, "LSC", "LocalOut" if way else "LocalBack")
         self.cares[at].outage = way
-        self.cares[at].resumes = self.cares[at].resumes or not way
 
     def waits(self):
         return self.sharing[0] == "drains"

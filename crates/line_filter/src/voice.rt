@@ -57,8 +57,8 @@ impl Voice {
         }
     }
 
-    /// The first octet of a unit.
-    fn begin(&mut self, unit: &Unit) -> u8
+    /// The first octet of a unit, where none is under way.
+    pub fn begin(&mut self, unit: &Unit) -> u8
         requires { IsWhole unit.now }
         ensures { Stuffs self.old.sending unit.now (result ∷ self.new.ready) self.new.sending }
     {
@@ -67,8 +67,8 @@ impl Voice {
         self.ready[0]
     }
 
-    /// The octet that ends with 1s.
-    fn fall_silent(&mut self) -> u8
+    /// The octet that ends with 1s, where no unit is under way.
+    pub fn fall_silent(&mut self) -> u8
         ensures fills { Fills self.old.sending result self.new.sending }
         ensures ready { self.new.ready ≡ self.old.ready }
     {
@@ -88,17 +88,6 @@ impl Voice {
             return Some(octet);
         }
         None
-    }
-
-    /// The first octet that goes out for a unit, where none is under way; for none the octet that ends with 1s.
-    pub fn say(&mut self, unit: Option<&Unit>) -> u8
-        requires none { self.old.ready ≡ [] }
-        requires whole { IfSome unit.now (λ u. IsWhole u.now) }
-    {
-        match unit {
-            Some(unit) => self.begin(unit),
-            None => self.fall_silent(),
-        }
     }
 
     /// The octet that goes out next. The terminal is asked for a unit only where none is under way.

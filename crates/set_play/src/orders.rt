@@ -87,9 +87,9 @@ pub fn set_order_in<'a>(alloc: Global, line: &'a str) -> Result<Option<SetOrder<
     let words = words_in(alloc, line)?;
     match words.as_slice() {
         [word] => Ok(word_in(word)),
-        [first, word] => pair_in(alloc, first, word),
+        [first, word] => pair_in(alloc, first, *word),
         [first, process, variable] if *first == "value" => {
-            Ok(Some(SetOrder::Value(process, variable)))
+            Ok(Some(SetOrder::Value(*process, *variable)))
         }
         _ => Ok(None),
     }

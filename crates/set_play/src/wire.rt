@@ -62,8 +62,8 @@ impl Wire {
             return Ok(octet);
         }
         match tender.unit_out(link)? {
-            Some(unit) => Ok(self.voice.say(Some(&unit))),
-            None => Ok(self.voice.say(None)),
+            Some(unit) => Ok(self.voice.begin(&unit)),
+            None => Ok(self.voice.fall_silent()),
         }
     }
 

@@ -32,7 +32,6 @@ fallen now c = record c {
   serves = false;
   started = false;
   stopping = false;
-  resumes = false;
   rested = later now REST;
   due = due_if c.wanted (later now REST);
 }

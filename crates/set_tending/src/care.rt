@@ -2,8 +2,12 @@
 
 use group_changeover::Kind;
 
-/// For so many ticks a message about a link is owed, a Start that is due waits, and an answer is waited for (Q.704's T2).
+/// For so many ticks in which another link would take it a message about a link is owed, and its answer waited for; a Start that is due waits for so many
+/// at most (Q.704's T2).
 pub const PATIENCE: u64 = 1_400;
+
+/// So many ticks behind the beginning of a changeover it isn't waited for another link any more: as long as one takes to come into service.
+pub const LONGEST: u64 = 14_000;
 
 /// So many ticks behind its last Down a link may be started (Q.704's T17).
 pub const REST: u64 = 1_000;
@@ -13,8 +17,8 @@ pub const REST: u64 = 1_000;
 pub struct Owed {
     /// What is said.
     pub kind: Kind,
-    /// The tick at which it fell due.
-    pub since: u64,
+    /// For how many ticks more it is owed, of those in which another link would take it.
+    pub left: u64,
     /// The link by which it went, where it did.
     pub by: Option<usize>,
 }
@@ -51,8 +55,8 @@ pub struct Care {
     pub due: Option<u64>,
     /// This side's processor is out, as was ordered.
     pub outage: bool,
-    /// Messages are to go on behind an outage.
-    pub resumes: bool,
+    /// For how many ticks more the answer of its changeover is waited for, of those in which another link carries messages about it.
+    pub patience: u64,
     /// What is to be said of it.
     pub owed: Option<Owed>,
     /// Its test.
@@ -91,7 +95,7 @@ impl Care {
             rested: 0,
             due: None,
             outage: false,
-            resumes: false,
+            patience: PATIENCE,
             owed: None,
             test: Testing::Rests(0),
             tests: 0,
@@ -116,7 +120,6 @@ impl Care {
             serves: false,
             started: false,
             stopping: false,
-            resumes: false,
             rested,
             due: if self.wanted { Some(rested) } else { None },
             ..self
@@ -144,6 +147,19 @@ impl Care {
             due: None,
             ..self
         }
+    }
+
+    /// Its changeover begins.
+    pub fn changing(self) -> Care {
+        Care {
+            patience: PATIENCE,
+            ..self
+        }
+    }
+
+    /// Whether it is on its way into service: it was started, or is to be.
+    pub fn is_coming(self) -> bool {
+        self.started || self.due.is_some()
     }
 
     /// Since which tick its Start has been due, where it is.

@@ -1,10 +1,10 @@
 //! Changeover of links, step by step.
 
-use crate::care::PATIENCE;
+use crate::care::{LONGEST, PATIENCE};
 use crate::tender::{TendError, Tender};
 use crate::told::Told;
 use group_changeover::{Answer, read_changeover};
-use link_group::{AbandonError, Command, LinkState, RetrieveError, Retrieved};
+use link_group::{AbandonError, Command, DivertError, LinkState, RetrieveError, Retrieved};
 
 impl Tender {
     /// A changeover begins, unless it goes on, and its order is owed.
@@ -12,6 +12,7 @@ impl Tender {
         let Ok(sif) = self.set.fail(link) else {
             return Ok(());
         };
+        self.keep(link, self.care(link).changing());
         if let Some(order) = read_changeover(sif.as_slice()) {
             self.owe(link, order.kind);
         }
@@ -90,8 +91,8 @@ impl Tender {
                 let count = self.care(link).handed;
                 self.tell(Told::Diverted(link, count))
             }
-            Err(error) => {
-                self.put_hand(error.rest);
+            Err(DivertError { fault: _, rest }) => {
+                self.put_hand(rest);
                 Ok(())
             }
         }

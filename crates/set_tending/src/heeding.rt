@@ -1,11 +1,11 @@
 //! What links tell.
 
 use crate::came::Came;
-use crate::care::{Owed, Testing};
+use crate::care::{Owed, PATIENCE, Testing};
 use crate::tender::{TendError, Tender};
 use crate::told::Told;
 use group_changeover::{Hearing, Kind, read_changeover};
-use link_group::{LinkStatus, Msu, Report};
+use link_group::{Heard, LinkStatus, Msu, Report};
 
 /// How many ticks lie between two tests of a link (Q.707's T2: 30 to 90 s).
 const BETWEEN_TESTS: u64 = 60_000;
@@ -41,10 +41,7 @@ impl Tender {
             }
             LinkStatus::Down(reason) => self.go_down(link, reason),
             LinkStatus::RemoteOut => self.tell(Told::FarOut(link)),
-            LinkStatus::RemoteBack => {
-                self.cares[link % 16].resumes = true;
-                self.tell(Told::FarBack(link))
-            }
+            LinkStatus::RemoteBack => self.tell(Told::FarBack(link)),
             LinkStatus::Cleared => Ok(()),
         }
     }
@@ -102,13 +99,14 @@ impl Tender {
             }
             return Ok(());
         }
-        let heard = self.set.changeover_message(msu.sif.as_slice());
-        if heard.hearing == Hearing::Began {
+        let Heard { hearing, reply } = self.set.changeover_message(msu.sif.as_slice());
+        if hearing == Hearing::Began {
+            self.keep(about, self.care(about).changing());
             self.tell(Told::Changeover(about))?;
         }
-        if let Some(sif) = heard.reply {
-            if let Some(reply) = read_changeover(sif.as_slice()) {
-                self.owe(about, reply.kind);
+        if let Some(sif) = reply {
+            if let Some(answer) = read_changeover(sif.as_slice()) {
+                self.owe(about, answer.kind);
             }
         }
         Ok(())
@@ -153,7 +151,7 @@ impl Tender {
     pub(crate) fn owe(&mut self, link: usize, kind: Kind) {
         self.cares[link % 16].owed = Some(Owed {
             kind,
-            since: self.now,
+            left: PATIENCE,
             by: None,
         });
     }

@@ -65,10 +65,7 @@ impl Tender {
         match command {
             Command::PowerOn => self.cares[at].powered = true,
             Command::Outage => self.cares[at].outage = true,
-            Command::Back => {
-                self.cares[at].outage = false;
-                self.cares[at].resumes = true;
-            }
+            Command::Back => self.cares[at].outage = false,
             _ => {}
         }
         Ok(())

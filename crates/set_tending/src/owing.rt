@@ -1,6 +1,6 @@
 //! Messages that are owed to the other point.
 
-use crate::care::{Owed, PATIENCE};
+use crate::care::Owed;
 use crate::tender::{TendError, Tender};
 use crate::told::Told;
 use link_group::Msu;
@@ -35,7 +35,10 @@ impl Tender {
                 _ => Some((held, link)),
             };
         }
-        best.map(|(_, link)| link)
+        match best {
+            Some((_, link)) => Some(link),
+            None => None,
+        }
     }
 
     /// Whether a link keeps a message.
@@ -70,11 +73,23 @@ impl Tender {
         }
     }
 
-    /// What is owed about a link, once what is over was dropped: each after 1,400 ticks, an order as its changeover ends, and what was
-    /// acknowledged.
+    /// The same a tick later.
+    fn waited(&self, about: usize, owed: Owed) -> Owed {
+        if self.least_loaded(about).is_some() {
+            Owed {
+                left: owed.left.saturating_sub(1),
+                ..owed
+            }
+        } else {
+            owed
+        }
+    }
+
+    /// What is owed about a link a tick later, once what is over was dropped: each after 1,400 ticks in which another link would take it, an order
+    /// as its changeover ends, and what was acknowledged.
     fn owed_now(&self, about: usize) -> Option<Owed> {
-        let owed = self.care(about).owed?;
-        if self.now.saturating_sub(owed.since) >= PATIENCE {
+        let owed = self.waited(about, self.care(about).owed?);
+        if owed.left == 0 {
             return None;
         }
         if owed.is_order() && owed.waits() && !self.set.in_changeover(about) {

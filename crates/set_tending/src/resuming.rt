@@ -4,17 +4,12 @@ use crate::tender::{TendError, Tender};
 use link_group::{Command, LinkState};
 
 impl Tender {
-    /// Behind an outage of a processor a link is told to go on, until it carries messages, is held or out of service.
+    /// A link that carries no messages though it is in service and not held, and no processor is out, is told to go on: an outage has ended.
     pub(crate) fn resume(&mut self, link: usize, state: LinkState) -> Result<(), TendError> {
-        let at = link % 16;
-        if !self.cares[at].resumes || state.far_out || state.own_out {
-            return Ok(());
+        let is_able = state.in_service && !state.held && !state.far_out && !state.own_out;
+        if is_able && !state.carrying {
+            let _taken = self.command(link, Command::Continue)?;
         }
-        if !state.in_service || state.held || state.carrying {
-            self.cares[at].resumes = false;
-            return Ok(());
-        }
-        let _taken = self.command(link, Command::Continue)?;
         Ok(())
     }
 

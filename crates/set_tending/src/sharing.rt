@@ -126,11 +126,19 @@ impl Tender {
         !self.any_failed(able)
     }
 
+    /// The selection of a message that a link holds.
+    fn selection_at(&self, link: usize, place: usize) -> Option<u8> {
+        match self.set.held_at(link, place) {
+            Some(msu) => selection_of(msu),
+            None => None,
+        }
+    }
+
     /// Whether a link holds a message of a selection that is to have another link.
     fn is_in_way(&self, link: usize, able: &[usize]) -> bool {
         let held = self.set.held(link).unwrap_or(0);
         for place in 0..held {
-            let Some(selection) = self.set.held_at(link, place).and_then(selection_of) else {
+            let Some(selection) = self.selection_at(link, place) else {
                 continue;
             };
             if self.set.link_of(selection) == Some(link) && pick(able, selection) != Some(link) {

@@ -39,6 +39,7 @@ pub enum Told {
 }
 
 /// A kind of message of changeover, as it is told.
+#[derive(Drop)]
 struct Named(Kind);
 
 impl fmt::Display for Named {
@@ -53,6 +54,7 @@ impl fmt::Display for Named {
 }
 
 /// A message in hexadecimal digits, its service information octet first.
+#[derive(Drop)]
 struct Digits<'a>(&'a Msu);
 
 impl fmt::Display for Digits<'_> {
@@ -68,6 +70,7 @@ impl fmt::Display for Digits<'_> {
 }
 
 /// The links of all selections.
+#[derive(Drop)]
 struct Links<'a>(&'a SharedOut);
 
 impl fmt::Display for Links<'_> {
