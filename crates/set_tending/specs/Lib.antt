@@ -2,4 +2,6 @@ pub mod Calling
 pub mod Came
 pub mod Cares
 pub mod Ends
+pub mod Rounds
 pub mod Telling
+pub mod Tended

@@ -1,5 +1,5 @@
 -- Which of the messages that came are told, and in which order.
-use Rattle.std.specs.Prelude.{◌≡◌, ℕ, List, [], ◌∷◌, ◌++◌, Option, Some, None, Bool, true, false, filter}
+use Rattle.std.specs.Prelude.{ℕ, List, [], ◌∷◌, ◌++◌, Bool, true, false, nat_le}
 use Rattle.resend_store.specs.declared.messages.Msu.{Msu}
 use Rattle.set_tending.specs.Came.{came}
 use Rattle.set_tending.specs.declared.came.Came.{Came}
@@ -13,7 +13,7 @@ use Rattle.set_tending.specs.declared.told.Told.TheVariants as told
 abbrev pub is_for_user_by : ℕ → Came → Bool
 is_for_user_by links Message = true
 is_for_user_by links (Changeover about kind) = false
-is_for_user_by links (Declaration about code) = false
+is_for_user_by links (Declaration about code) = nat_le links about
 is_for_user_by links (Test about) = false
 is_for_user_by links (Answer about) = false
 
