@@ -2,7 +2,7 @@
 
 use crate::set_lines::SetLines;
 use crate::sets::own_set;
-use line_filter::LineOrders;
+use line_filter::{LineOrders, Orders};
 use line_streams::{OrderStream, ReportStream, open_orders, open_reports};
 use mtp2_words::{Named, SetEnd};
 use plain_text::{Errors, FAILED, HELD, NamedReader, Teller};
@@ -25,7 +25,7 @@ const LATE: u64 = 4;
 
 /// Waits until a round is due, counted from the beginning. Whether it is late.
 fn wait<R: Clock>(rt: &R, begin: Instant, round: u64) -> io::Result<bool> {
-    let gone = begin.elapsed(rt)?.as_millis() as u64;
+    let gone = u64::try_from(begin.elapsed(rt)?.as_millis()).unwrap_or(u64::MAX);
     if gone < round {
         thread::sleep(rt, Duration::from_millis(round - gone));
         return Ok(false);
@@ -34,7 +34,7 @@ fn wait<R: Clock>(rt: &R, begin: Instant, round: u64) -> io::Result<bool> {
 }
 
 /// Round after round, each due with a millisecond of the clock, up to `quit` or the end of all lines.
-fn go_round<H: Clock + AllocGlobal, L: Lines, O: line_filter::Orders, P: Write>(
+fn go_round<H: Clock + AllocGlobal, L: Lines, O: Orders, P: Write>(
     host: &H,
     desk: &mut SetDesk<O, P>,
     lines: &mut L,

@@ -32,14 +32,14 @@ TESTING = 1
 -- behind the label, in decimal: changeback acknowledgement 97 and the code that came, traffic
 -- restart allowed 23, a test 17 with four octets, whose number stands in the upper half of an octet,
 -- and the answer to a test 33, with what stood behind the test's heading
-abbrev pub declared_back : ℕ → List ℕ
-declared_back code = 97 ∷ code ∷ []
+abbrev pub back_declared : ℕ → List ℕ
+back_declared code = 97 ∷ code ∷ []
 
-abbrev pub restart_allowed : List ℕ
-restart_allowed = 23 ∷ []
+abbrev pub restarting : List ℕ
+restarting = 23 ∷ []
 
-abbrev pub test : List ℕ → List ℕ
-test pattern = 17 ∷ 64 ∷ pattern
+abbrev pub testing : List ℕ → List ℕ
+testing pattern = 17 ∷ 64 ∷ pattern
 
-abbrev pub test_answer : List ℕ → List ℕ
-test_answer behind_heading = 33 ∷ behind_heading
+abbrev pub answering : List ℕ → List ℕ
+answering behind_heading = 33 ∷ behind_heading
