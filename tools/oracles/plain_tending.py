@@ -208,7 +208,7 @@ class Tender:
         care = self.cares[at]
         self.tell(f"{at} {signal}")
         if signal == "InServiceNow":
-            care.serves = care.served = True
+            care.serves, care.served, care.owed = True, True, None
             care.test = ("rests", self.now)
         elif signal == "Down":
             if self.tested:

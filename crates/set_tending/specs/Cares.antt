@@ -18,9 +18,10 @@ LAST = 2 ^ 64 - 1
 abbrev pub later : ℕ → ℕ → ℕ
 later now ticks = min LAST (now + ticks)
 
--- it comes into service: its test begins now
+-- it comes into service: its test begins now, and what was to be said of it speaks of numbers that
+-- are no more
 unfoldable pub risen : ℕ → Care → Care
-risen now c = record c { serves = true; served = true; test = Rests now }
+risen now c = record c { serves = true; served = true; owed = None; test = Rests now }
 
 abbrev pub due_if : Bool → ℕ → Option ℕ
 due_if true at = Some at

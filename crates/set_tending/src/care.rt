@@ -103,11 +103,12 @@ impl Care {
         }
     }
 
-    /// It comes into service.
+    /// It comes into service. What was to be said of it speaks of numbers that are no more.
     pub fn risen(self, now: u64) -> Care {
         Care {
             serves: true,
             served: true,
+            owed: None,
             test: Testing::Rests(now),
             ..self
         }

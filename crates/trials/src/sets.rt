@@ -3,7 +3,7 @@
 use crate::calls::Stopped;
 use link_standard::{Verified, standard};
 use std::alloc::Global;
-use trials_groups::{Stopped as SetStopped, make_calls, run_sets};
+use trials_groups::{Stopped as SetStopped, make_calls, run_sets, run_tended};
 
 /// Why a trial of sets stopped.
 pub fn why_stopped(stopped: SetStopped) -> Stopped {
@@ -26,6 +26,12 @@ pub fn standard_set(alloc: Global) -> Result<Verified, Stopped> {
 pub fn make_sets(alloc: Global, text: &mut String, runs: &str) -> Result<(), Stopped> {
     let set = standard_set(alloc)?;
     run_sets(alloc, text, &set, runs).map_err(why_stopped)
+}
+
+/// Makes runs of two sets that tend themselves, and writes what came of each.
+pub fn make_tended(alloc: Global, text: &mut String, runs: &str) -> Result<(), Stopped> {
+    let set = standard_set(alloc)?;
+    run_tended(alloc, text, &set, runs).map_err(why_stopped)
 }
 
 /// Makes each public call of a set, and writes what it answers.

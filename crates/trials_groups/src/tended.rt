@@ -66,43 +66,64 @@ fn ties(alloc: Global, run: TendedRun) -> Result<Vec<Tie>, Stopped> {
     Ok(ties)
 }
 
-/// Writes what went one way.
-fn write_way(
-    text: &mut String,
-    way: &str,
-    from: &TendedEnd,
-    to: &TendedEnd,
-) -> Result<(), Stopped> {
+/// How many messages never came.
+fn missing(from: &TendedEnd, to: &TendedEnd) -> u64 {
+    let came = to.counts.came.saturating_sub(to.counts.wrong);
+    u64::from(from.counts.sent.saturating_sub(came))
+}
+
+/// What is to be said of one way.
+fn verdict(from: &TendedEnd, to: &TendedEnd) -> &'static str {
+    if to.counts.wrong > 0 {
+        "WRONG: some came twice or out of order"
+    } else if missing(from, to) > from.unsure {
+        "WRONG: more are missing than are unsure"
+    } else {
+        "each once or unsure, in order"
+    }
+}
+
+/// What is to be said of an end when all is over.
+fn end_verdict(end: &TendedEnd) -> &'static str {
+    if end.is_whole() { "whole" } else { "STUCK" }
+}
+
+/// Writes how many messages went one way.
+fn write_sums(text: &mut String, from: &TendedEnd, to: &TendedEnd) -> Result<(), Stopped> {
     let sent = from.counts.sent;
     let came = to.counts.came;
     let wrong = to.counts.wrong;
+    let missing = missing(from, to);
     let unsure = from.unsure;
-    let missing = u64::from(sent).saturating_sub(u64::from(came.saturating_sub(wrong)));
     let refused = from.refused;
     let changeovers = from.changeovers;
     let silences = from.silences;
-    let verdict = if wrong > 0 {
-        "WRONG"
-    } else if missing > unsure {
-        "LOST"
-    } else {
-        "right"
-    };
-    let stuck = if from.is_whole() { "whole" } else { "STUCK" };
     writeln!(
         text,
-        "  {way}: sent {sent} came {came} wrong {wrong} missing {missing} unsure {unsure} refused {refused} changeovers {changeovers} silences {silences}: {verdict}, {stuck}"
+        "    sent {sent} came {came} wrong {wrong} missing {missing} unsure {unsure} refused {refused} changeovers {changeovers} silences {silences}"
     )?;
     Ok(())
 }
 
-fn write_run(
+/// Writes what went one way, and how the end is from which it went.
+fn write_way(
     text: &mut String,
-    line: &str,
-    faults: Faults,
-    near: &TendedEnd,
-    far: &TendedEnd,
+    way: &str,
+    run: TendedRun,
+    from: &TendedEnd,
+    to: &TendedEnd,
 ) -> Result<(), Stopped> {
+    let verdict = verdict(from, to);
+    let end = end_verdict(from);
+    writeln!(text, "  {way}: {verdict}; {end}")?;
+    if run.sums {
+        write_sums(text, from, to)?;
+    }
+    Ok(())
+}
+
+/// Writes what befell the lines.
+fn write_faults(text: &mut String, faults: Faults) -> Result<(), Stopped> {
     let Faults {
         cuts,
         one_way,
@@ -112,10 +133,26 @@ fn write_run(
     } = faults;
     writeln!(
         text,
-        "{line}: cuts {cuts} one way {one_way} noises {noises} stalls {stalls} total {totals}"
+        "    cuts {cuts} one way {one_way} noises {noises} stalls {stalls} all {totals}"
     )?;
-    write_way(text, "near to far", near, far)?;
-    write_way(text, "far to near", far, near)
+    Ok(())
+}
+
+/// Writes what came of a run.
+fn write_run(
+    text: &mut String,
+    line: &str,
+    run: TendedRun,
+    faults: Faults,
+    near: &TendedEnd,
+    far: &TendedEnd,
+) -> Result<(), Stopped> {
+    writeln!(text, "{line}")?;
+    if run.sums {
+        write_faults(text, faults)?;
+    }
+    write_way(text, "near to far", run, near, far)?;
+    write_way(text, "far to near", run, far, near)
 }
 
 fn run_both(
@@ -132,7 +169,7 @@ fn run_both(
         out: Vec::new(alloc),
     };
     let faults = make_tended_rounds(text, near, far, ties.as_mut_slice(), &mut parts, run)?;
-    write_run(text, line, faults, near, far)
+    write_run(text, line, run, faults, near, far)
 }
 
 fn run_with(
@@ -153,18 +190,8 @@ fn run_with(
     made
 }
 
-/// Makes the run of a line: `basic` or `cyclic`, how many links, the seed, for how many seconds faults come, how many milliseconds lie between two of them,
-/// how many messages a second each end is given; then, as is wanted, `fifo`, `untested`, `loud`.
-///
-/// # Errors
-///
-/// Where there is no memory, the line is no run, or a terminal isn't made over the set or refuses a tick.
-pub fn run_tended(
-    alloc: Global,
-    text: &mut String,
-    set: &Verified,
-    line: &str,
-) -> Result<(), Stopped> {
+/// Makes the run of a line.
+fn run_line(alloc: Global, text: &mut String, set: &Verified, line: &str) -> Result<(), Stopped> {
     let Some(run) = tended_run_of(line) else {
         return Err(Stopped::BadLine);
     };
@@ -176,4 +203,23 @@ pub fn run_tended(
     let made = run_with(alloc, text, set, line, run, &mut near);
     near.end();
     made
+}
+
+/// Makes the run of each line: `basic` or `cyclic`, how many links, the seed, for how many seconds faults come, how many milliseconds lie between two of them on
+/// average (0 for none), how many messages a second each end is given; then, as is wanted, `fifo`, `untested`, `sums`, `loud`. Writes whether messages came
+/// once, in order of their selections, none missing but as many as were told as unsure, and whether both ends are whole 40 seconds behind the last fault.
+///
+/// # Errors
+///
+/// Where there is no memory, a line is no run, or a terminal isn't made over the set or refuses a tick.
+pub fn run_tended(
+    alloc: Global,
+    text: &mut String,
+    set: &Verified,
+    runs: &str,
+) -> Result<(), Stopped> {
+    for line in runs.lines() {
+        run_line(alloc, text, set, line)?;
+    }
+    Ok(())
 }

@@ -20,6 +20,8 @@ pub struct TendedRun {
     pub clocked: bool,
     /// Whether links are tested.
     pub tests: bool,
+    /// Whether it is shown how many messages there were.
+    pub sums: bool,
     /// Whether all that is told is shown.
     pub loud: bool,
 }
@@ -50,6 +52,7 @@ fn with_word(run: TendedRun, word: &str) -> Option<TendedRun> {
             tests: false,
             ..run
         }),
+        "sums" => Some(TendedRun { sums: true, ..run }),
         "loud" => Some(TendedRun { loud: true, ..run }),
         _ => None,
     }
@@ -67,9 +70,10 @@ pub fn tended_run_of(line: &str) -> Option<TendedRun> {
         rate: number(&mut words)?,
         clocked: true,
         tests: true,
+        sums: false,
         loud: false,
     };
-    for _word in 0..3u8 {
+    for _word in 0..4u8 {
         match words.next() {
             Some(word) => run = with_word(run, word)?,
             None => return Some(run),
