@@ -3,6 +3,7 @@
 use crate::desk::SetDesk;
 use crate::orders::{Focus, SetOrder, set_order_in};
 use group_changeover::label_of;
+use resend_store::Measure;
 use script_terminal::{command_of, message, state_line, value_line};
 use set_tending::CommandError;
 use std::alloc::{AllocError, Global};
@@ -89,6 +90,7 @@ impl<O, P: Write> SetDesk<O, P> {
             },
             SetOrder::State(_)
             | SetOrder::Value(_, _)
+            | SetOrder::Measure(_)
             | SetOrder::Table
             | SetOrder::Held
             | SetOrder::Unsure => Ok(None),
@@ -135,6 +137,16 @@ impl<O, P: Write> SetDesk<O, P> {
         self.tell_of_link(alloc, link, &what, &line)
     }
 
+    /// `measure NAME`, for a link.
+    fn tell_measure(&mut self, alloc: Global, link: usize, measure: Measure) -> io::Result<()> {
+        let count = match self.tender.set().terminal(link) {
+            Some(terminal) => terminal.measures().count(measure),
+            None => return Ok(()),
+        };
+        let name = measure.word();
+        self.tell(alloc, &format_args!("{link} measure {name} {count}"))
+    }
+
     /// `held`, for a link.
     fn tell_held(&mut self, alloc: Global, link: usize) -> io::Result<()> {
         let held = self.tender.set().held(link).unwrap_or(0);
@@ -161,6 +173,12 @@ impl<O, P: Write> SetDesk<O, P> {
             SetOrder::Value(process, variable) => {
                 for link in from..to {
                     self.tell_value(alloc, link, process, variable)?;
+                }
+                Ok(())
+            }
+            SetOrder::Measure(measure) => {
+                for link in from..to {
+                    self.tell_measure(alloc, link, *measure)?;
                 }
                 Ok(())
             }

@@ -1,5 +1,6 @@
 //! Orders to a set, as they are written.
 
+use resend_store::{Measure, measure_named};
 use script_lines::words_in;
 use script_links::{Order, count, octets_in, order_in};
 use std::alloc::{AllocError, Global};
@@ -24,6 +25,8 @@ pub enum SetOrder<'a> {
     State(&'a str),
     /// `value P x`.
     Value(&'a str, &'a str),
+    /// `measure NAME`: what was counted.
+    Measure(Measure),
     /// `send HEX`: a message, its service information octet first, 5 to 273 octets.
     Send(Vec<u8>),
     /// `table`: the link of each selection.
@@ -77,6 +80,7 @@ fn pair_in<'a>(
     match first {
         "on" => Ok(focus_in(word).map(SetOrder::On)),
         "state" => Ok(Some(SetOrder::State(word))),
+        "measure" => Ok(measure_named(word).map(SetOrder::Measure)),
         "send" => send_in(alloc, word),
         _ => Ok(None),
     }
