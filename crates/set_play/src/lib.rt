@@ -11,7 +11,7 @@ mod round;
 mod wire;
 
 pub use desk::SetDesk;
-pub use lines::{Came, Lines, NoLines};
+pub use lines::{Came, Lines};
 pub use opening::{Plan, open_tender};
 pub use orders::{Focus, SetOrder, set_order_in};
 pub use set_tending::{Ends, Group, TendError, Tender, Told};

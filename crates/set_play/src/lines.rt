@@ -28,19 +28,3 @@ pub trait Lines {
     /// Whether a run ends, since no line could be opened for long: with the line that failed, where one did.
     fn are_over(&mut self) -> io::Result<bool>;
 }
-
-/// No lines: nothing comes.
-#[derive(Clone, Copy)]
-pub struct NoLines;
-
-impl Lines for NoLines {
-    fn take(&mut self, _link: usize, _part: &mut [u8]) -> Came {
-        Came::Octets(0)
-    }
-
-    fn give(&mut self, _link: usize, _octets: &[u8]) {}
-
-    fn are_over(&mut self) -> io::Result<bool> {
-        Ok(false)
-    }
-}

@@ -152,18 +152,6 @@ impl<O: Orders, P: Write> SetDesk<O, P> {
         Ok(true)
     }
 
-    /// What goes out before any octet came.
-    ///
-    /// # Errors
-    ///
-    /// Where there is no memory.
-    pub fn begin<L: Lines>(&mut self, lines: &mut L) -> io::Result<()> {
-        for link in 0..self.tender.len() {
-            self.go_ahead(lines, link);
-        }
-        Ok(())
-    }
-
     /// A round: of each line what came is heard, and an octet goes out for each of its octets; a tick passes; what there is to tell is told; what is to be
     /// done for the links is done; and orders that are due are obeyed. Whether the run goes on: it doesn't behind `quit`.
     ///
