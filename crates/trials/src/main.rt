@@ -14,6 +14,7 @@
 //! - `tended`: a run in each line ([`trials_groups::run_tended`]). Two link sets that tend themselves carry messages while their lines are cut, one way too,
 //!   garbled and stalled by a seeded schedule. Shows whether messages came once and in order of each selection, none missing but as many as were told as
 //!   unsure, and whether both ends are whole at the end.
+//! - `set_rounds`: a script ([`trials_groups::run_script`]) of two sets with orders and reports, on lines in memory. Shows what both tell.
 //! - `set_calls`: each public call of a link set. Shows what it answers.
 //! - `pools`: workers serve links ([`pools`]) while a client offers signals, lets ticks pass, takes what waits and rebases, by a seeded generator. The
 //!   first line has numbers: the seed, how many links and workers there are, how many steps the client makes, and, where it is to go on for long, so
@@ -61,7 +62,7 @@ use crate::pools::serve_all;
 use crate::ports::hold_ports;
 use crate::reports::report_all;
 use crate::rounds::make_rounds;
-use crate::sets::{call_each, make_sets, make_tended};
+use crate::sets::{call_each, make_script, make_sets, make_tended};
 use crate::wheels::make_wheels;
 use std::io::{self, BufReader, ErrorKind, Read};
 use std::rt::Runtime;
@@ -95,6 +96,7 @@ fn make<R: Runtime + AllocGlobal + Threads + Wait + Sync>(
         "rounds" => make_rounds(rt, text, trial),
         "sets" => make_sets(rt.alloc(), text, trial),
         "set_calls" => call_each(rt.alloc(), text),
+        "set_rounds" => make_script(rt.alloc(), text, trial),
         "tended" => make_tended(rt.alloc(), text, trial),
         "wheels" => make_wheels(rt.alloc(), text, trial),
         _ => Err(Stopped::BadLine),

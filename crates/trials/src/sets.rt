@@ -3,7 +3,7 @@
 use crate::calls::Stopped;
 use link_standard::{Verified, standard};
 use std::alloc::Global;
-use trials_groups::{Stopped as SetStopped, make_calls, run_sets, run_tended};
+use trials_groups::{Stopped as SetStopped, make_calls, run_script, run_sets, run_tended};
 
 /// Why a trial of sets stopped.
 pub fn why_stopped(stopped: SetStopped) -> Stopped {
@@ -32,6 +32,12 @@ pub fn make_sets(alloc: Global, text: &mut String, runs: &str) -> Result<(), Sto
 pub fn make_tended(alloc: Global, text: &mut String, runs: &str) -> Result<(), Stopped> {
     let set = standard_set(alloc)?;
     run_tended(alloc, text, &set, runs).map_err(why_stopped)
+}
+
+/// Does what a script of two sets says, and writes what both told.
+pub fn make_script(alloc: Global, text: &mut String, script: &str) -> Result<(), Stopped> {
+    let set = standard_set(alloc)?;
+    run_script(alloc, text, &set, script).map_err(why_stopped)
 }
 
 /// Makes each public call of a set, and writes what it answers.

@@ -5,6 +5,9 @@
 mod calling;
 mod calls;
 mod counts;
+mod desk_lines;
+mod desk_orders;
+mod desk_script;
 mod dice;
 mod each_call;
 mod far_end;
@@ -27,6 +30,7 @@ mod working;
 
 pub use calling::make_calls;
 pub use calls::Stopped;
+pub use desk_script::run_script;
 pub use full_set::FullSet;
 pub use tended::run_tended;
 pub use working::run_sets;
