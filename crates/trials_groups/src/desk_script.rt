@@ -72,13 +72,13 @@ fn queues(alloc: Global, links: usize) -> Result<Vec<VecDeque<u8>>, Stopped> {
     Ok(queues)
 }
 
-/// Both ends, over lines on which nothing came.
-fn pair_of(alloc: Global, links: usize, near: Desk, far: Desk) -> Pair {
+/// Both ends, over these lines.
+fn pair_of(near: Desk, far: Desk, over: Vec<VecDeque<u8>>, back: Vec<VecDeque<u8>>) -> Pair {
     Pair {
         near,
         far,
-        over: queues(alloc, links).unwrap_or(Vec::new(alloc)),
-        back: queues(alloc, links).unwrap_or(Vec::new(alloc)),
+        over,
+        back,
         near_open: [false; 16],
         far_open: [false; 16],
         cut: [false; 16],
@@ -225,6 +225,8 @@ pub fn run_script(
     let Some((links, lines)) = head(script) else {
         return Err(Stopped::BadLine);
     };
+    let over = queues(alloc, links)?;
+    let back = queues(alloc, links)?;
     let near = open_desk(alloc, set, links, Way { from: 1, to: 2 })?;
     let far = match open_desk(alloc, set, links, Way { from: 2, to: 1 }) {
         Ok(far) => far,
@@ -233,7 +235,7 @@ pub fn run_script(
             return Err(stopped);
         }
     };
-    let mut pair = pair_of(alloc, links, near, far);
+    let mut pair = pair_of(near, far, over, back);
     let made = pair.steps(alloc, text, lines);
     pair.end();
     made
