@@ -41,6 +41,8 @@ pub struct Processes {
     pub counting: bool,
     /// What was measured.
     pub measures: Measures,
+    /// How many proving periods were aborted: 2^64 - 1 where that many were or more.
+    pub aborted: u64,
 }
 
 /// Whether it is otherwise.
