@@ -1,5 +1,5 @@
 //! A terminal's actors, and what it keeps beside them.
-ghost use Rattle.std.specs.Prelude.{◌≡◌, ◌+◌, ◌<◌, ◌≤◌, ◌↔◌, [], true, false, length, All, None, Some, Err, IfOk, OnOk, OnErr, IfErr, IfSome};
+ghost use Rattle.std.specs.Prelude.{◌≡◌, ◌+◌, ◌<◌, ◌≤◌, ◌↔◌, [], true, false, length, drop, All, None, Some, Err, IfOk, OnOk, OnErr, IfErr, IfSome};
 ghost use Rattle.resend_store.specs.Messages.{IsMessage};
 ghost use Rattle.resend_store.specs.Window.{retrieved, count_known};
 ghost use Rattle.su_octets.specs.Whole.{IsWhole};
@@ -164,7 +164,9 @@ impl Processes {
     pub fn obey_clear(&mut self) -> usize
         ensures count { result ≡ to_clear self.old }
         ensures processes { self.new ≡ clear_obeyed self.old }
+        ensures kept { self.new.transceiver.sender.kept ≡ drop result self.old.transceiver.sender.kept }
     {
+        unacknowledged_messages_stay();
         if !self.transceiver.is_to_clear() {
             return 0;
         }

@@ -1,5 +1,5 @@
 //! The terminal.
-ghost use Rattle.std.specs.Prelude.{◌≡◌, ◌↔◌, ◌<◌, ◌≤◌, [], IsTrue, true, false, length, All, IfOk, OnOk, OnErr, IfSome, Err, slice_get};
+ghost use Rattle.std.specs.Prelude.{◌≡◌, ◌↔◌, ◌<◌, ◌≤◌, [], IsTrue, true, false, length, drop, All, IfOk, OnOk, OnErr, IfSome, Err, slice_get};
 ghost use Rattle.std.specs.Option.{option_copied};
 ghost use Rattle.resend_store.specs.Messages.{IsMessage};
 ghost use Rattle.resend_store.specs.Window.{IsWindow, waiting, with_put, retrieved, emptied, count_known, last_acknowledged, without_at};
@@ -150,6 +150,7 @@ impl Terminal {
     pub fn obey_clear(&mut self) -> usize
         ensures count { result ≡ to_clear self.old.processes }
         ensures terminal { self.new ≡ with_processes self.old (clear_obeyed self.old.processes) }
+        ensures kept { (window_of self.new).kept ≡ drop result (window_of self.old).kept }
     {
         self.processes.obey_clear()
     }
