@@ -7,6 +7,7 @@ use crate::reasons::PlayFault;
 use crate::unit_words::unit_in_words;
 use crate::verbs::{TermVerb, term_verb_in};
 use crate::words::{GroupVerb, group_verb_in, group_word_in};
+use resend_store::measure_named;
 use script_lines::{
     Call, LineFault, MANY, Verb, book_line_fault, lines_in, number_fault, verb_fault, verb_in,
     words_fault,
@@ -111,6 +112,7 @@ fn behind_term_verb<'a>(
         TermVerb::Out => Ok(of_line(number_fault(next, 0, MOST))),
         TermVerb::Errors => Ok(of_line(number_fault(next, 1, MOST_TIMES))),
         TermVerb::Retrieve => Ok(of_line(number_fault(next, 0, 127))),
+        TermVerb::Measure => Ok(measure_fault(next)),
     }
 }
 
@@ -158,6 +160,15 @@ fn own_fault<'a>(
         return units_fault(alloc, word, more);
     }
     Ok(Some(PlayFault::Line(LineFault::NoCommand { word, script })))
+}
+
+/// Why a word is no measurement.
+fn measure_fault<'a>(word: &'a str) -> Option<PlayFault<'a>> {
+    if word == "reset" || word == "aborted_periods" || measure_named(word).is_some() {
+        None
+    } else {
+        Some(PlayFault::NoMeasure { word })
+    }
 }
 
 /// Why a word is neither `yes` nor `no`.
@@ -224,6 +235,7 @@ fn is_terminals(word: &str) -> bool {
         || word == "told"
         || word == "accepted"
         || word == "retrieve"
+        || word == "measure"
 }
 
 /// Why the words of a line are none of a terminal's script, behind its first line.

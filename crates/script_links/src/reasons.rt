@@ -40,6 +40,10 @@ pub enum PlayFault<'a> {
     NoUnit {
         word: &'a str,
     },
+    /// The word is no measurement.
+    NoMeasure {
+        word: &'a str,
+    },
     /// The word is neither `yes` nor `no`.
     NoWay {
         word: &'a str,
@@ -76,6 +80,12 @@ impl fmt::Display for PlayFault<'_> {
                 f,
                 "'{word}' wants pairs of hexadecimal digits, or FISU, LSSU or MSU with bsn N bib B fsn N fib B and status NAME, or sio HEX sif HEX",
             ),
+            Self::NoMeasure { word } => {
+                write!(
+                    f,
+                    "'{word}' is neither reset nor a measurement of docs/links.md"
+                )
+            }
             Self::NoWay { word } => write!(f, "'{word}' is neither yes nor no"),
         }
     }
