@@ -31,6 +31,7 @@ impl Group {
     /// Takes a message to send, whose field begins with this label. It waits behind all others with the link of its selection.
     ///
     /// # Errors
+    ///
     /// `K5 Bound` where it is bound to a link: [`Group::send_by`] takes it. `K1 NoLink` where its selection has no link, or that link isn't in
     /// changeover and is out of service, held or not admitted, `K2 Waiting` where that link is in changeover, `E1 Full` where as many wait there as
     /// may. Nothing changes then.
