@@ -44,6 +44,10 @@ pub enum PlayFault<'a> {
     NoMeasure {
         word: &'a str,
     },
+    /// The octets behind the word are no message that is bound to a link.
+    NotBound {
+        word: &'a str,
+    },
     /// The word is neither `yes` nor `no`.
     NoWay {
         word: &'a str,
@@ -86,6 +90,10 @@ impl fmt::Display for PlayFault<'_> {
                     "'{word}' is neither reset nor a measurement of docs/links.md"
                 )
             }
+            Self::NotBound { word } => write!(
+                f,
+                "'{word}' wants a message of changeover or changeback, a traffic restart or a test of the link, from point 1 to point 2",
+            ),
             Self::NoWay { word } => write!(f, "'{word}' is neither yes nor no"),
         }
     }
