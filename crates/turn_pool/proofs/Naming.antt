@@ -41,7 +41,7 @@ begun_named link b r (moved.Begun (Ok x)) = λ ok n t lies out. subst (λ (l : L
 begun_named link b r (moved.Begun (Err x)) = λ ok. absurd (false≢true ok)
 begun_named link b r (moved.Skipped answer) = tt
 begun_named link b r (moved.Finished answer) = tt
-begun_named link b r (moved.Turned answer) = tt
+begun_named link b r (moved.Turned turns) = tt
 
 -- ---- a step
 
@@ -50,7 +50,7 @@ step_named b c r l (move.Begin n) (moved.Begun (Ok x)) name moves begun = λ ok.
 step_named b c r l (move.Begin n) (moved.Begun (Err x)) name moves begun = λ ok. absurd (false≢true ok)
 step_named b c r l (move.Skip n) (moved.Begun answer) name moves begun = absurd moves
 step_named b c r l move.Finish (moved.Begun answer) name moves begun = absurd moves
-step_named b c r l (move.Turn n) (moved.Begun answer) name moves begun = absurd moves
+step_named b c r l (move.Turns most) (moved.Begun answer) name moves begun = absurd moves
 step_named b c r l s (moved.Skipped answer) name moves begun = tt
 step_named b c r l s (moved.Finished answer) name moves begun = tt
-step_named b c r l s (moved.Turned answer) name moves begun = tt
+step_named b c r l s (moved.Turned turns) name moves begun = tt

@@ -1,11 +1,11 @@
 //! Workers.
 
-ghost use Rattle.std.specs.Prelude.{◌≡◌, ◌≤◌, ◌+◌, ◌*◌, IfSome, IfNone, vec_len};
+ghost use Rattle.std.specs.Prelude.{◌≡◌, ◌≤◌, ◌+◌, ◌*◌, true, IfSome, IfNone, vec_len};
 ghost use Rattle.turn_machine.specs.Rooms.{Free, HasRun, IsToRun, ran};
 ghost use Rattle.turn_pool.specs.Moves.{Moves};
 ghost use Rattle.turn_pool.specs.declared.moves.Move.TheVariants.{Finish};
-ghost use Rattle.turn_pool.specs.Steps.{made, events_of, is_step, HasCounted, CountsEnd, IsHanded};
-ghost use Rattle.turn_pool.specs.Turns.{move_by, IsStepBy, IsAnswerBy, IsNext, told_of, told_there, told, NamesBegun, IsNamed, NoneToRun, LeavesToRun};
+ghost use Rattle.turn_pool.specs.Steps.{made, most_of, steps_of, Counts, HasCounted, CountsEnd, IsHanded};
+ghost use Rattle.turn_pool.specs.Turns.{move_by, IsStepBy, IsAnswerBy, IsNext, IsChosen, told_of, told_there, told, NamesBegun, IsNamed, NoneToRun, LeavesToRun};
 
 use crate::gate::{Gate, JobName};
 use crate::moves::{Move, Moved, work};
@@ -21,23 +21,27 @@ use turn_machine::{Room, Work};
 /// How many turns and skips a worker makes at most after the pool began to close.
 const LAST_STEPS: usize = 1000;
 
-/// What an actor does whose turn is refused for this reason, or for none, where a gate looks or none does.
-fn move_at(looked: bool, actor: u16, refusal: Option<Refusal>) -> Option<Move>
-    ensures value { result ≡ move_by looked actor refusal }
-    ensures way { IfSome result (IsStepBy looked) }
+/// How many it makes at most while it holds the lock of a link, where no gate looks.
+const AT_ONCE: usize = 16;
+
+/// What an actor does, where a gate looks, whose turn is refused for this reason, or for none.
+fn move_at(actor: u16, refusal: Option<Refusal>) -> Option<Move>
+    ensures value { result ≡ move_by actor refusal }
+    ensures way { IfSome result (IsStepBy true) }
+    ensures few { IfSome result (λ step. most_of step ≤ 1) }
 {
     match refusal {
-        None if looked => Some(Move::Begin(actor)),
-        None => Some(Move::Turn(actor)),
+        None => Some(Move::Begin(actor)),
         Some(Refusal::SkipFirst) => Some(Move::Skip(actor)),
         Some(_) => None,
     }
 }
 
-/// What the least actor of a link that can do something does; nothing on a link whose journal is full.
-fn next_step(book: &Book, looked: bool) -> Option<Move>
-    ensures next { IsNext looked book.now result }
-    ensures way { IfSome result (IsStepBy looked) }
+/// What the least actor of a link that can do something does, where a gate looks; nothing on a link whose journal is full.
+fn next_step(book: &Book) -> Option<Move>
+    ensures next { IsNext book.now result }
+    ensures way { IfSome result (IsStepBy true) }
+    ensures few { IfSome result (λ step. most_of step ≤ 1) }
 {
     if book.room() == 0 {
         return None;
@@ -47,12 +51,26 @@ fn next_step(book: &Book, looked: bool) -> Option<Move>
     let there = link.actors();
     let count = there.len();
     for actor in 0..count as u16 {
-        match move_at(looked, actor, link.begin_refusal(set, actor)) {
+        match move_at(actor, link.begin_refusal(set, actor)) {
             Some(step) => return Some(step),
             None => {}
         }
     }
     None
+}
+
+/// What a worker does on a link: the next step where a gate looks, and else up to so many whole turns and skips.
+fn chosen(book: &Book, looked: bool, most: usize) -> Option<Move>
+    requires { 1 ≤ most }
+    ensures next { IsChosen looked most book.now result }
+    ensures way { IfSome result (IsStepBy looked) }
+    ensures few { IfSome result (λ step. most_of step ≤ most) }
+{
+    if looked {
+        next_step(book)
+    } else {
+        Some(Move::Turns(most))
+    }
 }
 
 /// What a gate is told of a turn: the link where it is out, what its actor is called there, and the turn's number.
@@ -114,7 +132,8 @@ fn step_on<L: Ledger>(
     ensures moves { Moves slot.old.book room.old step result.0 slot.new.book room.new }
     ensures value { result.1 ≡ told link slot.new.book room.new result.0 }
     ensures named { IsNamed result.0 result.1 }
-    ensures counted { seat.new ≡ seat.old + events_of result.0 }
+    ensures counted { Counts result.0 seat.old seat.new }
+    ensures few { steps_of result.0 ≤ most_of step }
 {
     let moved = work(slot, seat, totals, room, step);
     let name = name_in(link, slot.book(), room, &moved);
@@ -136,31 +155,35 @@ fn step_by<L: Ledger>(
     ensures way { IsAnswerBy looked result.0 }
     ensures named { IsNamed result.0 result.1 }
     ensures begun { LeavesToRun result.0 room.new }
-    ensures counted { seat.new ≡ seat.old + events_of result.0 }
+    ensures counted { Counts result.0 seat.old seat.new }
+    ensures few { steps_of result.0 ≤ most_of step }
 {
     step_on(slot, seat, totals, room, link, step)
 }
 
 /// Does one step on a link, under its lock, if an actor there can do something: what the book answered, and what a gate is told of a turn that
-/// began. Where the gate looks turns begin, and where it doesn't each is a whole one.
+/// began. Where the gate looks turns begin, and where it doesn't there are whole ones, at most so many.
 fn step<R: Wait, L: Ledger, G: Gate>(
     pool: &Pool<'_, R, L>,
     gate: &G,
     seat: &mut Seat<L>,
     room: &mut Room,
     link: usize,
+    most: usize,
 ) -> Option<(Moved, Option<JobName>)>
-    requires { NoneToRun room.old }
+    requires none { NoneToRun room.old }
+    requires some { 1 ≤ most }
     ensures way { IfSome result (λ r. IsAnswerBy (G.looking gate.now) r.0) }
     ensures named { IfSome result (λ r. IsNamed r.0 r.1) }
     ensures begun { IfSome result (λ r. LeavesToRun r.0 room.new) }
     ensures none { IfNone result (NoneToRun room.new) }
-    ensures counted { IfSome result (λ r. seat.new ≡ seat.old + events_of r.0) }
+    ensures counted { IfSome result (λ r. Counts r.0 seat.old seat.new) }
+    ensures few { IfSome result (λ r. steps_of r.0 ≤ most) }
     ensures same { IfNone result (seat.new ≡ seat.old) }
 {
     let looked = gate.looks();
     let mut slot = pool.links.get(link)?.lock(pool.rt);
-    let step = next_step(slot.book(), looked)?;
+    let step = chosen(slot.book(), looked, most)?;
     Some(step_by(&mut slot, seat, &pool.totals, room, link, looked, step))
 }
 
@@ -234,7 +257,17 @@ fn run_there<R: Wait, L: Ledger, G: Gate>(
     ended
 }
 
-/// Runs the turn that a step began, where it began one. Whether the book took the step.
+/// One where it was accepted, and else none.
+fn one_of<T, E>(answer: &Result<T, E>) -> usize
+    ensures { result ≡ made answer.now 1 }
+{
+    match answer {
+        Ok(_) => 1,
+        Err(_) => 0,
+    }
+}
+
+/// Runs the turn that a step began, where it began one. How many turns and skips the step made.
 fn follow<R: Wait, L: Ledger, G: Gate>(
     pool: &Pool<'_, R, L>,
     gate: &G,
@@ -242,69 +275,74 @@ fn follow<R: Wait, L: Ledger, G: Gate>(
     room: &mut Room,
     moved: Moved,
     name: Option<JobName>,
-) -> bool
+) -> usize
     requires named { IsNamed moved name }
     requires begun { LeavesToRun moved room.old }
     ensures none { NoneToRun room.new }
-    ensures value { result ≡ is_step moved }
+    ensures value { result ≡ steps_of moved }
     ensures counted { CountsEnd moved seat.old seat.new }
 {
     match moved {
         Moved::Begun(Ok(_)) => match name {
             Some(name) => {
                 let _ended = run_there(pool, gate, seat, room, name);
-                true
+                1
             }
             None => unreachable!(),
         },
-        Moved::Begun(Err(_)) => false,
-        Moved::Skipped(skipped) => skipped.is_ok(),
-        Moved::Finished(finished) => finished.is_ok(),
-        Moved::Turned(turned) => turned.is_ok(),
+        Moved::Begun(Err(_)) => 0,
+        Moved::Skipped(skipped) => one_of(&skipped),
+        Moved::Finished(finished) => one_of(&finished),
+        Moved::Turned(turns) => turns,
     }
 }
 
-/// Lets an actor of a link do something, if one can, and runs and ends the turn that began. Whether one did.
-fn turn<R: Wait, L: Ledger, G: Gate>(
+/// Lets actors of a link do something, if one can: where the gate looks one of them, whose turn is run and ended if it began one, and else at
+/// most so many. How many turns and skips there were.
+fn turns<R: Wait, L: Ledger, G: Gate>(
     pool: &Pool<'_, R, L>,
     gate: &G,
     seat: &mut Seat<L>,
     room: &mut Room,
     link: usize,
-) -> bool
-    requires { NoneToRun room.old }
+    most: usize,
+) -> usize
+    requires none { NoneToRun room.old }
+    requires some { 1 ≤ most }
     ensures none { NoneToRun room.new }
     ensures counted { HasCounted result seat.old seat.new }
+    ensures few { result ≤ most }
 {
-    match step(pool, gate, seat, room, link) {
+    match step(pool, gate, seat, room, link, most) {
         Some((moved, name)) => follow(pool, gate, seat, room, moved, name),
-        None => false,
+        None => 0,
     }
 }
 
-/// Goes round the links once. How many steps it made.
+/// Goes round the links once, with at most so many turns and skips on each. How many there were.
 fn round<R: Wait, L: Ledger, G: Gate>(
     pool: &Pool<'_, R, L>,
     gate: &G,
     seat: &mut Seat<L>,
     room: &mut Room,
+    most: usize,
 ) -> usize
-    requires { NoneToRun room.old }
+    requires none { NoneToRun room.old }
+    requires some { 1 ≤ most }
     ensures none { NoneToRun room.new }
-    ensures least { seat.old + result ≤ seat.new }
-    ensures most { seat.new ≤ seat.old + 2 * result }
-    ensures few { result ≤ vec_len pool.now.links }
+    ensures counted { HasCounted result seat.old seat.new }
+    ensures few { result ≤ most * vec_len pool.now.links }
 {
     let mut steps = 0;
     for link in 0..pool.links.len() {
-        if turn(pool, gate, seat, room, link) {
-            steps += 1;
-        }
+        let made = turns(pool, gate, seat, room, link, most);
+        let _events = seat.events();
+        steps += made;
     }
     steps
 }
 
-/// Goes round the links until a round does nothing, for at most so many turns and skips, each of which counts one event or two.
+/// Goes round the links until a round does nothing, one turn or skip on each, for at most so many, each of which counts one event or two.
 fn wind_up<R: Wait, L: Ledger, G: Gate>(
     pool: &Pool<'_, R, L>,
     gate: &G,
@@ -320,7 +358,7 @@ fn wind_up<R: Wait, L: Ledger, G: Gate>(
         if left < pool.links.len() {
             break;
         }
-        let steps = round(pool, gate, seat, room);
+        let steps = round(pool, gate, seat, room, 1);
         if steps == 0 {
             break;
         }
@@ -336,15 +374,16 @@ pub(crate) fn worker<R: Wait, L: Ledger, G: Gate>(
     mut seat: Seat<L>,
 ) -> Seat<L> {
     let mut room = Room::new();
+    let at_once = if gate.looks() { 1 } else { AT_ONCE };
     for _ in pool.rt.forever() {
         if pool.is_closing() {
             break;
         }
-        if round(pool, gate, &mut seat, &mut room) == 0 {
+        if round(pool, gate, &mut seat, &mut room, at_once) == 0 {
             thread::yield_now();
         }
     }
-    let most = LAST_STEPS.saturating_sub(pool.links.len());
+    let most = LAST_STEPS.saturating_sub(pool.links.len().saturating_mul(at_once));
     wind_up(pool, gate, &mut seat, &mut room, most);
     seat
 }

@@ -1,0 +1,25 @@
+use Rattle.std.proofs.Common.{◌≡◌, ◌^◌, ◌<◌, ◌≤◌, ◌+◌, ap, ◌∙◌, arith}
+use Rattle.actor_book.specs.Turns.{rests}
+use Rattle.actor_machine.specs.Ledger.{Ledger, next}
+use Rattle.turn_pool.specs.Links.{Link}
+use Rattle.turn_pool.specs.Steps.{HasCounted}
+use Rattle.turn_pool.proofs.Growing.{rests_count}
+use Rattle.turn_pool.proofs.slot.Slot.turns.Goals as goal
+
+pub count-requires : goal.count-requires
+count-requires g c =
+    let within : c.next-after.result < 2 ^ 57 = c.next-after.ensures.in_range in
+    record { part = omega (arith, c.self.invariant.0); amount = omega (arith, c.self.invariant.1, c.next-before.ensures.value, within) }
+
+pub returns : goal.returns
+returns g c =
+    let book : c.self.inside.book ≡ c.args.self.now.book = ap (λ (s : Link). s.book) c.self.view_is in
+    record {
+      turns = record {
+        turns = c.turns_of-turns.ensures.turns ∙ ap (λ (b : Ledger). (rests c.args.most b).turns) book;
+        book = c.turns_of-turns.ensures.book ∙ ap (λ (b : Ledger). (rests c.args.most b).book) book;
+      };
+      link = ap (λ (s : Link). s.number) c.self.view_is;
+      seat = tt;
+      counted = tt;
+    }
