@@ -4,7 +4,7 @@ ghost use Rattle.std.specs.Prelude.{◌≡◌, ◌≤◌, ◌+◌, ◌*◌, true
 ghost use Rattle.turn_machine.specs.Rooms.{Free, HasRun, IsToRun, ran};
 ghost use Rattle.turn_pool.specs.Moves.{Moves};
 ghost use Rattle.turn_pool.specs.declared.moves.Move.TheVariants.{Finish};
-ghost use Rattle.turn_pool.specs.Steps.{made, most_of, steps_of, Counts, HasCounted, CountsEnd, IsHanded};
+ghost use Rattle.turn_pool.specs.Steps.{most_of, steps_of, Counts, HasCounted, CountsEnd, IsHanded};
 ghost use Rattle.turn_pool.specs.Turns.{move_by, IsStepBy, IsAnswerBy, IsNext, IsChosen, told_of, told_there, told, NamesBegun, IsNamed, NoneToRun, LeavesToRun};
 
 use crate::gate::{Gate, JobName};
@@ -257,16 +257,6 @@ fn run_there<R: Wait, L: Ledger, G: Gate>(
     ended
 }
 
-/// One where it was accepted, and else none.
-fn one_of<T, E>(answer: &Result<T, E>) -> usize
-    ensures { result ≡ made answer.now 1 }
-{
-    match answer {
-        Ok(_) => 1,
-        Err(_) => 0,
-    }
-}
-
 /// Runs the turn that a step began, where it began one. How many turns and skips the step made.
 fn follow<R: Wait, L: Ledger, G: Gate>(
     pool: &Pool<'_, R, L>,
@@ -291,8 +281,10 @@ fn follow<R: Wait, L: Ledger, G: Gate>(
             None => unreachable!(),
         },
         Moved::Begun(Err(_)) => 0,
-        Moved::Skipped(skipped) => one_of(&skipped),
-        Moved::Finished(finished) => one_of(&finished),
+        Moved::Skipped(Ok(_)) => 1,
+        Moved::Skipped(Err(_)) => 0,
+        Moved::Finished(Ok(_)) => 1,
+        Moved::Finished(Err(_)) => 0,
         Moved::Turned(turns) => turns,
     }
 }
