@@ -1,7 +1,7 @@
 use Rattle.std.proofs.Common.{ℕ, subst, sym}
 use Rattle.turn_pool.specs.Steps.{HasCounted}
 use Rattle.turn_pool.proofs.Counting.{counted}
-use Rattle.turn_pool.proofs.worker.turns.Goals as goal
+use Rattle.turn_pool.proofs.steps.turns.Goals as goal
 
 pub follow-requires-clause-named : goal.follow-requires-clause-named
 follow-requires-clause-named g c = c.in-Some.ensures.named

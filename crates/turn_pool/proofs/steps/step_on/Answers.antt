@@ -3,7 +3,7 @@ use Rattle.actor_machine.specs.Ledger.{Ledger}
 use Rattle.turn_pool.specs.Turns.{told, NamesBegun}
 use Rattle.turn_pool.proofs.Counting.{few}
 use Rattle.turn_pool.proofs.Naming.{step_named}
-use Rattle.turn_pool.proofs.worker.step_on.Goals as goal
+use Rattle.turn_pool.proofs.steps.step_on.Goals as goal
 
 pub returns-clause-value : goal.returns-clause-value
 returns-clause-value g c =

@@ -1,7 +1,7 @@
 use Rattle.std.proofs.Common.{◌∙◌, ap, arith, length}
 use Rattle.actor_machine.specs.Core.{Core}
 use Rattle.turn_pool.proofs.Turns.{all_of}
-use Rattle.turn_pool.proofs.worker.next_step.Goals as goal
+use Rattle.turn_pool.proofs.steps.next_step.Goals as goal
 
 pub returns-clause-next : goal.returns-clause-next
 returns-clause-next c room =
