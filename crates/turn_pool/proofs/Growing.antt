@@ -72,7 +72,7 @@ found_adds b t u Blocked is first second = first
 found_adds b t u Idle is first second = second
 
 first_adds : (k n : ℕ) (b : Ledger) → Adds (first_from k n b).turn (next b) (next (first_from k n b).book)
-unfolding (first_from, Adds)
+unfolding first_from Adds
 first_adds zero n b = refl
 first_adds (suc k) n b = found_adds b (tried n b) (first_from k (n + 1) b) (tried n b).turn refl (tried_adds n b) (first_adds k (n + 1) b)
 
