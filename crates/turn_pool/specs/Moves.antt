@@ -55,8 +55,8 @@ pub record FinishesIn (b : Ledger) (r : Lying) (answer : Result Report Refusal) 
 
 -- actors have whole turns or throw items away, one after another, at most so many: those of a rest,
 -- each the least actor's that can, and fewer only where a rest ends early
-pub record HasTurns (b : Ledger) (most turns : ℕ) (c : Ledger) : Type 0 where
-  pub turns : turns ≡ (rests most b).turns
+pub record HasTurns (b : Ledger) (most n : ℕ) (c : Ledger) : Type 0 where
+  pub turns : n ≡ (rests most b).turns
   pub book : c ≡ (rests most b).book
 
 -- one step of a worker on a book with its room, and what it gives

@@ -23,15 +23,14 @@ pub(crate) struct Open<'a> {
 impl<'p, 'r, R: Wait, L: Ledger> Hand<'p, 'r, R, L> {
     /// The hand of a worker that holds no lock yet.
     pub(crate) fn new(pool: &'p Pool<'r, R, L>) -> Hand<'p, 'r, R, L>
-        ensures { result.pool ≡ pool.now }
+        ensures { result.pool.now ≡ pool.now }
     {
         Hand { pool }
     }
 
     /// Locks a link, if there is such a one: the hand is in use until the lock is given back.
     pub(crate) fn lock(&mut self, link: usize) -> Option<MutexGuard<'_, Slot<L>>>
-        ensures none { IfNone result (vec_len self.old.pool.links ≤ link) }
-        ensures same { self.new ≡ self.old }
+        ensures { IfNone result (vec_len self.old.pool.now.links ≤ link) }
     {
         match self.pool.links.get(link) {
             Some(held) => Some(held.lock(self.pool.rt)),
@@ -39,10 +38,8 @@ impl<'p, 'r, R: Wait, L: Ledger> Hand<'p, 'r, R, L> {
         }
     }
 
-    /// The hand holds no lock, and takes none while this lives.
-    pub(crate) fn open(&mut self) -> Open<'_>
-        ensures { self.new ≡ self.old }
-    {
+    /// The hand holds no lock, since it can be looked at, and takes none while this lives.
+    pub(crate) fn open(&self) -> Open<'_> {
         Open {
             marker: PhantomData,
         }

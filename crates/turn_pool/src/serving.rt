@@ -62,8 +62,8 @@ fn take_apart<R: Wait, L: Ledger>(
     requires empty { books.items ≡ [] }
     requires room { vec_len pool.links ≤ vec_capacity books }
     requires parts { rest.parts + vec_len pool.links ≡ pool.totals.total.parts }
-    ensures len { vec_len result ≡ vec_len pool.links }
-    ensures amount { 2 ^ 61 + sum_by next result.items ≡ rest.amount + vec_len pool.links * 2 ^ 57 }
+    ensures len { vec_len result ≡ vec_len pool.entry.links }
+    ensures amount { 2 ^ 61 + sum_by next result.items ≡ rest.amount + vec_len pool.entry.links * 2 ^ 57 }
     ensures finishes { All CountsFinishes result.items }
 {
     let Pool { links, totals, .. } = pool;
@@ -101,7 +101,7 @@ fn serve_by<R: Threads + Wait + Sync, L: Ledger + Send + Sync, G: Gate + Sync, C
         handles,
         workers: counts,
     } = room;
-    let (pool, rest) = put_under_locks(rt, blank, links, slots);
+    let (pool, rest) = put_under_locks::<R, L>(rt, blank, links, slots);
     let shift = Shift {
         rest,
         handles,

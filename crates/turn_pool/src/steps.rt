@@ -207,7 +207,7 @@ fn end<R: Wait, L: Ledger>(
 ) -> Option<Moved>
     requires { HasRun room.old }
     ensures handed { IfSome result (λ answer. IsHanded room.old answer room.new) }
-    ensures nowhere { IfNone result ((room.new ≡ room.old) × (vec_len hand.old.pool.links ≤ link)) }
+    ensures nowhere { IfNone result ((room.new ≡ room.old) × (vec_len hand.old.pool.now.links ≤ link)) }
     ensures none { NoneToRun room.new }
     ensures least { seat.old ≤ seat.new }
     ensures most { seat.new ≤ seat.old + 1 }
@@ -239,7 +239,7 @@ fn run_there<R: Wait, L: Ledger, G: Gate>(
 ) -> Option<Moved>
     requires { IsToRun room.old }
     ensures handed { IfSome result (λ answer. IsHanded (ran room.old) answer room.new) }
-    ensures nowhere { IfNone result ((room.new ≡ ran room.old) × (vec_len hand.old.pool.links ≤ name.link)) }
+    ensures nowhere { IfNone result ((room.new ≡ ran room.old) × (vec_len hand.old.pool.now.links ≤ name.link)) }
     ensures none { NoneToRun room.new }
     ensures least { seat.old ≤ seat.new }
     ensures most { seat.new ≤ seat.old + 1 }

@@ -14,12 +14,17 @@ count-requires g c =
 pub returns : goal.returns
 returns g c =
     let book : c.self.inside.book ≡ c.args.self.now.book = ap (λ (s : Link). s.book) c.self.view_is in
+    let grown = rests_count c.args.most c.self.inside.book in
+    let into = ap next c.turns_of-turns.ensures.book in
     record {
       turns = record {
         turns = c.turns_of-turns.ensures.turns ∙ ap (λ (b : Ledger). (rests c.args.most b).turns) book;
         book = c.turns_of-turns.ensures.book ∙ ap (λ (b : Ledger). (rests c.args.most b).book) book;
       };
       link = ap (λ (s : Link). s.number) c.self.view_is;
-      seat = tt;
-      counted = tt;
+      seat = omega (arith, c.count.ensures.seat, c.next-before.ensures.value, c.next-after.ensures.value, grown.0, into, ap next book);
+      counted = (
+        omega (arith, c.count.ensures.seat, c.next-before.ensures.value, c.next-after.ensures.value, grown.0, into, c.turns_of-turns.ensures.turns),
+        omega (arith, c.count.ensures.seat, c.next-before.ensures.value, c.next-after.ensures.value, grown.0, grown.1, into, c.turns_of-turns.ensures.turns),
+      );
     }
