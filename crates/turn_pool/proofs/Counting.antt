@@ -1,8 +1,7 @@
 -- What a step, and the end of the turn that it began, count together; and how many turns and skips a step makes.
-use Rattle.std.proofs.Common.{◌≡◌, ℕ, ◌+◌, ◌*◌, ◌≤◌, Result, Ok, Err, ◌∙◌, arith}
+use Rattle.std.proofs.Common.{ℕ, ◌≤◌, Result, Ok, Err, arith}
 use Rattle.turn_machine.specs.Rooms.{Lying}
 use Rattle.actor_machine.specs.Ledger.{Ledger}
-use Rattle.actor_book.specs.Turns.{rests}
 use Rattle.turn_pool.specs.Moves.{Moves}
 use Rattle.turn_pool.specs.Steps.{Counts, CountsEnd, HasCounted, made, most_of, steps_of}
 use Rattle.turn_pool.specs.declared.moves.Move.{Move}

@@ -1,7 +1,7 @@
 -- What turns of a rest add to a journal.
-use Rattle.std.proofs.Common.{◌≡◌, ℕ, ◌+◌, ◌*◌, ◌<◌, ◌≤◌, zero, suc, [], ◌∷◌, length-append, Option, Some, None, refl, sym, arith}
+use Rattle.std.proofs.Common.{◌≡◌, ℕ, ◌+◌, ◌<◌, ◌≤◌, zero, suc, [], ◌∷◌, length-append, Option, Some, None, refl, sym, arith}
 use Rattle.std.proofs.lemmas.Option.{none-some}
-use Rattle.actor_machine.specs.Step.{Says, Stepped, step}
+use Rattle.actor_machine.specs.Step.{Stepped, step}
 use Rattle.actor_machine.specs.Ledger.{Ledger, runs, state_of, refusal_by, asked, ask, ask_by, next}
 use Rattle.actor_machine.specs.declared.event.Event.{Event}
 use Rattle.actor_machine.specs.declared.event.Event.TheVariants.{Begin, Skip, Finish}
@@ -9,7 +9,7 @@ use Rattle.actor_machine.specs.declared.reply.Refusal.{Refusal}
 use Rattle.actor_machine.specs.declared.reply.Refusal.TheVariants.{JournalFull, SkipFirst}
 use Rattle.actor_book.specs.declared.turn.Turn.{Turn}
 use Rattle.actor_book.specs.declared.turn.Turn.TheVariants.{Made, Blocked, Idle}
-use Rattle.actor_book.specs.Turns.{Tried, stays, turn_refused, refusal_in, skips_by, skips, ends, by_refusal, begins_by, tried, actors_in, first_that, first_from, least_turn, Rested, goes_on, rests}
+use Rattle.actor_book.specs.Turns.{Tried, turn_refused, refusal_in, skips_by, by_refusal, begins_by, tried, actors_in, first_that, first_from, least_turn, Rested, goes_on, rests}
 use Rattle.turn_pool.specs.Steps.{HasCounted}
 
 -- one event or two where there was a turn, and else none

@@ -3,7 +3,7 @@ use Rattle.std.proofs.Common.{◌≡◌, ℕ, Option, Some, None, refl, sym, ap,
 use Rattle.std.specs.Prelude.{IsSome, Ok, Err, option_map, slice_get}
 use Rattle.std.proofs.lemmas.Bool.{false≢true}
 use Rattle.std.proofs.lemmas.Option.{none-some}
-use Rattle.turn_machine.specs.Rooms.{Lying, Begun}
+use Rattle.turn_machine.specs.Rooms.{Lying}
 use Rattle.turn_machine.specs.Turn.{Turn}
 use Rattle.actor_machine.specs.declared.name.ActorName.{ActorName}
 use Rattle.actor_machine.specs.Core.{names_in}

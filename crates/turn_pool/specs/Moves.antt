@@ -3,7 +3,6 @@ use Rattle.std.specs.Prelude.{◌≡◌, ◌↔◌, ℕ, Result, Ok, Err, IsOk}
 use Rattle.turn_code.specs.declared.draft.Trigger.{Trigger}
 use Rattle.turn_machine.specs.Rooms.{Lying, Free}
 use Rattle.actor_machine.specs.Ledger.{Ledger, ask}
-use Rattle.actor_machine.specs.Step.{Says}
 use Rattle.actor_machine.specs.declared.event.Event.TheVariants.{Begin, Skip}
 use Rattle.actor_machine.specs.declared.reply.Refusal.{Refusal}
 use Rattle.actor_machine.specs.declared.reply.Refusal.TheVariants.{Stranger}

@@ -1,6 +1,6 @@
 -- What a worker's steps count, and how a turn that it began ends.
 use Rattle.std.specs.Prelude.{◌≡◌, ◌≤◌, ◌+◌, ◌*◌, ℕ, Result, Ok, Err}
-use Rattle.turn_machine.specs.Rooms.{Lying, ran}
+use Rattle.turn_machine.specs.Rooms.{Lying}
 use Rattle.actor_machine.specs.Ledger.{Ledger}
 use Rattle.turn_pool.specs.Moves.{Moves}
 use Rattle.turn_pool.specs.declared.moves.Move.{Move}

@@ -19,16 +19,10 @@ pub returns-in-Some-clause-finishes : goal.returns-in-Some-clause-finishes
 returns-in-Some-clause-finishes g c = c.take_apart-books.ensures.finishes
 
 -- where nobody could be started as many books come back
-pub returns : goal.returns
-returns g c =
+pub returns-in-None-clause-back : goal.returns-in-None-clause-back
+returns-in-None-clause-back g c =
     let len : vec_len c.take_apart-books.result ≡ vec_len c.args.links = c.take_apart-books.ensures.len ∙ c.put_under_locks-pool.ensures.len in
     let links : vec_len c.args.links ≡ length c.args.links.items = c.args.links.ok.0 in
     let books : vec_len c.take_apart-books.result ≡ length c.take_apart-books.result.items = c.take_apart-books.result.ok.0 in
     let few : length c.args.links.items ≤ 16 = omega (arith, links, c.requires.served.0) in
-    record {
-      totals = tt;
-      books = tt;
-      workers = tt;
-      finishes = tt;
-      back = (omega (arith, len, links, books), λ not. absurd (not (few, c.requires.served.1, c.requires.served.2)));
-    }
+    (omega (arith, len, links, books), λ not. absurd (not (few, c.requires.served.1, c.requires.served.2)))

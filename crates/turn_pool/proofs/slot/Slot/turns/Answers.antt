@@ -1,8 +1,7 @@
-use Rattle.std.proofs.Common.{◌≡◌, ◌^◌, ◌<◌, ◌≤◌, ◌+◌, ap, ◌∙◌, arith}
+use Rattle.std.proofs.Common.{◌≡◌, ◌^◌, ◌<◌, ap, ◌∙◌, arith}
 use Rattle.actor_book.specs.Turns.{rests}
 use Rattle.actor_machine.specs.Ledger.{Ledger, next}
 use Rattle.turn_pool.specs.Links.{Link}
-use Rattle.turn_pool.specs.Steps.{HasCounted}
 use Rattle.turn_pool.proofs.Growing.{rests_count}
 use Rattle.turn_pool.proofs.slot.Slot.turns.Goals as goal
 
@@ -28,3 +27,16 @@ returns g c =
         omega (arith, c.count.ensures.seat, c.next-before.ensures.value, c.next-after.ensures.value, grown.0, grown.1, into, c.turns_of-turns.ensures.turns),
       );
     }
+
+pub overflow_sub-after : goal.overflow_sub-after
+overflow_sub-after g c =
+    let grown = rests_count c.args.most c.self.inside.book in
+    omega (arith, c.next-before.ensures.value, c.next-after.ensures.value, grown.0, ap next c.turns_of-turns.ensures.book)
+
+pub invariant_of-self : goal.invariant_of-self
+invariant_of-self g c =
+    let grown = rests_count c.args.most c.self.inside.book in
+    let into = ap next c.turns_of-turns.ensures.book in (
+      c.count.ensures.parts ∙ c.self.invariant.0,
+      omega (arith, c.count.ensures.from, c.self.invariant.1, c.next-before.ensures.value, c.next-after.ensures.value, grown.0, into),
+    )
