@@ -21,30 +21,27 @@ one_by : (m : Msu) (b : Bool) → length (cond b (m ∷ []) []) ≡ 0 + cond {A 
 one_by m true = refl
 one_by m false = refl
 
-on_case : (m : Msu) (b c : Bool) (xs ys : List Msu) → length xs ≡ length ys + cond {A = ℕ} c 1 0 → length (cond b (m ∷ xs) xs) ≡ length (cond b (m ∷ ys) ys) + cond {A = ℕ} c 1 0
-on_case m true c xs ys e = omega (arith, e)
-on_case m false c xs ys e = e
+on_case : (m : Msu) (b : Bool) (x : ℕ) (xs ys : List Msu) → length xs ≡ length ys + x → length (cond b (m ∷ xs) xs) ≡ length (cond b (m ∷ ys) ys) + x
+on_case m true x xs ys e = omega (arith, e)
+on_case m false x xs ys e = e
 
 step : (p : Points) (ms : List Msu) (i : ℕ)
     → length (filter (is_bound p) (take (suc i) ms)) ≡ length (filter (is_bound p) (take i ms)) + cond {A = ℕ} (bound_by p (slice_get ms i)) 1 0
 step p [] zero = refl
 step p [] (suc i) = refl
 step p (m ∷ ms) zero = one_by m (is_bound p m)
-step p (m ∷ ms) (suc i) = on_case m (is_bound p m) (bound_by p (slice_get ms i)) (filter (is_bound p) (take (suc i) ms)) (filter (is_bound p) (take i ms)) (step p ms i)
+step p (m ∷ ms) (suc i) = on_case m (is_bound p m) (cond {A = ℕ} (bound_by p (slice_get ms i)) 1 0) (filter (is_bound p) (take (suc i) ms)) (filter (is_bound p) (take i ms)) (step p ms i)
 
-counted : (p : Points) (ms : List Msu) (i n : ℕ) (b c : Bool) → b ≡ bound_by p (slice_get ms i) → b ≡ c → n ≡ length (filter (is_bound p) (take i ms))
-    → length (filter (is_bound p) (take (i + 1) ms)) ≡ n + cond {A = ℕ} c 1 0
-counted p ms i n b c is e so =
+counted : (k : Link) (i : ℕ) (b c : Bool) → b ≡ bound_by k.points (slice_get (held k) i) → b ≡ c → length (bound_among k (i + 1)) ≡ length (bound_among k i) + cond {A = ℕ} c 1 0
+counted k i b c is e =
     let next : i + 1 ≡ suc i = omega arith in
-    ap (λ (j : ℕ). length (filter (is_bound p) (take j ms))) next ∙ step p ms i
-    ∙ ap (λ (x : Bool). length (filter (is_bound p) (take i ms)) + cond {A = ℕ} x 1 0) (sym is ∙ e)
-    ∙ ap (λ (x : ℕ). x + cond {A = ℕ} c 1 0) (sym so)
+    ap (λ (j : ℕ). length (bound_among k j)) next ∙ step k.points (held k) i ∙ ap (λ (x : Bool). length (bound_among k i) + cond {A = ℕ} x 1 0) (sym is ∙ e)
 
-pub one_more : (k : Link) (i n new : ℕ) (b : Bool) → b ≡ bound_by k.points (slice_get (held k) i) → b ≡ true → new ≡ n + 1 → n ≡ length (bound_among k i) → new ≡ length (bound_among k (i + 1))
-one_more k i n new b is e grown so = grown ∙ sym (counted k.points (held k) i n b true is e so)
+pub one_more : (k : Link) (i : ℕ) (b : Bool) → b ≡ bound_by k.points (slice_get (held k) i) → b ≡ true → length (bound_among k (i + 1)) ≡ length (bound_among k i) + 1
+one_more k i b is e = counted k i b true is e
 
-pub no_more : (k : Link) (i n : ℕ) (b : Bool) → b ≡ bound_by k.points (slice_get (held k) i) → b ≡ false → n ≡ length (bound_among k i) → n ≡ length (bound_among k (i + 1))
-no_more k i n b is e so = let plain : n ≡ n + 0 = omega arith in plain ∙ sym (counted k.points (held k) i n b false is e so)
+pub none_more : (k : Link) (i : ℕ) (b : Bool) → b ≡ bound_by k.points (slice_get (held k) i) → b ≡ false → length (bound_among k (i + 1)) ≡ length (bound_among k i) + 0
+none_more k i b is e = counted k i b false is e
 
 pub unknown_is : (k : Link) (sent n : ℕ) → IsWindow (window k) → sent ≡ (window k).sent → n ≡ length (bound_among k sent) → sent - n ≡ unknown k
 unfolding unknown

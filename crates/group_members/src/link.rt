@@ -1,5 +1,5 @@
 //! One link of a set.
-ghost use Rattle.std.specs.Prelude.{◌≡◌, ◌≤◌, All, drop, length, slice_get, IfSome, IfOk, OnOk, OnErr, Some, None};
+ghost use Rattle.std.specs.Prelude.{◌≡◌, ◌+◌, ◌≤◌, All, drop, length, slice_get, IfSome, IfOk, OnOk, OnErr, Some, None};
 ghost use Rattle.resend_store.specs.Messages.{IsMessage};
 ghost use Rattle.group_changeover.specs.Changeovers.{IsKind};
 ghost use Rattle.link_term.specs.Kept.{window_of};
@@ -172,7 +172,7 @@ impl Link {
     }
 
     /// Whether the message that it holds at a place is bound to it.
-    pub(crate) fn is_bound_at(&self, place: usize) -> bool
+    fn is_bound_at(&self, place: usize) -> bool
         ensures { result ≡ bound_by self.now.points (slice_get (held self.now) place) }
     {
         match self.terminal.held_at(place) {
@@ -181,16 +181,23 @@ impl Link {
         }
     }
 
+    /// 1 where that is so, else 0.
+    #[tactic(auto, using(crate::proofs::Renewing::one_more, crate::proofs::Renewing::none_more))]
+    fn one_bound(&self, place: usize) -> usize
+        ensures more { length (bound_among self.now (place + 1)) ≡ length (bound_among self.now place) + result }
+        ensures within { result ≤ 1 }
+    {
+        if self.is_bound_at(place) { 1 } else { 0 }
+    }
+
     /// How many of the first so many messages that it holds are bound to it.
     pub(crate) fn bound_among(&self, count: usize) -> usize
         ensures value { result ≡ length (bound_among self.now count) }
         ensures within { result ≤ count }
     {
-        let mut bound: usize = 0;
+        let mut bound = 0;
         for place in 0..count {
-            if self.is_bound_at(place) {
-                bound += 1;
-            }
+            bound += self.one_bound(place);
         }
         bound
     }

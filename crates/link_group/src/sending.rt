@@ -1,5 +1,5 @@
 //! Messages to send, and messages of a changeover.
-ghost use Rattle.std.specs.Prelude.{◌≡◌, Option, Some, OnOk, OnErr, IfOk, ◌<◌};
+ghost use Rattle.std.specs.Prelude.{◌≡◌, true, Option, Some, OnOk, OnErr, IfOk, ◌<◌};
 ghost use Rattle.group_changeover.specs.Limits.{SELECTIONS};
 ghost use Rattle.group_changeover.specs.Sharing.{selection_of};
 ghost use Rattle.group_changeover.specs.Labels.{label_in, IsLabel};
@@ -32,8 +32,9 @@ impl Group {
     ///
     /// # Errors
     ///
-    /// `K5 Bound` where it is bound to a link: [`Group::send_by`] takes it. `K1 NoLink` where its selection has no link, or that link isn't in changeover and is out of service, held or not admitted, `K2 Waiting`
-    /// where that link is in changeover, `E1 Full` where as many wait there as may. Nothing changes then.
+    /// `K5 Bound` where it is bound to a link: [`Group::send_by`] takes it. `K1 NoLink` where its selection has no link, or that link isn't in
+    /// changeover and is out of service, held or not admitted, `K2 Waiting` where that link is in changeover, `E1 Full` where as many wait there as
+    /// may. Nothing changes then.
     #[tactic(auto, using(crate::proofs::Fields::long_enough), unfolding(crate::specs::Set::send_fault, crate::specs::Set::sent))]
     pub fn send(&mut self, label: Label, msu: Msu) -> Result<(), SendError>
         requires { label_in msu.sif.items ≡ Some label }
@@ -42,10 +43,11 @@ impl Group {
         ensures err { OnErr result (self.new ≡ self.old) }
         ensures within { selection_of msu < SELECTIONS }
     {
+        let selection = selection_of(&msu);
         if self.is_bound(&msu) {
             return Err(SendError::Bound);
         }
-        match self.table.link_of(selection_of(&msu)) {
+        match self.table.link_of(selection) {
             Some(at) => put_at(self.links.as_mut_slice(), at, msu),
             None => Err(SendError::NoLink),
         }
