@@ -1,4 +1,7 @@
 //! One line of a set.
+ghost use Rattle.std.specs.Prelude.{◌≡◌, ◌<◌, ◌++◌, ℕ, List, length, replicate, IfOk, OnOk};
+ghost use Rattle.line_filter.specs.Speaking.{Gives};
+ghost use Rattle.set_play.specs.Wires.{gives_units, Speaks, Waits, Passes};
 
 use line_filter::Voice;
 use set_tending::{TendError, Tender};
@@ -57,7 +60,10 @@ impl Wire {
     }
 
     /// The octet that goes out next.
-    fn next(&mut self, tender: &mut Tender, link: usize) -> Result<u8, TendError> {
+    fn next(&mut self, tender: &mut Tender, link: usize) -> Result<u8, TendError>
+        ensures { IfOk result (λ octet. Gives (gives_units link) tender.old.set self.old.voice octet tender.new.set self.new.voice) }
+        ensures quiet { self.new.quiet ≡ self.old.quiet }
+    {
         if let Some(octet) = self.voice.rest() {
             return Ok(octet);
         }
@@ -74,7 +80,11 @@ impl Wire {
         link: usize,
         count: usize,
         out: &mut Vec<u8>,
-    ) -> Result<(), TendError> {
+    ) -> Result<(), TendError>
+        ensures { OnOk result ((gives : List ℕ) × (length gives ≡ count) × (out.new.items ≡ out.old.items ++ gives)
+            × Speaks link tender.old.set self.old.voice gives tender.new.set self.new.voice) }
+        ensures quiet { self.new.quiet ≡ self.old.quiet }
+    {
         for _octet in 0..count {
             let octet = self.next(tender, link)?;
             if out.push(octet).is_err() {
@@ -91,7 +101,10 @@ impl Wire {
         link: usize,
         ahead: usize,
         out: &mut Vec<u8>,
-    ) -> Result<Passed, TendError> {
+    ) -> Result<Passed, TendError>
+        ensures { IfOk result (Waits ahead self.old.quiet out.old.items out.new.items self.new.quiet) }
+        ensures voice { self.new.voice ≡ self.old.voice }
+    {
         self.quiet = self.quiet.saturating_add(1);
         if self.quiet < PATIENCE {
             return Ok(Passed::Same);
@@ -124,7 +137,9 @@ impl Wire {
         ahead: usize,
         came: &[u8],
         out: &mut Vec<u8>,
-    ) -> Result<Passed, TendError> {
+    ) -> Result<Passed, TendError>
+        ensures { OnOk result (Passes link ahead came.now tender.old self.old out.old.items tender.new self.new out.new.items) }
+    {
         if came.is_empty() {
             return self.wait(tender, link, ahead, out);
         }

@@ -1,7 +1,10 @@
 -- What is kept of each link, and how it changes.
 use Rattle.std.specs.Prelude.{ℕ, ◌+◌, ◌-◌, ◌^◌, ◌&&◌, ◌||◌, nat_lt, nat_le, not, Bool, true, false}
 use Rattle.std.specs.Prelude.{if◌then◌else◌, min, max, Option, Some, None}
+use Rattle.std.specs.Prelude.{is_some, is_none}
+use Rattle.group_changeover.specs.Saying.{is_order as is_kind_order}
 use Rattle.set_tending.specs.declared.care.Care.{Care}
+use Rattle.set_tending.specs.declared.care.Owed.{Owed}
 use Rattle.set_tending.specs.declared.care.Testing.TheVariants.{Rests}
 
 -- Q.704's T2 and T17, in ticks
@@ -17,6 +20,32 @@ LAST = 2 ^ 64 - 1
 -- ticks later; it stays at its greatest value
 abbrev pub later : ℕ → ℕ → ℕ
 later now ticks = min LAST (now + ticks)
+
+-- an order, and one that waits for a link to go by
+abbrev pub is_order : Owed → Bool
+is_order o = is_kind_order o.kind
+
+abbrev pub waits : Owed → Bool
+waits o = is_none o.by
+
+-- nothing happened
+abbrev pub new_care : Care
+new_care = record {
+  powered = false;
+  wanted = false;
+  serves = false;
+  served = false;
+  started = false;
+  stopping = false;
+  rested = 0;
+  due = None;
+  outage = false;
+  patience = PATIENCE;
+  owed = None;
+  test = Rests 0;
+  tests = 0;
+  handed = 0;
+}
 
 -- it comes into service: its test begins now, and what was to be said of it speaks of numbers that
 -- are no more
@@ -46,6 +75,14 @@ desired now c = record c {
 
 unfoldable pub let_be : Care → Care
 let_be c = record c { wanted = false; due = None }
+
+-- its changeover begins
+abbrev pub changing : Care → Care
+changing c = record c { patience = PATIENCE }
+
+-- it is on its way into service
+abbrev pub is_coming : Care → Bool
+is_coming c = c.started || is_some c.due
 
 abbrev pub due_by : Care → ℕ → Option ℕ → Option ℕ
 due_by c now None = None

@@ -51,11 +51,25 @@ pub record TellsOf (messages : List Msu) (old new : Tended) : Type 0 where
   pub told : new.told ≡ old.told ++ more
   pub messages_are : messages_in more ≡ messages
 
+-- The rules did what they do by calls of the set, and told no message.
+pub record DoesFor (old new : Tended) : Type 0 where
+  pub goes : Goes old [] new
+  pub now : new.now ≡ old.now
+  pub tells : TellsOf [] old new
+
 -- a tick passed
 pub record Ticks (old new : Tended) : Type 0 where
   pub goes : Goes old [] new
   pub now : new.now ≡ min (2 ^ 64 - 1) (old.now + 1)
   pub told : new.told ≡ old.told
+
+-- Links were heeded: of each message for level 3 that they handed out it is told once, in their
+-- order.
+pub record IsHeeded (old new : Tended) : Type 0 where
+  pub handed : List Handed
+  pub heeds : Heeds old handed new
+  pub now : new.now ≡ old.now
+  pub tells : TellsOf (user_messages old.ends (length old.set.links) handed) old new
 
 -- Links were heeded, and then tended. Of each message for level 3 that they handed out it is told
 -- once, in their order.

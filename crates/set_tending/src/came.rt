@@ -1,4 +1,7 @@
 //! What a message that came is to a set.
+ghost use Rattle.std.specs.Prelude.{◌≡◌, ◌≢◌, None, drop};
+ghost use Rattle.group_changeover.specs.Labels.{label_in};
+ghost use Rattle.set_tending.specs.Came.{comes_between, management_in, test_in, came};
 
 use crate::ends::Ends;
 use group_changeover::{Kind, Label, label_of, read_changeover};
@@ -20,7 +23,10 @@ pub enum Came {
 }
 
 /// What stands behind the label of a message of network management.
-fn management_in(sif: &[u8], link: usize) -> Came {
+fn management_in(sif: &[u8], link: usize) -> Came
+    requires { label_in sif.now ≢ None }
+    ensures { result ≡ management_in link (drop 4 sif.now) }
+{
     match read_changeover(sif) {
         Some(message) => Came::Changeover(link, message.kind),
         None => match sif {
@@ -36,7 +42,10 @@ fn is_pattern(length: u8, pattern: &[u8]) -> bool {
 }
 
 /// What stands behind the label of a test.
-fn test_in(sif: &[u8], link: usize) -> Came {
+fn test_in(sif: &[u8], link: usize) -> Came
+    requires { label_in sif.now ≢ None }
+    ensures { result ≡ test_in link (drop 4 sif.now) }
+{
     match sif {
         [_, _, _, _, 0x11, length, pattern @ ..] if is_pattern(*length, pattern) => {
             Came::Test(link)
@@ -50,12 +59,17 @@ fn test_in(sif: &[u8], link: usize) -> Came {
 
 impl Ends {
     /// Whether a label leads from the other point to this one.
-    fn comes_between(self, label: Label) -> bool {
+    fn comes_between(self, label: Label) -> bool
+        ensures { result ≡ comes_between self label }
+    {
         label.dpc == self.own && label.opc == self.peer
     }
 
     /// What a message that came is.
-    pub(crate) fn came(self, msu: &Msu) -> Came {
+    #[tactic(auto, unfolding(crate::specs::Came::came))]
+    pub(crate) fn came(self, msu: &Msu) -> Came
+        ensures { result ≡ came self msu.now }
+    {
         let Some(label) = label_of(msu) else {
             return Came::Message;
         };

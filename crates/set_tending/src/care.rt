@@ -1,4 +1,6 @@
 //! What is kept of each link.
+ghost use Rattle.std.specs.Prelude.{◌≡◌};
+ghost use Rattle.set_tending.specs.Cares.{is_order, waits, new_care, risen, fallen, desired, let_be, changing, is_coming, is_due};
 
 use group_changeover::Kind;
 
@@ -69,7 +71,9 @@ pub struct Care {
 
 impl Owed {
     /// Whether it is an order.
-    pub fn is_order(self) -> bool {
+    pub fn is_order(self) -> bool
+        ensures { result ≡ is_order self }
+    {
         match self.kind {
             Kind::Order(_) | Kind::EmergencyOrder => true,
             Kind::Acknowledgement(_) | Kind::EmergencyAcknowledgement => false,
@@ -77,14 +81,18 @@ impl Owed {
     }
 
     /// Whether it waits for a link to go by.
-    pub fn waits(self) -> bool {
+    pub fn waits(self) -> bool
+        ensures { result ≡ waits self }
+    {
         self.by.is_none()
     }
 }
 
 impl Care {
     /// Nothing happened.
-    pub fn new() -> Care {
+    pub fn new() -> Care
+        ensures { result ≡ new_care }
+    {
         Care {
             powered: false,
             wanted: false,
@@ -104,7 +112,9 @@ impl Care {
     }
 
     /// It comes into service. What was to be said of it speaks of numbers that are no more.
-    pub fn risen(self, now: u64) -> Care {
+    pub fn risen(self, now: u64) -> Care
+        ensures { result ≡ risen now self }
+    {
         Care {
             serves: true,
             served: true,
@@ -115,7 +125,9 @@ impl Care {
     }
 
     /// It goes down.
-    pub fn fallen(self, now: u64) -> Care {
+    pub fn fallen(self, now: u64) -> Care
+        ensures { result ≡ fallen now self }
+    {
         let rested = now.saturating_add(REST);
         Care {
             serves: false,
@@ -128,7 +140,9 @@ impl Care {
     }
 
     /// It is to be in service from now on.
-    pub fn desired(self, now: u64) -> Care {
+    pub fn desired(self, now: u64) -> Care
+        ensures { result ≡ desired now self }
+    {
         let due = if self.serves || self.started {
             self.due
         } else {
@@ -142,7 +156,9 @@ impl Care {
     }
 
     /// It isn't any more.
-    pub fn let_be(self) -> Care {
+    pub fn let_be(self) -> Care
+        ensures { result ≡ let_be self }
+    {
         Care {
             wanted: false,
             due: None,
@@ -151,7 +167,9 @@ impl Care {
     }
 
     /// Its changeover begins.
-    pub fn changing(self) -> Care {
+    pub fn changing(self) -> Care
+        ensures { result ≡ changing self }
+    {
         Care {
             patience: PATIENCE,
             ..self
@@ -159,12 +177,16 @@ impl Care {
     }
 
     /// Whether it is on its way into service: it was started, or is to be.
-    pub fn is_coming(self) -> bool {
+    pub fn is_coming(self) -> bool
+        ensures { result ≡ is_coming self }
+    {
         self.started || self.due.is_some()
     }
 
     /// Since which tick its Start has been due, where it is.
-    pub fn is_due(self, now: u64) -> Option<u64> {
+    pub fn is_due(self, now: u64) -> Option<u64>
+        ensures { result ≡ is_due now self }
+    {
         match self.due {
             Some(due) if due <= now && self.wanted && self.powered && !self.started => Some(due),
             _ => None,

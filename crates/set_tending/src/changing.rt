@@ -1,4 +1,6 @@
 //! Changeover of links, step by step.
+ghost use Rattle.std.specs.Prelude.{◌≡◌, [], OnOk, OnErr};
+ghost use Rattle.set_tending.specs.Rounds.{Goes, DoesFor};
 
 use crate::care::{LONGEST, PATIENCE};
 use crate::tender::{TendError, Tender};
@@ -8,7 +10,9 @@ use link_group::{AbandonError, Command, DivertError, LinkState, RetrieveError, R
 
 impl Tender {
     /// A changeover begins, unless it goes on, and its order is owed.
-    pub(crate) fn begin_changeover(&mut self, link: usize) -> Result<(), TendError> {
+    pub(crate) fn begin_changeover(&mut self, link: usize) -> Result<(), TendError>
+        ensures { OnOk result (DoesFor self.old self.new) }
+    {
         let Ok(sif) = self.set.fail(link) else {
             return Ok(());
         };
@@ -20,7 +24,9 @@ impl Tender {
     }
 
     /// A link that is held in service is stopped.
-    pub(crate) fn stop_held(&mut self, link: usize, state: LinkState) -> Result<(), TendError> {
+    pub(crate) fn stop_held(&mut self, link: usize, state: LinkState) -> Result<(), TendError>
+        ensures { OnOk result (DoesFor self.old self.new) }
+    {
         if state.in_service && state.held && !self.care(link).stopping {
             self.cares[link % 16].stopping = self.command(link, Command::Stop)?;
         }
@@ -28,7 +34,9 @@ impl Tender {
     }
 
     /// The next step of a changeover that goes on: the messages are handed out, and diverted.
-    pub(crate) fn change_over(&mut self, link: usize, state: LinkState) -> Result<(), TendError> {
+    pub(crate) fn change_over(&mut self, link: usize, state: LinkState) -> Result<(), TendError>
+        ensures { OnOk result (DoesFor self.old self.new) }
+    {
         let Some(waited) = state.changeover else {
             return Ok(());
         };
@@ -58,7 +66,9 @@ impl Tender {
     }
 
     /// Has a link hand out its messages. Where it isn't known which of them arrived they are given up, if nothing more is to be waited for.
-    fn hand_out(&mut self, link: usize, is_over: bool) -> Result<(), TendError> {
+    fn hand_out(&mut self, link: usize, is_over: bool) -> Result<(), TendError>
+        ensures { OnOk result (DoesFor self.old self.new) }
+    {
         match self.set.retrieve(link) {
             Ok(retrieved) => self.keep_hand(retrieved),
             Err(RetrieveError::Unsure(count)) if is_over => self.give_up(link, count),
@@ -70,7 +80,9 @@ impl Tender {
     }
 
     /// Gives up the messages of a link that were sent, and keeps the others.
-    fn give_up(&mut self, link: usize, count: usize) -> Result<(), TendError> {
+    fn give_up(&mut self, link: usize, count: usize) -> Result<(), TendError>
+        ensures { OnOk result (DoesFor self.old self.new) }
+    {
         match self.set.abandon(link) {
             Ok(retrieved) => {
                 self.keep_hand(retrieved)?;
@@ -82,7 +94,9 @@ impl Tender {
     }
 
     /// Diverts what a link handed out, as far as it goes.
-    fn divert(&mut self, link: usize) -> Result<(), TendError> {
+    fn divert(&mut self, link: usize) -> Result<(), TendError>
+        ensures { OnOk result (DoesFor self.old self.new) }
+    {
         let Some(retrieved) = self.hands.take(link) else {
             return Ok(());
         };

@@ -1,4 +1,7 @@
 //! What links tell.
+ghost use Rattle.std.specs.Prelude.{◌≡◌, [], length, OnOk};
+ghost use Rattle.link_transceiver.specs.declared.signals.Report.TheVariants.{Message};
+ghost use Rattle.set_tending.specs.Rounds.{Goes, TellsOf, user_message, DoesFor, IsHeeded};
 
 use crate::came::Came;
 use crate::care::{Owed, PATIENCE, Testing};
@@ -12,7 +15,9 @@ const BETWEEN_TESTS: u64 = 60_000;
 
 impl Tender {
     /// Takes all that each link has to tell.
-    pub(crate) fn heed_all(&mut self) -> Result<(), TendError> {
+    pub(crate) fn heed_all(&mut self) -> Result<(), TendError>
+        ensures { OnOk result (IsHeeded self.old self.new) }
+    {
         for link in 0..self.set.len() {
             self.heed_link(link)?;
         }
@@ -20,7 +25,9 @@ impl Tender {
     }
 
     /// Takes all that a link has to tell.
-    pub fn heed_link(&mut self, link: usize) -> Result<(), TendError> {
+    pub fn heed_link(&mut self, link: usize) -> Result<(), TendError>
+        ensures { OnOk result (IsHeeded self.old self.new) }
+    {
         for _report in 0..u64::MAX {
             match self.set.report(link) {
                 Ok(Some(Report::Message(msu))) => self.heed_message(link, msu)?,
@@ -32,7 +39,9 @@ impl Tender {
     }
 
     /// Takes what was told of a link.
-    fn heed_status(&mut self, link: usize, status: LinkStatus) -> Result<(), TendError> {
+    fn heed_status(&mut self, link: usize, status: LinkStatus) -> Result<(), TendError>
+        ensures { OnOk result (DoesFor self.old self.new) }
+    {
         match status {
             LinkStatus::InService => {
                 let care = self.care(link).risen(self.now);
@@ -47,7 +56,9 @@ impl Tender {
     }
 
     /// A link went down: its changeover begins, unless it wasn't in service or its changeover goes on.
-    fn go_down(&mut self, link: usize, reason: i32) -> Result<(), TendError> {
+    fn go_down(&mut self, link: usize, reason: i32) -> Result<(), TendError>
+        ensures { OnOk result (DoesFor self.old self.new) }
+    {
         self.tell(Told::Down(link, reason))?;
         if self.tests {
             let _there = self.set.admit(link, false).is_ok();
@@ -62,7 +73,10 @@ impl Tender {
     }
 
     /// Takes a message that came by a link.
-    fn heed_message(&mut self, link: usize, msu: Msu) -> Result<(), TendError> {
+    fn heed_message(&mut self, link: usize, msu: Msu) -> Result<(), TendError>
+        ensures goes { OnOk result (Goes self.old [] self.new) }
+        ensures tells { OnOk result (TellsOf (user_message self.old.ends (length self.old.set.links) (Message msu)) self.old self.new) }
+    {
         match self.ends.came(&msu) {
             Came::Message => self.tell(Told::Message(link, msu)),
             Came::Changeover(about, kind) => {
@@ -89,7 +103,9 @@ impl Tender {
 
     /// A message of changeover came about a link that is there, by another one. About one that hasn't been in service an order is answered
     /// without the set.
-    fn hear_changeover(&mut self, about: usize, kind: Kind, msu: &Msu) -> Result<(), TendError> {
+    fn hear_changeover(&mut self, about: usize, kind: Kind, msu: &Msu) -> Result<(), TendError>
+        ensures { OnOk result (DoesFor self.old self.new) }
+    {
         if !self.care(about).served {
             match kind {
                 Kind::Order(_) | Kind::EmergencyOrder => {
@@ -129,7 +145,9 @@ impl Tender {
     }
 
     /// An answer to a test came by a link. It counts where it names that link and has the pattern of the test that runs.
-    fn hear_answer(&mut self, link: usize, about: usize, msu: &Msu) -> Result<(), TendError> {
+    fn hear_answer(&mut self, link: usize, about: usize, msu: &Msu) -> Result<(), TendError>
+        ensures { OnOk result (DoesFor self.old self.new) }
+    {
         let care = self.care(link);
         let is_running = !matches!(care.test, Testing::Rests(_));
         if about != link || !is_running || !self.is_answer(link, msu) {

@@ -1,4 +1,9 @@
 //! Orders.
+ghost use Rattle.std.specs.Prelude.{◌≡◌, ◌∷◌, [], Some, OnOk, OnErr};
+ghost use Rattle.group_changeover.specs.Labels.{label_in};
+ghost use Rattle.group_members.specs.OneLink.{fault_of};
+ghost use Rattle.set_tending.specs.Rounds.{Goes, DoesFor};
+ghost use Rattle.set_tending.specs.Sending.{tended_send_fault};
 
 use crate::tender::Tender;
 use crate::told::Told;
@@ -34,7 +39,13 @@ impl Tender {
     ///
     /// `E1 Full` also where the link of its selection, which isn't in changeover, holds 256 messages or 3,000 octets; else those of
     /// [`link_group::Group::send`]. Nothing changes then.
-    pub fn send(&mut self, label: Label, msu: Msu) -> Result<(), SendError> {
+    pub fn send(&mut self, label: Label, msu: Msu) -> Result<(), SendError>
+        requires { label_in msu.sif.items ≡ Some label }
+        ensures fault { fault_of result ≡ tended_send_fault self.old.set msu }
+        ensures ok { OnOk result (Goes self.old (msu ∷ []) self.new) }
+        ensures same { self.new ≡ record self.old { set = self.new.set } }
+        ensures err { OnErr result (self.new ≡ self.old) }
+    {
         match self.set.link_of(label.sls) {
             Some(link) if !self.set.in_changeover(link) && self.is_full(link) => {
                 Err(SendError::Full)
@@ -48,7 +59,10 @@ impl Tender {
     /// # Errors
     ///
     /// Those of [`link_group::Group::command`], and nothing changes then; none for Start.
-    pub fn obey(&mut self, link: usize, command: Command) -> Result<(), CommandError> {
+    pub fn obey(&mut self, link: usize, command: Command) -> Result<(), CommandError>
+        ensures ok { OnOk result (DoesFor self.old self.new) }
+        ensures told { self.new.told ≡ self.old.told }
+    {
         if link >= self.set.len() {
             return Err(CommandError::NoLink);
         }
@@ -76,7 +90,10 @@ impl Tender {
     /// # Errors
     ///
     /// The same. Nothing changes then.
-    pub fn rebalance(&mut self) -> Result<(), RebalanceError> {
+    pub fn rebalance(&mut self) -> Result<(), RebalanceError>
+        ensures ok { OnOk result (DoesFor self.old self.new) }
+        ensures err { OnErr result (self.new ≡ self.old) }
+    {
         self.set.rebalance()
     }
 

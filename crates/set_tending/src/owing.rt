@@ -1,4 +1,6 @@
 //! Messages that are owed to the other point.
+ghost use Rattle.std.specs.Prelude.{◌≡◌, [], OnOk, OnErr};
+ghost use Rattle.set_tending.specs.Rounds.{Goes, DoesFor};
 
 use crate::care::Owed;
 use crate::tender::{TendError, Tender};
@@ -115,7 +117,9 @@ impl Tender {
     }
 
     /// Sends what is owed about a link.
-    pub(crate) fn pay_owed(&mut self, about: usize) -> Result<(), TendError> {
+    pub(crate) fn pay_owed(&mut self, about: usize) -> Result<(), TendError>
+        ensures { OnOk result (DoesFor self.old self.new) }
+    {
         let left = match self.owed_now(about) {
             Some(owed) if owed.waits() => Some(self.pay(about, owed)?),
             left => left,

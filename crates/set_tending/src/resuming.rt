@@ -1,11 +1,15 @@
 //! Messages go on behind an outage, and traffic restarts.
+ghost use Rattle.std.specs.Prelude.{◌≡◌, [], OnOk, OnErr};
+ghost use Rattle.set_tending.specs.Rounds.{Goes, DoesFor};
 
 use crate::tender::{TendError, Tender};
 use link_group::{Command, LinkState};
 
 impl Tender {
     /// A link that carries no messages though it is in service and not held, and no processor is out, is told to go on: an outage has ended.
-    pub(crate) fn resume(&mut self, link: usize, state: LinkState) -> Result<(), TendError> {
+    pub(crate) fn resume(&mut self, link: usize, state: LinkState) -> Result<(), TendError>
+        ensures { OnOk result (DoesFor self.old self.new) }
+    {
         let is_able = state.in_service && !state.held && !state.far_out && !state.own_out;
         if is_able && !state.carrying {
             let _taken = self.command(link, Command::Continue)?;

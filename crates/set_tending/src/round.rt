@@ -1,4 +1,8 @@
 //! A round.
+ghost use Rattle.std.specs.Prelude.{◌≡◌, [], IfOk, OnOk, OnErr};
+ghost use Rattle.link_group.specs.Doing.{Sent};
+ghost use Rattle.link_group.specs.Lines.{ByLink};
+ghost use Rattle.set_tending.specs.Rounds.{Goes, Ticks, DoesFor, Tends};
 
 use crate::tender::{TendError, Tender};
 use link_group::CallError;
@@ -7,12 +11,19 @@ use su_octets::Unit;
 
 impl Tender {
     /// Takes line octets of a link: how many, up to one that finds no room or no memory.
-    pub fn line_in(&mut self, link: usize, octets: &[u8]) -> usize {
+    pub fn line_in(&mut self, link: usize, octets: &[u8]) -> usize
+        ensures goes { Goes self.old [] self.new }
+        ensures same { self.new ≡ record self.old { set = self.new.set } }
+    {
         self.set.line_in(link, octets).unwrap_or(0)
     }
 
     /// The next unit of a link, if one is to go out.
-    pub fn unit_out(&mut self, link: usize) -> Result<Option<Unit>, AllocError> {
+    pub fn unit_out(&mut self, link: usize) -> Result<Option<Unit>, AllocError>
+        ensures ok { IfOk result (λ unit. ByLink (Sent unit) link self.old.set self.new.set) }
+        ensures same { self.new ≡ record self.old { set = self.new.set } }
+        ensures err { OnErr result (self.new ≡ self.old) }
+    {
         match self.set.unit_out(link) {
             Ok(unit) => Ok(unit),
             Err(_) => Err(AllocError),
@@ -24,7 +35,9 @@ impl Tender {
     /// # Errors
     ///
     /// Where a terminal refuses it, or there is no memory.
-    pub fn tick(&mut self) -> Result<(), TendError> {
+    pub fn tick(&mut self) -> Result<(), TendError>
+        ensures { OnOk result (Ticks self.old self.new) }
+    {
         match self.set.tick(1) {
             Ok(_) => {
                 self.now = self.now.saturating_add(1);
@@ -36,7 +49,9 @@ impl Tender {
     }
 
     /// Does what is to be done for a link.
-    fn tend_link(&mut self, link: usize) -> Result<(), TendError> {
+    fn tend_link(&mut self, link: usize) -> Result<(), TendError>
+        ensures { OnOk result (DoesFor self.old self.new) }
+    {
         let Some(state) = self.state(link) else {
             return Ok(());
         };
@@ -53,7 +68,9 @@ impl Tender {
     /// # Errors
     ///
     /// Where there is no memory.
-    pub fn tend(&mut self) -> Result<(), TendError> {
+    pub fn tend(&mut self) -> Result<(), TendError>
+        ensures { OnOk result (Tends self.old self.new) }
+    {
         self.heed_all()?;
         for link in 0..self.set.len() {
             self.tend_link(link)?;

@@ -1,4 +1,6 @@
 //! Selections are shared out anew.
+ghost use Rattle.std.specs.Prelude.{◌≡◌, [], OnOk, OnErr};
+ghost use Rattle.set_tending.specs.Rounds.{Goes, DoesFor};
 
 use crate::tender::{TendError, Tender};
 use crate::told::{SharedOut, Told};
@@ -107,7 +109,9 @@ impl Tender {
     }
 
     /// Tells the links of selections, where they are others than were told last.
-    pub(crate) fn tell_shared(&mut self) -> Result<(), TendError> {
+    pub(crate) fn tell_shared(&mut self) -> Result<(), TendError>
+        ensures { OnOk result (DoesFor self.old self.new) }
+    {
         let table = self.table();
         if table == self.shared {
             return Ok(());
@@ -184,7 +188,9 @@ impl Tender {
     }
 
     /// Changeover begins for links whose messages wait behind an outage.
-    fn leave(&mut self, links: &[usize]) -> Result<(), TendError> {
+    fn leave(&mut self, links: &[usize]) -> Result<(), TendError>
+        ensures { OnOk result (DoesFor self.old self.new) }
+    {
         for link in links {
             self.begin_changeover(*link)?;
         }
@@ -192,7 +198,9 @@ impl Tender {
     }
 
     /// What is done where messages are in the way.
-    fn drain(&mut self, able: &[usize]) -> Result<(), TendError> {
+    fn drain(&mut self, able: &[usize]) -> Result<(), TendError>
+        ensures { OnOk result (DoesFor self.old self.new) }
+    {
         let links = self.in_way(able);
         if self.all_out(links.as_slice()) {
             return self.wait_for(links.as_slice());
@@ -209,7 +217,9 @@ impl Tender {
     }
 
     /// What is done where all that is in the way is on links with a processor out.
-    fn wait_for(&mut self, links: &[usize]) -> Result<(), TendError> {
+    fn wait_for(&mut self, links: &[usize]) -> Result<(), TendError>
+        ensures { OnOk result (DoesFor self.old self.new) }
+    {
         let end = match self.sharing {
             Sharing::Blocked(end) => end,
             Sharing::Rests(_) | Sharing::Drains(_) => self.now.saturating_add(DRAIN),
@@ -231,7 +241,9 @@ impl Tender {
     }
 
     /// Shares selections out anew, where that is wanted and may be.
-    pub(crate) fn share(&mut self) -> Result<(), TendError> {
+    pub(crate) fn share(&mut self) -> Result<(), TendError>
+        ensures { OnOk result (DoesFor self.old self.new) }
+    {
         let able = self.able();
         if able.is_empty() || self.is_changing() || self.is_even(able.as_slice()) {
             self.settle();

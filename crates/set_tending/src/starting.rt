@@ -1,4 +1,6 @@
 //! Starts of links.
+ghost use Rattle.std.specs.Prelude.{◌≡◌, [], OnOk, OnErr};
+ghost use Rattle.set_tending.specs.Rounds.{Goes, DoesFor};
 
 use crate::care::PATIENCE;
 use crate::tender::{TendError, Tender};
@@ -36,7 +38,9 @@ impl Tender {
     }
 
     /// Starts a link where that is due, and doesn't wait for what is to be said of it, for 1,400 ticks at most.
-    pub(crate) fn start(&mut self, link: usize) -> Result<(), TendError> {
+    pub(crate) fn start(&mut self, link: usize) -> Result<(), TendError>
+        ensures { OnOk result (DoesFor self.old self.new) }
+    {
         let Some(due) = self.care(link).is_due(self.now) else {
             return Ok(());
         };

@@ -1,4 +1,7 @@
 //! The set with what is kept of it.
+ghost use Rattle.std.specs.Prelude.{◌≡◌, [], length, IfOk, IfErr, IfSome, IsNone, replicate, ◌∷◌};
+ghost use Rattle.set_tending.specs.Ends.{AreEnds};
+ghost use Rattle.set_tending.specs.Tended.{IsNewTended};
 
 use crate::care::Care;
 use crate::ends::Ends;
@@ -7,6 +10,7 @@ use crate::told::{SharedOut, Told};
 use link_group::{Group, Label, LinkState, Msu, Retrievals};
 use std::alloc::{AllocError, Global};
 use std::collections::VecDeque;
+use std::marker::Model;
 use thiserror::Error;
 
 /// How many links a set has at most.
@@ -49,13 +53,35 @@ pub struct Tender {
     pub(crate) told: VecDeque<Told>,
 }
 
+impl Model for Tender {
+    ghost use Rattle.std.specs.Prelude.{◌≡◌, length, vec_capacity, ◌≤◌};
+    ghost use Rattle.std.specs.Coded.{codes};
+    ghost use Rattle.tick_wheel.specs.Timers.{timers_code};
+    ghost use Rattle.set_tending.specs.Ends.{AreEnds};
+    ghost use Rattle.set_tending.specs.Tended.{Tended};
+
+    ghost Value = { Tended };
+
+    ghost coded = { Prim.hlevel (codes, timers_code) };
+
+    ghost view = { λ t. record { set = t.set; hands = t.hands.kept.items; cares = t.cares; ends = t.ends; tests = t.tests; now = t.now; sharing = t.sharing; told = t.told.items } };
+
+    ghost invariant = { λ t. AreEnds t.ends × (t.set.own ≡ t.ends.own) × (t.set.peer ≡ t.ends.peer) };
+}
+
 impl Tender {
     /// A new set, whose links are tested or not. Nothing has happened.
     ///
     /// # Errors
     ///
     /// Where there is no memory, the set with that.
-    pub fn new(alloc: Global, ends: Ends, tests: bool, set: Group) -> Result<Tender, Group> {
+    pub fn new(alloc: Global, ends: Ends, tests: bool, set: Group) -> Result<Tender, Group>
+        requires ends { AreEnds ends }
+        requires own { set.own ≡ ends.own }
+        requires peer { set.peer ≡ ends.peer }
+        ensures new { IfOk result (IsNewTended ends tests set) }
+        ensures back { IfErr result (λ back. back ≡ set) }
+    {
         match Retrievals::new(alloc) {
             Ok(hands) => {
                 let mut tender = Tender {
@@ -86,17 +112,23 @@ impl Tender {
     }
 
     /// How many links there are.
-    pub fn len(&self) -> usize {
+    pub fn len(&self) -> usize
+        ensures { result ≡ length self.now.set.links }
+    {
         self.set.len()
     }
 
     /// How many ticks have passed.
-    pub fn now(&self) -> u64 {
+    pub fn now(&self) -> u64
+        ensures { result ≡ self.now.now }
+    {
         self.now
     }
 
     /// The set.
-    pub fn set(&self) -> &Group {
+    pub fn set(&self) -> &Group
+        ensures { result.now ≡ self.now.set }
+    {
         &self.set
     }
 
@@ -122,7 +154,10 @@ impl Tender {
     }
 
     /// What is told next.
-    pub fn take_told(&mut self) -> Option<Told> {
+    pub fn take_told(&mut self) -> Option<Told>
+        ensures some { IfSome result (λ told. (self.old.told ≡ told ∷ self.new.told) × (self.new ≡ record self.old { told = self.new.told })) }
+        ensures none { IsNone result → (self.old.told ≡ []) × (self.new ≡ self.old) }
+    {
         self.told.pop_front()
     }
 

@@ -1,4 +1,6 @@
 //! Tests of links (Q.707, 2.2).
+ghost use Rattle.std.specs.Prelude.{◌≡◌, [], OnOk, OnErr};
+ghost use Rattle.set_tending.specs.Rounds.{Goes, DoesFor};
 
 use crate::care::Testing;
 use crate::ends::Pattern;
@@ -34,7 +36,9 @@ impl Tender {
     }
 
     /// What a test leads to at this tick. None runs while a processor is out.
-    pub(crate) fn test(&mut self, link: usize, state: LinkState) -> Result<(), TendError> {
+    pub(crate) fn test(&mut self, link: usize, state: LinkState) -> Result<(), TendError>
+        ensures { OnOk result (DoesFor self.old self.new) }
+    {
         if !self.tests || !state.in_service || state.held {
             return Ok(());
         }
