@@ -312,6 +312,8 @@ class Tender:
         self.start(at, link, care)
 
     def change_over(self, at, link, care):
+        if self.least(at) is not None:
+            care.patience = max(0, care.patience - 1)
         if not link.out and not care.serves:
             why = link.why_not()
             if why is None:
@@ -332,10 +334,11 @@ class Tender:
 
     def may_wait(self, at, link, care):
         """Whether there is still something to wait for, before what a link sent is given up: another link that carries its order, or that is on its way."""
-        if self.least(at) is not None:
-            care.patience -= 1
-            return care.patience > 0
-        return link.waited < PATIENCE or link.waited < LONGEST and any(self.is_coming(other) for other in range(len(self.cares)) if other != at)
+        if care.patience == 0:
+            return False
+        if self.least(at) is not None or link.waited < PATIENCE:
+            return True
+        return link.waited < LONGEST and any(self.is_coming(other) for other in range(len(self.cares)) if other != at)
 
     def is_coming(self, at):
         care, link = self.cares[at], self.set.links[at]

@@ -1,4 +1,4 @@
-//! A signalling link terminal on a line: what it does there, how it obeys and tells, and a whole run.
+//! A signalling link terminal on a line: what it does there, how it obeys and tells, and a whole run. A set of links on lines, round by round.
 #![tactic(auto)]
 
 mod commands;
@@ -6,6 +6,15 @@ mod link_end;
 mod measured;
 mod opening;
 mod running;
+mod set_answers;
+mod set_asked;
+mod set_desk;
+mod set_lines;
+mod set_measures;
+mod set_opening;
+mod set_orders;
+mod set_queue;
+mod set_round;
 mod texts;
 
 pub use commands::line_command;
@@ -17,3 +26,8 @@ pub use running::{link_desk, run_link};
 pub use script_check::SetWord;
 pub use script_links::mode_named;
 pub use script_terminal::{Mode, Terminal};
+pub use set_desk::SetDesk;
+pub use set_lines::{Came, Lines};
+pub use set_opening::{SetPlan, open_tender};
+pub use set_orders::{Focus, SetOrder, set_order_in};
+pub use set_tending::{Ends, Tender};

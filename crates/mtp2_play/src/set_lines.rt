@@ -1,8 +1,8 @@
 //! The lines of a set, which threads read and write.
 
 use line_filter::Bits;
+use line_play::{Came, Lines};
 use line_streams::{Departures, Fed, Feed, open_both};
-use set_play::{Came, Lines};
 use std::alloc::{AllocError, Global};
 use std::fs::File;
 use std::io::{self, ErrorKind};
@@ -34,6 +34,8 @@ struct SetLine<'a> {
     shut: u64,
     /// Whether it failed, and didn't end, as it was open last.
     failed: bool,
+    /// Whether octets couldn't be written since it was opened.
+    broken: bool,
 }
 
 /// The lines of a set.
@@ -61,6 +63,7 @@ impl SetLine<'_> {
         self.open = None;
         self.shut = 1;
         self.failed = failed;
+        self.broken = false;
     }
 
     /// Opens it.
@@ -106,6 +109,7 @@ impl SetLine<'_> {
         part: &mut [u8],
     ) -> Came {
         let fed = match &mut self.open {
+            Some(_) if self.broken => Fed::Failed,
             Some(open) => open.feed.take(part),
             None => return self.reopen(host, alloc),
         };
@@ -122,14 +126,15 @@ impl SetLine<'_> {
         }
     }
 
-    /// Octets go out.
+    /// Octets go out. Where they can't be written the line has failed, as is told next.
     fn give(&mut self, octets: &[u8]) {
-        let failed = match &mut self.open {
-            Some(open) => open.sink.put_whole(octets).is_err(),
-            None => false,
-        };
-        if failed {
-            self.close(true);
+        match &mut self.open {
+            Some(open) => {
+                if open.sink.has_failed() || open.sink.put_whole(octets).is_err() {
+                    self.broken = true;
+                }
+            }
+            None => {}
         }
     }
 }
@@ -155,6 +160,7 @@ impl<'a, H> SetLines<'a, H> {
                 open: None,
                 shut: 0,
                 failed: false,
+                broken: false,
             })?;
         }
         Ok(SetLines {

@@ -3,11 +3,11 @@
 use crate::set_lines::SetLines;
 use crate::sets::own_set;
 use line_filter::{LineOrders, Orders};
+use line_play::{Ends, Lines, SetDesk, SetPlan, Tender, open_tender};
 use line_streams::{OrderStream, ReportStream, open_orders, open_reports};
 use mtp2_words::{Named, SetEnd};
 use plain_text::{Errors, FAILED, HELD, NamedReader, Teller};
 use script_check::SetWord;
-use set_play::{Ends, Lines, Plan, SetDesk, Tender, open_tender};
 use std::fs::{self, File};
 use std::io::{self, Read, Write};
 use std::rt::Files;
@@ -116,7 +116,7 @@ fn run_on<H: Files<File = File> + Threads + Eprint + Clock + AllocGlobal, S: Rea
     end: &SetEnd<'_>,
     set: SetWord<S>,
 ) -> u8 {
-    let plan = Plan {
+    let plan = SetPlan {
         mode: end.mode,
         limits: named.usual_limits(),
         ends: Ends {

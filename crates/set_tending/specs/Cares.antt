@@ -80,9 +80,13 @@ let_be c = record c { wanted = false; due = None }
 abbrev pub changing : Care → Care
 changing c = record c { patience = PATIENCE }
 
--- it is on its way into service
-abbrev pub is_coming : Care → Bool
-is_coming c = c.started || is_some c.due
+-- a tick passed in which the answer of its changeover could come
+abbrev pub waited : Care → Care
+waited c = record c { patience = c.patience - 1 }
+
+-- it is on its way into service: it was started, or is to be, and may be
+abbrev pub is_coming : Bool → Care → Bool
+is_coming may_start c = c.started || (may_start && is_some c.due)
 
 abbrev pub due_by : Care → ℕ → Option ℕ → Option ℕ
 due_by c now None = None

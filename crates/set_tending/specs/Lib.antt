@@ -6,3 +6,4 @@ pub mod Rounds
 pub mod Sending
 pub mod Telling
 pub mod Tended
+pub mod Wires

@@ -1,11 +1,11 @@
 //! What is kept of each link.
 ghost use Rattle.std.specs.Prelude.{◌≡◌};
-ghost use Rattle.set_tending.specs.Cares.{is_order, waits, new_care, risen, fallen, desired, let_be, changing, is_coming, is_due};
+ghost use Rattle.set_tending.specs.Cares.{is_order, waits, new_care, risen, fallen, desired, let_be, changing, waited, is_coming, is_due};
 
 use group_changeover::Kind;
 
-/// For so many ticks in which another link would take it a message about a link is owed, and its answer waited for; a Start that is due waits for so many
-/// at most (Q.704's T2).
+/// For so many ticks in which another link would take it a message about a link is owed, and its answer waited for; a Start that is due waits for so
+/// many at most (Q.704's T2).
 pub const PATIENCE: u64 = 1_400;
 
 /// So many ticks behind the beginning of a changeover it isn't waited for another link any more: as long as one takes to come into service.
@@ -57,7 +57,7 @@ pub struct Care {
     pub due: Option<u64>,
     /// This side's processor is out, as was ordered.
     pub outage: bool,
-    /// For how many ticks more the answer of its changeover is waited for, of those in which another link carries messages about it.
+    /// For how many ticks more the answer of its changeover is waited for, of those in which another link takes messages about it.
     pub patience: u64,
     /// What is to be said of it.
     pub owed: Option<Owed>,
@@ -176,11 +176,21 @@ impl Care {
         }
     }
 
-    /// Whether it is on its way into service: it was started, or is to be.
-    pub fn is_coming(self) -> bool
-        ensures { result ≡ is_coming self }
+    /// A tick passed in which the answer of its changeover could come.
+    pub fn waited(self) -> Care
+        ensures { result ≡ waited self }
     {
-        self.started || self.due.is_some()
+        Care {
+            patience: self.patience.saturating_sub(1),
+            ..self
+        }
+    }
+
+    /// Whether it is on its way into service: it was started, or is to be, and may be.
+    pub fn is_coming(self, may_start: bool) -> bool
+        ensures { result ≡ is_coming may_start self }
+    {
+        self.started || (may_start && self.due.is_some())
     }
 
     /// Since which tick its Start has been due, where it is.

@@ -3,7 +3,7 @@ ghost use Rattle.std.specs.Prelude.{◌≡◌, [], OnOk, OnErr};
 ghost use Rattle.set_tending.specs.Rounds.{Goes, DoesFor};
 
 use crate::care::{LONGEST, PATIENCE};
-use crate::tender::{TendError, Tender};
+use crate::tender::{MOST_LINKS, TendError, Tender};
 use crate::told::Told;
 use group_changeover::{Answer, read_changeover};
 use link_group::{AbandonError, Command, DivertError, LinkState, RetrieveError, Retrieved};
@@ -40,13 +40,43 @@ impl Tender {
         let Some(waited) = state.changeover else {
             return Ok(());
         };
+        if self.least_loaded(link).is_some() {
+            self.keep(link, self.care(link).waited());
+        }
         if !self.set.has_retrieval(link) && !self.care(link).serves {
-            self.hand_out(
-                link,
-                waited >= PATIENCE || state.answer == Some(Answer::Unknown),
-            )?;
+            let is_over =
+                state.answer == Some(Answer::Unknown) || !self.is_waited_for(link, waited);
+            self.hand_out(link, is_over)?;
         }
         self.divert(link)
+    }
+
+    /// Whether a link is on its way into service: it was started, or is to be and may be.
+    fn is_coming(&self, link: usize) -> bool {
+        let may_start = !self.set.in_changeover(link) || self.set.has_retrieval(link);
+        self.care(link).is_coming(may_start)
+    }
+
+    /// Whether another link is.
+    fn another_comes(&self, link: usize) -> bool {
+        for other in 0..self.set.len() {
+            if other != link && self.is_coming(other) {
+                return true;
+            }
+        }
+        false
+    }
+
+    /// Whether the answer of a changeover that began so many ticks ago is waited for: for 1,400 ticks in which another link takes messages about the
+    /// link; where none does, for as many, and longer while one is on its way into service.
+    fn is_waited_for(&self, link: usize, waited: u64) -> bool {
+        if self.care(link).patience == 0 {
+            return false;
+        }
+        if self.least_loaded(link).is_some() || waited < PATIENCE {
+            return true;
+        }
+        waited < LONGEST && self.another_comes(link)
     }
 
     /// Keeps what a link handed out.
@@ -65,10 +95,14 @@ impl Tender {
         }
     }
 
-    /// Has a link hand out its messages. Where it isn't known which of them arrived they are given up, if nothing more is to be waited for.
+    /// Has a link hand out its messages. Where it isn't known which of them arrived they are given up, if nothing more is to be waited for. Where as
+    /// many hands as there may be links are out it would wait, but that is never so.
     fn hand_out(&mut self, link: usize, is_over: bool) -> Result<(), TendError>
         ensures { OnOk result (DoesFor self.old self.new) }
     {
+        if self.hands.len() >= MOST_LINKS {
+            return Ok(());
+        }
         match self.set.retrieve(link) {
             Ok(retrieved) => self.keep_hand(retrieved),
             Err(RetrieveError::Unsure(count)) if is_over => self.give_up(link, count),
@@ -93,13 +127,17 @@ impl Tender {
         }
     }
 
-    /// Diverts what a link handed out, as far as it goes.
+    /// Diverts what a link handed out, as far as it goes. What isn't the set's own would stay, but none comes here.
     fn divert(&mut self, link: usize) -> Result<(), TendError>
         ensures { OnOk result (DoesFor self.old self.new) }
     {
         let Some(retrieved) = self.hands.take(link) else {
             return Ok(());
         };
+        if !self.set.owns(&retrieved) {
+            self.put_hand(retrieved);
+            return Ok(());
+        }
         match self.set.divert(retrieved) {
             Ok(()) => {
                 let count = self.care(link).handed;

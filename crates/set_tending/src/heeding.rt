@@ -128,11 +128,15 @@ impl Tender {
         Ok(())
     }
 
-    /// A changeback declaration came about a link that is there: it is acknowledged by a link in service, the one it speaks of where there is
-    /// no other.
+    /// A changeback declaration came about a link that is there: it is acknowledged by a link that takes messages about others, the one it speaks of
+    /// where no other does, and where that doesn't either by the one by which it came.
     fn acknowledge_declaration(&mut self, came_by: usize, about: usize, code: u8) {
         let msu = self.ends.declared_back(about, code);
-        let by = self.least_loaded(about).unwrap_or(came_by);
+        let by = match self.least_loaded(about) {
+            Some(by) => by,
+            None if self.may_take(about) => about,
+            None => came_by,
+        };
         let _sent = self.send_by(by, msu);
     }
 

@@ -16,11 +16,14 @@ mod starting;
 mod tender;
 mod testing;
 mod told;
+mod wire;
 
 pub use ends::Ends;
+pub use group_changeover::label_of;
 pub use link_group::{
     Command, CommandError, Group, Label, LinkError, LinkState, Mode, Msu, Retrievals, SendError,
     Terminal,
 };
 pub use tender::{TendError, Tender};
 pub use told::{SharedOut, Told};
+pub use wire::{Passed, Wire};

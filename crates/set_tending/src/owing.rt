@@ -17,7 +17,7 @@ impl Tender {
     }
 
     /// Whether a link takes messages about others: it is in service and not held, and no processor is out there.
-    fn may_take(&self, link: usize) -> bool {
+    pub(crate) fn may_take(&self, link: usize) -> bool {
         match self.state(link) {
             Some(state) => state.in_service && !state.held && !state.far_out && !state.own_out,
             None => false,

@@ -14,7 +14,7 @@
 //! - `tended`: a run in each line ([`trials_groups::run_tended`]). Two link sets that tend themselves carry messages while their lines are cut, one way too,
 //!   garbled and stalled by a seeded schedule. Shows whether messages came once and in order of each selection, none missing but as many as were told as
 //!   unsure, and whether both ends are whole at the end.
-//! - `set_rounds`: a script ([`trials_groups::run_script`]) of two sets with orders and reports, on lines in memory. Shows what both tell.
+//! - `set_rounds`: a script ([`trials_groups::run_script`]) of two sets that tend themselves, on lines in memory. Shows what both tell.
 //! - `set_calls`: each public call of a link set. Shows what it answers.
 //! - `pools`: workers serve links ([`pools`]) while a client offers signals, lets ticks pass, takes what waits and rebases, by a seeded generator. The
 //!   first line has numbers: the seed, how many links and workers there are, how many steps the client makes, and, where it is to go on for long, so

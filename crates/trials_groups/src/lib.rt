@@ -5,9 +5,6 @@
 mod calling;
 mod calls;
 mod counts;
-mod desk_lines;
-mod desk_orders;
-mod desk_script;
 mod dice;
 mod each_call;
 mod far_end;
@@ -25,12 +22,13 @@ mod tended_channel;
 mod tended_end;
 mod tended_pair;
 mod tended_run;
+mod tended_script;
 mod tending;
 mod working;
 
 pub use calling::make_calls;
 pub use calls::Stopped;
-pub use desk_script::run_script;
 pub use full_set::FullSet;
 pub use tended::run_tended;
+pub use tended_script::run_script;
 pub use working::run_sets;

@@ -7,7 +7,7 @@ use crate::tended_channel::Channel;
 use crate::tended_end::TendedEnd;
 use crate::tended_pair::{Faults, Parts, Tie, make_tended_rounds};
 use crate::tended_run::{TendedRun, tended_run_of};
-use set_play::{Ends, Tender, Wire};
+use set_tending::{Ends, Tender, Wire};
 use std::alloc::Global;
 use std::collections::VecDeque;
 use turn_check::Verified;

@@ -5,8 +5,7 @@ use crate::counts::Counts;
 use crate::dice::Dice;
 use crate::messages::{Way, message};
 use group_changeover::label_of;
-use set_play::{Passed, TendError, Tender, Told, Wire};
-use set_tending::Command;
+use set_tending::{Command, Passed, TendError, Tender, Told, Wire};
 
 /// How many octets go ahead on a line.
 const AHEAD: usize = 8;

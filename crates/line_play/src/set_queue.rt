@@ -1,6 +1,6 @@
 //! Orders that wait.
 
-use crate::orders::Focus;
+use crate::set_orders::Focus;
 use std::alloc::Global;
 use std::collections::VecDeque;
 

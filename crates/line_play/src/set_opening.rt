@@ -10,7 +10,7 @@ use turn_check::Verified;
 
 /// What a set is opened with.
 #[derive(Clone, Copy, Debug)]
-pub struct Plan {
+pub struct SetPlan {
     /// The kind of error correction.
     pub mode: Mode,
     /// When cyclic retransmission is forced.
@@ -24,7 +24,7 @@ pub struct Plan {
 }
 
 /// New terminals, as many as a plan says.
-fn open_terminals(alloc: Global, plan: Plan, set: &Verified) -> Result<Vec<Terminal>, OpenError> {
+fn open_terminals(alloc: Global, plan: SetPlan, set: &Verified) -> Result<Vec<Terminal>, OpenError> {
     let Ok(mut terminals) = Vec::with_capacity(alloc, plan.links) else {
         return Err(OpenError::NoMemory);
     };
@@ -46,7 +46,7 @@ fn refuse_set<E: Write>(alloc: Global, errors: &mut E, error: OpenError) -> u8 {
 }
 
 /// The set of these terminals, tended from now on.
-fn tend(alloc: Global, plan: Plan, terminals: Vec<Terminal>) -> Result<Tender, u8> {
+fn tend(alloc: Global, plan: SetPlan, terminals: Vec<Terminal>) -> Result<Tender, u8> {
     let Ends { own, peer, .. } = plan.ends;
     let few = 1 <= terminals.len() && terminals.len() <= 16;
     if !few || own >= 16_384 || peer >= 16_384 {
@@ -66,7 +66,7 @@ fn tend(alloc: Global, plan: Plan, terminals: Vec<Terminal>) -> Result<Tender, u
 /// memory, a read or that write fails.
 pub fn open_tender<S: Read + Drop, E: Write>(
     alloc: Global,
-    plan: Plan,
+    plan: SetPlan,
     set: SetWord<S>,
     errors: &mut E,
 ) -> Result<Tender, u8> {

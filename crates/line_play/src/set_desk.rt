@@ -1,10 +1,10 @@
 //! A set on its lines, with its orders and reports.
 
-use crate::orders::Focus;
-use crate::queue::Queue;
-use crate::wire::Wire;
+use crate::set_measures::Since;
+use crate::set_orders::Focus;
+use crate::set_queue::Queue;
 use plain_text::write_line;
-use set_tending::{TendError, Tender, Told};
+use set_tending::{TendError, Tender, Told, Wire};
 use std::alloc::{AllocError, Global};
 use std::fmt::Display;
 use std::io::{self, ErrorKind, Write};
@@ -15,6 +15,8 @@ pub struct SetDesk<O, P> {
     pub tender: Tender,
     /// What goes out on its lines.
     pub(crate) wires: Vec<Wire>,
+    /// What its links had measured as their counts began anew.
+    pub(crate) since: Vec<Since>,
     /// How many octets of 1s go out on a line at its beginning, and each 1,000 rounds of silence.
     pub(crate) ahead: usize,
     /// What gives orders.
@@ -44,6 +46,22 @@ fn wires(alloc: Global, links: usize) -> Result<Vec<Wire>, AllocError> {
     Ok(wires)
 }
 
+/// Counts of each link since it was made.
+fn counts(alloc: Global, links: usize) -> Result<Vec<Since>, AllocError> {
+    let mut counts = Vec::with_capacity(alloc, links)?;
+    for _link in 0..links {
+        counts.push(Since::new())?;
+    }
+    Ok(counts)
+}
+
+/// What is kept of each line, and of each link's counts.
+fn parts(alloc: Global, links: usize) -> Result<(Vec<Wire>, Vec<Since>), AllocError> {
+    let wires = wires(alloc, links)?;
+    let since = counts(alloc, links)?;
+    Ok((wires, since))
+}
+
 impl<O, P> SetDesk<O, P> {
     /// A set on lines on which nothing came or went.
     ///
@@ -61,10 +79,11 @@ impl<O, P> SetDesk<O, P> {
         O: Drop,
         P: Drop,
     {
-        match wires(alloc, tender.len()) {
-            Ok(wires) => Ok(SetDesk {
+        match parts(alloc, tender.len()) {
+            Ok((wires, since)) => Ok(SetDesk {
                 tender,
                 wires,
+                since,
                 ahead,
                 orders,
                 focus: Focus::Link(0),
@@ -85,6 +104,7 @@ impl<O, P> SetDesk<O, P> {
         let SetDesk {
             tender,
             wires: _wires,
+            since: _since,
             ahead: _,
             orders,
             focus: _,

@@ -1,8 +1,8 @@
 //! Orders to a set, as they are written.
 
-use resend_store::{Measure, measure_named};
 use script_lines::words_in;
-use script_links::{Order, count, octets_in, order_in};
+use script_links::{Order, TermCommand, count, octets_in, order_in, term_command_in};
+use script_terminal::Measure;
 use std::alloc::{AllocError, Global};
 
 /// Which links orders speak of.
@@ -15,7 +15,7 @@ pub enum Focus {
 }
 
 /// An order.
-#[derive(Debug, Drop, PartialEq, Eq)]
+#[derive(Drop)]
 pub enum SetOrder<'a> {
     /// `on L` and `on all`: what follows speaks of these links.
     On(Focus),
@@ -27,6 +27,12 @@ pub enum SetOrder<'a> {
     Value(&'a str, &'a str),
     /// `measure NAME`: what was counted.
     Measure(Measure),
+    /// `measure aborted_periods`: how many proving periods were aborted.
+    Aborted,
+    /// `measure`: all that was counted.
+    Measures,
+    /// `measure reset`: all counts begin anew.
+    Reset,
     /// `send HEX`: a message, its service information octet first, 5 to 273 octets.
     Send(Vec<u8>),
     /// `table`: the link of each selection.
@@ -53,6 +59,7 @@ fn focus_in(word: &str) -> Option<Focus> {
 /// An order of one word.
 fn word_in<'a>(word: &str) -> Option<SetOrder<'a>> {
     match word {
+        "measure" => Some(SetOrder::Measures),
         "table" => Some(SetOrder::Table),
         "held" => Some(SetOrder::Held),
         "unsure" => Some(SetOrder::Unsure),
@@ -71,17 +78,16 @@ fn send_in<'a>(alloc: Global, word: &str) -> Result<Option<SetOrder<'a>>, AllocE
     }
 }
 
-/// An order of two words.
-fn pair_in<'a>(
-    alloc: Global,
-    first: &str,
-    word: &'a str,
-) -> Result<Option<SetOrder<'a>>, AllocError> {
-    match first {
-        "on" => Ok(focus_in(word).map(SetOrder::On)),
-        "state" => Ok(Some(SetOrder::State(word))),
-        "measure" => Ok(measure_named(word).map(SetOrder::Measure)),
-        "send" => send_in(alloc, word),
+/// What is asked of links, by the words for it: what their actors are, and what was measured.
+fn asked_in<'a>(alloc: Global, words: &[&'a str]) -> Result<Option<SetOrder<'a>>, AllocError> {
+    match term_command_in(alloc, words)? {
+        Some(TermCommand::State(process)) => Ok(Some(SetOrder::State(process))),
+        Some(TermCommand::Value(process, variable)) => {
+            Ok(Some(SetOrder::Value(process, variable)))
+        }
+        Some(TermCommand::Measure(measure)) => Ok(Some(SetOrder::Measure(measure))),
+        Some(TermCommand::Aborted) => Ok(Some(SetOrder::Aborted)),
+        Some(TermCommand::Reset) => Ok(Some(SetOrder::Reset)),
         _ => Ok(None),
     }
 }
@@ -90,11 +96,10 @@ fn pair_in<'a>(
 pub fn set_order_in<'a>(alloc: Global, line: &'a str) -> Result<Option<SetOrder<'a>>, AllocError> {
     let words = words_in(alloc, line)?;
     match words.as_slice() {
+        [] => Ok(None),
         [word] => Ok(word_in(word)),
-        [first, word] => pair_in(alloc, first, *word),
-        [first, process, variable] if *first == "value" => {
-            Ok(Some(SetOrder::Value(*process, *variable)))
-        }
-        _ => Ok(None),
+        [first, word] if *first == "on" => Ok(focus_in(word).map(SetOrder::On)),
+        [first, word] if *first == "send" => send_in(alloc, word),
+        [_, _, ..] => asked_in(alloc, &words),
     }
 }

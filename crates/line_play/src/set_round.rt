@@ -1,11 +1,11 @@
 //! A round of a set on its lines.
 
-use crate::desk::{SetDesk, failed};
-use crate::lines::{Came, Lines};
-use crate::orders::{SetOrder, set_order_in};
-use crate::wire::Passed;
+use crate::set_desk::{SetDesk, failed};
+use crate::set_lines::{Came, Lines};
+use crate::set_orders::{SetOrder, set_order_in};
 use line_filter::Orders;
 use script_links::Order;
+use set_tending::Passed;
 use std::alloc::{AllocError, Global};
 use std::io::{self, Write};
 

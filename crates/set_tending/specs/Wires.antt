@@ -8,9 +8,9 @@ use Rattle.link_group.specs.Lines.{ByLink}
 use Rattle.link_group.specs.Set.{LinkSet}
 use Rattle.set_tending.specs.Rounds.{IsHeeded}
 use Rattle.set_tending.specs.Tended.{Tended}
-use Rattle.set_play.specs.declared.wire.Passed.{Passed}
-use Rattle.set_play.specs.declared.wire.Passed.TheVariants.{Same, Silent, Back}
-use Rattle.set_play.specs.declared.wire.Wire.{Wire}
+use Rattle.set_tending.specs.declared.wire.Passed.{Passed}
+use Rattle.set_tending.specs.declared.wire.Passed.TheVariants.{Same, Silent, Back}
+use Rattle.set_tending.specs.declared.wire.Wire.{Wire}
 
 -- A link of a set is asked for its next unit; it does nothing else as octets go out.
 abbrev pub gives_units : ℕ → LinkSet → Act → LinkSet → Type 0

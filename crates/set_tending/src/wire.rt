@@ -1,10 +1,10 @@
 //! One line of a set.
 ghost use Rattle.std.specs.Prelude.{◌≡◌, ◌<◌, ◌++◌, ℕ, List, length, replicate, IfOk, OnOk};
 ghost use Rattle.line_filter.specs.Speaking.{Gives};
-ghost use Rattle.set_play.specs.Wires.{gives_units, Speaks, Waits, Passes};
+ghost use Rattle.set_tending.specs.Wires.{gives_units, Speaks, Waits, Passes};
 
 use line_filter::Voice;
-use set_tending::{TendError, Tender};
+use crate::tender::{TendError, Tender};
 
 /// For so many rounds a line on which nothing comes isn't taken for silent.
 const PATIENCE: u64 = 1_000;

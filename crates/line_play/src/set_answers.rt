@@ -1,0 +1,119 @@
+//! What orders to a set lead to.
+
+use crate::set_desk::SetDesk;
+use crate::set_orders::{Focus, SetOrder, set_order_in};
+use script_terminal::{command_of, message};
+use set_tending::{CommandError, label_of};
+use std::alloc::{AllocError, Global};
+use std::io::{self, Write};
+
+/// Why an order isn't obeyed, as it is told.
+type Refused = String;
+
+/// A refusal as a text.
+fn refusal<D: std::fmt::Display>(alloc: Global, why: &D) -> Result<Option<Refused>, AllocError> {
+    Ok(Some(format!(in alloc; "{why}")?))
+}
+
+impl<O, P: Write> SetDesk<O, P> {
+    /// An order to links. The first refusal, if there is one.
+    fn obey_links(
+        &mut self,
+        alloc: Global,
+        focus: Focus,
+        order: script_links::Order,
+    ) -> Result<Option<Refused>, AllocError> {
+        let (from, to) = self.links(focus);
+        let mut first: Option<CommandError> = None;
+        for link in from..to {
+            match self.tender.obey(link, command_of(order)) {
+                Ok(()) => {}
+                Err(CommandError::NoMemory) => return Err(AllocError),
+                Err(error) => first = first.or(Some(error)),
+            }
+        }
+        match first {
+            Some(CommandError::Refused(why)) => {
+                let name = why.name();
+                refusal(alloc, &format_args!("{name}"))
+            }
+            Some(error) => refusal(alloc, &error),
+            None => Ok(None),
+        }
+    }
+
+    /// `send HEX`.
+    fn obey_send(&mut self, alloc: Global, octets: &[u8]) -> Result<Option<Refused>, AllocError> {
+        let Some(msu) = message(octets) else {
+            return refusal(alloc, &"X1 BadLine");
+        };
+        let Some(label) = label_of(&msu) else {
+            return refusal(alloc, &"X1 BadLine");
+        };
+        match self.tender.send(label, msu) {
+            Ok(()) => Ok(None),
+            Err(error) => refusal(alloc, &error),
+        }
+    }
+
+    /// Does what an order says that is answered by `ok` alone. Why not, if it doesn't.
+    fn obey_plain(
+        &mut self,
+        alloc: Global,
+        focus: Focus,
+        order: &SetOrder<'_>,
+    ) -> Result<Option<Refused>, AllocError> {
+        match order {
+            SetOrder::On(Focus::Link(link)) if *link >= self.tender.len() => {
+                refusal(alloc, &"K1 NoLink")
+            }
+            SetOrder::On(focus) => {
+                self.focus = *focus;
+                Ok(None)
+            }
+            SetOrder::Link(order) => self.obey_links(alloc, focus, *order),
+            SetOrder::Send(octets) => self.obey_send(alloc, octets),
+            SetOrder::Reset => {
+                self.reset_all(focus);
+                Ok(None)
+            }
+            SetOrder::Rebalance => match self.tender.rebalance() {
+                Ok(()) => Ok(None),
+                Err(error) => refusal(alloc, &error),
+            },
+            SetOrder::State(_)
+            | SetOrder::Value(_, _)
+            | SetOrder::Measure(_)
+            | SetOrder::Aborted
+            | SetOrder::Measures
+            | SetOrder::Table
+            | SetOrder::Held
+            | SetOrder::Unsure => Ok(None),
+        }
+    }
+
+    /// Does what an order says, and tells it.
+    fn obey_order(
+        &mut self,
+        alloc: Global,
+        focus: Focus,
+        text: &str,
+        order: &SetOrder<'_>,
+    ) -> io::Result<()> {
+        match self.obey_plain(alloc, focus, order)? {
+            Some(why) => self.tell(alloc, &format_args!("refused {why}")),
+            None => {
+                self.tell(alloc, &format_args!("ok {text}"))?;
+                self.tell_asked(alloc, focus, order)
+            }
+        }
+    }
+
+    /// Does what a line says, and tells it.
+    pub(crate) fn obey(&mut self, alloc: Global, focus: Focus, text: &str) -> io::Result<()> {
+        match set_order_in(alloc, text)? {
+            Some(order) => self.obey_order(alloc, focus, text, &order),
+            None => self.tell(alloc, &"refused X1 BadLine"),
+        }
+    }
+}

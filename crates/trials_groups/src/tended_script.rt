@@ -1,0 +1,364 @@
+//! Two sets that tend themselves, as a script says.
+
+use crate::calls::Stopped;
+use crate::dice::Dice;
+use crate::messages::{Way, message};
+use crate::opening::open_set;
+use crate::tended_channel::{Channel, Weather};
+use group_changeover::label_of;
+use link_group::{Command, Mode};
+use set_tending::{Ends, TendError, Tender, Wire};
+use std::alloc::Global;
+use std::collections::VecDeque;
+use turn_check::Verified;
+
+/// How many octets go ahead on a line.
+const AHEAD: usize = 8;
+
+/// One end of a script.
+struct Side {
+    name: &'static str,
+    way: Way,
+    tender: Tender,
+    wires: Vec<Wire>,
+}
+
+/// Lines in memory, octets as they come: from the near end to the far one, and back.
+#[derive(Drop)]
+struct Ties {
+    over: Vec<Channel>,
+    back: Vec<Channel>,
+}
+
+fn stopped_by(error: TendError) -> Stopped {
+    match error {
+        TendError::NoMemory => Stopped::NoMemory,
+        TendError::NoTick => Stopped::Refused,
+    }
+}
+
+/// As many lines one way, on each of which octets go ahead.
+fn channels(alloc: Global, links: usize) -> Result<Vec<Channel>, Stopped> {
+    let mut channels = Vec::with_capacity(alloc, links)?;
+    for _link in 0..links {
+        let mut channel = Channel::new(VecDeque::new(alloc), false);
+        channel.put(&[0xFF; AHEAD])?;
+        channels.push(channel)?;
+    }
+    Ok(channels)
+}
+
+fn wires(alloc: Global, links: usize) -> Result<Vec<Wire>, Stopped> {
+    let mut wires = Vec::with_capacity(alloc, links)?;
+    for _link in 0..links {
+        wires.push(Wire::new())?;
+    }
+    Ok(wires)
+}
+
+/// An end at which nothing has happened.
+fn open_side(
+    alloc: Global,
+    set: &Verified,
+    links: usize,
+    name: &'static str,
+    way: Way,
+) -> Result<Side, Stopped> {
+    let wires = wires(alloc, links)?;
+    let group = open_set(alloc, set, Mode::Basic, links, way)?;
+    let ends = Ends {
+        own: way.from,
+        peer: way.to,
+        network: 2,
+    };
+    match Tender::new(alloc, ends, true, group) {
+        Ok(tender) => Ok(Side {
+            name,
+            way,
+            tender,
+            wires,
+        }),
+        Err(_group) => Err(Stopped::NoMemory),
+    }
+}
+
+/// What a word tells a link.
+fn command_in(word: &str) -> Option<Command> {
+    match word {
+        "power" => Some(Command::PowerOn),
+        "start" => Some(Command::Start),
+        "stop" => Some(Command::Stop),
+        "outage" => Some(Command::Outage),
+        "back" => Some(Command::Back),
+        _ => None,
+    }
+}
+
+impl Side {
+    /// A link is told something.
+    fn obey(&mut self, text: &mut String, command: Command, link: usize) -> Result<(), Stopped> {
+        if let Err(error) = self.tender.obey(link, command) {
+            let name = self.name;
+            writeln!(text, "{name} refused {error}")?;
+        }
+        Ok(())
+    }
+
+    /// A link is, or all are.
+    fn obey_word(
+        &mut self,
+        text: &mut String,
+        command: Command,
+        word: &str,
+    ) -> Result<(), Stopped> {
+        if word == "all" {
+            for link in 0..self.tender.len() {
+                self.obey(text, command, link)?;
+            }
+            return Ok(());
+        }
+        match word.parse::<usize>() {
+            Ok(link) => self.obey(text, command, link),
+            Err(_) => Err(Stopped::BadLine),
+        }
+    }
+
+    /// It is given the first message of a selection.
+    fn send(&mut self, text: &mut String, word: &str) -> Result<(), Stopped> {
+        let Ok(selection) = word.parse::<u8>() else {
+            return Err(Stopped::BadLine);
+        };
+        let msu = message(self.way, selection % 16, 0);
+        let Some(label) = label_of(&msu) else {
+            return Err(Stopped::BadLine);
+        };
+        if let Err(error) = self.tender.send(label, msu) {
+            let name = self.name;
+            writeln!(text, "{name} refused {error}")?;
+        }
+        Ok(())
+    }
+
+    /// Does what an order says.
+    fn order(&mut self, text: &mut String, order: &str) -> Result<(), Stopped> {
+        let Some((word, rest)) = order.split_once(' ') else {
+            return Err(Stopped::BadLine);
+        };
+        if word == "send" {
+            return self.send(text, rest);
+        }
+        match command_in(word) {
+            Some(command) => self.obey_word(text, command, rest),
+            None => Err(Stopped::BadLine),
+        }
+    }
+
+    /// A round of a line.
+    fn pass(&mut self, link: usize, came: &[u8], out: &mut Vec<u8>) -> Result<(), Stopped> {
+        out.clear();
+        let Some(wire) = self.wires.get_mut(link) else {
+            return Err(Stopped::Refused);
+        };
+        match wire.pass(&mut self.tender, link, AHEAD, came, out) {
+            Ok(_) => Ok(()),
+            Err(error) => Err(stopped_by(error)),
+        }
+    }
+
+    /// A round behind what came on all lines.
+    fn round(&mut self, told: &mut String) -> Result<(), Stopped> {
+        self.tender.tick().map_err(stopped_by)?;
+        self.tender.tend().map_err(stopped_by)?;
+        let name = self.name;
+        for _told in 0..100_000u32 {
+            match self.tender.take_told() {
+                Some(one) => writeln!(told, "{name} {one}")?,
+                None => return Ok(()),
+            }
+        }
+        Ok(())
+    }
+
+    /// Ends it.
+    fn end(self) {
+        let Side {
+            name: _,
+            way: _,
+            tender,
+            wires: _wires,
+        } = self;
+        tender.end();
+    }
+}
+
+/// A round of a line.
+fn carry_one(
+    near: &mut Side,
+    far: &mut Side,
+    link: usize,
+    over: &mut Channel,
+    back: &mut Channel,
+    came: &mut Vec<u8>,
+    out: &mut Vec<u8>,
+) -> Result<(), Stopped> {
+    let mut dice = Dice::new(0);
+    back.take(came, &mut dice)?;
+    near.pass(link, came.as_slice(), out)?;
+    over.take(came, &mut dice)?;
+    over.put(out.as_slice())?;
+    far.pass(link, came.as_slice(), out)?;
+    back.put(out.as_slice())
+}
+
+/// A round of all lines.
+fn carry(
+    near: &mut Side,
+    far: &mut Side,
+    ties: &mut Ties,
+    came: &mut Vec<u8>,
+    out: &mut Vec<u8>,
+) -> Result<(), Stopped> {
+    for link in 0..near.tender.len() {
+        let Some(over) = ties.over.get_mut(link) else {
+            return Err(Stopped::Refused);
+        };
+        let Some(back) = ties.back.get_mut(link) else {
+            return Err(Stopped::Refused);
+        };
+        carry_one(near, far, link, over, back, came, out)?;
+    }
+    Ok(())
+}
+
+/// So many rounds, and then what both ends told.
+fn run(
+    alloc: Global,
+    text: &mut String,
+    near: &mut Side,
+    far: &mut Side,
+    ties: &mut Ties,
+    rounds: u32,
+) -> Result<(), Stopped> {
+    let mut came = Vec::new(alloc);
+    let mut out = Vec::new(alloc);
+    let mut told = String::new(alloc);
+    for _round in 0..rounds {
+        carry(near, far, ties, &mut came, &mut out)?;
+        near.round(text)?;
+        far.round(&mut told)?;
+    }
+    text.push_str(&told)?;
+    Ok(())
+}
+
+/// The weather of a line, both ways.
+fn befall(ties: &mut Ties, link: usize, weather: Weather) {
+    if let Some(channel) = ties.over.get_mut(link) {
+        channel.weather = weather;
+    }
+    if let Some(channel) = ties.back.get_mut(link) {
+        channel.weather = weather;
+    }
+}
+
+/// Does what a line says.
+fn step(
+    alloc: Global,
+    text: &mut String,
+    near: &mut Side,
+    far: &mut Side,
+    ties: &mut Ties,
+    line: &str,
+) -> Result<(), Stopped> {
+    let Some((word, rest)) = line.split_once(' ') else {
+        return Err(Stopped::BadLine);
+    };
+    match word {
+        "near" => return near.order(text, rest),
+        "far" => return far.order(text, rest),
+        _ => {}
+    }
+    let Ok(number) = rest.parse::<u32>() else {
+        return Err(Stopped::BadLine);
+    };
+    match word {
+        "run" => run(alloc, text, near, far, ties, number),
+        "cut" => {
+            befall(ties, number as usize, Weather::Cut);
+            Ok(())
+        }
+        "heal" => {
+            befall(ties, number as usize, Weather::Fair);
+            Ok(())
+        }
+        _ => Err(Stopped::BadLine),
+    }
+}
+
+/// Does what all lines say.
+fn steps(
+    alloc: Global,
+    text: &mut String,
+    near: &mut Side,
+    far: &mut Side,
+    ties: &mut Ties,
+    lines: &str,
+) -> Result<(), Stopped> {
+    for line in lines.lines() {
+        step(alloc, text, near, far, ties, line)?;
+    }
+    Ok(())
+}
+
+/// How many links a script's first line says, and its other lines.
+fn head(script: &str) -> Option<(usize, &str)> {
+    let (first, rest) = script.split_once('\n')?;
+    let number = first.strip_prefix("links ")?;
+    let links = number.parse::<usize>().ok()?;
+    if 1 <= links && links <= 16 {
+        Some((links, rest))
+    } else {
+        None
+    }
+}
+
+/// The same with a near end.
+fn run_near(
+    alloc: Global,
+    text: &mut String,
+    set: &Verified,
+    near: &mut Side,
+    links: usize,
+    lines: &str,
+) -> Result<(), Stopped> {
+    let mut ties = Ties {
+        over: channels(alloc, links)?,
+        back: channels(alloc, links)?,
+    };
+    let mut far = open_side(alloc, set, links, "far", Way { from: 2, to: 1 })?;
+    let made = steps(alloc, text, near, &mut far, &mut ties, lines);
+    far.end();
+    made
+}
+
+/// Does what a script says, and writes what both ends told: `links N` first; then `near ORDER` and `far ORDER`; `run N`, so many rounds, behind which is
+/// written what was told, near's before far's; `cut L` and `heal L`. The near point is 1, the far one 2. An ORDER is `power`, `start`, `stop`, `outage` or
+/// `back` with a link or `all`, or `send` with a selection, whose first message is sent.
+///
+/// # Errors
+///
+/// Where there is no memory, or a line says nothing.
+pub fn run_script(
+    alloc: Global,
+    text: &mut String,
+    set: &Verified,
+    script: &str,
+) -> Result<(), Stopped> {
+    let Some((links, lines)) = head(script) else {
+        return Err(Stopped::BadLine);
+    };
+    let mut near = open_side(alloc, set, links, "near", Way { from: 1, to: 2 })?;
+    let made = run_near(alloc, text, set, &mut near, links, lines);
+    near.end();
+    made
+}
