@@ -92,6 +92,17 @@ fn asked_in<'a>(alloc: Global, words: &[&'a str]) -> Result<Option<SetOrder<'a>>
     }
 }
 
+/// Whether a line is a report of a set behind its millisecond, and not that of an order that was obeyed: of a link, the links of selections, or how many
+/// messages are unsure. It says nothing.
+pub(crate) fn is_set_report(alloc: Global, line: &str) -> Result<bool, AllocError> {
+    let words = words_in(alloc, line)?;
+    match words.as_slice() {
+        [millisecond, word, ..] => Ok(millisecond.parse::<u64>().is_ok()
+            && (count(word).is_some() || *word == "shared" || *word == "unsure")),
+        _ => Ok(false),
+    }
+}
+
 /// The order that a line says; none where it says none.
 pub fn set_order_in<'a>(alloc: Global, line: &'a str) -> Result<Option<SetOrder<'a>>, AllocError> {
     let words = words_in(alloc, line)?;

@@ -2,7 +2,7 @@
 
 use crate::set_desk::{SetDesk, failed};
 use crate::set_lines::{Came, Lines};
-use crate::set_orders::{SetOrder, set_order_in};
+use crate::set_orders::{SetOrder, is_set_report, set_order_in};
 use line_filter::Orders;
 use script_links::Order;
 use set_tending::Passed;
@@ -115,8 +115,11 @@ impl<O: Orders, P: Write> SetDesk<O, P> {
         Ok(())
     }
 
-    /// Takes an order: it is obeyed, or waits behind others, but for one that stops links.
+    /// Takes an order: it is obeyed, or waits behind others, but for one that stops links. A report says none.
     fn take_order(&mut self, alloc: Global, text: String) -> io::Result<()> {
+        if is_set_report(alloc, &text)? {
+            return Ok(());
+        }
         let focus = self.focus;
         let waits = !self.queue.is_empty() || (self.tender.sends_wait() && is_send(alloc, &text)?);
         if !waits || is_stop(alloc, &text)? {
