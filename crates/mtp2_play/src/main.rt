@@ -79,7 +79,7 @@ fn run<
         }
         Request::Soak { script, workers } => run_soak(rt, teller, *script, *workers, writer),
         Request::Line { set, end } => run_line(host, teller, set, end, reader, writer),
-        Request::Set { set, end } => run_set(host, teller, set, end),
+        Request::Tend { set, lines, end } => run_set(host, teller, set, lines.as_slice(), end),
         Request::Frame { octets } => frame(rt.alloc(), octets, writer),
         Request::Draw {
             set,

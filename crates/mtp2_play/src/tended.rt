@@ -56,12 +56,13 @@ fn go_round<H: Clock + AllocGlobal, L: Lines, O: Orders, P: Write>(
 /// Runs a set on its lines. Gives the exit status.
 fn serve<H: Files<File = File> + Threads + Eprint + Clock + AllocGlobal>(
     host: &H,
+    lines: &[&str],
     end: &SetEnd<'_>,
     tender: Tender,
     orders: LineOrders<OrderStream>,
     reports: ReportStream<Errors<'_, H>>,
 ) -> u8 {
-    let Ok(mut lines) = SetLines::new(host, host.alloc(), end.bits, &end.lines) else {
+    let Ok(mut open_lines) = SetLines::new(host, host.alloc(), end.bits, lines) else {
         tender.end();
         return FAILED;
     };
@@ -72,7 +73,7 @@ fn serve<H: Files<File = File> + Threads + Eprint + Clock + AllocGlobal>(
             return FAILED;
         }
     };
-    let ran = go_round(host, &mut desk, &mut lines);
+    let ran = go_round(host, &mut desk, &mut open_lines);
     let now = desk.millisecond();
     let (_orders, mut reports) = desk.end();
     let ended = reports.end(host, now);
@@ -87,6 +88,7 @@ fn serve<H: Files<File = File> + Threads + Eprint + Clock + AllocGlobal>(
 fn begin<H: Files<File = File> + Threads + Eprint + Clock + AllocGlobal>(
     host: &H,
     teller: &Teller<'_, H>,
+    lines: &[&str],
     end: &SetEnd<'_>,
     tender: Tender,
 ) -> u8 {
@@ -105,7 +107,7 @@ fn begin<H: Files<File = File> + Threads + Eprint + Clock + AllocGlobal>(
         }
     };
     let orders = LineOrders::new(host.alloc(), orders);
-    serve(host, end, tender, orders, reports)
+    serve(host, lines, end, tender, orders, reports)
 }
 
 /// Runs a set over processes. Gives the exit status.
@@ -113,6 +115,7 @@ fn run_on<H: Files<File = File> + Threads + Eprint + Clock + AllocGlobal, S: Rea
     host: &H,
     teller: &Teller<'_, H>,
     named: &Named<'_>,
+    lines: &[&str],
     end: &SetEnd<'_>,
     set: SetWord<S>,
 ) -> u8 {
@@ -124,11 +127,11 @@ fn run_on<H: Files<File = File> + Threads + Eprint + Clock + AllocGlobal, S: Rea
             peer: end.peer,
             network: end.network,
         },
-        links: end.lines.len(),
+        links: lines.len(),
         tests: end.tests,
     };
     match open_tender(host.alloc(), plan, set, &mut Errors { rt: host }) {
-        Ok(tender) => begin(host, teller, end, tender),
+        Ok(tender) => begin(host, teller, lines, end, tender),
         Err(status) => status,
     }
 }
@@ -139,18 +142,19 @@ pub fn run_set<H: Files<File = File> + Threads + Eprint + Clock + AllocGlobal>(
     host: &H,
     teller: &Teller<'_, H>,
     named: &Named<'_>,
+    lines: &[&str],
     end: &SetEnd<'_>,
 ) -> u8 {
     match named {
         Named::File(path) => match fs::open(host, path) {
             Ok(file) => {
                 let text = NamedReader::new(teller, path, file);
-                run_on(host, teller, named, end, SetWord::Text(text))
+                run_on(host, teller, named, lines, end, SetWord::Text(text))
             }
             Err(error) => teller.fail(path, &error),
         },
         Named::Standard | Named::Q703 | Named::Monitors => match own_set(named) {
-            Some(own) => run_on(host, teller, named, end, own),
+            Some(own) => run_on(host, teller, named, lines, end, own),
             None => FAILED,
         },
         Named::Stdin => FAILED,

@@ -1,7 +1,7 @@
 -- What the words of a command's matches ask for, by what single words say.
-use Rattle.std.proofs.Common.{◌≡◌, ◌∙◌, ℕ, ◌+◌, ◌<◌, [], ◌∷◌, ◌++◌, Bor, map, take, length, get_or, List, Option, Some, None, Result, Ok, Err, IfOk, IsNone, IfSome, IsSomeAnd, refl, sym, ap, subst, inr, option_map, option_and_then, box_value, codes, Bool}
+use Rattle.std.proofs.Common.{◌≡◌, ◌∙◌, ℕ, ◌+◌, ◌<◌, [], ◌∷◌, ◌++◌, Bor, map, take, length, get_or, List, Option, Some, None, Result, Ok, Err, IfOk, IsNone, IfSome, IsSomeAnd, refl, sym, ap, subst, inr, option_map, option_and_then, box_value, codes, Bool, true, false}
 use Rattle.std.proofs.lemmas.Option.{none-some, same_Some}
-use Rattle.std.proofs.lemmas.List.{take_more, map-append}
+use Rattle.std.proofs.lemmas.List.{take_more, map-append, length-map}
 use Rattle.plain_laws.proofs.Pairwise.{zip_push}
 use Rattle.clap.specs.Words.{Row, Text, all_of, found_of, matched_of, raw_values, rows_of, subcommand_name_of, subcommand_rows_of}
 use Rattle.clap.specs.declared.parser.matches.ArgMatches.{ArgMatches}
@@ -9,14 +9,17 @@ use Rattle.clap.specs.declared.parser.matches.ArgMatches.TheViews.{out-ArgMatche
 use Rattle.std.specs.declared.alloc.AllocError.{AllocError}
 use Rattle.clap.proofs.WalkLemmas.{first_value-rows, raw_values-rows}
 use Rattle.mtp2_words.specs.Ends.{IsEndOf}
+use Rattle.mtp2_words.specs.SetEnds.{IsSetEndOf, are_few}
+use Rattle.mtp2_words.specs.declared.set_ends.SetEnd.{SetEnd}
+use Rattle.mtp2_words.specs.declared.set_ends.SetWords.{SetWords}
 use Rattle.mtp2_words.specs.declared.ends.LineEnd.{LineEnd}
 use Rattle.mtp2_words.specs.declared.ends.LineWords.{LineWords}
 use Rattle.mtp2_words.specs.Words.{command_of, workers_of, AreStdin, IsNamed, IsDiff, IsOwnNamed, IsPlay, IsPrint, IsSoak, IsSource, NamesNone, says_true}
 use Rattle.mtp2_words.specs.declared.seeing.Seeing.{Seeing}
-use Rattle.mtp2_words.specs.Asked.{Given, given_by, given_in, AreAllAsked, AreNamed, AreBothStdin, AreUnderIds, AsksEnd, AreSeen, AsksNothing, IsAsked, IsAskedBy, IsNoPlay, IsNoPrint, IsNoSoak, SaysNothing, AreTwoStdin, AsksDiff, AsksDraw, IsNoDiff}
+use Rattle.mtp2_words.specs.Asked.{Given, given_by, given_in, AreAllAsked, AreNamed, AreBothStdin, AreUnderIds, AsksEnd, AreSeen, AsksNothing, IsAsked, IsAskedBy, IsNoPlay, IsNoPrint, IsNoSoak, SaysNothing, AreTwoStdin, AsksDiff, AsksDraw, IsNoDiff, AreSetUnderIds, AsksSetEnd, AreLinesOf, AreNoLines}
 use Rattle.mtp2_words.specs.declared.words.Named.{Named}
 use Rattle.mtp2_words.specs.declared.words.Request.{Request}
-use Rattle.mtp2_words.specs.declared.words.Request.TheVariants.{Check, Play, Soak, Line, Frame, Draw, Print, Diff}
+use Rattle.mtp2_words.specs.declared.words.Request.TheVariants.{Check, Play, Soak, Line, Tend, Frame, Draw, Print, Diff}
 
 -- ---- words under their ids
 
@@ -57,6 +60,7 @@ plays given set_word script_word wanted (Play set script seen) e f a h = record 
 }
 plays given set_word script_word wanted (Soak script workers) e f a h = absurd h
 plays given set_word script_word wanted (Line set end) e f a h = absurd h
+plays given set_word script_word wanted (Tend set lines end) e f a h = absurd h
 plays given set_word script_word wanted (Frame octets) e f a h = absurd h
 plays given set_word script_word wanted (Draw set process states) e f a h = absurd h
 plays given set_word script_word wanted (Print set) e f a h = absurd h
@@ -67,6 +71,7 @@ is_play set_word script_word wanted (Check sets) h = absurd h
 is_play set_word script_word wanted (Play set script seen) h = refl
 is_play set_word script_word wanted (Soak script workers) h = absurd h
 is_play set_word script_word wanted (Line set end) h = absurd h
+is_play set_word script_word wanted (Tend set lines end) h = absurd h
 is_play set_word script_word wanted (Frame octets) h = absurd h
 is_play set_word script_word wanted (Draw set process states) h = absurd h
 is_play set_word script_word wanted (Print set) h = absurd h
@@ -77,6 +82,7 @@ play_all rows set_word script_word wanted (Check sets) h = absurd h
 play_all rows set_word script_word wanted (Play set script seen) h = tt
 play_all rows set_word script_word wanted (Soak script workers) h = tt
 play_all rows set_word script_word wanted (Line set end) h = tt
+play_all rows set_word script_word wanted (Tend set lines end) h = tt
 play_all rows set_word script_word wanted (Frame octets) h = tt
 play_all rows set_word script_word wanted (Draw set process states) h = tt
 play_all rows set_word script_word wanted (Print set) h = tt
@@ -87,6 +93,7 @@ soak_all rows script_word workers_word (Check sets) h = absurd h
 soak_all rows script_word workers_word (Play set script seen) h = tt
 soak_all rows script_word workers_word (Soak script workers) h = tt
 soak_all rows script_word workers_word (Line set end) h = tt
+soak_all rows script_word workers_word (Tend set lines end) h = tt
 soak_all rows script_word workers_word (Frame octets) h = tt
 soak_all rows script_word workers_word (Draw set process states) h = tt
 soak_all rows script_word workers_word (Print set) h = tt
@@ -108,6 +115,7 @@ soaks given script_word workers_word (Soak script workers) e f h = record {
   workers_are = ap (option_and_then workers_of) (sym f) ∙ h.1;
 }
 soaks given script_word workers_word (Line set end) e f h = absurd h
+soaks given script_word workers_word (Tend set lines end) e f h = absurd h
 soaks given script_word workers_word (Frame octets) e f h = absurd h
 soaks given script_word workers_word (Draw set process states) e f h = absurd h
 soaks given script_word workers_word (Print set) e f h = absurd h
@@ -118,6 +126,7 @@ is_soak script_word workers_word (Check sets) h = absurd h
 is_soak script_word workers_word (Play set script seen) h = absurd h
 is_soak script_word workers_word (Soak script workers) h = refl
 is_soak script_word workers_word (Line set end) h = absurd h
+is_soak script_word workers_word (Tend set lines end) h = absurd h
 is_soak script_word workers_word (Frame octets) h = absurd h
 is_soak script_word workers_word (Draw set process states) h = absurd h
 is_soak script_word workers_word (Print set) h = absurd h
@@ -133,6 +142,34 @@ pub ends : (given : Given) (words : LineWords) → AreUnderIds given words → (
     → IfSome end (AsksEnd given)
 ends given words under None h = tt
 ends given words under (Some end) h = record { words = words; under_ids = under; end_is = h }
+
+-- ---- an end of a set of links
+
+pub set_ends : (given : Given) (words : SetWords) → AreSetUnderIds given words → (end : Option SetEnd) → IfSome end (IsSetEndOf words)
+    → IfSome end (AsksSetEnd given)
+set_ends given words under None h = tt
+set_ends given words under (Some end) h = record { words = words; under_ids = under; end_is = h }
+
+-- the lines that all words of --link name
+pub all_lines : (given : ArgMatches) (words : List (Bor Text)) → Some (map (λ w. w.now) words) ≡ option_map raw_values (matched_of (found_of given) (codes "link"))
+    → are_few (length words) ≡ true → IsSomeAnd (all_of (codes "link") (rows_of (found_of given))) (AreLinesOf words)
+all_lines given words e few =
+    let P : Option (List Text) → Type 0 = λ o. IsSomeAnd o (AreLinesOf words) in
+    subst P (e ∙ raw_values-rows (found_of given) (codes "link"))
+    (record { few = ap are_few (length-map words (λ (w : Bor Text). w.now)) ∙ few; words_are = refl })
+
+-- there are none, or too many
+pub too_many_lines : (given : ArgMatches) (words : List (Bor Text)) → Some (map (λ w. w.now) words) ≡ option_map raw_values (matched_of (found_of given) (codes "link"))
+    → are_few (length words) ≡ false → AreNoLines (all_of (codes "link") (rows_of (found_of given)))
+too_many_lines given words e many =
+    let P : Option (List Text) → Type 0 = λ o. AreNoLines o in
+    subst P (e ∙ raw_values-rows (found_of given) (codes "link")) (ap are_few (length-map words (λ (w : Bor Text). w.now)) ∙ many)
+
+pub no_lines : (given : ArgMatches) → None ≡ option_map raw_values (matched_of (found_of given) (codes "link"))
+    → AreNoLines (all_of (codes "link") (rows_of (found_of given)))
+no_lines given e =
+    let P : Option (List Text) → Type 0 = λ o. AreNoLines o in
+    subst P (e ∙ raw_values-rows (found_of given) (codes "link")) tt
 
 -- ---- the command that was entered
 
@@ -173,14 +210,14 @@ asked_by matches given name e (Ok request) n h all = asked_by_one matches given 
 asked_by matches given name e (Err wanting) n h all = tt
 
 pub asks_nothing : (matches given : ArgMatches) (name : Text) → subcommand_rows_of matches ≡ Some (name, rows_of (found_of given))
-    → AsksNothing name (given_by given) → SaysNothing (subcommand_rows_of matches)
+    → AsksNothing name (given_by given) (rows_of (found_of given)) → SaysNothing (subcommand_rows_of matches)
 asks_nothing matches given name e h =
-    let P : Given → Type 0 = λ g. AsksNothing name g in
+    let P : Given → Type 0 = λ g. AsksNothing name g (rows_of (found_of given)) in
     let Q : Option (Text × List Row) → Type 0 = λ o. SaysNothing o in
     subst Q (sym e) (subst P (in_rows given) h)
 
 pub all_ask_nothing : (matches given : ArgMatches) (name : Text) → subcommand_rows_of matches ≡ Some (name, rows_of (found_of given))
-    → (r : Result (Option Request) AllocError) → IfOk r (λ o. IsNone o → AsksNothing name (given_by given))
+    → (r : Result (Option Request) AllocError) → IfOk r (λ o. IsNone o → AsksNothing name (given_by given) (rows_of (found_of given)))
     → IfOk r (λ o. IsNone o → SaysNothing (subcommand_rows_of matches))
 all_ask_nothing matches given name e (Ok request) h = λ n. asks_nothing matches given name e (h n)
 all_ask_nothing matches given name e (Err wanting) h = tt
@@ -212,6 +249,7 @@ prints given word (Check sets) e h = absurd h
 prints given word (Play set script seen) e h = absurd h
 prints given word (Soak script workers) e h = absurd h
 prints given word (Line set end) e h = absurd h
+prints given word (Tend set lines end) e h = absurd h
 prints given word (Frame octets) e h = absurd h
 prints given word (Draw set process states) e h = absurd h
 prints given word (Print set) e h = some_word (given (codes "SET")) word (IsOwnNamed set) e h
@@ -222,6 +260,7 @@ is_print word (Check sets) h = absurd h
 is_print word (Play set script seen) h = absurd h
 is_print word (Soak script workers) h = absurd h
 is_print word (Line set end) h = absurd h
+is_print word (Tend set lines end) h = absurd h
 is_print word (Frame octets) h = absurd h
 is_print word (Draw set process states) h = absurd h
 is_print word (Print set) h = refl
@@ -232,6 +271,7 @@ print_all rows word (Check sets) h = absurd h
 print_all rows word (Play set script seen) h = tt
 print_all rows word (Soak script workers) h = tt
 print_all rows word (Line set end) h = tt
+print_all rows word (Tend set lines end) h = tt
 print_all rows word (Frame octets) h = tt
 print_all rows word (Draw set process states) h = tt
 print_all rows word (Print set) h = tt

@@ -1,22 +1,25 @@
 -- What the words of a command line ask for, by the ids under which they stand in its matches, and
 -- why they ask for nothing.
-use Rattle.std.specs.Prelude.{◌≡◌, ◌⊎◌, ℕ, Bool, true, List, Option, Some, None, IsSomeAnd}
+use Rattle.std.specs.Prelude.{◌≡◌, ◌⊎◌, ℕ, Bool, true, false, List, Option, Some, None, IsSomeAnd}
 use Rattle.std.specs.Prelude.{option_map}
-use Rattle.std.specs.Prelude.{option_and_then, codes}
+use Rattle.std.specs.Prelude.{option_and_then, codes, map, length, Bor}
 use Rattle.std.specs.List.{AllZip}
 use Rattle.clap.specs.Words.{Row, Text, all_of, first_of, first_value, found_of}
 use Rattle.clap.specs.declared.parser.matches.ArgMatches.{ArgMatches}
 use Rattle.mtp2_words.specs.Ends.{IsEndOf, IsNoEnd}
+use Rattle.mtp2_words.specs.SetEnds.{IsSetEndOf, IsNoSetEnd, are_few}
+use Rattle.mtp2_words.specs.declared.set_ends.SetEnd.{SetEnd}
+use Rattle.mtp2_words.specs.declared.set_ends.SetWords.{SetWords}
 use Rattle.mtp2_words.specs.declared.ends.LineEnd.{LineEnd}
 use Rattle.mtp2_words.specs.declared.ends.LineWords.{LineWords}
 use Rattle.mtp2_words.specs.Words.{command_of, says_true, workers_of, IsNamed, IsOwnNamed}
-use Rattle.mtp2_words.specs.Words.{IsSource, IsText, NamesNone}
+use Rattle.mtp2_words.specs.Words.{IsSource, IsText, IsSetText, NamesNone}
 use Rattle.mtp2_words.specs.declared.seeing.Seeing.{Seeing}
 use Rattle.mtp2_words.specs.declared.words.Named.{Named}
 use Rattle.mtp2_words.specs.declared.words.Source.{Source}
 use Rattle.mtp2_words.specs.declared.words.Request.{Request}
 use Rattle.mtp2_words.specs.declared.words.Request.TheVariants.{Check, Play, Soak, Line, Frame}
-use Rattle.mtp2_words.specs.declared.words.Request.TheVariants.{Draw, Print, Diff}
+use Rattle.mtp2_words.specs.declared.words.Request.TheVariants.{Tend, Draw, Print, Diff}
 
 -- the first word under each id, if there is one
 abbrev pub Given : Type 0
@@ -79,6 +82,35 @@ pub record AsksLine (given : Given) (set : Named) (end : LineEnd) : Type 0 where
   pub set_is : IsText (given (codes "text")) set
   pub asks_end : AsksEnd given end
 
+-- each word of an end of a set of links stands under its id
+pub record AreSetUnderIds (given : Given) (words : SetWords) : Type 0 where
+  pub mode : given (codes "MODE") ≡ Some words.mode.now
+  pub own : given (codes "own") ≡ Some words.own.now
+  pub peer : given (codes "peer") ≡ Some words.peer.now
+  pub network : given (codes "network") ≡ option_map (λ w. w.now) words.network
+  pub orders : given (codes "orders") ≡ option_map (λ w. w.now) words.orders
+  pub reports : given (codes "reports") ≡ option_map (λ w. w.now) words.reports
+  pub bits : given (codes "bits") ≡ option_map (λ w. w.now) words.bits
+  pub ahead : given (codes "ahead") ≡ option_map (λ w. w.now) words.ahead
+  pub no_test : says_true (given (codes "no-test")) ≡ words.no_test
+
+-- the end of a set of links that MODE, --own, --peer, --network, --orders, --reports, --bits,
+-- --ahead and --no-test say
+pub record AsksSetEnd (given : Given) (end : SetEnd) : Type 0 where
+  pub words : SetWords
+  pub under_ids : AreSetUnderIds given words
+  pub end_is : IsSetEndOf words end
+
+-- `set`: the set of processes that --text names, and such an end
+pub record AsksSet (given : Given) (set : Named) (end : SetEnd) : Type 0 where
+  pub set_is : IsSetText (given (codes "text")) set
+  pub asks_end : AsksSetEnd given end
+
+-- lines are those that words name, 1 to 16
+pub record AreLinesOf (lines : List (Bor Text)) (words : List Text) : Type 0 where
+  pub few : are_few (length words) ≡ true
+  pub words_are : map (λ w. w.now) lines ≡ words
+
 -- --states without a PROCESS
 pub record AreStatesOfNothing (given : Given) : Type 0 where
   pub process_is : given (codes "PROCESS") ≡ None
@@ -112,6 +144,7 @@ IsAsked given (Check sets) = Unit {0}
 IsAsked given (Play set script seen) = AsksPlay given set script seen
 IsAsked given (Soak script workers) = AsksSoak given script workers
 IsAsked given (Line set end) = AsksLine given set end
+IsAsked given (Tend set lines end) = AsksSet given set end
 IsAsked given (Frame octets) = given (codes "HEX") ≡ Some octets.now
 IsAsked given (Draw set process states) =
     AsksDraw given set (option_map (λ w. w.now) process) states
@@ -122,12 +155,14 @@ IsAsked given (Diff old new) = AsksDiff given old new
 abbrev pub AreNamed : List Named → List Text → Type 0
 AreNamed sets words = AllZip IsNamed sets words
 
--- `check` asks for the sets of all words of SET
+-- `check` asks for the sets of all words of SET, and `set` for the lines of all of --link
 abbrev pub AreAllAsked : List Row → Request → Type 0
 AreAllAsked rows (Check sets) = IsSomeAnd (all_of (codes "SET") rows) (AreNamed sets.items)
 AreAllAsked rows (Play set script seen) = Unit {0}
 AreAllAsked rows (Soak script workers) = Unit {0}
 AreAllAsked rows (Line set end) = Unit {0}
+AreAllAsked rows (Tend set lines end) =
+    IsSomeAnd (all_of (codes "link") rows) (AreLinesOf lines.items)
 AreAllAsked rows (Frame octets) = Unit {0}
 AreAllAsked rows (Draw set process states) = Unit {0}
 AreAllAsked rows (Print set) = Unit {0}
@@ -169,6 +204,29 @@ IsNoLine given =
     (given (codes "text") ≡ Some (codes "stdin"))
     ⊎ ((given (codes "MODE") ≡ None) ⊎ SaysNoEnd given)
 
+-- the words for an end of a set are there, and one of them says nothing
+pub record SaysNoSetEnd (given : Given) : Type 0 where
+  pub words : SetWords
+  pub under_ids : AreSetUnderIds given words
+  pub no_end : IsNoSetEnd words
+
+-- no --link is there, or there are too many
+abbrev pub AreNoLines : Option (List Text) → Type 0
+AreNoLines None = Unit {0}
+AreNoLines (Some words) = are_few (length words) ≡ false
+
+-- one of the words that have to be there isn't, or they say no end
+abbrev pub IsNoSetEndBy : Given → Type 0
+IsNoSetEndBy given =
+    (given (codes "MODE") ≡ None)
+    ⊎ ((given (codes "own") ≡ None) ⊎ ((given (codes "peer") ≡ None) ⊎ SaysNoSetEnd given))
+
+-- `set`: standard input as --text, no such end, or no lines
+abbrev pub IsNoSet : Given → List Row → Type 0
+IsNoSet given rows =
+    (given (codes "text") ≡ Some (codes "stdin"))
+    ⊎ (IsNoSetEndBy given ⊎ AreNoLines (all_of (codes "link") rows))
+
 -- `frame`: no HEX
 abbrev pub IsNoFrame : Given → Type 0
 IsNoFrame given = given (codes "HEX") ≡ None
@@ -192,24 +250,26 @@ pub record IsNoCommand (name : Text) : Type 0 where
   pub not_play : name ≡ codes "play" → ⊥
   pub not_soak : name ≡ codes "soak" → ⊥
   pub not_line : name ≡ codes "line" → ⊥
+  pub not_set : name ≡ codes "set" → ⊥
   pub not_frame : name ≡ codes "frame" → ⊥
   pub not_draw : name ≡ codes "draw" → ⊥
   pub not_text : name ≡ codes "text" → ⊥
   pub not_diff : name ≡ codes "diff" → ⊥
 
 -- the words of a command of this name ask for nothing
-pub data AsksNothing (name : Text) (given : Given) : Type 0 where
-  no_command : IsNoCommand name → AsksNothing name given
-  no_check : name ≡ codes "check" → IsNoCheck given → AsksNothing name given
-  no_play : name ≡ codes "play" → IsNoPlay given → AsksNothing name given
-  no_soak : name ≡ codes "soak" → IsNoSoak given → AsksNothing name given
-  no_line : name ≡ codes "line" → IsNoLine given → AsksNothing name given
-  no_frame : name ≡ codes "frame" → IsNoFrame given → AsksNothing name given
-  no_draw : name ≡ codes "draw" → IsNoDraw given → AsksNothing name given
-  no_print : name ≡ codes "text" → IsNoPrint given → AsksNothing name given
-  no_diff : name ≡ codes "diff" → IsNoDiff given → AsksNothing name given
+pub data AsksNothing (name : Text) (given : Given) (rows : List Row) : Type 0 where
+  no_command : IsNoCommand name → AsksNothing name given rows
+  no_check : name ≡ codes "check" → IsNoCheck given → AsksNothing name given rows
+  no_play : name ≡ codes "play" → IsNoPlay given → AsksNothing name given rows
+  no_soak : name ≡ codes "soak" → IsNoSoak given → AsksNothing name given rows
+  no_line : name ≡ codes "line" → IsNoLine given → AsksNothing name given rows
+  no_set : name ≡ codes "set" → IsNoSet given rows → AsksNothing name given rows
+  no_frame : name ≡ codes "frame" → IsNoFrame given → AsksNothing name given rows
+  no_draw : name ≡ codes "draw" → IsNoDraw given → AsksNothing name given rows
+  no_print : name ≡ codes "text" → IsNoPrint given → AsksNothing name given rows
+  no_diff : name ≡ codes "diff" → IsNoDiff given → AsksNothing name given rows
 
 -- no command was entered, or its words ask for nothing
 abbrev pub SaysNothing : Option (Text × List Row) → Type 0
 SaysNothing None = Unit {0}
-SaysNothing (Some entered) = AsksNothing entered.0 (given_in entered.1)
+SaysNothing (Some entered) = AsksNothing entered.0 (given_in entered.1) entered.1

@@ -81,6 +81,40 @@ line_command =
     with_measures_option
     (with_capture_options (with_limit_options (with_line_options line_begun)))
 
+-- `--ID` with a word behind it, which has to be there
+abbrev pub needed_word : Text → Rule
+needed_word id = record (option_word id) { required = true }
+
+-- the same, which may be there more than once
+abbrev pub needed_words : Text → Rule
+needed_words id = record (needed_word id) { action = Some Append }
+
+-- `set MODE`, without its options
+abbrev pub set_begun : App
+set_begun = with_rule (new_app (codes "set")) (plain_word (codes "MODE"))
+
+-- a command with the options that say which links there are
+abbrev pub with_links : App → App
+with_links command =
+    with_rule
+    (with_rule
+    (with_rule
+    (with_rule (with_rule command (needed_words (codes "link"))) (needed_word (codes "own")))
+    (needed_word (codes "peer"))) (option_word (codes "network"))) (option_word (codes "text"))
+
+-- a command with the options that say what an end does on its lines
+abbrev pub with_streams : App → App
+with_streams command =
+    with_rule
+    (with_rule
+    (with_rule
+    (with_rule (with_rule command (option_word (codes "orders"))) (option_word (codes "reports")))
+    (option_word (codes "bits"))) (option_word (codes "ahead"))) (flag_word (codes "no-test"))
+
+-- `set MODE`, with all options
+abbrev pub set_command : App
+set_command = with_streams (with_links set_begun)
+
 -- `frame HEX`
 abbrev pub frame_command : App
 frame_command = with_rule (new_app (codes "frame")) (plain_word (codes "HEX"))
@@ -117,8 +151,9 @@ all_commands =
     (with_subcommand
     (with_subcommand
     (with_subcommand
+    (with_subcommand
     (with_subcommand (with_subcommand program_begun check_command.top) play_command.top)
-    soak_command.top) line_command.top) frame_command.top) draw_command.top) text_command.top)
+    soak_command.top) line_command.top) set_command.top) frame_command.top) draw_command.top) text_command.top)
     diff_command.top
 
 -- a word of the command is one of its commands' too

@@ -11,7 +11,7 @@ use Rattle.mtp2_words.specs.declared.words.Source.TheVariants.{Stdin as stdin, F
 use Rattle.mtp2_words.specs.declared.seeing.Seeing.{Seeing}
 use Rattle.mtp2_words.specs.declared.words.Request.{Request}
 use Rattle.mtp2_words.specs.declared.words.Request.TheVariants.{Check, Play, Soak, Line, Frame}
-use Rattle.mtp2_words.specs.declared.words.Request.TheVariants.{Draw, Print, Diff}
+use Rattle.mtp2_words.specs.declared.words.Request.TheVariants.{Tend, Draw, Print, Diff}
 
 -- a file may have any name but these
 pub record IsFileName (word : List ℕ) : Type 0 where
@@ -50,6 +50,7 @@ IsPlay set_word script_word wanted (Play set script seen) =
     IsPlayOf set_word script_word set script × (seen ≡ wanted)
 IsPlay set_word script_word wanted (Soak script workers) = ⊥
 IsPlay set_word script_word wanted (Line set end) = ⊥
+IsPlay set_word script_word wanted (Tend set lines end) = ⊥
 IsPlay set_word script_word wanted (Frame octets) = ⊥
 IsPlay set_word script_word wanted (Draw set process states) = ⊥
 IsPlay set_word script_word wanted (Print set) = ⊥
@@ -70,6 +71,7 @@ IsSoak script_word workers_word (Play set script seen) = ⊥
 IsSoak script_word workers_word (Soak script workers) =
     IsSource script script_word × (workers_of workers_word ≡ Some workers)
 IsSoak script_word workers_word (Line set end) = ⊥
+IsSoak script_word workers_word (Tend set lines end) = ⊥
 IsSoak script_word workers_word (Frame octets) = ⊥
 IsSoak script_word workers_word (Draw set process states) = ⊥
 IsSoak script_word workers_word (Print set) = ⊥
@@ -89,6 +91,7 @@ IsPrint word (Check sets) = ⊥
 IsPrint word (Play set script seen) = ⊥
 IsPrint word (Soak script workers) = ⊥
 IsPrint word (Line set end) = ⊥
+IsPrint word (Tend set lines end) = ⊥
 IsPrint word (Frame octets) = ⊥
 IsPrint word (Draw set process states) = ⊥
 IsPrint word (Print set) = IsOwnNamed set word
@@ -119,6 +122,11 @@ abbrev pub IsText : Option (List ℕ) → Named → Type 0
 IsText None set = set ≡ Standard
 IsText (Some word) set = IsTextNamed set word
 
+-- the same of the links of a set; `q703` where there is none
+abbrev pub IsSetText : Option (List ℕ) → Named → Type 0
+IsSetText None set = set ≡ Q703
+IsSetText (Some word) set = IsTextNamed set word
+
 -- an option without a word behind it was entered
 abbrev pub says_true : Option (List ℕ) → Bool
 says_true None = false
@@ -130,6 +138,7 @@ command_of (Check sets) = codes "check"
 command_of (Play set script seen) = codes "play"
 command_of (Soak script workers) = codes "soak"
 command_of (Line set end) = codes "line"
+command_of (Tend set lines end) = codes "set"
 command_of (Frame octets) = codes "frame"
 command_of (Draw set process states) = codes "draw"
 command_of (Print set) = codes "text"

@@ -1,16 +1,32 @@
 //! The command `set`, and the words that it takes.
+ghost use Rattle.std.specs.Prelude.{◌≡◌, IfOk, false};
+ghost use Rattle.clap.specs.Words.{rule_of, app_of};
+ghost use Rattle.mtp2_words.specs.Commands.{needed_word, needed_words, set_begun, with_links, with_streams, set_command, has_globals, IsCommand};
 
 use crate::commands::{bare_command, flag_word, option_word, plain_word};
 use clap::{Arg, ArgAction, Command};
 use std::alloc::{AllocError, Global};
 
 /// An option that has to be there, with a word behind it.
-fn needed_word<'a>(alloc: Global, name: &'a str, value: &'a str, help: &'a str) -> Arg<'a> {
+fn needed_word<'a>(alloc: Global, name: &'a str, value: &'a str, help: &'a str) -> Arg<'a>
+    ensures rule { rule_of result ≡ needed_word name.entry.now }
+    ensures local { result.global ≡ false }
+{
     option_word(alloc, name, value, help).required(true)
 }
 
+/// The same, which may be there more than once.
+fn needed_words<'a>(alloc: Global, name: &'a str, value: &'a str, help: &'a str) -> Arg<'a>
+    ensures rule { rule_of result ≡ needed_words name.entry.now }
+    ensures local { result.global ≡ false }
+{
+    needed_word(alloc, name, value, help).action(ArgAction::Append)
+}
+
 /// The command without what its end does on its lines.
-fn set_begun<'a>(alloc: Global) -> Result<Command<'a>, AllocError> {
+fn set_begun<'a>(alloc: Global) -> Result<Command<'a>, AllocError>
+    ensures { IfOk result (IsCommand set_begun) }
+{
     let mode = plain_word(alloc, "MODE", "The error correction: basic or cyclic");
     bare_command(
         alloc,
@@ -22,14 +38,15 @@ fn set_begun<'a>(alloc: Global) -> Result<Command<'a>, AllocError> {
 }
 
 /// The options that say which links there are.
-fn with_links<'a>(alloc: Global, command: Command<'a>) -> Result<Command<'a>, AllocError> {
-    let link = needed_word(
+fn with_links<'a>(alloc: Global, command: Command<'a>) -> Result<Command<'a>, AllocError>
+    ensures { has_globals command.entry ≡ false → IfOk result (IsCommand (with_links (app_of command.entry))) }
+{
+    let link = needed_words(
         alloc,
         "link",
         "LINE",
         "A device, or IN,OUT: where line octets come from and go to. Once for each link, up to 16 times; a link's code is its place",
-    )
-    .action(ArgAction::Append);
+    );
     let own = needed_word(alloc, "own", "N", "The code of this point, 0 to 16383");
     let peer = needed_word(
         alloc,
@@ -58,7 +75,9 @@ fn with_links<'a>(alloc: Global, command: Command<'a>) -> Result<Command<'a>, Al
 }
 
 /// The options that say what an end does on its lines.
-fn with_streams<'a>(alloc: Global, command: Command<'a>) -> Result<Command<'a>, AllocError> {
+fn with_streams<'a>(alloc: Global, command: Command<'a>) -> Result<Command<'a>, AllocError>
+    ensures { has_globals command.entry ≡ false → IfOk result (IsCommand (with_streams (app_of command.entry))) }
+{
     let orders = option_word(
         alloc,
         "orders",
@@ -97,6 +116,8 @@ fn with_streams<'a>(alloc: Global, command: Command<'a>) -> Result<Command<'a>, 
 }
 
 /// The command `set`.
-pub(crate) fn set_command<'a>(alloc: Global) -> Result<Command<'a>, AllocError> {
+pub(crate) fn set_command<'a>(alloc: Global) -> Result<Command<'a>, AllocError>
+    ensures { IfOk result (IsCommand set_command) }
+{
     with_streams(alloc, with_links(alloc, set_begun(alloc)?)?)
 }

@@ -1,9 +1,10 @@
 //! What words say of one end of a set of links.
+ghost use Rattle.std.specs.Prelude.{◌≡◌, IfSome, IsNone, option_map, length};
+ghost use Rattle.mtp2_words.specs.SetEnds.{point_named, network_of, set_ahead_of, are_few, IsSetEndOf, IsNoSetEnd};
 
 use crate::ends::{ahead_named, bits_of};
 use line_filter::Bits;
 use script_links::{Mode, count, mode_named};
-use std::alloc::{AllocError, Global};
 
 /// How many octets of 1s go ahead on each line where nothing is said.
 const AHEAD: usize = 64;
@@ -15,12 +16,10 @@ const NETWORK: u8 = 2;
 const MOST_LINKS: usize = 16;
 
 /// One end of a set of links on lines.
-#[derive(Debug, Drop, PartialEq, Eq)]
+#[derive(Clone, Copy, Debug, PartialEq, Eq)]
 pub struct SetEnd<'a> {
     /// The kind of error correction.
     pub mode: Mode,
-    /// The lines, 1 to 16: the code of a link is the place of its line.
-    pub lines: Vec<&'a str>,
     /// The code of this point, below 16,384.
     pub own: u16,
     /// That of the other.
@@ -63,7 +62,9 @@ pub struct SetWords<'a> {
 }
 
 /// The code of a point, by a word.
-fn point_named(word: &str) -> Option<u16> {
+fn point_named(word: &str) -> Option<u16>
+    ensures { result ≡ point_named word.now }
+{
     match count(word) {
         Some(point) if point < 16_384 => Some(point as u16),
         _ => None,
@@ -71,7 +72,9 @@ fn point_named(word: &str) -> Option<u16> {
 }
 
 /// The network indicator, by the word for it.
-fn network_of(word: Option<&str>) -> Option<u8> {
+fn network_of(word: Option<&str>) -> Option<u8>
+    ensures { result ≡ network_of (option_map (λ w. w.now) word.entry) }
+{
     match word {
         Some(word) => match count(word) {
             Some(network) if network < 4 => Some(network as u8),
@@ -82,43 +85,42 @@ fn network_of(word: Option<&str>) -> Option<u8> {
 }
 
 /// How many octets go ahead, by the word for it.
-fn ahead_of(word: Option<&str>) -> Option<usize> {
+fn set_ahead_of(word: Option<&str>) -> Option<usize>
+    ensures { result ≡ set_ahead_of (option_map (λ w. w.now) word.entry) }
+{
     match word {
         Some(word) => ahead_named(word),
         None => Some(AHEAD),
     }
 }
 
-/// The end of a set that words say, without its lines.
-fn end_without_lines<'a>(alloc: Global, words: &SetWords<'a>) -> Option<SetEnd<'a>> {
-    Some(SetEnd {
-        mode: mode_named(words.mode)?,
-        lines: Vec::new(alloc),
-        own: point_named(words.own)?,
-        peer: point_named(words.peer)?,
-        network: network_of(words.network)?,
-        orders: words.orders,
-        reports: words.reports,
-        bits: bits_of(words.bits)?,
-        ahead: ahead_of(words.ahead)?,
-        tests: !words.no_test,
-    })
+/// Whether there are as many lines as a set may have links.
+pub(crate) fn are_few(lines: &[&str]) -> bool
+    ensures { result ≡ are_few (length lines.now) }
+{
+    1 <= lines.len() && lines.len() <= MOST_LINKS
 }
 
-/// The end of a set that words say; none where one of them says nothing, or there is no line or there are more than 16.
-pub fn set_end<'a>(
-    alloc: Global,
-    words: &SetWords<'a>,
-    lines: &[&'a str],
-) -> Result<Option<SetEnd<'a>>, AllocError> {
-    if lines.is_empty() || lines.len() > MOST_LINKS {
-        return Ok(None);
-    }
-    let Some(mut end) = end_without_lines(alloc, words) else {
-        return Ok(None);
-    };
-    for line in lines {
-        end.lines.push(*line)?;
-    }
-    Ok(Some(end))
+/// The end of a set of links that words say; none where one of them says nothing.
+pub fn set_end<'a>(words: &SetWords<'a>) -> Option<SetEnd<'a>>
+    ensures some { IfSome result (IsSetEndOf words.now) }
+    ensures none { IsNone result → IsNoSetEnd words.now }
+{
+    let mode = mode_named(words.mode)?;
+    let own = point_named(words.own)?;
+    let peer = point_named(words.peer)?;
+    let network = network_of(words.network)?;
+    let bits = bits_of(words.bits)?;
+    let ahead = set_ahead_of(words.ahead)?;
+    Some(SetEnd {
+        mode,
+        own,
+        peer,
+        network,
+        orders: words.orders,
+        reports: words.reports,
+        bits,
+        ahead,
+        tests: !words.no_test,
+    })
 }

@@ -1,17 +1,27 @@
 //! The words of the command `set`.
+ghost use Rattle.std.specs.Prelude.{◌≡◌, IfOk, IfSome, IsNone, IsSomeAnd, Some, option_map, codes};
+ghost use Rattle.clap.specs.Words.{all_of, found_of, rows_of};
+ghost use Rattle.mtp2_words.specs.Words.{command_of, IsSetText};
+ghost use Rattle.mtp2_words.specs.Asked.{given_by, IsAsked, AreAllAsked, AsksSetEnd, IsNoSetEndBy, IsNoSet, AreLinesOf, AreNoLines};
 
 use crate::flags::is_given;
-use crate::set_ends::{SetEnd, SetWords, set_end};
+use crate::set_ends::{SetEnd, SetWords, are_few, set_end};
 use crate::words::{Named, Request, text_named};
 use clap::ArgMatches;
 use std::alloc::{AllocError, Global};
 
-/// The words that the matches of `set` have; none where one that has to be there isn't.
-fn words_of<'a>(given: &ArgMatches<'a>) -> Option<SetWords<'a>> {
-    Some(SetWords {
-        mode: given.get_str("MODE")?,
-        own: given.get_str("own")?,
-        peer: given.get_str("peer")?,
+/// The end of a set of links that the matches of `set` stand for, without its lines.
+fn end_of<'a>(given: &ArgMatches<'a>) -> Option<SetEnd<'a>>
+    ensures some { IfSome result (AsksSetEnd (given_by given.now)) }
+    ensures none { IsNone result → IsNoSetEndBy (given_by given.now) }
+{
+    let mode = given.get_str("MODE")?;
+    let own = given.get_str("own")?;
+    let peer = given.get_str("peer")?;
+    set_end(&SetWords {
+        mode,
+        own,
+        peer,
         network: given.get_str("network"),
         orders: given.get_str("orders"),
         reports: given.get_str("reports"),
@@ -21,19 +31,31 @@ fn words_of<'a>(given: &ArgMatches<'a>) -> Option<SetWords<'a>> {
     })
 }
 
-/// The end of a set that the matches of `set` stand for.
-fn end_of<'a>(alloc: Global, given: &ArgMatches<'a>) -> Result<Option<SetEnd<'a>>, AllocError> {
-    let Some(words) = words_of(given) else {
-        return Ok(None);
-    };
+/// The lines that the matches of `set` name.
+fn lines_of<'a>(
+    alloc: Global,
+    given: &ArgMatches<'a>,
+) -> Result<Option<Vec<&'a str>>, AllocError>
+    ensures some { IfOk result (λ o. IfSome o (λ v. IsSomeAnd (all_of (codes "link") (rows_of (found_of given.now))) (AreLinesOf v.items))) }
+    ensures none { IfOk result (λ o. IsNone o → AreNoLines (all_of (codes "link") (rows_of (found_of given.now)))) }
+{
     match given.get_strs("link") {
-        Some(lines) => set_end(alloc, &words, lines),
+        Some(words) => {
+            if !are_few(words) {
+                return Ok(None);
+            }
+            let lines = Vec::from_slice(alloc, words)?;
+            Ok(Some(lines))
+        }
         None => Ok(None),
     }
 }
 
 /// The processes of the links, by the word for them: `q703` where there is none.
-fn text_of<'a>(word: Option<&'a str>) -> Option<Named<'a>> {
+fn text_of<'a>(word: Option<&'a str>) -> Option<Named<'a>>
+    ensures some { IfSome result (IsSetText (option_map (λ w. w.now) word.entry)) }
+    ensures none { IsNone result → option_map (λ w. w.now) word.entry ≡ Some (codes "stdin") }
+{
     match word {
         Some(word) => text_named(word),
         None => Some(Named::Q703),
@@ -44,12 +66,20 @@ fn text_of<'a>(word: Option<&'a str>) -> Option<Named<'a>> {
 pub(crate) fn tended<'a>(
     alloc: Global,
     given: &ArgMatches<'a>,
-) -> Result<Option<Request<'a>>, AllocError> {
+) -> Result<Option<Request<'a>>, AllocError>
+    ensures named { IfOk result (λ o. IfSome o (λ r. command_of r ≡ codes "set")) }
+    ensures asked { IfOk result (λ o. IfSome o (IsAsked (given_by given.now))) }
+    ensures all { IfOk result (λ o. IfSome o (AreAllAsked (rows_of (found_of given.now)))) }
+    ensures none { IfOk result (λ o. IsNone o → IsNoSet (given_by given.now) (rows_of (found_of given.now))) }
+{
     let Some(set) = text_of(given.get_str("text")) else {
         return Ok(None);
     };
-    match end_of(alloc, given)? {
-        Some(end) => Ok(Some(Request::Set { set, end })),
+    let Some(end) = end_of(given) else {
+        return Ok(None);
+    };
+    match lines_of(alloc, given)? {
+        Some(lines) => Ok(Some(Request::Tend { set, lines, end })),
         None => Ok(None),
     }
 }

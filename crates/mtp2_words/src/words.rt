@@ -64,9 +64,10 @@ pub enum Request<'a> {
         set: Named<'a>,
         end: LineEnd<'a>,
     },
-    /// `set basic|cyclic`: one end of a set of links on lines, with a set of processes as for `line`.
-    Set {
+    /// `set basic|cyclic`: one end of a set of 1 to 16 links on lines, a link's code being the place of its line, with a set of processes as for `line`.
+    Tend {
         set: Named<'a>,
+        lines: Vec<&'a str>,
         end: SetEnd<'a>,
     },
     /// `draw SET`: a set as for `check`; `draw SET PROCESS`, with `--states` or without: one of its processes.
@@ -354,7 +355,7 @@ fn asked<'a>(
     ensures named { IfOk result (λ o. IfSome o (λ r. command_of r ≡ name.now)) }
     ensures asked { IfOk result (λ o. IfSome o (IsAsked (given_by given.now))) }
     ensures all { IfOk result (λ o. IfSome o (AreAllAsked (rows_of (found_of given.now)))) }
-    ensures none { IfOk result (λ o. IsNone o → AsksNothing name.now (given_by given.now)) }
+    ensures none { IfOk result (λ o. IsNone o → AsksNothing name.now (given_by given.now) (rows_of (found_of given.now))) }
 {
     match name {
         "check" => checked(alloc, given),

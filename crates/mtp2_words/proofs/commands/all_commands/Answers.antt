@@ -1,5 +1,5 @@
 use Rattle.std.proofs.lemmas.Result.{IfOk-weaker}
-use Rattle.mtp2_words.specs.Commands.{program_begun, check_command, play_command, soak_command, line_command, frame_command, draw_command, text_command, diff_command}
+use Rattle.mtp2_words.specs.Commands.{program_begun, check_command, play_command, soak_command, line_command, set_command, frame_command, draw_command, text_command, diff_command}
 use Rattle.mtp2_words.proofs.Building.{with_command}
 use Rattle.mtp2_words.proofs.commands.all_commands.Goals as goal
 
@@ -13,11 +13,13 @@ returns c =
     c.in_ok-soak_command.ensures c.in_ok-subcommand-3.ensures in
     let line = with_command _ line_command _ c.in_ok-line_command.field-0 c.in_ok-subcommand-4.field-0 soak
     c.in_ok-line_command.ensures c.in_ok-subcommand-4.ensures in
-    let frame = with_command _ frame_command _ c.in_ok-frame_command.field-0 c.in_ok-subcommand-5.field-0 line
-    c.in_ok-frame_command.ensures c.in_ok-subcommand-5.ensures in
-    let draw = with_command _ draw_command _ c.in_ok-draw_command.field-0 c.in_ok-subcommand-6.field-0 frame
-    c.in_ok-draw_command.ensures c.in_ok-subcommand-6.ensures in
-    let text = with_command _ text_command _ c.in_ok-text_command.field-0 c.in_ok-subcommand-7.field-0 draw
-    c.in_ok-text_command.ensures c.in_ok-subcommand-7.ensures in
-    IfOk-weaker c.subcommand-8.result _ _ (λ r a. with_command _ diff_command _ c.in_ok-diff_command.field-0 r text
-    c.in_ok-diff_command.ensures a) c.subcommand-8.ensures
+    let set = with_command _ set_command _ c.in_ok-set_command.field-0 c.in_ok-subcommand-5.field-0 line
+    c.in_ok-set_command.ensures c.in_ok-subcommand-5.ensures in
+    let frame = with_command _ frame_command _ c.in_ok-frame_command.field-0 c.in_ok-subcommand-6.field-0 set
+    c.in_ok-frame_command.ensures c.in_ok-subcommand-6.ensures in
+    let draw = with_command _ draw_command _ c.in_ok-draw_command.field-0 c.in_ok-subcommand-7.field-0 frame
+    c.in_ok-draw_command.ensures c.in_ok-subcommand-7.ensures in
+    let text = with_command _ text_command _ c.in_ok-text_command.field-0 c.in_ok-subcommand-8.field-0 draw
+    c.in_ok-text_command.ensures c.in_ok-subcommand-8.ensures in
+    IfOk-weaker c.subcommand-9.result _ _ (λ r a. with_command _ diff_command _ c.in_ok-diff_command.field-0 r text
+    c.in_ok-diff_command.ensures a) c.subcommand-9.ensures

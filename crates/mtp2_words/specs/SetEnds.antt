@@ -1,0 +1,50 @@
+-- What words say of one end of a set of links.
+use Rattle.std.specs.Prelude.{◌≡◌, ◌⊎◌, ℕ, ◌&&◌, nat_le, nat_lt, not, Bool, if◌then◌else◌, List}
+use Rattle.std.specs.Prelude.{Option, Some, None, option_map, option_and_then}
+use Rattle.script_links.specs.Numbers.{count_of}
+use Rattle.script_links.specs.Orders.{mode_named}
+use Rattle.mtp2_words.specs.Ends.{bits_of, ahead_named}
+use Rattle.mtp2_words.specs.declared.set_ends.SetEnd.{SetEnd}
+use Rattle.mtp2_words.specs.declared.set_ends.SetWords.{SetWords}
+
+abbrev pub below : ℕ → ℕ → Option ℕ
+below most n = if nat_lt n most then Some n else None
+
+-- the code of a point: a count of 14 bits
+abbrev pub point_named : List ℕ → Option ℕ
+point_named word = option_and_then (below 16384) (count_of word)
+
+-- the network indicator: a count of 2 bits; 2, a national network, where there is no word
+abbrev pub network_of : Option (List ℕ) → Option ℕ
+network_of None = Some 2
+network_of (Some word) = option_and_then (below 4) (count_of word)
+
+-- how many octets go ahead on each line: 64, where there is no word
+abbrev pub set_ahead_of : Option (List ℕ) → Option ℕ
+set_ahead_of None = Some 64
+set_ahead_of (Some word) = ahead_named word
+
+-- a set has 1 to 16 links
+abbrev pub are_few : ℕ → Bool
+are_few links = nat_le 1 links && nat_le links 16
+
+-- each word says its part
+pub record IsSetEndOf (words : SetWords) (end : SetEnd) : Type 0 where
+  pub mode_is : mode_named words.mode.now ≡ Some end.mode
+  pub own_is : point_named words.own.now ≡ Some end.own
+  pub peer_is : point_named words.peer.now ≡ Some end.peer
+  pub network_is : network_of (option_map (λ w. w.now) words.network) ≡ Some end.network
+  pub bits_are : bits_of (option_map (λ w. w.now) words.bits) ≡ Some end.bits
+  pub ahead_is : set_ahead_of (option_map (λ w. w.now) words.ahead) ≡ Some end.ahead
+  pub orders_are : option_map (λ w. w.now) end.orders ≡ option_map (λ w. w.now) words.orders
+  pub reports_are : option_map (λ w. w.now) end.reports ≡ option_map (λ w. w.now) words.reports
+  pub tests_are : end.tests ≡ not words.no_test
+
+-- one of them says nothing
+abbrev pub IsNoSetEnd : SetWords → Type 0
+IsNoSetEnd words =
+    (mode_named words.mode.now ≡ None) ⊎ (point_named words.own.now ≡ None)
+    ⊎ (point_named words.peer.now ≡ None)
+    ⊎ (network_of (option_map (λ w. w.now) words.network) ≡ None)
+    ⊎ (bits_of (option_map (λ w. w.now) words.bits) ≡ None)
+    ⊎ (set_ahead_of (option_map (λ w. w.now) words.ahead) ≡ None)
