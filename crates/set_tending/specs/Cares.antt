@@ -1,10 +1,11 @@
 -- What is kept of each link, and how it changes.
-use Rattle.std.specs.Prelude.{ℕ, ◌+◌, ◌-◌, ◌^◌, ◌&&◌, ◌||◌, nat_lt, nat_le, not, Bool, true, false}
+use Rattle.std.specs.Prelude.{ℕ, ◌+◌, ◌-◌, ◌^◌, ◌%◌, ◌&&◌, ◌||◌, nat_lt, nat_le, not, Bool, true, false}
 use Rattle.std.specs.Prelude.{if◌then◌else◌, min, max, Option, Some, None}
 use Rattle.std.specs.Prelude.{is_some, is_none}
 use Rattle.group_changeover.specs.Saying.{is_order as is_kind_order}
 use Rattle.set_tending.specs.declared.care.Care.{Care}
 use Rattle.set_tending.specs.declared.care.Owed.{Owed}
+use Rattle.set_tending.specs.declared.care.Testing.{Testing}
 use Rattle.set_tending.specs.declared.care.Testing.TheVariants.{Rests}
 
 -- Q.704's T2 and T17, in ticks
@@ -79,6 +80,26 @@ let_be c = record c { wanted = false; due = None }
 -- its changeover begins
 abbrev pub changing : Care → Care
 changing c = record c { patience = PATIENCE }
+
+abbrev pub stopped : Bool → Care → Care
+stopped stopping c = record c { stopping = stopping }
+
+abbrev pub handed_out : ℕ → Care → Care
+handed_out count c = record c { handed = count }
+
+abbrev pub tested : Testing → Care → Care
+tested test c = record c { test = test }
+
+-- one more test of it; the number has 16 bits
+abbrev pub numbered : Care → Care
+numbered c = record c { tests = (c.tests + 1) % 2 ^ 16 }
+
+abbrev pub owing : Option Owed → Care → Care
+owing owed c = record c { owed = owed }
+
+-- it was started: its Start isn't due any more
+abbrev pub begun : Care → Care
+begun c = record c { started = true; due = None }
 
 -- a tick passed in which the answer of its changeover could come
 abbrev pub waited : Care → Care

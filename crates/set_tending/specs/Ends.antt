@@ -2,7 +2,6 @@
 -- 15.5, 15.16), and tests of a link (Q.707, 2.2).
 use Rattle.std.specs.Prelude.{◌≡◌, ℕ, ◌+◌, ◌*◌, ◌<◌, ◌^◌, List, [], ◌∷◌, ◌++◌, Some, drop, length}
 use Rattle.resend_store.specs.declared.messages.Msu.{Msu}
-use Rattle.group_changeover.specs.declared.bound.Points.{Points}
 use Rattle.group_changeover.specs.Labels.{label_in}
 use Rattle.set_tending.specs.declared.ends.Ends.{Ends}
 
@@ -11,9 +10,6 @@ pub record AreEnds (e : Ends) : Type 0 where
   pub own : e.own < 2 ^ 14
   pub peer : e.peer < 2 ^ 14
   pub network : e.network < 4
-
-abbrev pub points_of : Ends → Points
-points_of e = record { own = e.own; peer = e.peer }
 
 -- a message from this point to the other with this service indicator, about this link, and what
 -- stands behind its label

@@ -1,8 +1,9 @@
 //! What is kept of each link.
 ghost use Rattle.std.specs.Prelude.{◌≡◌};
-ghost use Rattle.set_tending.specs.Cares.{is_order, waits, new_care, risen, fallen, desired, let_be, changing, waited, is_coming, is_due};
+ghost use Rattle.set_tending.specs.Cares.{is_order, waits, new_care, risen, fallen, desired, let_be, changing, stopped, handed_out, tested, numbered, owing, begun, waited, is_coming, is_due};
 
 use group_changeover::Kind;
+use link_group::Command;
 
 /// For so many ticks in which another link would take it a message about a link is owed, and its answer waited for; a Start that is due waits for so
 /// many at most (Q.704's T2).
@@ -166,12 +167,89 @@ impl Care {
         }
     }
 
+    /// It is to be in service from now on, or isn't any more, where a command says so.
+    pub fn asked(self, command: Command, now: u64) -> Care {
+        match command {
+            Command::Start => self.desired(now),
+            Command::Stop => self.let_be(),
+            _ => self,
+        }
+    }
+
+    /// It took a command: it has power, and this side's processor is out, or is back.
+    pub fn obeyed(self, command: Command) -> Care {
+        match command {
+            Command::PowerOn => Care {
+                powered: true,
+                ..self
+            },
+            Command::Outage => Care {
+                outage: true,
+                ..self
+            },
+            Command::Back => Care {
+                outage: false,
+                ..self
+            },
+            _ => self,
+        }
+    }
+
     /// Its changeover begins.
     pub fn changing(self) -> Care
         ensures { result ≡ changing self }
     {
         Care {
             patience: PATIENCE,
+            ..self
+        }
+    }
+
+    /// It was stopped, or wasn't.
+    pub fn stopped(self, stopping: bool) -> Care
+        ensures { result ≡ stopped stopping self }
+    {
+        Care { stopping, ..self }
+    }
+
+    /// It handed out so many messages.
+    pub fn handed(self, handed: usize) -> Care
+        ensures { result ≡ handed_out handed self }
+    {
+        Care { handed, ..self }
+    }
+
+    /// Its test is at this.
+    pub fn tested(self, test: Testing) -> Care
+        ensures { result ≡ tested test self }
+    {
+        Care { test, ..self }
+    }
+
+    /// One more test of it.
+    pub fn numbered(self) -> Care
+        ensures { result ≡ numbered self }
+    {
+        Care {
+            tests: self.tests.wrapping_add(1),
+            ..self
+        }
+    }
+
+    /// This is to be said of it.
+    pub fn owing(self, owed: Option<Owed>) -> Care
+        ensures { result ≡ owing owed self }
+    {
+        Care { owed, ..self }
+    }
+
+    /// It was started.
+    pub fn begun(self) -> Care
+        ensures { result ≡ begun self }
+    {
+        Care {
+            started: true,
+            due: None,
             ..self
         }
     }

@@ -1,10 +1,8 @@
 //! The points between which a set lies, and the messages that it sends of its own.
-ghost use Rattle.std.specs.Prelude.{◌≡◌, ◌<◌, ◌≤◌, true, Some, All, length};
-ghost use Rattle.su_octets.specs.Bits.{AreOctets};
-ghost use Rattle.group_changeover.specs.Bound.{is_bound, is_test};
-ghost use Rattle.group_changeover.specs.Changeovers.{IsKind, behind_label};
+ghost use Rattle.std.specs.Prelude.{◌≡◌, ◌<◌, ◌≤◌, Some, length};
+ghost use Rattle.group_changeover.specs.Changeovers.{behind_label};
 ghost use Rattle.group_changeover.specs.Labels.{label_in};
-ghost use Rattle.set_tending.specs.Ends.{AreEnds, points_of, IsAbout, MANAGEMENT, TESTING, back_declared, restarting, testing, answering};
+ghost use Rattle.set_tending.specs.Ends.{AreEnds, IsAbout, MANAGEMENT, TESTING, back_declared, restarting, testing, answering};
 
 use arrayvec::ArrayVec;
 use group_changeover::Kind;
@@ -33,9 +31,7 @@ pub type Pattern = [u8; 4];
 impl Ends {
     /// The label of a message from this point to the other about a link.
     fn label(self, link: usize) -> [u8; 4]
-        requires ends { AreEnds self }
-        requires link { link < 16 }
-        ensures { label_in result ≡ Some (record { dpc = self.peer; opc = self.own; sls = link }) }
+        ensures { AreEnds self → link < 16 → label_in result ≡ Some (record { dpc = self.peer; opc = self.own; sls = link }) }
     {
         let own = u32::from(self.own % 16_384);
         let peer = u32::from(self.peer % 16_384);
@@ -45,11 +41,9 @@ impl Ends {
 
     /// A message from this point to the other about a link.
     fn message(self, indicator: u8, link: usize, content: &[u8]) -> Msu
-        requires ends { AreEnds self }
-        requires link { link < 16 }
         requires indicator { indicator < 16 }
         requires few { length content.now ≤ 268 }
-        ensures { IsAbout self indicator link content.now result }
+        ensures { AreEnds self → link < 16 → IsAbout self indicator link content.now result }
     {
         let mut sif = ArrayVec::new();
         let label = self.label(link);
@@ -63,11 +57,7 @@ impl Ends {
 
     /// A message of changeover (Q.704, 15.4).
     pub(crate) fn changeover(self, link: usize, kind: Kind) -> Msu
-        requires ends { AreEnds self }
-        requires link { link < 16 }
-        requires kind { IsKind kind }
-        ensures about { IsAbout self MANAGEMENT link (behind_label kind) result }
-        ensures bound { is_bound (points_of self) result ≡ true }
+        ensures { AreEnds self → link < 16 → IsAbout self MANAGEMENT link (behind_label kind) result }
     {
         match kind {
             Kind::Order(accepted) => self.message(MANAGEMENT, link, &[0x11, accepted]),
@@ -79,29 +69,21 @@ impl Ends {
 
     /// The acknowledgement of a changeback declaration with this code (Q.704, 15.5).
     pub(crate) fn declared_back(self, link: usize, code: u8) -> Msu
-        requires ends { AreEnds self }
-        requires link { link < 16 }
-        ensures about { IsAbout self MANAGEMENT link (back_declared code) result }
-        ensures bound { is_bound (points_of self) result ≡ true }
+        ensures { AreEnds self → link < 16 → IsAbout self MANAGEMENT link (back_declared code) result }
     {
         self.message(MANAGEMENT, link, &[0x61, code])
     }
 
     /// Traffic restart allowed (Q.704, 15.16).
     pub(crate) fn restart_allowed(self) -> Msu
-        requires { AreEnds self }
-        ensures about { IsAbout self MANAGEMENT 0 restarting result }
-        ensures bound { is_bound (points_of self) result ≡ true }
+        ensures { AreEnds self → IsAbout self MANAGEMENT 0 restarting result }
     {
         self.message(MANAGEMENT, 0, &[0x17])
     }
 
     /// A test of a link (Q.707, 2.2).
     pub(crate) fn test(self, link: usize, pattern: Pattern) -> Msu
-        requires ends { AreEnds self }
-        requires link { link < 16 }
-        ensures about { IsAbout self TESTING link (testing pattern) result }
-        ensures bound { is_bound (points_of self) result ≡ true }
+        ensures { AreEnds self → link < 16 → IsAbout self TESTING link (testing pattern) result }
     {
         let [a, b, c, d] = pattern;
         self.message(TESTING, link, &[0x11, 0x40, a, b, c, d])
@@ -109,11 +91,7 @@ impl Ends {
 
     /// The answer to a test: its link, its length and its pattern once more.
     pub(crate) fn test_answer(self, link: usize, test: &[u8]) -> Msu
-        requires ends { AreEnds self }
-        requires link { link < 16 }
-        requires few { length test.now ≤ 16 }
-        ensures about { IsAbout self TESTING link (answering test.now) result }
-        ensures bound { is_test (answering test.now) ≡ true → is_bound (points_of self) result ≡ true }
+        ensures { AreEnds self → link < 16 → length test.now ≤ 16 → IsAbout self TESTING link (answering test.now) result }
     {
         let mut content: ArrayVec<u8, 17> = ArrayVec::new();
         let _heading = content.try_push(0x21).is_ok();

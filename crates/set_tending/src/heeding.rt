@@ -1,14 +1,15 @@
 //! What links tell.
-ghost use Rattle.std.specs.Prelude.{◌≡◌, [], length, OnOk};
+ghost use Rattle.std.specs.Prelude.{◌≡◌, [], OnOk, IfSome, IsNone};
 ghost use Rattle.link_transceiver.specs.declared.signals.Report.TheVariants.{Message};
-ghost use Rattle.set_tending.specs.Rounds.{Goes, TellsOf, user_message, DoesFor, IsHeeded};
+ghost use Rattle.set_tending.specs.Rounds.{Acts, Adds, AddsHeeded, HandsOut};
+ghost use Rattle.set_tending.specs.Telling.{user_message};
 
 use crate::came::Came;
-use crate::care::{Owed, PATIENCE, Testing};
+use crate::care::Testing;
 use crate::tender::{TendError, Tender};
 use crate::told::Told;
-use group_changeover::{Hearing, Kind, read_changeover};
-use link_group::{Heard, LinkStatus, Msu, Report};
+use group_changeover::{Hearing, Kind};
+use link_group::{LinkStatus, Msu, Report};
 
 /// How many ticks lie between two tests of a link (Q.707's T2: 30 to 90 s).
 const BETWEEN_TESTS: u64 = 60_000;
@@ -16,9 +17,9 @@ const BETWEEN_TESTS: u64 = 60_000;
 impl Tender {
     /// Takes all that each link has to tell.
     pub(crate) fn heed_all(&mut self) -> Result<(), TendError>
-        ensures { OnOk result (IsHeeded self.old self.new) }
+        ensures { OnOk result (AddsHeeded self.old self.new) }
     {
-        for link in 0..self.set.len() {
+        for link in 0..self.len() {
             self.heed_link(link)?;
         }
         Ok(())
@@ -26,21 +27,41 @@ impl Tender {
 
     /// Takes all that a link has to tell.
     pub fn heed_link(&mut self, link: usize) -> Result<(), TendError>
-        ensures { OnOk result (IsHeeded self.old self.new) }
+        ensures { OnOk result (AddsHeeded self.old self.new) }
     {
         for _report in 0..u64::MAX {
-            match self.set.report(link) {
-                Ok(Some(Report::Message(msu))) => self.heed_message(link, msu)?,
-                Ok(Some(Report::Status(status))) => self.heed_status(link, status)?,
-                Ok(None) | Err(_) => return Ok(()),
+            match self.next_report(link) {
+                Some(report) => self.heed(link, report)?,
+                None => return Ok(()),
             }
         }
         Ok(())
     }
 
+    /// What a link has to tell next.
+    fn next_report(&mut self, link: usize) -> Option<Report>
+        ensures some { IfSome result (λ report. HandsOut (record { link = link; report = report }) self.old self.new) }
+        ensures none { IsNone result → Adds self.old self.new }
+    {
+        match self.set.report(link) {
+            Ok(report) => report,
+            Err(_) => None,
+        }
+    }
+
+    /// Takes what a link told.
+    fn heed(&mut self, link: usize, report: Report) -> Result<(), TendError>
+        ensures { OnOk result (Acts [] (user_message self.old.plan report) self.old self.new) }
+    {
+        match report {
+            Report::Message(msu) => self.heed_message(link, msu),
+            Report::Status(status) => self.heed_status(link, status),
+        }
+    }
+
     /// Takes what was told of a link.
     fn heed_status(&mut self, link: usize, status: LinkStatus) -> Result<(), TendError>
-        ensures { OnOk result (DoesFor self.old self.new) }
+        ensures { OnOk result (Adds self.old self.new) }
     {
         match status {
             LinkStatus::InService => {
@@ -57,41 +78,48 @@ impl Tender {
 
     /// A link went down: its changeover begins, unless it wasn't in service or its changeover goes on.
     fn go_down(&mut self, link: usize, reason: i32) -> Result<(), TendError>
-        ensures { OnOk result (DoesFor self.old self.new) }
+        ensures { OnOk result (Adds self.old self.new) }
     {
         self.tell(Told::Down(link, reason))?;
-        if self.tests {
-            let _there = self.set.admit(link, false).is_ok();
-        }
+        self.withdraw(link);
         let care = self.care(link);
         self.keep(link, care.fallen(self.now));
         self.owe_again(link);
-        if care.serves {
-            self.begin_changeover(link)?;
+        if !care.serves {
+            return Ok(());
         }
-        Ok(())
+        self.begin_changeover(link)
+    }
+
+    /// A link that is tested isn't admitted any more.
+    fn withdraw(&mut self, link: usize)
+        ensures { Adds self.old self.new }
+    {
+        if !self.plan.tests {
+            return;
+        }
+        self.admit(link, false);
     }
 
     /// Takes a message that came by a link.
     fn heed_message(&mut self, link: usize, msu: Msu) -> Result<(), TendError>
-        ensures goes { OnOk result (Goes self.old [] self.new) }
-        ensures tells { OnOk result (TellsOf (user_message self.old.ends (length self.old.set.links) (Message msu)) self.old self.new) }
+        ensures { OnOk result (Acts [] (user_message self.old.plan (Message msu)) self.old self.new) }
     {
-        match self.ends.came(&msu) {
-            Came::Message => self.tell(Told::Message(link, msu)),
+        match self.plan.ends.came(&msu) {
+            Came::Message => self.tell_message(link, msu),
             Came::Changeover(about, kind) => {
-                if about == link || about >= self.set.len() {
+                if about == link || about >= self.len() {
                     return Ok(());
                 }
                 self.tell(Told::Hears(about, kind, link))?;
                 self.hear_changeover(about, kind, &msu)
             }
             Came::Declaration(about, code) => {
-                if about < self.set.len() {
+                if about < self.len() {
                     self.acknowledge_declaration(link, about, code);
                     return Ok(());
                 }
-                self.tell(Told::Message(link, msu))
+                self.tell_message(link, msu)
             }
             Came::Test(about) => {
                 self.answer_test(link, about, &msu);
@@ -104,34 +132,49 @@ impl Tender {
     /// A message of changeover came about a link that is there, by another one. About one that hasn't been in service an order is answered
     /// without the set.
     fn hear_changeover(&mut self, about: usize, kind: Kind, msu: &Msu) -> Result<(), TendError>
-        ensures { OnOk result (DoesFor self.old self.new) }
+        ensures { OnOk result (Adds self.old self.new) }
     {
         if !self.care(about).served {
-            match kind {
-                Kind::Order(_) | Kind::EmergencyOrder => {
-                    self.owe(about, Kind::EmergencyAcknowledgement);
-                }
-                Kind::Acknowledgement(_) | Kind::EmergencyAcknowledgement => {}
-            }
+            self.answer_unknown(about, kind);
             return Ok(());
         }
-        let Heard { hearing, reply } = self.set.changeover_message(msu.sif.as_slice());
-        if hearing == Hearing::Began {
-            self.keep(about, self.care(about).changing());
-            self.tell(Told::Changeover(about))?;
+        let noted = self.note(msu.sif.as_slice());
+        self.owe_answer(about, noted.answer);
+        if noted.hearing != Hearing::Began {
+            return Ok(());
         }
-        if let Some(sif) = reply {
-            if let Some(answer) = read_changeover(sif.as_slice()) {
-                self.owe(about, answer.kind);
+        self.keep(about, self.care(about).changing());
+        self.tell(Told::Changeover(about))
+    }
+
+    /// An order about a link that hasn't been in service is answered.
+    fn answer_unknown(&mut self, about: usize, kind: Kind)
+        ensures { self.new ≡ self.old }
+    {
+        match kind {
+            Kind::Order(_) | Kind::EmergencyOrder => {
+                self.owe(about, Kind::EmergencyAcknowledgement);
             }
+            Kind::Acknowledgement(_) | Kind::EmergencyAcknowledgement => {}
         }
-        Ok(())
+    }
+
+    /// An answer is to be said of a link, if there is one.
+    fn owe_answer(&mut self, about: usize, answer: Option<Kind>)
+        ensures { self.new ≡ self.old }
+    {
+        match answer {
+            Some(kind) => self.owe(about, kind),
+            None => {}
+        }
     }
 
     /// A changeback declaration came about a link that is there: it is acknowledged by a link that takes messages about others, the one it speaks of
     /// where no other does, and where that doesn't either by the one by which it came.
-    fn acknowledge_declaration(&mut self, came_by: usize, about: usize, code: u8) {
-        let msu = self.ends.declared_back(about, code);
+    fn acknowledge_declaration(&mut self, came_by: usize, about: usize, code: u8)
+        ensures { Adds self.old self.new }
+    {
+        let msu = self.plan.ends.declared_back(about, code);
         let by = match self.least_loaded(about) {
             Some(by) => by,
             None if self.may_take(about) => about,
@@ -141,40 +184,37 @@ impl Tender {
     }
 
     /// A test came by a link: it is answered by the same.
-    fn answer_test(&mut self, link: usize, about: usize, msu: &Msu) {
-        let answer = self
-            .ends
-            .test_answer(about, msu.sif.as_slice().get(5..).unwrap_or(&[]));
+    fn answer_test(&mut self, link: usize, about: usize, msu: &Msu)
+        ensures { Adds self.old self.new }
+    {
+        let test = msu.sif.as_slice().get(5..).unwrap_or(&[]);
+        let answer = self.plan.ends.test_answer(about, test);
         let _sent = self.send_by(link, answer);
     }
 
     /// An answer to a test came by a link. It counts where it names that link and has the pattern of the test that runs.
     fn hear_answer(&mut self, link: usize, about: usize, msu: &Msu) -> Result<(), TendError>
-        ensures { OnOk result (DoesFor self.old self.new) }
+        ensures { OnOk result (Adds self.old self.new) }
     {
         let care = self.care(link);
         let is_running = !matches!(care.test, Testing::Rests(_));
         if about != link || !is_running || !self.is_answer(link, msu) {
             return Ok(());
         }
-        self.cares[link % 16].test = Testing::Rests(self.now.saturating_add(BETWEEN_TESTS));
-        let was = match self.state(link) {
-            Some(state) => state.admitted,
-            None => true,
-        };
-        if was {
+        let next = self.now.saturating_add(BETWEEN_TESTS);
+        self.keep(link, care.tested(Testing::Rests(next)));
+        if self.is_admitted(link) {
             return Ok(());
         }
-        let _there = self.set.admit(link, true).is_ok();
+        self.admit(link, true);
         self.tell(Told::Tested(link))
     }
 
-    /// Something is to be said of a link, in place of what was.
-    pub(crate) fn owe(&mut self, link: usize, kind: Kind) {
-        self.cares[link % 16].owed = Some(Owed {
-            kind,
-            left: PATIENCE,
-            by: None,
-        });
+    /// Whether a link is admitted, or isn't there.
+    fn is_admitted(&self, link: usize) -> bool {
+        match self.state(link) {
+            Some(state) => state.admitted,
+            None => true,
+        }
     }
 }

@@ -2,10 +2,12 @@
 //! carried through, and selections are shared out anew. Sequential, and in memory: whoever has lines hands over what comes and takes what is told.
 #![tactic(auto)]
 
+mod acts;
 mod came;
 mod care;
 mod changing;
 mod ends;
+mod hands;
 mod heeding;
 mod obeying;
 mod owing;
@@ -24,6 +26,6 @@ pub use link_group::{
     Command, CommandError, Group, Label, LinkError, LinkState, Mode, Msu, Retrievals, SendError,
     Terminal,
 };
-pub use tender::{TendError, Tender};
+pub use tender::{Plan, TendError, Tender};
 pub use told::{SharedOut, Told};
 pub use wire::{Passed, Wire};

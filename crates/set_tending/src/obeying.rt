@@ -1,13 +1,13 @@
 //! Orders.
 ghost use Rattle.std.specs.Prelude.{◌≡◌, ◌∷◌, [], Some, OnOk, OnErr};
 ghost use Rattle.group_changeover.specs.Labels.{label_in};
-ghost use Rattle.group_members.specs.OneLink.{fault_of};
-ghost use Rattle.set_tending.specs.Rounds.{Goes, DoesFor};
+ghost use Rattle.link_group.specs.OneLink.{fault_of};
+ghost use Rattle.set_tending.specs.Rounds.{Acts, Adds};
 ghost use Rattle.set_tending.specs.Sending.{tended_send_fault};
 
 use crate::tender::Tender;
 use crate::told::Told;
-use link_group::{Command, CommandError, Label, Msu, RebalanceError, SendError};
+use link_group::{Command, CommandError, Label, Msu, SendError};
 
 /// So many messages that a link holds leave no room for more.
 const MOST_HELD: usize = 256;
@@ -42,8 +42,7 @@ impl Tender {
     pub fn send(&mut self, label: Label, msu: Msu) -> Result<(), SendError>
         requires { label_in msu.sif.items ≡ Some label }
         ensures fault { fault_of result ≡ tended_send_fault self.old.set msu }
-        ensures ok { OnOk result (Goes self.old (msu ∷ []) self.new) }
-        ensures same { self.new ≡ record self.old { set = self.new.set } }
+        ensures ok { OnOk result (Acts (msu ∷ []) [] self.old self.new) }
         ensures err { OnErr result (self.new ≡ self.old) }
     {
         match self.set.link_of(label.sls) {
@@ -60,41 +59,18 @@ impl Tender {
     ///
     /// Those of [`link_group::Group::command`], and nothing changes then; none for Start.
     pub fn obey(&mut self, link: usize, command: Command) -> Result<(), CommandError>
-        ensures ok { OnOk result (DoesFor self.old self.new) }
-        ensures told { self.new.told ≡ self.old.told }
+        ensures { Adds self.old self.new }
     {
-        if link >= self.set.len() {
+        if link >= self.len() {
             return Err(CommandError::NoLink);
         }
-        let at = link % 16;
-        match command {
-            Command::Start => {
-                self.cares[at] = self.cares[at].desired(self.now);
-                return Ok(());
-            }
-            Command::Stop => self.cares[at] = self.cares[at].let_be(),
-            _ => {}
+        self.keep(link, self.care(link).asked(command, self.now));
+        if command == Command::Start {
+            return Ok(());
         }
-        self.set.command(link, command)?;
-        match command {
-            Command::PowerOn => self.cares[at].powered = true,
-            Command::Outage => self.cares[at].outage = true,
-            Command::Back => self.cares[at].outage = false,
-            _ => {}
-        }
+        self.give(link, command)?;
+        self.keep(link, self.care(link).obeyed(command));
         Ok(())
-    }
-
-    /// Shares all selections out anew, as [`link_group::Group::rebalance`].
-    ///
-    /// # Errors
-    ///
-    /// The same. Nothing changes then.
-    pub fn rebalance(&mut self) -> Result<(), RebalanceError>
-        ensures ok { OnOk result (DoesFor self.old self.new) }
-        ensures err { OnErr result (self.new ≡ self.old) }
-    {
-        self.set.rebalance()
     }
 
     /// The links of selections, as they are told.

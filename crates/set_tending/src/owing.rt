@@ -1,21 +1,14 @@
 //! Messages that are owed to the other point.
-ghost use Rattle.std.specs.Prelude.{◌≡◌, [], OnOk, OnErr};
-ghost use Rattle.set_tending.specs.Rounds.{Goes, DoesFor};
+ghost use Rattle.std.specs.Prelude.{◌≡◌, OnOk};
+ghost use Rattle.set_tending.specs.Rounds.{Adds};
 
-use crate::care::Owed;
+use crate::care::{Owed, PATIENCE};
 use crate::tender::{TendError, Tender};
 use crate::told::Told;
+use group_changeover::Kind;
 use link_group::Msu;
 
 impl Tender {
-    /// Has a message that is bound to a link go by it. Whether that takes it.
-    pub(crate) fn send_by(&mut self, link: usize, msu: Msu) -> bool {
-        if !self.set.is_bound(&msu) {
-            return false;
-        }
-        self.set.send_by(link, msu).is_ok()
-    }
-
     /// Whether a link takes messages about others: it is in service and not held, and no processor is out there.
     pub(crate) fn may_take(&self, link: usize) -> bool {
         match self.state(link) {
@@ -27,7 +20,7 @@ impl Tender {
     /// The link that takes messages about this one and holds the fewest, if there is one. It isn't this one.
     pub(crate) fn least_loaded(&self, about: usize) -> Option<usize> {
         let mut best: Option<(usize, usize)> = None;
-        for link in 0..self.set.len() {
+        for link in 0..self.len() {
             if link == about || !self.may_take(link) {
                 continue;
             }
@@ -58,21 +51,29 @@ impl Tender {
     /// What of a link's last message that went by another one is left to do: nothing where that was acknowledged.
     fn owed_still(&self, about: usize, owed: Owed) -> Option<Owed> {
         match owed.by {
-            Some(by) if !self.keeps(by, &self.ends.changeover(about, owed.kind)) => None,
+            Some(by) if !self.keeps(by, &self.plan.ends.changeover(about, owed.kind)) => None,
             _ => Some(owed),
         }
     }
 
     /// A link went down: what went by it and wasn't acknowledged is owed again.
-    pub(crate) fn owe_again(&mut self, by: usize) {
-        for about in 0..self.set.len() {
-            let owed = match self.care(about).owed {
-                Some(owed) if owed.by == Some(by) => owed,
-                _ => continue,
-            };
-            let left = self.owed_still(about, owed);
-            self.cares[about % 16].owed = left.map(|it| Owed { by: None, ..it });
+    pub(crate) fn owe_again(&mut self, by: usize)
+        ensures { self.new ≡ self.old }
+    {
+        for about in 0..self.len() {
+            let owed = self.owed_behind(about, by);
+            self.keep(about, self.care(about).owing(owed));
         }
+    }
+
+    /// What is owed about a link once this one is down.
+    fn owed_behind(&self, about: usize, by: usize) -> Option<Owed> {
+        let owed = self.care(about).owed?;
+        if owed.by != Some(by) {
+            return Some(owed);
+        }
+        let left = self.owed_still(about, owed)?;
+        Some(Owed { by: None, ..left })
     }
 
     /// The same a tick later.
@@ -101,11 +102,13 @@ impl Tender {
     }
 
     /// Has what is owed about a link go by another one, where one takes it.
-    fn pay(&mut self, about: usize, owed: Owed) -> Result<Owed, TendError> {
+    fn pay(&mut self, about: usize, owed: Owed) -> Result<Owed, TendError>
+        ensures { OnOk result (Adds self.old self.new) }
+    {
         let Some(by) = self.least_loaded(about) else {
             return Ok(owed);
         };
-        let msu = self.ends.changeover(about, owed.kind);
+        let msu = self.plan.ends.changeover(about, owed.kind);
         if !self.send_by(by, msu) {
             return Ok(owed);
         }
@@ -118,13 +121,30 @@ impl Tender {
 
     /// Sends what is owed about a link.
     pub(crate) fn pay_owed(&mut self, about: usize) -> Result<(), TendError>
-        ensures { OnOk result (DoesFor self.old self.new) }
+        ensures { OnOk result (Adds self.old self.new) }
     {
-        let left = match self.owed_now(about) {
-            Some(owed) if owed.waits() => Some(self.pay(about, owed)?),
-            left => left,
+        let Some(owed) = self.owed_now(about) else {
+            self.keep(about, self.care(about).owing(None));
+            return Ok(());
         };
-        self.cares[about % 16].owed = left;
+        if !owed.waits() {
+            self.keep(about, self.care(about).owing(Some(owed)));
+            return Ok(());
+        }
+        let paid = self.pay(about, owed)?;
+        self.keep(about, self.care(about).owing(Some(paid)));
         Ok(())
+    }
+
+    /// Something is to be said of a link, in place of what was.
+    pub(crate) fn owe(&mut self, link: usize, kind: Kind)
+        ensures { self.new ≡ self.old }
+    {
+        let owed = Owed {
+            kind,
+            left: PATIENCE,
+            by: None,
+        };
+        self.keep(link, self.care(link).owing(Some(owed)));
     }
 }

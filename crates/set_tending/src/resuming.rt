@@ -1,6 +1,6 @@
 //! Messages go on behind an outage, and traffic restarts.
-ghost use Rattle.std.specs.Prelude.{◌≡◌, [], OnOk, OnErr};
-ghost use Rattle.set_tending.specs.Rounds.{Goes, DoesFor};
+ghost use Rattle.std.specs.Prelude.{◌≡◌, OnOk};
+ghost use Rattle.set_tending.specs.Rounds.{Adds};
 
 use crate::tender::{TendError, Tender};
 use link_group::{Command, LinkState};
@@ -8,18 +8,19 @@ use link_group::{Command, LinkState};
 impl Tender {
     /// A link that carries no messages though it is in service and not held, and no processor is out, is told to go on: an outage has ended.
     pub(crate) fn resume(&mut self, link: usize, state: LinkState) -> Result<(), TendError>
-        ensures { OnOk result (DoesFor self.old self.new) }
+        ensures { OnOk result (Adds self.old self.new) }
     {
         let is_able = state.in_service && !state.held && !state.far_out && !state.own_out;
-        if is_able && !state.carrying {
-            let _taken = self.command(link, Command::Continue)?;
+        if !is_able || state.carrying {
+            return Ok(());
         }
+        let _taken = self.command(link, Command::Continue)?;
         Ok(())
     }
 
     /// The first link that is in service and admitted.
     fn first_open(&self) -> Option<usize> {
-        for link in 0..self.set.len() {
+        for link in 0..self.len() {
             match self.state(link) {
                 Some(state) if state.in_service && state.admitted && !state.held => {
                     return Some(link);
@@ -31,16 +32,20 @@ impl Tender {
     }
 
     /// Traffic restart allowed goes out once, as the first link is in service and admitted behind a time without any.
-    pub(crate) fn restart(&mut self) {
+    pub(crate) fn restart(&mut self)
+        ensures { Adds self.old self.new }
+    {
         let open = self.first_open();
-        if open.is_some() && !self.is_open {
-            self.restarts = true;
-        }
+        self.restarts = self.restarts || (open.is_some() && !self.is_open);
         self.is_open = open.is_some();
-        if let Some(link) = open {
-            if self.restarts && self.send_by(link, self.ends.restart_allowed()) {
-                self.restarts = false;
-            }
+        let Some(link) = open else {
+            return;
+        };
+        if !self.restarts {
+            return;
         }
+        let msu = self.plan.ends.restart_allowed();
+        let sent = self.send_by(link, msu);
+        self.restarts = !sent;
     }
 }

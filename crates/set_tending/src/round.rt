@@ -1,8 +1,8 @@
 //! A round.
-ghost use Rattle.std.specs.Prelude.{◌≡◌, [], IfOk, OnOk, OnErr};
-ghost use Rattle.link_group.specs.Doing.{Sent};
+ghost use Rattle.std.specs.Prelude.{◌≡◌, ◌<◌, length, IfOk, OnOk, OnErr};
+ghost use Rattle.link_group.specs.Doing.{Listened, Sent};
 ghost use Rattle.link_group.specs.Lines.{ByLink};
-ghost use Rattle.set_tending.specs.Rounds.{Goes, Ticks, DoesFor, Tends};
+ghost use Rattle.set_tending.specs.Rounds.{Adds, AddsHeeded, Ticks};
 
 use crate::tender::{TendError, Tender};
 use link_group::CallError;
@@ -12,16 +12,19 @@ use su_octets::Unit;
 impl Tender {
     /// Takes line octets of a link: how many, up to one that finds no room or no memory.
     pub fn line_in(&mut self, link: usize, octets: &[u8]) -> usize
-        ensures goes { Goes self.old [] self.new }
-        ensures same { self.new ≡ record self.old { set = self.new.set } }
+        ensures adds { Adds self.old self.new }
+        ensures heard { link < length self.old.set.links → ByLink (Listened octets.now result) link self.old.set self.new.set }
     {
-        self.set.line_in(link, octets).unwrap_or(0)
+        match self.set.line_in(link, octets) {
+            Ok(taken) => taken,
+            Err(_) => 0,
+        }
     }
 
     /// The next unit of a link, if one is to go out.
     pub fn unit_out(&mut self, link: usize) -> Result<Option<Unit>, AllocError>
+        ensures adds { Adds self.old self.new }
         ensures ok { IfOk result (λ unit. ByLink (Sent unit) link self.old.set self.new.set) }
-        ensures same { self.new ≡ record self.old { set = self.new.set } }
         ensures err { OnErr result (self.new ≡ self.old) }
     {
         match self.set.unit_out(link) {
@@ -50,7 +53,7 @@ impl Tender {
 
     /// Does what is to be done for a link.
     fn tend_link(&mut self, link: usize) -> Result<(), TendError>
-        ensures { OnOk result (DoesFor self.old self.new) }
+        ensures { OnOk result (Adds self.old self.new) }
     {
         let Some(state) = self.state(link) else {
             return Ok(());
@@ -69,10 +72,10 @@ impl Tender {
     ///
     /// Where there is no memory.
     pub fn tend(&mut self) -> Result<(), TendError>
-        ensures { OnOk result (Tends self.old self.new) }
+        ensures { OnOk result (AddsHeeded self.old self.new) }
     {
         self.heed_all()?;
-        for link in 0..self.set.len() {
+        for link in 0..self.len() {
             self.tend_link(link)?;
         }
         self.restart();

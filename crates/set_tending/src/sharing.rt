@@ -1,6 +1,6 @@
 //! Selections are shared out anew.
-ghost use Rattle.std.specs.Prelude.{◌≡◌, [], OnOk, OnErr};
-ghost use Rattle.set_tending.specs.Rounds.{Goes, DoesFor};
+ghost use Rattle.std.specs.Prelude.{◌≡◌, OnOk};
+ghost use Rattle.set_tending.specs.Rounds.{Adds};
 
 use crate::tender::{TendError, Tender};
 use crate::told::{SharedOut, Told};
@@ -28,6 +28,32 @@ pub enum Sharing {
 impl Sharing {
     pub fn new() -> Sharing {
         Sharing::Rests(0)
+    }
+
+    /// The same where messages are in the way, and not all of them on links with a processor out.
+    fn drained(self, now: u64) -> Sharing {
+        match self {
+            Sharing::Rests(since) if now < since => Sharing::Rests(since),
+            Sharing::Drains(end) if now < end => Sharing::Drains(end),
+            Sharing::Drains(_) => Sharing::Rests(now.saturating_add(CALM)),
+            Sharing::Rests(_) | Sharing::Blocked(_) => Sharing::Drains(now.saturating_add(DRAIN)),
+        }
+    }
+
+    /// Until when what is in the way, all of it on links with a processor out, is waited for.
+    fn blocked_until(self, now: u64) -> u64 {
+        match self {
+            Sharing::Blocked(end) => end,
+            Sharing::Rests(_) | Sharing::Drains(_) => now.saturating_add(DRAIN),
+        }
+    }
+
+    /// The same once it is over, or has nothing to do: no message to send waits.
+    fn settled(self) -> Sharing {
+        match self {
+            Sharing::Rests(since) => Sharing::Rests(since),
+            Sharing::Drains(_) | Sharing::Blocked(_) => Sharing::Rests(0),
+        }
     }
 }
 
@@ -57,7 +83,7 @@ impl Tender {
     /// The links that may have selections, with an outage or without.
     fn able_by(&self, outage: bool) -> ArrayVec<usize, 16> {
         let mut able = ArrayVec::new();
-        for link in 0..self.set.len() {
+        for link in 0..self.len() {
             match self.state(link) {
                 Some(state) if takes_part(state) && has_outage(state) == outage => {
                     let _fits = able.try_push(link).is_ok();
@@ -80,7 +106,7 @@ impl Tender {
 
     /// Whether a changeover goes on.
     fn is_changing(&self) -> bool {
-        for link in 0..self.set.len() {
+        for link in 0..self.len() {
             if self.set.in_changeover(link) {
                 return true;
             }
@@ -110,7 +136,7 @@ impl Tender {
 
     /// Tells the links of selections, where they are others than were told last.
     pub(crate) fn tell_shared(&mut self) -> Result<(), TendError>
-        ensures { OnOk result (DoesFor self.old self.new) }
+        ensures { OnOk result (Adds self.old self.new) }
     {
         let table = self.table();
         if table == self.shared {
@@ -155,7 +181,7 @@ impl Tender {
     /// The links that hold messages of selections which are to have another one.
     fn in_way(&self, able: &[usize]) -> ArrayVec<usize, 16> {
         let mut links = ArrayVec::new();
-        for link in 0..self.set.len() {
+        for link in 0..self.len() {
             if self.is_in_way(link, able) {
                 let _fits = links.try_push(link).is_ok();
             }
@@ -176,7 +202,7 @@ impl Tender {
 
     /// Whether a link but these carries messages.
     fn another_carries(&self, links: &[usize]) -> bool {
-        for link in 0..self.set.len() {
+        for link in 0..self.len() {
             match self.state(link) {
                 Some(state) if state.carrying && state.admitted && !links.contains(&link) => {
                     return true;
@@ -189,7 +215,7 @@ impl Tender {
 
     /// Changeover begins for links whose messages wait behind an outage.
     fn leave(&mut self, links: &[usize]) -> Result<(), TendError>
-        ensures { OnOk result (DoesFor self.old self.new) }
+        ensures { OnOk result (Adds self.old self.new) }
     {
         for link in links {
             self.begin_changeover(*link)?;
@@ -199,31 +225,21 @@ impl Tender {
 
     /// What is done where messages are in the way.
     fn drain(&mut self, able: &[usize]) -> Result<(), TendError>
-        ensures { OnOk result (DoesFor self.old self.new) }
+        ensures { OnOk result (Adds self.old self.new) }
     {
         let links = self.in_way(able);
         if self.all_out(links.as_slice()) {
             return self.wait_for(links.as_slice());
         }
-        self.sharing = match self.sharing {
-            Sharing::Rests(since) if self.now < since => Sharing::Rests(since),
-            Sharing::Drains(end) if self.now < end => Sharing::Drains(end),
-            Sharing::Drains(_) => Sharing::Rests(self.now.saturating_add(CALM)),
-            Sharing::Rests(_) | Sharing::Blocked(_) => {
-                Sharing::Drains(self.now.saturating_add(DRAIN))
-            }
-        };
+        self.sharing = self.sharing.drained(self.now);
         Ok(())
     }
 
     /// What is done where all that is in the way is on links with a processor out.
     fn wait_for(&mut self, links: &[usize]) -> Result<(), TendError>
-        ensures { OnOk result (DoesFor self.old self.new) }
+        ensures { OnOk result (Adds self.old self.new) }
     {
-        let end = match self.sharing {
-            Sharing::Blocked(end) => end,
-            Sharing::Rests(_) | Sharing::Drains(_) => self.now.saturating_add(DRAIN),
-        };
+        let end = self.sharing.blocked_until(self.now);
         self.sharing = Sharing::Blocked(end);
         if self.now < end || !self.another_carries(links) {
             return Ok(());
@@ -233,23 +249,22 @@ impl Tender {
     }
 
     /// Sharing out is over, or has nothing to do: no message to send waits.
-    fn settle(&mut self) {
-        match self.sharing {
-            Sharing::Rests(_) => {}
-            Sharing::Drains(_) | Sharing::Blocked(_) => self.sharing = Sharing::Rests(0),
-        }
+    fn settle(&mut self)
+        ensures { self.new ≡ self.old }
+    {
+        self.sharing = self.sharing.settled();
     }
 
     /// Shares selections out anew, where that is wanted and may be.
     pub(crate) fn share(&mut self) -> Result<(), TendError>
-        ensures { OnOk result (DoesFor self.old self.new) }
+        ensures { OnOk result (Adds self.old self.new) }
     {
         let able = self.able();
         if able.is_empty() || self.is_changing() || self.is_even(able.as_slice()) {
             self.settle();
             return Ok(());
         }
-        match self.set.rebalance() {
+        match self.rebalance() {
             Ok(()) => {
                 self.settle();
                 Ok(())

@@ -1,27 +1,16 @@
 //! Starts of links.
-ghost use Rattle.std.specs.Prelude.{◌≡◌, [], OnOk, OnErr};
-ghost use Rattle.set_tending.specs.Rounds.{Goes, DoesFor};
+ghost use Rattle.std.specs.Prelude.{◌≡◌, OnOk};
+ghost use Rattle.set_tending.specs.Rounds.{Adds};
 
 use crate::care::PATIENCE;
 use crate::tender::{TendError, Tender};
 use crate::told::Told;
-use link_group::{Command, CommandError};
+use link_group::Command;
 
 impl Tender {
-    /// Gives a command to a link. Whether it took it.
-    pub(crate) fn command(&mut self, link: usize, command: Command) -> Result<bool, TendError> {
-        match self.set.command(link, command) {
-            Ok(()) => Ok(true),
-            Err(CommandError::NoMemory) => Err(TendError::NoMemory),
-            Err(CommandError::NoLink | CommandError::Waiting | CommandError::Refused(_)) => {
-                Ok(false)
-            }
-        }
-    }
-
     /// Whether another link is in service.
     pub(crate) fn another_serves(&self, link: usize) -> bool {
-        for other in 0..self.set.len() {
+        for other in 0..self.len() {
             if other != link && self.care(other).serves {
                 return true;
             }
@@ -39,7 +28,7 @@ impl Tender {
 
     /// Starts a link where that is due, and doesn't wait for what is to be said of it, for 1,400 ticks at most.
     pub(crate) fn start(&mut self, link: usize) -> Result<(), TendError>
-        ensures { OnOk result (DoesFor self.old self.new) }
+        ensures { OnOk result (Adds self.old self.new) }
     {
         let Some(due) = self.care(link).is_due(self.now) else {
             return Ok(());
@@ -51,12 +40,13 @@ impl Tender {
         if !self.command(link, Command::Start)? {
             return Ok(());
         }
-        let at = link % 16;
-        self.cares[at].started = true;
-        self.cares[at].due = None;
-        if self.cares[at].outage {
-            let _taken = self.command(link, Command::Outage)?;
+        let care = self.care(link).begun();
+        self.keep(link, care);
+        self.tell(Told::Started(link))?;
+        if !care.outage {
+            return Ok(());
         }
-        self.tell(Told::Started(link))
+        let _taken = self.command(link, Command::Outage)?;
+        Ok(())
     }
 }

@@ -1,13 +1,14 @@
 //! The set with what is kept of it.
-ghost use Rattle.std.specs.Prelude.{◌≡◌, [], length, IfOk, IfErr, IfSome, IsNone, replicate, ◌∷◌};
+ghost use Rattle.std.specs.Prelude.{◌≡◌, ◌++◌, [], length, IfOk, IfErr, IfSome, IsNone};
 ghost use Rattle.set_tending.specs.Ends.{AreEnds};
+ghost use Rattle.set_tending.specs.Telling.{message_in};
 ghost use Rattle.set_tending.specs.Tended.{IsNewTended};
 
 use crate::care::Care;
 use crate::ends::Ends;
 use crate::sharing::Sharing;
 use crate::told::{SharedOut, Told};
-use link_group::{Group, Label, LinkState, Msu, Retrievals};
+use link_group::{Group, LinkState, Retrievals};
 use std::alloc::{AllocError, Global};
 use std::collections::VecDeque;
 use std::marker::Model;
@@ -33,16 +34,26 @@ impl From<AllocError> for TendError {
     }
 }
 
+/// What is given with a set, and stays.
+#[derive(Clone, Copy, Debug, PartialEq, Eq)]
+pub struct Plan {
+    /// The points between which it lies.
+    pub ends: Ends,
+    /// Whether links are tested, and admitted once that was answered.
+    pub tests: bool,
+    /// How many links there are.
+    pub links: usize,
+}
+
 /// A set that tends itself. It can't be dropped: its set ends with what is retrieved.
 pub struct Tender {
     pub(crate) set: Group,
     pub(crate) hands: Retrievals,
-    pub(crate) cares: [Care; MOST_LINKS],
-    pub(crate) ends: Ends,
-    /// Whether links are tested, and admitted once that was answered.
-    pub(crate) tests: bool,
+    pub(crate) plan: Plan,
     /// How many ticks have passed.
     pub(crate) now: u64,
+    pub(crate) told: VecDeque<Told>,
+    pub(crate) cares: [Care; MOST_LINKS],
     pub(crate) sharing: Sharing,
     /// Whether a link was in service and admitted as this was last looked at.
     pub(crate) is_open: bool,
@@ -50,23 +61,22 @@ pub struct Tender {
     pub(crate) restarts: bool,
     /// The links of selections as they were told last.
     pub(crate) shared: SharedOut,
-    pub(crate) told: VecDeque<Told>,
 }
 
 impl Model for Tender {
-    ghost use Rattle.std.specs.Prelude.{◌≡◌, length, vec_capacity, ◌≤◌};
     ghost use Rattle.std.specs.Coded.{codes};
     ghost use Rattle.tick_wheel.specs.Timers.{timers_code};
     ghost use Rattle.set_tending.specs.Ends.{AreEnds};
+    ghost use Rattle.set_tending.specs.Telling.{messages_in};
     ghost use Rattle.set_tending.specs.Tended.{Tended};
 
     ghost Value = { Tended };
 
     ghost coded = { Prim.hlevel (codes, timers_code) };
 
-    ghost view = { λ t. record { set = t.set; hands = t.hands.kept.items; cares = t.cares; ends = t.ends; tests = t.tests; now = t.now; sharing = t.sharing; told = t.told.items } };
+    ghost view = { λ t. record { set = t.set; hands = t.hands.kept.items; plan = t.plan; now = t.now; messages = messages_in t.told.items } };
 
-    ghost invariant = { λ t. AreEnds t.ends × (t.set.own ≡ t.ends.own) × (t.set.peer ≡ t.ends.peer) };
+    ghost invariant = { λ t. AreEnds t.plan.ends };
 }
 
 impl Tender {
@@ -76,26 +86,24 @@ impl Tender {
     ///
     /// Where there is no memory, the set with that.
     pub fn new(alloc: Global, ends: Ends, tests: bool, set: Group) -> Result<Tender, Group>
-        requires ends { AreEnds ends }
-        requires own { set.own ≡ ends.own }
-        requires peer { set.peer ≡ ends.peer }
+        requires { AreEnds ends }
         ensures new { IfOk result (IsNewTended ends tests set) }
         ensures back { IfErr result (λ back. back ≡ set) }
     {
+        let links = set.len();
         match Retrievals::new(alloc) {
             Ok(hands) => {
                 let mut tender = Tender {
                     set,
                     hands,
-                    cares: [Care::new(); MOST_LINKS],
-                    ends,
-                    tests,
+                    plan: Plan { ends, tests, links },
                     now: 0,
+                    told: VecDeque::new(alloc),
+                    cares: [Care::new(); MOST_LINKS],
                     sharing: Sharing::new(),
                     is_open: false,
                     restarts: false,
-                    shared: [None; 16],
-                    told: VecDeque::new(alloc),
+                    shared: [None; MOST_LINKS],
                 };
                 tender.admit_all(!tests);
                 Ok(tender)
@@ -104,18 +112,11 @@ impl Tender {
         }
     }
 
-    /// All links are admitted, or none.
-    fn admit_all(&mut self, way: bool) {
-        for link in 0..self.set.len() {
-            let _there = self.set.admit(link, way).is_ok();
-        }
-    }
-
     /// How many links there are.
     pub fn len(&self) -> usize
-        ensures { result ≡ length self.now.set.links }
+        ensures { result ≡ self.now.plan.links }
     {
-        self.set.len()
+        self.plan.links
     }
 
     /// How many ticks have passed.
@@ -138,13 +139,15 @@ impl Tender {
     }
 
     /// Keeps it.
-    pub(crate) fn keep(&mut self, link: usize, care: Care) {
+    pub(crate) fn keep(&mut self, link: usize, care: Care)
+        ensures { self.new ≡ self.old }
+    {
         self.cares[link % MOST_LINKS] = care;
     }
 
     /// Whether nothing is owed, in changeover, handed out or to be shared out, and no Start is to come.
     pub fn is_calm(&self) -> bool {
-        for link in 0..self.set.len() {
+        for link in 0..self.len() {
             let care = self.care(link);
             if care.owed.is_some() || care.due.is_some() || self.set.in_changeover(link) {
                 return false;
@@ -155,14 +158,18 @@ impl Tender {
 
     /// What is told next.
     pub fn take_told(&mut self) -> Option<Told>
-        ensures some { IfSome result (λ told. (self.old.told ≡ told ∷ self.new.told) × (self.new ≡ record self.old { told = self.new.told })) }
-        ensures none { IsNone result → (self.old.told ≡ []) × (self.new ≡ self.old) }
+        ensures some { IfSome result (λ told. self.old.messages ≡ message_in told ++ self.new.messages) }
+        ensures none { IsNone result → self.old.messages ≡ [] }
+        ensures same { self.new ≡ record self.old { messages = self.new.messages } }
     {
         self.told.pop_front()
     }
 
-    /// Something more is to be told.
-    pub(crate) fn tell(&mut self, told: Told) -> Result<(), TendError> {
+    /// Something more is to be told, and no message for level 3.
+    pub(crate) fn tell(&mut self, told: Told) -> Result<(), TendError>
+        requires { message_in told ≡ [] }
+        ensures { self.new ≡ self.old }
+    {
         match self.told.push_back(told) {
             Ok(()) => Ok(()),
             Err(_) => Err(TendError::NoMemory),
@@ -179,15 +186,14 @@ impl Tender {
         let Tender {
             set,
             hands,
-            cares: _,
-            ends: _,
-            tests: _,
+            plan: _,
             now: _,
+            told: _told,
+            cares: _,
             sharing: _,
             is_open: _,
             restarts: _,
             shared: _,
-            told: _told,
         } = self;
         let _ended = set.end(hands);
     }

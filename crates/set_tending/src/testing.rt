@@ -1,6 +1,6 @@
 //! Tests of links (Q.707, 2.2).
-ghost use Rattle.std.specs.Prelude.{◌≡◌, [], OnOk, OnErr};
-ghost use Rattle.set_tending.specs.Rounds.{Goes, DoesFor};
+ghost use Rattle.std.specs.Prelude.{◌≡◌, OnOk};
+ghost use Rattle.set_tending.specs.Rounds.{Adds};
 
 use crate::care::Testing;
 use crate::ends::Pattern;
@@ -13,7 +13,7 @@ const ANSWER: u64 = 6_000;
 impl Tender {
     /// The pattern of a link's last test.
     fn pattern(&self, link: usize) -> Pattern {
-        let [a, b] = self.ends.own.to_le_bytes();
+        let [a, b] = self.plan.ends.own.to_le_bytes();
         let [c, d] = self.care(link).tests.to_le_bytes();
         [a, b, c, d]
     }
@@ -28,43 +28,60 @@ impl Tender {
     }
 
     /// Sends a test. Whether it went.
-    fn send_test(&mut self, link: usize) -> bool {
-        let at = link % 16;
-        self.cares[at].tests = self.cares[at].tests.wrapping_add(1);
-        let msu = self.ends.test(link, self.pattern(link));
+    fn send_test(&mut self, link: usize) -> bool
+        ensures { Adds self.old self.new }
+    {
+        self.keep(link, self.care(link).numbered());
+        let msu = self.plan.ends.test(link, self.pattern(link));
         self.send_by(link, msu)
+    }
+
+    /// Sends a test, which counts as failed behind some time. Where it doesn't go nothing is changed.
+    fn try_test(&mut self, link: usize, test: Testing)
+        ensures { Adds self.old self.new }
+    {
+        if !self.send_test(link) {
+            return;
+        }
+        self.keep(link, self.care(link).tested(test));
+    }
+
+    /// A link whose tests weren't answered is stopped.
+    fn fail_test(&mut self, link: usize, until: u64) -> Result<(), TendError>
+        ensures { OnOk result (Adds self.old self.new) }
+    {
+        let stopping = self.command(link, Command::Stop)?;
+        let care = self
+            .care(link)
+            .stopped(stopping)
+            .tested(Testing::RunsAgain(until));
+        self.keep(link, care);
+        Ok(())
     }
 
     /// What a test leads to at this tick. None runs while a processor is out.
     pub(crate) fn test(&mut self, link: usize, state: LinkState) -> Result<(), TendError>
-        ensures { OnOk result (DoesFor self.old self.new) }
+        ensures { OnOk result (Adds self.old self.new) }
     {
-        if !self.tests || !state.in_service || state.held {
+        if !self.plan.tests || !state.in_service || state.held {
             return Ok(());
         }
-        let at = link % 16;
         let until = self.now.saturating_add(ANSWER);
         if state.far_out || state.own_out {
-            self.cares[at].test = Testing::Rests(self.now);
+            self.keep(link, self.care(link).tested(Testing::Rests(self.now)));
             return Ok(());
         }
-        match self.cares[at].test {
+        match self.care(link).test {
             Testing::Rests(since) if since <= self.now => {
-                if self.send_test(link) {
-                    self.cares[at].test = Testing::Runs(until);
-                }
+                self.try_test(link, Testing::Runs(until));
+                Ok(())
             }
             Testing::Runs(end) if end <= self.now => {
-                if self.send_test(link) {
-                    self.cares[at].test = Testing::RunsAgain(until);
-                }
+                self.try_test(link, Testing::RunsAgain(until));
+                Ok(())
             }
-            Testing::RunsAgain(end) if end <= self.now => {
-                self.cares[at].stopping = self.command(link, Command::Stop)?;
-                self.cares[at].test = Testing::RunsAgain(until);
-            }
-            Testing::Rests(_) | Testing::Runs(_) | Testing::RunsAgain(_) => {}
+            Testing::RunsAgain(end) if end <= self.now => self.fail_test(link, until),
+            Testing::Rests(_) | Testing::Runs(_) | Testing::RunsAgain(_) => Ok(()),
         }
-        Ok(())
     }
 }

@@ -1,7 +1,7 @@
 //! One line of a set.
-ghost use Rattle.std.specs.Prelude.{◌≡◌, ◌<◌, ◌++◌, ℕ, List, length, replicate, IfOk, OnOk};
-ghost use Rattle.line_filter.specs.Speaking.{Gives};
-ghost use Rattle.set_tending.specs.Wires.{gives_units, Speaks, Waits, Passes};
+ghost use Rattle.std.specs.Prelude.{◌≡◌, IfOk, OnOk};
+ghost use Rattle.set_tending.specs.Rounds.{AddsHeeded};
+ghost use Rattle.set_tending.specs.Wires.{GivesNext, Speaks, Waits, Passes};
 
 use line_filter::Voice;
 use crate::tender::{TendError, Tender};
@@ -34,7 +34,9 @@ pub struct Wire {
 }
 
 /// Has a link hear octets, all of them.
-fn hear(tender: &mut Tender, link: usize, octets: &[u8]) -> Result<(), TendError> {
+fn hear(tender: &mut Tender, link: usize, octets: &[u8]) -> Result<(), TendError>
+    ensures { OnOk result (AddsHeeded tender.old tender.new) }
+{
     let mut rest = octets;
     for _part in 0..octets.len() {
         if rest.is_empty() {
