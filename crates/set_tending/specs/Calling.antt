@@ -15,6 +15,7 @@ pub record Played : Type 0 where
   pub set : LinkSet
   pub hands : List Kept
 
+-- Some list of calls from a new set led there, of which `send` took these messages.
 pub record Brought (c : Played) (accepted : List Msu) : Type 0 where
   pub gone : List Gone
   pub reached : Reached c.set (hand_of c.hands) accepted gone

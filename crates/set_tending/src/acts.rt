@@ -9,6 +9,7 @@ use group_changeover::{Hearing, Kind, read_changeover};
 use link_group::{Command, CommandError, Msu, RebalanceError};
 
 /// What a message of changeover was to the set, and what is to be said to it.
+#[derive(Clone, Copy)]
 pub(crate) struct Noted {
     pub hearing: Hearing,
     pub answer: Option<Kind>,

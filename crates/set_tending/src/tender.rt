@@ -1,6 +1,5 @@
 //! The set with what is kept of it.
-ghost use Rattle.std.specs.Prelude.{◌≡◌, ◌++◌, [], length, IfOk, IfErr, IfSome, IsNone};
-ghost use Rattle.set_tending.specs.Ends.{AreEnds};
+ghost use Rattle.std.specs.Prelude.{◌≡◌, ◌++◌, [], IfOk, IfErr, IfSome, IsNone};
 ghost use Rattle.set_tending.specs.Telling.{message_in};
 ghost use Rattle.set_tending.specs.Tended.{IsNewTended};
 
@@ -66,7 +65,6 @@ pub struct Tender {
 impl Model for Tender {
     ghost use Rattle.std.specs.Coded.{codes};
     ghost use Rattle.tick_wheel.specs.Timers.{timers_code};
-    ghost use Rattle.set_tending.specs.Ends.{AreEnds};
     ghost use Rattle.set_tending.specs.Telling.{messages_in};
     ghost use Rattle.set_tending.specs.Tended.{Tended};
 
@@ -75,8 +73,6 @@ impl Model for Tender {
     ghost coded = { Prim.hlevel (codes, timers_code) };
 
     ghost view = { λ t. record { set = t.set; hands = t.hands.kept.items; plan = t.plan; now = t.now; messages = messages_in t.told.items } };
-
-    ghost invariant = { λ t. AreEnds t.plan.ends };
 }
 
 impl Tender {
@@ -86,7 +82,6 @@ impl Tender {
     ///
     /// Where there is no memory, the set with that.
     pub fn new(alloc: Global, ends: Ends, tests: bool, set: Group) -> Result<Tender, Group>
-        requires { AreEnds ends }
         ensures new { IfOk result (IsNewTended ends tests set) }
         ensures back { IfErr result (λ back. back ≡ set) }
     {

@@ -61,16 +61,21 @@ impl Wire {
         }
     }
 
-    /// The octet that goes out next.
+    /// The octet that goes out next. A unit that isn't whole would be told as want of memory, but none comes here.
     fn next(&mut self, tender: &mut Tender, link: usize) -> Result<u8, TendError>
-        ensures { IfOk result (λ octet. Gives (gives_units link) tender.old.set self.old.voice octet tender.new.set self.new.voice) }
+        ensures gives { IfOk result (λ octet. GivesNext link tender.old self.old.voice octet tender.new self.new.voice) }
         ensures quiet { self.new.quiet ≡ self.old.quiet }
     {
         if let Some(octet) = self.voice.rest() {
             return Ok(octet);
         }
         match tender.unit_out(link)? {
-            Some(unit) => Ok(self.voice.begin(&unit)),
+            Some(unit) => {
+                if !unit.whole() {
+                    return Err(TendError::NoMemory);
+                }
+                Ok(self.voice.begin(&unit))
+            }
             None => Ok(self.voice.fall_silent()),
         }
     }
@@ -83,8 +88,7 @@ impl Wire {
         count: usize,
         out: &mut Vec<u8>,
     ) -> Result<(), TendError>
-        ensures { OnOk result ((gives : List ℕ) × (length gives ≡ count) × (out.new.items ≡ out.old.items ++ gives)
-            × Speaks link tender.old.set self.old.voice gives tender.new.set self.new.voice) }
+        ensures speaks { OnOk result (Speaks link count tender.old self.old.voice out.old.items tender.new self.new.voice out.new.items) }
         ensures quiet { self.new.quiet ≡ self.old.quiet }
     {
         for _octet in 0..count {
@@ -104,7 +108,8 @@ impl Wire {
         ahead: usize,
         out: &mut Vec<u8>,
     ) -> Result<Passed, TendError>
-        ensures { IfOk result (Waits ahead self.old.quiet out.old.items out.new.items self.new.quiet) }
+        ensures waits { IfOk result (Waits ahead self.old.quiet out.old.items out.new.items self.new.quiet) }
+        ensures heeds { OnOk result (AddsHeeded tender.old tender.new) }
         ensures voice { self.new.voice ≡ self.old.voice }
     {
         self.quiet = self.quiet.saturating_add(1);

@@ -43,7 +43,9 @@ fn channels(alloc: Global, links: usize) -> Result<Vec<Channel>, Stopped> {
     for _link in 0..links {
         let mut channel = Channel::new(VecDeque::new(alloc), false);
         channel.put(&[0xFF; AHEAD])?;
-        channels.push(channel)?;
+        if channels.push(channel).is_err() {
+            return Err(Stopped::NoMemory);
+        }
     }
     Ok(channels)
 }
@@ -51,7 +53,9 @@ fn channels(alloc: Global, links: usize) -> Result<Vec<Channel>, Stopped> {
 fn wires(alloc: Global, links: usize) -> Result<Vec<Wire>, Stopped> {
     let mut wires = Vec::with_capacity(alloc, links)?;
     for _link in 0..links {
-        wires.push(Wire::new())?;
+        if wires.push(Wire::new()).is_err() {
+            return Err(Stopped::NoMemory);
+        }
     }
     Ok(wires)
 }

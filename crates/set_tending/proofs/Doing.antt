@@ -1,0 +1,94 @@
+-- What the rules do, one thing behind another.
+use Rattle.std.proofs.Common.{◌≡◌, ◌∙◌, ℕ, List, [], ◌∷◌, ◌++◌, append-nil, append_assoc, refl, sym, ap, subst}
+use Rattle.std.specs.List.{flat_map}
+use Rattle.std.proofs.lemmas.Grind.{flat_map-append}
+use Rattle.resend_store.specs.declared.messages.Msu.{Msu}
+use Rattle.link_group.specs.Set.{LinkSet}
+use Rattle.set_tending.specs.Calling.{ByCalls}
+use Rattle.set_tending.specs.Telling.{user_message}
+use Rattle.set_tending.specs.Tended.{Tended, played}
+use Rattle.set_tending.specs.Rounds.{Acts, Does, Adds, Handed, HandsOut, Heeds, nothing, one, user_messages, IsHeeded, AddsHeeded}
+use Rattle.set_tending.specs.declared.tender.Plan.{Plan}
+use Rattle.set_tending.proofs.Calling.{at, by_none, by_both, by_same, by_reports}
+
+pub does_nothing : (t : Tended) → Does t t
+does_nothing t = record { calls = by_none (played t); plan = refl; now = refl; messages = refl }
+
+pub does_then : (s t u : Tended) → Does s t → Does t u → Does s u
+does_then s t u h k = record {
+  calls = by_both (played s) (played t) (played u) h.calls k.calls;
+  plan = k.plan ∙ h.plan;
+  now = k.now ∙ h.now;
+  messages = k.messages ∙ h.messages;
+}
+
+pub adds_nothing : (t : Tended) → Adds t t
+adds_nothing t = λ first h. h
+
+pub adds_same : (t u : Tended) → u ≡ t → Adds t u
+adds_same t u same = λ first h. subst (λ (x : Tended). Does first x) (sym same) h
+
+pub adds_then : (s t u : Tended) → Adds s t → Adds t u → Adds s u
+adds_then s t u h k = λ first d. k first (h first d)
+
+pub adds_does : (t u : Tended) → Does t u → Adds t u
+adds_does t u d = λ first h. does_then first t u h d
+
+-- a call of the set
+pub adds_call : (t : Tended) (d : LinkSet) → ByCalls (played t) [] (at d t.hands) → Adds t (record t { set = d })
+adds_call t d calls = adds_does t (record t { set = d }) (record { calls = calls; plan = refl; now = refl; messages = refl })
+
+pub adds_of : (t u : Tended) → Adds t u → Does t u
+adds_of t u adds = adds t (does_nothing t)
+
+pub acts_of : (t u : Tended) → Adds t u → Acts [] [] t u
+acts_of t u adds =
+    let d : Does t u = adds_of t u adds in
+    record { calls = d.calls; plan = d.plan; now = d.now; messages = d.messages ∙ sym (append-nil t.messages) }
+
+-- a report that says no message
+pub acts_quiet : (t u : Tended) (messages : List Msu) → messages ≡ [] → Adds t u → Acts [] messages t u
+acts_quiet t u messages none adds = subst (λ (ms : List Msu). Acts [] ms t u) (sym none) (acts_of t u adds)
+
+-- ---- reports
+
+heeds_then : (s t u : Tended) (hs : List Handed) → Heeds s hs t → ByCalls (played t) [] (played u) → Heeds s hs u
+heeds_then s t u hs (nothing first) calls = nothing (by_both (played s) (played t) (played u) first calls)
+heeds_then s t u hs (one {others} {v} {w} {x} h before out behind) calls =
+    one h before out (by_both (played w) (played t) (played u) behind calls)
+
+pub heeded_nothing : (t : Tended) → IsHeeded t t
+heeded_nothing t = record { handed = []; heeds = nothing (by_none (played t)); plan = refl; now = refl; messages = sym (append-nil t.messages) }
+
+pub heeded_then : (s t u : Tended) → IsHeeded s t → Does t u → IsHeeded s u
+heeded_then s t u h d = record {
+  handed = h.handed;
+  heeds = heeds_then s t u h.handed h.heeds d.calls;
+  plan = d.plan ∙ h.plan;
+  now = d.now ∙ h.now;
+  messages = d.messages ∙ h.messages;
+}
+
+pub adds_heeded_then : (s t u : Tended) → IsHeeded s t → Adds t u → IsHeeded s u
+adds_heeded_then s t u h adds = heeded_then s t u h (adds_of t u adds)
+
+user_more : (p : Plan) (hs : List Handed) (h : Handed) → user_messages p (hs ++ h ∷ []) ≡ user_messages p hs ++ user_message p h.report
+user_more p hs h =
+    flat_map-append (λ (x : Handed). user_message p x.report) hs (h ∷ [])
+    ∙ ap (λ (ms : List Msu). user_messages p hs ++ ms) (append-nil (user_message p h.report))
+
+pub heeded_one : (s t u w : Tended) (h : Handed) → IsHeeded s t → HandsOut h t u → Acts [] (user_message u.plan h.report) u w → IsHeeded s w
+heeded_one s t u w h before out acts =
+    let plan_is : u.plan ≡ s.plan = ap (λ (x : Tended). x.plan) out.same ∙ before.plan in
+    record {
+      handed = before.handed ++ h ∷ [];
+      heeds = one h before.heeds out acts.calls;
+      plan = acts.plan ∙ plan_is;
+      now = acts.now ∙ (ap (λ (x : Tended). x.now) out.same ∙ before.now);
+      messages =
+          acts.messages
+          ∙ (ap (λ (ms : List Msu). ms ++ user_message u.plan h.report) (ap (λ (x : Tended). x.messages) out.same ∙ before.messages)
+          ∙ (append_assoc s.messages (user_messages s.plan before.handed) (user_message u.plan h.report)
+          ∙ (ap (λ (p : Plan). s.messages ++ (user_messages s.plan before.handed ++ user_message p h.report)) plan_is
+          ∙ ap (λ (ms : List Msu). s.messages ++ ms) (sym (user_more s.plan before.handed h)))));
+    }
