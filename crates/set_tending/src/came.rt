@@ -1,10 +1,9 @@
 //! What a message that came is to a set.
-ghost use Rattle.std.specs.Prelude.{◌≡◌, ◌≢◌, None, drop};
-ghost use Rattle.group_changeover.specs.Labels.{label_in};
-ghost use Rattle.set_tending.specs.Came.{comes_between, management_in, test_in, came};
+ghost use Rattle.std.specs.Prelude.{◌≡◌};
+ghost use Rattle.set_tending.specs.Came.{comes_between, by_heading, by_pair, management_in, test_by, test_in, content_in, came};
 
 use crate::ends::Ends;
-use group_changeover::{Kind, Label, label_of, read_changeover};
+use group_changeover::{Kind, Label, label_of};
 use link_group::Msu;
 
 /// What a message that came is.
@@ -22,37 +21,79 @@ pub enum Came {
     Answer(usize),
 }
 
-/// What stands behind the label of a message of network management.
-fn management_in(sif: &[u8], link: usize) -> Came
-    requires { label_in sif.now ≢ None }
-    ensures { result ≡ management_in link (drop 4 sif.now) }
+/// A heading that stands alone.
+fn by_heading(link: usize, heading: u8) -> Came
+    ensures { result ≡ by_heading link heading }
 {
-    match read_changeover(sif) {
-        Some(message) => Came::Changeover(link, message.kind),
-        None => match sif {
-            [_, _, _, _, 0x51, code] => Came::Declaration(link, *code),
-            _ => Came::Message,
-        },
+    if heading == 0x12 {
+        return Came::Changeover(link, Kind::EmergencyOrder);
+    }
+    if heading == 0x22 {
+        return Came::Changeover(link, Kind::EmergencyAcknowledgement);
+    }
+    Came::Message
+}
+
+/// A heading and an octet. The spare bit of the number of a message that was accepted is ignored.
+fn by_pair(link: usize, heading: u8, octet: u8) -> Came
+    ensures { result ≡ by_pair link heading octet }
+{
+    if heading == 0x11 {
+        return Came::Changeover(link, Kind::Order(octet % 128));
+    }
+    if heading == 0x21 {
+        return Came::Changeover(link, Kind::Acknowledgement(octet % 128));
+    }
+    if heading == 0x51 {
+        return Came::Declaration(link, octet);
+    }
+    Came::Message
+}
+
+/// What stands behind the label of a message of network management.
+fn management_in(link: usize, octets: &[u8]) -> Came
+    ensures { result ≡ management_in link octets.now }
+{
+    match octets {
+        [heading] => by_heading(link, *heading),
+        [heading, octet] => by_pair(link, *heading, *octet),
+        _ => Came::Message,
     }
 }
 
-/// Whether a pattern is as long as it says.
-fn is_pattern(length: u8, pattern: &[u8]) -> bool {
-    !pattern.is_empty() && usize::from(length / 16) == pattern.len()
+/// A heading, where the pattern behind it is as long as it says.
+fn test_by(link: usize, heading: u8, whole: bool) -> Came
+    ensures { result ≡ test_by link heading whole }
+{
+    if heading == 0x11 && whole {
+        return Came::Test(link);
+    }
+    if heading == 0x21 && whole {
+        return Came::Answer(link);
+    }
+    Came::Message
 }
 
 /// What stands behind the label of a test.
-fn test_in(sif: &[u8], link: usize) -> Came
-    requires { label_in sif.now ≢ None }
-    ensures { result ≡ test_in link (drop 4 sif.now) }
+fn test_in(link: usize, octets: &[u8]) -> Came
+    ensures { result ≡ test_in link octets.now }
 {
-    match sif {
-        [_, _, _, _, 0x11, length, pattern @ ..] if is_pattern(*length, pattern) => {
-            Came::Test(link)
+    match octets {
+        [heading, length, pattern @ ..] => {
+            let whole = !pattern.is_empty() && usize::from(*length / 16) == pattern.len();
+            test_by(link, *heading, whole)
         }
-        [_, _, _, _, 0x21, length, pattern @ ..] if is_pattern(*length, pattern) => {
-            Came::Answer(link)
-        }
+        _ => Came::Message,
+    }
+}
+
+/// What stands behind a label, by the service indicator.
+fn content_in(indicator: u8, link: usize, octets: &[u8]) -> Came
+    ensures { result ≡ content_in indicator link octets.now }
+{
+    match indicator {
+        0 => management_in(link, octets),
+        1 => test_in(link, octets),
         _ => Came::Message,
     }
 }
@@ -70,17 +111,18 @@ impl Ends {
     pub(crate) fn came(self, msu: &Msu) -> Came
         ensures { result ≡ came self msu.now }
     {
-        let Some(label) = label_of(msu) else {
-            return Came::Message;
-        };
-        if !self.comes_between(label) {
-            return Came::Message;
-        }
-        let link = usize::from(label.sls);
-        match msu.sio % 16 {
-            0 => management_in(msu.sif.as_slice(), link),
-            1 => test_in(msu.sif.as_slice(), link),
-            _ => Came::Message,
+        match label_of(msu) {
+            Some(label) => {
+                if !self.comes_between(label) {
+                    return Came::Message;
+                }
+                content_in(
+                    msu.sio % 16,
+                    usize::from(label.sls),
+                    &msu.sif.as_slice()[4..],
+                )
+            }
+            None => Came::Message,
         }
     }
 }

@@ -1,5 +1,5 @@
 //! The points between which a set lies, and the messages that it sends of its own.
-ghost use Rattle.std.specs.Prelude.{◌≡◌, ◌<◌, ◌≤◌, Some, length};
+ghost use Rattle.std.specs.Prelude.{◌≡◌, ◌<◌, ◌≤◌, ◌^◌, ◌++◌, Some, length};
 ghost use Rattle.group_changeover.specs.Changeovers.{behind_label};
 ghost use Rattle.group_changeover.specs.Labels.{label_in};
 ghost use Rattle.set_tending.specs.Ends.{AreEnds, IsAbout, MANAGEMENT, TESTING, back_declared, restarting, testing, answering};
@@ -28,15 +28,38 @@ pub struct Ends {
 /// A pattern by which a test of a link is known: the octets behind its length.
 pub type Pattern = [u8; 4];
 
+/// The octets of a label: 14 bits of the destination, 14 of the origin, 4 of the selection, the lowest first.
+fn label_octets(dpc: u16, opc: u16, sls: u8) -> [u8; 4]
+    requires dpc { dpc < 2 ^ 14 }
+    requires opc { opc < 2 ^ 14 }
+    requires sls { sls < 2 ^ 4 }
+    ensures { label_in result ≡ Some (record { dpc = dpc; opc = opc; sls = sls }) }
+{
+    [
+        (dpc % 256) as u8,
+        (dpc / 256 + opc % 4 * 64) as u8,
+        (opc / 4 % 256) as u8,
+        (opc / 1024) as u8 + sls * 16,
+    ]
+}
+
+/// Octets behind four others, as far as there is room.
+fn field(label: [u8; 4], content: &[u8]) -> ArrayVec<u8, 272>
+    requires { length content.now ≤ 268 }
+    ensures { result.items ≡ label ++ content.now }
+{
+    let mut field = ArrayVec::new();
+    let _fits = field.try_extend_from_slice(&label).is_ok();
+    let _whole = field.try_extend_from_slice(content).is_ok();
+    field
+}
+
 impl Ends {
     /// The label of a message from this point to the other about a link.
     fn label(self, link: usize) -> [u8; 4]
         ensures { AreEnds self → link < 16 → label_in result ≡ Some (record { dpc = self.peer; opc = self.own; sls = link }) }
     {
-        let own = u32::from(self.own % 16_384);
-        let peer = u32::from(self.peer % 16_384);
-        let link = (link % 16) as u32;
-        (peer + own * 16_384 + link * 268_435_456).to_le_bytes()
+        label_octets(self.peer % 16_384, self.own % 16_384, (link % 16) as u8)
     }
 
     /// A message from this point to the other about a link.
@@ -45,13 +68,9 @@ impl Ends {
         requires few { length content.now ≤ 268 }
         ensures { AreEnds self → link < 16 → IsAbout self indicator link content.now result }
     {
-        let mut sif = ArrayVec::new();
-        let label = self.label(link);
-        let _fits = sif.try_extend_from_slice(&label).is_ok();
-        let _whole = sif.try_extend_from_slice(content).is_ok();
         Msu {
             sio: self.network % 4 * 64 + indicator,
-            sif,
+            sif: field(self.label(link), content),
         }
     }
 
@@ -89,7 +108,7 @@ impl Ends {
         self.message(TESTING, link, &[0x11, 0x40, a, b, c, d])
     }
 
-    /// The answer to a test: its link, its length and its pattern once more.
+    /// The answer to a test: its link, its length and its pattern once more. What is longer than a test is left out.
     pub(crate) fn test_answer(self, link: usize, test: &[u8]) -> Msu
         ensures { AreEnds self → link < 16 → length test.now ≤ 16 → IsAbout self TESTING link (answering test.now) result }
     {
