@@ -11,7 +11,7 @@ use std::alloc::Global;
 use std::io::{Read, Write};
 
 /// Writes why there is no terminal over a set. Gives the exit status.
-fn refuse_name<E: Write>(alloc: Global, errors: &mut E, error: OpenError) -> u8
+pub(crate) fn refuse_name<E: Write>(alloc: Global, errors: &mut E, error: OpenError) -> u8
     ensures printed { result ≡ 2 → PrintsLacking error (E.contents errors.old) (E.contents errors.new) }
     ensures status { (result ≡ 2) ⊎ (result ≡ 4) }
 {

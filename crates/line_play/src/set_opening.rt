@@ -1,6 +1,11 @@
 //! A set over the processes that a command line names.
+ghost use Rattle.std.specs.Prelude.{◌≡◌, ◌⊎◌, IfErr};
+ghost use Rattle.script_check.specs.Checked.{given, IsGiven};
+ghost use Rattle.script_terminal.specs.Opening.{IsRefusedOver};
+ghost use Rattle.line_play.specs.Opening.{IsNoSet};
 
-use plain_text::{FAILED, refuse};
+use crate::opening::refuse_name;
+use plain_text::FAILED;
 use script_check::{SetWord, load_set, write_refusal};
 use script_terminal::{Mode, OpenError, RoundLimits, Terminal};
 use set_tending::{Ends, Group, Tender};
@@ -24,7 +29,9 @@ pub struct SetPlan {
 }
 
 /// New terminals, as many as a plan says.
-fn open_terminals(alloc: Global, plan: SetPlan, set: &Verified) -> Result<Vec<Terminal>, OpenError> {
+fn open_terminals(alloc: Global, plan: SetPlan, set: &Verified) -> Result<Vec<Terminal>, OpenError>
+    ensures { IfErr result (IsRefusedOver set.now) }
+{
     let Ok(mut terminals) = Vec::with_capacity(alloc, plan.links) else {
         return Err(OpenError::NoMemory);
     };
@@ -37,16 +44,10 @@ fn open_terminals(alloc: Global, plan: SetPlan, set: &Verified) -> Result<Vec<Te
     Ok(terminals)
 }
 
-/// Writes why there is no set. Gives the exit status.
-fn refuse_set<E: Write>(alloc: Global, errors: &mut E, error: OpenError) -> u8 {
-    match error {
-        OpenError::NoName(_) => refuse(alloc, errors, &format_args!("refused {error}")),
-        OpenError::NoMemory => FAILED,
-    }
-}
-
 /// The set of these terminals, tended from now on.
-fn tend(alloc: Global, plan: SetPlan, terminals: Vec<Terminal>) -> Result<Tender, u8> {
+fn tend(alloc: Global, plan: SetPlan, terminals: Vec<Terminal>) -> Result<Tender, u8>
+    ensures { IfErr result (λ status. status ≡ 4) }
+{
     let Ends { own, peer, .. } = plan.ends;
     let few = 1 <= terminals.len() && terminals.len() <= 16;
     if !few || own >= 16_384 || peer >= 16_384 {
@@ -69,13 +70,15 @@ pub fn open_tender<S: Read + Drop, E: Write>(
     plan: SetPlan,
     set: SetWord<S>,
     errors: &mut E,
-) -> Result<Tender, u8> {
-    let set = match load_set(alloc, set) {
-        Ok(set) => set,
-        Err(fault) => return Err(write_refusal(alloc, errors, &fault)),
-    };
-    match open_terminals(alloc, plan, &set) {
-        Ok(terminals) => tend(alloc, plan, terminals),
-        Err(error) => Err(refuse_set(alloc, errors, error)),
+) -> Result<Tender, u8>
+    ensures refused { IfErr result (λ status. status ≡ 2 → IsGiven (given S.remaining set) (IsNoSet (E.contents errors.old) (E.contents errors.new))) }
+    ensures status { IfErr result (λ status. (status ≡ 2) ⊎ (status ≡ 4)) }
+{
+    match load_set(alloc, set) {
+        Ok(set) => match open_terminals(alloc, plan, &set) {
+            Ok(terminals) => tend(alloc, plan, terminals),
+            Err(error) => Err(refuse_name(alloc, errors, error)),
+        },
+        Err(fault) => Err(write_refusal(alloc, errors, &fault)),
     }
 }

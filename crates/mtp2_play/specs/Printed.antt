@@ -20,7 +20,7 @@ use Rattle.mtp2_words.specs.Limits.{usual_limits_of}
 use Rattle.mtp2_words.specs.declared.words.Named.{Named}
 use Rattle.mtp2_words.specs.declared.words.Request.{Request}
 use Rattle.mtp2_words.specs.declared.words.Request.TheVariants.{Check, Play, Soak, Line, Frame}
-use Rattle.mtp2_words.specs.declared.words.Request.TheVariants.{Draw, Print, Diff}
+use Rattle.mtp2_words.specs.declared.words.Request.TheVariants.{Tend, Draw, Print, Diff}
 
 -- the exit statuses: done, an expectation failed or something differs, refused, usage, failed
 abbrev pub IsStatus : ℕ → Type 0
@@ -83,6 +83,11 @@ pub record IsSpoken (known : Option (List ℕ)) (usual : RoundLimits) (end : Lin
   pub untouched : status ≡ 2 → IsUntouched old new
   pub ends : IsDone status
 
+-- How `set` ends: it is refused for its text, or for a name that it lacks.
+pub record IsSetRun (known : Option (List ℕ)) (status : ℕ) : Type 0 where
+  pub refused : status ≡ 2 → IsGiven known (IsNoSet None None)
+  pub ends : IsDone status
+
 -- what `text` prints: the text of the set of the program's own that is named
 pub record IsPrinted (set : Named) (status : ℕ) (old new : Option (List ℕ)) : Type 0 where
   pub held : status ≡ 0 → IsSomeAnd (own_text_of set) (Appends old new)
@@ -102,6 +107,8 @@ IsAnswered (Play set script seen) status old new =
 IsAnswered (Soak script workers) status old new = IsServed workers status old.written new.written
 IsAnswered (Line set end) status old new =
     IsSpoken (own_text_of set) (usual_limits_of set) end status old new
+IsAnswered (Tend set lines end) status old new =
+    IsSetRun (own_text_of set) status × IsUntouched old new
 IsAnswered (Frame octets) status old new = IsFramed octets.now status old.written new.written
 IsAnswered (Draw set process states) status old new = IsDone status
 IsAnswered (Print set) status old new = IsPrinted set status old.written new.written

@@ -1,4 +1,8 @@
 //! The command `set`.
+ghost use Rattle.std.specs.Prelude.{◌≡◌, ◌⊎◌, None};
+ghost use Rattle.script_check.specs.Checked.{given};
+ghost use Rattle.mtp2_play.specs.Sets.{own_text_of};
+ghost use Rattle.mtp2_play.specs.Printed.{IsSetRun};
 
 use crate::set_lines::SetLines;
 use crate::sets::own_set;
@@ -61,7 +65,9 @@ fn serve<H: Files<File = File> + Threads + Eprint + Clock + AllocGlobal>(
     tender: Tender,
     orders: LineOrders<OrderStream>,
     reports: ReportStream<Errors<'_, H>>,
-) -> u8 {
+) -> u8
+    ensures { (result ≡ 0) ⊎ (result ≡ 4) }
+{
     let Ok(mut open_lines) = SetLines::new(host, host.alloc(), end.bits, lines) else {
         tender.end();
         return FAILED;
@@ -91,7 +97,9 @@ fn begin<H: Files<File = File> + Threads + Eprint + Clock + AllocGlobal>(
     lines: &[&str],
     end: &SetEnd<'_>,
     tender: Tender,
-) -> u8 {
+) -> u8
+    ensures { (result ≡ 0) ⊎ (result ≡ 4) }
+{
     let orders = match open_orders(host, host.alloc(), end.orders) {
         Ok(orders) => orders,
         Err(error) => {
@@ -118,7 +126,9 @@ fn run_on<H: Files<File = File> + Threads + Eprint + Clock + AllocGlobal, S: Rea
     lines: &[&str],
     end: &SetEnd<'_>,
     set: SetWord<S>,
-) -> u8 {
+) -> u8
+    ensures { IsSetRun (given S.remaining set) result }
+{
     let plan = SetPlan {
         mode: end.mode,
         limits: named.usual_limits(),
@@ -144,7 +154,9 @@ pub fn run_set<H: Files<File = File> + Threads + Eprint + Clock + AllocGlobal>(
     named: &Named<'_>,
     lines: &[&str],
     end: &SetEnd<'_>,
-) -> u8 {
+) -> u8
+    ensures { IsSetRun (own_text_of named.now) result }
+{
     match named {
         Named::File(path) => match fs::open(host, path) {
             Ok(file) => {
