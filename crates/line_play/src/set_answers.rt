@@ -2,7 +2,8 @@
 
 use crate::set_desk::SetDesk;
 use crate::set_orders::{Focus, SetOrder, set_order_in};
-use script_terminal::{command_of, message};
+use crate::texts::{refusal_in, text_of};
+use script_terminal::{command_of, message, state_line, value_line};
 use set_tending::{CommandError, label_of};
 use std::alloc::{AllocError, Global};
 use std::io::{self, Write};
@@ -56,6 +57,28 @@ impl<O, P: Write> SetDesk<O, P> {
         }
     }
 
+    /// Why a question about an actor isn't answered, by the line that a script prints for it. All links have the same actors.
+    fn why_unanswered(
+        &self,
+        alloc: Global,
+        focus: Focus,
+        order: &SetOrder<'_>,
+    ) -> io::Result<Option<Refused>> {
+        let (first, _) = self.links(focus);
+        let Some(book) = self.tender.set().book(first) else {
+            return Ok(None);
+        };
+        let line = match order {
+            SetOrder::State(process) => state_line(alloc, book, process)?,
+            SetOrder::Value(process, variable) => value_line(alloc, book, process, variable)?,
+            _ => return Ok(None),
+        };
+        match refusal_in(&line) {
+            Some(why) => Ok(Some(text_of(alloc, why)?)),
+            None => Ok(None),
+        }
+    }
+
     /// Does what an order says that is answered by `ok` alone. Why not, if it doesn't.
     fn obey_plain(
         &mut self,
@@ -100,6 +123,9 @@ impl<O, P: Write> SetDesk<O, P> {
         text: &str,
         order: &SetOrder<'_>,
     ) -> io::Result<()> {
+        if let Some(why) = self.why_unanswered(alloc, focus, order)? {
+            return self.tell(alloc, &format_args!("refused {why}"));
+        }
         match self.obey_plain(alloc, focus, order)? {
             Some(why) => self.tell(alloc, &format_args!("refused {why}")),
             None => {

@@ -8,7 +8,7 @@ use std::io::{self, ErrorKind};
 use std::str;
 
 /// Why something was refused, where a line says that.
-fn refusal_in(line: &[u8]) -> Option<&[u8]>
+pub(crate) fn refusal_in(line: &[u8]) -> Option<&[u8]>
     ensures some { IfSome result (λ why. line.now ≡ codes "refused " ++ why.now) }
     ensures none { IsNone result → (why : List ℕ) → line.now ≡ codes "refused " ++ why → ⊥ }
 {
@@ -16,7 +16,7 @@ fn refusal_in(line: &[u8]) -> Option<&[u8]>
 }
 
 /// Octets as a text.
-fn text_of(alloc: Global, octets: &[u8]) -> io::Result<String>
+pub(crate) fn text_of(alloc: Global, octets: &[u8]) -> io::Result<String>
     ensures { IfOk result (λ text. string_bytes text ≡ octets.now) }
 {
     match str::from_utf8(octets) {
