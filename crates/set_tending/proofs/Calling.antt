@@ -45,6 +45,9 @@ by_one c d hands step = λ accepted b. subst (λ (xs : List Msu). Brought (at d 
 pub by_same : (c d : LinkSet) (hands : List Kept) → d ≡ c → ByCalls (at c hands) [] (at d hands)
 by_same c d hands same = subst (λ (x : LinkSet). ByCalls (at c hands) [] (at x hands)) (sym same) (by_none (at c hands))
 
+pub by_is : (c d e : LinkSet) (hands : List Kept) → d ≡ e → ByCalls (at c hands) [] (at e hands) → ByCalls (at c hands) [] (at d hands)
+by_is c d e hands is calls = subst (λ (x : LinkSet). ByCalls (at c hands) [] (at x hands)) (sym is) calls
+
 pub by_sends : (c : LinkSet) (hands : List Kept) (m : Msu) → send_fault c m ≡ None → selection_of m < SELECTIONS
     → ByCalls (at c hands) (m ∷ []) (at (sent c m) hands)
 unfolding ByCalls

@@ -9,7 +9,7 @@ use Rattle.set_tending.specs.Telling.{user_message}
 use Rattle.set_tending.specs.Tended.{Tended, played}
 use Rattle.set_tending.specs.Rounds.{Acts, Does, Adds, Handed, HandsOut, Heeds, nothing, one, user_messages, IsHeeded, AddsHeeded}
 use Rattle.set_tending.specs.declared.tender.Plan.{Plan}
-use Rattle.set_tending.proofs.Calling.{at, by_none, by_both, by_same, by_reports}
+use Rattle.set_tending.proofs.Calling.{at, by_none, by_both, by_is}
 
 pub does_nothing : (t : Tended) → Does t t
 does_nothing t = record { calls = by_none (played t); plan = refl; now = refl; messages = refl }
@@ -37,6 +37,9 @@ adds_does t u d = λ first h. does_then first t u h d
 -- a call of the set
 pub adds_call : (t : Tended) (d : LinkSet) → ByCalls (played t) [] (at d t.hands) → Adds t (record t { set = d })
 adds_call t d calls = adds_does t (record t { set = d }) (record { calls = calls; plan = refl; now = refl; messages = refl })
+
+pub adds_is : (t : Tended) (d e : LinkSet) → d ≡ e → ByCalls (played t) [] (at e t.hands) → Adds t (record t { set = d })
+adds_is t d e is calls = adds_call t d (by_is t.set d e t.hands is calls)
 
 pub adds_of : (t u : Tended) → Adds t u → Does t u
 adds_of t u adds = adds t (does_nothing t)

@@ -1,2 +1,3 @@
 mod Calling
 mod Doing
+mod Fields
