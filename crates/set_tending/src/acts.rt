@@ -49,12 +49,35 @@ impl Tender {
     }
 
     /// Gives a command to a link, as [`link_group::Group::command`].
-    pub(crate) fn give(&mut self, link: usize, command: Command) -> Result<(), CommandError>
+    fn order(&mut self, link: usize, command: Command) -> Result<(), CommandError>
         ensures { Adds self.old self.new }
     {
         match self.set.command(link, command) {
             Ok(()) => Ok(()),
             Err(error) => Err(error),
+        }
+    }
+
+    /// The same. What a link's buffers are emptied of by it is told as unsure.
+    pub(crate) fn give(&mut self, link: usize, command: Command) -> Result<(), CommandError>
+        ensures { Adds self.old self.new }
+    {
+        let before = self.set.unsure();
+        self.order(link, command)?;
+        self.tell_unsure(link, before)
+    }
+
+    /// Tells how many messages more count as unsure than did before.
+    fn tell_unsure(&mut self, link: usize, before: u64) -> Result<(), CommandError>
+        ensures { self.new ≡ self.old }
+    {
+        let count = self.set.unsure().saturating_sub(before);
+        if count == 0 {
+            return Ok(());
+        }
+        match self.tell(Told::Unsure(link, count as usize)) {
+            Ok(()) => Ok(()),
+            Err(_) => Err(CommandError::NoMemory),
         }
     }
 
