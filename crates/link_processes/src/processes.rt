@@ -158,6 +158,18 @@ impl Processes {
         }
     }
 
+    /// How many messages go as the buffers are emptied: all that are kept, where an actor asked for that since it was last done, else none.
+    pub fn to_clear(&self) -> usize
+        ensures value { result ≡ to_clear self.now }
+        ensures within { result ≤ length self.now.transceiver.sender.kept }
+    {
+        if self.transceiver.is_to_clear() {
+            self.transceiver.held()
+        } else {
+            0
+        }
+    }
+
     /// Empties the buffers, where an actor asked for that since it was last done (Q.703, figure 13): what waits and what is unacknowledged goes,
     /// and is counted. The actors are told that no message is out, and come to rest. How many messages went.
     #[tactic(auto, unfolding(crate::specs::Machine::clear_obeyed))]

@@ -141,6 +141,14 @@ impl Terminal {
         self.processes.retrieve(accepted)
     }
 
+    /// How many messages `obey_clear` would take now: all that are kept, where the text asked for that since it was last called, else none.
+    pub fn to_clear(&self) -> usize
+        ensures value { result ≡ to_clear self.now.processes }
+        ensures within { result ≤ length (window_of self.now).kept }
+    {
+        self.processes.to_clear()
+    }
+
     /// Empties the buffers, where the text asked for that by Clear since this was last called (Q.703, figure 13): what waits and what is
     /// unacknowledged goes, the next new message has the number behind the last that was acknowledged, and the actors are told that no message is
     /// out. How many messages went.
