@@ -129,7 +129,7 @@ fn drop_bound(terminal: &mut Terminal, points: Points)
 {
     let sent = terminal.sent();
     let mut place = terminal.held();
-    while sent < place {
+    while place > sent {
         place -= 1;
         drop_bound_at(terminal, points, place);
     }
