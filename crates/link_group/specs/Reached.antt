@@ -80,7 +80,8 @@ pub data Reached : LinkSet → (ℕ → List Msu) → List Msu → List Gone →
       → send_fault c m ≡ None → selection_of m < SELECTIONS
       → Reached (sent c m) retrievals (accepted ++ m ∷ []) gone
   -- a message that is bound to a link is none of those that were accepted
-  binds : (c : LinkSet) (retrievals : ℕ → List Msu) (accepted : List Msu) (gone : List Gone) (l : ℕ) (m : Msu)
+  binds : (c : LinkSet) (retrievals : ℕ → List Msu) (accepted : List Msu) (gone : List Gone)
+      (l : ℕ) (m : Msu)
       → Reached c retrievals accepted gone
       → bind_fault_at c l ≡ None → is_bound (points_of c) m ≡ true
       → Reached (bound_at c l m) retrievals accepted gone
