@@ -1,6 +1,6 @@
 -- What a set does by one of its terminals, and what it makes of a link that comes into service.
-use Rattle.std.specs.Prelude.{◌≡◌, ℕ, ◌+◌, ◌-◌, ◌^◌, min, ◌≤◌, Bool, if◌then◌else◌, List, length, map}
-use Rattle.std.specs.Prelude.{slice_get}
+use Rattle.std.specs.Prelude.{◌≡◌, ℕ, ◌+◌, ◌-◌, ◌^◌, min, ◌≤◌, Bool, if◌then◌else◌, List, length}
+use Rattle.std.specs.Prelude.{map, slice_get}
 use Rattle.std.specs.List.{list_any}
 use Rattle.group_members.specs.declared.link.Link.{Link}
 use Rattle.link_group.specs.Set.{LinkSet}
@@ -52,8 +52,9 @@ pub record Alone (did : Link → Link → Type 0) (l : ℕ) (c d : LinkSet) : Ty
 
 -- ---- commands
 
--- A command to the terminal of the link at a place. What went as its text emptied the buffers counts
--- as unsure, but for messages that are bound to the link; the count stays at its greatest value.
+-- A command to the terminal of the link at a place. What went as its text emptied the buffers
+-- counts as unsure, but for messages that are bound to the link; the count stays at its greatest
+-- value.
 pub record ByCommand (command : Command) (l : ℕ) (c d : LinkSet) : Type 0 where
   pub links : List Link
   pub at : AtLink (Commanded command) l c.links links
