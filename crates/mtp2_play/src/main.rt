@@ -2,15 +2,16 @@
 //! signal units.
 #![tactic(auto)]
 
-ghost use Rattle.std.specs.Prelude.{◌≡◌, ◌≢◌, ◌⊎◌, None, IfOk, map, string_bytes};
-ghost use Rattle.clap.specs.Words.{kind_of};
+ghost use Rattle.std.specs.Prelude.{◌≡◌, ◌≢◌, ◌⊎◌, List, None, map, string_bytes};
+ghost use Rattle.clap.specs.Words.{Text, kind_of};
 ghost use Rattle.clap.specs.declared.error.kind.ErrorKind.TheVariants.{OutOfMemory};
 ghost use Rattle.script_check.specs.Checked.{given};
 ghost use Rattle.script_play.specs.Played.{IsOnSet, IsPlayed, IsPlayedInPart, IsRefused};
 ghost use Rattle.mtp2_words.specs.Limits.{usual_limits_of};
 ghost use Rattle.mtp2_play.specs.Printed.{IsAnswered, IsFault, IsPlayedOn, IsServed, IsStatus};
-ghost use Rattle.mtp2_play.specs.Served.{ComesTo, WasAnswered};
+ghost use Rattle.mtp2_play.specs.Served.{AsksSoak, ComesTo, IsServedBy, WasAnswered};
 
+mod asked;
 mod captures;
 mod checks;
 mod differences;
@@ -21,6 +22,7 @@ mod running;
 mod sets;
 mod texts;
 
+use crate::asked::Came;
 use crate::captures::{capture_of, end_capture};
 use crate::checks::run_checks;
 use crate::differences::run_diff;
@@ -48,11 +50,11 @@ use std::{env, fs};
 /// What stands in the place of a standard stream that is closed: a folder, of which each read and each write fails.
 const CLOSED: &str = "/";
 
-/// Runs one command, and gives the exit status. What it prints goes to the writer; the octets of a line come from the reader. A file that can't be
-/// opened or read is told by its name.
+/// Runs one command but `soak`, and gives the exit status. What it prints goes to the writer; the octets of a line come from the reader. A file that
+/// can't be opened or read is told by its name. Nothing is done for `soak`, which waits for threads: that fails here.
 #[tactic(auto, using(crate::proofs::InTurn::of_same))]
 fn run<
-    R: Runtime + AllocGlobal + Threads + Wait + Sync,
+    R: Runtime + AllocGlobal,
     H: Files<File = File> + Threads + Eprint + Clock + AllocGlobal,
     I: Read,
     W: Write,
@@ -74,7 +76,7 @@ fn run<
         Request::Play { set, script, seen } => {
             run_play(rt, teller, *set, *script, *seen, writer)
         }
-        Request::Soak { script, workers } => run_soak(rt, teller, *script, *workers, writer),
+        Request::Soak { .. } => FAILED,
         Request::Line { set, end } => run_line(host, teller, set, end, reader, writer),
         Request::Frame { octets } => frame(rt.alloc(), octets, writer),
         Request::Draw {
@@ -300,7 +302,7 @@ fn answer<R: Runtime + AllocGlobal>(rt: &R, error: &Error) -> u8
 /// Runs a command on a line that is tapped: the octets of standard input and output go through as they are, and a capture has what is seen there.
 #[tactic(auto, using(crate::proofs::Failing::failed_before, crate::proofs::Failing::over_or_failed))]
 fn run_tapped<
-    R: Runtime + AllocGlobal + Threads + Wait + Sync,
+    R: Runtime + AllocGlobal,
     H: Files<File = File> + Threads + Eprint + Clock + AllocGlobal,
 >(rt: &R, host: &H, teller: &Teller<'_, H>, request: &Request<'_>, path: &str, plan: Plan) -> u8
     ensures printed { WasAnswered request.now result }
@@ -318,10 +320,10 @@ fn run_tapped<
     end_capture(host, teller, path, status, &mut output)
 }
 
-/// Runs a command on standard input and output.
+/// Runs a command but `soak` on standard input and output.
 #[tactic(auto, using(crate::proofs::Failing::was_run))]
 fn run_here<
-    R: Runtime + AllocGlobal + Threads + Wait + Sync,
+    R: Runtime + AllocGlobal,
     H: Files<File = File> + Threads + Eprint + Clock + AllocGlobal,
 >(rt: &R, host: &H, teller: &Teller<'_, H>, request: &Request<'_>) -> u8
     ensures printed { WasAnswered request.now result }
@@ -340,39 +342,69 @@ fn run_here<
     }
 }
 
-/// Does what the words of a command line say, the program's own name first. Gives the exit status.
+/// Does what the words of a command line say, the program's own name first, but for `soak`, which waits for threads: of that, what it asks for.
 fn serve<
-    R: Runtime + AllocGlobal + Threads + Wait + Sync,
+    'a,
+    R: Runtime + AllocGlobal,
     H: Files<File = File> + Threads + Eprint + Clock + AllocGlobal,
->(rt: &R, host: &H, teller: &Teller<'_, H>, given: &[String]) -> u8
-    ensures served { ComesTo (map string_bytes given.now) result }
-    ensures status { IsStatus result }
+>(rt: &R, host: &H, teller: &Teller<'_, H>, given: &'a [String]) -> Came<'a>
+    ensures { IsServedBy (map string_bytes given.now) result }
 {
     match read(rt.alloc(), given) {
-        Ok(request) => run_here(rt, host, teller, &request),
-        Err(error) => answer(rt, &error),
+        Ok(Request::Soak { script, workers }) => Came::Soak(script, workers),
+        Ok(request) => Came::Over(run_here(rt, host, teller, &request)),
+        Err(error) => Came::Over(answer(rt, &error)),
     }
 }
 
-/// Reads the command line, and does what it says. A command on a line has the host itself, whose files are those of the system.
+/// Has threads serve links, where that is what the words of a command line ask for. Gives the exit status.
+fn serve_links<R: Runtime + AllocGlobal + Threads + Wait + Sync, H: Eprint>(
+    rt: &R,
+    teller: &Teller<'_, H>,
+    script: Source<'_>,
+    workers: usize,
+) -> u8
+    ensures served { (words : List Text) → AsksSoak words script workers → ComesTo words result }
+    ensures status { IsStatus result }
+{
+    run_soak(rt, teller, script, workers, &mut io::writer(rt))
+}
+
+/// The words of the command line, and what stands in the place of standard streams that are closed.
+#[derive(Drop)]
+struct Start {
+    given: Vec<String>,
+    _first: File,
+    _second: File,
+    _third: File,
+}
+
+/// Reads the command line.
 ///
 /// A file that is opened takes the least number that is free. So that none takes that of a standard stream that is closed, three are taken first.
-fn start<
-    R: Runtime + AllocGlobal + Threads + Wait + Sync,
-    H: Files<File = File> + Threads + Eprint + Clock + AllocGlobal,
->(rt: &R, host: &H, teller: &Teller<'_, H>) -> io::Result<u8>
-    ensures { IfOk result IsStatus }
-{
+fn start<R: Runtime + AllocGlobal, H: Files<File = File>>(rt: &R, host: &H) -> io::Result<Start> {
     let _first = fs::open(host, CLOSED)?;
     let _second = fs::open(host, CLOSED)?;
     let _third = fs::open(host, CLOSED)?;
-    let given: Vec<String> = env::args(rt)?.collect(rt.alloc())?;
-    Ok(serve(rt, host, teller, given.as_slice()))
+    let given = env::args(rt)?.collect(rt.alloc())?;
+    Ok(Start {
+        given,
+        _first,
+        _second,
+        _third,
+    })
 }
 
+/// A command on a line has the host itself, whose files are those of the system. Only `soak` waits for threads.
 fn main(rt: HostRuntime) -> ExitCode {
     let teller = Teller::new(&rt);
-    let status = start(&rt, &rt, &teller).unwrap_or(FAILED);
+    let status = match start(&rt, &rt) {
+        Ok(start) => match serve(&rt, &rt, &teller, start.given.as_slice()) {
+            Came::Over(status) => status,
+            Came::Soak(script, workers) => serve_links(&rt, &teller, script, workers),
+        },
+        Err(_) => FAILED,
+    };
     if status == FAILED && !teller.has_named() {
         let _ = rt.eprintln("mtp2_play: failed");
     }
