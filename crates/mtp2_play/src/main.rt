@@ -2,14 +2,14 @@
 //! signal units.
 #![tactic(auto)]
 
-ghost use Rattle.std.specs.Prelude.{◌≡◌, ◌≢◌, ◌⊎◌, List, None, map, string_bytes};
-ghost use Rattle.clap.specs.Words.{Text, kind_of};
+ghost use Rattle.std.specs.Prelude.{◌≡◌, ◌≢◌, ◌⊎◌, None, map, string_bytes};
+ghost use Rattle.clap.specs.Words.{kind_of};
 ghost use Rattle.clap.specs.declared.error.kind.ErrorKind.TheVariants.{OutOfMemory};
 ghost use Rattle.script_check.specs.Checked.{given};
 ghost use Rattle.script_play.specs.Played.{IsOnSet, IsPlayed, IsPlayedInPart, IsRefused};
 ghost use Rattle.mtp2_words.specs.Limits.{usual_limits_of};
-ghost use Rattle.mtp2_play.specs.Printed.{IsAnswered, IsFault, IsPlayedOn, IsServed, IsStatus};
-ghost use Rattle.mtp2_play.specs.Served.{AsksSoak, ComesTo, IsServedBy, WasAnswered};
+ghost use Rattle.mtp2_play.specs.Printed.{IsAnswered, IsFault, IsPlayedOn};
+ghost use Rattle.mtp2_play.specs.Served.{IsServedBy, WasAnswered};
 
 mod asked;
 mod captures;
@@ -20,6 +20,7 @@ mod measuring;
 mod pictures;
 mod running;
 mod sets;
+mod soaks;
 mod texts;
 
 use crate::asked::Came;
@@ -29,12 +30,12 @@ use crate::differences::run_diff;
 use crate::lines::run_line;
 use crate::pictures::{picture_of, run_draw};
 use crate::sets::{STDIN, own_set, set_word};
+use crate::soaks::serve_links;
 use crate::texts::print_own;
 use line_streams::{Plan, open_records, tap};
 use mtp2_frame::frame;
 use mtp2_words::{Error, ErrorKind, Named, Request, Seeing, Source, read};
 use plain_text::{NamedReader, Teller};
-use pool_soak::soak;
 use script_check::{FAILED, HELD, SetWord, USAGE};
 use script_play::play;
 use std::alloc::Global;
@@ -42,7 +43,6 @@ use std::fs::File;
 use std::io::{self, Read, Write};
 use std::process::ExitCode;
 use std::rt::{Files, Runtime};
-use std::sync::Wait;
 use std::thread::Threads;
 use std::time::Clock;
 use std::{env, fs};
@@ -235,57 +235,6 @@ fn run_play<R: Runtime + AllocGlobal, H: Eprint, W: Write>(
     }
 }
 
-/// Runs `soak` on a script that comes from a reader.
-#[tactic(auto, using(crate::proofs::Known::soaked, crate::proofs::Known::in_vain, crate::proofs::Known::turned_down))]
-fn soak_on<R: Runtime + AllocGlobal + Threads + Wait + Sync, H: Eprint, S: Read + Drop, W: Write>(
-    rt: &R,
-    teller: &Teller<'_, H>,
-    script: S,
-    workers: usize,
-    writer: &mut W,
-) -> u8
-    ensures printed { IsServed workers result (W.contents writer.old) (W.contents writer.new) }
-    ensures status { (result ≡ 0) ⊎ (result ≡ 1) ⊎ (result ≡ 2) ⊎ (result ≡ 4) }
-{
-    soak(
-        rt,
-        rt.alloc(),
-        script,
-        workers,
-        writer,
-        &mut teller.errors(),
-    )
-}
-
-/// Runs `soak` on the script that the command line names.
-fn run_soak<R: Runtime + AllocGlobal + Threads + Wait + Sync, H: Eprint, W: Write>(
-    rt: &R,
-    teller: &Teller<'_, H>,
-    script: Source<'_>,
-    workers: usize,
-    writer: &mut W,
-) -> u8
-    ensures printed { IsServed workers result (W.contents writer.old) (W.contents writer.new) }
-    ensures status { (result ≡ 0) ⊎ (result ≡ 1) ⊎ (result ≡ 2) ⊎ (result ≡ 4) }
-{
-    match script {
-        Source::Stdin => {
-            let script = NamedReader::new(teller, STDIN, rt.reader());
-            soak_on(rt, teller, script, workers, writer)
-        }
-        Source::File(path) => match fs::open(rt, path) {
-            Ok(file) => soak_on(
-                rt,
-                teller,
-                NamedReader::new(teller, path, file),
-                workers,
-                writer,
-            ),
-            Err(error) => teller.fail(path, &error),
-        },
-    }
-}
-
 /// Prints what the command line is answered where it names no command to run. Gives the exit status: 0 for help, 3 for a fault, 4 where memory
 /// is wanting or it can't be printed.
 fn answer<R: Runtime + AllocGlobal>(rt: &R, error: &Error) -> u8
@@ -355,19 +304,6 @@ fn serve<
         Ok(request) => Came::Over(run_here(rt, host, teller, &request)),
         Err(error) => Came::Over(answer(rt, &error)),
     }
-}
-
-/// Has threads serve links, where that is what the words of a command line ask for. Gives the exit status.
-fn serve_links<R: Runtime + AllocGlobal + Threads + Wait + Sync, H: Eprint>(
-    rt: &R,
-    teller: &Teller<'_, H>,
-    script: Source<'_>,
-    workers: usize,
-) -> u8
-    ensures served { (words : List Text) → AsksSoak words script workers → ComesTo words result }
-    ensures status { IsStatus result }
-{
-    run_soak(rt, teller, script, workers, &mut io::writer(rt))
 }
 
 /// The words of the command line, and what stands in the place of standard streams that are closed.
