@@ -41,6 +41,12 @@ pub record AsksSoak (words : List Text) (script : Source) (workers : ℕ) : Type
   pub taken : fault_of all_commands words ≡ []
   pub asked : IsAskedBy (subcommand_of all_commands words) (Soak script workers)
 
+-- a request was run, but for `soak`; of that it is known what it asks for
+abbrev pub WasServed : Request → Came → Type 0
+WasServed request (came.Over status) =
+    WasAnswered request status × ((status ≡ 0) ⊎ (status ≡ 1) ⊎ (status ≡ 2) ⊎ (status ≡ 4))
+WasServed request (came.Soak script workers) = request ≡ Soak script workers
+
 -- what they ask for was run, but for `soak`; of that it is known what it asks for
 abbrev pub IsServedBy : List Text → Came → Type 0
 IsServedBy words (came.Over status) = ComesTo words status × IsStatus status

@@ -9,7 +9,7 @@ ghost use Rattle.script_check.specs.Checked.{given};
 ghost use Rattle.script_play.specs.Played.{IsOnSet, IsPlayed, IsPlayedInPart, IsRefused};
 ghost use Rattle.mtp2_words.specs.Limits.{usual_limits_of};
 ghost use Rattle.mtp2_play.specs.Printed.{IsAnswered, IsFault, IsPlayedOn};
-ghost use Rattle.mtp2_play.specs.Served.{IsServedBy, WasAnswered};
+ghost use Rattle.mtp2_play.specs.Served.{IsServedBy, WasAnswered, WasServed};
 
 mod asked;
 mod captures;
@@ -291,7 +291,21 @@ fn run_here<
     }
 }
 
-/// Does what the words of a command line say, the program's own name first, but for `soak`, which waits for threads: of that, what it asks for.
+/// Does what a request asks for, but for `soak`, which waits for threads: of that, what it asks for.
+fn obey<
+    'a,
+    R: Runtime + AllocGlobal,
+    H: Files<File = File> + Threads + Eprint + Clock + AllocGlobal,
+>(rt: &R, host: &H, teller: &Teller<'_, H>, request: &Request<'a>) -> Came<'a>
+    ensures { WasServed request.now result }
+{
+    match request {
+        Request::Soak { script, workers } => Came::Soak(*script, *workers),
+        _ => Came::Over(run_here(rt, host, teller, request)),
+    }
+}
+
+/// Does what the words of a command line say, the program's own name first, but for `soak`: of that, what it asks for.
 fn serve<
     'a,
     R: Runtime + AllocGlobal,
@@ -300,8 +314,7 @@ fn serve<
     ensures { IsServedBy (map string_bytes given.now) result }
 {
     match read(rt.alloc(), given) {
-        Ok(Request::Soak { script, workers }) => Came::Soak(script, workers),
-        Ok(request) => Came::Over(run_here(rt, host, teller, &request)),
+        Ok(request) => obey(rt, host, teller, &request),
         Err(error) => Came::Over(answer(rt, &error)),
     }
 }
@@ -322,7 +335,7 @@ fn start<R: Runtime + AllocGlobal, H: Files<File = File>>(rt: &R, host: &H) -> i
     let _first = fs::open(host, CLOSED)?;
     let _second = fs::open(host, CLOSED)?;
     let _third = fs::open(host, CLOSED)?;
-    let given = env::args(rt)?.collect(rt.alloc())?;
+    let given: Vec<String> = env::args(rt)?.collect(rt.alloc())?;
     Ok(Start {
         given,
         _first,

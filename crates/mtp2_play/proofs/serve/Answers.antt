@@ -1,12 +1,9 @@
-use Rattle.std.proofs.Common.{inl, inr, rules}
-use Rattle.mtp2_play.specs.Served.{is_run, is_told}
+use Rattle.mtp2_play.specs.Served.{is_told}
+use Rattle.mtp2_play.proofs.Serving.{served_by, told_status}
 use Rattle.mtp2_play.proofs.serve.Goals as goal
 
 pub returns-in-Ok : goal.returns-in-Ok
-returns-in-Ok g c = (
-  is_run c.in-Ok.request c.run_here.ensures.printed.old c.run_here.ensures.printed.new c.in-Ok.ensures.taken c.in-Ok.ensures.asked c.run_here.ensures.printed.answered c.run_here.ensures.status,
-  search rules,
-)
+returns-in-Ok g c = served_by _ _ _ c.in-Ok.ensures.taken c.in-Ok.ensures.asked c.obey.ensures
 
 pub returns-in-Err : goal.returns-in-Err
 returns-in-Err g c = (
@@ -15,5 +12,5 @@ returns-in-Err g c = (
     usage = c.answer.ensures.usage;
     ends = c.answer.ensures.status;
   }),
-  search rules,
+  told_status _ c.answer.ensures.status,
 )
