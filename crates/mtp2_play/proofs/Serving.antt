@@ -5,7 +5,7 @@ use Rattle.mtp2_words.specs.Asked.{IsAskedBy}
 use Rattle.mtp2_words.specs.Commands.{all_commands}
 use Rattle.mtp2_words.specs.declared.words.Request.{Request}
 use Rattle.mtp2_play.specs.Printed.{IsStatus}
-use Rattle.mtp2_play.specs.Served.{AsksSoak, IsServedBy, WasServed, is_run}
+use Rattle.mtp2_play.specs.Served.{IsServedBy, WasServed, is_run}
 use Rattle.mtp2_play.specs.declared.asked.Came.{Came}
 use Rattle.mtp2_play.specs.declared.asked.Came.TheVariants.{Over, Soak as asks_soak}
 
