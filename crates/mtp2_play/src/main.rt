@@ -321,7 +321,7 @@ fn serve<
 
 /// The words of the command line, and what stands in the place of standard streams that are closed.
 #[derive(Drop)]
-struct Start {
+struct CommandLine {
     given: Vec<String>,
     _first: File,
     _second: File,
@@ -331,12 +331,12 @@ struct Start {
 /// Reads the command line.
 ///
 /// A file that is opened takes the least number that is free. So that none takes that of a standard stream that is closed, three are taken first.
-fn start<R: Runtime + AllocGlobal, H: Files<File = File>>(rt: &R, host: &H) -> io::Result<Start> {
+fn start<R: Runtime + AllocGlobal, H: Files<File = File>>(rt: &R, host: &H) -> io::Result<CommandLine> {
     let _first = fs::open(host, CLOSED)?;
     let _second = fs::open(host, CLOSED)?;
     let _third = fs::open(host, CLOSED)?;
     let given: Vec<String> = env::args(rt)?.collect(rt.alloc())?;
-    Ok(Start {
+    Ok(CommandLine {
         given,
         _first,
         _second,
@@ -348,7 +348,7 @@ fn start<R: Runtime + AllocGlobal, H: Files<File = File>>(rt: &R, host: &H) -> i
 fn main(rt: HostRuntime) -> ExitCode {
     let teller = Teller::new(&rt);
     let status = match start(&rt, &rt) {
-        Ok(start) => match serve(&rt, &rt, &teller, start.given.as_slice()) {
+        Ok(line) => match serve(&rt, &rt, &teller, line.given.as_slice()) {
             Came::Over(status) => status,
             Came::Soak(script, workers) => serve_links(&rt, &teller, script, workers),
         },
