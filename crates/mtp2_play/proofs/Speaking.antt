@@ -1,5 +1,5 @@
 -- A desk's run is what its terminal spoke.
-use Rattle.std.proofs.Common.{◌≡◌, ◌⊎◌, inl, inr, refl, subst, ℕ, List, Option}
+use Rattle.std.proofs.Common.{◌≡◌, ◌⊎◌, inl, inr, refl, subst, ℕ, List, Option, None}
 use Rattle.std.specs.Prelude.{min}
 use Rattle.line_play.specs.Term.{Term}
 use Rattle.line_filter.specs.Desks.{state_of}
@@ -19,17 +19,17 @@ use Rattle.mtp2_words.specs.resend_store_types.messages.RoundLimits.{RoundLimits
 use Rattle.mtp2_words.specs.declared.ends.LineEnd.{LineEnd}
 
 pub spoke : {A O P : Type 0} (orders : Option A) (left : O → Option (List Timed)) (bits : Bits) (ahead count : ℕ) (old new : Desk LinkEnd O P)
-    (read written told_before read_on written_on told : Option (List ℕ)) → IsSilent old.voice → AreOrdered orders (left old.orders) → old.count ≡ 0
+    (read written told_before read_on written_on told : Option (List ℕ)) → old.terminal.held ≡ None → IsSilent old.voice → AreOrdered orders (left old.orders) → old.count ≡ 0
     → IsOver end_acts bits ahead old.count (state_of left old) count (state_of left new) (record { read = read; written = written; told = told_before })
     (record { read = read_on; written = written_on; told = told })
     → Spoke orders old.terminal.terminal bits ahead (record { read = read; written = written }) (record { read = read_on; written = written_on })
-spoke orders left bits ahead count old new read written told_before read_on written_on told silent ordered none over =
+spoke orders left bits ahead count old new read written told_before read_on written_on told free silent ordered none over =
     let before : Streams = record { read = read; written = written; told = told_before } in
     let after : Streams = record { read = read_on; written = written_on; told = told } in
     let P : ℕ → Type 0 = λ n. IsOver end_acts bits ahead n (state_of left old) count (state_of left new) before after in
     record {
       first = state_of left old;
-      is_first = record { is_term = refl; silent = silent; ordered = ordered };
+      is_first = record { is_term = refl; none_held = free; silent = silent; ordered = ordered };
       last = state_of left new;
       count = count;
       told_before = told_before;
@@ -38,11 +38,11 @@ spoke orders left bits ahead count old new read written told_before read_on writ
     }
 
 pub begun : {A O P : Type 0} (orders : Option A) (left : O → Option (List Timed)) (bits : Bits) (ahead : ℕ) (desk : Desk LinkEnd O P) (old new : Line)
-    → IsSilent desk.voice → AreOrdered orders (left desk.orders) → desk.count ≡ 0 → IsBegun end_acts bits ahead desk.count (state_of left desk) old new
+    → desk.terminal.held ≡ None → IsSilent desk.voice → AreOrdered orders (left desk.orders) → desk.count ≡ 0 → IsBegun end_acts bits ahead desk.count (state_of left desk) old new
     → Begun orders desk.terminal.terminal bits ahead old new
-begun orders left bits ahead desk old new silent ordered none h =
+begun orders left bits ahead desk old new free silent ordered none h =
     let P : ℕ → Type 0 = λ n. IsBegun end_acts bits ahead n (state_of left desk) old new in
-    record { first = state_of left desk; is_first = record { is_term = refl; silent = silent; ordered = ordered }; begun = subst P none h }
+    record { first = state_of left desk; is_first = record { is_term = refl; none_held = free; silent = silent; ordered = ordered }; begun = subst P none h }
 
 -- the terminal that a desk was made of
 pub of_term : {A : Type 0} (orders : Option A) (one other : Term) (bits : Bits) (ahead : ℕ) (old new : Line) → other ≡ one → Spoke orders other bits ahead old new

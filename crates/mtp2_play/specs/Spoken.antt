@@ -18,10 +18,12 @@ abbrev pub AreOrdered : {A : Type 0} → Option A → Option (List Timed) → Ty
 AreOrdered None left = left ≡ Some []
 AreOrdered (Some path) left = ⊤
 
--- how a terminal's run begins: nothing went out, and by which orders is known where there are none
+-- how a terminal's run begins: nothing went out, nothing waits to be told, and by which orders is
+-- known where there are none
 pub record IsFirst {A : Type 0} (orders : Option A) (term : Term) (first : State LinkEnd) :
     Type 0 where
   pub is_term : first.term.terminal ≡ term
+  pub none_held : first.term.held ≡ None
   pub silent : IsSilent first.voice
   pub ordered : AreOrdered orders first.left
 

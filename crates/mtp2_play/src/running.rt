@@ -108,6 +108,7 @@ fn serve<O: Orders, P: Write, R: Read, W: Write>(
     reader: &mut R,
     writer: &mut W,
 ) -> u8
+    requires none_held { desk.old.terminal.held ≡ None }
     requires silent { IsSilent desk.old.voice }
     requires ordered { AreOrdered end.now.orders (O.left desk.old.orders) }
     requires new { desk.old.count ≡ 0 }

@@ -10,7 +10,7 @@ returns-clause-spoke g c zero =
     let P : ℕ → Type 0 = λ n. Spoke c.args.end.now.orders c.args.desk.now.terminal.terminal c.args.end.now.bits n
     (record { read = g.R.Read.remaining c.args.reader.now; written = g.W.Write.contents c.args.writer.now })
     (record { read = g.R.Read.remaining c.run_link.new.reader; written = g.W.Write.contents c.run_link.new.writer }) in
-    subst P few (spoke _ g.O.Orders.left _ _ _ c.args.desk.now c.run_link.new.desk _ _ _ _ _ _ c.requires.silent c.requires.ordered c.requires.new (c.run_link.ensures.over zero))
+    subst P few (spoke _ g.O.Orders.left _ _ _ c.args.desk.now c.run_link.new.desk _ _ _ _ _ _ c.requires.none_held c.requires.silent c.requires.ordered c.requires.new (c.run_link.ensures.over zero))
 
 pub returns-clause-begun : goal.returns-clause-begun
 returns-clause-begun g c =
@@ -18,4 +18,4 @@ returns-clause-begun g c =
     let P : ℕ → Type 0 = λ n. Begun c.args.end.now.orders c.args.desk.now.terminal.terminal c.args.end.now.bits n
     (record { read = g.R.Read.remaining c.args.reader.now; written = g.W.Write.contents c.args.writer.now })
     (record { read = g.R.Read.remaining c.run_link.new.reader; written = g.W.Write.contents c.run_link.new.writer }) in
-    subst P few (begun _ g.O.Orders.left _ _ c.args.desk.now _ _ c.requires.silent c.requires.ordered c.requires.new c.run_link.ensures.begun)
+    subst P few (begun _ g.O.Orders.left _ _ c.args.desk.now _ _ c.requires.none_held c.requires.silent c.requires.ordered c.requires.new c.run_link.ensures.begun)
