@@ -24,7 +24,8 @@ status_first : (h : TransceiverState) (o : Option LinkStatus) (s : LinkStatus) �
 status_first h (Some x) s e is =
     let k : Some (Status x) ≡ Some (Status s) = is in
     let f : h.statuses ≡ x ∷ drop 1 h.statuses = front h.statuses x e in
-    cc
+    let g : h.statuses ≡ s ∷ drop 1 h.statuses = cc in
+    g
 status_first h None s e is = cc
 
 status_messages : (h : TransceiverState) (o : Option LinkStatus) → (status_reported h o).transceiver.messages ≡ h.messages
