@@ -186,9 +186,8 @@ pub none_at_all : (t u : Term) → None ≡ (reported t.processes.transceiver).r
     → (in_turn None t.processes.transceiver ≡ []) × (in_turn None u.processes.transceiver ≡ [])
 none_at_all t u is after =
     let out : (t.processes.transceiver.messages ≡ []) × (t.processes.transceiver.statuses ≡ []) × ((reported t.processes.transceiver).transceiver ≡ t.processes.transceiver) =
-          none_out t.processes.transceiver (sym is)
-    in
-    (
+    none_out t.processes.transceiver (sym is)
+    in (
       none_waits t.processes.transceiver.messages t.processes.transceiver.statuses out.0 out.1,
       ap (λ (k : TransceiverState). in_turn None k) (its_transceiver t u after) ∙ none_left t.processes.transceiver (sym is),
     )
