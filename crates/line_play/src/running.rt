@@ -16,7 +16,10 @@ pub fn link_desk<O, P>(terminal: Terminal, orders: O, reports: P) -> Desk<LinkEn
     ensures { IsNewDesk terminal orders reports result }
 {
     Desk {
-        terminal: LinkEnd { terminal },
+        terminal: LinkEnd {
+            terminal,
+            held: None,
+        },
         voice: Voice::new(),
         orders,
         reports,

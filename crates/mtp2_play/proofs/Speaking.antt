@@ -1,5 +1,5 @@
 -- A desk's run is what its terminal spoke.
-use Rattle.std.proofs.Common.{◌≡◌, ◌⊎◌, inl, inr, refl, subst, ℕ, List, Option}
+use Rattle.std.proofs.Common.{◌≡◌, ◌⊎◌, inl, inr, refl, subst, ℕ, List, Option, None}
 use Rattle.std.specs.Prelude.{min}
 use Rattle.line_play.specs.Term.{Term}
 use Rattle.line_filter.specs.Desks.{state_of}
@@ -20,28 +20,28 @@ use Rattle.mtp2_words.specs.resend_store_types.messages.RoundLimits.{RoundLimits
 use Rattle.mtp2_words.specs.declared.ends.LineEnd.{LineEnd}
 
 pub spoke : {O P : Type 0} (octets : Option (List ℕ)) (left : O → Option (List Timed)) (bits : Bits) (ahead count : ℕ) (old new : Desk LinkEnd O P) (before after : Streams)
-    → IsSilent old.voice → left old.orders ≡ ordered_by octets → old.count ≡ 0
+    → old.terminal.held ≡ None → IsSilent old.voice → left old.orders ≡ ordered_by octets → old.count ≡ 0
     → IsOver end_acts bits ahead old.count (state_of left old) count (state_of left new) before after → SpokeBy octets old.terminal.terminal bits ahead before after
-spoke octets left bits ahead count old new before after silent ordered none over =
+spoke octets left bits ahead count old new before after free silent ordered none over =
     let P : ℕ → Type 0 = λ n. IsOver end_acts bits ahead n (state_of left old) count (state_of left new) before after in
     record {
       first = state_of left old;
-      is_first = record { is_term = refl; silent = silent; ordered = ordered };
+      is_first = record { is_term = refl; none_held = free; silent = silent; ordered = ordered };
       last = state_of left new;
       count = count;
       over = subst P none over;
     }
 
 pub begun : {A O P : Type 0} (orders : Option A) (octets : Option (List ℕ)) (left : O → Option (List Timed)) (bits : Bits) (ahead : ℕ) (desk : Desk LinkEnd O P) (old new : Line)
-    → AreGiven orders octets → IsSilent desk.voice → left desk.orders ≡ ordered_by octets → desk.count ≡ 0
+    → AreGiven orders octets → desk.terminal.held ≡ None → IsSilent desk.voice → left desk.orders ≡ ordered_by octets → desk.count ≡ 0
     → IsBegun end_acts bits ahead desk.count (state_of left desk) old new → Begun orders desk.terminal.terminal bits ahead old new
-begun orders octets left bits ahead desk old new given silent ordered none h =
+begun orders octets left bits ahead desk old new given free silent ordered none h =
     let P : ℕ → Type 0 = λ n. IsBegun end_acts bits ahead n (state_of left desk) old new in
     record {
       octets = octets;
       given = given;
       first = state_of left desk;
-      is_first = record { is_term = refl; silent = silent; ordered = ordered };
+      is_first = record { is_term = refl; none_held = free; silent = silent; ordered = ordered };
       begun = subst P none h;
     }
 

@@ -24,15 +24,17 @@ AreGiven (Some path) octets = ⊤
 abbrev pub ordered_by : Option (List ℕ) → Option (List Timed)
 ordered_by octets = option_map orders_of octets
 
--- how a terminal's run begins: nothing went out, and the orders are those of these octets
+-- how a terminal's run begins: nothing went out, nothing waits to be told, and the orders are those
+-- of these octets
 pub record IsFirst (octets : Option (List ℕ)) (term : Term) (first : State LinkEnd) : Type 0 where
   pub is_term : first.term.terminal ≡ term
+  pub none_held : first.term.held ≡ None
   pub silent : IsSilent first.voice
   pub ordered : first.left ≡ ordered_by octets
 
--- A terminal spoke from its first octet to its last, by the orders of these octets. What was written
--- is what it gave for what was read, behind so many octets of silence, and what was told is what it
--- had to tell.
+-- A terminal spoke from its first octet to its last, by the orders of these octets. What was
+-- written is what it gave for what was read, behind so many octets of silence, and what was told is
+-- what it had to tell.
 pub record SpokeBy (octets : Option (List ℕ)) (term : Term) (bits : Bits) (ahead : ℕ)
     (old new : Streams) : Type 0 where
   pub first : State LinkEnd

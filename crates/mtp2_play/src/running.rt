@@ -109,6 +109,7 @@ fn serve<O: Read, P: Reports, R: Read, W: Write>(
     reader: &mut R,
     writer: &mut W,
 ) -> u8
+    requires none_held { desk.old.terminal.held ≡ None }
     requires silent { IsSilent desk.old.voice }
     requires given { AreGiven end.now.orders (O.remaining desk.old.orders.reader) }
     requires ordered { left_of O.remaining desk.old.orders ≡ ordered_by (O.remaining desk.old.orders.reader) }

@@ -12,7 +12,7 @@ returns-clause-spoke g c zero =
     (record { read = g.R.Read.remaining c.args.reader.now; written = g.W.Write.contents c.args.writer.now; told = g.P.Reports.stand c.args.desk.now.reports })
     (record { read = g.R.Read.remaining c.run_link.new.reader; written = g.W.Write.contents c.run_link.new.writer; told = g.P.Reports.stand c.run_link.new.desk.reports }) in
     subst P few
-    (spoke (g.O.Read.remaining c.args.desk.now.orders.reader) (left_of g.O.Read.remaining) _ _ _ c.args.desk.now c.run_link.new.desk _ _ c.requires.silent c.requires.ordered c.requires.new
+    (spoke (g.O.Read.remaining c.args.desk.now.orders.reader) (left_of g.O.Read.remaining) _ _ _ c.args.desk.now c.run_link.new.desk _ _ c.requires.none_held c.requires.silent c.requires.ordered c.requires.new
     (c.run_link.ensures.over zero))
 
 pub returns-clause-begun : goal.returns-clause-begun
@@ -22,5 +22,5 @@ returns-clause-begun g c =
     (record { read = g.R.Read.remaining c.args.reader.now; written = g.W.Write.contents c.args.writer.now })
     (record { read = g.R.Read.remaining c.run_link.new.reader; written = g.W.Write.contents c.run_link.new.writer }) in
     subst P few
-    (begun c.args.end.now.orders (g.O.Read.remaining c.args.desk.now.orders.reader) (left_of g.O.Read.remaining) _ _ c.args.desk.now _ _ c.requires.given c.requires.silent c.requires.ordered
+    (begun c.args.end.now.orders (g.O.Read.remaining c.args.desk.now.orders.reader) (left_of g.O.Read.remaining) _ _ c.args.desk.now _ _ c.requires.given c.requires.none_held c.requires.silent c.requires.ordered
     c.requires.new c.run_link.ensures.begun)
