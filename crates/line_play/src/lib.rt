@@ -16,6 +16,7 @@ mod set_orders;
 mod set_queue;
 mod set_round;
 mod texts;
+mod turns;
 
 pub use commands::line_command;
 pub use line_filter::{Bits, Desk, MOST_AHEAD};

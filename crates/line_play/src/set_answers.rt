@@ -3,10 +3,11 @@
 use crate::set_desk::SetDesk;
 use crate::set_orders::{Focus, SetOrder, set_order_in};
 use crate::texts::{refusal_in, text_of};
+use line_filter::Reports;
 use script_terminal::{command_of, message, state_line, value_line};
 use set_tending::{CommandError, label_of};
 use std::alloc::{AllocError, Global};
-use std::io::{self, Write};
+use std::io;
 
 /// Why an order isn't obeyed, as it is told.
 type Refused = String;
@@ -16,7 +17,7 @@ fn refusal<D: std::fmt::Display>(alloc: Global, why: &D) -> Result<Option<Refuse
     Ok(Some(format!(in alloc; "{why}")?))
 }
 
-impl<O, P: Write> SetDesk<O, P> {
+impl<O, P: Reports> SetDesk<O, P> {
     /// An order to links. The first refusal, if there is one.
     fn obey_links(
         &mut self,

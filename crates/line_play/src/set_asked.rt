@@ -3,9 +3,10 @@
 use crate::set_desk::SetDesk;
 use crate::set_measures::Since;
 use crate::set_orders::{Focus, SetOrder};
+use line_filter::Reports;
 use script_terminal::{Measure, all_measures, state_line, value_line};
 use std::alloc::Global;
-use std::io::{self, ErrorKind, Write};
+use std::io::{self, ErrorKind};
 use std::str;
 
 impl<O, P> SetDesk<O, P> {
@@ -54,7 +55,7 @@ impl<O, P> SetDesk<O, P> {
     }
 }
 
-impl<O, P: Write> SetDesk<O, P> {
+impl<O, P: Reports> SetDesk<O, P> {
     /// Tells what a link's actor or variable is.
     fn tell_of_link(
         &mut self,

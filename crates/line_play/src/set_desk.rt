@@ -3,11 +3,11 @@
 use crate::set_measures::Since;
 use crate::set_orders::Focus;
 use crate::set_queue::Queue;
-use plain_text::write_line;
+use line_filter::Reports;
 use set_tending::{TendError, Tender, Told, Wire};
 use std::alloc::{AllocError, Global};
 use std::fmt::Display;
-use std::io::{self, ErrorKind, Write};
+use std::io::{self, ErrorKind};
 
 /// A set on its lines. It can't be dropped: its set ends with what is retrieved.
 pub struct SetDesk<O, P> {
@@ -116,11 +116,12 @@ impl<O, P> SetDesk<O, P> {
     }
 }
 
-impl<O, P: Write> SetDesk<O, P> {
+impl<O, P: Reports> SetDesk<O, P> {
     /// Tells a line, the millisecond first.
     pub(crate) fn tell<D: Display>(&mut self, alloc: Global, text: &D) -> io::Result<()> {
         let now = self.tender.now();
-        write_line(alloc, &mut self.reports, &format_args!("{now} {text}"))
+        let line = format!(in alloc; "{now} {text}\n")?;
+        self.reports.tell(line.as_bytes())
     }
 
     /// Tells all that the set has to tell.

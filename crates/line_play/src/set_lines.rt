@@ -19,6 +19,9 @@ pub enum Came {
 
 /// The lines of a set.
 pub trait Lines {
+    /// A round begins, at this millisecond.
+    fn begin(&mut self, now: u64);
+
     /// What came of a line: octets, the oldest first, into a part of some octets.
     fn take(&mut self, link: usize, part: &mut [u8]) -> Came;
 

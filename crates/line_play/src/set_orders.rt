@@ -78,17 +78,23 @@ fn send_in<'a>(alloc: Global, word: &str) -> Result<Option<SetOrder<'a>>, AllocE
     }
 }
 
+/// What a command of a terminal's script asks of links, if it asks for something.
+fn question<'a>(command: &TermCommand<'a>) -> Option<SetOrder<'a>> {
+    match command {
+        TermCommand::State(process) => Some(SetOrder::State(*process)),
+        TermCommand::Value(process, variable) => Some(SetOrder::Value(*process, *variable)),
+        TermCommand::Measure(measure) => Some(SetOrder::Measure(*measure)),
+        TermCommand::Aborted => Some(SetOrder::Aborted),
+        TermCommand::Reset => Some(SetOrder::Reset),
+        _ => None,
+    }
+}
+
 /// What is asked of links, by the words for it: what their actors are, and what was measured.
 fn asked_in<'a>(alloc: Global, words: &[&'a str]) -> Result<Option<SetOrder<'a>>, AllocError> {
     match term_command_in(alloc, words)? {
-        Some(TermCommand::State(process)) => Ok(Some(SetOrder::State(process))),
-        Some(TermCommand::Value(process, variable)) => {
-            Ok(Some(SetOrder::Value(process, variable)))
-        }
-        Some(TermCommand::Measure(measure)) => Ok(Some(SetOrder::Measure(measure))),
-        Some(TermCommand::Aborted) => Ok(Some(SetOrder::Aborted)),
-        Some(TermCommand::Reset) => Ok(Some(SetOrder::Reset)),
-        _ => Ok(None),
+        Some(command) => Ok(question(&command)),
+        None => Ok(None),
     }
 }
 

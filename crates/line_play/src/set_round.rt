@@ -3,11 +3,11 @@
 use crate::set_desk::{SetDesk, failed};
 use crate::set_lines::{Came, Lines};
 use crate::set_orders::{SetOrder, is_set_report, set_order_in};
-use line_filter::Orders;
+use line_filter::{Orders, Reports};
 use script_links::Order;
 use set_tending::Passed;
 use std::alloc::{AllocError, Global};
-use std::io::{self, Write};
+use std::io;
 
 /// How many octets of a line are taken in a round.
 pub const PART: usize = 4_096;
@@ -28,7 +28,7 @@ fn is_stop(alloc: Global, text: &str) -> Result<bool, AllocError> {
     }
 }
 
-impl<O: Orders, P: Write> SetDesk<O, P> {
+impl<O: Orders, P: Reports> SetDesk<O, P> {
     /// Octets that came on a line go through it, and what goes out goes on.
     fn pass<L: Lines>(
         &mut self,
@@ -168,6 +168,7 @@ impl<O: Orders, P: Write> SetDesk<O, P> {
         part: &mut [u8],
         out: &mut Vec<u8>,
     ) -> io::Result<bool> {
+        lines.begin(self.tender.now());
         for link in 0..self.tender.len() {
             self.carry(alloc, lines, link, part, out)?;
         }

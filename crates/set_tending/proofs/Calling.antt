@@ -7,7 +7,7 @@ use Rattle.group_changeover.specs.Limits.{SELECTIONS}
 use Rattle.group_changeover.specs.Sharing.{selection_of}
 use Rattle.group_changeover.specs.Bound.{is_bound}
 use Rattle.group_changeover.specs.declared.changeover.Changeover.{Changeover}
-use Rattle.link_group.specs.Commanding.{Commanded, Refused}
+use Rattle.link_group.specs.Commanding.{Refused}
 use Rattle.link_group.specs.Doing.{Listened, Sent, Reported}
 use Rattle.link_group.specs.group_members_types.commanding.CommandError.{CommandError}
 use Rattle.link_group.specs.group_members_types.commanding.CommandError.TheVariants as error
@@ -15,7 +15,7 @@ use Rattle.link_group.specs.declared.retrieved.Kept.{Kept}
 use Rattle.link_group.specs.Set.{LinkSet, points_of, send_fault, sent, bind_fault_at, bound_at}
 use Rattle.link_group.specs.Changing.{fail_fault, after_failure, after_message}
 use Rattle.link_group.specs.Placing.{rebalance_fault, rebalanced}
-use Rattle.link_group.specs.Lines.{ByLink, Alone, after_admission, IsCommandError}
+use Rattle.link_group.specs.Lines.{ByLink, ByCommand, Alone, after_admission, IsCommandError}
 use Rattle.link_group.specs.Ticks.{after_ticks}
 use Rattle.link_group.specs.Reached.{Gone, Reached}
 use Rattle.link_group.specs.Reached as calls
@@ -84,9 +84,9 @@ pub by_reports : (c d : LinkSet) (hands : List Kept) (l : ℕ) (report : Option 
 by_reports c d hands l report did =
     by_one c d hands (λ accepted gone r. record { gone = gone; reached = calls.reports c d (hand_of hands) accepted gone l report r did })
 
-pub by_commands : (c d : LinkSet) (hands : List Kept) (l : ℕ) (command : _) → ByLink (Commanded command) l c d → ByCalls (at c hands) [] (at d hands)
+pub by_commands : (c d : LinkSet) (hands : List Kept) (l : ℕ) (command : _) → ByCommand command l c d → ByCalls (at c hands) [] (at d hands)
 by_commands c d hands l command did =
-    by_one c d hands (λ accepted gone r. record { gone = gone; reached = calls.commands c d (hand_of hands) accepted gone l command r did })
+    by_one c d hands (λ accepted gone r. record { gone = _; reached = calls.commands c d (hand_of hands) accepted gone l command r did })
 
 pub by_refuses : (c d : LinkSet) (hands : List Kept) (l : ℕ) (command : _) (refusal : _) → Alone (Refused command refusal) l c d
     → ByCalls (at c hands) [] (at d hands)
