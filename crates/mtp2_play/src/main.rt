@@ -20,6 +20,7 @@ mod measuring;
 mod pictures;
 mod running;
 mod set_lines;
+mod set_tap;
 mod sets;
 mod soaks;
 mod tended;

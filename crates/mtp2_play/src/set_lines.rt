@@ -1,5 +1,6 @@
 //! The lines of a set, which threads read and write.
 
+use crate::set_tap::SetTap;
 use line_filter::Bits;
 use line_play::{Came, Lines};
 use line_streams::{Departures, Fed, Feed, open_both};
@@ -47,6 +48,8 @@ pub struct SetLines<'a, H> {
     lines: Vec<SetLine<'a>>,
     /// Octets as they go out.
     part: Vec<u8>,
+    /// What is captured, if anything is.
+    pub tap: Option<SetTap>,
 }
 
 /// The two paths that a word names: `IN,OUT`, or one for both.
@@ -150,6 +153,7 @@ impl<'a, H> SetLines<'a, H> {
         alloc: Global,
         bits: Bits,
         words: &[&'a str],
+        tap: Option<SetTap>,
     ) -> Result<SetLines<'a, H>, AllocError> {
         let mut lines = Vec::with_capacity(alloc, words.len())?;
         for word in words {
@@ -169,11 +173,18 @@ impl<'a, H> SetLines<'a, H> {
             bits,
             lines,
             part: Vec::new(alloc),
+            tap,
         })
     }
 }
 
 impl<H: Files<File = File> + Threads> Lines for SetLines<'_, H> {
+    fn begin(&mut self, now: u64) {
+        if let Some(tap) = &mut self.tap {
+            tap.begin(now);
+        }
+    }
+
     fn take(&mut self, link: usize, part: &mut [u8]) -> Came {
         let Some(line) = self.lines.get_mut(link) else {
             return Came::Closed;
@@ -182,12 +193,18 @@ impl<H: Files<File = File> + Threads> Lines for SetLines<'_, H> {
         if let Came::Octets(count) = came {
             if let Some(octets) = part.get_mut(..count) {
                 self.bits.turn_all(octets);
+                if let Some(tap) = &mut self.tap {
+                    tap.come(link, octets);
+                }
             }
         }
         came
     }
 
     fn give(&mut self, link: usize, octets: &[u8]) {
+        if let Some(tap) = &mut self.tap {
+            tap.go(link, octets);
+        }
         self.part.clear();
         if self.part.extend_from_slice(octets).is_err() {
             return;
@@ -199,6 +216,11 @@ impl<H: Files<File = File> + Threads> Lines for SetLines<'_, H> {
     }
 
     fn are_over(&mut self) -> io::Result<bool> {
+        if let Some(tap) = &self.tap {
+            if tap.has_failed() {
+                return Err(io::Error::from(ErrorKind::Other));
+            }
+        }
         let mut failed = false;
         for line in &self.lines {
             if line.open.is_some() || line.shut < PATIENCE {

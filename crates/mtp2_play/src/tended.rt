@@ -1,14 +1,15 @@
 //! The command `set`.
-ghost use Rattle.std.specs.Prelude.{◌≡◌, ◌⊎◌, None};
+ghost use Rattle.std.specs.Prelude.{◌≡◌, ◌⊎◌, IfErr};
 ghost use Rattle.script_check.specs.Checked.{given};
 ghost use Rattle.mtp2_play.specs.Sets.{own_text_of};
 ghost use Rattle.mtp2_play.specs.Printed.{IsSetRun};
 
 use crate::set_lines::SetLines;
+use crate::set_tap::SetTap;
 use crate::sets::own_set;
 use line_filter::{LineOrders, Orders};
 use line_play::{Ends, Lines, SetDesk, SetPlan, Tender, open_tender};
-use line_streams::{OrderStream, ReportStream, open_orders, open_reports};
+use line_streams::{OrderStream, ReportStream, open_orders, open_records, open_reports};
 use mtp2_words::{Named, SetEnd};
 use plain_text::{Errors, FAILED, HELD, NamedReader, Teller};
 use script_check::SetWord;
@@ -57,9 +58,48 @@ fn go_round<H: Clock + AllocGlobal, L: Lines, O: Orders, P: Write>(
     Ok(())
 }
 
+/// Where a capture goes that is asked for, with its header. What can't be opened is told by its name, and the exit status is given.
+fn tap_of<H: Files<File = File> + Threads + Eprint + AllocGlobal>(
+    host: &H,
+    teller: &Teller<'_, H>,
+    links: usize,
+    path: Option<&str>,
+) -> Result<Option<SetTap>, u8>
+    ensures { IfErr result (λ status. status ≡ 4) }
+{
+    let Some(path) = path else {
+        return Ok(None);
+    };
+    let sink = match open_records(host, host.alloc(), path) {
+        Ok(sink) => sink,
+        Err(error) => return Err(teller.fail(path, &error)),
+    };
+    match SetTap::start(host.alloc(), links, sink) {
+        Ok(tap) => Ok(Some(tap)),
+        Err(error) => Err(teller.fail(path, &error)),
+    }
+}
+
+/// Ends a capture, if there is one. Gives the exit status: the one that is given, or 4.
+fn end_tap<H: Files + Eprint + Clock + AllocGlobal>(
+    host: &H,
+    teller: &Teller<'_, H>,
+    path: Option<&str>,
+    tap: Option<SetTap>,
+    status: u8,
+) -> u8
+    ensures { (result ≡ status) ⊎ (result ≡ 4) }
+{
+    match tap {
+        Some(mut tap) => tap.end(host, teller, path.unwrap_or("capture"), status),
+        None => status,
+    }
+}
+
 /// Runs a set on its lines. Gives the exit status.
 fn serve<H: Files<File = File> + Threads + Eprint + Clock + AllocGlobal>(
     host: &H,
+    teller: &Teller<'_, H>,
     lines: &[&str],
     end: &SetEnd<'_>,
     tender: Tender,
@@ -68,7 +108,14 @@ fn serve<H: Files<File = File> + Threads + Eprint + Clock + AllocGlobal>(
 ) -> u8
     ensures { (result ≡ 0) ⊎ (result ≡ 4) }
 {
-    let Ok(mut open_lines) = SetLines::new(host, host.alloc(), end.bits, lines) else {
+    let tap = match tap_of(host, teller, lines.len(), end.capture) {
+        Ok(tap) => tap,
+        Err(status) => {
+            tender.end();
+            return status;
+        }
+    };
+    let Ok(mut open_lines) = SetLines::new(host, host.alloc(), end.bits, lines, tap) else {
         tender.end();
         return FAILED;
     };
@@ -83,11 +130,12 @@ fn serve<H: Files<File = File> + Threads + Eprint + Clock + AllocGlobal>(
     let now = desk.millisecond();
     let (_orders, mut reports) = desk.end();
     let ended = reports.end(host, now);
-    if ran.is_ok() && ended.is_ok() {
+    let status = if ran.is_ok() && ended.is_ok() {
         HELD
     } else {
         FAILED
-    }
+    };
+    end_tap(host, teller, end.capture, open_lines.tap.take(), status)
 }
 
 /// Opens what orders come from and where reports go, and runs a set. What can't be opened is told by its name. Gives the exit status.
@@ -115,7 +163,7 @@ fn begin<H: Files<File = File> + Threads + Eprint + Clock + AllocGlobal>(
         }
     };
     let orders = LineOrders::new(host.alloc(), orders);
-    serve(host, lines, end, tender, orders, reports)
+    serve(host, teller, lines, end, tender, orders, reports)
 }
 
 /// Runs a set over processes. Gives the exit status.

@@ -90,12 +90,13 @@ pub record AreSetUnderIds (given : Given) (words : SetWords) : Type 0 where
   pub network : given (codes "network") ≡ option_map (λ w. w.now) words.network
   pub orders : given (codes "orders") ≡ option_map (λ w. w.now) words.orders
   pub reports : given (codes "reports") ≡ option_map (λ w. w.now) words.reports
+  pub capture : given (codes "capture") ≡ option_map (λ w. w.now) words.capture
   pub bits : given (codes "bits") ≡ option_map (λ w. w.now) words.bits
   pub ahead : given (codes "ahead") ≡ option_map (λ w. w.now) words.ahead
   pub no_test : says_true (given (codes "no-test")) ≡ words.no_test
 
--- the end of a set of links that MODE, --own, --peer, --network, --orders, --reports, --bits,
--- --ahead and --no-test say
+-- the end of a set of links that MODE, --own, --peer, --network, --orders, --reports, --capture,
+-- --bits, --ahead and --no-test say
 pub record AsksSetEnd (given : Given) (end : SetEnd) : Type 0 where
   pub words : SetWords
   pub under_ids : AreSetUnderIds given words

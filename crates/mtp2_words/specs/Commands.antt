@@ -108,8 +108,10 @@ with_streams command =
     with_rule
     (with_rule
     (with_rule
+    (with_rule
     (with_rule (with_rule command (option_word (codes "orders"))) (option_word (codes "reports")))
-    (option_word (codes "bits"))) (option_word (codes "ahead"))) (flag_word (codes "no-test"))
+    (option_word (codes "capture"))) (option_word (codes "bits")))
+    (option_word (codes "ahead"))) (flag_word (codes "no-test"))
 
 -- `set MODE`, with all options
 abbrev pub set_command : App

@@ -38,6 +38,7 @@ pub record IsSetEndOf (words : SetWords) (end : SetEnd) : Type 0 where
   pub ahead_is : set_ahead_of (option_map (λ w. w.now) words.ahead) ≡ Some end.ahead
   pub orders_are : option_map (λ w. w.now) end.orders ≡ option_map (λ w. w.now) words.orders
   pub reports_are : option_map (λ w. w.now) end.reports ≡ option_map (λ w. w.now) words.reports
+  pub capture_is : option_map (λ w. w.now) end.capture ≡ option_map (λ w. w.now) words.capture
   pub tests_are : end.tests ≡ not words.no_test
 
 -- one of them says nothing

@@ -90,6 +90,12 @@ fn with_streams<'a>(alloc: Global, command: Command<'a>) -> Result<Command<'a>, 
         "PATH",
         "A file or a FIFO for reports, one a line; else they go to standard error",
     );
+    let capture = option_word(
+        alloc,
+        "capture",
+        "PATH",
+        "A file or a FIFO for the units that go out and come in, in pcap's format; those that say nothing new are left out",
+    );
     let bits = option_word(
         alloc,
         "bits",
@@ -110,6 +116,7 @@ fn with_streams<'a>(alloc: Global, command: Command<'a>) -> Result<Command<'a>, 
     command
         .arg(orders)?
         .arg(reports)?
+        .arg(capture)?
         .arg(bits)?
         .arg(ahead)?
         .arg(no_test)

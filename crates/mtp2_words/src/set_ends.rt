@@ -30,6 +30,8 @@ pub struct SetEnd<'a> {
     pub orders: Option<&'a str>,
     /// Where its reports go; standard error, where nothing is said.
     pub reports: Option<&'a str>,
+    /// Where what is captured of its lines goes; nowhere, where nothing is said.
+    pub capture: Option<&'a str>,
     /// Which bit of an octet is the first on the lines.
     pub bits: Bits,
     /// How many octets of 1s go out on each line before any octet came in, and behind each second of silence.
@@ -53,6 +55,8 @@ pub struct SetWords<'a> {
     pub orders: Option<&'a str>,
     /// A file or a FIFO for reports.
     pub reports: Option<&'a str>,
+    /// A file or a FIFO for what is captured.
+    pub capture: Option<&'a str>,
     /// `low` or `high`; `low`, where nothing is said.
     pub bits: Option<&'a str>,
     /// Digits, of 8,000 at most; 64, where nothing is said.
@@ -119,6 +123,7 @@ pub fn set_end<'a>(words: &SetWords<'a>) -> Option<SetEnd<'a>>
         network,
         orders: words.orders,
         reports: words.reports,
+        capture: words.capture,
         bits,
         ahead,
         tests: !words.no_test,

@@ -25,6 +25,7 @@ fn end_of<'a>(given: &ArgMatches<'a>) -> Option<SetEnd<'a>>
         network: given.get_str("network"),
         orders: given.get_str("orders"),
         reports: given.get_str("reports"),
+        capture: given.get_str("capture"),
         bits: given.get_str("bits"),
         ahead: given.get_str("ahead"),
         no_test: is_given(given.get_str("no-test")),

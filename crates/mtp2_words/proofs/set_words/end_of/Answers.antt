@@ -13,8 +13,9 @@ words c = record {
   network = c.get_str-4.result;
   orders = c.get_str-5.result;
   reports = c.get_str-6.result;
-  bits = c.get_str-7.result;
-  ahead = c.get_str-8.result;
+  capture = c.get_str-7.result;
+  bits = c.get_str-8.result;
+  ahead = c.get_str-9.result;
   no_test = c.is_given.result;
 }
 
@@ -26,9 +27,10 @@ under_ids c = record {
   network = sym c.get_str-4.ensures;
   orders = sym c.get_str-5.ensures;
   reports = sym c.get_str-6.ensures;
-  bits = sym c.get_str-7.ensures;
-  ahead = sym c.get_str-8.ensures;
-  no_test = ap says_true (sym c.get_str-9.ensures) ∙ sym c.is_given.ensures;
+  capture = sym c.get_str-7.ensures;
+  bits = sym c.get_str-8.ensures;
+  ahead = sym c.get_str-9.ensures;
+  no_test = ap says_true (sym c.get_str-10.ensures) ∙ sym c.is_given.ensures;
 }
 
 pub returns-clause-some : goal.returns-clause-some

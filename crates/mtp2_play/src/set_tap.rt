@@ -1,0 +1,146 @@
+//! What is captured of a set's lines.
+
+use line_streams::{Capture, RecordStream, Seen, header, record};
+use plain_text::{FAILED, Teller, write_line};
+use std::alloc::Global;
+use std::io::{self, Write};
+use std::rt::Files;
+use std::time::Clock;
+
+/// A line of which units are captured.
+#[derive(Drop)]
+struct Tapped {
+    capture: Capture,
+    /// What came in this round.
+    came: Vec<u8>,
+}
+
+/// What is captured of a set's lines: of each the units that went out and came in by octets of the same rounds, those that say nothing new left out. A
+/// unit has the time of its round.
+#[derive(Drop)]
+pub struct SetTap {
+    lines: Vec<Tapped>,
+    sink: RecordStream,
+    /// The microsecond at which the round began.
+    at: u64,
+    /// What failed: from then on nothing is captured, and the run ends.
+    trouble: Option<io::Error>,
+}
+
+/// Writes the record of a unit, if there is one, with this microsecond.
+fn put(seen: Option<Seen>, at: u64, sink: &mut RecordStream) -> io::Result<()> {
+    let Some(seen) = seen else {
+        return Ok(());
+    };
+    let Seen {
+        went,
+        link,
+        at: _,
+        octets,
+    } = seen;
+    let seen = Seen {
+        went,
+        link,
+        at,
+        octets,
+    };
+    sink.write_all(record(&seen).as_slice())
+}
+
+impl Tapped {
+    /// As many octets went out as came in.
+    fn exchange(&mut self, gone: &[u8], at: u64, sink: &mut RecordStream) -> io::Result<()> {
+        for (gone, come) in gone.iter().zip(self.came.as_slice()) {
+            let kept = self.capture.exchange(*gone, *come)?;
+            put(kept.went, at, sink)?;
+            put(kept.came, at, sink)?;
+        }
+        Ok(())
+    }
+}
+
+impl SetTap {
+    /// Before the first octet of so many lines. The records go to a sink, which has pcap's header from now on.
+    ///
+    /// # Errors
+    ///
+    /// Where there is no memory, or the header can't be written.
+    pub fn start(alloc: Global, links: usize, sink: RecordStream) -> io::Result<SetTap> {
+        let mut lines = Vec::with_capacity(alloc, links)?;
+        for link in 0..links {
+            lines.push(Tapped {
+                capture: Capture::new(link as u16, false),
+                came: Vec::new(alloc),
+            })?;
+        }
+        let mut sink = sink;
+        sink.write_all(header().as_slice())?;
+        Ok(SetTap {
+            lines,
+            sink,
+            at: 0,
+            trouble: None,
+        })
+    }
+
+    /// A round begins.
+    pub fn begin(&mut self, now: u64) {
+        self.at = now.saturating_mul(1_000);
+    }
+
+    /// Octets came on a line, the first bit of each its lowest.
+    pub fn come(&mut self, link: usize, octets: &[u8]) {
+        let Some(line) = self.lines.get_mut(link) else {
+            return;
+        };
+        line.came.clear();
+        if line.came.extend_from_slice(octets).is_err() {
+            self.trouble = Some(io::Error::from(io::ErrorKind::OutOfMemory));
+        }
+    }
+
+    /// Octets go on a line. Those that go ahead aren't captured.
+    pub fn go(&mut self, link: usize, octets: &[u8]) {
+        let Some(line) = self.lines.get_mut(link) else {
+            return;
+        };
+        if self.trouble.is_some() || octets.len() != line.came.len() {
+            return;
+        }
+        if let Err(error) = line.exchange(octets, self.at, &mut self.sink) {
+            self.trouble = Some(error);
+        }
+        line.came.clear();
+    }
+
+    /// Whether something failed.
+    pub fn has_failed(&self) -> bool {
+        self.trouble.is_some()
+    }
+
+    /// Ends it: waits for records that are still to go on, and tells how many were lost, with the millisecond. Gives the exit status: the one that is given,
+    /// or 4 where a record couldn't be written or told.
+    pub fn end<H: Files + Eprint + Clock + AllocGlobal>(
+        &mut self,
+        host: &H,
+        teller: &Teller<'_, H>,
+        path: &str,
+        status: u8,
+    ) -> u8 {
+        if let Some(error) = &self.trouble {
+            return teller.fail(path, error);
+        }
+        if let Err(error) = self.sink.end(host) {
+            return teller.fail(path, &error);
+        }
+        let lost = self.sink.lost();
+        let now = self.at / 1_000;
+        if lost > 0 {
+            let line = format_args!("{now} lost {lost} capture");
+            if write_line(host.alloc(), &mut teller.errors(), &line).is_err() {
+                return FAILED;
+            }
+        }
+        status
+    }
+}
