@@ -1,6 +1,6 @@
 //! What is captured of a set's lines.
 
-use line_streams::{Capture, RecordStream, Seen, header, record};
+use line_streams::{Capture, Kept, RecordStream, Seen, header, record};
 use plain_text::{FAILED, Teller, write_line};
 use std::alloc::Global;
 use std::io::{self, Write};
@@ -51,9 +51,9 @@ impl Tapped {
     /// As many octets went out as came in.
     fn exchange(&mut self, gone: &[u8], at: u64, sink: &mut RecordStream) -> io::Result<()> {
         for (gone, come) in gone.iter().zip(self.came.as_slice()) {
-            let kept = self.capture.exchange(*gone, *come)?;
-            put(kept.went, at, sink)?;
-            put(kept.came, at, sink)?;
+            let Kept { went, came } = self.capture.exchange(*gone, *come)?;
+            put(went, at, sink)?;
+            put(came, at, sink)?;
         }
         Ok(())
     }
