@@ -25,6 +25,7 @@ impl Tender {
     pub fn unit_out(&mut self, link: usize) -> Result<Option<Unit>, AllocError>
         ensures adds { Adds self.old self.new }
         ensures ok { IfOk result (λ unit. ByLink (Sent unit) link self.old.set self.new.set) }
+        ensures same { self.new ≡ record self.old { set = self.new.set } }
         ensures err { OnErr result (self.new ≡ self.old) }
     {
         match self.set.unit_out(link) {
