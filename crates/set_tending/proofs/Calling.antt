@@ -1,5 +1,8 @@
 -- What becomes of a set by its calls: by none, by one, and by some behind others.
-use Rattle.std.proofs.Common.{◌≡◌, ℕ, ◌<◌, Bool, true, List, [], ◌∷◌, ◌++◌, append-nil, append_assoc, Option, None, refl, sym, subst}
+use Rattle.std.proofs.Common.{◌≡◌, ℕ, ◌<◌, Bool, true, List, [], ◌∷◌, ◌++◌, append-nil, append_assoc, Option, None, Some, refl, sym, subst}
+use Rattle.std.specs.Prelude.{◌↔◌}
+use Rattle.std.proofs.lemmas.Option.{none-some}
+use Rattle.group_changeover.specs.Changeovers.{Reads}
 use Rattle.resend_store.specs.declared.messages.Msu.{Msu}
 use Rattle.su_octets.specs.declared.units.Unit.{Unit}
 use Rattle.link_transceiver.specs.declared.signals.Report.{Report}
@@ -13,7 +16,7 @@ use Rattle.link_group.specs.group_members_types.commanding.CommandError.{Command
 use Rattle.link_group.specs.group_members_types.commanding.CommandError.TheVariants as error
 use Rattle.link_group.specs.declared.retrieved.Kept.{Kept}
 use Rattle.link_group.specs.Set.{LinkSet, points_of, send_fault, sent, bind_fault_at, bound_at}
-use Rattle.link_group.specs.Changing.{fail_fault, after_failure, after_message}
+use Rattle.link_group.specs.Changing.{fail_fault, after_failure, after_message, IsRead}
 use Rattle.link_group.specs.Placing.{rebalance_fault, rebalanced}
 use Rattle.link_group.specs.Lines.{ByLink, ByCommand, Alone, after_admission, IsCommandError}
 use Rattle.link_group.specs.Ticks.{after_ticks}
@@ -62,6 +65,11 @@ by_binds c hands l m free bound =
 pub by_fails : (c : LinkSet) (hands : List Kept) (l : ℕ) → fail_fault c l ≡ None → ByCalls (at c hands) [] (at (after_failure c l) hands)
 by_fails c hands l free =
     by_one c (after_failure c l) hands (λ accepted gone r. record { gone = gone; reached = calls.fails c (hand_of hands) accepted gone l r free })
+
+-- what was read of octets is what they are read as
+pub is_read : (octets : List ℕ) (r : Option Changeover) → ((m : Changeover) → (r ≡ Some m) ↔ Reads octets m) → IsRead octets r
+is_read octets None exact = λ m reads. none-some m ((exact m).1 reads)
+is_read octets (Some m) exact = (exact m).0 refl
 
 pub by_hears : (c : LinkSet) (hands : List Kept) (m : Option Changeover) → ByCalls (at c hands) [] (at (after_message c m) hands)
 by_hears c hands m =

@@ -1,18 +1,33 @@
 //! What is done to the set: each is a call of it, or none.
-ghost use Rattle.std.specs.Prelude.{◌≡◌, ◌∷◌, [], OnOk, OnErr, IfSome};
-ghost use Rattle.group_changeover.specs.Changeovers.{IsKind};
+ghost use Rattle.std.specs.Prelude.{◌≡◌, ◌∷◌, [], OnOk, OnErr};
 ghost use Rattle.set_tending.specs.Rounds.{Adds, Acts};
 
 use crate::tender::{TendError, Tender};
 use crate::told::Told;
 use group_changeover::{Hearing, Kind, read_changeover};
-use link_group::{Command, CommandError, Msu, RebalanceError};
+use link_group::{Command, CommandError, Heard, Msu, RebalanceError, Sif};
 
 /// What a message of changeover was to the set, and what is to be said to it.
 #[derive(Clone, Copy)]
 pub(crate) struct Noted {
     pub hearing: Hearing,
     pub answer: Option<Kind>,
+}
+
+/// What a message of changeover says, if the field is one.
+fn kind_in(sif: &[u8]) -> Option<Kind> {
+    match read_changeover(sif) {
+        Some(message) => Some(message.kind),
+        None => None,
+    }
+}
+
+/// What an answer says, if there is one.
+fn answer_in(reply: &Option<Sif>) -> Option<Kind> {
+    match reply {
+        Some(sif) => kind_in(sif.as_slice()),
+        None => None,
+    }
 }
 
 impl Tender {
@@ -96,40 +111,29 @@ impl Tender {
 
     /// A link fails: its changeover begins. What is to be said of it; none where it isn't there, or its changeover goes on.
     pub(crate) fn fail(&mut self, link: usize) -> Option<Kind>
-        ensures adds { Adds self.old self.new }
-        ensures kind { IfSome result IsKind }
+        ensures { Adds self.old self.new }
     {
         match self.set.fail(link) {
-            Ok(sif) => match read_changeover(sif.as_slice()) {
-                Some(order) => Some(order.kind),
-                None => None,
-            },
+            Ok(sif) => kind_in(sif.as_slice()),
             Err(_) => None,
         }
     }
 
     /// The set hears a message of changeover.
     pub(crate) fn note(&mut self, sif: &[u8]) -> Noted
-        ensures adds { Adds self.old self.new }
-        ensures kind { IfSome result.answer IsKind }
+        ensures { Adds self.old self.new }
     {
-        let heard = self.set.changeover_message(sif);
-        let answer = match &heard.reply {
-            Some(sif) => match read_changeover(sif.as_slice()) {
-                Some(answer) => Some(answer.kind),
-                None => None,
-            },
-            None => None,
-        };
+        let _message = read_changeover(sif);
+        let Heard { hearing, reply } = self.set.changeover_message(sif);
         Noted {
-            hearing: heard.hearing,
-            answer,
+            hearing,
+            answer: answer_in(&reply),
         }
     }
 
     /// A message for level 3 is to be told.
     pub(crate) fn tell_message(&mut self, link: usize, msu: Msu) -> Result<(), TendError>
-        ensures { OnOk result (Acts (msu ∷ []) self.old self.new) }
+        ensures { OnOk result (Acts [] (msu ∷ []) self.old self.new) }
     {
         match self.told.push_back(Told::Message(link, msu)) {
             Ok(()) => Ok(()),
