@@ -1,4 +1,5 @@
 mod Calling
 mod Doing
 mod Fields
+mod Filling
 mod Speaking

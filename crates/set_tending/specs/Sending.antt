@@ -5,9 +5,11 @@ use Rattle.resend_store.specs.declared.messages.Msu.{Msu}
 use Rattle.group_changeover.specs.Sharing.{selection_of, link_of}
 use Rattle.group_changeover.specs.declared.errors.SendError.{SendError}
 use Rattle.group_changeover.specs.declared.errors.SendError.TheVariants.{Full}
-use Rattle.group_members.specs.declared.link.Link.{Link}
-use Rattle.group_members.specs.OneLink.{held, is_changing}
-use Rattle.link_group.specs.Set.{LinkSet, send_fault}
+use Rattle.link_group.specs.group_members_types.link.Link.{Link}
+use Rattle.link_group.specs.OneLink.{held}
+use Rattle.group_changeover.specs.Bound.{is_bound}
+use Rattle.link_group.specs.Set.{LinkSet, points_of, send_fault}
+use Rattle.link_group.specs.Tables.{changing_by}
 
 -- so many messages or octets that a link holds leave no room for more
 abbrev pub MOST_HELD : ℕ
@@ -16,23 +18,36 @@ MOST_HELD = 256
 abbrev pub MOST_OCTETS : ℕ
 MOST_OCTETS = 3000
 
--- octets of service information octets and fields
+-- octets of its service information octet and its field
+abbrev pub size_of : Option Msu → ℕ
+size_of None = 0
+size_of (Some m) = length m.sif.items + 1
+
 abbrev pub octets_in : List Msu → ℕ
 octets_in [] = 0
 octets_in (m ∷ ms) = (length m.sif.items + 1) + octets_in ms
 
-abbrev pub is_full : Link → Bool
-is_full k = nat_le MOST_HELD (length (held k)) || nat_le MOST_OCTETS (octets_in (held k))
+-- what a link holds; nothing where it isn't there
+abbrev pub held_by : Option Link → List Msu
+held_by None = []
+held_by (Some k) = held k
 
+abbrev pub is_full : List Msu → Bool
+is_full ms = nat_le MOST_HELD (length ms) || nat_le MOST_OCTETS (octets_in ms)
+
+abbrev pub is_full_of : Option Link → Bool
+is_full_of k = is_full (held_by k)
+
+-- it isn't in changeover
 abbrev pub is_full_by : Option Link → Bool
-is_full_by None = false
-is_full_by (Some k) = not (is_changing k) && is_full k
+is_full_by k = not (changing_by k) && is_full_of k
 
 abbrev pub is_full_at : LinkSet → Option ℕ → Bool
 is_full_at c None = false
 is_full_at c (Some l) = is_full_by (slice_get c.links l)
 
--- the link of its selection is full, or what the set answers
+-- the link of its selection is full, where it isn't bound to one; or what the set answers
 unfoldable pub tended_send_fault : LinkSet → Msu → Option SendError
 tended_send_fault c m =
-    if is_full_at c (link_of c.table (selection_of m)) then Some Full else send_fault c m
+    if not (is_bound (points_of c) m) && is_full_at c (link_of c.table (selection_of m))
+    then Some Full else send_fault c m

@@ -1,9 +1,12 @@
 //! Orders.
-ghost use Rattle.std.specs.Prelude.{◌≡◌, ◌∷◌, [], Some, OnOk, OnErr};
+ghost use Rattle.std.specs.Prelude.{◌≡◌, ◌∷◌, [], Some, OnOk, OnErr, min, take, slice_get};
 ghost use Rattle.group_changeover.specs.Labels.{label_in};
+ghost use Rattle.group_changeover.specs.Sharing.{link_of};
 ghost use Rattle.link_group.specs.OneLink.{fault_of};
+ghost use Rattle.link_group.specs.Reading.{message_at};
+ghost use Rattle.set_tending.specs.Cares.{LAST};
 ghost use Rattle.set_tending.specs.Rounds.{Acts, Adds};
-ghost use Rattle.set_tending.specs.Sending.{tended_send_fault};
+ghost use Rattle.set_tending.specs.Sending.{tended_send_fault, size_of, octets_in, held_by, is_full_of, is_full_at};
 
 use crate::tender::Tender;
 use crate::told::Told;
@@ -16,40 +19,64 @@ const MOST_HELD: usize = 256;
 const MOST_OCTETS: usize = 3_000;
 
 impl Tender {
-    /// How many octets a link holds, or more than it may.
-    fn octets_held(&self, link: usize, held: usize) -> usize {
+    /// How many octets a message that a link holds has.
+    fn octets_at(&self, link: usize, place: usize) -> usize
+        ensures { result ≡ size_of (message_at place (slice_get self.now.set.links link)) }
+    {
+        match self.set.held_at(link, place) {
+            Some(msu) => msu.sif.len() + 1,
+            None => 0,
+        }
+    }
+
+    /// How many octets the first of the messages that a link holds have.
+    fn octets_held(&self, link: usize, held: usize) -> usize
+        ensures { result ≡ min LAST (octets_in (take held (held_by (slice_get self.now.set.links link)))) }
+    {
         let mut octets: usize = 0;
         for place in 0..held {
-            if let Some(msu) = self.set.held_at(link, place) {
-                octets = octets.saturating_add(msu.sif.len() + 1);
-            }
+            octets = octets.saturating_add(self.octets_at(link, place));
         }
         octets
     }
 
     /// Whether a link holds as much as it may.
-    fn is_full(&self, link: usize) -> bool {
+    fn is_full(&self, link: usize) -> bool
+        ensures { result ≡ is_full_of (slice_get self.now.set.links link) }
+    {
         let held = self.set.held(link).unwrap_or(0);
         held >= MOST_HELD || self.octets_held(link, held) >= MOST_OCTETS
+    }
+
+    /// Whether the link of a selection isn't in changeover, and holds as much as it may.
+    fn lacks_room(&self, selection: u8) -> bool
+        ensures { result ≡ is_full_at self.now.set (link_of self.now.set.table selection) }
+    {
+        match self.set.link_of(selection) {
+            Some(link) => !self.set.in_changeover(link) && self.is_full(link),
+            None => false,
+        }
     }
 
     /// Takes a message to send, whose field begins with this label.
     ///
     /// # Errors
     ///
-    /// `E1 Full` also where the link of its selection, which isn't in changeover, holds 256 messages or 3,000 octets; else those of
-    /// [`link_group::Group::send`]. Nothing changes then.
+    /// `E1 Full` also where the link of its selection, which isn't in changeover, holds 256 messages or 3,000 octets, unless the message is bound to a
+    /// link; else those of [`link_group::Group::send`]. Nothing changes then.
+    #[tactic(auto, unfolding(crate::specs::Sending::tended_send_fault, group_changeover::specs::Sharing::selection_of))]
     pub fn send(&mut self, label: Label, msu: Msu) -> Result<(), SendError>
         requires { label_in msu.sif.items ≡ Some label }
         ensures fault { fault_of result ≡ tended_send_fault self.old.set msu }
         ensures ok { OnOk result (Acts (msu ∷ []) [] self.old self.new) }
         ensures err { OnErr result (self.new ≡ self.old) }
     {
-        match self.set.link_of(label.sls) {
-            Some(link) if !self.set.in_changeover(link) && self.is_full(link) => {
-                Err(SendError::Full)
-            }
-            _ => self.set.send(label, msu),
+        if !self.set.is_bound(&msu) && self.lacks_room(label.sls) {
+            return Err(SendError::Full);
+        }
+        match self.set.send(label, msu) {
+            Ok(()) => Ok(()),
+            Err(error) => Err(error),
         }
     }
 
