@@ -36,17 +36,21 @@ class Tie(threading.Thread):
 class End:
     """One end: its process, its orders and what it tells."""
 
-    def __init__(self, room, name, own, peer, links, more):
-        self.name, self.own, self.peer, self.room = name, own, peer, room
+    def __init__(self, room, name, own, peer, links, more, user):
+        self.name, self.own, self.peer, self.room, self.user = name, own, peer, room, user
         self.told, self.came, self.sent, self.refused = [], [], [], 0
         self.orders, self.reports = room / f"{name}.orders", room / f"{name}.reports"
         for path in (self.orders, self.reports):
             os.mkfifo(path)
         self.to, self.back = os.open(self.orders, os.O_RDWR), os.open(self.reports, os.O_RDWR)
-        words = [word for at in range(links) for word in ("--link", f"{room}/{name}.in{at},{room}/{name}.out{at}")]
-        self.process = subprocess.Popen([PLAY, "set", "basic", *words, "--own", str(own), "--peer", str(peer), "--orders", str(self.orders),
-                                         "--reports", str(self.reports), *more], env={**os.environ, "MTP2_SAID": "1"})
+        lines = [f"{room}/{name}.in{at},{room}/{name}.out{at}" for at in range(links)]
+        self.process = subprocess.Popen(self.words(lines, own, peer, more), env={**os.environ, "MTP2_SAID": "1"})
         threading.Thread(target=self.listen, daemon=True).start()
+
+    def words(self, lines, own, peer, more):
+        """The words of its command."""
+        links = [word for line in lines for word in ("--link", line)]
+        return [PLAY, "set", "basic", *links, "--own", str(own), "--peer", str(peer), "--orders", str(self.orders), "--reports", str(self.reports), *more]
 
     def listen(self):
         rest = b""
@@ -71,7 +75,7 @@ class End:
 
     def send(self, number):
         label = (self.peer + self.own * 2**14 + number % 16 * 2**28).to_bytes(4, "little")
-        self.order("send " + (b"\x83" + label + number.to_bytes(4, "big")).hex().upper())
+        self.order("send " + (bytes([self.user]) + label + number.to_bytes(4, "big")).hex().upper())
 
     def has_told(self, text, times=1):
         return sum(line.split(" ", 1)[1] == text for line in self.told) >= times
@@ -89,9 +93,10 @@ def by_selection(messages):
 
 
 class Pair:
-    """Both ends and the ties between them: of each link the way from near to far, and back. The FIFOs lie in a folder."""
+    """Both ends and the ties between them: of each link the way from near to far, and back. The FIFOs lie in a folder. The ends are of these kinds, and send messages with this service
+    information octet."""
 
-    def __init__(self, room, links, *words, seed=1):
+    def __init__(self, room, links, *words, seed=1, kinds=(End, End), user=0x83):
         room, self.dice = pathlib.Path(room), random.Random(seed)
         for name in ("near", "far"):
             for at in range(links):
@@ -101,7 +106,8 @@ class Pair:
         for tie in self.ties:
             for way in tie:
                 way.start()
-        self.links, self.ends = range(links), [End(room, "near", 1, 2, links, words), End(room, "far", 2, 1, links, words)]
+        self.links = range(links)
+        self.ends = [kinds[0](room, "near", 1, 2, links, words, user), kinds[1](room, "far", 2, 1, links, words, user)]
 
     def befall(self, link, over, back=None):
         for way, weather in zip(self.ties[link], (over, back if back is not None else over)):
