@@ -1,5 +1,5 @@
 /* One end of a set of links by libss7's MTP3 and MTP2, on FIFOs: bench/set_ss7 builds it over Debian's source of libss7, with what it mends there, and has a set of mtp2_play at the
- * other end. What libss7 leaves to a card is here: flags, stuffing, check sequences, and that a line is lost once no correct unit came for 150 ms.
+ * other end. What libss7 leaves to a card is here: flags, stuffing, check sequences, and that a line is lost once no correct unit came for 700 ms.
  *
  * usage: ss7_end OWN PEER ORDERS REPORTS IN,OUT [IN,OUT ..]
  * Orders are `send HEX` (a message of ISUP, its service information octet first) and `quit`; reports are as those of `set`: MS L tested, MS L down, MS set up, MS L message HEX,
@@ -16,7 +16,7 @@
 #include "mtp3.h"
 
 #define AHEAD 64
-#define LOST 150
+#define LOST 700
 #define QUIET 1000
 #define PART 4096
 

@@ -15,21 +15,22 @@ PLAY = os.environ.get("MTP2_PLAY", str(HERE.parents[1] / "bin" / "mtp2"))
 
 
 class Tie(threading.Thread):
-    """Octets from one FIFO to another: all that come while the weather is fair, none while it is `cut`, later while it is `stall`; a number is how many octets go by on average
+    """Octets from one FIFO to another: all that come while the weather is fair (False), none while it is `cut`, later while it is `stall`; a number is how many octets go by on average
     before one is garbled."""
 
     def __init__(self, source, sink, dice):
         super().__init__(daemon=True)
-        self.source, self.sink, self.weather, self.dice = os.open(source, os.O_RDWR), os.open(sink, os.O_RDWR), None, dice
+        self.source, self.sink, self.weather, self.dice = os.open(source, os.O_RDWR), os.open(sink, os.O_RDWR), False, dice
 
     def run(self):
         while True:
             octets = os.read(self.source, 4096)
             while self.weather == "stall":
                 time.sleep(0.01)
-            if isinstance(self.weather, int):
-                octets = bytes(it ^ 1 << self.dice.randrange(8) if self.dice.random() < 1 / self.weather else it for it in octets)
-            if self.weather != "cut":
+            weather = self.weather
+            if weather and weather != "cut":
+                octets = bytes(it ^ 1 << self.dice.randrange(8) if self.dice.random() < 1 / weather else it for it in octets)
+            if weather != "cut":
                 os.write(self.sink, octets)
 
 
