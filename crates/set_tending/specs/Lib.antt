@@ -7,3 +7,6 @@ pub mod Sending
 pub mod Telling
 pub mod Tended
 pub mod Wires
+pub use Rattle.link_group.specs.Diverting
+pub use Rattle.link_group.specs.Holding
+pub use Rattle.link_group.specs.declared as link_group_types

@@ -23,7 +23,8 @@ mod wire;
 pub use ends::Ends;
 pub use group_changeover::label_of;
 pub use link_group::{
-    Command, CommandError, Group, Label, LinkError, LinkState, Mode, Msu, Retrievals, SendError,
+    AbandonError, CallError, Command, CommandError, DivertError, Group, Label, LineError, LinkError,
+    LinkState, LinkStatus, Mode, Msu, Report, Retrievals, RetrieveError, Retrieved, SendError, Sif,
     Terminal,
 };
 pub use tender::{Plan, TendError, Tender};

@@ -1,8 +1,8 @@
 -- Retrievals that are kept.
 use Rattle.std.proofs.Common.{ℕ, ◌≤◌, ◌<◌, List, ◌∷◌, length, length-append, ap, arith}
-use Rattle.link_group.specs.declared.retrieved.Kept.{Kept}
-use Rattle.link_group.specs.declared.retrieved.Retrieved.{Retrieved}
-use Rattle.link_group.specs.Holding.{kept, TakenOut}
+use Rattle.set_tending.specs.link_group_types.retrieved.Kept.{Kept}
+use Rattle.set_tending.specs.link_group_types.retrieved.Retrieved.{Retrieved}
+use Rattle.set_tending.specs.Holding.{kept, TakenOut}
 
 -- there is room for one where one was taken out
 pub room_left : (l n : ℕ) (old new : List Kept) (retrieval : Retrieved) → TakenOut l old retrieval new → length old ≤ n → length new < n

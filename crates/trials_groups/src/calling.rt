@@ -4,7 +4,7 @@ use crate::calls::Stopped;
 use crate::each_call::{WAY, bring_up, change_over, fill, give_them_up};
 use crate::far_end::FarEnd;
 use crate::opening::open_set;
-use link_group::{Group, Mode, Retrievals};
+use set_tending::{Group, Mode, Retrievals};
 use std::alloc::Global;
 use turn_check::Verified;
 

@@ -1,6 +1,6 @@
 //! Calls of a set. One that wants memory is made once more, since it changed nothing; what its clauses say ends here.
 
-use link_group::{
+use set_tending::{
     AbandonError, CallError, Command, CommandError, Group, LineError, RetrieveError, Retrieved,
 };
 use std::alloc::AllocError;

@@ -1,7 +1,7 @@
 //! What is counted at one end.
 
 use crate::messages::{Way, place_of};
-use link_group::Msu;
+use set_tending::Msu;
 
 /// How many messages went out and came in, in all and of each of 16 selections.
 #[derive(Clone, Copy)]

@@ -6,7 +6,7 @@ use crate::keeping::{Given, Went, divert, give_up, hand_out};
 use crate::messages::{Way, message, place_of};
 use arrayvec::ArrayVec;
 use group_changeover::label_of;
-use link_group::{Command, Group, LineError, Msu, Retrievals};
+use set_tending::{Command, Group, LineError, Msu, Retrievals};
 use std::alloc::AllocError;
 use su_octets::Unit;
 

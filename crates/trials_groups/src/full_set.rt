@@ -7,7 +7,7 @@ use crate::keeping::{Given, Went, divert, hand_out};
 use crate::messages::message;
 use crate::opening::open_set;
 use group_changeover::label_of;
-use link_group::{Group, Mode, Retrievals};
+use set_tending::{Group, Mode, Retrievals};
 use std::alloc::Global;
 use turn_check::Verified;
 

@@ -1,9 +1,9 @@
 //! Retrievals that are kept, and diverted.
 ghost use Rattle.std.specs.Prelude.{◌≡◌, ◌<◌, length};
-ghost use Rattle.link_group.specs.Diverting.{Owns};
+ghost use Rattle.set_tending.specs.Diverting.{Owns};
 
 use crate::calls::{Stopped, abandon, retrieve};
-use link_group::{AbandonError, DivertError, Group, Retrievals, RetrieveError, Retrieved};
+use set_tending::{AbandonError, DivertError, Group, Retrievals, RetrieveError, Retrieved};
 
 /// How many retrievals may be kept.
 const MOST_RETRIEVALS: usize = 16;

@@ -2,7 +2,7 @@
 
 use arrayvec::ArrayVec;
 use group_changeover::label_of;
-use link_group::Msu;
+use set_tending::Msu;
 
 /// What stands behind a message's number, the first octets of it.
 const FILLER: [u8; 24] = [

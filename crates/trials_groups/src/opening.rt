@@ -6,7 +6,7 @@ ghost use Rattle.trials_groups.specs.Opened.{AreNew};
 
 use crate::calls::Stopped;
 use crate::messages::Way;
-use link_group::{Group, Mode, Terminal};
+use set_tending::{Group, Mode, Terminal};
 use std::alloc::Global;
 use turn_check::Verified;
 

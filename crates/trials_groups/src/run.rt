@@ -1,6 +1,6 @@
 //! Runs as they are written.
 
-use link_group::Mode;
+use set_tending::Mode;
 use std::str::SplitWhitespace;
 
 /// A run of two sets back to back.

@@ -17,7 +17,7 @@
 use crate::calls::{Stopped, serves};
 use crate::dice::Dice;
 use crate::set_end::{MOST_MAIL, SetEnd};
-use link_group::Sif;
+use set_tending::Sif;
 
 /// In how many rounds one link is cut, and one cut is healed.
 const CUTS: u32 = 12;

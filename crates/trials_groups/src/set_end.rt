@@ -4,7 +4,7 @@ use crate::calls::{Stopped, pass, serves, speak, take, tell};
 use crate::counts::Counts;
 use crate::messages::{Way, message};
 use group_changeover::label_of;
-use link_group::{Command, Group, LinkStatus, Report, Retrievals, Sif};
+use set_tending::{Command, Group, LinkStatus, Report, Retrievals, Sif};
 use std::collections::VecDeque;
 
 /// How many messages of changeover may be on their way to one end.

@@ -4,7 +4,7 @@ use crate::counts::Counts;
 use crate::run::Run;
 use crate::schedule::Schedule;
 use crate::set_end::SetEnd;
-use link_group::Mode;
+use set_tending::Mode;
 use std::alloc::AllocError;
 
 /// The word of a mode.

@@ -1,6 +1,6 @@
 //! Runs of two sets that tend themselves, as they are written.
 
-use link_group::Mode;
+use set_tending::Mode;
 use std::str::SplitWhitespace;
 
 /// A run.

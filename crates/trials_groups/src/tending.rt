@@ -4,7 +4,7 @@ use crate::calls::{Stopped, serves};
 use crate::dice::Dice;
 use crate::keeping::{Given, Went, divert, give_up, hand_out};
 use crate::set_end::SetEnd;
-use link_group::{Group, Retrievals, RetrieveError, Sif};
+use set_tending::{Group, Retrievals, RetrieveError, Sif};
 
 /// Gives up what may or may not have arrived, now and then: a late answer may still come. Whether the rest is retrieved.
 fn give_up_late(

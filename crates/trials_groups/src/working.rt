@@ -8,7 +8,7 @@ use crate::run::{Run, run_of};
 use crate::schedule::Schedule;
 use crate::set_end::{MOST_MAIL, SetEnd};
 use crate::shown::write_run;
-use link_group::Retrievals;
+use set_tending::Retrievals;
 use std::alloc::Global;
 use std::collections::VecDeque;
 use turn_check::Verified;
