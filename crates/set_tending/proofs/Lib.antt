@@ -2,4 +2,5 @@ mod Calling
 mod Doing
 mod Fields
 mod Filling
+mod Printing
 mod Speaking

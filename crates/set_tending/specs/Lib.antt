@@ -6,6 +6,7 @@ pub mod Rounds
 pub mod Sending
 pub mod Telling
 pub mod Tended
+pub mod Texts
 pub mod Wires
 pub use Rattle.link_group.specs.Diverting
 pub use Rattle.link_group.specs.Holding

@@ -1,4 +1,7 @@
 //! What is told.
+ghost use Rattle.std.specs.Prelude.{Some};
+ghost use Rattle.std.specs.List.{flat_map};
+ghost use Rattle.set_tending.specs.Texts.{kind_text, octet_text, message_text, link_text, told_text};
 
 use group_changeover::Kind;
 use link_group::Msu;
@@ -39,10 +42,12 @@ pub enum Told {
 }
 
 /// A kind of message of changeover, as it is told.
-#[derive(Drop)]
+#[derive(Clone, Copy)]
 struct Named(Kind);
 
 impl fmt::Display for Named {
+    ghost output = { λ named. Some (kind_text named.0) };
+
     fn fmt<W: fmt::Write>(&self, f: &mut fmt::Formatter<W>) -> fmt::Result {
         match self.0 {
             Kind::Order(accepted) => write!(f, "COO {accepted}"),
@@ -53,39 +58,83 @@ impl fmt::Display for Named {
     }
 }
 
-/// A message in hexadecimal digits, its service information octet first.
-#[derive(Drop)]
-struct Digits<'a>(&'a Msu);
+/// An octet as two hexadecimal digits in capitals.
+#[derive(Clone, Copy)]
+struct Octet(u8);
 
-impl fmt::Display for Digits<'_> {
+impl fmt::Display for Octet {
+    ghost output = { λ octet. Some (octet_text octet.0) };
+
     fn fmt<W: fmt::Write>(&self, f: &mut fmt::Formatter<W>) -> fmt::Result {
-        let sio = self.0.sio;
-        write!(f, "{sio:02X}")?;
-        for octet in self.0.sif.as_slice() {
-            let octet = *octet;
-            write!(f, "{octet:02X}")?;
+        let octet = self.0;
+        write!(f, "{octet:02X}")
+    }
+}
+
+/// Octets, one behind another.
+#[derive(Clone, Copy)]
+struct Octets<'a>(&'a [u8]);
+
+impl fmt::Display for Octets<'_> {
+    ghost output = { λ octets. Some (flat_map octet_text octets.0.now) };
+
+    fn fmt<W: fmt::Write>(&self, f: &mut fmt::Formatter<W>) -> fmt::Result {
+        for octet in self.0 {
+            let octet = Octet(*octet);
+            write!(f, "{octet}")?;
         }
         Ok(())
     }
 }
 
+/// A message in hexadecimal digits, its service information octet first.
+#[derive(Clone, Copy)]
+struct Digits<'a>(&'a Msu);
+
+impl fmt::Display for Digits<'_> {
+    ghost output = { λ digits. Some (message_text digits.0.now) };
+
+    fn fmt<W: fmt::Write>(&self, f: &mut fmt::Formatter<W>) -> fmt::Result {
+        let sio = Octet(self.0.sio);
+        let octets = Octets(self.0.sif.as_slice());
+        write!(f, "{sio}{octets}")
+    }
+}
+
+/// The link of a selection.
+#[derive(Clone, Copy)]
+struct LinkOf(Option<usize>);
+
+impl fmt::Display for LinkOf {
+    ghost output = { λ of. Some (link_text of.0) };
+
+    fn fmt<W: fmt::Write>(&self, f: &mut fmt::Formatter<W>) -> fmt::Result {
+        match self.0 {
+            Some(link) => write!(f, " {link}"),
+            None => f.write_str(" -"),
+        }
+    }
+}
+
 /// The links of all selections.
-#[derive(Drop)]
+#[derive(Clone, Copy)]
 struct Links<'a>(&'a SharedOut);
 
 impl fmt::Display for Links<'_> {
+    ghost output = { λ links. Some (flat_map link_text links.0.now) };
+
     fn fmt<W: fmt::Write>(&self, f: &mut fmt::Formatter<W>) -> fmt::Result {
         for link in self.0 {
-            match *link {
-                Some(link) => write!(f, " {link}")?,
-                None => f.write_str(" -")?,
-            }
+            let link = LinkOf(*link);
+            write!(f, "{link}")?;
         }
         Ok(())
     }
 }
 
 impl fmt::Display for Told {
+    ghost output = { λ told. Some (told_text told) };
+
     fn fmt<W: fmt::Write>(&self, f: &mut fmt::Formatter<W>) -> fmt::Result {
         match self {
             Told::InService(link) => write!(f, "{link} in service"),
