@@ -97,10 +97,11 @@ fn write_sums(text: &mut String, from: &TendedEnd, to: &TendedEnd) -> Result<(),
     let unsure = from.unsure;
     let refused = from.refused;
     let changeovers = from.changeovers;
+    let restarts = from.restarts;
     let silences = from.silences;
     writeln!(
         text,
-        "    sent {sent} came {came} wrong {wrong} missing {missing} unsure {unsure} refused {refused} changeovers {changeovers} silences {silences}"
+        "    sent {sent} came {came} wrong {wrong} missing {missing} unsure {unsure} refused {refused} changeovers {changeovers} restarts {restarts} silences {silences}"
     )?;
     Ok(())
 }

@@ -5,7 +5,7 @@ use crate::counts::Counts;
 use crate::dice::Dice;
 use crate::messages::{Way, message};
 use group_changeover::label_of;
-use set_tending::{Command, Passed, TendError, Tender, Told, Wire};
+use set_tending::{Command, Msu, Passed, TendError, Tender, Told, Wire};
 
 /// How many octets go ahead on a line.
 const AHEAD: usize = 8;
@@ -19,6 +19,8 @@ pub struct TendedEnd {
     /// How many messages may have arrived or not, as was told.
     pub unsure: u64,
     pub changeovers: u32,
+    /// How often traffic restart allowed came.
+    pub restarts: u32,
     pub silences: u32,
     /// How often a message wasn't taken.
     pub refused: u32,
@@ -42,6 +44,7 @@ impl TendedEnd {
             way,
             unsure: 0,
             changeovers: 0,
+            restarts: 0,
             silences: 0,
             refused: 0,
             loud,
@@ -96,12 +99,21 @@ impl TendedEnd {
         Ok(())
     }
 
+    /// Takes note of a message. One of network management is the other end's traffic restart allowed.
+    fn heed_message(&mut self, msu: &Msu) {
+        let Way { from, to } = self.way;
+        if msu.sio % 16 == 0 {
+            self.restarts = self.restarts.wrapping_add(1);
+        } else {
+            self.counts.take(Way { from: to, to: from }, msu);
+        }
+    }
+
     /// Takes note of what is told.
     fn heed(&mut self, text: &mut String, told: Told) -> Result<(), Stopped> {
-        let Way { from, to } = self.way;
         match &told {
             Told::Message(_, msu) => {
-                self.counts.take(Way { from: to, to: from }, msu);
+                self.heed_message(msu);
                 return Ok(());
             }
             Told::Unsure(_, count) => self.unsure = self.unsure.wrapping_add(*count as u64),
@@ -110,6 +122,7 @@ impl TendedEnd {
         }
         if self.loud {
             let now = self.tender.now();
+            let from = self.way.from;
             writeln!(text, "{now} {from}: {told}")?;
         }
         Ok(())
@@ -151,6 +164,7 @@ impl TendedEnd {
             way: _,
             unsure: _,
             changeovers: _,
+            restarts: _,
             silences: _,
             refused: _,
             loud: _,
