@@ -7,14 +7,14 @@ ghost use Rattle.mtp2_play.specs.Printed.{IsSetRun};
 use crate::set_lines::SetLines;
 use crate::set_tap::SetTap;
 use crate::sets::own_set;
-use line_filter::{LineOrders, Orders};
+use line_filter::{LineOrders, Orders, Reports};
 use line_play::{Ends, Lines, SetDesk, SetPlan, Tender, open_tender};
 use line_streams::{OrderStream, ReportStream, open_orders, open_records, open_reports};
 use mtp2_words::{Named, SetEnd};
 use plain_text::{Errors, FAILED, HELD, NamedReader, Teller};
 use script_check::SetWord;
 use std::fs::{self, File};
-use std::io::{self, Read, Write};
+use std::io::{self, Read};
 use std::rt::Files;
 use std::thread;
 use std::thread::Threads;
@@ -39,7 +39,7 @@ fn wait<R: Clock>(rt: &R, begin: Instant, round: u64) -> io::Result<bool> {
 }
 
 /// Round after round, each due with a millisecond of the clock, up to `quit` or the end of all lines.
-fn go_round<H: Clock + AllocGlobal, L: Lines, O: Orders, P: Write>(
+fn go_round<H: Clock + AllocGlobal, L: Lines, O: Orders, P: Reports>(
     host: &H,
     desk: &mut SetDesk<O, P>,
     lines: &mut L,
