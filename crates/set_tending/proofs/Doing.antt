@@ -12,13 +12,13 @@ use Rattle.set_tending.specs.declared.tender.Plan.{Plan}
 use Rattle.set_tending.proofs.Calling.{at, by_none, by_both, by_is}
 
 pub does_nothing : (t : Tended) → Does t t
-does_nothing t = record { calls = by_none (played t); plan = refl; now = refl; messages = refl }
+does_nothing t = record { calls = by_none (played t); plan = refl; ticks = refl; messages = refl }
 
 pub does_then : (s t u : Tended) → Does s t → Does t u → Does s u
 does_then s t u h k = record {
   calls = by_both (played s) (played t) (played u) h.calls k.calls;
   plan = k.plan ∙ h.plan;
-  now = k.now ∙ h.now;
+  ticks = k.ticks ∙ h.ticks;
   messages = k.messages ∙ h.messages;
 }
 
@@ -36,7 +36,7 @@ adds_does t u d = λ first h. does_then first t u h d
 
 -- a call of the set
 pub adds_call : (t : Tended) (d : LinkSet) → ByCalls (played t) [] (at d t.hands) → Adds t (record t { set = d })
-adds_call t d calls = adds_does t (record t { set = d }) (record { calls = calls; plan = refl; now = refl; messages = refl })
+adds_call t d calls = adds_does t (record t { set = d }) (record { calls = calls; plan = refl; ticks = refl; messages = refl })
 
 pub adds_is : (t : Tended) (d e : LinkSet) → d ≡ e → ByCalls (played t) [] (at e t.hands) → Adds t (record t { set = d })
 adds_is t d e is calls = adds_call t d (by_is t.set d e t.hands is calls)
@@ -47,7 +47,7 @@ adds_of t u adds = adds t (does_nothing t)
 pub acts_of : (t u : Tended) → Adds t u → Acts [] [] t u
 acts_of t u adds =
     let d : Does t u = adds_of t u adds in
-    record { calls = d.calls; plan = d.plan; now = d.now; messages = d.messages ∙ sym (append-nil t.messages) }
+    record { calls = d.calls; plan = d.plan; ticks = d.ticks; messages = d.messages ∙ sym (append-nil t.messages) }
 
 -- a report that says no message
 pub acts_quiet : (t u : Tended) (messages : List Msu) → messages ≡ [] → Adds t u → Acts [] messages t u
@@ -61,14 +61,14 @@ heeds_then s t u hs (one {others} {v} {w} {x} h before out behind) calls =
     one h before out (by_both (played w) (played t) (played u) behind calls)
 
 pub heeded_nothing : (t : Tended) → IsHeeded t t
-heeded_nothing t = record { handed = []; heeds = nothing (by_none (played t)); plan = refl; now = refl; messages = sym (append-nil t.messages) }
+heeded_nothing t = record { handed = []; heeds = nothing (by_none (played t)); plan = refl; ticks = refl; messages = sym (append-nil t.messages) }
 
 pub heeded_then : (s t u : Tended) → IsHeeded s t → Does t u → IsHeeded s u
 heeded_then s t u h d = record {
   handed = h.handed;
   heeds = heeds_then s t u h.handed h.heeds d.calls;
   plan = d.plan ∙ h.plan;
-  now = d.now ∙ h.now;
+  ticks = d.ticks ∙ h.ticks;
   messages = d.messages ∙ h.messages;
 }
 
@@ -87,7 +87,7 @@ heeded_one s t u w h before out acts =
       handed = before.handed ++ h ∷ [];
       heeds = one h before.heeds out acts.calls;
       plan = acts.plan ∙ plan_is;
-      now = acts.now ∙ (ap (λ (x : Tended). x.now) out.same ∙ before.now);
+      ticks = acts.ticks ∙ (ap (λ (x : Tended). x.ticks) out.same ∙ before.ticks);
       messages =
           acts.messages
           ∙ (ap (λ (ms : List Msu). ms ++ user_message u.plan h.report) (ap (λ (x : Tended). x.messages) out.same ∙ before.messages)

@@ -15,14 +15,14 @@ use Rattle.set_tending.specs.declared.tender.Plan.{Plan}
 pub record Acts (taken tells : List Msu) (old new : Tended) : Type 0 where
   pub calls : ByCalls (played old) taken (played new)
   pub plan : new.plan ≡ old.plan
-  pub now : new.now ≡ old.now
+  pub ticks : new.ticks ≡ old.ticks
   pub messages : new.messages ≡ old.messages ++ tells
 
 -- Neither took any, and none is told.
 pub record Does (old new : Tended) : Type 0 where
   pub calls : ByCalls (played old) [] (played new)
   pub plan : new.plan ≡ old.plan
-  pub now : new.now ≡ old.now
+  pub ticks : new.ticks ≡ old.ticks
   pub messages : new.messages ≡ old.messages
 
 -- That is added to what was done: whatever did just that before, has done just that now.
@@ -58,7 +58,7 @@ pub record IsHeeded (old new : Tended) : Type 0 where
   pub handed : List Handed
   pub heeds : Heeds old handed new
   pub plan : new.plan ≡ old.plan
-  pub now : new.now ≡ old.now
+  pub ticks : new.ticks ≡ old.ticks
   pub messages : new.messages ≡ old.messages ++ user_messages old.plan handed
 
 abbrev pub AddsHeeded : Tended → Tended → Type 0
@@ -68,5 +68,5 @@ AddsHeeded old new = (first : Tended) → IsHeeded first old → IsHeeded first 
 
 pub record Ticks (old new : Tended) : Type 0 where
   pub set : new.set ≡ after_ticks 1 old.set
-  pub now : new.now ≡ min (2 ^ 64 - 1) (old.now + 1)
-  pub same : new ≡ record old { set = new.set; now = new.now }
+  pub ticks : new.ticks ≡ min (2 ^ 64 - 1) (old.ticks + 1)
+  pub same : new ≡ record old { set = new.set; ticks = new.ticks }

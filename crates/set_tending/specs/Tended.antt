@@ -14,7 +14,7 @@ pub record Tended : Type 0 where
   -- the points, whether links are tested, and how many there are
   pub plan : Plan
   -- how many ticks have passed
-  pub now : ℕ
+  pub ticks : ℕ
   -- the messages for level 3 that are to be told, in order
   pub messages : List Msu
 
@@ -25,5 +25,5 @@ played t = record { set = t.set; hands = t.hands }
 pub record IsNewTended (ends : Ends) (tests : Bool) (set : LinkSet) (t : Tended) : Type 0 where
   pub calls : ByCalls (record { set = set; hands = [] }) [] (played t)
   pub plan : t.plan ≡ record { ends = ends; tests = tests; links = length set.links }
-  pub now : t.now ≡ 0
+  pub ticks : t.ticks ≡ 0
   pub messages : t.messages ≡ []

@@ -65,7 +65,7 @@ impl Tender {
     {
         match status {
             LinkStatus::InService => {
-                let care = self.care(link).risen(self.now);
+                let care = self.care(link).risen(self.ticks);
                 self.keep(link, care);
                 self.tell(Told::InService(link))
             }
@@ -83,7 +83,7 @@ impl Tender {
         self.tell(Told::Down(link, reason))?;
         self.withdraw(link);
         let care = self.care(link);
-        self.keep(link, care.fallen(self.now));
+        self.keep(link, care.fallen(self.ticks));
         self.owe_again(link);
         if !care.serves {
             return Ok(());
@@ -201,7 +201,7 @@ impl Tender {
         if about != link || !is_running || !self.is_answer(link, msu) {
             return Ok(());
         }
-        let next = self.now.saturating_add(BETWEEN_TESTS);
+        let next = self.ticks.saturating_add(BETWEEN_TESTS);
         self.keep(link, care.tested(Testing::Rests(next)));
         if self.is_admitted(link) {
             return Ok(());

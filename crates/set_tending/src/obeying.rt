@@ -91,7 +91,7 @@ impl Tender {
         if link >= self.len() {
             return Err(CommandError::NoLink);
         }
-        self.keep(link, self.care(link).asked(command, self.now));
+        self.keep(link, self.care(link).asked(command, self.ticks));
         if command == Command::Start {
             return Ok(());
         }

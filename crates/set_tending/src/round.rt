@@ -44,7 +44,7 @@ impl Tender {
     {
         match self.set.tick(1) {
             Ok(_) => {
-                self.now = self.now.saturating_add(1);
+                self.ticks = self.ticks.saturating_add(1);
                 Ok(())
             }
             Err(CallError::NoMemory) => Err(TendError::NoMemory),

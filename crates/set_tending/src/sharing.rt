@@ -231,7 +231,7 @@ impl Tender {
         if self.all_out(links.as_slice()) {
             return self.wait_for(links.as_slice());
         }
-        self.sharing = self.sharing.drained(self.now);
+        self.sharing = self.sharing.drained(self.ticks);
         Ok(())
     }
 
@@ -239,9 +239,9 @@ impl Tender {
     fn wait_for(&mut self, links: &[usize]) -> Result<(), TendError>
         ensures { OnOk result (Adds self.old self.new) }
     {
-        let end = self.sharing.blocked_until(self.now);
+        let end = self.sharing.blocked_until(self.ticks);
         self.sharing = Sharing::Blocked(end);
-        if self.now < end || !self.another_carries(links) {
+        if self.ticks < end || !self.another_carries(links) {
             return Ok(());
         }
         self.sharing = Sharing::Rests(0);

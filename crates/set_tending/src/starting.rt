@@ -30,10 +30,10 @@ impl Tender {
     pub(crate) fn start(&mut self, link: usize) -> Result<(), TendError>
         ensures { OnOk result (Adds self.old self.new) }
     {
-        let Some(due) = self.care(link).is_due(self.now) else {
+        let Some(due) = self.care(link).is_due(self.ticks) else {
             return Ok(());
         };
-        let waited = self.now.saturating_sub(due);
+        let waited = self.ticks.saturating_sub(due);
         if waited < PATIENCE && self.has_to_wait(link) {
             return Ok(());
         }

@@ -50,7 +50,7 @@ pub struct Tender {
     pub(crate) hands: Retrievals,
     pub(crate) plan: Plan,
     /// How many ticks have passed.
-    pub(crate) now: u64,
+    pub(crate) ticks: u64,
     pub(crate) told: VecDeque<Told>,
     pub(crate) cares: [Care; MOST_LINKS],
     pub(crate) sharing: Sharing,
@@ -72,7 +72,7 @@ impl Model for Tender {
 
     ghost coded = { Prim.hlevel (codes, timers_code) };
 
-    ghost view = { λ t. record { set = t.set; hands = t.hands.kept.items; plan = t.plan; now = t.now; messages = messages_in t.told.items } };
+    ghost view = { λ t. record { set = t.set; hands = t.hands.kept.items; plan = t.plan; ticks = t.ticks; messages = messages_in t.told.items } };
 }
 
 impl Tender {
@@ -92,7 +92,7 @@ impl Tender {
                     set,
                     hands,
                     plan: Plan { ends, tests, links },
-                    now: 0,
+                    ticks: 0,
                     told: VecDeque::new(alloc),
                     cares: [Care::new(); MOST_LINKS],
                     sharing: Sharing::new(),
@@ -116,9 +116,9 @@ impl Tender {
 
     /// How many ticks have passed.
     pub fn now(&self) -> u64
-        ensures { result ≡ self.now.now }
+        ensures { result ≡ self.now.ticks }
     {
-        self.now
+        self.ticks
     }
 
     /// The set.
@@ -182,7 +182,7 @@ impl Tender {
             set,
             hands,
             plan: _,
-            now: _,
+            ticks: _,
             told: _told,
             cares: _,
             sharing: _,

@@ -66,21 +66,21 @@ impl Tender {
         if !self.plan.tests || !state.in_service || state.held {
             return Ok(());
         }
-        let until = self.now.saturating_add(ANSWER);
+        let until = self.ticks.saturating_add(ANSWER);
         if state.far_out || state.own_out {
-            self.keep(link, self.care(link).tested(Testing::Rests(self.now)));
+            self.keep(link, self.care(link).tested(Testing::Rests(self.ticks)));
             return Ok(());
         }
         match self.care(link).test {
-            Testing::Rests(since) if since <= self.now => {
+            Testing::Rests(since) if since <= self.ticks => {
                 self.try_test(link, Testing::Runs(until));
                 Ok(())
             }
-            Testing::Runs(end) if end <= self.now => {
+            Testing::Runs(end) if end <= self.ticks => {
                 self.try_test(link, Testing::RunsAgain(until));
                 Ok(())
             }
-            Testing::RunsAgain(end) if end <= self.now => self.fail_test(link, until),
+            Testing::RunsAgain(end) if end <= self.ticks => self.fail_test(link, until),
             Testing::Rests(_) | Testing::Runs(_) | Testing::RunsAgain(_) => Ok(()),
         }
     }
