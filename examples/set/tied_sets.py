@@ -3,6 +3,7 @@
 drive them.
 
 usage: none of its own; MTP2_PLAY names another program than bin/mtp2"""
+import collections
 import os
 import pathlib
 import random
@@ -40,6 +41,7 @@ class End:
     def __init__(self, room, name, own, peer, links, more, user):
         self.name, self.own, self.peer, self.room, self.user = name, own, peer, room, user
         self.told, self.came, self.sent, self.refused = [], [], [], 0
+        self.asked, self.again = collections.deque(), []
         self.orders, self.reports = room / f"{name}.orders", room / f"{name}.reports"
         for path in (self.orders, self.reports):
             os.mkfifo(path)
@@ -62,12 +64,14 @@ class End:
 
     def hear(self, line):
         words = line.split(" ")
-        if words[2:3] == ["message"]:
+        if words[2:3] == ["message"] and words[3][1] != "0":
             self.came.append(bytes.fromhex(words[3]))
         elif words[1] == "ok" and words[2] == "send":
             self.sent.append(bytes.fromhex(words[3]))
+            self.asked.popleft()
         elif words[1] == "refused":
             self.refused += 1
+            self.again.append(self.asked.popleft())
         elif words[1] != "ok":
             self.told.append(line)
 
@@ -75,6 +79,19 @@ class End:
         os.write(self.to, "".join(f"{line}\n" for line in lines).encode())
 
     def send(self, number):
+        """A message of this number; those that were refused go first, and this one waits with them."""
+        self.again.append(number)
+        for _ in range(min(2, len(self.again))):
+            self.send_now(self.again.pop(0))
+
+    def is_through(self):
+        """Whether all that it was given was taken; what was refused is given once more."""
+        while self.again:
+            self.send_now(self.again.pop(0))
+        return not self.asked
+
+    def send_now(self, number):
+        self.asked.append(number)
         label = (self.peer + self.own * 2**14 + number % 16 * 2**28).to_bytes(4, "little")
         self.order("send " + (bytes([self.user]) + label + number.to_bytes(4, "big")).hex().upper())
 
@@ -125,6 +142,10 @@ class Pair:
                 it.send(number + sent)
             time.sleep(max(0, begin + (sent + 1) / rate - time.time()))
         return number + int(seconds * rate)
+
+    def settle(self, seconds):
+        """Waits until all that both ends were given was taken, for so many seconds at most."""
+        return until(lambda: all([it.is_through() for it in self.ends]), seconds)
 
     def quit(self):
         for it in self.ends:
