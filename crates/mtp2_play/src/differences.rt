@@ -5,10 +5,12 @@ use crate::sets::{STDIN, own_set, set_word};
 use draw_diff::{Difference, compare, lines_in, ways_in};
 use draw_sets::with_statements;
 use link_term::Names;
-use mtp2_text::{MONITORS, Q703, STANDARD};
 use mtp2_words::Named;
 use plain_text::{NamedReader, Teller, read_text};
-use script_check::{FAILED, HELD, REFUSED, Refusal, SetWord, find_set, in_front, refuse_set};
+use script_check::{
+    FAILED, HELD, MONITORS, Q703, REFUSED, Refusal, STANDARD, SetWord, find_set, in_front,
+    refuse_set,
+};
 use std::alloc::{AllocError, Global};
 use std::io::{self, Read, Write};
 use std::rt::Runtime;
