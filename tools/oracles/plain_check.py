@@ -293,7 +293,8 @@ def check(b):
                 upto += sum(r[5] == number for r in rows)
                 if upto > most: found = [(block[1], len(rows), i[0][0][1])]; break
         for p, vs, ts, states, V, conn, truth in info:
-            names = {'States': lambda: first_states(p), 'Variables': lambda: [v[0][1] for v in vs], 'Timers': lambda: [t[1] for t in ts], 'Instances': lambda: [p[0][1]] * p[5]}.get(nm)
+            names = {'States': lambda: first_states(p), 'Variables': lambda: [v[0][1] for v in vs], 'Timers': lambda: [t[1] for t in ts]}.get(nm)
+            if nm == 'Instances': found.append((p[0][0], p[5], p[0][1]))
             if names: found.append((p[0][0], len(names()), (names() + [0] * 99)[most]))
         if nm in ('Piece', 'Depth', 'Effects'):
             for r, m in sorted(zip(rows, ms), key=lambda rm: (rm[0][5], rm[0][6], rm[0][7])):

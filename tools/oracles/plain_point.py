@@ -20,9 +20,9 @@ def refusal(text):
     return None
 
 
-def word(text, why):
-    """Where the word at which a refusal points begins and ends."""
-    return why.at, why.at + 1 if str(why).startswith("L") or not text else TOKEN.match(text + b" ", why.at).end()
+def ends(text, at):
+    """Where the token ends that begins at a place."""
+    return TOKEN.match(text + b" ", at).end()
 
 
 def behind(sign, said):
@@ -45,7 +45,7 @@ def points(name, text):
     if len(text) > LONGEST:
         return [head]
     end = (text + b"\n").find(b"\n", why.at)
-    _, last = word(text, why)
+    last = why.at + 1 if fault.startswith("L") or not text else ends(text, why.at)
     width = max(1, len(text[why.at : min(last, end)].decode(errors="ignore")))
     margin = " " * len(line)
     blanks = "".join(it if it == "\t" else " " for it in before)
