@@ -1,4 +1,9 @@
 //! What is said of a refusal, and where it is found where it names no place itself.
+ghost use Rattle.std.specs.Prelude.{◌≡◌, List, Ok, IfOk, IfSome, IsTrue};
+ghost use Rattle.sdl_lex.specs.Lexed.{Answers};
+ghost use Rattle.sdl_lex.specs.declared.lexemes.Token as lexeme;
+ghost use Rattle.script_check.specs.Telling.{Fits, FitsRule, IsNameAt, IsNamed, IsTokenAt};
+
 use crate::answers::no_answer;
 use crate::limits::over_limit;
 use crate::receivers::{no_receiver, two_receivers};
@@ -7,14 +12,16 @@ use crate::sorts::wrong_sort;
 use crate::statements::process_at;
 use crate::unset::unset_read;
 use script_point::{LoadFault, Notes, Reading, Told, notes_in};
-use sdl_lex::{LexFault, Name, Token, tokens};
+use sdl_lex::{LexFault, Lexeme, Name, Token, tokens};
 use sdl_sound::{Limit, RuleFault, Step};
 use sdl_tables::{BlockTable, ProcessTable, TableFault};
 use sdl_tree::{Block, ParseFault, parse};
 use std::alloc::{AllocError, Global};
 
 /// The tokens of a text, or none where it has none.
-fn tokens_of(alloc: Global, text: &str) -> Result<Vec<Token>, AllocError> {
+fn tokens_of(alloc: Global, text: &str) -> Result<Vec<Token>, AllocError>
+    ensures { IfOk result (λ v. (ts : List lexeme.Token) → Answers text.now (Ok ts) → ts ≡ v.items) }
+{
     match tokens(alloc, text) {
         Ok(tokens) => Ok(tokens),
         Err(LexFault::NoMemory) => Err(AllocError),
@@ -137,17 +144,84 @@ fn add_of_tree(
     }
 }
 
+/// Whether a token is a name, in whatever case.
+fn is_named(token: &Token, name: Name) -> bool
+    ensures { IsTrue result → IsNamed name token.now.lexeme }
+{
+    match token.lexeme {
+        Lexeme::Name(other) => other.folded() == name.folded(),
+        _ => false,
+    }
+}
+
+/// A place where a token is a name; none where none is.
+fn name_at(tokens: &[Token], name: Name, place: u32) -> Option<u32>
+    ensures { IfSome result (IsNameAt tokens.now name) }
+{
+    for token in tokens {
+        if token.start == place && is_named(token, name) {
+            return Some(place);
+        }
+    }
+    None
+}
+
+/// A place where a token begins; none where none does.
+fn token_at(tokens: &[Token], place: u32) -> Option<u32>
+    ensures { IfSome result (IsTokenAt tokens.now) }
+{
+    for token in tokens {
+        if token.start == place {
+            return Some(place);
+        }
+    }
+    None
+}
+
+/// The place where a rule is found to be broken, where what stands there may be that.
+fn fitting_rule(tokens: &[Token], fault: &RuleFault, place: u32) -> Option<u32>
+    ensures { IfSome result (FitsRule tokens.now fault.now) }
+{
+    match fault {
+        RuleFault::Limit(_) => token_at(tokens, place),
+        RuleFault::Unset { variable, .. } => name_at(tokens, *variable, place),
+        _ => None,
+    }
+}
+
+/// The place where a refusal is found, where what stands there may be that.
+fn fitting(tokens: &[Token], fault: &LoadFault, found: Option<u32>) -> Option<u32>
+    ensures { IfSome result (Fits tokens.now fault.now) }
+{
+    match found {
+        None => None,
+        Some(place) => match fault {
+            LoadFault::Rule { fault, .. } => fitting_rule(tokens, fault, place),
+            _ => None,
+        },
+    }
+}
+
+/// What is said of a refusal of a text, and a place for one that may have none.
+fn say(alloc: Global, read: &Reading<'_>, fault: &LoadFault) -> Result<Told, AllocError> {
+    let notes = notes_in(alloc, read, fault)?;
+    let mut told = Told { notes, found: None };
+    if let LoadFault::Rule { fault, .. } = fault {
+        add_of_tree(alloc, &mut told, read, fault)?;
+    }
+    Ok(told)
+}
+
 /// What is said of a refusal of a text, and where it is found where it names no place.
-pub(crate) fn told_of(alloc: Global, text: &str, fault: &LoadFault) -> Result<Told, AllocError> {
+pub(crate) fn told_of(alloc: Global, text: &str, fault: &LoadFault) -> Result<Told, AllocError>
+    ensures { IfOk result (λ told. (ts : List lexeme.Token) → Answers text.now (Ok ts) → IfSome told.found (Fits ts fault.now)) }
+{
     let tokens = tokens_of(alloc, text)?;
     let read = Reading {
         text,
         tokens: &tokens,
     };
-    let notes = notes_in(alloc, &read, fault)?;
-    let mut told = Told { notes, found: None };
-    if let LoadFault::Rule { fault, .. } = fault {
-        add_of_tree(alloc, &mut told, &read, fault)?;
-    }
+    let mut told = say(alloc, &read, fault)?;
+    told.found = fitting(&tokens, fault, told.found);
     Ok(told)
 }
