@@ -27,6 +27,11 @@ noted_lines n = n.line ++ 10 ∷ indented true n.notes
 abbrev pub connection_lines : Noted → List ℕ
 connection_lines n = codes "~ CONNECTION " ++ noted_lines n
 
+-- behind a text come lines of connections
+pub record AreAdded (old new : List ℕ) : Type 0 where
+  pub connections : List Noted
+  pub written : new ≡ old ++ flat_map connection_lines connections
+
 -- These are the lines, each word for word and in order, with something below each of them, and
 -- something of connections behind them all. All that is said below a line begins with four spaces.
 pub record AreNoted (lines text : List ℕ) : Type 0 where

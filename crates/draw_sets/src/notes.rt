@@ -1,7 +1,7 @@
 //! The statements in which transitions of two texts differ, below the lines that name these.
 ghost use Rattle.std.specs.Prelude.{◌≡◌, ◌∷◌, ◌++◌, List, ℕ, true, codes, IfOk, OnOk};
 ghost use Rattle.std.specs.List.{flat_map};
-ghost use Rattle.draw_sets.specs.Noting.{spaced, indented, Noted, connection_lines, AreNoted};
+ghost use Rattle.draw_sets.specs.Noting.{spaced, indented, Noted, connection_lines, AreAdded, AreNoted};
 
 use crate::rows::{Row, Section, sections_of};
 use draw_text::push_bytes;
@@ -337,7 +337,7 @@ fn push_marked(
     section: &Section,
     news: &[Section],
 ) -> Result<(), AllocError>
-    ensures { OnOk result ((ns : List Noted) × (text.new.items ≡ text.old.items ++ flat_map connection_lines ns)) }
+    ensures { OnOk result (AreAdded text.old.items text.new.items) }
 {
     if !is_marked {
         return Ok(());
@@ -356,7 +356,7 @@ fn push_connections(
     olds: &[Section],
     news: &[Section],
 ) -> Result<(), AllocError>
-    ensures { OnOk result ((ns : List Noted) × (text.new.items ≡ text.old.items ++ flat_map connection_lines ns)) }
+    ensures { OnOk result (AreAdded text.old.items text.new.items) }
 {
     for (index, section) in olds.iter().enumerate() {
         push_marked(alloc, text, is_marked(blamed, index), section, news)?;
