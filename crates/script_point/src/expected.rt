@@ -1,6 +1,6 @@
 //! What is wanted where no reading goes on (P1): the tokens with which one would.
 use crate::notes::Notes;
-use crate::reading::Reading;
+use crate::reading::{Reading, text_of};
 use sdl_lex::{LexFault, Lexeme, Symbol, Token, Word, tokens};
 use sdl_tree::{ParseFault, parse};
 use std::alloc::{AllocError, Global};
@@ -83,13 +83,6 @@ fn candidates(alloc: Global) -> Result<Vec<Token>, AllocError> {
     }
 }
 
-/// A candidate as it is written.
-fn written(candidate: &Token) -> &'static str {
-    CANDIDATES
-        .get(candidate.start as usize..candidate.end as usize)
-        .unwrap_or("")
-}
-
 /// Whether a text begins with these tokens.
 fn begins_text(alloc: Global, row: &[Token]) -> Result<bool, AllocError> {
     match parse(alloc, row) {
@@ -150,7 +143,7 @@ fn accepted(alloc: Global, row: &mut Vec<Token>) -> Result<Vec<&'static str>, Al
     for candidate in &candidates {
         row.push(*candidate)?;
         if begins_text(alloc, row.as_slice())? {
-            wanted.push(written(candidate))?;
+            wanted.push(text_of(CANDIDATES, candidate))?;
         }
         let _last = row.pop();
     }
@@ -203,13 +196,19 @@ fn repeated_text<'a>(
 
 /// One that is wanted, by its name.
 fn named(alloc: Global, one: &str, is_number: bool) -> Result<String, AllocError> {
-    match one {
-        NAME => format!(in alloc; "a name"),
-        NUMBER if is_number => format!(in alloc; "a number of 1 or more"),
-        NUMBER => format!(in alloc; "a number"),
-        "''" => format!(in alloc; "a quoted text"),
-        sign => format!(in alloc; "`{sign}`"),
+    if one == NAME {
+        return format!(in alloc; "a name");
     }
+    if one == NUMBER && is_number {
+        return format!(in alloc; "a number of 1 or more");
+    }
+    if one == NUMBER {
+        return format!(in alloc; "a number");
+    }
+    if one == "''" {
+        return format!(in alloc; "a quoted text");
+    }
+    format!(in alloc; "`{one}`")
 }
 
 /// The names of groups.

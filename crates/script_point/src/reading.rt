@@ -1,5 +1,20 @@
 //! A text with its tokens, by their index.
 use sdl_lex::{Lexeme, Symbol, Token, Word, line_of};
+use std::str;
+
+/// A token of a text as it is written; nothing where it isn't there.
+pub fn text_of<'a>(text: &'a str, token: &Token) -> &'a str {
+    match text
+        .as_bytes()
+        .get(token.start as usize..token.end as usize)
+    {
+        None => "",
+        Some(bytes) => match str::from_utf8(bytes) {
+            Ok(text) => text,
+            Err(_) => "",
+        },
+    }
+}
 
 /// A text with its tokens.
 pub struct Reading<'a> {
@@ -11,10 +26,7 @@ impl<'a> Reading<'a> {
     /// A token as it is written; nothing where there is none.
     pub fn spelled(&self, index: usize) -> &'a str {
         match self.tokens.get(index) {
-            Some(token) => self
-                .text
-                .get(token.start as usize..token.end as usize)
-                .unwrap_or(""),
+            Some(token) => text_of(self.text, token),
             None => "",
         }
     }
