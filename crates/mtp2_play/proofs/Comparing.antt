@@ -38,8 +38,8 @@ compared one other d e status old between last new is_old is_new first second al
   alike = λ zero. record { old = d; new = e; is_old = is_old; is_new = is_new; holds = alike zero };
   differ = λ one. record { old = d; new = e; is_old = is_old; is_new = is_new; holds = differ one };
   printed = λ said.
-    let P : Option (List ℕ) → Type 0 = λ o. PrintsDifference o new d e in
-    record { old = d; new = e; is_old = is_old; is_new = is_new; holds = subst P (second ∙ first) (printed said) };
+      let P : Option (List ℕ) → Type 0 = λ o. PrintsDifference o new d e in
+      record { old = d; new = e; is_old = is_old; is_new = is_new; holds = subst P (second ∙ first) (printed said) };
   ends = elim ends [
     | inl zero ↦ inl zero
     | inr (inl one) ↦ inr (inl one)

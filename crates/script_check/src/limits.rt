@@ -52,7 +52,7 @@ fn counted(limit: Limit) -> &'static str {
 }
 
 /// What has a number of something, against the limit.
-fn over(
+fn told_over(
     alloc: Global,
     owner: &str,
     number: usize,
@@ -106,7 +106,7 @@ fn over_in_process(
         if number > most(limit) {
             let name = process.process().name.name;
             let place = place_in(process, limit);
-            return Ok(Some(over(alloc, name.as_str(), number, limit, place)?));
+            return Ok(Some(told_over(alloc, name.as_str(), number, limit, place)?));
         }
     }
     Ok(None)
@@ -118,7 +118,7 @@ fn over_in_signal(alloc: Global, rows: &[&SignalDeclaration]) -> Result<Option<O
         let number = row.parameters.len();
         if number > most(Limit::Params) {
             let name = row.name.name;
-            return Ok(Some(over(alloc, name.as_str(), number, Limit::Params, row.name.at)?));
+            return Ok(Some(told_over(alloc, name.as_str(), number, Limit::Params, row.name.at)?));
         }
     }
     Ok(None)
@@ -133,7 +133,7 @@ fn over_in_block(
 ) -> Result<Option<Over>, AllocError> {
     let name = block.block().name;
     let place = place_of(names, most(limit), name.at);
-    Ok(Some(over(alloc, name.name.as_str(), names.len(), limit, place)?))
+    Ok(Some(told_over(alloc, name.name.as_str(), names.len(), limit, place)?))
 }
 
 /// How many transitions a process has: START's, and one for each input of each state.
@@ -157,10 +157,11 @@ fn over_in_all(alloc: Global, block: &BlockTable) -> Result<Option<Over>, AllocE
         }
         count = count.saturating_add(count_pieces(alloc, process)?);
     }
-    Ok(Some(over(alloc, name.name.as_str(), count, Limit::Pieces, place)?))
+    Ok(Some(told_over(alloc, name.name.as_str(), count, Limit::Pieces, place)?))
 }
 
 /// What transitions of a process are measured by.
+#[derive(Clone, Copy)]
 struct Measuring<'a, 'b> {
     block: &'a BlockTable<'b>,
     process: &'a ProcessTable<'b>,
@@ -236,7 +237,7 @@ impl Measuring<'_, '_> {
         if number <= most(self.limit) {
             return Ok(None);
         }
-        Ok(Some(over(alloc, title.as_str(), number, self.limit, place)?))
+        Ok(Some(told_over(alloc, title.as_str(), number, self.limit, place)?))
     }
 
     /// START, if its transition has too much of it.

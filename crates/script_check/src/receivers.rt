@@ -8,6 +8,7 @@ use sdl_tree::{Destination, Identifier, Output, Party, Stimulus};
 use std::alloc::{AllocError, Global};
 
 /// A signal that goes out, and from whom.
+#[derive(Clone, Copy)]
 struct Sent<'a, 'b> {
     block: &'a BlockTable<'b>,
     process: &'a ProcessTable<'b>,

@@ -78,7 +78,7 @@ fn governs(word: Word) -> bool {
 }
 
 /// The word that governs a token.
-fn governing(read: &Reading<'_>, index: usize) -> Option<Governing> {
+fn governing_word(read: &Reading<'_>, index: usize) -> Option<Governing> {
     let mut closed: usize = 0;
     let mut inside = false;
     for at in (0..index).rev() {
@@ -105,7 +105,7 @@ fn is_last(read: &Reading<'_>, index: usize) -> bool {
 
 /// What the name with an index stands for.
 pub fn class_of(read: &Reading<'_>, index: usize) -> Class {
-    let Some(Governing { word, inside }) = governing(read, index) else {
+    let Some(Governing { word, inside }) = governing_word(read, index) else {
         return Class::Variable;
     };
     match word {

@@ -17,6 +17,7 @@ pub fn text_of<'a>(text: &'a str, token: &Token) -> &'a str {
 }
 
 /// A text with its tokens.
+#[derive(Clone, Copy)]
 pub struct Reading<'a> {
     pub text: &'a str,
     pub tokens: &'a [Token],
