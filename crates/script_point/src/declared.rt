@@ -179,7 +179,7 @@ fn alike_at_end(one: &[u8], other: &[u8]) -> usize {
 fn is_near(one: &str, other: &str) -> bool {
     let longer = one.len().max(other.len());
     let shorter = one.len().min(other.len());
-    if shorter < 3 || longer - shorter > 1 {
+    if shorter < 3 || longer.saturating_sub(shorter) > 1 {
         return false;
     }
     let same = alike(one.as_bytes(), other.as_bytes()).saturating_add(alike_at_end(
