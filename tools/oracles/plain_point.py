@@ -18,6 +18,11 @@ def refusal(text):
     return None
 
 
+def ends(text, at):
+    """Where the token ends that begins at a place."""
+    return TOKEN.match(text + b" ", at).end()
+
+
 def points(name, text):
     """How the lines begin that point at the refusal of a text with this name: the first, the line itself, and the line of the carets."""
     try:
@@ -34,7 +39,7 @@ def points(name, text):
     if len(text) > LONGEST:
         return [head]
     end = (text + b"\n").find(b"\n", why.at)
-    last = why.at + 1 if fault.startswith("L") or not text else TOKEN.match(text + b" ", why.at).end()
+    last = why.at + 1 if fault.startswith("L") or not text else ends(text, why.at)
     width = max(1, len(text[why.at : min(last, end)].decode(errors="ignore")))
     margin = " " * len(line)
     blanks = "".join(it if it == "\t" else " " for it in before)
