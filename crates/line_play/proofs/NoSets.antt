@@ -1,9 +1,9 @@
 -- Why there is no terminal over a set.
 use Rattle.std.proofs.Common.{ℕ, List, Option}
 use Rattle.turn_code.specs.declared.draft.Draft.{Draft}
-use Rattle.link_term.specs.Opening.{IsRefusedOver}
-use Rattle.link_term.specs.declared.opening.OpenError.{OpenError}
-use Rattle.link_term.specs.declared.opening.OpenError.TheVariants.{NoName, NoMemory}
+use Rattle.script_terminal.specs.Opening.{IsRefusedOver}
+use Rattle.script_terminal.specs.link_term_types.opening.OpenError.{OpenError}
+use Rattle.script_terminal.specs.link_term_types.opening.OpenError.TheVariants.{NoName, NoMemory}
 use Rattle.script_check.specs.Checked.{IsGiven, IsSetOf, PrintsRefusal}
 use Rattle.script_terminal.specs.TermRuns.{PrintsLacking, LacksName}
 use Rattle.line_play.specs.Opening.{IsNoSet, by_fault, by_name}

@@ -5,6 +5,6 @@ pub mod Opening
 pub mod Told
 pub use Rattle.line_filter.specs.Filters
 pub use Rattle.line_filter.specs.declared as line_filter_types
-pub use Rattle.link_term.specs.Term
+pub use Rattle.script_terminal.specs.Term
 pub use Rattle.script_check.specs.Checked
 pub use Rattle.script_links.specs.Orders

@@ -1,6 +1,6 @@
 -- A signalling link terminal on a line.
 use Rattle.std.specs.Prelude.{◌≡◌}
-use Rattle.link_term.specs.Term.{Term}
+use Rattle.script_terminal.specs.Term.{Term}
 use Rattle.line_filter.specs.Acts.{Act}
 use Rattle.line_filter.specs.Speaking.{IsSilent}
 use Rattle.line_filter.specs.declared.desk.Desk.{Desk}

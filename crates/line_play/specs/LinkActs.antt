@@ -4,9 +4,9 @@ use Rattle.su_octets.specs.declared.units.Unit as units
 use Rattle.script_lines.specs.Words.{words_of}
 use Rattle.actor_machine.specs.declared.event.Event.TheVariants.{Advance}
 use Rattle.link_transceiver.specs.Reporting.{reported}
-use Rattle.link_term.specs.Machine.{offered, tidied, tick_refusal}
-use Rattle.link_term.specs.Term.{Term, with_processes, term_with_transceiver}
-use Rattle.link_term.specs.Hearing.{Heard}
+use Rattle.script_terminal.specs.Machine.{offered, tidied, tick_refusal}
+use Rattle.script_terminal.specs.Term.{Term, with_processes, term_with_transceiver}
+use Rattle.script_terminal.specs.Hearing.{Heard}
 use Rattle.script_links.specs.TermCommands.{PlainTermCommand}
 use Rattle.script_terminal.specs.TermAnswers.{next_of, behind_next, behind_clear, Answers}
 use Rattle.script_terminal.specs.Told.{report_text}

@@ -1,10 +1,10 @@
 -- A terminal over the set of a text.
 use Rattle.std.specs.Prelude.{ℕ, List, Option}
 use Rattle.turn_code.specs.declared.draft.Draft.{Draft}
-use Rattle.resend_store.specs.declared.messages.Mode.{Mode}
-use Rattle.resend_store.specs.declared.messages.RoundLimits.{RoundLimits}
-use Rattle.link_term.specs.Opening.{IsOverWithin}
-use Rattle.link_term.specs.Term.{Term}
+use Rattle.script_links.specs.resend_store_types.messages.Mode.{Mode}
+use Rattle.script_links.specs.resend_store_types.messages.RoundLimits.{RoundLimits}
+use Rattle.script_terminal.specs.Opening.{IsOverWithin}
+use Rattle.script_terminal.specs.Term.{Term}
 use Rattle.script_check.specs.Checked.{IsSetOf, PrintsRefusal}
 use Rattle.script_terminal.specs.TermRuns.{LacksName}
 

@@ -8,10 +8,9 @@ ghost use Rattle.line_play.specs.LinkActs.{link_acts, Hears, Passes, Tells, Obey
 use crate::commands::{is_question, line_command};
 use crate::texts::{answer_of, bad_line};
 use line_filter::{Answer, LineTerminal};
-use link_term::Terminal;
 use script_lines::words_in;
 use script_links::TermCommand;
-use script_terminal::{answer, report_text};
+use script_terminal::{Terminal, answer, report_text};
 use std::alloc::Global;
 use std::io::{self, ErrorKind};
 use su_octets::Unit;
@@ -96,6 +95,7 @@ impl LineTerminal for LinkEnd {
 
     fn unit_out(&mut self) -> io::Result<Option<Unit>> {
         let unit = self.terminal.unit_out()?;
+        let _cleared = self.terminal.obey_clear();
         Ok(unit)
     }
 

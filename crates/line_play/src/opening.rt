@@ -4,9 +4,9 @@ ghost use Rattle.script_check.specs.Checked.{given, IsGiven};
 ghost use Rattle.script_terminal.specs.TermRuns.{PrintsLacking};
 ghost use Rattle.line_play.specs.Opening.{IsNewOver, IsNoSet};
 
-use link_term::{Mode, OpenError, RoundLimits, Terminal};
 use plain_text::{FAILED, refuse};
 use script_check::{SetWord, load_set, write_refusal};
+use script_terminal::{Mode, OpenError, RoundLimits, Terminal};
 use std::alloc::Global;
 use std::io::{Read, Write};
 

@@ -6,8 +6,8 @@ ghost use Rattle.line_play.specs.Lines.{IsNewDesk, end_acts};
 
 use crate::link_end::LinkEnd;
 use line_filter::{Bits, Desk, Orders, Voice, run_line};
-use link_term::Terminal;
 use plain_text::{FAILED, HELD};
+use script_terminal::Terminal;
 use std::alloc::Global;
 use std::io::{Read, Write};
 

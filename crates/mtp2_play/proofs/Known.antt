@@ -1,5 +1,5 @@
 -- What holds of bytes of which something may be known holds of some bytes.
-use Rattle.std.proofs.Common.{◌≡◌, ℕ, Bool, inl, inr, List, Option, None, Some, rules}
+use Rattle.std.proofs.Common.{subst, ◌≡◌, ℕ, Bool, inl, inr, List, Option, None, Some, rules}
 use Rattle.script_check.specs.Checked.{given, IsGiven, PrintsCosts, PrintsRefusal}
 use Rattle.script_check.specs.declared.sets.SetWord.{SetWord}
 use Rattle.script_check.specs.declared.sets.SetWord.TheVariants.{Standard as standard_set, Q703 as q703_set, Monitors as monitors_set, Text}
@@ -71,11 +71,17 @@ turned_down known old new g = some_bytes known (IsTurnedDown old new) g
 
 -- ---- `play`: its script
 
-pub played : (usual : RoundLimits) (echo : Bool) (set script old new : Option (List ℕ)) → IsOnSet set script (IsPlayed usual echo old new) → IsOnSet set None (IsPlayed usual echo old new)
-played usual echo set script old new s = record { draft = s.draft; is_set = s.is_set; of_script = some_bytes script (IsPlayed usual echo old new s.draft) s.of_script }
+pub played : (usual wanted : RoundLimits) (echo : Bool) (set script old new : Option (List ℕ)) → usual ≡ wanted → IsOnSet set script (IsPlayed usual echo old new)
+    → IsOnSet set None (IsPlayed wanted echo old new)
+played usual wanted echo set script old new same s =
+    let Q : RoundLimits → Type 0 = λ l. IsOnSet set None (IsPlayed l echo old new) in
+    subst Q same (record { draft = s.draft; is_set = s.is_set; of_script = some_bytes script (IsPlayed usual echo old new s.draft) s.of_script })
 
-pub in_part : (usual : RoundLimits) (echo : Bool) (set script old new : Option (List ℕ)) → IsOnSet set script (IsPlayedInPart usual echo old new) → IsOnSet set None (IsPlayedInPart usual echo old new)
-in_part usual echo set script old new s = record { draft = s.draft; is_set = s.is_set; of_script = some_bytes script (IsPlayedInPart usual echo old new s.draft) s.of_script }
+pub in_part : (usual wanted : RoundLimits) (echo : Bool) (set script old new : Option (List ℕ)) → usual ≡ wanted → IsOnSet set script (IsPlayedInPart usual echo old new)
+    → IsOnSet set None (IsPlayedInPart wanted echo old new)
+in_part usual wanted echo set script old new same s =
+    let Q : RoundLimits → Type 0 = λ l. IsOnSet set None (IsPlayedInPart l echo old new) in
+    subst Q same (record { draft = s.draft; is_set = s.is_set; of_script = some_bytes script (IsPlayedInPart usual echo old new s.draft) s.of_script })
 
 not_run_in : (set script old new : Option (List ℕ)) → IsOnSet set script (IsNotRun old new) → IsOnSet set None (IsNotRun old new)
 not_run_in set script old new s = record { draft = s.draft; is_set = s.is_set; of_script = some_bytes script (IsNotRun old new s.draft) s.of_script }

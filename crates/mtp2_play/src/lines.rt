@@ -8,7 +8,7 @@ ghost use Rattle.mtp2_play.specs.Printed.{IsSpoken};
 use crate::running::run_line as run_on;
 use crate::sets::own_set;
 use line_play::SetWord;
-use mtp2_words::{LineEnd, Named, RoundLimits};
+use mtp2_words::{LineEnd, Named};
 use plain_text::{NamedReader, Teller};
 use script_check::FAILED;
 use std::fs::{self, File};
@@ -26,17 +26,17 @@ fn line_on<
 >(
     host: &H,
     teller: &Teller<'_, H>,
-    usual: RoundLimits,
+    named: &Named<'_>,
     end: &LineEnd<'_>,
     set: SetWord<S>,
     reader: &mut R,
     writer: &mut W,
 ) -> u8
-    ensures { IsSpoken (given S.remaining set) usual end.now result
+    ensures { IsSpoken (given S.remaining set) (usual_limits_of named.now) end.now result
         (record { read = R.remaining reader.old; written = W.contents writer.old })
         (record { read = R.remaining reader.new; written = W.contents writer.new }) }
 {
-    run_on(host, teller, usual, end, set, reader, writer)
+    run_on(host, teller, named, end, set, reader, writer)
 }
 
 /// Has a terminal over a set whose text comes from a reader speak on a line.
@@ -48,20 +48,20 @@ fn line_text<
 >(
     host: &H,
     teller: &Teller<'_, H>,
-    usual: RoundLimits,
+    named: &Named<'_>,
     end: &LineEnd<'_>,
     text: S,
     reader: &mut R,
     writer: &mut W,
 ) -> u8
-    ensures { IsSpoken None usual end.now result
+    ensures { IsSpoken None (usual_limits_of named.now) end.now result
         (record { read = R.remaining reader.old; written = W.contents writer.old })
         (record { read = R.remaining reader.new; written = W.contents writer.new }) }
 {
     line_on(
         host,
         teller,
-        usual,
+        named,
         end,
         SetWord::Text(text),
         reader,
@@ -83,7 +83,7 @@ fn line_own<H: Files<File = File> + Threads + Eprint + Clock + AllocGlobal, R: R
         (record { read = R.remaining reader.new; written = W.contents writer.new }) }
 {
     match own_set(set) {
-        Some(own) => line_on(host, teller, set.usual_limits(), end, own, reader, writer),
+        Some(own) => line_on(host, teller, set, end, own, reader, writer),
         None => FAILED,
     }
 }
@@ -107,7 +107,7 @@ pub fn run_line<H: Files<File = File> + Threads + Eprint + Clock + AllocGlobal, 
         Named::File(path) => match fs::open(host, path) {
             Ok(file) => {
                 let text = NamedReader::new(teller, path, file);
-                line_text(host, teller, set.usual_limits(), end, text, reader, writer)
+                line_text(host, teller, set, end, text, reader, writer)
             }
             Err(error) => teller.fail(path, &error),
         },

@@ -7,6 +7,7 @@ ghost use Rattle.clap.specs.Words.{kind_of};
 ghost use Rattle.clap.specs.declared.error.kind.ErrorKind.TheVariants.{OutOfMemory};
 ghost use Rattle.script_check.specs.Checked.{given};
 ghost use Rattle.script_play.specs.Played.{IsOnSet, IsPlayed, IsPlayedInPart, IsRefused};
+ghost use Rattle.mtp2_words.specs.Limits.{usual_limits_of};
 ghost use Rattle.mtp2_play.specs.Printed.{IsAnswered, IsFault, IsPlayedOn, IsServed, IsStatus};
 ghost use Rattle.mtp2_play.specs.Served.{ComesTo, WasAnswered};
 
@@ -28,7 +29,7 @@ use crate::sets::{STDIN, own_set, set_word};
 use crate::texts::print_own;
 use line_streams::{Plan, open_records, tap};
 use mtp2_frame::frame;
-use mtp2_words::{Error, ErrorKind, Named, Request, RoundLimits, Seeing, Source, read};
+use mtp2_words::{Error, ErrorKind, Named, Request, Seeing, Source, read};
 use plain_text::{NamedReader, Teller};
 use pool_soak::soak;
 use script_check::{FAILED, HELD, SetWord, USAGE};
@@ -91,17 +92,18 @@ fn play_on<H: Eprint, S: Read + Drop, T: Read + Drop, W: Write>(
     alloc: Global,
     teller: &Teller<'_, H>,
     set: SetWord<S>,
-    usual: RoundLimits,
+    named: &Named<'_>,
     name: &str,
     script: T,
     echo: bool,
     writer: &mut W,
 ) -> u8
-    ensures held { result ≡ 0 → IsOnSet (given S.remaining set) None (IsPlayed usual echo (W.contents writer.old) (W.contents writer.new)) }
-    ensures missed { result ≡ 1 → IsOnSet (given S.remaining set) None (IsPlayedInPart usual echo (W.contents writer.old) (W.contents writer.new)) }
+    ensures held { result ≡ 0 → IsOnSet (given S.remaining set) None (IsPlayed (usual_limits_of named.now) echo (W.contents writer.old) (W.contents writer.new)) }
+    ensures missed { result ≡ 1 → IsOnSet (given S.remaining set) None (IsPlayedInPart (usual_limits_of named.now) echo (W.contents writer.old) (W.contents writer.new)) }
     ensures refused { result ≡ 2 → IsRefused (given S.remaining set) None (W.contents writer.old) (W.contents writer.new) }
     ensures status { (result ≡ 0) ⊎ (result ≡ 1) ⊎ (result ≡ 2) ⊎ (result ≡ 4) }
 {
+    let usual = named.usual_limits();
     play(
         alloc,
         set,
@@ -119,28 +121,28 @@ fn play_source<R: Runtime + AllocGlobal, H: Eprint, S: Read + Drop, W: Write>(
     rt: &R,
     teller: &Teller<'_, H>,
     set: SetWord<S>,
-    usual: RoundLimits,
+    named: &Named<'_>,
     name: &str,
     script: Source<'_>,
     echo: bool,
     writer: &mut W,
 ) -> u8
-    ensures held { result ≡ 0 → IsOnSet (given S.remaining set) None (IsPlayed usual echo (W.contents writer.old) (W.contents writer.new)) }
-    ensures missed { result ≡ 1 → IsOnSet (given S.remaining set) None (IsPlayedInPart usual echo (W.contents writer.old) (W.contents writer.new)) }
+    ensures held { result ≡ 0 → IsOnSet (given S.remaining set) None (IsPlayed (usual_limits_of named.now) echo (W.contents writer.old) (W.contents writer.new)) }
+    ensures missed { result ≡ 1 → IsOnSet (given S.remaining set) None (IsPlayedInPart (usual_limits_of named.now) echo (W.contents writer.old) (W.contents writer.new)) }
     ensures refused { result ≡ 2 → IsRefused (given S.remaining set) None (W.contents writer.old) (W.contents writer.new) }
     ensures status { (result ≡ 0) ⊎ (result ≡ 1) ⊎ (result ≡ 2) ⊎ (result ≡ 4) }
 {
     match script {
         Source::Stdin => {
             let script = NamedReader::new(teller, STDIN, rt.reader());
-            play_on(rt.alloc(), teller, set, usual, name, script, echo, writer)
+            play_on(rt.alloc(), teller, set, named, name, script, echo, writer)
         }
         Source::File(path) => match fs::open(rt, path) {
             Ok(file) => play_on(
                 rt.alloc(),
                 teller,
                 set,
-                usual,
+                named,
                 name,
                 NamedReader::new(teller, path, file),
                 echo,
@@ -163,9 +165,8 @@ fn play_own<R: Runtime + AllocGlobal, H: Eprint, W: Write>(
     ensures printed { IsPlayedOn set.entry echo result (W.contents writer.old) (W.contents writer.new) }
     ensures status { (result ≡ 0) ⊎ (result ≡ 1) ⊎ (result ≡ 2) ⊎ (result ≡ 4) }
 {
-    let usual = set.usual_limits();
     match own_set(&set) {
-        Some(own) => play_source(rt, teller, own, usual, set_word(&set), script, echo, writer),
+        Some(own) => play_source(rt, teller, own, &set, set_word(&set), script, echo, writer),
         None => FAILED,
     }
 }
@@ -175,15 +176,15 @@ fn play_own<R: Runtime + AllocGlobal, H: Eprint, W: Write>(
 fn play_text<R: Runtime + AllocGlobal, H: Eprint, S: Read + Drop, W: Write>(
     rt: &R,
     teller: &Teller<'_, H>,
-    usual: RoundLimits,
+    named: &Named<'_>,
     name: &str,
     text: S,
     script: Source<'_>,
     echo: bool,
     writer: &mut W,
 ) -> u8
-    ensures held { result ≡ 0 → IsOnSet None None (IsPlayed usual echo (W.contents writer.old) (W.contents writer.new)) }
-    ensures missed { result ≡ 1 → IsOnSet None None (IsPlayedInPart usual echo (W.contents writer.old) (W.contents writer.new)) }
+    ensures held { result ≡ 0 → IsOnSet None None (IsPlayed (usual_limits_of named.now) echo (W.contents writer.old) (W.contents writer.new)) }
+    ensures missed { result ≡ 1 → IsOnSet None None (IsPlayedInPart (usual_limits_of named.now) echo (W.contents writer.old) (W.contents writer.new)) }
     ensures refused { result ≡ 2 → IsRefused None None (W.contents writer.old) (W.contents writer.new) }
     ensures status { (result ≡ 0) ⊎ (result ≡ 1) ⊎ (result ≡ 2) ⊎ (result ≡ 4) }
 {
@@ -191,7 +192,7 @@ fn play_text<R: Runtime + AllocGlobal, H: Eprint, S: Read + Drop, W: Write>(
         rt,
         teller,
         SetWord::Text(text),
-        usual,
+        named,
         name,
         script,
         echo,
@@ -213,28 +214,18 @@ fn run_play<R: Runtime + AllocGlobal, H: Eprint, W: Write>(
     ensures status { (result ≡ 0) ⊎ (result ≡ 1) ⊎ (result ≡ 2) ⊎ (result ≡ 4) }
 {
     let echo = seen.echo;
-    let usual = set.usual_limits();
     match set {
         Named::Standard | Named::Q703 | Named::Monitors => play_own(
             rt, teller, set, script, echo, writer,
         ),
         Named::Stdin => {
             let text = NamedReader::new(teller, STDIN, rt.reader());
-            play_text(
-                rt,
-                teller,
-                usual,
-                set_word(&set),
-                text,
-                script,
-                echo,
-                writer,
-            )
+            play_text(rt, teller, &set, set_word(&set), text, script, echo, writer)
         }
         Named::File(path) => match fs::open(rt, path) {
             Ok(file) => {
                 let text = NamedReader::new(teller, path, file);
-                play_text(rt, teller, usual, path, text, script, echo, writer)
+                play_text(rt, teller, &set, path, text, script, echo, writer)
             }
             Err(error) => teller.fail(path, &error),
         },

@@ -2,12 +2,12 @@
 use Rattle.std.specs.Prelude.{ℕ, List, Option, Some, None, option_map, option_and_then}
 use Rattle.std.specs.Int.{is_in_range}
 use Rattle.std.specs.Prelude.{if◌then◌else◌}
-use Rattle.resend_store.specs.Limits.{N1, N2, LEAST_N2}
-use Rattle.resend_store.specs.Messages.{usual_limits}
-use Rattle.resend_store.specs.declared.messages.Mode.{Mode}
-use Rattle.resend_store.specs.declared.messages.Mode.TheVariants.{Basic, Cyclic}
-use Rattle.resend_store.specs.declared.messages.RoundLimits.{RoundLimits}
-use Rattle.script_lines.specs.Numbers.{count_of}
+use Rattle.script_links.specs.Limits.{N1, N2, LEAST_N2}
+use Rattle.script_links.specs.Messages.{usual_limits}
+use Rattle.script_links.specs.resend_store_types.messages.Mode.{Mode}
+use Rattle.script_links.specs.resend_store_types.messages.Mode.TheVariants.{Basic, Cyclic}
+use Rattle.script_links.specs.resend_store_types.messages.RoundLimits.{RoundLimits}
+use Rattle.script_links.specs.Numbers.{count_of}
 use Rattle.mtp2_words.specs.declared.words.Named.{Named}
 use Rattle.mtp2_words.specs.declared.words.Named.TheVariants.{Standard, Q703, Monitors, Stdin, File}
 

@@ -5,9 +5,7 @@ ghost use Rattle.mtp2_words.specs.Ends.{bits_named, bits_of, ahead_named, ahead_
 
 use crate::limits::{messages_of, octets_of};
 use line_filter::{Bits, MOST_AHEAD};
-use resend_store::{Mode, RoundLimits};
-use script_lines::count;
-use script_links::mode_named;
+use script_links::{Mode, RoundLimits, count, mode_named};
 
 /// One end of a link on a line.
 #[derive(Clone, Copy, PartialEq, Eq, Debug)]

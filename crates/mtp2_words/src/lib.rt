@@ -12,6 +12,6 @@ mod words;
 pub use clap::Error;
 pub use clap::error::ErrorKind;
 pub use ends::{LineEnd, LineWords, line_end};
-pub use resend_store::RoundLimits;
+pub use script_links::RoundLimits;
 pub use seeing::Seeing;
 pub use words::{Named, Request, Source, read};

@@ -3,7 +3,7 @@ ghost use Rattle.std.specs.Prelude.{◌≡◌, ◌↔◌, IsTrue};
 ghost use Rattle.mtp2_words.specs.Words.{workers_of, AreStdin};
 
 use clap::ArgMatches;
-use script_lines::count;
+use script_links::count;
 
 /// Whether two words both name standard input.
 pub(crate) fn are_stdin(set: &str, script: &str) -> bool

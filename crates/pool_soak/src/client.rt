@@ -1,5 +1,8 @@
 //! The client that does what a script says.
 
+ghost use Rattle.std.specs.Prelude.{◌≡◌, ◌<◌, ◌+◌, ◌++◌, ◌∷◌, [], vec_len, vec_capacity};
+ghost use Rattle.pool_soak.specs.Receipts.{AddsReceipt, IsOffered, HasPassed};
+
 use crate::script::Step;
 use script_lines::{Offer, actor_called};
 use std::sync::Wait;
@@ -35,18 +38,23 @@ pub struct Script<'a> {
 
 impl Script<'_> {
     /// Keeps a receipt. There is room for one of each step.
-    fn keep(&mut self, receipt: Receipt) {
+    fn keep(&mut self, receipt: Receipt)
+        ensures { vec_len self.old.receipts < vec_capacity self.old.receipts → self.new.receipts.items ≡ self.old.receipts.items ++ receipt ∷ [] }
+    {
         let _kept = self.receipts.push(receipt);
     }
 
-    /// The environment offers a signal on a link. Where a name is unknown, or the pool refuses it, there is no receipt.
+    /// The environment offers a signal on a link. Where a name is unknown, or the pool refuses it, there is no receipt, and else that of what was taken.
     fn offer<R: Wait, L: Ledger>(
         &mut self,
         pool: &Pool<'_, R, L>,
         seat: &mut Seat<L>,
         link: usize,
         offer: &Offer<'_>,
-    ) {
+    )
+        ensures { vec_len self.old.receipts < vec_capacity self.old.receipts
+            → AddsReceipt (IsOffered self.old.set.now link offer.now) self.old.receipts.items seat.old self.new.receipts.items seat.new }
+    {
         let Some(actor) = actor_called(self.set, offer.process) else {
             return;
         };
@@ -58,14 +66,17 @@ impl Script<'_> {
         }
     }
 
-    /// Time passes on a link.
+    /// Time passes on a link: the same.
     fn tick<R: Wait, L: Ledger>(
         &mut self,
         pool: &Pool<'_, R, L>,
         seat: &mut Seat<L>,
         link: usize,
         ticks: u32,
-    ) {
+    )
+        ensures { vec_len self.old.receipts < vec_capacity self.old.receipts
+            → AddsReceipt (HasPassed link ticks) self.old.receipts.items seat.old self.new.receipts.items seat.new }
+    {
         if let Ok((_, receipt)) = pool.advance(link, u64::from(ticks), seat) {
             self.keep(receipt);
         }

@@ -20,7 +20,6 @@ IsEmpty t = (window_of t).kept ≡ []
 
 -- nor does one that is new
 unused : (d : Draft) (limits : RoundLimits) (mode : Mode) (t : Term) → IsOverWithin d limits mode t → IsEmpty t
-unfolding first_within
 unused d limits mode t new = ap (λ s. s.sender.kept) new.transceiver
 
 pub all_unused : (d : Draft) (limits : RoundLimits) (head : GroupHead) (ts : List Term) → AreNew d limits head ts → All IsEmpty ts

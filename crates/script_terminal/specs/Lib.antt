@@ -2,7 +2,9 @@ pub mod TermAnswers
 pub mod TermRuns
 pub mod Told
 pub mod UnitLines
+pub use Rattle.link_term.specs.Hearing
 pub use Rattle.link_term.specs.Kept
+pub use Rattle.link_term.specs.Machine
 pub use Rattle.link_term.specs.Opening
 pub use Rattle.link_term.specs.Term
 pub use Rattle.link_term.specs.Wanted

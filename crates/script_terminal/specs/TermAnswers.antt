@@ -111,11 +111,14 @@ abbrev pub without_reports : Term → Term
 without_reports t =
     term_with_transceiver t (record t.processes.transceiver { messages = []; statuses = [] })
 
+-- as many messages wait as may
+abbrev pub IsFull : Term → Type 0
+IsFull t = KEPT_MESSAGES ≤ length t.processes.transceiver.messages
+
 -- why a terminal takes no further octet: as many messages wait as may, or there is no memory to
 -- make room in the journal
 abbrev pub TakesNoMore : Term → Type 0
-TakesNoMore t =
-    (KEPT_MESSAGES ≤ length t.processes.transceiver.messages) ⊎ (is_low t.processes ≡ true)
+TakesNoMore t = IsFull t ⊎ (is_low t.processes ≡ true)
 
 -- Octets of the line come in, part after part, and behind each part all reports are taken out. A
 -- part has all that is left, or ends where the terminal takes no more.
@@ -125,12 +128,12 @@ pub data Listens : Term → List ℕ → Term → Type 0 where
       → ((more ≡ [] → ⊥) → TakesNoMore m)
       → Listens (without_reports m) more u → Listens t (first ∷ (octets ++ more)) u
 
--- Octets of the line come in, and what is told is kept. Only where the terminal takes no more what
--- waits is dropped, and then the other octets come in so.
+-- Octets of the line come in, and what is told is kept. Only where octets are left and as many
+-- messages wait as may, what waits is dropped, and then the other octets come in so.
 pub data Hears : Term → List ℕ → Term → Type 0 where
   heard_all : (t u : Term) (octets : List ℕ) → Heard t octets u → Hears t octets u
-  in_parts : (t m u : Term) (octets more : List ℕ) → Heard t octets m → TakesNoMore m
-      → Hears (without_reports m) more u → Hears t (octets ++ more) u
+  in_parts : (t m u : Term) (octets more : List ℕ) → Heard t octets m → (more ≡ [] → ⊥)
+      → IsFull m → Hears (without_reports m) more u → Hears t (octets ++ more) u
 
 -- whether what is told is kept
 abbrev pub Takes : Bool → Term → List ℕ → Term → Type 0
@@ -190,12 +193,17 @@ pub data Retrieves (behind : Option ℕ) (t : Term) : List ℕ → Term → Type
 
 -- ---- units that go out
 
--- the unit that goes out next, if one does, and the terminal behind it
+-- the buffers are emptied, where the text asked for that
+abbrev pub behind_clear : Term → Term
+behind_clear t = with_processes t (clear_obeyed t.processes)
+
+-- The unit that goes out next, if one does, and the terminal behind it: its buffers are emptied
+-- where the text asked for that.
 abbrev pub next_of : Term → Sent
 next_of t = sent (tidied t.processes)
 
 abbrev pub behind_next : Term → Term
-behind_next t = with_processes t (next_of t).processes
+behind_next t = behind_clear (with_processes t (next_of t).processes)
 
 abbrev pub unit_line : Option su.Unit → List ℕ
 unit_line None = codes "silent"
@@ -232,10 +240,6 @@ Does keeps (state process) t text u =
 Does keeps (shown process variable) t text u =
     (text ≡ value_line t.processes.book variable (actor_named t.processes.book process)) × (u ≡ t)
 Does keeps (expected text) t said u = (said ≡ []) × (u ≡ t)
-
--- the buffers are emptied, where the text asked for that
-abbrev pub behind_clear : Term → Term
-behind_clear t = with_processes t (clear_obeyed t.processes)
 
 -- a command was done, and the buffers emptied behind it where the text asked for that
 pub record Answers (keeps : Bool) (c : PlainTermCommand) (t : Term) (text : List ℕ) (u : Term) :

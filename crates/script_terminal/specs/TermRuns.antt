@@ -3,6 +3,7 @@ use Rattle.std.specs.Prelude.{◌≡◌, ℕ, Bool, List, [], ◌∷◌, ◌++�
 use Rattle.std.specs.List.{flat_map}
 use Rattle.std.specs.Io.KnownBytes.{Appends}
 use Rattle.turn_code.specs.declared.draft.Draft.{Draft}
+use Rattle.resend_store.specs.declared.messages.Mode.{Mode}
 use Rattle.resend_store.specs.declared.messages.RoundLimits.{RoundLimits}
 use Rattle.link_term.specs.Term.{Term}
 use Rattle.link_term.specs.Opening.{IsOverWithin}
@@ -95,12 +96,16 @@ abbrev pub IsTermFailed :
     List PlainTermSaid → Option (List ℕ) → Option (List ℕ) → Term → Type 0
 IsTermFailed commands old new first = IsTermMissed (asks_told commands) commands old new first
 
+-- a terminal over the set is new, with this error correction and these limits
+abbrev pub IsNewWithin : Draft → Mode → Term → RoundLimits → Type 0
+IsNewWithin d mode t limits = IsOverWithin d limits mode t
+
 -- P holds of a terminal over the set that is new, with the error correction of a script's first
 -- line, and with the limits that it chooses or these
 pub record IsOfNew (d : Draft) (usual : RoundLimits) (head : TermHead) (P : Term → Type 0) :
     Type 0 where
   pub terminal : Term
-  pub is_new : IsOverWithin d (limits_over usual head.limits) head.mode terminal
+  pub is_new : IsNewWithin d head.mode terminal (limits_over usual head.limits)
   pub holds : P terminal
 
 -- ---- no terminal

@@ -1,3 +1,4 @@
+pub mod FirstFaults
 pub mod NameLists
 pub mod Sorting
 pub mod Whole

@@ -1,10 +1,12 @@
 pub mod Answered
 pub mod Certified
+pub mod Earliest
 pub mod Faults
 pub mod Named
 pub mod Printed
 pub mod Sorted
 pub mod Walk
+pub use Rattle.turn_rules.specs.First
 pub use Rattle.turn_rules.specs.Seen
 pub use Rattle.turn_words.specs.Bare
 pub use Rattle.turn_words.specs.Limits

@@ -6,6 +6,7 @@ ghost use Rattle.turn_rules.specs.Seen.{seen};
 ghost use Rattle.turn_code.specs.Valid.{IsValid};
 ghost use Rattle.turn_code.specs.declared.draft.DraftProcess.{DraftProcess as PlainProcess};
 ghost use Rattle.turn_words.specs.Sorts.{AreSortsOf};
+ghost use Rattle.turn_check.specs.Earliest.{IsFirstFault};
 ghost use Rattle.turn_check.specs.Faults.{IsBroken};
 ghost use Rattle.turn_check.specs.Sorted.{AreVariableBits};
 ghost use Rattle.turn_words.specs.Limits.{MOST_PROCESSES, MOST_VARIABLES};
@@ -40,11 +41,12 @@ impl Model for Verified {
     ghost invariant = { λ v. IsSorted v.draft v.parameters v.variables };
 }
 
-/// Checks a draft against rules V1 to V9, and keeps it where none is broken. It takes no memory.
+/// Checks a draft against rules V1 to V9, and keeps it where none is broken; else it tells the first that is broken. It takes no memory.
 pub fn verify(draft: Draft) -> Result<Verified, VerifyFault>
     ensures value { IfOk result (λ v. v ≡ draft) }
     ensures exact { IsOk result ↔ IsValid draft }
     ensures refused { IfErr result (λ e. IsBroken draft e) }
+    ensures first { IfErr result (λ e. IsFirstFault draft e) }
 {
     match check_draft(&draft) {
         Ok(()) => Ok(sorted(draft)),

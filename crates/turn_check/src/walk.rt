@@ -7,6 +7,7 @@ ghost use Rattle.turn_code.specs.Valid.{IsValid};
 ghost use Rattle.turn_code.specs.declared.input.Place.TheVariants.{Start, State};
 ghost use Rattle.turn_rules.specs.Seen.{seen};
 ghost use Rattle.turn_check.specs.Faults.{IsBroken};
+ghost use Rattle.turn_check.specs.Earliest.{IsFirstFault, IsFirstAt, IsFirstOfState, IsFirstOfProcess};
 ghost use Rattle.turn_check.specs.Walk.{IsValidAt, IsValidState, IsValidProcess};
 ghost use Rattle.turn_words.specs.Limits.{MOST_VARIABLES};
 
@@ -22,6 +23,7 @@ use turn_rules::{
 pub(crate) fn check_draft(draft: &Draft) -> Result<(), VerifyFault>
     ensures ok { IfOk result (λ _. IsValid draft.now) }
     ensures err { IfErr result (λ e. IsBroken draft.now e) }
+    ensures first { IfErr result (λ e. IsFirstFault draft.now e) }
 {
     if keeps_set_limits(draft) {
         check_processes(&IndexedDraft::new(draft))
@@ -40,6 +42,7 @@ fn check_processes(draft: &IndexedDraft<'_>) -> Result<(), VerifyFault>
     requires { KeepsSetLimits draft.now }
     ensures ok { IfOk result (λ _. IsValid draft.now) }
     ensures err { IfErr result (λ e. IsBroken draft.now e) }
+    ensures first { IfErr result (λ e. IsFirstFault draft.now e) }
 {
     for number in 0..draft.plain().processes.len() {
         check_process_at(draft, ProcessNumber(number as u8))?;
@@ -52,6 +55,7 @@ fn check_process_at(draft: &IndexedDraft<'_>, number: ProcessNumber) -> Result<(
     requires set_limits { KeepsSetLimits draft.now }
     ensures ok { IfOk result (λ _. IsValidProcess draft.now number.0) }
     ensures err { IfErr result (λ e. IsBroken draft.now e) }
+    ensures first { IfErr result (λ e. IsFirstOfProcess draft.now number.0 e) }
 {
     match draft
         .plain()
@@ -74,6 +78,7 @@ fn check_process(
     requires process { slice_get draft.now.processes number.0 ≡ Some process.now }
     ensures ok { IfOk result (λ _. IsValidProcess draft.now number.0) }
     ensures err { IfErr result (λ e. IsBroken draft.now e) }
+    ensures first { IfErr result (λ e. IsFirstOfProcess draft.now number.0 e) }
 {
     check_start(draft, number, process)?;
     check_states(draft, number, process)
@@ -91,6 +96,7 @@ fn check_states(
     requires start { IsValidState draft.now number.0 Start }
     ensures ok { IfOk result (λ _. IsValidProcess draft.now number.0) }
     ensures err { IfErr result (λ e. IsBroken draft.now e) }
+    ensures first { IfErr result (λ e. IsFirstOfProcess draft.now number.0 e) }
 {
     for place in 0..process.states.len() {
         check_state_at(draft, number, process, StateNumber(place as u8))?;
@@ -110,6 +116,7 @@ fn check_state_at(
     requires limits { KeepsProcessLimits process.now }
     ensures ok { IfOk result (λ _. IsValidState draft.now number.0 (State place)) }
     ensures err { IfErr result (λ e. IsBroken draft.now e) }
+    ensures first { IfErr result (λ e. IsFirstOfState draft.now number.0 (State place) e) }
 {
     match process.states.as_slice().get(usize::from(place.0)) {
         Some(state) => check_state(draft, number, process, place, state),
@@ -128,6 +135,7 @@ fn check_start(
     ensures ok { IfOk result (λ _. IsValidState draft.now number.0 Start) }
     ensures limits { IfOk result (λ _. KeepsProcessLimits process.now) }
     ensures err { IfErr result (λ e. IsBroken draft.now e) }
+    ensures first { IfErr result (λ e. IsFirstOfState draft.now number.0 Start e) }
 {
     let state = Place::Start;
     if !process_keeps_limits(process) {
@@ -167,6 +175,7 @@ fn check_state(
     requires variables { length process.now.variables ≤ MOST_VARIABLES }
     ensures ok { IfOk result (λ _. IsValidState draft.now number.0 (State place)) }
     ensures err { IfErr result (λ e. IsBroken draft.now e) }
+    ensures first { IfErr result (λ e. IsFirstOfState draft.now number.0 (State place) e) }
 {
     for input in 0..state.inputs.len() {
         check_input_at(draft, number, process, place, state, input)?;
@@ -189,6 +198,7 @@ fn check_input_at(
     requires variables { length process.now.variables ≤ MOST_VARIABLES }
     ensures ok { IfOk result (λ _. IsValidAt draft.now number.0 (State place) input) }
     ensures err { IfErr result (λ e. IsBroken draft.now e) }
+    ensures first { IfErr result (λ e. IsFirstAt draft.now number.0 (State place) input e) }
 {
     match state.inputs.as_slice().get(input) {
         Some(found) => {
@@ -218,6 +228,7 @@ fn check_input(
     requires variables { length transition.now.process.now.variables ≤ MOST_VARIABLES }
     ensures ok { IfOk result (λ _. IsValidAt draft.now number.0 (State place) input) }
     ensures err { IfErr result (λ e. IsBroken draft.now e) }
+    ensures first { IfErr result (λ e. IsFirstAt draft.now number.0 (State place) input e) }
 {
     match check_transition(draft, transition) {
         Ok(()) => Ok(()),

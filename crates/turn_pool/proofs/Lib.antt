@@ -1,5 +1,6 @@
 pub mod Asks
 pub mod Calls
+pub mod Counting
 pub mod Finishes
 pub mod Naming
 pub mod Standing

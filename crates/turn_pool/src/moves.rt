@@ -3,6 +3,7 @@
 ghost use Rattle.std.specs.Prelude.{◌≡◌, ◌+◌};
 ghost use Rattle.actor_machine.specs.Ledger.{next};
 ghost use Rattle.turn_pool.specs.Moves.{Moves};
+ghost use Rattle.turn_pool.specs.Steps.{events_of};
 
 use crate::slot::Slot;
 use crate::totals::{Seat, Totals};
@@ -49,6 +50,7 @@ pub fn work<L: Ledger>(
     ensures moves { Moves slot.old.book room.old step result slot.new.book room.new }
     ensures link { slot.new.number ≡ slot.old.number }
     ensures seat { seat.new + next slot.old.book ≡ seat.old + next slot.new.book }
+    ensures counted { seat.new ≡ seat.old + events_of result }
 {
     match step {
         Move::Begin(actor) => Moved::Begun(slot.begin(seat, totals, room, actor)),

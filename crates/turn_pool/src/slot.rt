@@ -8,6 +8,7 @@ ghost use Rattle.actor_machine.specs.declared.event.Event.TheVariants.{Offer as 
 ghost use Rattle.actor_machine.specs.declared.reply.Reply.TheVariants as reply;
 ghost use Rattle.actor_book.specs.Answered.{answer_by};
 ghost use Rattle.turn_pool.specs.Moves.{BeginsIn, Skips, FinishesIn, WholeTurn};
+ghost use Rattle.turn_pool.specs.Steps.{made};
 
 use crate::receipt::Receipt;
 use crate::totals::{Seat, Totals};
@@ -203,6 +204,7 @@ impl<L: Ledger> Slot<L> {
         ensures begins { BeginsIn self.old.book room.old actor result self.new.book room.new }
         ensures link { self.new.number ≡ self.old.number }
         ensures seat { seat.new + next self.old.book ≡ seat.old + next self.new.book }
+        ensures counted { seat.new ≡ seat.old + made result 1 }
     {
         let _place = self.book.next();
         self.book.begin_in(room, actor)?;
@@ -220,6 +222,7 @@ impl<L: Ledger> Slot<L> {
         ensures skips { Skips self.old.book actor result self.new.book }
         ensures link { self.new.number ≡ self.old.number }
         ensures seat { seat.new + next self.old.book ≡ seat.old + next self.new.book }
+        ensures counted { seat.new ≡ seat.old + made result 1 }
     {
         let _place = self.book.next();
         let trigger = self.book.skip(actor)?;
@@ -237,6 +240,7 @@ impl<L: Ledger> Slot<L> {
         ensures finishes { FinishesIn self.old.book room.old result self.new.book room.new }
         ensures link { self.new.number ≡ self.old.number }
         ensures seat { seat.new + next self.old.book ≡ seat.old + next self.new.book }
+        ensures counted { seat.new ≡ seat.old + made result 1 }
     {
         let _place = self.book.next();
         let report = self.book.finish_in(room)?;
@@ -254,6 +258,7 @@ impl<L: Ledger> Slot<L> {
         ensures turns { WholeTurn self.old.book actor result self.new.book }
         ensures link { self.new.number ≡ self.old.number }
         ensures seat { seat.new + next self.old.book ≡ seat.old + next self.new.book }
+        ensures counted { seat.new ≡ seat.old + made result 2 }
     {
         let report = self.book.turn(actor)?;
         let _place = self.book.next();

@@ -1,8 +1,10 @@
 //! Workers.
 
-ghost use Rattle.std.specs.Prelude.{◌≡◌, IfSome, IfNone};
-ghost use Rattle.turn_machine.specs.Rooms.{Free, HasRun, IsToRun};
+ghost use Rattle.std.specs.Prelude.{◌≡◌, ◌≤◌, ◌+◌, ◌*◌, IfSome, IfNone, vec_len};
+ghost use Rattle.turn_machine.specs.Rooms.{Free, HasRun, IsToRun, ran};
 ghost use Rattle.turn_pool.specs.Moves.{Moves};
+ghost use Rattle.turn_pool.specs.declared.moves.Move.TheVariants.{Finish};
+ghost use Rattle.turn_pool.specs.Steps.{made, events_of, is_step, HasCounted, CountsEnd, IsHanded};
 ghost use Rattle.turn_pool.specs.Turns.{move_by, IsStepBy, IsAnswerBy, IsNext, told_of, told_there, told, NamesBegun, IsNamed, NoneToRun, LeavesToRun};
 
 use crate::gate::{Gate, JobName};
@@ -112,6 +114,7 @@ fn step_on<L: Ledger>(
     ensures moves { Moves slot.old.book room.old step result.0 slot.new.book room.new }
     ensures value { result.1 ≡ told link slot.new.book room.new result.0 }
     ensures named { IsNamed result.0 result.1 }
+    ensures counted { seat.new ≡ seat.old + events_of result.0 }
 {
     let moved = work(slot, seat, totals, room, step);
     let name = name_in(link, slot.book(), room, &moved);
@@ -133,6 +136,7 @@ fn step_by<L: Ledger>(
     ensures way { IsAnswerBy looked result.0 }
     ensures named { IsNamed result.0 result.1 }
     ensures begun { LeavesToRun result.0 room.new }
+    ensures counted { seat.new ≡ seat.old + events_of result.0 }
 {
     step_on(slot, seat, totals, room, link, step)
 }
@@ -151,6 +155,8 @@ fn step<R: Wait, L: Ledger, G: Gate>(
     ensures named { IfSome result (λ r. IsNamed r.0 r.1) }
     ensures begun { IfSome result (λ r. LeavesToRun r.0 room.new) }
     ensures none { IfNone result (NoneToRun room.new) }
+    ensures counted { IfSome result (λ r. seat.new ≡ seat.old + events_of r.0) }
+    ensures same { IfNone result (seat.new ≡ seat.old) }
 {
     let looked = gate.looks();
     let mut slot = pool.links.get(link)?.lock(pool.rt);
@@ -158,46 +164,77 @@ fn step<R: Wait, L: Ledger, G: Gate>(
     Some(step_by(&mut slot, seat, &pool.totals, room, link, looked, step))
 }
 
-/// Ends the turn that ran in a room on a link that is lent.
-fn end_on<L: Ledger>(slot: &mut Slot<L>, seat: &mut Seat<L>, totals: &Totals<L>, room: &mut Room)
+/// Hands the turn that ran in a room to a link that is lent: its end, which is accepted where the turn is out there.
+fn end_on<L: Ledger>(
+    slot: &mut Slot<L>,
+    seat: &mut Seat<L>,
+    totals: &Totals<L>,
+    room: &mut Room,
+) -> Moved
     requires { HasRun room.old }
-    ensures { NoneToRun room.new }
+    ensures moves { Moves slot.old.book room.old Finish result slot.new.book room.new }
+    ensures none { NoneToRun room.new }
+    ensures least { seat.old ≤ seat.new }
+    ensures most { seat.new ≤ seat.old + 1 }
 {
-    let _ended = work(slot, seat, totals, room, Move::Finish);
+    work(slot, seat, totals, room, Move::Finish)
 }
 
-/// Ends the turn that ran in a room and is out on a link.
-fn end<R: Wait, L: Ledger>(pool: &Pool<'_, R, L>, seat: &mut Seat<L>, room: &mut Room, link: usize)
+/// Hands the turn that ran in a room to its link. What that answered, where there is such a link.
+fn end<R: Wait, L: Ledger>(
+    pool: &Pool<'_, R, L>,
+    seat: &mut Seat<L>,
+    room: &mut Room,
+    link: usize,
+) -> Option<Moved>
     requires { HasRun room.old }
-    ensures { NoneToRun room.new }
+    ensures handed { IfSome result (λ answer. IsHanded room.old answer room.new) }
+    ensures nowhere { IfNone result ((room.new ≡ room.old) × (vec_len pool.now.links ≤ link)) }
+    ensures none { NoneToRun room.new }
+    ensures least { seat.old ≤ seat.new }
+    ensures most { seat.new ≤ seat.old + 1 }
 {
     match pool.links.get(link) {
         Some(held) => {
             let mut slot = held.lock(pool.rt);
-            end_on(&mut slot, seat, &pool.totals, room);
+            Some(end_on(&mut slot, seat, &pool.totals, room))
         }
-        None => {}
+        None => None,
     }
 }
 
-/// Runs the turn that lies in a room with no lock held, and ends it.
+/// Tells the gate of the turn that lies in a room, and runs it: no pool is in reach here, and so no lock.
+fn run_open<G: Gate>(gate: &G, room: &mut Room, name: JobName)
+    requires { IsToRun room.old }
+    ensures ran { room.new ≡ ran room.old }
+    ensures has { HasRun room.new }
+{
+    gate.enter(name);
+    room.run();
+}
+
+/// Runs the turn that lies in a room with no lock held, and hands it to its link. What that answered, where there is such a link.
 fn run_there<R: Wait, L: Ledger, G: Gate>(
     pool: &Pool<'_, R, L>,
     gate: &G,
     seat: &mut Seat<L>,
     room: &mut Room,
     name: JobName,
-)
+) -> Option<Moved>
     requires { IsToRun room.old }
-    ensures { NoneToRun room.new }
+    ensures handed { IfSome result (λ answer. IsHanded (ran room.old) answer room.new) }
+    ensures nowhere { IfNone result ((room.new ≡ ran room.old) × (vec_len pool.now.links ≤ name.link)) }
+    ensures none { NoneToRun room.new }
+    ensures least { seat.old ≤ seat.new }
+    ensures most { seat.new ≤ seat.old + 1 }
 {
-    gate.enter(name);
-    room.run();
-    end(pool, seat, room, name.link);
+    run_open(gate, room, name);
+    let ended = end(pool, seat, room, name.link);
     gate.leave(name);
+    ended
 }
 
-/// Runs the turn that a step began, where it began one. Whether it began one, had a whole one, or threw an item away.
+/// Runs the turn that a step began, where it began one. Whether the book took the step.
 fn follow<R: Wait, L: Ledger, G: Gate>(
     pool: &Pool<'_, R, L>,
     gate: &G,
@@ -208,19 +245,21 @@ fn follow<R: Wait, L: Ledger, G: Gate>(
 ) -> bool
     requires named { IsNamed moved name }
     requires begun { LeavesToRun moved room.old }
-    ensures { NoneToRun room.new }
+    ensures none { NoneToRun room.new }
+    ensures value { result ≡ is_step moved }
+    ensures counted { CountsEnd moved seat.old seat.new }
 {
     match moved {
         Moved::Begun(Ok(_)) => match name {
             Some(name) => {
-                run_there(pool, gate, seat, room, name);
+                let _ended = run_there(pool, gate, seat, room, name);
                 true
             }
             None => unreachable!(),
         },
         Moved::Begun(Err(_)) => false,
         Moved::Skipped(skipped) => skipped.is_ok(),
-        Moved::Finished(_) => false,
+        Moved::Finished(finished) => finished.is_ok(),
         Moved::Turned(turned) => turned.is_ok(),
     }
 }
@@ -234,7 +273,8 @@ fn turn<R: Wait, L: Ledger, G: Gate>(
     link: usize,
 ) -> bool
     requires { NoneToRun room.old }
-    ensures { NoneToRun room.new }
+    ensures none { NoneToRun room.new }
+    ensures counted { HasCounted result seat.old seat.new }
 {
     match step(pool, gate, seat, room, link) {
         Some((moved, name)) => follow(pool, gate, seat, room, moved, name),
@@ -250,7 +290,10 @@ fn round<R: Wait, L: Ledger, G: Gate>(
     room: &mut Room,
 ) -> usize
     requires { NoneToRun room.old }
-    ensures { NoneToRun room.new }
+    ensures none { NoneToRun room.new }
+    ensures least { seat.old + result ≤ seat.new }
+    ensures most { seat.new ≤ seat.old + 2 * result }
+    ensures few { result ≤ vec_len pool.now.links }
 {
     let mut steps = 0;
     for link in 0..pool.links.len() {
@@ -261,6 +304,30 @@ fn round<R: Wait, L: Ledger, G: Gate>(
     steps
 }
 
+/// Goes round the links until a round does nothing, for at most so many turns and skips, each of which counts one event or two.
+fn wind_up<R: Wait, L: Ledger, G: Gate>(
+    pool: &Pool<'_, R, L>,
+    gate: &G,
+    seat: &mut Seat<L>,
+    room: &mut Room,
+    most: usize,
+)
+    requires { NoneToRun room.old }
+    ensures { seat.new ≤ seat.old + 2 * most }
+{
+    let mut left = most;
+    for _ in 0..most {
+        if left < pool.links.len() {
+            break;
+        }
+        let steps = round(pool, gate, seat, room);
+        if steps == 0 {
+            break;
+        }
+        left -= steps;
+    }
+}
+
 /// Works until the pool closes, and then until nothing is left to do, for at most 1,000 turns and skips, those of the round
 /// in which the pool closes among them. Turns that it begins lie in a room of its own.
 pub(crate) fn worker<R: Wait, L: Ledger, G: Gate>(
@@ -269,21 +336,15 @@ pub(crate) fn worker<R: Wait, L: Ledger, G: Gate>(
     mut seat: Seat<L>,
 ) -> Seat<L> {
     let mut room = Room::new();
-    let mut left = LAST_STEPS.saturating_sub(pool.links.len());
     for _ in pool.rt.forever() {
-        let closing = pool.is_closing();
-        if closing && left < pool.links.len() {
+        if pool.is_closing() {
             break;
         }
-        let steps = round(pool, gate, &mut seat, &mut room);
-        if closing {
-            if steps == 0 {
-                break;
-            }
-            left = left.saturating_sub(steps);
-        } else if steps == 0 {
+        if round(pool, gate, &mut seat, &mut room) == 0 {
             thread::yield_now();
         }
     }
+    let most = LAST_STEPS.saturating_sub(pool.links.len());
+    wind_up(pool, gate, &mut seat, &mut room, most);
     seat
 }

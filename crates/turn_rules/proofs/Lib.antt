@@ -1,3 +1,4 @@
+pub mod Order
 pub mod PartySets
 pub mod RouteTables
 pub mod Shapes

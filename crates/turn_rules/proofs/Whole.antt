@@ -18,52 +18,67 @@ only_zero j (suc n, low, e) = absurd (omega arith)
 first_facts : (facts : List PlaceFacts) (j : ℕ) (f : PlaceFacts) → Contains {X = ℕ} (0 ∷ []) j → slice_get facts j ≡ Some f → slice_get facts 0 ≡ Some f
 first_facts facts j f c e = ap (slice_get facts) (only_zero j c) ∙ e
 
--- where each place has facts, the parts at a place are those of its instruction alone
-parts_of : (d : Draft) (t : Transition) → length t.piece.facts ≡ length t.piece.code
-    → ((k : ℕ) (i : Instruction) (f : PlaceFacts) → slice_get t.piece.code k ≡ Some i → slice_get t.piece.facts k ≡ Some f → AllParts d t k i f)
-    → (k : ℕ) (i : Instruction) → slice_get t.piece.code k ≡ Some i → (f : PlaceFacts) × AllParts d t k i f
-parts_of d t long parts k i ie =
+-- where each place has facts, what a rule wants at a place is wanted of its instruction alone
+part_there : (d : Draft) (t : Transition) (rule : Rule) (k : ℕ) → length t.piece.facts ≡ length t.piece.code
+    → ((i : Instruction) (f : PlaceFacts) → slice_get t.piece.code k ≡ Some i → slice_get t.piece.facts k ≡ Some f → Part rule d t k i f)
+    → (i : Instruction) → slice_get t.piece.code k ≡ Some i → (f : PlaceFacts) × Part rule d t k i f
+part_there d t rule k long part i ie =
     elim (slice_get_cases t.piece.facts k).1 [
-      | inl f ↦ (f.0, parts k i f.0 ie f.2)
+      | inl f ↦ (f.0, part i f.0 ie f.2)
       | inr past ↦ let inside = slice_get_within t.piece.code k i ie in absurd (omega (arith, past.0, long))
     ]
+
+-- a rule is kept at a place where the whole keeps all, and the instruction there what it wants
+pub keeps_from : (d : Draft) (t : Transition) (k : ℕ) → AllEntries d t → (rule : Rule)
+    → ((i : Instruction) (f : PlaceFacts) → slice_get t.piece.code k ≡ Some i → slice_get t.piece.facts k ≡ Some f → Part rule d t k i f) → Keeps rule d t k
+keeps_from d t k a Jump part = record { entry = λ e. a.jump; each = λ i ie. (part_there d t Jump k a.shape.facts part i ie).1 }
+keeps_from d t k a Shape part = record {
+  facts = λ e. a.shape.facts;
+  entry = λ e j f c fe. a.shape.empty f (first_facts t.piece.facts j f c fe);
+  each = λ i f ie fe. (part i f ie fe).each;
+  jumped = λ i f ie fe. (part i f ie fe).jumped;
+}
+keeps_from d t k a Under part = part
+keeps_from d t k a Sort part = record { initial = λ e none. a.sort none; each = part }
+keeps_from d t k a Unset part = record {
+  entry = λ e j f c fe. a.unset f (first_facts t.piece.facts j f c fe);
+  reads_set = λ i f ie fe. (part i f ie fe).reads_set;
+  each = λ i f ie fe. (part i f ie fe).each;
+  states = λ i f ie fe. (part i f ie fe).states;
+}
+keeps_from d t k a State part = λ i ie. (part_there d t State k a.shape.facts part i ie).1
+keeps_from d t k a Number part =
+    let here = part_there d t Number k a.shape.facts part in
+    record {
+      trigger = λ e. a.number.trigger;
+      saves = λ e none. a.number.saves none;
+      reads_there = λ i ie. (here i ie).1.reads_there;
+      sets_there = λ i ie. (here i ie).1.sets_there;
+      parameters = λ i ie. (here i ie).1.parameters;
+      timers = λ i ie. (here i ie).1.timers;
+      divisors = λ i ie. (here i ie).1.divisors;
+      outputs = λ i ie. (here i ie).1.outputs;
+    }
+keeps_from d t k a Limit part = record { process = λ e none. a.limit.process none; piece = λ e. a.limit.piece }
+keeps_from d t k a Budget part = record {
+  certificate = λ e. a.budget;
+  counts = λ i f ie fe. (part i f ie fe).counts;
+  effects = λ i f ie fe. (part i f ie fe).effects;
+}
 
 pub valid_from : (d : Draft) (t : Transition) → AllEntries d t
     → ((k : ℕ) (i : Instruction) (f : PlaceFacts) → slice_get t.piece.code k ≡ Some i → slice_get t.piece.facts k ≡ Some f → AllParts d t k i f)
     → IsValidTransition d t
-valid_from d t a parts = let here = parts_of d t a.shape.facts parts in record {
-  jump = λ k. record { entry = λ e. a.jump; each = λ i ie. (here k i ie).1.jump };
-  shape = λ k. record {
-    facts = λ e. a.shape.facts;
-    entry = λ e j f c fe. a.shape.empty f (first_facts t.piece.facts j f c fe);
-    each = λ i f ie fe. (parts k i f ie fe).shape.each;
-    jumped = λ i f ie fe. (parts k i f ie fe).shape.jumped;
-  };
-  under = λ k i f ie fe. (parts k i f ie fe).under;
-  sort = λ k. record { initial = λ e none. a.sort none; each = λ i f ie fe. (parts k i f ie fe).sort };
-  unset = λ k. record {
-    entry = λ e j f c fe. a.unset f (first_facts t.piece.facts j f c fe);
-    reads_set = λ i f ie fe. (parts k i f ie fe).unset.reads_set;
-    each = λ i f ie fe. (parts k i f ie fe).unset.each;
-    states = λ i f ie fe. (parts k i f ie fe).unset.states;
-  };
-  state = λ k i ie. (here k i ie).1.state;
-  number = λ k. record {
-    trigger = λ e. a.number.trigger;
-    saves = λ e none. a.number.saves none;
-    reads_there = λ i ie. (here k i ie).1.number.reads_there;
-    sets_there = λ i ie. (here k i ie).1.number.sets_there;
-    parameters = λ i ie. (here k i ie).1.number.parameters;
-    timers = λ i ie. (here k i ie).1.number.timers;
-    divisors = λ i ie. (here k i ie).1.number.divisors;
-    outputs = λ i ie. (here k i ie).1.number.outputs;
-  };
-  limit = λ k. record { process = λ e none. a.limit.process none; piece = λ e. a.limit.piece };
-  budget = λ k. record {
-    certificate = λ e. a.budget;
-    counts = λ i f ie fe. (parts k i f ie fe).budget.counts;
-    effects = λ i f ie fe. (parts k i f ie fe).budget.effects;
-  };
+valid_from d t a parts = record {
+  jump = λ k. keeps_from d t k a Jump (λ i f ie fe. (parts k i f ie fe).jump);
+  shape = λ k. keeps_from d t k a Shape (λ i f ie fe. (parts k i f ie fe).shape);
+  under = λ k. keeps_from d t k a Under (λ i f ie fe. (parts k i f ie fe).under);
+  sort = λ k. keeps_from d t k a Sort (λ i f ie fe. (parts k i f ie fe).sort);
+  unset = λ k. keeps_from d t k a Unset (λ i f ie fe. (parts k i f ie fe).unset);
+  state = λ k. keeps_from d t k a State (λ i f ie fe. (parts k i f ie fe).state);
+  number = λ k. keeps_from d t k a Number (λ i f ie fe. (parts k i f ie fe).number);
+  limit = λ k. keeps_from d t k a Limit (λ i f ie fe. tt);
+  budget = λ k. keeps_from d t k a Budget (λ i f ie fe. (parts k i f ie fe).budget);
 }
 
 zero_first : Contains {X = ℕ} (0 ∷ []) 0

@@ -1,3 +1,4 @@
+pub mod First
 pub mod Parties
 pub mod Parts
 pub mod RouteTables

@@ -4,7 +4,8 @@ ghost use Rattle.std.specs.Prelude.{◌≡◌, ◌<◌, ◌≤◌, length, IfOk,
 ghost use Rattle.turn_code.specs.Rules.{KeepsSetLimits};
 ghost use Rattle.turn_code.specs.Valid.{IsValidTransition, Keeps};
 ghost use Rattle.turn_rules.specs.Seen.{seen};
-ghost use Rattle.turn_rules.specs.Parts.{HasParts};
+ghost use Rattle.turn_rules.specs.First.{EachBefore, NoneBefore};
+ghost use Rattle.turn_rules.specs.Parts.{AllEntries, HasParts};
 ghost use Rattle.plain_limits.specs.Limits.{MOST_INSTRUCTIONS, MOST_VARIABLES};
 
 use crate::entry::check_entry;
@@ -29,6 +30,7 @@ pub fn check_transition(draft: &IndexedDraft<'_>, transition: &Transition<'_>) -
     requires variables { length transition.now.process.now.variables ≤ MOST_VARIABLES }
     ensures ok { IfOk result (λ _. IsValidTransition draft.now (seen transition.now)) }
     ensures err { IfErr result (λ e. Keeps e.rule draft.now (seen transition.now) e.place → ⊥) }
+    ensures first { IfErr result (λ e. NoneBefore draft.now (seen transition.now) e.rule e.place) }
 {
     if let Err(rule) = check_entry(draft.plain(), transition) {
         return Err(Broken { rule, place: 0 });
@@ -49,6 +51,8 @@ fn check_at(draft: &IndexedDraft<'_>, transition: &Transition<'_>, place: usize)
     requires variables { length transition.now.process.now.variables ≤ MOST_VARIABLES }
     ensures ok { IfOk result (λ _. HasParts draft.now (seen transition.now) place) }
     ensures err { IfErr result (λ rule. Keeps rule draft.now (seen transition.now) place → ⊥) }
+    ensures first { IfErr result (λ rule. AllEntries draft.now (seen transition.now)
+        → EachBefore (λ r. Keeps r draft.now (seen transition.now) place) rule) }
 {
     match instruction_at(transition, place) {
         Some(instruction) => check_with(draft, transition, place, instruction),
@@ -70,6 +74,8 @@ fn check_with(
     requires code { slice_get transition.now.piece.now.code place ≡ Some instruction }
     ensures ok { IfOk result (λ _. HasParts draft.now (seen transition.now) place) }
     ensures err { IfErr result (λ rule. Keeps rule draft.now (seen transition.now) place → ⊥) }
+    ensures first { IfErr result (λ rule. AllEntries draft.now (seen transition.now)
+        → EachBefore (λ r. Keeps r draft.now (seen transition.now) place) rule) }
 {
     match facts_at(transition, place) {
         Some(facts) => check_place(draft, transition, place, instruction, facts),

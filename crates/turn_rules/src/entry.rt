@@ -3,8 +3,10 @@
 ghost use Rattle.std.specs.Prelude.{◌≡◌, None, ◌<◌, ◌↔◌, length, All, IsTrue, IfOk, IfErr, slice_get};
 ghost use Rattle.turn_code.specs.declared.draft.Draft.{Draft};
 ghost use Rattle.turn_code.specs.declared.draft.PlaceFacts.{PlaceFacts};
+ghost use Rattle.turn_code.specs.declared.rule.Rule.TheVariants.{Jump};
 ghost use Rattle.turn_code.specs.Rules.{StartsRight, HasTrigger, HasSaves, IsThere, KeepsProcessLimits, KeepsPieceLimits, KeepsCertificate, greatest, depths};
 ghost use Rattle.turn_rules.specs.Seen.{seen};
+ghost use Rattle.turn_rules.specs.First.{EachBefore};
 ghost use Rattle.turn_rules.specs.Parts.{Entry, AllEntries, FirstPlace, HasShapes, LimitsEntry};
 
 use crate::places::counts_in;
@@ -18,6 +20,7 @@ use turn_code::{
 pub(crate) fn check_entry(draft: &Draft, transition: &Transition<'_>) -> Result<(), Rule>
     ensures ok { IfOk result (λ _. AllEntries draft.now (seen transition.now)) }
     ensures err { IfErr result (λ rule. Entry rule draft.now (seen transition.now) → ⊥) }
+    ensures first { IfErr result (λ rule. EachBefore (λ r. Entry r draft.now (seen transition.now)) rule) }
 {
     if !keeps_limits(transition) {
         return Err(Rule::Limit);
@@ -35,6 +38,8 @@ pub(crate) fn check_entry(draft: &Draft, transition: &Transition<'_>) -> Result<
 fn check_first_place(transition: &Transition<'_>) -> Result<(), Rule>
     ensures ok { IfOk result (λ _. FirstPlace (seen transition.now)) }
     ensures err { IfErr result (λ rule. (d : Draft) → Entry rule d (seen transition.now) → ⊥) }
+    ensures first { IfErr result (λ rule. (d : Draft) → EachBefore (λ r. Entry r d (seen transition.now)) Jump
+        → EachBefore (λ r. Entry r d (seen transition.now)) rule) }
 {
     if transition.piece.code.is_empty() {
         return Err(Rule::Jump);

@@ -8,6 +8,7 @@ ghost use Rattle.turn_code.specs.declared.draft.PlaceFacts.{PlaceFacts};
 ghost use Rattle.turn_code.specs.declared.draft.DraftState.{DraftState};
 ghost use Rattle.turn_code.specs.declared.draft.DraftSignal.{DraftSignal};
 ghost use Rattle.turn_rules.specs.Seen.{seen};
+ghost use Rattle.turn_rules.specs.First.{EachBefore};
 ghost use Rattle.turn_rules.specs.Parts.{Part, NextPart, AllParts, AllNexts, NumbersPart, CountsPart, SetsHold, ShapesPart};
 ghost use Rattle.plain_limits.specs.Limits.{MOST_INSTRUCTIONS, MOST_PARAMETERS, MOST_VARIABLES};
 
@@ -33,6 +34,7 @@ pub(crate) fn check_place(
     requires variables { length transition.now.process.now.variables ≤ MOST_VARIABLES }
     ensures ok { IfOk result (λ _. AllParts draft.now (seen transition.now) place instruction facts.now) }
     ensures err { IfErr result (λ rule. Part rule draft.now (seen transition.now) place instruction facts.now → ⊥) }
+    ensures first { IfErr result (λ rule. EachBefore (λ r. Part r draft.now (seen transition.now) place instruction facts.now) rule) }
 {
     if !names_what_is_there(draft, transition, instruction) {
         return Err(Rule::Number);
@@ -67,6 +69,7 @@ fn check_successors(
     requires under { length (takes signals.now transition.now.process.now.variables instruction) ≤ length facts.now.shape }
     ensures ok { IfOk result (λ _. AllNexts signals.now (seen transition.now) place instruction facts.now) }
     ensures err { IfErr result (λ rule. NextPart rule signals.now (seen transition.now) place instruction facts.now → ⊥) }
+    ensures first { IfErr result (λ rule. EachBefore (λ r. NextPart r signals.now (seen transition.now) place instruction facts.now) rule) }
 {
     let nexts = next_places(instruction, place);
     if !are_inside(nexts.as_slice(), transition.piece.code.len()) {

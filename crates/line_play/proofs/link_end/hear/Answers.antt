@@ -1,5 +1,5 @@
 use Rattle.std.proofs.Common.{ℕ, [], ◌∷◌, take, subst}
-use Rattle.link_term.specs.Hearing.{Heard}
+use Rattle.script_terminal.specs.Hearing.{Heard}
 use Rattle.line_play.proofs.link_end.hear.Goals as goal
 
 pub returns-then-line_in-eq1 : goal.returns-then-line_in-eq1

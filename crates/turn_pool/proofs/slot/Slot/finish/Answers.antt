@@ -15,4 +15,5 @@ returns g c =
       finishes = search rules;
       link = ap (λ (s : Link). s.number) c.self.view_is;
       seat = omega (arith, c.count.ensures.seat, c.in_ok-report.ensures.next, ap next book);
+      counted = c.count.ensures.seat;
     }
