@@ -1,5 +1,6 @@
 //! What passes a limit (S10): by its name, its number against the limit, and where it stands.
 use crate::extents::extent_of;
+use script_point::{Notes, push_all, push_number};
 use sdl_joins::{find_links, find_orders, reached_in};
 use sdl_lex::Name;
 use sdl_measures::{Measure, code_size, measure_all};
@@ -8,12 +9,22 @@ use sdl_tables::{BlockTable, InputPart, NameTable, ProcessTable, StateClause, St
 use sdl_tree::{Identifier, SignalDeclaration, Transition};
 use std::alloc::{AllocError, Global};
 
-/// What passes a limit, and where it stands.
-#[derive(Drop)]
+/// Who has too much of something.
+#[derive(Clone, Copy)]
+enum Owner {
+    /// A block, a process or a signal.
+    Named(Name),
+    /// The transition of a process's START.
+    Start(Name),
+    /// That of a process in a state on an input.
+    Input(Name, Name, Name),
+}
+
+/// What passes a limit: who has how much, and where it stands.
+#[derive(Clone, Copy)]
 pub(crate) struct Over {
-    /// What there is, and the limit.
-    pub(crate) said: String,
-    /// Its place.
+    owner: Owner,
+    number: usize,
     pub(crate) place: u32,
 }
 
@@ -37,32 +48,45 @@ fn most(limit: Limit) -> usize {
 /// What a limit counts.
 fn counted(limit: Limit) -> &'static str {
     match limit {
-        Limit::Processes => "processes",
-        Limit::States => "states",
-        Limit::Variables => "variables",
-        Limit::Timers => "timers",
-        Limit::Signals => "signals",
-        Limit::Params => "parameters",
-        Limit::Pieces => "transitions",
-        Limit::Piece => "instructions",
-        Limit::Depth => "operands at once",
-        Limit::Effects => "effects",
-        Limit::Instances => "instances",
+        Limit::Processes => " processes, ",
+        Limit::States => " states, ",
+        Limit::Variables => " variables, ",
+        Limit::Timers => " timers, ",
+        Limit::Signals => " signals, ",
+        Limit::Params => " parameters, ",
+        Limit::Pieces => " transitions, ",
+        Limit::Piece => " instructions, ",
+        Limit::Depth => " operands at once, ",
+        Limit::Effects => " effects, ",
+        Limit::Instances => " instances, ",
     }
 }
 
-/// What has a number of something, against the limit.
-fn told_over(
+/// Who has too much, behind what is there.
+fn push_owner(text: &mut String, owner: &Owner) -> Result<(), AllocError> {
+    match owner {
+        Owner::Named(name) => text.push_str(name.as_str()),
+        Owner::Start(process) => push_all(text, &[process.as_str(), " START"]),
+        Owner::Input(process, state, signal) => {
+            let names = [process.as_str(), " ", state.as_str(), "/", signal.as_str()];
+            push_all(text, &names)
+        }
+    }
+}
+
+/// Says what passes a limit, with its number against it.
+pub(crate) fn add_over(
     alloc: Global,
-    owner: &str,
-    number: usize,
+    notes: &mut Notes,
+    over: &Over,
     limit: Limit,
-    place: u32,
-) -> Result<Over, AllocError> {
-    let most = most(limit);
-    let what = counted(limit);
-    let said = format!(in alloc; "{owner} has {number} {what}, {most} at most")?;
-    Ok(Over { said, place })
+) -> Result<(), AllocError> {
+    push_owner(&mut notes.said, &over.owner)?;
+    notes.said.push_str(" has ")?;
+    push_number(alloc, &mut notes.said, over.number)?;
+    notes.said.push_str(counted(limit))?;
+    push_number(alloc, &mut notes.said, most(limit))?;
+    notes.said.push_str(" at most")
 }
 
 /// The place of the name with a number, or another place where there is none.
@@ -96,44 +120,43 @@ fn place_in(process: &ProcessTable, limit: Limit) -> u32 {
 }
 
 /// The first process that has too many of something.
-fn over_in_process(
-    alloc: Global,
-    block: &BlockTable,
-    limit: Limit,
-) -> Result<Option<Over>, AllocError> {
+fn over_in_process(block: &BlockTable, limit: Limit) -> Option<Over> {
     for process in block.tables() {
         let number = count_in(process, limit);
         if number > most(limit) {
-            let name = process.process().name.name;
-            let place = place_in(process, limit);
-            return Ok(Some(told_over(alloc, name.as_str(), number, limit, place)?));
+            return Some(Over {
+                owner: Owner::Named(process.process().name.name),
+                number,
+                place: place_in(process, limit),
+            });
         }
     }
-    Ok(None)
+    None
 }
 
 /// The first signal that has too many parameters.
-fn over_in_signal(alloc: Global, rows: &[&SignalDeclaration]) -> Result<Option<Over>, AllocError> {
+fn over_in_signal(rows: &[&SignalDeclaration]) -> Option<Over> {
     for row in rows {
         let number = row.parameters.len();
         if number > most(Limit::Params) {
-            let name = row.name.name;
-            return Ok(Some(told_over(alloc, name.as_str(), number, Limit::Params, row.name.at)?));
+            return Some(Over {
+                owner: Owner::Named(row.name.name),
+                number,
+                place: row.name.at,
+            });
         }
     }
-    Ok(None)
+    None
 }
 
 /// What a block has too many of, by a table of their names.
-fn over_in_block(
-    alloc: Global,
-    block: &BlockTable,
-    names: &NameTable,
-    limit: Limit,
-) -> Result<Option<Over>, AllocError> {
+fn over_in_block(block: &BlockTable, names: &NameTable, limit: Limit) -> Option<Over> {
     let name = block.block().name;
-    let place = place_of(names, most(limit), name.at);
-    Ok(Some(told_over(alloc, name.name.as_str(), names.len(), limit, place)?))
+    Some(Over {
+        owner: Owner::Named(name.name),
+        number: names.len(),
+        place: place_of(names, most(limit), name.at),
+    })
 }
 
 /// How many transitions a process has: START's, and one for each input of each state.
@@ -149,15 +172,19 @@ fn count_pieces(alloc: Global, process: &ProcessTable) -> Result<usize, AllocErr
 /// All transitions of a block, where they are too many: at the process with which they are.
 fn over_in_all(alloc: Global, block: &BlockTable) -> Result<Option<Over>, AllocError> {
     let name = block.block().name;
-    let mut count: usize = 0;
+    let mut number: usize = 0;
     let mut place = name.at;
     for process in block.tables() {
-        if count <= most(Limit::Pieces) {
+        if number <= most(Limit::Pieces) {
             place = process.process().name.at;
         }
-        count = count.saturating_add(count_pieces(alloc, process)?);
+        number = number.saturating_add(count_pieces(alloc, process)?);
     }
-    Ok(Some(told_over(alloc, name.name.as_str(), count, Limit::Pieces, place)?))
+    Ok(Some(Over {
+        owner: Owner::Named(name.name),
+        number,
+        place,
+    }))
 }
 
 /// What transitions of a process are measured by.
@@ -191,20 +218,25 @@ fn count_places(places: &[Option<Identifier>]) -> u32 {
     count
 }
 
-impl Measuring<'_, '_> {
-    /// How many instructions a transition has, with its connections.
-    fn size(&self, alloc: Global, transition: &Transition) -> Result<u32, AllocError> {
-        let links = find_links(alloc, self.process)?;
-        let marks = reached_in(alloc, self.process, &links, transition)?;
-        let own = code_size(self.process, transition);
-        Ok(own.saturating_add(marked_size(&marks, self.measures)))
-    }
+/// How many instructions a transition of a process has, with its connections.
+fn size_of(
+    alloc: Global,
+    process: &ProcessTable,
+    measures: &[Measure],
+    transition: &Transition,
+) -> Result<u32, AllocError> {
+    let links = find_links(alloc, process)?;
+    let marks = reached_in(alloc, process, &links, transition)?;
+    let own = code_size(process, transition);
+    Ok(own.saturating_add(marked_size(&marks, measures)))
+}
 
+impl Measuring<'_, '_> {
     /// How much a transition has of what the limit counts, without the places of its INPUT.
     fn own(&self, alloc: Global, transition: &Transition) -> Result<u32, AllocError> {
         let extent = extent_of(self.process, self.measures, transition, 0);
         match self.limit {
-            Limit::Piece => self.size(alloc, transition),
+            Limit::Piece => size_of(alloc, self.process, self.measures, transition),
             Limit::Depth => Ok(extent.depth),
             _ => Ok(extent.effects),
         }
@@ -221,32 +253,28 @@ impl Measuring<'_, '_> {
         number as usize
     }
 
-    /// A name of a signal or of a timer, as it is declared.
-    fn declared(&self, name: Name) -> Name {
-        spelled(self.block.signals(), spelled(self.process.timers(), name))
-    }
-
     /// A transition that has too much of it, if it has.
-    fn over_limit(
-        &self,
-        alloc: Global,
-        title: String,
-        number: usize,
-        place: u32,
-    ) -> Result<Option<Over>, AllocError> {
-        if number <= most(self.limit) {
-            return Ok(None);
-        }
-        Ok(Some(told_over(alloc, title.as_str(), number, self.limit, place)?))
+    fn passing(&self, owner: Owner, number: usize, place: u32) -> Option<Over> {
+        let over = Over {
+            owner,
+            number,
+            place,
+        };
+        (number > most(self.limit)).then_some(over)
     }
 
     /// START, if its transition has too much of it.
     fn start(&self, alloc: Global) -> Result<Option<Over>, AllocError> {
         let process = self.process.process();
-        let name = process.name.name;
         let own = self.own(alloc, &process.start.transition)?;
-        let title = format!(in alloc; "{name} START")?;
-        self.over_limit(alloc, title, own as usize, process.start.at)
+        let owner = Owner::Start(process.name.name);
+        Ok(self.passing(owner, own as usize, process.start.at))
+    }
+
+    /// The name of what an input of a state takes, as it is declared.
+    fn input_owner(&self, state: Name, name: Name) -> Owner {
+        let signal = spelled(self.block.signals(), spelled(self.process.timers(), name));
+        Owner::Input(self.process.process().name.name, state, signal)
     }
 
     /// The first of the signals that an INPUT of a state takes with which its transition has too much of it.
@@ -257,49 +285,56 @@ impl Measuring<'_, '_> {
         part: &InputPart,
     ) -> Result<Option<Over>, AllocError> {
         let own = self.own(alloc, &part.transition)?;
-        let name = self.process.process().name.name;
+        let mut found = None;
         for stimulus in &part.stimuli {
             let number = self.with_places(own, &stimulus.places);
-            let signal = self.declared(stimulus.name.name);
-            let title = format!(in alloc; "{name} {state}/{signal}")?;
-            let found = self.over_limit(alloc, title, number, part.at)?;
-            if found.is_some() {
-                return Ok(found);
-            }
+            let owner = self.input_owner(state, stimulus.name.name);
+            found = first_of(found, self.passing(owner, number, part.at));
         }
-        Ok(None)
+        Ok(found)
     }
 
     /// The first INPUT of a STATE part whose transition has too much of it.
-    fn part(&self, alloc: Global, part: &StatePart) -> Result<Option<Over>, AllocError> {
-        let Some(first) = part.names.first() else {
-            return Ok(None);
-        };
-        let state = spelled(self.process.states(), first.name);
-        for clause in &part.clauses {
+    fn part(
+        &self,
+        alloc: Global,
+        state: Name,
+        clauses: &[StateClause],
+    ) -> Result<Option<Over>, AllocError> {
+        let mut found = None;
+        for clause in clauses {
             if let StateClause::Input(input) = clause {
-                let found = self.input(alloc, state, input)?;
-                if found.is_some() {
-                    return Ok(found);
-                }
+                found = first_of(found, self.input(alloc, state, input)?);
             }
         }
-        Ok(None)
+        Ok(found)
+    }
+
+    /// The first transition of STATE parts that has too much of it.
+    fn parts(&self, alloc: Global, parts: &[StatePart]) -> Result<Option<Over>, AllocError> {
+        let mut found = None;
+        for part in parts {
+            if let Some(first) = part.names.first() {
+                let state = spelled(self.process.states(), first.name);
+                found = first_of(found, self.part(alloc, state, &part.clauses)?);
+            }
+        }
+        Ok(found)
     }
 
     /// The first transition of a process that has too much of it: START's, then in the order of the text.
     fn first(&self, alloc: Global) -> Result<Option<Over>, AllocError> {
         let start = self.start(alloc)?;
-        if start.is_some() {
-            return Ok(start);
-        }
-        for part in &self.process.process().states {
-            let found = self.part(alloc, part)?;
-            if found.is_some() {
-                return Ok(found);
-            }
-        }
-        Ok(None)
+        let others = self.parts(alloc, &self.process.process().states)?;
+        Ok(first_of(start, others))
+    }
+}
+
+/// The first of two.
+fn first_of(one: Option<Over>, other: Option<Over>) -> Option<Over> {
+    match one {
+        Some(over) => Some(over),
+        None => other,
     }
 }
 
@@ -329,6 +364,7 @@ fn over_in_transition(
     limit: Limit,
 ) -> Result<Option<Over>, AllocError> {
     let all = measures_of(alloc, block)?;
+    let mut found = None;
     for (process, measures) in block.tables().iter().zip(&all) {
         let measuring = Measuring {
             block,
@@ -336,12 +372,9 @@ fn over_in_transition(
             measures: measures.as_slice(),
             limit,
         };
-        let found = measuring.first(alloc)?;
-        if found.is_some() {
-            return Ok(found);
-        }
+        found = first_of(found, measuring.first(alloc)?);
     }
-    Ok(None)
+    Ok(found)
 }
 
 /// What passes a limit in a block: of several the first in the text.
@@ -351,11 +384,11 @@ pub(crate) fn over_limit(
     limit: Limit,
 ) -> Result<Option<Over>, AllocError> {
     match limit {
-        Limit::Processes => over_in_block(alloc, block, block.processes(), limit),
-        Limit::Signals => over_in_block(alloc, block, block.signals(), limit),
-        Limit::Params => over_in_signal(alloc, block.rows()),
+        Limit::Processes => Ok(over_in_block(block, block.processes(), limit)),
+        Limit::Signals => Ok(over_in_block(block, block.signals(), limit)),
+        Limit::Params => Ok(over_in_signal(block.rows())),
         Limit::Pieces => over_in_all(alloc, block),
         Limit::Piece | Limit::Depth | Limit::Effects => over_in_transition(alloc, block, limit),
-        _ => over_in_process(alloc, block, limit),
+        _ => Ok(over_in_process(block, limit)),
     }
 }

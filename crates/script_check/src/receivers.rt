@@ -1,10 +1,10 @@
 //! Signals that nobody gets, or several (S5, S6).
 use crate::statements::{Standing, standing_at};
-use script_point::{Notes, enumerated};
+use script_point::{Item, Notes, push_all, push_items, push_number};
 use sdl_joins::{find_links, reached_in};
-use sdl_lex::Name;
+use sdl_lex::{Name, line_of};
 use sdl_tables::{BlockTable, InputPart, ProcessTable};
-use sdl_tree::{Destination, Identifier, Output, Party, Stimulus};
+use sdl_tree::{Action, Destination, Identifier, Output, Party, Stimulus};
 use std::alloc::{AllocError, Global};
 
 /// A signal that goes out, and from whom.
@@ -50,7 +50,7 @@ enum Beginning<'a> {
 fn output_at<'a>(process: &ProcessTable<'a>, at: u32) -> Option<(&'a Output, Identifier)> {
     let found = standing_at(process.process(), at)?;
     match found.standing {
-        Standing::Action(sdl_tree::Action::Output(output)) => {
+        Standing::Action(Action::Output(output)) => {
             let signal = signal_at(output, at)?;
             Some((output, signal))
         }
@@ -157,33 +157,52 @@ fn lost_in(
 }
 
 /// The name of a party.
-fn party_name(alloc: Global, party: &Party) -> Result<String, AllocError> {
+fn party_name(party: &Party) -> &str {
     match party {
-        Party::Environment => format!(in alloc; "ENV"),
-        Party::Process(id) => {
-            let name = id.name;
-            format!(in alloc; "{name}")
-        }
+        Party::Environment => "ENV",
+        Party::Process(id) => id.name.as_str(),
     }
 }
 
 /// What is said of a signal TO SENDER.
-fn said_of(alloc: Global, sent: &Sent<'_, '_>, lost: Lost) -> Result<String, AllocError> {
+fn add_lost(notes: &mut Notes, sent: &Sent<'_, '_>, lost: &Lost) -> Result<(), AllocError> {
+    let said = &mut notes.said;
     match lost {
-        Lost::Start => format!(in alloc; "START has no sender"),
-        Lost::Timer(timer) => format!(in alloc; "the timer {timer} has no sender"),
+        Lost::Start => said.push_str("START has no sender"),
+        Lost::Timer(timer) => push_all(said, &["the timer ", timer.as_str(), " has no sender"]),
         Lost::NoWay(signal, party) => {
-            let back = sent.signal;
             let own = sent.own_name();
-            let party = party_name(alloc, &party)?;
-            format!(in alloc;
-                "no route carries {back} from {own} back to {party}, which may have sent {signal}"
+            let back = sent.signal.as_str();
+            push_all(said, &["no route carries ", back, " from ", own.as_str()])?;
+            let who = party_name(party);
+            push_all(
+                said,
+                &[" back to ", who, ", which may have sent ", signal.as_str()],
             )
         }
     }
 }
 
-/// What is said of a connection that sends TO SENDER, and of the transition that comes there, which begins in this line.
+/// What is said of the transition of a line that comes to a connection.
+fn add_way(
+    alloc: Global,
+    notes: &mut Notes,
+    sent: &Sent<'_, '_>,
+    number: usize,
+    line: usize,
+) -> Result<(), AllocError> {
+    match sent.process.process().connections.get(number) {
+        Some(connection) => {
+            notes.hint.push_str("the transition of line ")?;
+            push_number(alloc, &mut notes.hint, line)?;
+            let name = connection.name.name.as_str();
+            push_all(&mut notes.hint, &[" comes to CONNECTION ", name])
+        }
+        None => Ok(()),
+    }
+}
+
+/// What is said of a connection that sends TO SENDER, and of the transition that comes there.
 fn to_sender_in(
     alloc: Global,
     notes: &mut Notes,
@@ -191,17 +210,13 @@ fn to_sender_in(
     number: usize,
     text: &str,
 ) -> Result<(), AllocError> {
-    let Some((lost, begins)) = lost_in(alloc, sent, number)? else {
-        return Ok(());
-    };
-    let Some(connection) = sent.process.process().connections.get(number) else {
-        return Ok(());
-    };
-    let name = connection.name.name;
-    let line = sdl_lex::line_of(text, begins);
-    notes.said = said_of(alloc, sent, lost)?;
-    notes.hint = format!(in alloc; "the transition of line {line} comes to CONNECTION {name}")?;
-    Ok(())
+    match lost_in(alloc, sent, number)? {
+        Some((lost, begins)) => {
+            add_lost(notes, sent, &lost)?;
+            add_way(alloc, notes, sent, number, line_of(text, begins))
+        }
+        None => Ok(()),
+    }
 }
 
 /// What is said of an OUTPUT TO SENDER at a place.
@@ -213,16 +228,11 @@ fn to_sender(
     at: u32,
 ) -> Result<(), AllocError> {
     match beginning_of(sent.process, at) {
-        Beginning::Start => {
-            notes.said = said_of(alloc, sent, Lost::Start)?;
-            Ok(())
-        }
-        Beginning::Input(part) => {
-            if let Some(lost) = lost_by(sent, part) {
-                notes.said = said_of(alloc, sent, lost)?;
-            }
-            Ok(())
-        }
+        Beginning::Start => add_lost(notes, sent, &Lost::Start),
+        Beginning::Input(part) => match lost_by(sent, part) {
+            Some(lost) => add_lost(notes, sent, &lost),
+            None => Ok(()),
+        },
         Beginning::Connection(number) => to_sender_in(alloc, notes, sent, number, text),
     }
 }
@@ -244,41 +254,39 @@ pub(crate) fn no_receiver(
         process,
         signal: id.name,
     };
-    let signal = id.name;
     let own = sent.own_name();
+    let words = [
+        "no route carries ",
+        id.name.as_str(),
+        " from ",
+        own.as_str(),
+    ];
     match output.to {
         Some(Destination::Sender(_)) => to_sender(alloc, notes, &sent, text, at),
         Some(Destination::Process(to)) => {
-            let party = to.name;
-            notes.said = format!(in alloc; "no route carries {signal} from {own} to {party}")?;
-            Ok(())
+            push_all(&mut notes.said, &words)?;
+            push_all(&mut notes.said, &[" to ", to.name.as_str()])
         }
-        None => {
-            notes.said = format!(in alloc; "no route carries {signal} from {own}")?;
-            Ok(())
-        }
+        None => push_all(&mut notes.said, &words),
     }
 }
 
-/// The names of parties.
-fn party_names(alloc: Global, parties: &[Party]) -> Result<Vec<String>, AllocError> {
-    let mut names = Vec::new(alloc);
+/// The names of parties; of processes alone where these are wanted.
+fn party_items<'a>(
+    alloc: Global,
+    parties: &'a [Party],
+    processes: bool,
+) -> Result<Vec<Item<'a>>, AllocError> {
+    let mut items = Vec::new(alloc);
     for party in parties {
-        names.push(party_name(alloc, party)?)?;
-    }
-    Ok(names)
-}
-
-/// What may be written to name each of the processes among these.
-fn addresses(alloc: Global, parties: &[Party]) -> Result<Vec<String>, AllocError> {
-    let mut names = Vec::new(alloc);
-    for party in parties {
-        if let Party::Process(id) = party {
-            let name = id.name;
-            names.push(format!(in alloc; "TO {name}")?)?;
+        if !processes || *party != Party::Environment {
+            items.push(Item {
+                text: party_name(party),
+                is_sign: false,
+            })?;
         }
     }
-    Ok(names)
+    Ok(items)
 }
 
 /// What is said of an OUTPUT at a place that says to nobody, and that routes carry to several.
@@ -294,13 +302,22 @@ pub(crate) fn two_receivers(
     };
     let own = process.process().name;
     let parties = block.receivers(&Party::Process(own), id.name);
-    let names = party_names(alloc, parties)?;
-    let all = enumerated(alloc, &names, " and ")?;
-    let ways = addresses(alloc, parties)?;
-    let written = enumerated(alloc, &ways, " or ")?;
-    let signal = id.name;
-    let name = own.name;
-    notes.said = format!(in alloc; "routes carry {signal} from {name} to {all}")?;
-    notes.hint = format!(in alloc; "write {written}")?;
-    Ok(())
+    let words = [
+        "routes carry ",
+        id.name.as_str(),
+        " from ",
+        own.name.as_str(),
+    ];
+    push_all(&mut notes.said, &words)?;
+    let all = party_items(alloc, parties, false)?;
+    push_all(&mut notes.said, &[" to "])?;
+    push_items(&mut notes.said, &all, "", " and ")?;
+    add_addresses(alloc, notes, parties)
+}
+
+/// What may be written to name each of the processes among these.
+fn add_addresses(alloc: Global, notes: &mut Notes, parties: &[Party]) -> Result<(), AllocError> {
+    let processes = party_items(alloc, parties, true)?;
+    notes.hint.push_str("write ")?;
+    push_items(&mut notes.hint, &processes, "TO ", " or ")
 }

@@ -1,6 +1,6 @@
 //! What is said of a wrong sort (S3).
 use crate::sorts::Cause;
-use script_point::Notes;
+use script_point::{Notes, push_all, push_number};
 use sdl_tree::Sort;
 use std::alloc::{AllocError, Global};
 
@@ -13,77 +13,92 @@ fn article(sort: Option<Sort>) -> &'static str {
     }
 }
 
-/// What is said, and what stands there.
-fn set_notes(notes: &mut Notes, said: String, under: String) {
-    notes.said = said;
-    notes.under = under;
-}
-
-/// What is said of a thing of which a sort is wanted.
-fn of_sorts(
-    alloc: Global,
+/// What is wanted: these words and then a sort; and which sort there is.
+fn add_sorts(
     notes: &mut Notes,
-    said: String,
+    words: &[&str],
+    want: Option<Sort>,
+    under: &str,
     found: Option<Sort>,
 ) -> Result<(), AllocError> {
-    let here = article(found);
-    let under = format!(in alloc; "this is {here}")?;
-    set_notes(notes, said, under);
-    Ok(())
+    push_all(&mut notes.said, words)?;
+    notes.said.push_str(article(want))?;
+    push_all(&mut notes.under, &[under, article(found)])
+}
+
+/// What is said of a parameter of a signal.
+fn add_parameter(
+    alloc: Global,
+    notes: &mut Notes,
+    signal: &str,
+    number: usize,
+    want: Sort,
+    found: Option<Sort>,
+) -> Result<(), AllocError> {
+    notes.said.push_str("parameter ")?;
+    push_number(alloc, &mut notes.said, number)?;
+    let words = [" of ", signal, " is "];
+    add_sorts(notes, &words, Some(want), "this is ", found)
 }
 
 /// What is said of a number of parameters.
-fn of_number(
+fn add_number(
     alloc: Global,
     notes: &mut Notes,
     signal: &str,
     wanted: usize,
     given: usize,
 ) -> Result<(), AllocError> {
-    let said = match wanted {
-        0 => format!(in alloc; "{signal} has no parameters")?,
-        1 => format!(in alloc; "{signal} has 1 parameter")?,
-        _ => format!(in alloc; "{signal} has {wanted} parameters")?,
-    };
-    let under = format!(in alloc; "{given} given")?;
-    set_notes(notes, said, under);
-    Ok(())
-}
-
-/// What is said of a variable and the value that stands behind it.
-fn of_value(
-    alloc: Global,
-    notes: &mut Notes,
-    variable: &str,
-    want: Option<Sort>,
-    found: Option<Sort>,
-) -> Result<(), AllocError> {
-    let wanted = article(want);
-    let here = article(found);
-    let said = format!(in alloc; "{variable} is {wanted}")?;
-    let under = format!(in alloc; "its value is {here}")?;
-    set_notes(notes, said, under);
-    Ok(())
+    push_all(&mut notes.said, &[signal, " has "])?;
+    if wanted == 0 {
+        notes.said.push_str("no")?;
+    } else {
+        push_number(alloc, &mut notes.said, wanted)?;
+    }
+    notes.said.push_str(if wanted == 1 {
+        " parameter"
+    } else {
+        " parameters"
+    })?;
+    push_number(alloc, &mut notes.under, given)?;
+    notes.under.push_str(" given")
 }
 
 /// What is said of an answer.
-fn of_answer(
-    alloc: Global,
+fn add_answer(notes: &mut Notes, is_truth: bool, here: &str) -> Result<(), AllocError> {
+    if is_truth {
+        notes
+            .said
+            .push_str("an answer to a question of Booleans is TRUE or FALSE")?;
+        push_all(&mut notes.under, &["this is ", here])
+    } else {
+        notes
+            .said
+            .push_str("an answer to a question of Integers has Integers alone")?;
+        notes.under.push_str("here is a Boolean")
+    }
+}
+
+/// What is said of an operand.
+fn add_operand(
     notes: &mut Notes,
-    is_truth: bool,
-    here: &str,
+    side: &str,
+    sign: &str,
+    want: Option<Sort>,
+    found: Option<Sort>,
+    is_denied: bool,
 ) -> Result<(), AllocError> {
-    let said = if is_truth {
-        format!(in alloc; "an answer to a question of Booleans is TRUE or FALSE")?
-    } else {
-        format!(in alloc; "an answer to a question of Integers has Integers alone")?
-    };
-    let under = if is_truth {
-        format!(in alloc; "this is {here}")?
-    } else {
-        format!(in alloc; "here is a Boolean")?
-    };
-    set_notes(notes, said, under);
+    let wanted = article(want);
+    push_all(
+        &mut notes.said,
+        &[wanted, " is wanted ", side, " `", sign, "`"],
+    )?;
+    push_all(&mut notes.under, &["this is ", article(found)])?;
+    if is_denied {
+        return notes
+            .hint
+            .push_str("NOT takes the operand behind it alone: write NOT (..)");
+    }
     Ok(())
 }
 
@@ -96,49 +111,44 @@ pub(crate) fn explain(alloc: Global, notes: &mut Notes, cause: &Cause) -> Result
             want,
             found,
             is_denied,
-        } => {
-            let wanted = article(*want);
-            if *is_denied {
-                notes.hint = format!(in alloc;
-                    "NOT takes the operand behind it alone: write NOT (..)"
-                )?;
-            }
-            let said = format!(in alloc; "{wanted} is wanted {side} `{sign}`")?;
-            of_sorts(alloc, notes, said, *found)
-        }
+        } => add_operand(notes, side, sign, *want, *found, *is_denied),
         Cause::Parameter {
             signal,
             number,
             want,
             found,
-        } => {
-            let wanted = article(Some(*want));
-            let said = format!(in alloc; "parameter {number} of {signal} is {wanted}")?;
-            of_sorts(alloc, notes, said, *found)
-        }
+        } => add_parameter(alloc, notes, signal.as_str(), *number, *want, *found),
         Cause::Value {
             variable,
             want,
             found,
-        } => of_value(alloc, notes, variable.as_str(), *want, *found),
+        } => {
+            let words = [variable.as_str(), " is "];
+            add_sorts(notes, &words, *want, "its value is ", *found)
+        }
         Cause::Initial {
             variable,
             want,
             found,
         } => {
-            let wanted = article(Some(*want));
-            let said = format!(in alloc; "{variable} is {wanted}")?;
-            of_sorts(alloc, notes, said, Some(*found))
+            let words = [variable.as_str(), " is "];
+            add_sorts(notes, &words, Some(*want), "this is ", Some(*found))
         }
         Cause::Number {
             signal,
             wanted,
             given,
-        } => of_number(alloc, notes, signal.as_str(), *wanted, *given),
+        } => add_number(alloc, notes, signal.as_str(), *wanted, *given),
         Cause::Time => {
-            let said = format!(in alloc; "a time is an Integer")?;
-            of_sorts(alloc, notes, said, Some(Sort::Boolean))
+            let found = Some(Sort::Boolean);
+            add_sorts(
+                notes,
+                &["a time is "],
+                Some(Sort::Integer),
+                "this is ",
+                found,
+            )
         }
-        Cause::Answer { is_truth, here } => of_answer(alloc, notes, *is_truth, here),
+        Cause::Answer { is_truth, here } => add_answer(notes, *is_truth, here),
     }
 }

@@ -5,13 +5,13 @@ ghost use Rattle.sdl_lex.specs.declared.lexemes.Token as lexeme;
 ghost use Rattle.script_check.specs.Telling.{Fits, FitsRule, IsNameAt, IsNamed, IsTokenAt};
 
 use crate::answers::no_answer;
-use crate::limits::over_limit;
+use crate::limits::{add_over, over_limit};
 use crate::receivers::{no_receiver, two_receivers};
 use crate::sort_notes::explain;
 use crate::sorts::wrong_sort;
 use crate::statements::process_at;
 use crate::unset::unset_read;
-use script_point::{LoadFault, Notes, Reading, Told, notes_in};
+use script_point::{LoadFault, Notes, Reading, Told, add_notes, push_all};
 use sdl_lex::{LexFault, Lexeme, Name, Token, tokens};
 use sdl_sound::{Limit, RuleFault, Step};
 use sdl_tables::{BlockTable, ProcessTable, TableFault};
@@ -36,11 +36,13 @@ fn of_limit(
     block: &BlockTable,
     limit: Limit,
 ) -> Result<(), AllocError> {
-    if let Some(over) = over_limit(alloc, block, limit)? {
-        told.notes.said = over.said;
-        told.found = Some(over.place);
+    match over_limit(alloc, block, limit)? {
+        Some(over) => {
+            told.found = Some(over.place);
+            add_over(alloc, &mut told.notes, &over, limit)
+        }
+        None => Ok(()),
     }
-    Ok(())
 }
 
 /// Where a variable is read unset.
@@ -51,13 +53,17 @@ fn of_unset(
     path: &[Step],
     variable: Name,
 ) -> Result<(), AllocError> {
-    if let Some((process, place)) = unset_read(alloc, block, path, variable)? {
-        told.notes.said = format!(in alloc;
-            "{process} reads {variable}, which nothing has set on this way"
-        )?;
-        told.found = Some(place);
+    match unset_read(alloc, block, path, variable)? {
+        Some((process, place)) => {
+            told.found = Some(place);
+            let words = [process.as_str(), " reads ", variable.as_str()];
+            push_all(&mut told.notes.said, &words)?;
+            told.notes
+                .said
+                .push_str(", which nothing has set on this way")
+        }
+        None => Ok(()),
     }
-    Ok(())
 }
 
 /// What is said of a rule that is broken at a place of a process.
@@ -203,13 +209,17 @@ fn fitting(tokens: &[Token], fault: &LoadFault, found: Option<u32>) -> Option<u3
 }
 
 /// What is said of a refusal of a text, and a place for one that may have none.
-fn say(alloc: Global, read: &Reading<'_>, fault: &LoadFault) -> Result<Told, AllocError> {
-    let notes = notes_in(alloc, read, fault)?;
-    let mut told = Told { notes, found: None };
-    if let LoadFault::Rule { fault, .. } = fault {
-        add_of_tree(alloc, &mut told, read, fault)?;
+fn say(
+    alloc: Global,
+    told: &mut Told,
+    read: &Reading<'_>,
+    fault: &LoadFault,
+) -> Result<(), AllocError> {
+    add_notes(alloc, &mut told.notes, read, fault)?;
+    match fault {
+        LoadFault::Rule { fault, .. } => add_of_tree(alloc, told, read, fault),
+        _ => Ok(()),
     }
-    Ok(told)
 }
 
 /// What is said of a refusal of a text, and where it is found where it names no place.
@@ -221,7 +231,11 @@ pub(crate) fn told_of(alloc: Global, text: &str, fault: &LoadFault) -> Result<To
         text,
         tokens: &tokens,
     };
-    let mut told = say(alloc, &read, fault)?;
+    let mut told = Told {
+        notes: Notes::new(alloc),
+        found: None,
+    };
+    say(alloc, &mut told, &read, fault)?;
     told.found = fitting(&tokens, fault, told.found);
     Ok(told)
 }

@@ -1,6 +1,7 @@
 //! What is wanted where no reading goes on (P1): the tokens with which one would.
 use crate::notes::Notes;
 use crate::reading::{Reading, text_of};
+use crate::saying::{Item, push_all, push_items};
 use sdl_lex::{LexFault, Lexeme, Symbol, Token, Word, tokens};
 use sdl_tree::{ParseFault, parse};
 use std::alloc::{AllocError, Global};
@@ -194,111 +195,139 @@ fn repeated_text<'a>(
     }
 }
 
-/// One that is wanted, by its name.
-fn named(alloc: Global, one: &str, is_number: bool) -> Result<String, AllocError> {
-    if one == NAME {
-        return format!(in alloc; "a name");
+/// One that is wanted, as it is told.
+fn item_of<'a>(one: &'a str, is_number: bool) -> Item<'a> {
+    let text = if one == NAME {
+        "a name"
+    } else if one == NUMBER && is_number {
+        "a number of 1 or more"
+    } else if one == NUMBER {
+        "a number"
+    } else if one == "''" {
+        "a quoted text"
+    } else {
+        return Item {
+            text: one,
+            is_sign: true,
+        };
+    };
+    Item {
+        text,
+        is_sign: false,
     }
-    if one == NUMBER && is_number {
-        return format!(in alloc; "a number of 1 or more");
-    }
-    if one == NUMBER {
-        return format!(in alloc; "a number");
-    }
-    if one == "''" {
-        return format!(in alloc; "a quoted text");
-    }
-    format!(in alloc; "`{one}`")
 }
 
-/// The names of groups.
-fn group_names(alloc: Global, groups: Groups) -> Result<Vec<String>, AllocError> {
-    let mut names = Vec::new(alloc);
-    if groups.operands {
-        names.push(format!(in alloc; "an expression")?)?;
+/// Adds a word where it is wanted.
+fn push_group(
+    items: &mut Vec<Item<'_>>,
+    is_wanted: bool,
+    text: &'static str,
+) -> Result<(), AllocError> {
+    if is_wanted {
+        items.push(Item {
+            text,
+            is_sign: false,
+        })?;
     }
-    if groups.statements {
-        names.push(format!(in alloc; "a statement")?)?;
-    }
-    if groups.operators {
-        names.push(format!(in alloc; "an operator")?)?;
-    }
-    Ok(names)
+    Ok(())
 }
 
-/// What is wanted, name by name; groups by one name.
-fn wanted_names(
-    alloc: Global,
-    wanted: &[&str],
+/// What is wanted, each by its name, and groups by one name, behind what there is.
+fn push_wanted(
+    items: &mut Vec<Item<'_>>,
+    wanted: &[&'static str],
     is_number: bool,
-) -> Result<Vec<String>, AllocError> {
+) -> Result<(), AllocError> {
     let groups = Groups::of(wanted);
-    let mut names = group_names(alloc, groups)?;
+    push_group(items, groups.operands, "an expression")?;
+    push_group(items, groups.statements, "a statement")?;
+    push_group(items, groups.operators, "an operator")?;
     for one in wanted {
         if !groups.name(one) {
-            names.push(named(alloc, one, is_number)?)?;
+            items.push(item_of(one, is_number))?;
         }
     }
-    Ok(names)
+    Ok(())
 }
 
-/// Names, one after another, with a word before the last: `A, B or C`.
-pub fn enumerated(alloc: Global, names: &[String], word: &str) -> Result<String, AllocError> {
-    let mut text = String::new(alloc);
-    for (index, name) in names.iter().enumerate() {
-        let is_last = index.saturating_add(1) == names.len();
-        if index > 0 {
-            text.push_str(if is_last { word } else { ", " })?;
-        }
-        text.push_str(name)?;
-    }
-    Ok(text)
-}
-
-/// What a token is, as it is called.
-fn called(alloc: Global, read: &Reading<'_>, index: usize) -> Result<String, AllocError> {
-    let text = read.spelled(index);
+/// What a token is, as it is called, behind what is there.
+fn push_called(text: &mut String, read: &Reading<'_>, index: usize) -> Result<(), AllocError> {
+    let own = read.spelled(index);
     match read.lexeme(index) {
-        Some(Lexeme::Name(_)) => format!(in alloc; "the name {text}"),
-        Some(Lexeme::Word(_)) => format!(in alloc; "the reserved word {text}"),
-        Some(Lexeme::Number(_)) => format!(in alloc; "a number"),
-        Some(Lexeme::Symbol(_)) => format!(in alloc; "`{text}`"),
-        Some(Lexeme::Quoted) => format!(in alloc; "a quoted text"),
-        None => Ok(String::new(alloc)),
+        Some(Lexeme::Name(_)) => push_all(text, &["the name ", own]),
+        Some(Lexeme::Word(_)) => push_all(text, &["the reserved word ", own]),
+        Some(Lexeme::Number(_)) => text.push_str("a number"),
+        Some(Lexeme::Symbol(_)) => push_all(text, &["`", own, "`"]),
+        Some(Lexeme::Quoted) => text.push_str("a quoted text"),
+        None => Ok(()),
     }
 }
 
-/// What may stand at the token with an index, or behind the last one.
-fn wanted_at(alloc: Global, read: &Reading<'_>, index: usize) -> Result<String, AllocError> {
-    let mut row = row_before(alloc, read, index)?;
-    let wanted = accepted(alloc, &mut row)?;
-    let is_number = matches!(read.lexeme(index), Some(Lexeme::Number(_)));
-    let mut names = wanted_names(alloc, &wanted, is_number)?;
-    if !has(&wanted, NAME) && !has(&wanted, NUMBER) {
-        if let Some(text) = repeated_text(alloc, read, &mut row, index)? {
-            names.push(format!(in alloc; "`{text}`")?)?;
+/// The token of the text itself that may stand there, behind what there is; a word for nothing where there is nothing else.
+fn push_repeated<'a>(
+    alloc: Global,
+    items: &mut Vec<Item<'a>>,
+    read: &Reading<'a>,
+    row: &mut Vec<Token>,
+    index: usize,
+) -> Result<(), AllocError> {
+    match repeated_text(alloc, read, row, index)? {
+        Some(text) => {
+            items.push(Item {
+                text,
+                is_sign: true,
+            })?;
+            Ok(())
         }
+        None => push_group(items, items.is_empty(), "nothing"),
     }
-    if names.is_empty() {
-        names.push(format!(in alloc; "nothing")?)?;
+}
+
+/// What may stand behind these tokens, where there is the token with an index or the end.
+fn items_behind<'a>(
+    alloc: Global,
+    read: &Reading<'a>,
+    row: &mut Vec<Token>,
+    index: usize,
+) -> Result<Vec<Item<'a>>, AllocError> {
+    let wanted = accepted(alloc, row)?;
+    let is_number = matches!(read.lexeme(index), Some(Lexeme::Number(_)));
+    let mut items = Vec::new(alloc);
+    push_wanted(&mut items, &wanted, is_number)?;
+    if !has(&wanted, NAME) && !has(&wanted, NUMBER) {
+        push_repeated(alloc, &mut items, read, row, index)?;
     }
-    enumerated(alloc, &names, " or ")
+    Ok(items)
+}
+
+/// What may stand at the token with an index, or behind the last one, behind what is there.
+fn push_items_at(
+    alloc: Global,
+    text: &mut String,
+    read: &Reading<'_>,
+    index: usize,
+) -> Result<(), AllocError> {
+    let mut row = row_before(alloc, read, index)?;
+    let items = items_behind(alloc, read, &mut row, index)?;
+    push_items(text, &items, "", " or ")
 }
 
 /// What stands at the token with an index, and what is wanted there, or behind the last one.
-pub fn unexpected(alloc: Global, read: &Reading<'_>, index: usize) -> Result<Notes, AllocError> {
-    let wanted = wanted_at(alloc, read, index)?;
-    let mut notes = Notes::new(alloc);
+pub fn unexpected(
+    alloc: Global,
+    notes: &mut Notes,
+    read: &Reading<'_>,
+    index: usize,
+) -> Result<(), AllocError> {
+    push_items_at(alloc, &mut notes.under, read, index)?;
+    notes.under.push_str(" is wanted")?;
     if index < read.tokens.len() {
-        let here = called(alloc, read, index)?;
-        notes.said = format!(in alloc; "{here} can't stand here")?;
-        notes.under = format!(in alloc; "{wanted} is wanted")?;
-    } else if read.tokens.is_empty() {
-        notes.said = format!(in alloc; "there is no text")?;
-        notes.under = format!(in alloc; "{wanted} is wanted")?;
-    } else {
-        notes.said = format!(in alloc; "the text ends here")?;
-        notes.under = format!(in alloc; "{wanted} is wanted behind it")?;
+        push_called(&mut notes.said, read, index)?;
+        return notes.said.push_str(" can't stand here");
     }
-    Ok(notes)
+    if read.tokens.is_empty() {
+        return notes.said.push_str("there is no text");
+    }
+    notes.under.push_str(" behind it")?;
+    notes.said.push_str("the text ends here")
 }

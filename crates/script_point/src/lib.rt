@@ -12,11 +12,11 @@ mod names;
 mod notes;
 mod pointing;
 mod reading;
+mod saying;
 mod shown;
 mod words;
 
-pub use causes::notes_in;
-pub use expected::enumerated;
+pub use causes::add_notes;
 pub use fronts::in_front;
 pub use mtp2_text::{
     LexFault, LoadFault, MONITORS, Q703, STANDARD, Verified, load, monitors, q703, standard,
@@ -24,4 +24,5 @@ pub use mtp2_text::{
 pub use notes::{Notes, Told};
 pub use pointing::point_out;
 pub use reading::Reading;
+pub use saying::{Item, push_all, push_items, push_number};
 pub use shown::{Word, point, point_head, point_nowhere};
