@@ -199,7 +199,7 @@ struct Measuring<'a, 'b> {
 /// The sizes of the marked connections.
 fn marked_size(marks: &[bool], measures: &[Measure]) -> u32 {
     let mut total: u32 = 0;
-    for (measure, mark) in measures.iter().zip(marks) {
+    for (measure, mark) in measures.iter().zip(marks.iter()) {
         if *mark {
             total = total.saturating_add(measure.size);
         }
@@ -303,8 +303,11 @@ impl Measuring<'_, '_> {
     ) -> Result<Option<Over>, AllocError> {
         let mut found = None;
         for clause in clauses {
+            if found.is_some() {
+                return Ok(found);
+            }
             if let StateClause::Input(input) = clause {
-                found = first_of(found, self.input(alloc, state, input)?);
+                found = self.input(alloc, state, input)?;
             }
         }
         Ok(found)
@@ -314,9 +317,12 @@ impl Measuring<'_, '_> {
     fn parts(&self, alloc: Global, parts: &[StatePart]) -> Result<Option<Over>, AllocError> {
         let mut found = None;
         for part in parts {
+            if found.is_some() {
+                return Ok(found);
+            }
             if let Some(first) = part.names.first() {
                 let state = spelled(self.process.states(), first.name);
-                found = first_of(found, self.part(alloc, state, &part.clauses)?);
+                found = self.part(alloc, state, &part.clauses)?;
             }
         }
         Ok(found)
@@ -324,9 +330,10 @@ impl Measuring<'_, '_> {
 
     /// The first transition of a process that has too much of it: START's, then in the order of the text.
     fn first(&self, alloc: Global) -> Result<Option<Over>, AllocError> {
-        let start = self.start(alloc)?;
-        let others = self.parts(alloc, &self.process.process().states)?;
-        Ok(first_of(start, others))
+        match self.start(alloc)? {
+            Some(over) => Ok(Some(over)),
+            None => self.parts(alloc, &self.process.process().states),
+        }
     }
 }
 
@@ -365,7 +372,7 @@ fn over_in_transition(
 ) -> Result<Option<Over>, AllocError> {
     let all = measures_of(alloc, block)?;
     let mut found = None;
-    for (process, measures) in block.tables().iter().zip(&all) {
+    for (process, measures) in block.tables().iter().zip(all.iter()) {
         let measuring = Measuring {
             block,
             process,

@@ -229,7 +229,7 @@ pub(crate) fn told_of(alloc: Global, text: &str, fault: &LoadFault) -> Result<To
     let tokens = tokens_of(alloc, text)?;
     let read = Reading {
         text,
-        tokens: &tokens,
+        tokens: tokens.as_slice(),
     };
     let mut told = Told {
         notes: Notes::new(alloc),

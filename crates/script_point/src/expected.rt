@@ -72,7 +72,7 @@ fn has(all: &[&str], one: &str) -> bool {
 
 /// Whether all of a group are wanted.
 fn has_all(wanted: &[&str], group: &[&str]) -> bool {
-    group.iter().all(|one| has(wanted, one))
+    group.iter().all(|one| has(wanted, *one))
 }
 
 /// The tokens of the candidates.
@@ -243,8 +243,8 @@ fn push_wanted(
     push_group(items, groups.statements, "a statement")?;
     push_group(items, groups.operators, "an operator")?;
     for one in wanted {
-        if !groups.name(one) {
-            items.push(item_of(one, is_number))?;
+        if !groups.name(*one) {
+            items.push(item_of(*one, is_number))?;
         }
     }
     Ok(())
@@ -279,7 +279,10 @@ fn push_repeated<'a>(
             })?;
             Ok(())
         }
-        None => push_group(items, items.is_empty(), "nothing"),
+        None => {
+            let is_first = items.is_empty();
+            push_group(items, is_first, "nothing")
+        }
     }
 }
 

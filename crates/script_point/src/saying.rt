@@ -12,7 +12,7 @@ pub struct Item<'a> {
 /// Texts behind what is there, one behind the other.
 pub fn push_all(text: &mut String, pieces: &[&str]) -> Result<(), AllocError> {
     for piece in pieces {
-        text.push_str(piece)?;
+        text.push_str(*piece)?;
     }
     Ok(())
 }
