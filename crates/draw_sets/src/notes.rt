@@ -1,4 +1,8 @@
 //! The statements in which transitions of two texts differ, below the lines that name these.
+ghost use Rattle.std.specs.Prelude.{◌≡◌, ◌∷◌, ◌++◌, List, ℕ, true, codes, IfOk, OnOk};
+ghost use Rattle.std.specs.List.{flat_map};
+ghost use Rattle.draw_sets.specs.Noting.{spaced, indented, Noted, connection_lines, AreAdded, AreNoted};
+
 use crate::rows::{Row, Section, sections_of};
 use draw_text::push_bytes;
 use std::alloc::{AllocError, Global};
@@ -40,6 +44,42 @@ fn are_alike(one: &[Row], other: &[Row]) -> bool {
     one.len() == other.len() && alike(one, other) == one.len()
 }
 
+/// A byte of a line, with four spaces in front where the line begins with it.
+fn push_spaced(text: &mut Vec<u8>, begins: bool, byte: u8) -> Result<(), AllocError>
+    ensures { OnOk result (text.new.items ≡ text.old.items ++ spaced begins byte) }
+{
+    if begins {
+        push_bytes(text, b"    ")?;
+    }
+    text.push(byte)?;
+    Ok(())
+}
+
+/// Lines behind what is there, each with four spaces in front; the last one gets an end.
+#[tactic(auto, using(crate::proofs::Notes::indented_more))]
+fn push_indented(text: &mut Vec<u8>, lines: &[u8]) -> Result<(), AllocError>
+    ensures { OnOk result (text.new.items ≡ text.old.items ++ indented true lines.now) }
+{
+    let mut begins = true;
+    for byte in lines {
+        push_spaced(text, begins, *byte)?;
+        begins = *byte == b'\n';
+    }
+    if !begins {
+        text.push(b'\n')?;
+    }
+    Ok(())
+}
+
+/// A line, and lines below it.
+fn push_below(text: &mut Vec<u8>, line: &[u8], notes: &[u8]) -> Result<(), AllocError>
+    ensures { OnOk result (text.new.items ≡ text.old.items ++ (line.now ++ 10 ∷ indented true notes.now)) }
+{
+    push_bytes(text, line)?;
+    text.push(b'\n')?;
+    push_indented(text, notes)
+}
+
 /// The number of a line.
 fn push_line(alloc: Global, text: &mut Vec<u8>, line: usize) -> Result<(), AllocError> {
     let digits = format!(in alloc; "{line} ")?;
@@ -77,8 +117,8 @@ fn push_changes(
     let first = alike(olds, news);
     let least = olds.len().min(news.len()).saturating_sub(first);
     let last = alike_at_end(olds, news).min(least);
-    push_rows(alloc, text, b"    - ", olds, first, last)?;
-    push_rows(alloc, text, b"    + ", news, first, last)
+    push_rows(alloc, text, b"- ", olds, first, last)?;
+    push_rows(alloc, text, b"+ ", news, first, last)
 }
 
 /// Whether one of some names is this one.
@@ -201,7 +241,7 @@ fn push_blamed(
     let marks = reached(alloc, olds, from)?;
     for (index, section) in olds.iter().enumerate() {
         if is_marked(&marks, index) && is_changed(section, news) {
-            push_bytes(text, b"    by CONNECTION ")?;
+            push_bytes(text, b"by CONNECTION ")?;
             push_bytes(text, &section.connection)?;
             push_bytes(text, b"\n")?;
             mark(blamed, index);
@@ -228,6 +268,27 @@ fn title_in(alloc: Global, line: &[u8]) -> Result<Vec<u8>, AllocError> {
     Ok(title)
 }
 
+/// The statements that differ of a transition of both texts, by its line; nothing for another line.
+fn notes_of(
+    alloc: Global,
+    blamed: &mut Vec<bool>,
+    olds: &[Section],
+    news: &[Section],
+    line: &[u8],
+) -> Result<Vec<u8>, AllocError> {
+    let mut notes = Vec::new(alloc);
+    let title = title_in(alloc, line)?;
+    let Some(old) = titled(olds, &title) else {
+        return Ok(notes);
+    };
+    let Some(new) = titled(news, &title) else {
+        return Ok(notes);
+    };
+    push_changes(alloc, &mut notes, &old.rows, &new.rows)?;
+    push_blamed(alloc, &mut notes, blamed, olds, news, old)?;
+    Ok(notes)
+}
+
 /// A line, and below it the statements that differ where it is that of a transition of both texts.
 fn push_noted(
     alloc: Global,
@@ -236,18 +297,55 @@ fn push_noted(
     olds: &[Section],
     news: &[Section],
     line: &[u8],
-) -> Result<(), AllocError> {
-    push_bytes(text, line)?;
-    push_bytes(text, b"\n")?;
-    let title = title_in(alloc, line)?;
-    let Some(old) = titled(olds, &title) else {
+) -> Result<(), AllocError>
+    ensures { OnOk result ((notes : List ℕ) × (text.new.items ≡ text.old.items ++ (line.now ++ 10 ∷ indented true notes))) }
+{
+    let notes = notes_of(alloc, blamed, olds, news, line)?;
+    push_below(text, line, &notes)
+}
+
+/// The name of a connection with its process.
+fn connection_name(alloc: Global, section: &Section) -> Result<Vec<u8>, AllocError> {
+    let mut name = Vec::new(alloc);
+    push_bytes(&mut name, &section.process)?;
+    push_bytes(&mut name, b" ")?;
+    push_bytes(&mut name, &section.connection)?;
+    Ok(name)
+}
+
+/// The lines of a connection of both texts, with the statements that differ.
+fn push_connection(
+    alloc: Global,
+    text: &mut Vec<u8>,
+    section: &Section,
+    other: &Section,
+) -> Result<(), AllocError>
+    ensures { OnOk result ((n : Noted) × (text.new.items ≡ text.old.items ++ connection_lines n)) }
+{
+    let name = connection_name(alloc, section)?;
+    let mut notes = Vec::new(alloc);
+    push_changes(alloc, &mut notes, &section.rows, &other.rows)?;
+    push_bytes(text, b"~ CONNECTION ")?;
+    push_below(text, &name, &notes)
+}
+
+/// The lines of a connection, where it is marked and both texts have it.
+fn push_marked(
+    alloc: Global,
+    text: &mut Vec<u8>,
+    is_marked: bool,
+    section: &Section,
+    news: &[Section],
+) -> Result<(), AllocError>
+    ensures { OnOk result (AreAdded text.old.items text.new.items) }
+{
+    if !is_marked {
         return Ok(());
-    };
-    let Some(new) = titled(news, &title) else {
-        return Ok(());
-    };
-    push_changes(alloc, text, &old.rows, &new.rows)?;
-    push_blamed(alloc, text, blamed, olds, news, old)
+    }
+    match connection(news, &section.process, &section.connection) {
+        Some(other) => push_connection(alloc, text, section, other),
+        None => Ok(()),
+    }
 }
 
 /// The lines of the marked connections, with the statements that differ.
@@ -257,18 +355,11 @@ fn push_connections(
     blamed: &[bool],
     olds: &[Section],
     news: &[Section],
-) -> Result<(), AllocError> {
+) -> Result<(), AllocError>
+    ensures { OnOk result (AreAdded text.old.items text.new.items) }
+{
     for (index, section) in olds.iter().enumerate() {
-        if is_marked(blamed, index) {
-            if let Some(other) = connection(news, &section.process, &section.connection) {
-                push_bytes(text, b"~ CONNECTION ")?;
-                push_bytes(text, &section.process)?;
-                push_bytes(text, b" ")?;
-                push_bytes(text, &section.connection)?;
-                push_bytes(text, b"\n")?;
-                push_changes(alloc, text, &section.rows, &other.rows)?;
-            }
-        }
+        push_marked(alloc, text, is_marked(blamed, index), section, news)?;
     }
     Ok(())
 }
@@ -284,12 +375,14 @@ pub fn with_statements(
     old_text: &str,
     new_text: &str,
     lines: &[u8],
-) -> Result<Vec<u8>, AllocError> {
+) -> Result<Vec<u8>, AllocError>
+    ensures { IfOk result (λ v. AreNoted lines.now v.items) }
+{
     let olds = sections_of(alloc, old_text)?;
     let news = sections_of(alloc, new_text)?;
     let mut blamed = no_marks(alloc, &olds)?;
     let mut text = Vec::new(alloc);
-    let mut line = Vec::new(alloc);
+    let mut line: Vec<u8> = Vec::new(alloc);
     for byte in lines {
         if *byte == b'\n' {
             push_noted(alloc, &mut text, &mut blamed, &olds, &news, &line)?;
@@ -298,6 +391,7 @@ pub fn with_statements(
             line.push(*byte)?;
         }
     }
+    push_bytes(&mut text, &line)?;
     push_connections(alloc, &mut text, &blamed, &olds, &news)?;
     Ok(text)
 }

@@ -1,3 +1,4 @@
+pub mod Compared
 pub mod Printed
 pub mod Served
 pub mod Sets
