@@ -23,6 +23,11 @@ bare_line n = n.line ++ 10 ∷ []
 abbrev pub noted_lines : Noted → List ℕ
 noted_lines n = n.line ++ 10 ∷ indented true n.notes
 
+-- behind a text comes a line, with something said below it
+pub record IsBelow (old line new : List ℕ) : Type 0 where
+  pub notes : List ℕ
+  pub written : new ≡ old ++ (line ++ 10 ∷ indented true notes)
+
 -- what is said of a connection: a line that names it, and what is said below that
 abbrev pub connection_lines : Noted → List ℕ
 connection_lines n = codes "~ CONNECTION " ++ noted_lines n
@@ -32,11 +37,23 @@ pub record AreAdded (old new : List ℕ) : Type 0 where
   pub connections : List Noted
   pub written : new ≡ old ++ flat_map connection_lines connections
 
+-- Of these lines some were written, with something below each of them; then a line was begun, and
+-- the rest is still to come.
+pub record IsBegun (all rest line text : List ℕ) : Type 0 where
+  pub noted : List Noted
+  pub given : all ≡ flat_map bare_line noted ++ (line ++ rest)
+  pub written : text ≡ flat_map noted_lines noted
+
+-- these are the lines, each word for word and in order, with something below each of them
+pub record AreWritten (lines text : List ℕ) : Type 0 where
+  pub noted : List Noted
+  pub rest : List ℕ
+  pub given : lines ≡ flat_map bare_line noted ++ rest
+  pub written : text ≡ flat_map noted_lines noted ++ rest
+
 -- These are the lines, each word for word and in order, with something below each of them, and
 -- something of connections behind them all. All that is said below a line begins with four spaces.
 pub record AreNoted (lines text : List ℕ) : Type 0 where
-  pub noted : List Noted
-  pub rest : List ℕ
-  pub connections : List Noted
-  pub given : lines ≡ flat_map bare_line noted ++ rest
-  pub written : text ≡ flat_map noted_lines noted ++ rest ++ flat_map connection_lines connections
+  pub behind : List ℕ
+  pub written : AreWritten lines behind
+  pub added : AreAdded behind text

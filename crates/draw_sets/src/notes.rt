@@ -1,7 +1,6 @@
 //! The statements in which transitions of two texts differ, below the lines that name these.
-ghost use Rattle.std.specs.Prelude.{◌≡◌, ◌∷◌, ◌++◌, List, ℕ, true, codes, IfOk, OnOk};
-ghost use Rattle.std.specs.List.{flat_map};
-ghost use Rattle.draw_sets.specs.Noting.{spaced, indented, Noted, connection_lines, AreAdded, AreNoted};
+ghost use Rattle.std.specs.Prelude.{◌≡◌, ◌∷◌, ◌++◌, List, ℕ, true, IfOk, OnOk};
+ghost use Rattle.draw_sets.specs.Noting.{spaced, indented, AreAdded, AreNoted, AreWritten, IsBegun, IsBelow};
 
 use crate::rows::{Row, Section, sections_of};
 use draw_text::push_bytes;
@@ -73,11 +72,12 @@ fn push_indented(text: &mut Vec<u8>, lines: &[u8]) -> Result<(), AllocError>
 
 /// A line, and lines below it.
 fn push_below(text: &mut Vec<u8>, line: &[u8], notes: &[u8]) -> Result<(), AllocError>
-    ensures { OnOk result (text.new.items ≡ text.old.items ++ (line.now ++ 10 ∷ indented true notes.now)) }
+    ensures { OnOk result (IsBelow text.old.items line.now text.new.items) }
 {
     push_bytes(text, line)?;
     text.push(b'\n')?;
-    push_indented(text, notes)
+    push_indented(text, notes)?;
+    Ok(())
 }
 
 /// The number of a line.
@@ -298,7 +298,7 @@ fn push_noted(
     news: &[Section],
     line: &[u8],
 ) -> Result<(), AllocError>
-    ensures { OnOk result ((notes : List ℕ) × (text.new.items ≡ text.old.items ++ (line.now ++ 10 ∷ indented true notes))) }
+    ensures { OnOk result (IsBelow text.old.items line.now text.new.items) }
 {
     let notes = notes_of(alloc, blamed, olds, news, line)?;
     push_below(text, line, &notes)
@@ -320,13 +320,14 @@ fn push_connection(
     section: &Section,
     other: &Section,
 ) -> Result<(), AllocError>
-    ensures { OnOk result ((n : Noted) × (text.new.items ≡ text.old.items ++ connection_lines n)) }
+    ensures { OnOk result (AreAdded text.old.items text.new.items) }
 {
     let name = connection_name(alloc, section)?;
     let mut notes = Vec::new(alloc);
     push_changes(alloc, &mut notes, &section.rows, &other.rows)?;
     push_bytes(text, b"~ CONNECTION ")?;
-    push_below(text, &name, &notes)
+    push_below(text, &name, &notes)?;
+    Ok(())
 }
 
 /// The lines of a connection, where it is marked and both texts have it.
@@ -364,6 +365,46 @@ fn push_connections(
     Ok(())
 }
 
+/// A byte of a line that is begun. Where it ends the line this goes out, with the statements that differ below it.
+fn push_byte(
+    alloc: Global,
+    text: &mut Vec<u8>,
+    line: &mut Vec<u8>,
+    blamed: &mut Vec<bool>,
+    olds: &[Section],
+    news: &[Section],
+    byte: u8,
+) -> Result<(), AllocError>
+    ensures { OnOk result ((all rest : List ℕ) → IsBegun all (byte ∷ rest) line.old.items text.old.items → IsBegun all rest line.new.items text.new.items) }
+{
+    if byte == b'\n' {
+        push_noted(alloc, text, blamed, olds, news, line)?;
+        line.clear();
+    } else {
+        line.push(byte)?;
+    }
+    Ok(())
+}
+
+/// Lines, with the statements that differ below each. The connections that they come to are marked.
+fn lines_noted(
+    alloc: Global,
+    blamed: &mut Vec<bool>,
+    olds: &[Section],
+    news: &[Section],
+    lines: &[u8],
+) -> Result<Vec<u8>, AllocError>
+    ensures { IfOk result (λ v. AreWritten lines.now v.items) }
+{
+    let mut text = Vec::new(alloc);
+    let mut line = Vec::new(alloc);
+    for byte in lines {
+        push_byte(alloc, &mut text, &mut line, blamed, olds, news, *byte)?;
+    }
+    push_bytes(&mut text, &line)?;
+    Ok(text)
+}
+
 /// The lines of transitions that two texts differ in, each as it is given: below one that both texts have the statements that differ,
 /// with their lines, and the connections with other statements that it comes to; behind all lines these connections.
 ///
@@ -381,17 +422,7 @@ pub fn with_statements(
     let olds = sections_of(alloc, old_text)?;
     let news = sections_of(alloc, new_text)?;
     let mut blamed = no_marks(alloc, &olds)?;
-    let mut text = Vec::new(alloc);
-    let mut line: Vec<u8> = Vec::new(alloc);
-    for byte in lines {
-        if *byte == b'\n' {
-            push_noted(alloc, &mut text, &mut blamed, &olds, &news, &line)?;
-            line.clear();
-        } else {
-            line.push(*byte)?;
-        }
-    }
-    push_bytes(&mut text, &line)?;
+    let mut text = lines_noted(alloc, &mut blamed, &olds, &news, lines)?;
     push_connections(alloc, &mut text, &blamed, &olds, &news)?;
     Ok(text)
 }

@@ -1,6 +1,5 @@
 //! Values that no answer of a DECISION is for (S8).
-use crate::statements::{Standing, standing_at};
-use script_point::Notes;
+use script_point::{Notes, Standing, standing_at};
 use sdl_sorts::is_truth;
 use sdl_tables::ProcessTable;
 use sdl_tree::{Decision, Literal, Range};

@@ -2,7 +2,9 @@
 use sdl_measures::Measure;
 use sdl_sound::is_division;
 use sdl_tables::ProcessTable;
-use sdl_tree::{Action, Assignment, Decision, End, Expression, Sending, Statement, Transition};
+use sdl_tree::{
+    Action, Assignment, Decision, End, Expression, Identifier, Sending, Statement, Transition,
+};
 
 /// The most operands at once, and the most effects on a way; up to 4,294,967,295 each.
 #[derive(Clone, Copy)]
@@ -196,4 +198,15 @@ fn bodies_extent(
         total = greater(total, extent_of(process, measures, &answer.body, behind));
     }
     total
+}
+
+/// How many variables an INPUT's places name.
+pub(crate) fn count_places(places: &[Option<Identifier>]) -> u32 {
+    let mut count: u32 = 0;
+    for place in places {
+        if place.is_some() {
+            count = count.saturating_add(1);
+        }
+    }
+    count
 }

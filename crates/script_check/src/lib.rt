@@ -6,13 +6,12 @@ mod checking;
 mod costs;
 mod extents;
 mod limits;
+mod operands;
 mod receivers;
 mod sets;
 mod sort_notes;
 mod sorts;
-mod statements;
 mod telling;
-mod unset;
 
 pub use checking::{check, refuse_set, tell_refusal, write_refusal};
 pub use plain_text::{FAILED, HELD, REFUSED, USAGE, refuse, write_line};

@@ -1,5 +1,5 @@
 //! What passes a limit (S10): by its name, its number against the limit, and where it stands.
-use crate::extents::extent_of;
+use crate::extents::{count_places, extent_of};
 use script_point::{Notes, push_all, push_number};
 use sdl_joins::{find_links, find_orders, reached_in};
 use sdl_lex::Name;
@@ -205,17 +205,6 @@ fn marked_size(marks: &[bool], measures: &[Measure]) -> u32 {
         }
     }
     total
-}
-
-/// How many variables an INPUT's places name.
-fn count_places(places: &[Option<Identifier>]) -> u32 {
-    let mut count: u32 = 0;
-    for place in places {
-        if place.is_some() {
-            count = count.saturating_add(1);
-        }
-    }
-    count
 }
 
 /// How many instructions a transition of a process has, with its connections.

@@ -1,6 +1,5 @@
 //! Signals that nobody gets, or several (S5, S6).
-use crate::statements::{Standing, standing_at};
-use script_point::{Item, Notes, push_all, push_items, push_number};
+use script_point::{Item, Notes, Standing, push_all, push_items, push_number, standing_at};
 use sdl_joins::{find_links, reached_in};
 use sdl_lex::{Name, line_of};
 use sdl_tables::{BlockTable, InputPart, ProcessTable};

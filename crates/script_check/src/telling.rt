@@ -9,25 +9,14 @@ use crate::limits::{add_over, over_limit};
 use crate::receivers::{no_receiver, two_receivers};
 use crate::sort_notes::explain;
 use crate::sorts::wrong_sort;
-use crate::statements::process_at;
-use crate::unset::unset_read;
-use script_point::{LoadFault, Notes, Reading, Told, add_notes, push_all};
-use sdl_lex::{LexFault, Lexeme, Name, Token, tokens};
+use script_point::{
+    LoadFault, Notes, Reading, Told, add_notes, process_at, push_all, tokens_of, unset_read,
+};
+use sdl_lex::{Lexeme, Name, Token};
 use sdl_sound::{Limit, RuleFault, Step};
 use sdl_tables::{BlockTable, ProcessTable, TableFault};
 use sdl_tree::{Block, ParseFault, parse};
 use std::alloc::{AllocError, Global};
-
-/// The tokens of a text, or none where it has none.
-fn tokens_of(alloc: Global, text: &str) -> Result<Vec<Token>, AllocError>
-    ensures { IfOk result (λ v. (ts : List lexeme.Token) → Answers text.now (Ok ts) → ts ≡ v.items) }
-{
-    match tokens(alloc, text) {
-        Ok(tokens) => Ok(tokens),
-        Err(LexFault::NoMemory) => Err(AllocError),
-        Err(_) => Ok(Vec::new(alloc)),
-    }
-}
 
 /// What passes a limit.
 fn of_limit(

@@ -31,20 +31,6 @@ impl Class {
         }
     }
 
-    /// That something is one.
-    pub fn is_one(self) -> &'static str {
-        match self {
-            Class::Signal => " is a SIGNAL",
-            Class::Timer => " is a TIMER",
-            Class::Stimulus => " is a SIGNAL or TIMER",
-            Class::Variable => " is a variable",
-            Class::Process => " is a PROCESS",
-            Class::State => " is a STATE",
-            Class::Connection => " is a CONNECTION",
-            Class::Route => " is a SIGNALROUTE",
-        }
-    }
-
     /// Whether each process has its own.
     pub fn is_local(self) -> bool {
         !matches!(self, Class::Signal | Class::Process | Class::Route)

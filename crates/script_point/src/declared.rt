@@ -163,30 +163,22 @@ fn alike(one: &[u8], other: &[u8]) -> usize {
     count
 }
 
-/// How many bytes two texts have alike at their end, in whatever case.
-fn alike_at_end(one: &[u8], other: &[u8]) -> usize {
-    let mut count: usize = 0;
-    for (a, b) in one.iter().rev().zip(other.iter().rev()) {
-        if !a.eq_ignore_ascii_case(b) {
-            return count;
-        }
-        count = count.saturating_add(1);
-    }
-    count
-}
-
 /// Whether two names of three letters or more differ in one letter: another one, one more or one less.
 fn is_near(one: &str, other: &str) -> bool {
-    let longer = one.len().max(other.len());
-    let shorter = one.len().min(other.len());
-    if shorter < 3 || longer.saturating_sub(shorter) > 1 {
+    let (longer, shorter) = if one.len() < other.len() {
+        (other.as_bytes(), one.as_bytes())
+    } else {
+        (one.as_bytes(), other.as_bytes())
+    };
+    let more = longer.len().saturating_sub(shorter.len());
+    if shorter.len() < 3 || more > 1 {
         return false;
     }
-    let same = alike(one.as_bytes(), other.as_bytes()).saturating_add(alike_at_end(
-        one.as_bytes(),
-        other.as_bytes(),
-    ));
-    same.saturating_add(1) >= longer
+    let same = alike(longer, shorter);
+    let behind = same.saturating_add(1);
+    let rest = longer.get(behind..).unwrap_or(&[]);
+    let tail = shorter.get(behind.saturating_sub(more)..).unwrap_or(&[]);
+    rest.eq_ignore_ascii_case(tail)
 }
 
 /// A name that could be meant: declared as what the token stands for, and spelled nearly so.

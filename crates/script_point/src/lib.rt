@@ -14,6 +14,8 @@ mod pointing;
 mod reading;
 mod saying;
 mod shown;
+mod statements;
+mod unset;
 mod words;
 
 pub use causes::add_notes;
@@ -22,7 +24,9 @@ pub use mtp2_text::{
     LexFault, LoadFault, MONITORS, Q703, STANDARD, Verified, load, monitors, q703, standard,
 };
 pub use notes::{Notes, Told};
-pub use pointing::point_out;
+pub use pointing::{point_out, tokens_of};
 pub use reading::Reading;
 pub use saying::{Item, push_all, push_items, push_number};
 pub use shown::{Word, point, point_head, point_nowhere};
+pub use statements::{Found, Standing, process_at, standing_at};
+pub use unset::unset_read;

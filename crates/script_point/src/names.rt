@@ -23,7 +23,8 @@ fn push_declared(
     found: Declared,
 ) -> Result<(), AllocError> {
     let name = read.spelled(found.index);
-    push_all(&mut notes.hint, &[name, found.class.is_one(), ", line "])?;
+    let hint = &mut notes.hint;
+    push_all(hint, &[name, " is a ", found.class.text(), ", line "])?;
     push_number(alloc, &mut notes.hint, read.line(found.index))
 }
 

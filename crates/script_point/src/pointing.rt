@@ -12,7 +12,11 @@ use sdl_lex::{LexFault, Token, tokens};
 use std::alloc::{AllocError, Global};
 
 /// The tokens of a text, or none where it has none.
-fn tokens_of(alloc: Global, text: &str) -> Result<Vec<Token>, AllocError>
+///
+/// # Errors
+///
+/// Want of memory.
+pub fn tokens_of(alloc: Global, text: &str) -> Result<Vec<Token>, AllocError>
     ensures { IfOk result (λ v. (ts : List lexeme.Token) → Answers text.now (Ok ts) → ts ≡ v.items) }
 {
     match tokens(alloc, text) {

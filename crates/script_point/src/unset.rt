@@ -329,7 +329,7 @@ fn read_on(
 }
 
 /// The process that reads a variable unset on this path, and where: the first of a block that does.
-pub(crate) fn unset_read(
+pub fn unset_read(
     alloc: Global,
     block: &BlockTable<'_>,
     path: &[Step],

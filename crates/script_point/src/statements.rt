@@ -4,7 +4,7 @@ use sdl_tree::{Action, Answer, Decision, Process, StateClause, Statement, Transi
 
 /// What stands at a place: an action, a question, or an answer of a DECISION.
 #[derive(Clone, Copy)]
-pub(crate) enum Standing<'a> {
+pub enum Standing<'a> {
     Action(&'a Action),
     Question(&'a Decision),
     Answer(&'a Decision, &'a Answer),
@@ -12,7 +12,7 @@ pub(crate) enum Standing<'a> {
 
 /// Where something begins, and what it is.
 #[derive(Clone, Copy)]
-pub(crate) struct Found<'a> {
+pub struct Found<'a> {
     pub at: u32,
     pub standing: Standing<'a>,
 }
@@ -96,7 +96,7 @@ fn in_clauses<'a>(clauses: &'a [StateClause], place: u32) -> Option<Found<'a>> {
 }
 
 /// What stands at a place of a process: of all that begins before it the last.
-pub(crate) fn standing_at<'a>(process: &'a Process, place: u32) -> Option<Found<'a>> {
+pub fn standing_at<'a>(process: &'a Process, place: u32) -> Option<Found<'a>> {
     let mut found = in_transition(&process.start.transition, place);
     for part in &process.states {
         found = later(found, in_clauses(&part.clauses, place), place);
@@ -108,10 +108,7 @@ pub(crate) fn standing_at<'a>(process: &'a Process, place: u32) -> Option<Found<
 }
 
 /// The process in which a place stands: of those that begin before it the last.
-pub(crate) fn process_at<'t, 'a>(
-    table: &'t BlockTable<'a>,
-    place: u32,
-) -> Option<&'t ProcessTable<'a>> {
+pub fn process_at<'t, 'a>(table: &'t BlockTable<'a>, place: u32) -> Option<&'t ProcessTable<'a>> {
     let mut found = None;
     for process in table.tables() {
         if process.process().name.at <= place {
