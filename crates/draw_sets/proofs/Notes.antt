@@ -59,15 +59,17 @@ turn all line text i b within is h = record {
   written = h.written;
 }
 
-pub byte_more : (all rest line text : List ℕ) (b : ℕ) → IsBegun all (b ∷ rest) line text → IsBegun all rest (line ++ b ∷ []) text
-byte_more all rest line text b h = record {
+pub byte_more : (all rest line after text : List ℕ) (b : ℕ) → after ≡ line ++ b ∷ [] → IsBegun all (b ∷ rest) line text → IsBegun all rest after text
+byte_more all rest line after text b grown h = record {
   noted = h.noted;
-  given = h.given ∙ ap (λ x. flat_map bare_line h.noted ++ x) (sym (append_assoc line (b ∷ []) rest));
+  given = h.given
+      ∙ (ap (λ x. flat_map bare_line h.noted ++ x) (sym (append_assoc line (b ∷ []) rest))
+      ∙ ap (λ x. flat_map bare_line h.noted ++ (x ++ rest)) (sym grown));
   written = h.written;
 }
 
-pub line_more : (all rest line text new : List ℕ) (b : ℕ) → b ≡ 10 → IsBelow text line new → IsBegun all (b ∷ rest) line text → IsBegun all rest [] new
-line_more all rest line text new b feed said h =
+pub line_more : (all rest line after text new : List ℕ) (b : ℕ) → b ≡ 10 → after ≡ [] → IsBelow text line new → IsBegun all (b ∷ rest) line text → IsBegun all rest after new
+line_more all rest line after text new b feed none said h =
     let n : Noted = record { line = line; notes = said.notes } in
     let before : List ℕ = flat_map bare_line h.noted in
     record {
@@ -76,7 +78,8 @@ line_more all rest line text new b feed said h =
           ∙ (ap (λ x. before ++ (line ++ x ∷ rest)) feed
           ∙ (ap (λ x. before ++ x) (sym (append_assoc line (10 ∷ []) rest))
           ∙ (sym (append_assoc before (line ++ 10 ∷ []) rest)
-          ∙ ap (λ x. x ++ rest) (flat_map_more bare_line [] h.noted n))));
+          ∙ (ap (λ x. x ++ rest) (flat_map_more bare_line [] h.noted n)
+          ∙ ap (λ x. flat_map bare_line (h.noted ++ n ∷ []) ++ (x ++ rest)) (sym none)))));
       written = said.written ∙ (ap (λ x. x ++ (line ++ 10 ∷ indented true said.notes)) h.written ∙ flat_map_more noted_lines [] h.noted n);
     }
 

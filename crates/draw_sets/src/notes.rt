@@ -380,9 +380,9 @@ fn push_byte(
     if byte == b'\n' {
         push_noted(alloc, text, blamed, olds, news, line)?;
         line.clear();
-    } else {
-        line.push(byte)?;
+        return Ok(());
     }
+    line.push(byte)?;
     Ok(())
 }
 

@@ -140,6 +140,24 @@ fn own_text(set: &Named<'_>) -> &'static str {
     }
 }
 
+/// A set of the program's own, or the exit status where there is none.
+fn own_side<H: Eprint, W: Write>(
+    alloc: Global,
+    teller: &Teller<'_, H>,
+    named: SideName<'_>,
+    set: &Named<'_>,
+    writer: &mut W,
+) -> Result<Side, u8>
+    ensures set { IfOk result (λ side. IsGiven (own_text_of set.now) (λ bytes. IsSetOf bytes side.set)) }
+    ensures kept { IfOk result (λ _. W.contents writer.new ≡ W.contents writer.old) }
+    ensures status { IfErr result (λ s. (s ≡ 2) ⊎ (s ≡ 4)) }
+{
+    match own_set(set) {
+        Some(own) => with_text(alloc, teller, named, own, own_text(set).as_bytes(), writer),
+        None => Err(FAILED),
+    }
+}
+
 /// One of the sets that the command line names, or the exit status where there is none.
 fn named_side<R: Runtime + AllocGlobal, H: Eprint, W: Write>(
     rt: &R,
@@ -155,13 +173,9 @@ fn named_side<R: Runtime + AllocGlobal, H: Eprint, W: Write>(
     let name = set_word(&set);
     let named = SideName { side, name };
     match set {
-        Named::Standard | Named::Q703 | Named::Monitors => match own_set(&set) {
-            Some(own) => {
-                let text = own_text(&set).as_bytes();
-                with_text(rt.alloc(), teller, named, own, text, writer)
-            }
-            None => Err(FAILED),
-        },
+        Named::Standard | Named::Q703 | Named::Monitors => {
+            own_side(rt.alloc(), teller, named, &set, writer)
+        }
         Named::Stdin => {
             let reader = NamedReader::new(teller, STDIN, rt.reader());
             read_side(rt.alloc(), teller, named, reader, writer)
