@@ -82,14 +82,14 @@ pub fn unknown_name(
     index: usize,
 ) -> Result<(), AllocError> {
     let class = class_of(read, index);
-    let name = read.spelled(index);
-    let said = &mut notes.said;
     if class.is_local() {
         let process = read.spelled(read.process(index));
-        push_all(said, &[process, " has no ", class.text(), " ", name])?;
+        push_all(&mut notes.said, &[process, " has no "])?;
     } else {
-        push_all(said, &["there is no ", class.text(), " ", name])?;
+        notes.said.push_str("there is no ")?;
     }
+    let name = read.spelled(index);
+    push_all(&mut notes.said, &[class.text(), " ", name])?;
     push_hint(alloc, notes, read, all, index, class)
 }
 

@@ -12,4 +12,4 @@ loop-byte-preserved c =
 
 pub returns : goal.returns
 returns c =
-    ended c.args.lines.now _ _ _ _ (drop_all c.args.lines.now c.loop-byte.byte-index c.loop-byte-test.false) c.loop-byte.invariant (search rules)
+    ended c.args.lines.now _ _ _ _ (drop_all c.loop-byte.byte-index c.args.lines.now c.loop-byte-test.false) c.loop-byte.invariant (search rules)
