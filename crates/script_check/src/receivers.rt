@@ -172,12 +172,10 @@ fn add_lost(notes: &mut Notes, sent: &Sent<'_, '_>, lost: &Lost) -> Result<(), A
         Lost::NoWay(signal, party) => {
             let own = sent.own_name();
             let back = sent.signal.as_str();
-            push_all(said, &["no route carries ", back, " from ", own.as_str()])?;
-            let who = party_name(party);
-            push_all(
-                said,
-                &[" back to ", who, ", which may have sent ", signal.as_str()],
-            )
+            push_all(said, &["no route carries ", back])?;
+            push_all(said, &[" from ", own.as_str()])?;
+            push_all(said, &[" back to ", party_name(party)])?;
+            push_all(said, &[", which may have sent ", signal.as_str()])
         }
     }
 }

@@ -24,7 +24,8 @@ fn push_declared(
 ) -> Result<(), AllocError> {
     let name = read.spelled(found.index);
     let hint = &mut notes.hint;
-    push_all(hint, &[name, " is a ", found.class.text(), ", line "])?;
+    push_all(hint, &[name, " is a "])?;
+    push_all(hint, &[found.class.text(), ", line "])?;
     push_number(alloc, &mut notes.hint, read.line(found.index))
 }
 
@@ -38,7 +39,10 @@ fn push_other(
 ) -> Result<(), AllocError> {
     push_declared(alloc, notes, read, found)?;
     match instead(wanted, found.class) {
-        Some(word) => push_all(&mut notes.hint, &[word, read.spelled(found.index)]),
+        Some(word) => {
+            notes.hint.push_str(word)?;
+            notes.hint.push_str(read.spelled(found.index))
+        }
         None => Ok(()),
     }
 }
@@ -88,8 +92,8 @@ pub fn unknown_name(
     } else {
         notes.said.push_str("there is no ")?;
     }
-    let name = read.spelled(index);
-    push_all(&mut notes.said, &[class.text(), " ", name])?;
+    push_all(&mut notes.said, &[class.text(), " "])?;
+    notes.said.push_str(read.spelled(index))?;
     push_hint(alloc, notes, read, all, index, class)
 }
 
@@ -104,11 +108,10 @@ pub fn double_name(
     let name = read.spelled(index);
     match find_before(read, all, index) {
         Some((first, class)) => {
-            let kind = class.text();
-            let said = &mut notes.said;
+            push_all(&mut notes.said, &["the ", class.text(), " "])?;
             push_all(
-                said,
-                &["the ", kind, " ", name, " has a name that is there already"],
+                &mut notes.said,
+                &[name, " has a name that is there already"],
             )?;
             push_declared(alloc, notes, read, first)
         }
