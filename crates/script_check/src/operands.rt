@@ -4,6 +4,14 @@ use sdl_sorts::sort_in;
 use sdl_tables::ProcessTable;
 use sdl_tree::{BinaryOperator, Expression, Sort, UnaryOperator};
 
+/// On which side of which operator an operand stands.
+#[derive(Clone, Copy)]
+pub(crate) enum Side {
+    Behind(UnaryOperator),
+    Left(BinaryOperator),
+    Right(BinaryOperator),
+}
+
 /// Where an expression begins.
 pub(crate) fn place(expression: &Expression) -> u32 {
     match expression {
@@ -12,27 +20,6 @@ pub(crate) fn place(expression: &Expression) -> u32 {
         Expression::Variable { at, .. } => *at,
         Expression::Unary { at, .. } => *at,
         Expression::Binary { at, .. } => *at,
-    }
-}
-
-/// An operator as it is written.
-fn sign(operator: BinaryOperator) -> &'static str {
-    match operator {
-        BinaryOperator::Or => "OR",
-        BinaryOperator::Xor => "XOR",
-        BinaryOperator::And => "AND",
-        BinaryOperator::Equal => "=",
-        BinaryOperator::NotEqual => "/=",
-        BinaryOperator::Less => "<",
-        BinaryOperator::LessEqual => "<=",
-        BinaryOperator::Greater => ">",
-        BinaryOperator::GreaterEqual => ">=",
-        BinaryOperator::Add => "+",
-        BinaryOperator::Subtract => "-",
-        BinaryOperator::Multiply => "*",
-        BinaryOperator::Divide => "/",
-        BinaryOperator::Modulo => "MOD",
-        BinaryOperator::Remainder => "REM",
     }
 }
 
@@ -56,8 +43,7 @@ fn is_denied(operand: &Expression) -> bool {
 /// Why an operand that begins at a place is wrong, if another sort is wanted of it.
 fn operand_cause(
     process: &ProcessTable,
-    side: &'static str,
-    sign: &'static str,
+    side: Side,
     want: Option<Sort>,
     operand: &Expression,
     at: u32,
@@ -68,7 +54,6 @@ fn operand_cause(
     }
     Some(Cause::Operand {
         side,
-        sign,
         want,
         found,
         is_denied: is_denied(operand),
@@ -123,11 +108,11 @@ fn unary_cause(
     operand: &Expression,
     at: u32,
 ) -> Option<Cause> {
-    let (sign, want) = match operator {
-        UnaryOperator::Negate => ("-", Sort::Integer),
-        UnaryOperator::Not => ("NOT", Sort::Boolean),
+    let want = match operator {
+        UnaryOperator::Negate => Sort::Integer,
+        UnaryOperator::Not => Sort::Boolean,
     };
-    operand_cause(process, "behind", sign, Some(want), operand, at)
+    operand_cause(process, Side::Behind(operator), Some(want), operand, at)
 }
 
 /// Why one of two operands is wrong that begins at a place.
@@ -139,9 +124,8 @@ fn binary_cause(
     at: u32,
 ) -> Option<Cause> {
     let want = operand_sort(operator, sort_in(process, left));
-    let sign = sign(operator);
     first_of(
-        operand_cause(process, "left of", sign, want, left, at),
-        operand_cause(process, "right of", sign, want, right, at),
+        operand_cause(process, Side::Left(operator), want, left, at),
+        operand_cause(process, Side::Right(operator), want, right, at),
     )
 }

@@ -1,7 +1,8 @@
 //! What is said of a wrong sort (S3).
-use crate::sorts::Cause;
+use crate::operands::Side;
+use crate::sorts::{Cause, Here};
 use script_point::{Notes, push_all, push_number};
-use sdl_tree::Sort;
+use sdl_tree::{BinaryOperator, Sort, UnaryOperator};
 use std::alloc::{AllocError, Global};
 
 /// A sort with its article.
@@ -23,7 +24,8 @@ fn add_sorts(
 ) -> Result<(), AllocError> {
     push_all(&mut notes.said, words)?;
     notes.said.push_str(article(want))?;
-    push_all(&mut notes.under, &[under, article(found)])
+    notes.under.push_str(under)?;
+    notes.under.push_str(article(found))
 }
 
 /// What is said of a parameter of a signal.
@@ -65,12 +67,18 @@ fn add_number(
 }
 
 /// What is said of an answer.
-fn add_answer(notes: &mut Notes, is_truth: bool, here: &str) -> Result<(), AllocError> {
+fn add_answer(notes: &mut Notes, is_truth: bool, here: Here) -> Result<(), AllocError> {
     if is_truth {
         notes
             .said
             .push_str("an answer to a question of Booleans is TRUE or FALSE")?;
-        push_all(&mut notes.under, &["this is ", here])
+        notes.under.push_str(match here {
+            Here::Integer => "this is an Integer",
+            Here::Boolean => "this is a Boolean",
+            Here::Relation => "this is a relation",
+            Here::Range => "this is a range",
+            Here::Nothing => "",
+        })
     } else {
         notes
             .said
@@ -79,21 +87,62 @@ fn add_answer(notes: &mut Notes, is_truth: bool, here: &str) -> Result<(), Alloc
     }
 }
 
+/// An operator as it is written.
+fn sign(operator: BinaryOperator) -> &'static str {
+    match operator {
+        BinaryOperator::Or => "OR",
+        BinaryOperator::Xor => "XOR",
+        BinaryOperator::And => "AND",
+        BinaryOperator::Equal => "=",
+        BinaryOperator::NotEqual => "/=",
+        BinaryOperator::Less => "<",
+        BinaryOperator::LessEqual => "<=",
+        BinaryOperator::Greater => ">",
+        BinaryOperator::GreaterEqual => ">=",
+        BinaryOperator::Add => "+",
+        BinaryOperator::Subtract => "-",
+        BinaryOperator::Multiply => "*",
+        BinaryOperator::Divide => "/",
+        BinaryOperator::Modulo => "MOD",
+        BinaryOperator::Remainder => "REM",
+    }
+}
+
+/// The operator of an operand as it is written.
+fn side_sign(side: Side) -> &'static str {
+    match side {
+        Side::Behind(operator) => match operator {
+            UnaryOperator::Negate => "-",
+            UnaryOperator::Not => "NOT",
+        },
+        Side::Left(operator) => sign(operator),
+        Side::Right(operator) => sign(operator),
+    }
+}
+
+/// That an operand is wanted on its side.
+fn side_text(side: Side) -> &'static str {
+    match side {
+        Side::Behind(_) => " is wanted behind `",
+        Side::Left(_) => " is wanted left of `",
+        Side::Right(_) => " is wanted right of `",
+    }
+}
+
 /// What is said of an operand.
 fn add_operand(
     notes: &mut Notes,
-    side: &str,
-    sign: &str,
+    side: Side,
     want: Option<Sort>,
     found: Option<Sort>,
     is_denied: bool,
 ) -> Result<(), AllocError> {
-    let wanted = article(want);
-    push_all(
-        &mut notes.said,
-        &[wanted, " is wanted ", side, " `", sign, "`"],
-    )?;
-    push_all(&mut notes.under, &["this is ", article(found)])?;
+    notes.said.push_str(article(want))?;
+    notes.said.push_str(side_text(side))?;
+    notes.said.push_str(side_sign(side))?;
+    notes.said.push_str("`")?;
+    notes.under.push_str("this is ")?;
+    notes.under.push_str(article(found))?;
     if is_denied {
         return notes
             .hint
@@ -107,11 +156,10 @@ pub(crate) fn explain(alloc: Global, notes: &mut Notes, cause: &Cause) -> Result
     match cause {
         Cause::Operand {
             side,
-            sign,
             want,
             found,
             is_denied,
-        } => add_operand(notes, side, sign, *want, *found, *is_denied),
+        } => add_operand(notes, *side, *want, *found, *is_denied),
         Cause::Parameter {
             signal,
             number,
@@ -149,6 +197,6 @@ pub(crate) fn explain(alloc: Global, notes: &mut Notes, cause: &Cause) -> Result
                 found,
             )
         }
-        Cause::Answer { is_truth, here } => add_answer(notes, *is_truth, here),
+        Cause::Answer { is_truth, here } => add_answer(notes, *is_truth, *here),
     }
 }

@@ -1,5 +1,5 @@
 //! Why a value, an answer or a place of an INPUT has the wrong sort, or why there are too many or too few of them (S3).
-use crate::operands::{first_of, in_expression, place};
+use crate::operands::{Side, first_of, in_expression, place};
 use script_point::{Standing, standing_at};
 use sdl_lex::Name;
 use sdl_sorts::{is_truth, sort_in};
@@ -13,8 +13,7 @@ use sdl_tree::{
 pub(crate) enum Cause {
     /// An operand of an operator.
     Operand {
-        side: &'static str,
-        sign: &'static str,
+        side: Side,
         want: Option<Sort>,
         found: Option<Sort>,
         is_denied: bool,
@@ -49,8 +48,18 @@ pub(crate) enum Cause {
     /// A value of an answer to a question of Booleans, or to one of Integers.
     Answer {
         is_truth: bool,
-        here: &'static str,
+        here: Here,
     },
+}
+
+/// What stands where a value of an answer is wrong.
+#[derive(Clone, Copy)]
+pub(crate) enum Here {
+    Integer,
+    Boolean,
+    Relation,
+    Range,
+    Nothing,
 }
 
 /// The sort of a variable.
@@ -273,21 +282,21 @@ fn in_initials(process: &ProcessTable, at: u32) -> Option<Cause> {
 }
 
 /// What stands at a place of an answer.
-fn here(answer: &Answer, at: u32) -> &'static str {
+fn standing_in(answer: &Answer, at: u32) -> Here {
     for range in &answer.ranges {
         match range {
             Range::Value(constant) if constant.at == at => {
                 return match constant.value {
-                    Literal::Integer(_) => "an Integer",
-                    Literal::Boolean(_) => "a Boolean",
+                    Literal::Integer(_) => Here::Integer,
+                    Literal::Boolean(_) => Here::Boolean,
                 };
             }
-            Range::Compared { at: place, .. } if *place == at => return "a relation",
-            Range::Between(least, _) if least.at == at => return "a range",
+            Range::Compared { at: place, .. } if *place == at => return Here::Relation,
+            Range::Between(least, _) if least.at == at => return Here::Range,
             _ => {}
         }
     }
-    ""
+    Here::Nothing
 }
 
 /// Why a process is wrong at a place.
@@ -303,7 +312,7 @@ pub(crate) fn wrong_sort(block: &BlockTable, process: &ProcessTable, at: u32) ->
             Standing::Question(decision) => in_expression(process, &decision.question, at),
             Standing::Answer(decision, answer) => Some(Cause::Answer {
                 is_truth: is_truth(process, &decision.question),
-                here: here(answer, at),
+                here: standing_in(answer, at),
             }),
         },
     }
