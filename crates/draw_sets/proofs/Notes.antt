@@ -1,16 +1,30 @@
 -- Lines with what is said below each of them.
-use Rattle.std.proofs.Common.{◌≡◌, refl, ◌∙◌, ℕ, ◌+◌, ◌<◌, ◌==◌, Bool, true, List, [], ◌∷◌, ◌++◌, length, drop, get_or, sym, ap, subst, codes, append_assoc, append-nil}
+use Rattle.std.proofs.Common.{◌≡◌, refl, ◌∙◌, ℕ, ◌+◌, ◌<◌, ◌≤◌, ◌==◌, Bool, true, false, List, [], ◌∷◌, ◌++◌, length, drop, get_or, sym, ap, subst, codes, append_assoc, append-nil}
 use Rattle.std.specs.List.{flat_map}
 use Rattle.std.proofs.lemmas.List.{at_drop_more, flat_map_more, drop_all}
 use Rattle.std.proofs.lemmas.List.Concat.{flat_map-append}
 use Rattle.draw_sets.specs.Noting.{spaced, indented, Noted, bare_line, noted_lines, connection_lines, AreAdded, AreNoted, AreWritten, IsBegun, IsBelow}
 
-pub indented_more : (begins : Bool) (lines out all : List ℕ) (i b : ℕ) → i < length lines → b ≡ get_or lines i b
-    → out ++ indented begins (drop i lines) ≡ all → (out ++ spaced begins b) ++ indented (b == 10) (drop (i + 1) lines) ≡ all
-indented_more begins lines out all i b within is h =
-    append_assoc out (spaced begins b) (indented (b == 10) (drop (i + 1) lines))
-    ∙ (ap (λ x. out ++ (spaced begins x ++ indented (x == 10) (drop (i + 1) lines))) is
-    ∙ (ap (λ y. out ++ y) (sym (at_drop_more (indented begins) lines i b within)) ∙ h))
+pub indented_more : (begins next : Bool) (lines out new all : List ℕ) (i d : ℕ) → i < length lines → next ≡ (get_or lines i d == 10) → new ≡ out ++ spaced begins (get_or lines i d)
+    → out ++ indented begins (drop i lines) ≡ all → new ++ indented next (drop (i + 1) lines) ≡ all
+indented_more begins next lines out new all i d within is grown h =
+    let b : ℕ = get_or lines i d in
+    let rest : List ℕ = drop (i + 1) lines in
+    ap (λ x. x ++ indented next rest) grown
+    ∙ (ap (λ x. (out ++ spaced begins b) ++ indented x rest) is
+    ∙ (append_assoc out (spaced begins b) (indented (b == 10) rest)
+    ∙ (ap (λ y. out ++ y) (sym (at_drop_more (indented begins) lines i d within)) ∙ h)))
+
+-- at the end of the lines: behind an end, or behind the last line, whose end comes
+
+pub indented_whole : (begins : Bool) (lines out all : List ℕ) (i : ℕ) → length lines ≤ i → begins ≡ true → out ++ indented begins (drop i lines) ≡ all → out ≡ all
+indented_whole begins lines out all i past is h =
+    sym (append-nil out)
+    ∙ (ap (λ x. out ++ indented x []) (sym is) ∙ (ap (λ x. out ++ indented begins x) (sym (drop_all i lines past)) ∙ h))
+
+pub indented_closed : (begins : Bool) (lines out new all : List ℕ) (i : ℕ) → length lines ≤ i → begins ≡ false → new ≡ out ++ 10 ∷ [] → out ++ indented begins (drop i lines) ≡ all → new ≡ all
+indented_closed begins lines out new all i past is grown h =
+    grown ∙ (ap (λ x. out ++ indented x []) (sym is) ∙ (ap (λ x. out ++ indented begins x) (sym (drop_all i lines past)) ∙ h))
 
 -- a line, its end, and what is said below it, one after another
 pub below : (old line notes one two new : List ℕ) → one ≡ old ++ line → two ≡ one ++ 10 ∷ [] → new ≡ two ++ indented true notes → IsBelow old line new
@@ -50,12 +64,10 @@ more_added old now new one other = record {
 pub begun : (all : List ℕ) → IsBegun all all [] []
 begun all = record { noted = []; given = refl; written = refl }
 
-pub turn : (all line text : List ℕ) (i b : ℕ) → i < length all → b ≡ get_or all i b → IsBegun all (drop i all) line text → IsBegun all (b ∷ drop (i + 1) all) line text
-turn all line text i b within is h = record {
+pub turn : (all line text : List ℕ) (i d : ℕ) → i < length all → IsBegun all (drop i all) line text → IsBegun all (get_or all i d ∷ drop (i + 1) all) line text
+turn all line text i d within h = record {
   noted = h.noted;
-  given = h.given
-      ∙ (ap (λ x. flat_map bare_line h.noted ++ (line ++ x)) (at_drop_more (λ x. x) all i b within)
-      ∙ ap (λ x. flat_map bare_line h.noted ++ (line ++ x ∷ drop (i + 1) all)) (sym is));
+  given = h.given ∙ ap (λ x. flat_map bare_line h.noted ++ (line ++ x)) (at_drop_more (λ x. x) all i d within);
   written = h.written;
 }
 
@@ -68,8 +80,9 @@ byte_more all rest line after text b grown h = record {
   written = h.written;
 }
 
-pub line_more : (all rest line after text new : List ℕ) (b : ℕ) → b ≡ 10 → after ≡ [] → IsBelow text line new → IsBegun all (b ∷ rest) line text → IsBegun all rest after new
-line_more all rest line after text new b feed none said h =
+pub line_more : (all rest line shown after text new : List ℕ) (b : ℕ) → b ≡ 10 → shown ≡ line → after ≡ [] → IsBelow text shown new → IsBegun all (b ∷ rest) line text
+    → IsBegun all rest after new
+line_more all rest line shown after text new b feed same none said h =
     let n : Noted = record { line = line; notes = said.notes } in
     let before : List ℕ = flat_map bare_line h.noted in
     record {
@@ -80,15 +93,17 @@ line_more all rest line after text new b feed none said h =
           ∙ (sym (append_assoc before (line ++ 10 ∷ []) rest)
           ∙ (ap (λ x. x ++ rest) (flat_map_more bare_line [] h.noted n)
           ∙ ap (λ x. flat_map bare_line (h.noted ++ n ∷ []) ++ (x ++ rest)) (sym none)))));
-      written = said.written ∙ (ap (λ x. x ++ (line ++ 10 ∷ indented true said.notes)) h.written ∙ flat_map_more noted_lines [] h.noted n);
+      written = said.written
+          ∙ (ap (λ x. text ++ (x ++ 10 ∷ indented true said.notes)) same
+          ∙ (ap (λ x. x ++ (line ++ 10 ∷ indented true said.notes)) h.written ∙ flat_map_more noted_lines [] h.noted n));
     }
 
-pub ended : (all rest line text new : List ℕ) → rest ≡ [] → IsBegun all rest line text → new ≡ text ++ line → AreWritten all new
-ended all rest line text new done h is = record {
+pub ended : (all rest line shown text new : List ℕ) → rest ≡ [] → shown ≡ line → IsBegun all rest line text → new ≡ text ++ shown → AreWritten all new
+ended all rest line shown text new done same h is = record {
   noted = h.noted;
   rest = line;
   given = h.given ∙ ap (λ x. flat_map bare_line h.noted ++ x) (ap (λ x. line ++ x) done ∙ append-nil line);
-  written = is ∙ ap (λ x. x ++ line) h.written;
+  written = is ∙ (ap (λ x. text ++ x) same ∙ ap (λ x. x ++ line) h.written);
 }
 
 -- lines alone, with nothing said of them

@@ -49,13 +49,14 @@ fn push_spaced(text: &mut Vec<u8>, begins: bool, byte: u8) -> Result<(), AllocEr
 {
     if begins {
         push_bytes(text, b"    ")?;
+        text.push(byte)?;
+        return Ok(());
     }
     text.push(byte)?;
     Ok(())
 }
 
 /// Lines behind what is there, each with four spaces in front; the last one gets an end.
-#[tactic(auto, using(crate::proofs::Notes::indented_more))]
 fn push_indented(text: &mut Vec<u8>, lines: &[u8]) -> Result<(), AllocError>
     ensures { OnOk result (text.new.items ≡ text.old.items ++ indented true lines.now) }
 {
@@ -64,9 +65,10 @@ fn push_indented(text: &mut Vec<u8>, lines: &[u8]) -> Result<(), AllocError>
         push_spaced(text, begins, *byte)?;
         begins = *byte == b'\n';
     }
-    if !begins {
-        text.push(b'\n')?;
+    if begins {
+        return Ok(());
     }
+    text.push(b'\n')?;
     Ok(())
 }
 
@@ -330,6 +332,15 @@ fn push_connection(
     Ok(())
 }
 
+/// The connection of the other text with the name of this one, where it is marked.
+fn marked<'a>(is_marked: bool, section: &Section, news: &'a [Section]) -> Option<&'a Section> {
+    if is_marked {
+        connection(news, &section.process, &section.connection)
+    } else {
+        None
+    }
+}
+
 /// The lines of a connection, where it is marked and both texts have it.
 fn push_marked(
     alloc: Global,
@@ -340,10 +351,7 @@ fn push_marked(
 ) -> Result<(), AllocError>
     ensures { OnOk result (AreAdded text.old.items text.new.items) }
 {
-    if !is_marked {
-        return Ok(());
-    }
-    match connection(news, &section.process, &section.connection) {
+    match marked(is_marked, section, news) {
         Some(other) => push_connection(alloc, text, section, other),
         None => Ok(()),
     }

@@ -1,4 +1,3 @@
-use Rattle.std.proofs.Common.{rules}
 use Rattle.std.proofs.lemmas.List.{drop_all}
 use Rattle.draw_sets.proofs.Notes.{begun, turn, ended}
 use Rattle.draw_sets.proofs.notes.lines_noted.Goals as goal
@@ -8,8 +7,9 @@ loop-byte-init c = begun _
 
 pub loop-byte-preserved : goal.loop-byte-preserved
 loop-byte-preserved c =
-    c.in_ok-push_byte.ensures c.args.lines.now _ (turn c.args.lines.now _ _ c.loop-byte.byte-index c.byte-item.result c.loop-byte-test.true c.byte-item.is c.loop-byte.invariant)
+    c.in_ok-push_byte.ensures c.args.lines.now _ (turn c.args.lines.now _ _ c.loop-byte.byte-index _ c.loop-byte-test.true c.loop-byte.invariant)
 
 pub returns : goal.returns
 returns c =
-    ended c.args.lines.now _ _ _ _ (drop_all c.loop-byte.byte-index c.args.lines.now c.loop-byte-test.false) c.loop-byte.invariant (search rules)
+    ended c.args.lines.now _ _ _ _ _ (drop_all c.loop-byte.byte-index c.args.lines.now c.loop-byte-test.false) c.deref.ensures.value
+    c.loop-byte.invariant c.in_ok-push_bytes.ensures

@@ -1,0 +1,15 @@
+use Rattle.std.proofs.Common.{rules}
+use Rattle.draw_sets.proofs.Notes.{indented_more, indented_whole, indented_closed}
+use Rattle.draw_sets.proofs.notes.push_indented.Goals as goal
+
+pub loop-byte-preserved : goal.loop-byte-preserved
+loop-byte-preserved c =
+    indented_more _ _ c.args.lines.now _ _ _ c.loop-byte.byte-index _ c.loop-byte-test.true (search rules) c.in_ok-push_spaced.ensures c.loop-byte.invariant
+
+pub returns-then-begins : goal.returns-then-begins
+returns-then-begins c = indented_whole _ c.args.lines.now _ _ c.loop-byte.byte-index c.loop-byte-test.false c.if-begins.true c.loop-byte.invariant
+
+pub returns-else-begins : goal.returns-else-begins
+returns-else-begins c =
+    indented_closed _ c.args.lines.now _ _ _ c.loop-byte.byte-index c.loop-byte-test.false c.if-begins.false c.in_ok-push.ensures.items
+    c.loop-byte.invariant
