@@ -1,10 +1,11 @@
 -- What `diff` says of two sets.
-use Rattle.std.proofs.Common.{◌≡◌, ◌∙◌, ◌⊎◌, inl, inr, ℕ, List, Option, None, Some, subst, sym, rules}
+use Rattle.std.proofs.Common.{◌≡◌, ◌∙◌, ◌⊎◌, inl, inr, ℕ, List, [], Option, None, Some, subst, sym, rules}
 use Rattle.script_check.specs.Checked.{given, IsGiven, IsSetOf}
 use Rattle.script_check.specs.declared.sets.SetWord.{SetWord}
 use Rattle.script_check.specs.declared.sets.SetWord.TheVariants.{Standard as standard_set, Q703 as q703_set, Monitors as monitors_set, Text}
 use Rattle.script_check.specs.turn_code_types.draft.Draft.{Draft}
-use Rattle.mtp2_play.specs.Compared.{AreAlike, IsCompared, PrintsDifference}
+use Rattle.draw_diff.specs.declared.comparing.Difference.{Difference}
+use Rattle.mtp2_play.specs.Compared.{AreAlike, AreFound, IsCompared, PrintsDifference}
 use Rattle.mtp2_play.specs.Sets.{own_set_of, own_text_of}
 use Rattle.mtp2_words.specs.declared.words.Named.{Named}
 use Rattle.mtp2_words.specs.declared.words.Named.TheVariants.{Standard, Q703, Monitors, Stdin, File}
@@ -30,6 +31,18 @@ of_own remaining Monitors monitors_set d is g = g
 of_own remaining Monitors (Text text) d is g = search (rules, is)
 of_own remaining Stdin own d is g = search (rules, is)
 of_own remaining (File path) own d is g = search (rules, is)
+
+-- nothing was found of two sets that are alike, and of them alone
+
+pub alike_of : (d e : Draft) (found : Difference) → AreFound d e found → (found.items.items ≡ []) × (found.olds.items ≡ []) × (found.news.items ≡ []) → AreAlike d e
+alike_of d e found h none = record {
+  items = sym h.items ∙ none.0;
+  olds = sym h.olds ∙ none.1.0;
+  news = sym h.news ∙ none.1.1;
+}
+
+pub differ_of : (d e : Draft) (found : Difference) → AreFound d e found → ((found.items.items ≡ []) × (found.olds.items ≡ []) × (found.news.items ≡ []) → ⊥) → AreAlike d e → ⊥
+differ_of d e found h some alike = some (h.items ∙ alike.items, h.olds ∙ alike.olds, h.news ∙ alike.news)
 
 pub compared : (one other : Option (List ℕ)) (d e : Draft) (status : ℕ) (old between last new : Option (List ℕ)) → IsGiven one (λ bytes. IsSetOf bytes d)
     → IsGiven other (λ bytes. IsSetOf bytes e) → between ≡ old → last ≡ between → (status ≡ 0 → AreAlike d e) → (status ≡ 1 → AreAlike d e → ⊥)

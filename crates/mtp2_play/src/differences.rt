@@ -294,6 +294,14 @@ fn write_difference<W: Write>(
     writer.write_all(&text)
 }
 
+/// What two sets differ in.
+fn found_in(alloc: Global, old: &Verified, new: &Verified) -> Result<Difference, AllocError>
+    ensures { IfOk result (λ found. AreFound old.now new.now found) }
+{
+    let found = compare(alloc, old.draft(), new.draft())?;
+    Ok(found)
+}
+
 /// The exit status of a difference.
 fn status_of(found: &Difference) -> u8
     ensures alike { result ≡ 0 → (found.now.items.items ≡ []) × (found.now.olds.items ≡ []) × (found.now.news.items ≡ []) }
@@ -315,7 +323,7 @@ fn compare_sides<W: Write>(alloc: Global, old: &Side, new: &Side, writer: &mut W
     ensures printed { (result ≡ 0) ⊎ (result ≡ 1) → PrintsDifference (W.contents writer.old) (W.contents writer.new) old.now.set new.now.set }
     ensures status { (result ≡ 0) ⊎ (result ≡ 1) ⊎ (result ≡ 4) }
 {
-    match compare(alloc, old.set.draft(), new.set.draft()) {
+    match found_in(alloc, &old.set, &new.set) {
         Ok(found) => match write_difference(alloc, old, new, &found, writer) {
             Ok(()) => status_of(&found),
             Err(_) => FAILED,

@@ -1,0 +1,7 @@
+use Rattle.std.proofs.Common.{ℕ, List, subst}
+use Rattle.std.proofs.lemmas.Result.{IfOk-weaker}
+use Rattle.draw_sets.specs.Noting.{AreNoted}
+use Rattle.mtp2_play.proofs.differences.way_lines.Goals as goal
+
+pub returns : goal.returns
+returns c = IfOk-weaker c.noted.result _ _ (λ v h. subst (λ (ls : List ℕ). AreNoted ls v.items) (cc) h) c.noted.ensures
