@@ -3,3 +3,4 @@ mod Failing
 mod InTurn
 mod Known
 mod Speaking
+mod Written

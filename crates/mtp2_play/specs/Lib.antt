@@ -1,4 +1,5 @@
 pub mod Compared
+pub mod Measured
 pub mod Printed
 pub mod Served
 pub mod Sets

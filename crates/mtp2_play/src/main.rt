@@ -15,6 +15,7 @@ mod captures;
 mod checks;
 mod differences;
 mod lines;
+mod measuring;
 mod pictures;
 mod running;
 mod sets;
