@@ -61,8 +61,8 @@ more_added old now new one other = record {
 
 -- ---- lines, one after another
 
-pub begun : (all : List ℕ) → IsBegun all all [] []
-begun all = record { noted = []; given = refl; written = refl }
+pub begun : (all line text : List ℕ) → line ≡ [] → text ≡ [] → IsBegun all all line text
+begun all line text unbegun unwritten = record { noted = []; given = ap (λ x. x ++ all) (sym unbegun); written = unwritten }
 
 pub turn : (all line text : List ℕ) (i d : ℕ) → i < length all → IsBegun all (drop i all) line text → IsBegun all (get_or all i d ∷ drop (i + 1) all) line text
 turn all line text i d within h = record {

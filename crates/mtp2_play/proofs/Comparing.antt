@@ -1,14 +1,24 @@
 -- What `diff` says of two sets.
-use Rattle.std.proofs.Common.{◌≡◌, ◌∙◌, ◌⊎◌, inl, inr, ℕ, List, [], Option, None, Some, subst, sym, rules}
+use Rattle.std.proofs.Common.{◌≡◌, ◌∙◌, ◌⊎◌, inl, inr, ℕ, ◌+◌, ◌-◌, min, List, [], ◌++◌, Option, None, Some, ap, subst, sym, codes, decimal, rules, arith}
+use Rattle.std.specs.Prelude.{All}
+use Rattle.std.specs.Io.KnownBytes.{Appends}
+use Rattle.draw_diff.specs.Items.{item_lines, items_of}
+use Rattle.draw_diff.specs.Ways.{lines_in, new_way_lines, old_way_lines, ways_in}
+use Rattle.draw_diff.specs.declared.comparing.Difference.{Difference}
+use Rattle.draw_sets.specs.Noting.{AreNoted}
+use Rattle.link_term.specs.Wanted.{wanted, Has, IsFirstLacking}
+use Rattle.link_term.specs.WantedText.{wanted_text}
+use Rattle.link_term.specs.link_processes_types.wanted.Wanted.{Wanted}
 use Rattle.script_check.specs.Checked.{given, IsGiven, IsSetOf}
 use Rattle.script_check.specs.declared.sets.SetWord.{SetWord}
 use Rattle.script_check.specs.declared.sets.SetWord.TheVariants.{Standard as standard_set, Q703 as q703_set, Monitors as monitors_set, Text}
 use Rattle.script_check.specs.turn_code_types.draft.Draft.{Draft}
-use Rattle.draw_diff.specs.declared.comparing.Difference.{Difference}
-use Rattle.mtp2_play.specs.Compared.{AreAlike, AreFound, IsCompared, PrintsDifference}
-use Rattle.mtp2_play.specs.Sets.{own_set_of, own_text_of}
 use Rattle.mtp2_words.specs.declared.words.Named.{Named}
 use Rattle.mtp2_words.specs.declared.words.Named.TheVariants.{Standard, Q703, Monitors, Stdin, File}
+use Rattle.mtp2_play.specs.Compared.{same_text, terminal_text, way_lines, AreAlike, AreFound, IsCompared, IsSummary, PrintsDifference, SaysTerminal}
+use Rattle.mtp2_play.specs.Sets.{own_set_of, own_text_of}
+
+-- ---- whose sets these are
 
 -- what holds of bytes of which something may be known holds of some bytes
 pub of_some : (known : Option (List ℕ)) (d : Draft) → IsGiven known (λ bytes. IsSetOf bytes d) → IsGiven None (λ bytes. IsSetOf bytes d)
@@ -32,44 +42,111 @@ of_own remaining Monitors (Text text) d is g = search (rules, is)
 of_own remaining Stdin own d is g = search (rules, is)
 of_own remaining (File path) own d is g = search (rules, is)
 
+-- ---- what was found of them
+
+pub found_as : (d e a b : Draft) (found : Difference) → a ≡ d → b ≡ e → found.items.items ≡ item_lines (items_of a) (items_of b) → found.olds.items ≡ old_way_lines a b
+    → found.news.items ≡ new_way_lines a b → AreFound d e found
+found_as d e a b found one other items olds news =
+    let P : Draft → Type 0 = λ x. AreFound x e found in
+    let Q : Draft → Type 0 = λ y. AreFound a y found in
+    subst P one (subst Q other (record { items = items; olds = olds; news = news }))
+
 -- nothing was found of two sets that are alike, and of them alone
 
 pub alike_of : (d e : Draft) (found : Difference) → AreFound d e found → (found.items.items ≡ []) × (found.olds.items ≡ []) × (found.news.items ≡ []) → AreAlike d e
 alike_of d e found h none = record {
   items = sym h.items ∙ none.0;
-  olds = sym h.olds ∙ none.1.0;
-  news = sym h.news ∙ none.1.1;
+  olds = sym h.olds ∙ none.1;
+  news = sym h.news ∙ none.2;
 }
 
 pub differ_of : (d e : Draft) (found : Difference) → AreFound d e found → ((found.items.items ≡ []) × (found.olds.items ≡ []) × (found.news.items ≡ []) → ⊥) → AreAlike d e → ⊥
 differ_of d e found h some alike = some (h.items ∙ alike.items, h.olds ∙ alike.olds, h.news ∙ alike.news)
 
+-- ---- what is written of them
+
+-- the lines of transitions, of OLD and then of NEW
+pub lines_of : (d e : Draft) (found : Difference) (none olds one news two : List ℕ) → AreFound d e found → none ≡ [] → olds ≡ found.olds.items → one ≡ none ++ olds
+    → news ≡ found.news.items → two ≡ one ++ news → two ≡ way_lines d e
+lines_of d e found none olds one news two h empty before first after second =
+    let begun : one ≡ old_way_lines d e = first ∙ (ap (λ x. x ++ olds) empty ∙ (before ∙ h.olds)) in
+    second ∙ (ap (λ x. x ++ news) begun ∙ ap (λ x. old_way_lines d e ++ x) (after ∙ h.news))
+
+-- how many of them mean the same
+pub same_of : (d e : Draft) (found : Difference) (known same all : ℕ) (olds news text : List ℕ) → AreFound d e found → known ≡ ways_in d → olds ≡ found.olds.items
+    → news ≡ found.news.items → same ≡ known - lines_in olds → all ≡ min (known + lines_in news) 18446744073709551615
+    → text ≡ codes "same " ++ decimal same ++ codes " of " ++ decimal all ++ codes "\n" → text ≡ same_text d e
+same_of d e found known same all olds news text h ways before after less more is =
+    let same_is : same ≡ ways_in d - lines_in (old_way_lines d e) =
+    less ∙ (ap (λ n. n - lines_in olds) ways ∙ ap (λ x. ways_in d - lines_in x) (before ∙ h.olds)) in
+    let all_is : all ≡ min (ways_in d + lines_in (new_way_lines d e)) 18446744073709551615 =
+    more
+    ∙ (ap (λ n. min (n + lines_in news) 18446744073709551615) ways ∙ ap (λ x. min (ways_in d + lines_in x) 18446744073709551615) (after ∙ h.news)) in
+    is
+    ∙ (ap (λ n. codes "same " ++ decimal n ++ codes " of " ++ decimal all ++ codes "\n") same_is
+    ∙ ap (λ n. codes "same " ++ decimal (ways_in d - lines_in (old_way_lines d e)) ++ codes " of " ++ decimal n ++ codes "\n") all_is)
+
+-- whether a terminal finds its names
+
+pub says_yes : (d : Draft) (said : List ℕ) → said ≡ codes "yes" → All (Has d) wanted → SaysTerminal d said
+says_yes d said is has = inl (is, has)
+
+pub says_no : (d : Draft) (name : Wanted) (said : List ℕ) → said ≡ codes "no " ++ wanted_text name → IsFirstLacking d name wanted → SaysTerminal d said
+says_no d name said is lacks = inr (name, lacks, is)
+
+-- the last two lines, the second behind the first
+pub summed : (d e : Draft) (before after old new one line shown whole : List ℕ) → SaysTerminal d before → SaysTerminal e after → one ≡ same_text d e → old ≡ before
+    → new ≡ after → line ≡ terminal_text old new → shown ≡ line → whole ≡ one ++ shown → IsSummary d e whole
+summed d e before after old new one line shown whole of_old of_new first was is told same grown = record {
+  before = before;
+  after = after;
+  of_old = of_old;
+  of_new = of_new;
+  is_so = grown
+      ∙ (ap (λ x. x ++ shown) first
+      ∙ ap (λ x. same_text d e ++ x) (same ∙ (told ∙ (ap (λ x. terminal_text x new) was ∙ ap (λ x. terminal_text before x) is))));
+}
+
+-- all of it, one piece behind another
+pub written_of : (d e : Draft) (found : Difference) (old new : Option (List ℕ)) (none items one ways told two end said three all : List ℕ) → AreFound d e found → none ≡ []
+    → items ≡ found.items.items → one ≡ none ++ items → told ≡ ways → two ≡ one ++ told → said ≡ end → three ≡ two ++ said → all ≡ three
+    → AreNoted (way_lines d e) ways → IsSummary d e end → Appends old new all → PrintsDifference old new d e
+written_of d e found old new none items one ways told two end said three all h empty of_items first of_ways second of_end third same noted summary printed =
+    let lines : List ℕ = item_lines (items_of d) (items_of e) in
+    let one_is : one ≡ lines = first ∙ (ap (λ x. x ++ items) empty ∙ (of_items ∙ h.items)) in
+    let two_is : two ≡ lines ++ ways = second ∙ (ap (λ x. x ++ told) one_is ∙ ap (λ x. lines ++ x) of_ways) in
+    let three_is : three ≡ lines ++ ways ++ end = third ∙ (ap (λ x. x ++ said) two_is ∙ ap (λ x. lines ++ ways ++ x) of_end) in
+    record { ways = ways; end = end; noted = noted; summary = summary; written = subst (Appends old new) (same ∙ three_is) printed }
+
+-- ---- with which exit status
+
+ends_of : (status : ℕ) → (status ≡ 0) ⊎ (status ≡ 1) ⊎ (status ≡ 4) → (status ≡ 0) ⊎ (status ≡ 1) ⊎ (status ≡ 2) ⊎ (status ≡ 4)
+ends_of status (inl alike) = inl alike
+ends_of status (inr (inl differ)) = inr (inl differ)
+ends_of status (inr (inr failed)) = inr (inr (inr failed))
+
 pub compared : (one other : Option (List ℕ)) (d e : Draft) (status : ℕ) (old between last new : Option (List ℕ)) → IsGiven one (λ bytes. IsSetOf bytes d)
     → IsGiven other (λ bytes. IsSetOf bytes e) → between ≡ old → last ≡ between → (status ≡ 0 → AreAlike d e) → (status ≡ 1 → AreAlike d e → ⊥)
     → ((status ≡ 0) ⊎ (status ≡ 1) → PrintsDifference last new d e) → (status ≡ 0) ⊎ (status ≡ 1) ⊎ (status ≡ 4) → IsCompared one other status old new
 compared one other d e status old between last new is_old is_new first second alike differ printed ends = record {
-  alike = λ zero. record { old = d; new = e; is_old = is_old; is_new = is_new; holds = alike zero };
-  differ = λ one. record { old = d; new = e; is_old = is_old; is_new = is_new; holds = differ one };
+  alike = λ none. record { old = d; new = e; is_old = is_old; is_new = is_new; holds = alike none };
+  differ = λ some. record { old = d; new = e; is_old = is_old; is_new = is_new; holds = differ some };
   printed = λ said.
       let P : Option (List ℕ) → Type 0 = λ o. PrintsDifference o new d e in
       record { old = d; new = e; is_old = is_old; is_new = is_new; holds = subst P (second ∙ first) (printed said) };
-  ends = elim ends [
-    | inl zero ↦ inl zero
-    | inr (inl one) ↦ inr (inl one)
-    | inr (inr failed) ↦ inr (inr (inr failed))
-  ];
+  ends = ends_of status ends;
 }
 
+is_late : (status : ℕ) → (status ≡ 2) ⊎ (status ≡ 4) → (status ≡ 0) ⊎ (status ≡ 1) → ⊥
+is_late status (inl refused) (inl alike) = omega (arith, refused, alike)
+is_late status (inl refused) (inr differ) = omega (arith, refused, differ)
+is_late status (inr failed) (inl alike) = omega (arith, failed, alike)
+is_late status (inr failed) (inr differ) = omega (arith, failed, differ)
+
 pub turned_away : (one other : Option (List ℕ)) (status : ℕ) (old new : Option (List ℕ)) → (status ≡ 2) ⊎ (status ≡ 4) → IsCompared one other status old new
-turned_away one other status old new (inl two) = record {
-  alike = λ is. search (rules, two, is);
-  differ = λ is. search (rules, two, is);
-  printed = λ is. search (rules, two, is);
-  ends = inr (inr (inl two));
-}
-turned_away one other status old new (inr four) = record {
-  alike = λ is. search (rules, four, is);
-  differ = λ is. search (rules, four, is);
-  printed = λ is. search (rules, four, is);
-  ends = inr (inr (inr four));
+turned_away one other status old new h = record {
+  alike = λ none. absurd (is_late status h (inl none));
+  differ = λ some. absurd (is_late status h (inr some));
+  printed = λ said. absurd (is_late status h said);
+  ends = inr (inr h);
 }

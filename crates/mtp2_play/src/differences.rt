@@ -166,7 +166,7 @@ fn named_side<R: Runtime + AllocGlobal, H: Eprint, W: Write>(
     set: Named<'_>,
     writer: &mut W,
 ) -> Result<Side, u8>
-    ensures set { IfOk result (λ side. IsGiven (own_text_of set) (λ bytes. IsSetOf bytes side.set)) }
+    ensures set { IfOk result (λ side. IsGiven (own_text_of set.entry) (λ bytes. IsSetOf bytes side.set)) }
     ensures kept { IfOk result (λ _. W.contents writer.new ≡ W.contents writer.old) }
     ensures status { IfErr result (λ s. (s ≡ 2) ⊎ (s ≡ 4)) }
 {
@@ -246,6 +246,7 @@ fn summary(
 }
 
 /// Lines of transitions with the statements in which they differ; the lines alone where one of the two is no text.
+#[tactic(auto, using(draw_sets::proofs::Notes::unnoted))]
 fn noted(alloc: Global, old: &[u8], new: &[u8], lines: Vec<u8>) -> Result<Vec<u8>, AllocError>
     ensures { IfOk result (λ v. AreNoted lines.items v.items) }
 {
@@ -341,7 +342,8 @@ pub fn run_diff<R: Runtime + AllocGlobal, H: Eprint, W: Write>(
     new: Named<'_>,
     writer: &mut W,
 ) -> u8
-    ensures { IsCompared (own_text_of old) (own_text_of new) result (W.contents writer.old) (W.contents writer.new) }
+    ensures compared { IsCompared (own_text_of old.entry) (own_text_of new.entry) result (W.contents writer.old) (W.contents writer.new) }
+    ensures status { (result ≡ 0) ⊎ (result ≡ 1) ⊎ (result ≡ 2) ⊎ (result ≡ 4) }
 {
     match named_side(rt, teller, "OLD", old, writer) {
         Ok(old) => match named_side(rt, teller, "NEW", new, writer) {

@@ -138,8 +138,10 @@ pub(crate) fn extent_of(
     behind: u32,
 ) -> Extent {
     let mut total = end_extent(process, measures, transition.end, behind);
-    for statement in transition.statements.iter().rev() {
-        total = statement_extent(process, measures, statement, total);
+    let mut left = transition.statements.len();
+    while left > 0 {
+        left -= 1;
+        total = statement_extent(process, measures, &transition.statements[left], total);
     }
     total
 }

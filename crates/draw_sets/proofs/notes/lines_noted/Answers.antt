@@ -3,11 +3,11 @@ use Rattle.draw_sets.proofs.Notes.{begun, turn, ended}
 use Rattle.draw_sets.proofs.notes.lines_noted.Goals as goal
 
 pub loop-byte-init : goal.loop-byte-init
-loop-byte-init c = begun _
+loop-byte-init c = begun _ _ _ c.new-line.ensures.items c.new-text.ensures.items
 
 pub loop-byte-preserved : goal.loop-byte-preserved
 loop-byte-preserved c =
-    c.in_ok-push_byte.ensures c.args.lines.now _ (turn c.args.lines.now _ _ c.loop-byte.byte-index _ c.loop-byte-test.true c.loop-byte.invariant)
+    c.in_ok-push_byte.ensures c.args.lines.now _ (turn c.args.lines.now _ _ c.loop-byte.byte-index 0 c.loop-byte-test.true c.loop-byte.invariant)
 
 pub returns : goal.returns
 returns c =

@@ -1,7 +1,13 @@
-use Rattle.mtp2_play.proofs.Comparing.{compared}
+use Rattle.mtp2_play.proofs.Comparing.{compared, turned_away}
 use Rattle.mtp2_play.proofs.differences.run_diff.Goals as goal
 
-pub returns-in-Ok-in-Ok : goal.returns-in-Ok-in-Ok
-returns-in-Ok-in-Ok g c =
-    compared _ _ _ _ _ _ _ _ _ c.in-Ok.ensures.set c.in-Ok-2.ensures.set c.in-Ok.ensures.kept c.in-Ok-2.ensures.kept c.compare_sides.ensures.alike
-    c.compare_sides.ensures.differ c.compare_sides.ensures.printed c.compare_sides.ensures.status
+pub returns-in-Ok-named_side-clause-compared : goal.returns-in-Ok-named_side-clause-compared
+returns-in-Ok-named_side-clause-compared g c =
+    compared _ _ _ _ _ _ _ _ _ c.in-Ok.ensures.set c.in-Ok-named_side.ensures.set c.in-Ok.ensures.kept c.in-Ok-named_side.ensures.kept
+    c.compare_sides.ensures.alike c.compare_sides.ensures.differ c.compare_sides.ensures.printed c.compare_sides.ensures.status
+
+pub returns-in-Ok-clause-compared : goal.returns-in-Ok-clause-compared
+returns-in-Ok-clause-compared g c = turned_away _ _ _ _ _ c.in-Err.ensures.status
+
+pub returns-clause-compared : goal.returns-clause-compared
+returns-clause-compared g c = turned_away _ _ _ _ _ c.in-Err-2.ensures.status
