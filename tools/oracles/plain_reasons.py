@@ -51,7 +51,7 @@ def wanted(tokens, index):
     said = [name for name, _ in groups] + [named.get(it, f"`{it}`") for it in kinds if it not in in_groups]
     if not {"name", "num"} & set(kinds):
         said += again(tokens, index, row)
-    return joined(said or ["nothing"], "or")
+    return joined(said or ["the end of the text"], "or")
 
 
 def again(tokens, index, row):
@@ -457,7 +457,7 @@ def cycle(process, at):
 
 def divisor(text, at):
     before = [it for it in lex(text) if it[2] < at][-1]
-    return f"right of `{before[1] or before[0]}` stands a literal of 1 or more", "", ""
+    return f"a literal of 1 or more is wanted right of `{before[1] or before[0]}`", "", ""
 
 
 def of_lexis(text, code, at):

@@ -263,7 +263,7 @@ fn push_called(text: &mut String, read: &Reading<'_>, index: usize) -> Result<()
     }
 }
 
-/// The token of the text itself that may stand there, behind what there is; a word for nothing where there is nothing else.
+/// The token of the text itself that may stand there, behind what there is; the end of the text where there is nothing else.
 fn push_repeated<'a>(
     alloc: Global,
     items: &mut Vec<Item<'a>>,
@@ -281,7 +281,7 @@ fn push_repeated<'a>(
         }
         None => {
             let is_first = items.is_empty();
-            push_group(items, is_first, "nothing")
+            push_group(items, is_first, "the end of the text")
         }
     }
 }
