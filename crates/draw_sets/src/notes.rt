@@ -1,7 +1,8 @@
 //! The statements in which transitions of two texts differ, below the lines that name these.
-ghost use Rattle.std.specs.Prelude.{◌≡◌, ◌∷◌, ◌++◌, List, ℕ, true, IfOk, OnOk};
-ghost use Rattle.draw_sets.specs.Noting.{spaced, indented, AreAdded, AreNoted, AreWritten, IsBegun, IsBelow};
+ghost use Rattle.std.specs.Prelude.{◌∷◌, List, ℕ, IfOk, OnOk};
+ghost use Rattle.draw_sets.specs.Noting.{AreAdded, AreNoted, AreWritten, IsBegun, IsBelow};
 
+use crate::below::push_below;
 use crate::rows::{Row, Section, sections_of};
 use draw_text::push_bytes;
 use std::alloc::{AllocError, Global};
@@ -41,45 +42,6 @@ fn alike_at_end(one: &[Row], other: &[Row]) -> usize {
 /// Whether all statements are the same.
 fn are_alike(one: &[Row], other: &[Row]) -> bool {
     one.len() == other.len() && alike(one, other) == one.len()
-}
-
-/// A byte of a line, with four spaces in front where the line begins with it.
-fn push_spaced(text: &mut Vec<u8>, begins: bool, byte: u8) -> Result<(), AllocError>
-    ensures { OnOk result (text.new.items ≡ text.old.items ++ spaced begins byte) }
-{
-    if begins {
-        push_bytes(text, b"    ")?;
-        text.push(byte)?;
-        return Ok(());
-    }
-    text.push(byte)?;
-    Ok(())
-}
-
-/// Lines behind what is there, each with four spaces in front; the last one gets an end.
-fn push_indented(text: &mut Vec<u8>, lines: &[u8]) -> Result<(), AllocError>
-    ensures { OnOk result (text.new.items ≡ text.old.items ++ indented true lines.now) }
-{
-    let mut begins = true;
-    for byte in lines {
-        push_spaced(text, begins, *byte)?;
-        begins = *byte == b'\n';
-    }
-    if begins {
-        return Ok(());
-    }
-    text.push(b'\n')?;
-    Ok(())
-}
-
-/// A line, and lines below it.
-fn push_below(text: &mut Vec<u8>, line: &[u8], notes: &[u8]) -> Result<(), AllocError>
-    ensures { OnOk result (IsBelow text.old.items line.now text.new.items) }
-{
-    push_bytes(text, line)?;
-    text.push(b'\n')?;
-    push_indented(text, notes)?;
-    Ok(())
 }
 
 /// The number of a line.

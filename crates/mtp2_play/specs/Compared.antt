@@ -1,6 +1,6 @@
 -- What `diff` says of two sets, by the exit status that it gives.
-use Rattle.std.specs.Prelude.{◌≡◌, ◌⊎◌, ℕ, ◌+◌, ◌-◌, List, [], ◌++◌, Option, All, codes, if◌then◌else◌}
-use Rattle.std.specs.Prelude.{bytes_eq, min}
+use Rattle.std.specs.Prelude.{◌≡◌, ◌⊎◌, ℕ, ◌+◌, ◌-◌, List, [], ◌++◌, Option, All, codes}
+use Rattle.std.specs.Prelude.{bytes_eq, if◌then◌else◌, min}
 use Rattle.std.specs.Fmt.{decimal}
 use Rattle.std.specs.Io.KnownBytes.{Appends}
 use Rattle.script_check.specs.turn_code_types.draft.Draft.{Draft}
@@ -58,8 +58,8 @@ pub record AreFound (d e : Draft) (found : Difference) : Type 0 where
   pub olds : found.olds.items ≡ old_way_lines d e
   pub news : found.news.items ≡ new_way_lines d e
 
--- What is written of two sets: what they declare otherwise, the transitions that mean something else
--- with what is said below each, and the last two lines.
+-- What is written of two sets: what they declare otherwise, the transitions that mean something
+-- else with what is said below each, and the last two lines.
 pub record PrintsDifference (old new : Option (List ℕ)) (d e : Draft) : Type 0 where
   pub ways : List ℕ
   pub end : List ℕ

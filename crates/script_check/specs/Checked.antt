@@ -80,8 +80,8 @@ pub record IsTooLong (bytes kept : List ℕ) : Type 0 where
 
 -- ---- where a text is refused
 
--- The lines point at a fault of a text, and say something of it. Where the fault names no place they
--- point at a token where a limit is passed, or at the name of the variable that is read unset.
+-- The lines point at a fault of a text, and say something of it. Where the fault names no place
+-- they point at a token where a limit is passed, or at the name of the variable that is read unset.
 pub record IsTold (text : List ℕ) (fault : LoadFault) (lines : List ℕ) : Type 0 where
   pub told : Told
   pub points : IsPointedOut text fault told lines
