@@ -1,6 +1,5 @@
 //! The command `diff` on the sets that the command line names.
 ghost use Rattle.std.specs.Prelude.{◌≡◌, ◌⊎◌, [], None, IfErr, IfOk, OnOk, string_bytes};
-ghost use Rattle.std.specs.Io.KnownBytes.{Appends};
 ghost use Rattle.draw_sets.specs.Noting.{AreNoted};
 ghost use Rattle.script_check.specs.Checked.{given, IsGiven, IsSetOf};
 ghost use Rattle.mtp2_play.specs.Compared.{same_text, terminal_text, way_lines, AreAlike, AreFound, IsCompared, IsSummary, PrintsDifference, SaysTerminal};

@@ -1,5 +1,5 @@
 -- Where a refusal is found that names no place itself.
-use Rattle.std.specs.Prelude.{◌≡◌, ℕ, List, Option, Contains, IfSome}
+use Rattle.std.specs.Prelude.{◌≡◌, ℕ, List, Contains}
 use Rattle.sdl_lex.specs.Spelling.{folded}
 use Rattle.sdl_lex.specs.declared.lexemes.Lexeme.{Lexeme}
 use Rattle.sdl_lex.specs.declared.lexemes.Lexeme.TheVariants.{Name, Number, Word, Symbol, Quoted}

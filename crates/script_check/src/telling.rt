@@ -1,5 +1,5 @@
 //! What is said of a refusal, and where it is found where it names no place itself.
-ghost use Rattle.std.specs.Prelude.{◌≡◌, List, Ok, IfOk, IfSome, IsTrue};
+ghost use Rattle.std.specs.Prelude.{List, Ok, IfOk, IfSome, IsTrue};
 ghost use Rattle.sdl_lex.specs.Lexed.{Answers};
 ghost use Rattle.sdl_lex.specs.declared.lexemes.Token as lexeme;
 ghost use Rattle.script_check.specs.Telling.{Fits, FitsRule, IsNameAt, IsNamed, IsTokenAt};
