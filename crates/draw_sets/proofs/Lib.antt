@@ -1,2 +1,1 @@
 mod Drawings
-pub mod Notes

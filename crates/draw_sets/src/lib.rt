@@ -3,7 +3,6 @@
 #![tactic(auto)]
 
 mod apart;
-mod below;
 mod drawing;
 mod frames;
 mod labels;

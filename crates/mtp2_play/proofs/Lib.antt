@@ -1,4 +1,3 @@
-mod Comparing
 mod Failing
 mod InTurn
 mod Known

@@ -1,4 +1,3 @@
-pub mod Compared
 pub mod Measured
 pub mod Printed
 pub mod Served

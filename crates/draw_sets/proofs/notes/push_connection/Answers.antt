@@ -1,5 +1,0 @@
-use Rattle.draw_sets.proofs.Notes.{one_added}
-use Rattle.draw_sets.proofs.notes.push_connection.Goals as goal
-
-pub returns : goal.returns
-returns c = one_added c.args.text.now.items _ _ _ c.in_ok-push_bytes.ensures c.in_ok-push_below.ensures
