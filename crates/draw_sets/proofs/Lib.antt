@@ -1,2 +1,2 @@
 mod Drawings
-pub mod Notes
+pub mod NotedLines

@@ -245,7 +245,7 @@ fn summary(
 }
 
 /// Lines of transitions with the statements in which they differ; the lines alone where one of the two is no text.
-#[tactic(auto, using(draw_sets::proofs::Notes::unnoted))]
+#[tactic(auto, using(draw_sets::proofs::NotedLines::unnoted))]
 fn noted(alloc: Global, old: &[u8], new: &[u8], lines: Vec<u8>) -> Result<Vec<u8>, AllocError>
     ensures { IfOk result (λ v. AreNoted lines.items v.items) }
 {

@@ -1,4 +1,4 @@
-use Rattle.draw_sets.proofs.Notes.{below}
+use Rattle.draw_sets.proofs.NotedLines.{below}
 use Rattle.draw_sets.proofs.below.push_below.Goals as goal
 
 pub returns : goal.returns

@@ -1,5 +1,5 @@
 use Rattle.std.proofs.Common.{rules}
-use Rattle.draw_sets.proofs.Notes.{indented_more, indented_whole, indented_closed}
+use Rattle.draw_sets.proofs.NotedLines.{indented_more, indented_whole, indented_closed}
 use Rattle.draw_sets.proofs.below.push_indented.Goals as goal
 
 pub loop-byte-preserved : goal.loop-byte-preserved

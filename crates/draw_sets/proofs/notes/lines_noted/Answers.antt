@@ -1,5 +1,5 @@
 use Rattle.std.proofs.lemmas.List.{drop_all}
-use Rattle.draw_sets.proofs.Notes.{begun, turn, ended}
+use Rattle.draw_sets.proofs.NotedLines.{begun, turn, ended}
 use Rattle.draw_sets.proofs.notes.lines_noted.Goals as goal
 
 pub loop-byte-init : goal.loop-byte-init

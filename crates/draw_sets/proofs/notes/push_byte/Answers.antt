@@ -1,4 +1,4 @@
-use Rattle.draw_sets.proofs.Notes.{byte_more, line_more}
+use Rattle.draw_sets.proofs.NotedLines.{byte_more, line_more}
 use Rattle.draw_sets.proofs.notes.push_byte.Goals as goal
 
 pub returns-then-byte-eq10 : goal.returns-then-byte-eq10

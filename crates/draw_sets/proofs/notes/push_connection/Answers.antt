@@ -1,4 +1,4 @@
-use Rattle.draw_sets.proofs.Notes.{one_added}
+use Rattle.draw_sets.proofs.NotedLines.{one_added}
 use Rattle.draw_sets.proofs.notes.push_connection.Goals as goal
 
 pub returns : goal.returns

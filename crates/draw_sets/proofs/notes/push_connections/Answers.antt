@@ -1,4 +1,4 @@
-use Rattle.draw_sets.proofs.Notes.{none_added, more_added}
+use Rattle.draw_sets.proofs.NotedLines.{none_added, more_added}
 use Rattle.draw_sets.proofs.notes.push_connections.Goals as goal
 
 pub loop-index-init : goal.loop-index-init

@@ -1,4 +1,4 @@
-use Rattle.draw_sets.proofs.Notes.{none_added}
+use Rattle.draw_sets.proofs.NotedLines.{none_added}
 use Rattle.draw_sets.proofs.notes.push_marked.Goals as goal
 
 pub returns-in-None : goal.returns-in-None
