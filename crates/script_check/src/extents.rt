@@ -1,10 +1,12 @@
 //! How many operands at once and how many effects a transition has (S10), where this is known of the connections of its process.
-use sdl_measures::Measure;
+use sdl_joins::{find_links, reached_in};
+use sdl_measures::{Measure, code_size};
 use sdl_sound::is_division;
 use sdl_tables::ProcessTable;
 use sdl_tree::{
     Action, Assignment, Decision, End, Expression, Identifier, Sending, Statement, Transition,
 };
+use std::alloc::{AllocError, Global};
 
 /// The most operands at once, and the most effects on a way; up to 4,294,967,295 each.
 #[derive(Clone, Copy)]
@@ -211,4 +213,28 @@ pub(crate) fn count_places(places: &[Option<Identifier>]) -> u32 {
         }
     }
     count
+}
+
+/// The sizes of the marked connections.
+fn marked_size(marks: &[bool], measures: &[Measure]) -> u32 {
+    let mut total: u32 = 0;
+    for (measure, mark) in measures.iter().zip(marks.iter()) {
+        if *mark {
+            total = total.saturating_add(measure.size);
+        }
+    }
+    total
+}
+
+/// How many instructions a transition of a process has, with its connections.
+pub(crate) fn size_of(
+    alloc: Global,
+    process: &ProcessTable,
+    measures: &[Measure],
+    transition: &Transition,
+) -> Result<u32, AllocError> {
+    let links = find_links(alloc, process)?;
+    let marks = reached_in(alloc, process, &links, transition)?;
+    let own = code_size(process, transition);
+    Ok(own.saturating_add(marked_size(&marks, measures)))
 }

@@ -1,9 +1,9 @@
 //! What passes a limit (S10): by its name, its number against the limit, and where it stands.
-use crate::extents::{count_places, extent_of};
-use script_point::{Notes, push_all, push_number};
-use sdl_joins::{find_links, find_orders, reached_in};
+use crate::extents::{count_places, extent_of, size_of};
+use script_point::{Notes, Told, push_all, push_number};
+use sdl_joins::find_orders;
 use sdl_lex::Name;
-use sdl_measures::{Measure, code_size, measure_all};
+use sdl_measures::{Measure, measure_all};
 use sdl_sound::Limit;
 use sdl_tables::{BlockTable, InputPart, NameTable, ProcessTable, StateClause, StatePart};
 use sdl_tree::{Identifier, SignalDeclaration, Transition};
@@ -22,10 +22,10 @@ enum Owner {
 
 /// What passes a limit: who has how much, and where it stands.
 #[derive(Clone, Copy)]
-pub(crate) struct Over {
+struct Over {
     owner: Owner,
     number: usize,
-    pub(crate) place: u32,
+    place: u32,
 }
 
 /// The greatest number that a limit leaves.
@@ -75,7 +75,7 @@ fn push_owner(text: &mut String, owner: &Owner) -> Result<(), AllocError> {
 }
 
 /// Says what passes a limit, with its number against it.
-pub(crate) fn add_over(
+fn add_over(
     alloc: Global,
     notes: &mut Notes,
     over: &Over,
@@ -194,30 +194,6 @@ struct Measuring<'a, 'b> {
     process: &'a ProcessTable<'b>,
     measures: &'a [Measure],
     limit: Limit,
-}
-
-/// The sizes of the marked connections.
-fn marked_size(marks: &[bool], measures: &[Measure]) -> u32 {
-    let mut total: u32 = 0;
-    for (measure, mark) in measures.iter().zip(marks.iter()) {
-        if *mark {
-            total = total.saturating_add(measure.size);
-        }
-    }
-    total
-}
-
-/// How many instructions a transition of a process has, with its connections.
-fn size_of(
-    alloc: Global,
-    process: &ProcessTable,
-    measures: &[Measure],
-    transition: &Transition,
-) -> Result<u32, AllocError> {
-    let links = find_links(alloc, process)?;
-    let marks = reached_in(alloc, process, &links, transition)?;
-    let own = code_size(process, transition);
-    Ok(own.saturating_add(marked_size(&marks, measures)))
 }
 
 impl Measuring<'_, '_> {
@@ -374,7 +350,7 @@ fn over_in_transition(
 }
 
 /// What passes a limit in a block: of several the first in the text.
-pub(crate) fn over_limit(
+fn over_limit(
     alloc: Global,
     block: &BlockTable<'_>,
     limit: Limit,
@@ -386,5 +362,21 @@ pub(crate) fn over_limit(
         Limit::Pieces => over_in_all(alloc, block),
         Limit::Piece | Limit::Depth | Limit::Effects => over_in_transition(alloc, block, limit),
         _ => Ok(over_in_process(block, limit)),
+    }
+}
+
+/// Says what passes a limit, and where it stands.
+pub(crate) fn tell_over(
+    alloc: Global,
+    told: &mut Told,
+    block: &BlockTable,
+    limit: Limit,
+) -> Result<(), AllocError> {
+    match over_limit(alloc, block, limit)? {
+        Some(over) => {
+            told.found = Some(over.place);
+            add_over(alloc, &mut told.notes, &over, limit)
+        }
+        None => Ok(()),
     }
 }

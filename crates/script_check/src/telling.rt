@@ -5,7 +5,7 @@ ghost use Rattle.sdl_lex.specs.declared.lexemes.Token as lexeme;
 ghost use Rattle.script_check.specs.Telling.{Fits, FitsRule, IsNameAt, IsNamed, IsTokenAt};
 
 use crate::answers::no_answer;
-use crate::limits::{add_over, over_limit};
+use crate::limits::tell_over;
 use crate::receivers::{no_receiver, two_receivers};
 use crate::sort_notes::explain;
 use crate::sorts::wrong_sort;
@@ -13,26 +13,10 @@ use script_point::{
     LoadFault, Notes, Reading, Told, add_notes, process_at, push_all, tokens_of, unset_read,
 };
 use sdl_lex::{Lexeme, Name, Token};
-use sdl_sound::{Limit, RuleFault, Step};
+use sdl_sound::{RuleFault, Step};
 use sdl_tables::{BlockTable, ProcessTable, TableFault};
 use sdl_tree::{Block, ParseFault, parse};
 use std::alloc::{AllocError, Global};
-
-/// What passes a limit.
-fn of_limit(
-    alloc: Global,
-    told: &mut Told,
-    block: &BlockTable,
-    limit: Limit,
-) -> Result<(), AllocError> {
-    match over_limit(alloc, block, limit)? {
-        Some(over) => {
-            told.found = Some(over.place);
-            add_over(alloc, &mut told.notes, &over, limit)
-        }
-        None => Ok(()),
-    }
-}
 
 /// Where a variable is read unset.
 fn of_unset(
@@ -96,7 +80,7 @@ fn of_block(
     fault: &RuleFault,
 ) -> Result<(), AllocError> {
     match fault {
-        RuleFault::Limit(limit) => of_limit(alloc, told, block, *limit),
+        RuleFault::Limit(limit) => tell_over(alloc, told, block, *limit),
         RuleFault::Unset { variable, path } => of_unset(alloc, told, block, &path.steps, *variable),
         _ => {
             let Some(at) = place_of(fault) else {

@@ -6,4 +6,4 @@ use Rattle.script_check.proofs.telling.told_of.Goals as goal
 pub returns : goal.returns
 returns c = λ ts a.
     let same : c.deref.result.now ≡ ts = c.deref.ensures.value ∙ sym (c.in_ok-tokens.ensures ts a) in
-    subst (λ (all : List Token). IfSome c.fitting.result (Fits all c.args.fault.now)) same c.fitting.ensures
+    subst (λ (all : List Token). IfSome c.fitting-told.result (Fits all c.args.fault.now)) same c.fitting-told.ensures
