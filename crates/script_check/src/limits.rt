@@ -75,12 +75,7 @@ fn push_owner(text: &mut String, owner: &Owner) -> Result<(), AllocError> {
 }
 
 /// Says what passes a limit, with its number against it.
-fn add_over(
-    alloc: Global,
-    notes: &mut Notes,
-    over: &Over,
-    limit: Limit,
-) -> Result<(), AllocError> {
+fn add_over(alloc: Global, notes: &mut Notes, over: &Over, limit: Limit) -> Result<(), AllocError> {
     push_owner(&mut notes.said, &over.owner)?;
     notes.said.push_str(" has ")?;
     push_number(alloc, &mut notes.said, over.number)?;
