@@ -1,6 +1,6 @@
 //! What passes a limit (S10): by its name, its number against the limit, and where it stands.
 use crate::extents::{count_places, extent_of, size_of};
-use script_point::{Notes, Told, push_all, push_number};
+use script_point::{Told, push_all, push_number};
 use sdl_joins::find_orders;
 use sdl_lex::Name;
 use sdl_measures::{Measure, measure_all};
@@ -74,14 +74,16 @@ fn push_owner(text: &mut String, owner: &Owner) -> Result<(), AllocError> {
     }
 }
 
-/// Says what passes a limit, with its number against it.
-fn add_over(alloc: Global, notes: &mut Notes, over: &Over, limit: Limit) -> Result<(), AllocError> {
-    push_owner(&mut notes.said, &over.owner)?;
-    notes.said.push_str(" has ")?;
-    push_number(alloc, &mut notes.said, over.number)?;
-    notes.said.push_str(counted(limit))?;
-    push_number(alloc, &mut notes.said, most(limit))?;
-    notes.said.push_str(" at most")
+/// What is said of what passes a limit, with its number against it.
+fn said_of(alloc: Global, over: Over, limit: Limit) -> Result<String, AllocError> {
+    let mut said = String::new(alloc);
+    push_owner(&mut said, &over.owner)?;
+    said.push_str(" has ")?;
+    push_number(alloc, &mut said, over.number)?;
+    said.push_str(counted(limit))?;
+    push_number(alloc, &mut said, most(limit))?;
+    said.push_str(" at most")?;
+    Ok(said)
 }
 
 /// The place of the name with a number, or another place where there is none.
@@ -360,17 +362,33 @@ fn over_limit(
     }
 }
 
+/// What is said of what passes a limit in a block, and where it stands.
+fn over_said(
+    alloc: Global,
+    block: &BlockTable<'_>,
+    limit: Limit,
+) -> Result<Option<(String, u32)>, AllocError> {
+    match over_limit(alloc, block, limit)? {
+        Some(over) => {
+            let place = over.place;
+            let said = said_of(alloc, over, limit)?;
+            Ok(Some((said, place)))
+        }
+        None => Ok(None),
+    }
+}
+
 /// Says what passes a limit, and where it stands.
 pub(crate) fn tell_over(
     alloc: Global,
     told: &mut Told,
-    block: &BlockTable,
+    block: &BlockTable<'_>,
     limit: Limit,
 ) -> Result<(), AllocError> {
-    match over_limit(alloc, block, limit)? {
-        Some(over) => {
-            told.found = Some(over.place);
-            add_over(alloc, &mut told.notes, &over, limit)
+    match over_said(alloc, block, limit)? {
+        Some((said, place)) => {
+            told.found = Some(place);
+            told.notes.said.push_str(&said)
         }
         None => Ok(()),
     }
