@@ -3,7 +3,9 @@ use Rattle.std.proofs.Common.{◌≡◌, refl, ◌∙◌, ℕ, ◌+◌, ◌<◌,
 use Rattle.std.specs.List.{flat_map}
 use Rattle.std.proofs.lemmas.List.{at_drop_more, flat_map_more, drop_all}
 use Rattle.std.proofs.lemmas.List.Concat.{flat_map-append}
-use Rattle.draw_sets.specs.Noting.{spaced, indented, Noted, bare_line, noted_lines, connection_lines, AreAdded, AreNoted, AreWritten, IsBegun, IsBelow}
+use Rattle.std.proofs.lemmas.List.Elements.{All-append, All-cons, All-nil, All-push, All-same}
+use Rattle.std.specs.Prelude.{All}
+use Rattle.draw_sets.specs.Noting.{spaced, indented, Noted, bare_line, noted_lines, connection_lines, AreAdded, AreNoted, AreWritten, IsBegun, IsBelow, IsInLine, IsOneLine}
 
 pub indented_more : (begins next : Bool) (lines out new all : List ℕ) (i d : ℕ) → i < length lines → next ≡ (get_or lines i d == 10) → new ≡ out ++ spaced begins (get_or lines i d)
     → out ++ indented begins (drop i lines) ≡ all → new ++ indented next (drop (i + 1) lines) ≡ all
@@ -35,16 +37,28 @@ below old line notes one two new first second third = record {
       ∙ (append_assoc (old ++ line) (10 ∷ []) (indented true notes) ∙ append_assoc old line (10 ∷ indented true notes)));
 }
 
+-- ---- what stands in one line
+
+pub none_in_line : (line : List ℕ) → line ≡ [] → All IsInLine line
+none_in_line line none = All-same IsInLine line [] none (All-nil IsInLine)
+
+pub more_in_line : (old new : List ℕ) (b : ℕ) → new ≡ old ++ b ∷ [] → (b ≡ 10 → ⊥) → All IsInLine old → All IsInLine new
+more_in_line old new b grown apart h = All-same IsInLine new (old ++ b ∷ []) grown (All-push IsInLine old b h apart)
+
+pub same_in_line : (line shown : List ℕ) → shown ≡ line → All IsInLine line → All IsInLine shown
+same_in_line line shown same h = All-same IsInLine shown line same h
+
 -- ---- connections, one after another
 
 pub none_added : (old : List ℕ) → AreAdded old old
-none_added old = record { connections = []; written = sym (append-nil old) }
+none_added old = record { connections = []; named = All-nil IsOneLine; written = sym (append-nil old) }
 
-pub one_added : (old now name new : List ℕ) → now ≡ old ++ codes "~ CONNECTION " → IsBelow now name new → AreAdded old new
-one_added old now name new begun added =
+pub one_added : (old now name new : List ℕ) → now ≡ old ++ codes "~ CONNECTION " → All IsInLine name → IsBelow now name new → AreAdded old new
+one_added old now name new begun plain added =
     let n : Noted = record { line = name; notes = added.notes } in
     record {
       connections = n ∷ [];
+      named = All-cons IsOneLine n [] plain (All-nil IsOneLine);
       written = added.written
           ∙ (ap (λ x. x ++ noted_lines n) begun
           ∙ (append_assoc old (codes "~ CONNECTION ") (noted_lines n) ∙ ap (λ x. old ++ x) (sym (append-nil (connection_lines n)))));
@@ -53,6 +67,7 @@ one_added old now name new begun added =
 pub more_added : (old now new : List ℕ) → AreAdded old now → AreAdded now new → AreAdded old new
 more_added old now new one other = record {
   connections = one.connections ++ other.connections;
+  named = All-append IsOneLine one.connections other.connections one.named other.named;
   written = other.written
       ∙ (ap (λ x. x ++ flat_map connection_lines other.connections) one.written
       ∙ (append_assoc old (flat_map connection_lines one.connections) (flat_map connection_lines other.connections)

@@ -1,5 +1,6 @@
 -- Lines with what is said below each of them, and what is said behind them all.
 use Rattle.std.specs.Prelude.{◌≡◌, ℕ, ◌==◌, Bool, true, if◌then◌else◌, List, [], ◌∷◌, ◌++◌, codes}
+use Rattle.std.specs.Prelude.{All}
 use Rattle.std.specs.List.{flat_map}
 
 -- a byte, with four spaces in front where a line begins with it
@@ -32,9 +33,18 @@ pub record IsBelow (old line new : List ℕ) : Type 0 where
 abbrev pub connection_lines : Noted → List ℕ
 connection_lines n = codes "~ CONNECTION " ++ noted_lines n
 
--- behind a text come lines of connections
+-- a byte that ends no line
+abbrev pub IsInLine : ℕ → Type 0
+IsInLine b = b ≡ 10 → ⊥
+
+-- what is called so is called so in one line
+abbrev pub IsOneLine : Noted → Type 0
+IsOneLine n = All IsInLine n.line
+
+-- behind a text come lines of connections, one of each with something below it
 pub record AreAdded (old new : List ℕ) : Type 0 where
   pub connections : List Noted
+  pub named : All IsOneLine connections
   pub written : new ≡ old ++ flat_map connection_lines connections
 
 -- Of these lines some were written, with something below each of them; then a line was begun, and

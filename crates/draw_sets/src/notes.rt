@@ -1,6 +1,6 @@
 //! The statements in which transitions of two texts differ, below the lines that name these.
-ghost use Rattle.std.specs.Prelude.{◌∷◌, List, ℕ, IfOk, OnOk};
-ghost use Rattle.draw_sets.specs.Noting.{AreAdded, AreNoted, AreWritten, IsBegun, IsBelow};
+ghost use Rattle.std.specs.Prelude.{◌∷◌, All, List, ℕ, IfOk, OnOk};
+ghost use Rattle.draw_sets.specs.Noting.{AreAdded, AreNoted, AreWritten, IsBegun, IsBelow, IsInLine};
 
 use crate::below::push_below;
 use crate::rows::{Row, Section, sections_of};
@@ -268,12 +268,34 @@ fn push_noted(
     push_below(text, line, &notes)
 }
 
+/// A byte behind what is there, if it ends no line.
+fn push_in_line(text: &mut Vec<u8>, byte: u8) -> Result<(), AllocError>
+    ensures { OnOk result (All IsInLine text.old.items → All IsInLine text.new.items) }
+{
+    if byte != b'\n' {
+        text.push(byte)?;
+    }
+    Ok(())
+}
+
+/// The bytes of a name behind what is there.
+fn push_name(text: &mut Vec<u8>, name: &[u8]) -> Result<(), AllocError>
+    ensures { OnOk result (All IsInLine text.old.items → All IsInLine text.new.items) }
+{
+    for byte in name {
+        push_in_line(text, *byte)?;
+    }
+    Ok(())
+}
+
 /// The name of a connection with its process.
-fn connection_name(alloc: Global, section: &Section) -> Result<Vec<u8>, AllocError> {
+fn connection_name(alloc: Global, section: &Section) -> Result<Vec<u8>, AllocError>
+    ensures { IfOk result (λ name. All IsInLine name.items) }
+{
     let mut name = Vec::new(alloc);
-    push_bytes(&mut name, &section.process)?;
-    push_bytes(&mut name, b" ")?;
-    push_bytes(&mut name, &section.connection)?;
+    push_name(&mut name, &section.process)?;
+    push_name(&mut name, b" ")?;
+    push_name(&mut name, &section.connection)?;
     Ok(name)
 }
 

@@ -1,5 +1,5 @@
 -- What `diff` says of two sets.
-use Rattle.std.proofs.Common.{◌≡◌, ◌∙◌, ◌⊎◌, inl, inr, ℕ, ◌+◌, ◌-◌, min, List, [], ◌++◌, Option, None, Some, ap, subst, sym, codes, decimal, rules, arith}
+use Rattle.std.proofs.Common.{◌≡◌, ◌∙◌, ◌⊎◌, inl, inr, ℕ, ◌+◌, ◌-◌, min, true, List, [], ◌++◌, Option, None, Some, ap, subst, sym, codes, decimal, rules, arith}
 use Rattle.std.specs.Prelude.{All}
 use Rattle.std.specs.Io.KnownBytes.{Appends}
 use Rattle.draw_diff.specs.Items.{item_lines, items_of}
@@ -9,38 +9,62 @@ use Rattle.draw_sets.specs.Noting.{AreNoted}
 use Rattle.link_term.specs.Wanted.{wanted, Has, IsFirstLacking}
 use Rattle.link_term.specs.WantedText.{wanted_text}
 use Rattle.link_term.specs.link_processes_types.wanted.Wanted.{Wanted}
-use Rattle.script_check.specs.Checked.{given, IsGiven, IsSetOf}
+use Rattle.script_check.specs.Checked.{given, IsGiven, IsRefusal, IsRefusedAt, IsSetOf}
+use Rattle.script_check.specs.Fronts.{in_front}
+use Rattle.script_check.specs.Printed.{refusal_line}
+use Rattle.script_check.specs.declared.sets.Refusal.{Refusal}
 use Rattle.script_check.specs.declared.sets.SetWord.{SetWord}
 use Rattle.script_check.specs.declared.sets.SetWord.TheVariants.{Standard as standard_set, Q703 as q703_set, Monitors as monitors_set, Text}
 use Rattle.script_check.specs.turn_code_types.draft.Draft.{Draft}
 use Rattle.mtp2_words.specs.declared.words.Named.{Named}
 use Rattle.mtp2_words.specs.declared.words.Named.TheVariants.{Standard, Q703, Monitors, Stdin, File}
-use Rattle.mtp2_play.specs.Compared.{same_text, terminal_text, way_lines, AreAlike, AreFound, IsCompared, IsSummary, PrintsDifference, SaysTerminal}
+use Rattle.mtp2_play.specs.Compared.{same_text, terminal_text, way_lines, AreAlike, AreFound, IsCompared, IsSummary, PrintsDifference, PrintsSide, SaysTerminal}
 use Rattle.mtp2_play.specs.Sets.{own_set_of, own_text_of}
 
 -- ---- whose sets these are
 
 -- what holds of bytes of which something may be known holds of some bytes
-pub of_some : (known : Option (List ℕ)) (d : Draft) → IsGiven known (λ bytes. IsSetOf bytes d) → IsGiven None (λ bytes. IsSetOf bytes d)
-of_some known d g = record { bytes = g.bytes; are_known = tt; holds = g.holds }
+pub of_some : (known : Option (List ℕ)) (P : List ℕ → Type 0) → IsGiven known P → IsGiven None P
+of_some known P g = record { bytes = g.bytes; are_known = tt; holds = g.holds }
 
--- the set of the program's own that is named is that of its text
-pub of_own : {R : Type 0} (remaining : R → Option (List ℕ)) (set : Named) (own : SetWord R) (d : Draft) → own_set_of set ≡ Some own
-    → IsGiven (given remaining own) (λ bytes. IsSetOf bytes d) → IsGiven (own_text_of set) (λ bytes. IsSetOf bytes d)
-of_own remaining Standard standard_set d is g = g
-of_own remaining Standard q703_set d is g = search (rules, is)
-of_own remaining Standard monitors_set d is g = search (rules, is)
-of_own remaining Standard (Text text) d is g = search (rules, is)
-of_own remaining Q703 standard_set d is g = search (rules, is)
-of_own remaining Q703 q703_set d is g = g
-of_own remaining Q703 monitors_set d is g = search (rules, is)
-of_own remaining Q703 (Text text) d is g = search (rules, is)
-of_own remaining Monitors standard_set d is g = search (rules, is)
-of_own remaining Monitors q703_set d is g = search (rules, is)
-of_own remaining Monitors monitors_set d is g = g
-of_own remaining Monitors (Text text) d is g = search (rules, is)
-of_own remaining Stdin own d is g = search (rules, is)
-of_own remaining (File path) own d is g = search (rules, is)
+-- what holds of the set of the program's own that is named holds of its text
+pub of_own : {R : Type 0} (remaining : R → Option (List ℕ)) (set : Named) (own : SetWord R) (P : List ℕ → Type 0) → own_set_of set ≡ Some own
+    → IsGiven (given remaining own) P → IsGiven (own_text_of set) P
+of_own remaining Standard standard_set P is g = g
+of_own remaining Standard q703_set P is g = search (rules, is)
+of_own remaining Standard monitors_set P is g = search (rules, is)
+of_own remaining Standard (Text text) P is g = search (rules, is)
+of_own remaining Q703 standard_set P is g = search (rules, is)
+of_own remaining Q703 q703_set P is g = g
+of_own remaining Q703 monitors_set P is g = search (rules, is)
+of_own remaining Q703 (Text text) P is g = search (rules, is)
+of_own remaining Monitors standard_set P is g = search (rules, is)
+of_own remaining Monitors q703_set P is g = search (rules, is)
+of_own remaining Monitors monitors_set P is g = g
+of_own remaining Monitors (Text text) P is g = search (rules, is)
+of_own remaining Stdin own P is g = search (rules, is)
+of_own remaining (File path) own P is g = search (rules, is)
+
+-- ---- where one of them is refused
+
+-- the line of a refusal, in front of which stands the side
+pub side_line : (old new : Option (List ℕ)) (side begun lines shown line : List ℕ) → begun ≡ [] → Appends (Some begun) (Some lines) line → shown ≡ lines
+    → Appends old new (in_front side true shown) → Appends old new (in_front side true line)
+side_line old new side begun lines shown line none grown same h =
+    let is : shown ≡ line = same ∙ (grown ∙ ap (λ x. x ++ line) none) in
+    let P : List ℕ → Type 0 = λ x. Appends old new (in_front side true x) in
+    subst P is h
+
+pub side_refused : (known : Option (List ℕ)) (r : Refusal) (side : List ℕ) (old new : Option (List ℕ)) → IsRefusal r.fault
+    → Appends old new (in_front side true (refusal_line r.fault)) → (IsRefusal r.fault → IsGiven known (λ bytes. IsRefusedAt bytes r))
+    → IsGiven known (PrintsSide side old new)
+side_refused known r side old new judged written found =
+    let g = found judged in
+    record {
+      bytes = g.bytes;
+      are_known = g.are_known;
+      holds = record { fault = r.fault; judged = judged; is_so = g.holds.refused; written = written };
+    }
 
 -- ---- what was found of them
 
@@ -125,15 +149,25 @@ ends_of status (inl alike) = inl alike
 ends_of status (inr (inl differ)) = inr (inl differ)
 ends_of status (inr (inr failed)) = inr (inr (inr failed))
 
+no_refusal : (status : ℕ) → (status ≡ 0) ⊎ (status ≡ 1) ⊎ (status ≡ 4) → status ≡ 2 → ⊥
+no_refusal status (inl alike) two = omega (arith, alike, two)
+no_refusal status (inr (inl differ)) two = omega (arith, differ, two)
+no_refusal status (inr (inr failed)) two = omega (arith, failed, two)
+
 pub compared : (one other : Option (List ℕ)) (d e : Draft) (status : ℕ) (old between last new : Option (List ℕ)) → IsGiven one (λ bytes. IsSetOf bytes d)
     → IsGiven other (λ bytes. IsSetOf bytes e) → between ≡ old → last ≡ between → (status ≡ 0 → AreAlike d e) → (status ≡ 1 → AreAlike d e → ⊥)
     → ((status ≡ 0) ⊎ (status ≡ 1) → PrintsDifference last new d e) → (status ≡ 0) ⊎ (status ≡ 1) ⊎ (status ≡ 4) → IsCompared one other status old new
 compared one other d e status old between last new is_old is_new first second alike differ printed ends = record {
-  alike = λ none. record { old = d; new = e; is_old = is_old; is_new = is_new; holds = alike none };
-  differ = λ some. record { old = d; new = e; is_old = is_old; is_new = is_new; holds = differ some };
-  printed = λ said.
+  sets = λ said.
       let P : Option (List ℕ) → Type 0 = λ o. PrintsDifference o new d e in
-      record { old = d; new = e; is_old = is_old; is_new = is_new; holds = subst P (second ∙ first) (printed said) };
+      record {
+        old = d;
+        new = e;
+        is_old = is_old;
+        is_new = is_new;
+        holds = record { printed = subst P (second ∙ first) (printed said); alike = alike; differ = differ };
+      };
+  refused = λ two. absurd (no_refusal status ends two);
   ends = ends_of status ends;
 }
 
@@ -143,10 +177,20 @@ is_late status (inl refused) (inr differ) = omega (arith, refused, differ)
 is_late status (inr failed) (inl alike) = omega (arith, failed, alike)
 is_late status (inr failed) (inr differ) = omega (arith, failed, differ)
 
-pub turned_away : (one other : Option (List ℕ)) (status : ℕ) (old new : Option (List ℕ)) → (status ≡ 2) ⊎ (status ≡ 4) → IsCompared one other status old new
-turned_away one other status old new h = record {
-  alike = λ none. absurd (is_late status h (inl none));
-  differ = λ some. absurd (is_late status h (inr some));
-  printed = λ said. absurd (is_late status h said);
+pub old_refused : (one other : Option (List ℕ)) (status : ℕ) (old new : Option (List ℕ)) → (status ≡ 2 → IsGiven one (PrintsSide (codes "OLD") old new))
+    → (status ≡ 2) ⊎ (status ≡ 4) → IsCompared one other status old new
+old_refused one other status old new refused h = record {
+  sets = λ said. absurd (is_late status h said);
+  refused = λ two. inl (refused two);
   ends = inr (inr h);
 }
+
+pub new_refused : (one other : Option (List ℕ)) (status : ℕ) (old between new : Option (List ℕ)) → between ≡ old
+    → (status ≡ 2 → IsGiven other (PrintsSide (codes "NEW") between new)) → (status ≡ 2) ⊎ (status ≡ 4) → IsCompared one other status old new
+new_refused one other status old between new same refused h =
+    let P : Option (List ℕ) → Type 0 = λ o. IsGiven other (PrintsSide (codes "NEW") o new) in
+    record {
+      sets = λ said. absurd (is_late status h said);
+      refused = λ two. inr (subst P same (refused two));
+      ends = inr (inr h);
+    }

@@ -28,9 +28,8 @@ sets_failed sets old new = record {
 -- a comparison of sets that failed
 diff_failed : (one other old new : Option (List ℕ)) → IsCompared one other 4 old new
 diff_failed one other old new = record {
-  alike = not_done;
-  differ = not_missed;
-  printed = λ h. elim h [ inl done ↦ not_done done | inr missed ↦ not_missed missed ];
+  sets = λ h. elim h [ inl done ↦ not_done done | inr missed ↦ not_missed missed ];
+  refused = not_refused;
   ends = inr (inr (inr refl));
 }
 

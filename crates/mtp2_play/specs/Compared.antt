@@ -1,5 +1,5 @@
 -- What `diff` says of two sets, by the exit status that it gives.
-use Rattle.std.specs.Prelude.{◌≡◌, ◌⊎◌, ℕ, ◌+◌, ◌-◌, List, [], ◌++◌, Option, All, codes}
+use Rattle.std.specs.Prelude.{◌≡◌, ◌⊎◌, ℕ, ◌+◌, ◌-◌, true, List, [], ◌++◌, Option, All, codes}
 use Rattle.std.specs.Prelude.{bytes_eq, if◌then◌else◌, min}
 use Rattle.std.specs.Fmt.{decimal}
 use Rattle.std.specs.Io.KnownBytes.{Appends}
@@ -11,7 +11,10 @@ use Rattle.draw_sets.specs.Noting.{AreNoted}
 use Rattle.link_term.specs.Wanted.{wanted, Has, IsFirstLacking}
 use Rattle.link_term.specs.link_processes_types.wanted.Wanted.{Wanted}
 use Rattle.link_term.specs.WantedText.{wanted_text}
-use Rattle.script_check.specs.Checked.{IsGiven, IsSetOf}
+use Rattle.script_check.specs.Checked.{IsGiven, IsRefusal, IsRefusalOf, IsSetOf}
+use Rattle.script_check.specs.Fronts.{in_front}
+use Rattle.script_check.specs.Printed.{refusal_line}
+use Rattle.script_check.specs.declared.sets.SetFault.{SetFault}
 
 -- two sets differ in nothing that has a line
 pub record AreAlike (d e : Draft) : Type 0 where
@@ -44,7 +47,6 @@ terminal_text before after =
     else codes "terminal " ++ before ++ codes " -> " ++ after ++ codes "\n"
 
 -- the last two lines
-
 pub record IsSummary (d e : Draft) (text : List ℕ) : Type 0 where
   pub before : List ℕ
   pub after : List ℕ
@@ -67,6 +69,14 @@ pub record PrintsDifference (old new : Option (List ℕ)) (d e : Draft) : Type 0
   pub summary : IsSummary d e end
   pub written : Appends old new (item_lines (items_of d) (items_of e) ++ ways ++ end)
 
+-- What is written where the text of one side is refused: the line of a fault that it has, with the
+-- side in front.
+pub record PrintsSide (side : List ℕ) (old new : Option (List ℕ)) (bytes : List ℕ) : Type 0 where
+  pub fault : SetFault
+  pub judged : IsRefusal fault
+  pub is_so : IsRefusalOf bytes fault
+  pub written : Appends old new (in_front side true (refusal_line fault))
+
 -- something of the sets of two texts
 pub record IsOfSets (one other : Option (List ℕ)) (P : Draft → Draft → Type 0) : Type 0 where
   pub old : Draft
@@ -75,10 +85,17 @@ pub record IsOfSets (one other : Option (List ℕ)) (P : Draft → Draft → Typ
   pub is_new : IsGiven other (λ bytes. IsSetOf bytes new)
   pub holds : P old new
 
--- what `diff` prints of two sets: nothing differs, or something does
+-- What is written of two sets, with a status that says whether they are alike.
+pub record Compares (status : ℕ) (old new : Option (List ℕ)) (d e : Draft) : Type 0 where
+  pub printed : PrintsDifference old new d e
+  pub alike : status ≡ 0 → AreAlike d e
+  pub differ : status ≡ 1 → AreAlike d e → ⊥
+
+-- what `diff` writes, by its exit status: of the sets of two texts, or that one is refused
 pub record IsCompared (one other : Option (List ℕ)) (status : ℕ) (old new : Option (List ℕ)) :
     Type 0 where
-  pub alike : status ≡ 0 → IsOfSets one other AreAlike
-  pub differ : status ≡ 1 → IsOfSets one other (λ d e. AreAlike d e → ⊥)
-  pub printed : (status ≡ 0) ⊎ (status ≡ 1) → IsOfSets one other (PrintsDifference old new)
+  pub sets : (status ≡ 0) ⊎ (status ≡ 1) → IsOfSets one other (Compares status old new)
+  pub refused : status ≡ 2
+      → IsGiven one (PrintsSide (codes "OLD") old new)
+      ⊎ IsGiven other (PrintsSide (codes "NEW") old new)
   pub ends : (status ≡ 0) ⊎ (status ≡ 1) ⊎ (status ≡ 2) ⊎ (status ≡ 4)

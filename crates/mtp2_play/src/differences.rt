@@ -1,8 +1,11 @@
 //! The command `diff` on the sets that the command line names.
-ghost use Rattle.std.specs.Prelude.{◌≡◌, ◌⊎◌, [], None, IfErr, IfOk, OnOk, string_bytes};
+ghost use Rattle.std.specs.Prelude.{◌≡◌, ◌⊎◌, true, [], None, Some, IfErr, IfOk, OnOk, string_bytes};
+ghost use Rattle.std.specs.Io.KnownBytes.{Appends};
 ghost use Rattle.draw_sets.specs.Noting.{AreNoted};
-ghost use Rattle.script_check.specs.Checked.{given, IsGiven, IsSetOf};
-ghost use Rattle.mtp2_play.specs.Compared.{same_text, terminal_text, way_lines, AreAlike, AreFound, IsCompared, IsSummary, PrintsDifference, SaysTerminal};
+ghost use Rattle.script_check.specs.Checked.{given, IsGiven, IsRefusal, IsSetOf};
+ghost use Rattle.script_check.specs.Fronts.{in_front};
+ghost use Rattle.script_check.specs.Printed.{refusal_line};
+ghost use Rattle.mtp2_play.specs.Compared.{same_text, terminal_text, way_lines, AreAlike, AreFound, IsCompared, IsSummary, PrintsDifference, PrintsSide, SaysTerminal};
 ghost use Rattle.mtp2_play.specs.Sets.{own_text_of};
 
 use crate::sets::{STDIN, own_set, set_word};
@@ -37,7 +40,9 @@ struct SideName<'a> {
 }
 
 /// Writes lines with the name of one side in front of each.
-fn write_side<W: Write>(alloc: Global, side: &str, lines: &[u8], writer: &mut W) -> io::Result<()> {
+fn write_side<W: Write>(alloc: Global, side: &str, lines: &[u8], writer: &mut W) -> io::Result<()>
+    ensures { OnOk result (Appends (W.contents writer.old) (W.contents writer.new) (in_front side.now true lines.now)) }
+{
     let named = in_front(alloc, side, lines)?;
     writer.write_all(&named)
 }
@@ -50,7 +55,9 @@ fn refuse_side<H: Eprint, W: Write>(
     refusal: &Refusal,
     writer: &mut W,
 ) -> u8
-    ensures { (result ≡ 2) ⊎ (result ≡ 4) }
+    ensures refused { result ≡ 2 → IsRefusal refusal.now.fault }
+    ensures printed { result ≡ 2 → Appends (W.contents writer.old) (W.contents writer.new) (in_front named.entry.side.now true (refusal_line refusal.now.fault)) }
+    ensures status { (result ≡ 2) ⊎ (result ≡ 4) }
 {
     let mut lines: Vec<u8> = Vec::new(alloc);
     if refuse_set(alloc, named.name, refusal, &mut lines, &mut teller.errors()) == FAILED {
@@ -80,6 +87,7 @@ fn with_text<H: Eprint, S: Read + Drop, W: Write>(
 ) -> Result<Side, u8>
     ensures set { IfOk result (λ side. IsGiven (given S.remaining set) (λ bytes. IsSetOf bytes side.set)) }
     ensures kept { IfOk result (λ _. W.contents writer.new ≡ W.contents writer.old) }
+    ensures refused { IfErr result (λ s. s ≡ 2 → IsGiven (given S.remaining set) (PrintsSide named.entry.side.now (W.contents writer.old) (W.contents writer.new))) }
     ensures status { IfErr result (λ s. (s ≡ 2) ⊎ (s ≡ 4)) }
 {
     match find_set(alloc, set) {
@@ -99,8 +107,9 @@ fn octets_side<H: Eprint, W: Write>(
     octets: &[u8],
     writer: &mut W,
 ) -> Result<Side, u8>
-    ensures set { IfOk result (λ side. IsGiven None (λ bytes. IsSetOf bytes side.set)) }
+    ensures set { IfOk result (λ side. IsGiven (Some octets.now) (λ bytes. IsSetOf bytes side.set)) }
     ensures kept { IfOk result (λ _. W.contents writer.new ≡ W.contents writer.old) }
+    ensures refused { IfErr result (λ s. s ≡ 2 → IsGiven (Some octets.now) (PrintsSide named.entry.side.now (W.contents writer.old) (W.contents writer.new))) }
     ensures status { IfErr result (λ s. (s ≡ 2) ⊎ (s ≡ 4)) }
 {
     with_text(alloc, teller, named, SetWord::Text(octets), octets, writer)
@@ -116,6 +125,7 @@ fn read_side<H: Eprint, S: Read + Drop, W: Write>(
 ) -> Result<Side, u8>
     ensures set { IfOk result (λ side. IsGiven None (λ bytes. IsSetOf bytes side.set)) }
     ensures kept { IfOk result (λ _. W.contents writer.new ≡ W.contents writer.old) }
+    ensures refused { IfErr result (λ s. s ≡ 2 → IsGiven None (PrintsSide named.entry.side.now (W.contents writer.old) (W.contents writer.new))) }
     ensures status { IfErr result (λ s. (s ≡ 2) ⊎ (s ≡ 4)) }
 {
     match read_text(alloc, &mut reader) {
@@ -149,6 +159,7 @@ fn own_side<H: Eprint, W: Write>(
 ) -> Result<Side, u8>
     ensures set { IfOk result (λ side. IsGiven (own_text_of set.now) (λ bytes. IsSetOf bytes side.set)) }
     ensures kept { IfOk result (λ _. W.contents writer.new ≡ W.contents writer.old) }
+    ensures refused { IfErr result (λ s. s ≡ 2 → IsGiven (own_text_of set.now) (PrintsSide named.entry.side.now (W.contents writer.old) (W.contents writer.new))) }
     ensures status { IfErr result (λ s. (s ≡ 2) ⊎ (s ≡ 4)) }
 {
     match own_set(set) {
@@ -167,6 +178,7 @@ fn named_side<R: Runtime + AllocGlobal, H: Eprint, W: Write>(
 ) -> Result<Side, u8>
     ensures set { IfOk result (λ side. IsGiven (own_text_of set.entry) (λ bytes. IsSetOf bytes side.set)) }
     ensures kept { IfOk result (λ _. W.contents writer.new ≡ W.contents writer.old) }
+    ensures refused { IfErr result (λ s. s ≡ 2 → IsGiven (own_text_of set.entry) (PrintsSide side.now (W.contents writer.old) (W.contents writer.new))) }
     ensures status { IfErr result (λ s. (s ≡ 2) ⊎ (s ≡ 4)) }
 {
     let name = set_word(&set);
