@@ -1,6 +1,6 @@
 //! What passes a limit (S10): by its name, its number against the limit, and where it stands.
 use crate::extents::{count_places, extent_of, size_of};
-use script_point::{Told, push_all, push_number};
+use script_point::{Notes, Told, push_all, push_number};
 use sdl_joins::find_orders;
 use sdl_lex::Name;
 use sdl_measures::{Measure, measure_all};
@@ -74,16 +74,20 @@ fn push_owner(text: &mut String, owner: &Owner) -> Result<(), AllocError> {
     }
 }
 
-/// What is said of what passes a limit, with its number against it.
-fn said_of(alloc: Global, over: Over, limit: Limit) -> Result<String, AllocError> {
-    let mut said = String::new(alloc);
-    push_owner(&mut said, &over.owner)?;
-    said.push_str(" has ")?;
-    push_number(alloc, &mut said, over.number)?;
-    said.push_str(counted(limit))?;
-    push_number(alloc, &mut said, most(limit))?;
-    said.push_str(" at most")?;
-    Ok(said)
+/// Says who has too much, and how much, against the limit.
+fn add_over(
+    alloc: Global,
+    notes: &mut Notes,
+    owner: &Owner,
+    number: usize,
+    limit: Limit,
+) -> Result<(), AllocError> {
+    push_owner(&mut notes.said, owner)?;
+    notes.said.push_str(" has ")?;
+    push_number(alloc, &mut notes.said, number)?;
+    notes.said.push_str(counted(limit))?;
+    push_number(alloc, &mut notes.said, most(limit))?;
+    notes.said.push_str(" at most")
 }
 
 /// The place of the name with a number, or another place where there is none.
@@ -362,33 +366,24 @@ fn over_limit(
     }
 }
 
-/// What is said of what passes a limit in a block, and where it stands.
-fn over_said(
-    alloc: Global,
-    block: &BlockTable<'_>,
-    limit: Limit,
-) -> Result<Option<(String, u32)>, AllocError> {
-    match over_limit(alloc, block, limit)? {
-        Some(over) => {
-            let place = over.place;
-            let said = said_of(alloc, over, limit)?;
-            Ok(Some((said, place)))
-        }
-        None => Ok(None),
-    }
-}
-
-/// Says what passes a limit, and where it stands.
+/// Says what passes a limit, and where it stands. (Its parts are named by a pattern: with `over.place` the kit's borrow
+/// checker isn't told where `Owner` lives, and refuses the function.)
 pub(crate) fn tell_over(
     alloc: Global,
     told: &mut Told,
-    block: &BlockTable<'_>,
+    block: &BlockTable,
     limit: Limit,
 ) -> Result<(), AllocError> {
-    match over_said(alloc, block, limit)? {
-        Some((said, place)) => {
+    match over_limit(alloc, block, limit)? {
+        Some(
+            Over {
+                owner,
+                number,
+                place,
+            },
+        ) => {
             told.found = Some(place);
-            told.notes.said.push_str(&said)
+            add_over(alloc, &mut told.notes, &owner, number, limit)
         }
         None => Ok(()),
     }
