@@ -65,7 +65,7 @@ pub fn play<S: Read + Drop, R: Read + Drop, W: Write, E: Write>(
 }
 
 /// Writes the fault of a script. Gives the exit status.
-fn refuse_script<W: Write>(alloc: Global, writer: &mut W, fault: ScriptFault) -> u8
+pub(crate) fn refuse_script<W: Write>(alloc: Global, writer: &mut W, fault: ScriptFault) -> u8
     ensures printed { result ≡ 2 → PrintsFault fault (W.contents writer.old) (W.contents writer.new) }
     ensures status { (result ≡ 2) ⊎ (result ≡ 4) }
 {
@@ -76,7 +76,7 @@ fn refuse_script<W: Write>(alloc: Global, writer: &mut W, fault: ScriptFault) ->
 }
 
 /// Tells why a line of a text is none of a script.
-fn explain<E: Write>(alloc: Global, text: &str, fault: ScriptFault, errors: &mut E) {
+pub(crate) fn explain<E: Write>(alloc: Global, text: &str, fault: ScriptFault, errors: &mut E) {
     let ScriptFault::BadLine(line) = fault else {
         return;
     };
@@ -90,7 +90,7 @@ fn explain<E: Write>(alloc: Global, text: &str, fault: ScriptFault, errors: &mut
 }
 
 /// Tells that a text is too long for a script.
-fn explain_length<E: Write>(alloc: Global, line: usize, errors: &mut E) {
+pub(crate) fn explain_length<E: Write>(alloc: Global, line: usize, errors: &mut E) {
     let _told = write_line(
         alloc,
         errors,

@@ -1,5 +1,9 @@
 pub mod Shown
 pub mod Kinds
+pub mod Told
+pub mod Traced
+pub mod TracedKinds
+pub mod Following
 pub use Rattle.script_group.specs.GroupRuns
 pub use Rattle.script_group.specs.Lines
 pub use Rattle.script_group.specs.Played
