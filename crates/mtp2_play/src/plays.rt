@@ -16,6 +16,7 @@ use std::rt::Runtime;
 
 /// What of a script's run is seen beside its replies: whether the lines of commands are, where a trace goes, and whether what has no effect is
 /// traced too.
+#[derive(Drop)]
 struct Watch<F> {
     echo: bool,
     every: bool,
