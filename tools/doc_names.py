@@ -1,7 +1,8 @@
 """What the documents name and the repository lacks: files, definitions, functions and clauses; and what they leave out. `tools/ready` asks it.
 
 - docs/architecture.md: each crate has its row in the table of the rooms, and each row its crate.
-- docs/standards.md: each definition, function, edit, quoted word of examples/ and heading of docs/ is there.
+- docs/standards.md: each definition, function, edit, quoted word of examples/ and heading of docs/ is there, and a quoted
+  name is that of one entry.
 - README.md and docs/*.md: each path that they write is there."""
 import functools
 import re
@@ -23,6 +24,14 @@ def sections(text):
     """Each heading of second rank with the text behind it."""
     parts = re.split(r"^## (.*)$", text, flags=re.M)
     return list(zip(parts[1::2], parts[2::2]))
+
+
+def names_one(words, held):
+    """Whether a text without entries has these words, or an entry has them for its name, or one alone begins so; a set in front of a name aside."""
+    entries = [[it, it.partition(": ")[2]] for it in re.findall(r"^== (.*)$", held, re.M)]
+    if not entries:
+        return words in held
+    return any(words in it for it in entries) or sum(any(name.startswith(words) for name in it) for it in entries) == 1
 
 
 class Look:
@@ -70,10 +79,9 @@ def standards(look, text):
                     look.say("standards", f"no {name} in {crate}/src/{file}")
         for path, quoted in re.findall(r"`(examples/[\w./]+)`: ((?:\"[^\"]+\"(?:, )?)+)", f"{defined}; {tested}"):
             held = text_of(root / path) or ""
-            entries = re.findall(r"^== .*$", held, re.M) or [held]
             for words in re.findall(r"\"([^\"]+)\"", quoted):
-                if not any(words in it for it in entries):
-                    look.say("standards", f"no \"{words}\" in {path}")
+                if not names_one(words, held):
+                    look.say("standards", f"no \"{words}\" in {path}, or several")
         for name in re.findall(r"`(\w+)`", " ".join(re.findall(r"\bedits? ((?:`\w+`(?:, )?)+)", tested))):
             if not any(root.glob(f"crates/*/must-fail/{name}.edit")) and not any(root.glob(f"edits/*/{name}.edit")):
                 look.say("standards", f"no edit {name}")

@@ -38,7 +38,7 @@ SORTS = {
     "AckSeen": "BOOLEAN", "Unit": "INTEGER", "Take": "BOOLEAN", "Line": "INTEGER", "Withhold": "BOOLEAN", "Down": "INTEGER", "Deliver": "BOOLEAN",
     "Odd": "INTEGER", "Counting": "BOOLEAN",
 }
-# Whether a text is told that octet counting begins and ends, and the first line may say N1 and N2: that is beside what `play` has.
+# Whether the first line may say N1 and N2: that is beside what `play` has.
 ALL_NAMES = False
 # What a text may have besides.
 OPTIONAL = "ENV/Deliver RC/Odd ENV/Clear ENV/Cleared LSC/Flush LSC/Continue CC/Overload AERM/Counting SUERM/Counting".split()
@@ -66,8 +66,10 @@ class Terminal:
         # Whether a link set holds it, and whether it does so behind the next beginning of both directions too.
         self.is_held = self.stays_held = False
         self.messages, self.statuses = [], []
-        self.names = {it for it in OPTIONAL if (ALL_NAMES or not it.endswith("/Counting")) and has(self.book, it)}
+        self.names = {it for it in OPTIONAL if has(self.book, it)}
         self.deliver, self.behind_odd, self.spare, self.cleared, self.left, self.keeps = True, False, 0, 0, False, False
+        # Whether octets are counted, as that was told last.
+        self.counting = True
 
     def rebase(self):
         if self.book.journal - self.book.events < 32768:
@@ -160,13 +162,18 @@ class Terminal:
                 return taken
             self.rebase()
             for bit in bits_of([octet]):
-                counting, units = self.line.counting, self.line.bit(bit)
-                if self.line.counting != counting and {"AERM/Counting", "SUERM/Counting"} <= self.names:
-                    self.offer("AERM", "Counting", not counting)
-                    self.offer("SUERM", "Counting", not counting)
-                for unit in units:
+                for unit in self.line.bit(bit):
+                    # A unit ends octet counting.
+                    self.tell_counting(self.counting and unit is None)
                     self.received(unit)
+                self.tell_counting(self.line.counting)
         return len(octets)
+
+    def tell_counting(self, on):
+        if on != self.counting and "SUERM/Counting" in self.names:
+            self.counting = on
+            self.offer("AERM", "Counting", on)
+            self.offer("SUERM", "Counting", on)
 
     def received(self, unit):
         if unit is None:
@@ -269,7 +276,7 @@ def has(book, wanted):
 
 
 # What a text may have besides, in the order in which it is asked for.
-ASKED = "LSC/Flush LSC/Continue CC/Overload ENV/Deliver ENV/Cleared ENV/Clear RC/Odd".split()
+ASKED = "LSC/Flush LSC/Continue CC/Overload ENV/Deliver ENV/Cleared ENV/Clear RC/Odd AERM/Counting SUERM/Counting".split()
 
 
 def is_otherwise(book, wanted):
@@ -277,8 +284,11 @@ def is_otherwise(book, wanted):
     party, _, name = wanted.partition("/")
     _, sorts = book.signals.get(name.lower(), (name, None))
     paths = [(a, b) for a, b, signal in book.paths if signal == name.lower() and "ENV" in (a, b)]
-    right = [(a, b) for a, b in paths if (a != "ENV" and b == "ENV" if party == "ENV" else (a, b) == ("ENV", party.lower()))]
-    return paths != right or (bool(paths) and sorts != ([SORTS[name]] if name in SORTS else []))
+    # Counting goes to both error rate monitors.
+    to = ("aerm", "suerm") if name == "Counting" else (party.lower(),)
+    right = [(a, b) for a, b in paths if (a != "ENV" and b == "ENV" if party == "ENV" else a == "ENV" and b in to)]
+    lacks = party != "ENV" and ("ENV", party.lower()) not in paths
+    return paths != right or (bool(paths) and (lacks or sorts != ([SORTS[name]] if name in SORTS else [])))
 
 
 def lacking_in(book):

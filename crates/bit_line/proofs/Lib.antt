@@ -7,6 +7,7 @@ pub mod FlagLaws
 pub mod FrontLaws
 pub mod GateLaws
 pub mod LongLaws
+pub mod ModeLaws
 pub mod Newest
 pub mod OctetLaws
 pub mod PaceLaws

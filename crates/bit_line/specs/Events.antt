@@ -1,7 +1,7 @@
 -- What a receiver of line bits reports (Q.703, 4.1): signal units, errored ones, and sixteen octets
 -- at a time while it counts octets.
 use Rattle.std.specs.Prelude.{◌≡◌, ◌≢◌, ℕ, ◌+◌, ◌%◌, ◌==◌, Bool, if◌then◌else◌, Option, Some, None}
-use Rattle.std.specs.Prelude.{List, [], ◌∷◌, ◌++◌, reverse}
+use Rattle.std.specs.Prelude.{is_some, List, [], ◌∷◌, ◌++◌, reverse}
 use Rattle.std.specs.List.{All}
 use Rattle.std.specs.Bool.{MatchBool}
 use Rattle.su_octets.specs.Bits.{bits_of, AreOctets}
@@ -78,6 +78,12 @@ Runs (b ∷ h) mode all =
 -- all that is reported for these line bits, given in order of coming
 abbrev pub AreEvents : List Bool → List LineEvent → Type 0
 AreEvents bits events = (mode : Option ℕ) × Runs (reverse bits) mode events
+
+-- Behind these line bits octets are counted, or they aren't.
+abbrev pub IsCounting : List Bool → Bool → Type 0
+IsCounting bits on =
+    (mode : Option ℕ) × (all : List LineEvent) × Runs (reverse bits) mode all
+    × (is_some mode ≡ on)
 
 -- what is said of a reported unit: its octets are those of a signal unit
 abbrev pub IsSound : LineEvent → Type 0

@@ -30,7 +30,7 @@ pub struct Deframer {
 
 impl Deframer {
     ghost use Rattle.bit_line.specs.Deframing.{StandsAt, Stands, LetsIn};
-    ghost use Rattle.bit_line.specs.Events.{AreEvents, UnitsDecode, closings};
+    ghost use Rattle.bit_line.specs.Events.{AreEvents, IsCounting, UnitsDecode, closings};
     ghost use Rattle.bit_line.specs.Running.{IsCalm};
     ghost use Rattle.bit_line.specs.Flags.{inside, MOST_BITS};
     ghost use Rattle.bit_line.specs.Stuffing.{taken_out};
@@ -45,6 +45,13 @@ impl Deframer {
             gate: Gate::new(),
             counter: Counter::new(),
         }
+    }
+
+    /// Whether octets are counted: from seven 1s or too long a unit on, and at first, up to a correct unit (Q.703, 4.1.4).
+    pub fn is_counting(&self) -> bool
+        ensures { (bits : List Bool) → Stands bits self.now → IsCounting bits result }
+    {
+        !self.counter.is_normal()
     }
 
     /// Takes the bit that ends a flag.

@@ -8,7 +8,7 @@ use Rattle.link_term.specs.Machine.{offered, tidied, tick_refusal}
 use Rattle.link_term.specs.Term.{Term, with_processes, term_with_transceiver}
 use Rattle.link_term.specs.Hearing.{Heard}
 use Rattle.script_links.specs.TermCommands.{PlainTermCommand}
-use Rattle.script_terminal.specs.TermAnswers.{next_of, behind_next, Answers}
+use Rattle.script_terminal.specs.TermAnswers.{next_of, behind_next, behind_clear, Answers}
 use Rattle.script_terminal.specs.Told.{report_text}
 use Rattle.line_filter.specs.Acts.{Act, asked, heard, passed, reported as told, obeyed}
 use Rattle.line_filter.specs.declared.terminal.Answer.{Answer}
@@ -20,9 +20,16 @@ pub record Gives (t : Term) (unit : Option units.Unit) (u : Term) : Type 0 where
   pub unit_is : unit ≡ (next_of t).unit
   pub after : u ≡ behind_next t
 
--- a millisecond passed, which its processes took as a tick
+-- an octet of the line was heard, and behind it the buffers emptied where the text asked for that
+pub record Hears (t : Term) (octet : ℕ) (u : Term) : Type 0 where
+  pub middle : Term
+  pub heard : Heard t (octet ∷ []) middle
+  pub after : u ≡ behind_clear middle
+
+-- a millisecond passed, which its processes took as a tick, and behind it the buffers were emptied
+-- where the text asked for that
 unfoldable pub after_tick : Term → Term
-after_tick t = with_processes t (offered (Advance 1) (tidied t.processes))
+after_tick t = behind_clear (with_processes t (offered (Advance 1) (tidied t.processes)))
 
 -- a millisecond passes, and isn't refused
 pub record Passes (t u : Term) : Type 0 where
@@ -53,7 +60,7 @@ ObeysBy (Some command) t order answer u = ObeysOne command t order answer u
 -- how a terminal changes by what it does
 abbrev pub link_acts : Term → Act → Term → Type 0
 link_acts t (asked unit) u = Gives t unit u
-link_acts t (heard octet) u = Heard t (octet ∷ []) u
+link_acts t (heard octet) u = Hears t octet u
 link_acts t passed u = Passes t u
 link_acts t (told text) u = Tells t text u
 link_acts t (obeyed order answer) u = ObeysBy (line_command_of (words_of order)) t order answer u

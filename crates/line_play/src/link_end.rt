@@ -1,10 +1,9 @@
 //! A signalling link terminal at the end of a line.
-ghost use Rattle.std.specs.Prelude.{◌∷◌, [], IfOk, OnOk, option_map, string_bytes};
+ghost use Rattle.std.specs.Prelude.{IfOk, OnOk, option_map, string_bytes};
 ghost use Rattle.script_lines.specs.Lines.{texts};
 ghost use Rattle.script_links.specs.TermCommands.{plain_term_command};
-ghost use Rattle.link_term.specs.Hearing.{Heard};
 ghost use Rattle.line_play.specs.Commands.{line_command_of};
-ghost use Rattle.line_play.specs.LinkActs.{link_acts, Passes, Tells, ObeysOne, ObeysBy};
+ghost use Rattle.line_play.specs.LinkActs.{link_acts, Hears, Passes, Tells, ObeysOne, ObeysBy};
 
 use crate::commands::{is_question, line_command};
 use crate::texts::{answer_of, bad_line};
@@ -24,24 +23,29 @@ pub struct LinkEnd {
     pub terminal: Terminal,
 }
 
-/// Hears an octet of the line. Where nothing waits to be told, it takes it unless memory is wanting.
+/// Hears an octet of the line. Where nothing waits to be told, it takes it unless memory is wanting. Behind it the buffers are emptied where the
+/// text asked for that.
 fn hear(terminal: &mut Terminal, octet: u8) -> io::Result<()>
-    ensures { OnOk result (Heard terminal.old (octet ∷ []) terminal.new) }
+    ensures { OnOk result (Hears terminal.old octet terminal.new) }
 {
     if terminal.line_in(&[octet]) == 1 {
+        let _cleared = terminal.obey_clear();
         Ok(())
     } else {
         Err(io::Error::from(ErrorKind::OutOfMemory))
     }
 }
 
-/// Lets a millisecond pass.
+/// Lets a millisecond pass. Behind it the buffers are emptied where the text asked for that.
 #[tactic(auto, unfolding(crate::specs::LinkActs::after_tick))]
 fn pass(terminal: &mut Terminal) -> io::Result<()>
     ensures { OnOk result (Passes terminal.old terminal.new) }
 {
     match terminal.tick(1) {
-        Ok(_) => Ok(()),
+        Ok(_) => {
+            let _cleared = terminal.obey_clear();
+            Ok(())
+        }
         Err(_) => Err(io::Error::from(ErrorKind::OutOfMemory)),
     }
 }

@@ -4,7 +4,7 @@ ghost use Rattle.script_check.specs.Checked.{given, IsGiven};
 ghost use Rattle.script_terminal.specs.TermRuns.{PrintsLacking};
 ghost use Rattle.line_play.specs.Opening.{IsNewOver, IsNoSet};
 
-use link_term::{Mode, OpenError, Terminal};
+use link_term::{Mode, OpenError, RoundLimits, Terminal};
 use plain_text::{FAILED, refuse};
 use script_check::{SetWord, load_set, write_refusal};
 use std::alloc::Global;
@@ -21,7 +21,8 @@ fn refuse_name<E: Write>(alloc: Global, errors: &mut E, error: OpenError) -> u8
     }
 }
 
-/// A terminal over a set of processes, out of service and before its power is switched on.
+/// A terminal over a set of processes, out of service and before its power is switched on. The limits of forced retransmission count in cyclic
+/// retransmission alone.
 ///
 /// # Errors
 ///
@@ -29,16 +30,17 @@ fn refuse_name<E: Write>(alloc: Global, errors: &mut E, error: OpenError) -> u8
 /// (`refused CODE Name ..`, `refused X2 NoName NAME`); 4 where memory, a read or that write fails.
 pub fn new_terminal<S: Read + Drop, E: Write>(
     alloc: Global,
+    limits: RoundLimits,
     mode: Mode,
     set: SetWord<S>,
     errors: &mut E,
 ) -> Result<Terminal, u8>
-    ensures ok { IfOk result (λ t. IsGiven (given S.remaining set) (IsNewOver mode t)) }
+    ensures ok { IfOk result (λ t. IsGiven (given S.remaining set) (IsNewOver limits mode t)) }
     ensures refused { IfErr result (λ status. status ≡ 2 → IsGiven (given S.remaining set) (IsNoSet (E.contents errors.old) (E.contents errors.new))) }
     ensures status { IfErr result (λ status. (status ≡ 2) ⊎ (status ≡ 4)) }
 {
     match load_set(alloc, set) {
-        Ok(set) => match Terminal::of_set(alloc, mode, &set) {
+        Ok(set) => match Terminal::of_set_within(alloc, limits, mode, &set) {
             Ok(terminal) => Ok(terminal),
             Err(error) => Err(refuse_name(alloc, errors, error)),
         },

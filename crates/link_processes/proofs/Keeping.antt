@@ -22,11 +22,11 @@ use Rattle.link_transceiver.specs.TransceiverState.{TransceiverState}
 use Rattle.link_transceiver.specs.Effects.{effect, clears}
 use Rattle.link_transceiver.specs.Judging.{judged}
 use Rattle.link_transceiver.specs.Going.{gone}
-use Rattle.link_transceiver.specs.Offers.{error_offers, acknowledgement_seen}
+use Rattle.link_transceiver.specs.Offers.{error_offers, acknowledgement_seen, counting_offers}
 use Rattle.link_transceiver.specs.Laws.{HandsOutInOrder, KeepsUnacknowledged, Loses, Told, Came, Went, accepted_of, acknowledged_of, is_accepted}
 use Rattle.link_processes.specs.declared.processes.Processes.{Processes}
 use Rattle.link_processes.specs.Offering.{told_by, offer_event}
-use Rattle.link_processes.specs.Machine.{with_book, with_transceiver, Step, repeated, heeds, heard, taken_reply, taken_answer, one_taken, emptied, moved_by, moved, rested, offered, all_offered, unit_taken, error_taken, told_of, sent_by, sent, none_out, handed_out, buffers_emptied}
+use Rattle.link_processes.specs.Machine.{with_book, with_transceiver, Step, repeated, heeds, heard, taken_reply, taken_answer, one_taken, emptied, moved_by, moved, rested, offered, all_offered, unit_taken, error_taken, is_news, counting_told, told_of, sent_by, sent, none_out, handed_out, buffers_emptied}
 use Rattle.link_processes.specs.Laws.{MessagesLaw, KeptLaw}
 
 -- a relation between transceivers that holds over each signal, holds over all that takes signals alone
@@ -99,6 +99,16 @@ module _ (R : TransceiverState → TransceiverState → Type 0) (same : (h : Tra
   unfolding error_taken
   error_keeps t = all_keeps error_offers t
 
+  either_keeps : (b : Bool) (x y : Processes) (h : TransceiverState) → R h x.transceiver → R h y.transceiver → R h (if b then x else y).transceiver
+  either_keeps true x y h p q = p
+  either_keeps false x y h p q = q
+
+  pub counting_keeps : (on : Bool) (t : Processes) → R t.transceiver (counting_told on t).transceiver
+  unfolding counting_told
+  counting_keeps on t =
+      either_keeps (is_news on t) (all_offered (counting_offers on) (record t { counting = on })) t t.transceiver
+      (all_keeps (counting_offers on) (record t { counting = on })) (same t.transceiver)
+
   told_keeps : (o : Option Offer) (t : Processes) → R t.transceiver (told_of o t).transceiver
   told_keeps None t = same t.transceiver
   told_keeps (Some o) t = offered_keeps (offer_event t.names o) t
@@ -153,6 +163,7 @@ messages_law law = record {
   offers = all_keeps SameMessages messages_same messages_joined (told_messages law);
   units = units_messages law;
   errors = error_keeps SameMessages messages_same messages_joined (told_messages law);
+  counting = counting_keeps SameMessages messages_same messages_joined (told_messages law);
   sends = λ t. sent_keeps SameMessages messages_same messages_joined (told_messages law) t ∙ went_messages law t.transceiver;
   few = λ u t. few_more (length (unit_taken u t).transceiver.messages) (length t.transceiver.messages) (length (accepted_of t.transceiver u))
       (ap length (units_messages law u t) ∙ length-append t.transceiver.messages (accepted_of t.transceiver u)) (few_accepted t.transceiver u);
@@ -205,6 +216,7 @@ kept_law law = record {
   units = λ u t. loss_stays (acknowledged_of t.transceiver u) t.transceiver.sender (judged t.transceiver u).transceiver.sender (unit_taken u t).transceiver.sender
       (law.on_unit t.transceiver u) (unit_keeps LosesNone no_loss no_loss_joined law.on_signal u t);
   errors = error_keeps LosesNone no_loss no_loss_joined law.on_signal;
+  counting = counting_keeps LosesNone no_loss no_loss_joined law.on_signal;
   sends = λ t. sym (sent_keeps LosesNone no_loss no_loss_joined law.on_signal t).kept ∙ law.unit_out t.transceiver;
   one_sent = λ t. one_sent (length {A = Msu} []) (sent t).processes.transceiver.sender.sent (gone t.transceiver).transceiver.sender.sent t.transceiver.sender.sent
       (sent_keeps LosesNone no_loss no_loss_joined law.on_signal t).sent (law.one_sent t.transceiver);

@@ -6,8 +6,9 @@ use Rattle.turn_check.specs.Named.{IsFirst, IsNowhere, signal_names}
 use Rattle.turn_code.specs.declared.draft.Draft.{Draft}
 use Rattle.turn_code.specs.declared.numbers.SignalNumber.{SignalNumber}
 use Rattle.link_processes.specs.Known.{option_word, touches, IsTouched}
-use Rattle.link_processes.specs.Wanted.{FitsSent, FitsHeard, MaySendIt, MayHearIt}
+use Rattle.link_processes.specs.Wanted.{FitsSent, FitsHeard, FitsCounting, MaySendIt, MayHearIt, MayCountIt}
 use Rattle.link_processes.specs.declared.words.OptionName.{OptionName}
+use Rattle.link_processes.specs.declared.words.OptionName.TheVariants as option
 use Rattle.link_processes.specs.declared.words.ProcessName.{ProcessName}
 
 -- a name stands first at one place
@@ -46,3 +47,7 @@ sent_by_one d to name k touched fits j other =
 pub heard_by_one : (d : Draft) (name : OptionName) (k : SignalNumber) → IsTouched d name k → FitsHeard d name k → MayHearIt d name
 heard_by_one d name k touched fits j other =
     let P : SignalNumber → Type 0 = λ x. FitsHeard d name x in subst P (one_touched d name k j touched other) fits
+
+pub counted_by_one : (d : Draft) (to : ProcessName) (k : SignalNumber) → IsTouched d option.Counting k → FitsCounting d to k → MayCountIt d to
+counted_by_one d to k touched fits j other =
+    let P : SignalNumber → Type 0 = λ x. FitsCounting d to x in subst P (one_touched d option.Counting k j touched other) fits

@@ -91,6 +91,7 @@ option_word option.Deliver = codes "Deliver"
 option_word option.Cleared = codes "Cleared"
 option_word option.Clear = codes "Clear"
 option_word option.Odd = codes "Odd"
+option_word option.Counting = codes "Counting"
 
 abbrev pub option_sorts : OptionName → List Sort
 option_sorts option.Flush = []
@@ -100,6 +101,7 @@ option_sorts option.Deliver = Boolean ∷ []
 option_sorts option.Cleared = []
 option_sorts option.Clear = []
 option_sorts option.Odd = Integer ∷ []
+option_sorts option.Counting = Boolean ∷ []
 
 -- the number of no signal
 abbrev pub NO_SIGNAL : ℕ
@@ -186,6 +188,7 @@ pub record AreOptions (d : Draft) (x : Options) : Type 0 where
   pub cleared : IsOption d x.cleared option.Cleared
   pub clear : IsOption d x.clear option.Clear
   pub odd : IsOption d x.odd option.Odd
+  pub counting : IsOption d x.counting option.Counting
 
 pub record AreNames (d : Draft) (n : Names) : Type 0 where
   pub parties : AreParties d n.parties

@@ -1,5 +1,5 @@
 -- What follows from the steps of a terminal.
-use Rattle.std.specs.Prelude.{◌≡◌, ℕ, zero, suc, ◌+◌, ◌++◌, ◌≤◌, Option, List, [], length}
+use Rattle.std.specs.Prelude.{◌≡◌, ℕ, zero, suc, ◌+◌, ◌++◌, ◌≤◌, Bool, Option, List, [], length}
 use Rattle.su_octets.specs.declared.units.Unit.{Unit}
 use Rattle.actor_book.specs.declared.turn.Turn.TheVariants.{Made, Blocked}
 use Rattle.actor_book.specs.Turns.{MOST_TURNS, tried}
@@ -8,7 +8,8 @@ use Rattle.link_transceiver.specs.declared.offers.Offer.{Offer}
 use Rattle.link_transceiver.specs.Laws.{Loses, accepted_of, acknowledged_of}
 use Rattle.link_processes.specs.declared.processes.Processes.{Processes}
 use Rattle.link_processes.specs.Machine.{with_book, emptied, rested, offered, all_offered}
-use Rattle.link_processes.specs.Machine.{unit_taken, error_taken, sent, handed_out, buffers_emptied}
+use Rattle.link_processes.specs.Machine.{unit_taken, error_taken, counting_told, sent, handed_out}
+use Rattle.link_processes.specs.Machine.{buffers_emptied}
 use Rattle.actor_machine.specs.declared.event.Event.{Event}
 
 -- Up to so many turns, each of the least actor that can, come one after another, and behind each
@@ -38,6 +39,9 @@ pub record MessagesLaw : Type 0 where
       → (unit_taken u t).transceiver.messages
       ≡ t.transceiver.messages ++ accepted_of t.transceiver u
   pub errors : (t : Processes) → (error_taken t).transceiver.messages ≡ t.transceiver.messages
+  pub counting :
+      (on : Bool) (t : Processes)
+      → (counting_told on t).transceiver.messages ≡ t.transceiver.messages
   pub sends : (t : Processes) → (sent t).processes.transceiver.messages ≡ t.transceiver.messages
   pub few : (u : Unit) (t : Processes)
       → length (unit_taken u t).transceiver.messages ≤ length t.transceiver.messages + 1
@@ -56,6 +60,9 @@ pub record KeptLaw : Type 0 where
       → Loses (acknowledged_of t.transceiver u) t.transceiver.sender
       (unit_taken u t).transceiver.sender
   pub errors : (t : Processes) → Loses [] t.transceiver.sender (error_taken t).transceiver.sender
+  pub counting :
+      (on : Bool) (t : Processes)
+      → Loses [] t.transceiver.sender (counting_told on t).transceiver.sender
   pub sends :
       (t : Processes) → (sent t).processes.transceiver.sender.kept ≡ t.transceiver.sender.kept
   pub one_sent :

@@ -1,6 +1,6 @@
 -- What a terminal does: each call is one of these steps, on the history of its actors and what it
 -- keeps beside them.
-use Rattle.std.specs.Prelude.{ℕ, zero, suc, ◌&&◌, Bool, true, false, nat_lt, cond, if◌then◌else◌}
+use Rattle.std.specs.Prelude.{ℕ, zero, suc, ◌&&◌, ◌==◌, not, Bool, true, false, nat_lt, cond, if◌then◌else◌}
 use Rattle.std.specs.Prelude.{Option, Some, None, List, [], ◌∷◌, length}
 use Rattle.resend_store.specs.Window.{emptied as without_kept}
 use Rattle.su_octets.specs.declared.units.Unit.{Unit}
@@ -22,8 +22,9 @@ use Rattle.link_transceiver.specs.TransceiverState.{TransceiverState}
 use Rattle.link_transceiver.specs.Effects.{effect, clears}
 use Rattle.link_transceiver.specs.Judging.{Judged, judged}
 use Rattle.link_transceiver.specs.Going.{gone}
-use Rattle.link_transceiver.specs.Offers.{error_offers, acknowledgement_seen}
+use Rattle.link_transceiver.specs.Offers.{error_offers, acknowledgement_seen, counting_offers}
 use Rattle.link_processes.specs.declared.processes.Processes.{Processes}
+use Rattle.link_processes.specs.Known.{is_there}
 use Rattle.link_processes.specs.Offering.{told_by, offer_event}
 
 abbrev pub with_book : Processes → Ledger → Processes
@@ -156,6 +157,17 @@ clear_obeyed t = if t.transceiver.clearing then buffers_emptied t else t
 -- so many messages go then
 abbrev pub to_clear : Processes → ℕ
 to_clear t = if t.transceiver.clearing then length t.transceiver.sender.kept else 0
+
+-- ---- octet counting
+
+-- whether the set hears of octet counting, and it isn't as it was told last
+abbrev pub is_news : Bool → Processes → Bool
+is_news on t = is_there t.names.options.counting && not (on == t.counting)
+
+-- Octets are counted, or they aren't: where that is news, both error rate monitors are told.
+unfoldable pub counting_told : Bool → Processes → Processes
+counting_told on t =
+    if is_news on t then all_offered (counting_offers on) (record t { counting = on }) else t
 
 -- ---- the journal
 

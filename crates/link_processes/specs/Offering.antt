@@ -15,7 +15,6 @@ use Rattle.link_transceiver.specs.declared.offers.Notice.{Notice}
 use Rattle.link_transceiver.specs.declared.offers.Notice.TheVariants as notice
 use Rattle.link_transceiver.specs.declared.signals.EnvSignal.{EnvSignal}
 use Rattle.link_transceiver.specs.declared.signals.EnvSignal.TheVariants as signal
-use Rattle.link_processes.specs.Known.{NO_SIGNAL}
 use Rattle.link_processes.specs.declared.commands.Command.{Command}
 use Rattle.link_processes.specs.declared.commands.Command.TheVariants as command
 use Rattle.link_processes.specs.declared.names.Names.{Names}
@@ -39,7 +38,7 @@ notice_signal n notice.Bad = n.notices.bad
 notice_signal n (notice.Unit kind) = n.notices.unit
 notice_signal n notice.MsuSent = n.notices.msu_sent
 notice_signal n (notice.Odd code) = n.options.odd
-notice_signal n (notice.Counting on) = record { 0 = NO_SIGNAL }
+notice_signal n (notice.Counting on) = n.options.counting
 
 abbrev pub notice_values : Notice → List Value
 notice_values notice.Good = []

@@ -16,7 +16,7 @@ use Rattle.link_processes.specs.declared.words.OptionName.{OptionName}
 use Rattle.link_processes.specs.declared.words.OptionName.TheVariants as option
 use Rattle.link_processes.specs.declared.wanted.Wanted.{Wanted}
 use Rattle.link_processes.specs.declared.wanted.Wanted.TheVariants.{Process, Sent, Heard}
-use Rattle.link_processes.specs.declared.wanted.Wanted.TheVariants.{MaySend, MayHear}
+use Rattle.link_processes.specs.declared.wanted.Wanted.TheVariants.{MaySend, MayHear, MayCount}
 
 -- ---- what a set has
 
@@ -76,12 +76,34 @@ MaySendIt d to name = (k : SignalNumber) → IsTouched d name k → FitsSent d t
 abbrev pub MayHearIt : Draft → OptionName → Type 0
 MayHearIt d name = (k : SignalNumber) → IsTouched d name k → FitsHeard d name k
 
+-- or brings it from there to one of two processes
+abbrev pub sends_either : ℕ → ℕ → SignalNumber → DraftRoute → Bool
+sends_either p q s r = not (touches s r) || (offers p s r || offers q s r)
+
+-- A signal that goes to both error rate monitors has the parameters that a terminal knows; each
+-- route from or to the environment that carries it brings it from there to one of them, and some
+-- route brings it to this process.
+pub record FitsCounting (d : Draft) (to : ProcessName) (k : SignalNumber) : Type 0 where
+  pub aerm : ℕ
+  pub suerm : ℕ
+  pub process : ℕ
+  pub is_aerm : IsProcess d aerm process.Aerm
+  pub is_suerm : IsProcess d suerm process.Suerm
+  pub is_process : IsProcess d process to
+  pub sorts : parameters_of (slice_get d.signals k.0) ≡ option_sorts option.Counting
+  pub alone : list_all (sends_either aerm suerm k) d.routes ≡ true
+  pub brought : list_any (offers process k) d.routes ≡ true
+
+abbrev pub MayCountIt : Draft → ProcessName → Type 0
+MayCountIt d to = (k : SignalNumber) → IsTouched d option.Counting k → FitsCounting d to k
+
 abbrev pub Has : Draft → Wanted → Type 0
 Has d (Process name) = (n : ℕ) × IsProcess d n name
 Has d (Sent to name) = HasSent d to name
 Has d (Heard name) = HasHeard d name
 Has d (MaySend to name) = MaySendIt d to name
 Has d (MayHear name) = MayHearIt d name
+Has d (MayCount to) = MayCountIt d to
 
 -- of these, in their order, that one is the first that the set lacks
 pub data IsFirstLacking (d : Draft) (name : Wanted) : List Wanted → Type 0 where
@@ -134,6 +156,8 @@ wanted =
     ∷ MayHear option.Cleared
     ∷ MayHear option.Clear
     ∷ MaySend process.Rc option.Odd
+    ∷ MayCount process.Aerm
+    ∷ MayCount process.Suerm
     ∷ []
 
 -- all its processes, and all its signals, have a number in the set

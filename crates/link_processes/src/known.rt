@@ -127,6 +127,7 @@ fn options(set: &Verified) -> Options
         cleared: option(set, OptionName::Cleared),
         clear: option(set, OptionName::Clear),
         odd: option(set, OptionName::Odd),
+        counting: option(set, OptionName::Counting),
     }
 }
 

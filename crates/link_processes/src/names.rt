@@ -73,6 +73,7 @@ pub struct Options {
     pub cleared: SignalNumber,
     pub clear: SignalNumber,
     pub odd: SignalNumber,
+    pub counting: SignalNumber,
 }
 
 /// The number of no signal: a set has 128 at most.
@@ -120,7 +121,7 @@ pub(crate) fn notice_signal(names: &Names, notice: Notice) -> SignalNumber
         Notice::Unit(_) => notices.unit,
         Notice::MsuSent => notices.msu_sent,
         Notice::Odd(_) => names.options.odd,
-        Notice::Counting(_) => SignalNumber(NO_SIGNAL),
+        Notice::Counting(_) => names.options.counting,
     }
 }
 

@@ -9,15 +9,16 @@ ghost use Rattle.actor_machine.specs.declared.reply.Reply.TheVariants as reply;
 ghost use Rattle.actor_book.specs.Answered.{answer_by};
 ghost use Rattle.link_transceiver.specs.Laws.{Loses};
 ghost use Rattle.link_transceiver.specs.Limits.{KEPT_MESSAGES};
+ghost use Rattle.link_processes.specs.Known.{is_there};
 ghost use Rattle.link_processes.specs.Offering.{command_event, offer_event};
-ghost use Rattle.link_processes.specs.Machine.{with_book, with_transceiver, heard, rested, offered, all_offered, noted_by, unit_taken, error_taken, told_of, none_out, handed_out, buffers_emptied, clear_obeyed, to_clear, sent, tidied, is_low, tick_refusal};
+ghost use Rattle.link_processes.specs.Machine.{with_book, with_transceiver, heard, rested, offered, all_offered, noted_by, unit_taken, error_taken, told_of, none_out, handed_out, buffers_emptied, clear_obeyed, to_clear, counting_told, sent, tidied, is_low, tick_refusal};
 
 use crate::commands::{Command, command_number, command_signal};
 use crate::laws::{accepted_messages_wait_in_order, unacknowledged_messages_stay};
-use crate::names::{Names, actor_of, notice_signal, notice_values};
+use crate::names::{Names, actor_of, is_there, notice_signal, notice_values};
 use actor_book::Book;
 use actor_machine::Refusal;
-use link_transceiver::{Notice, Offer, Party, Transceiver, UnitOut, error_offers};
+use link_transceiver::{Notice, Offer, Party, Transceiver, UnitOut, counting_offers, error_offers};
 use resend_store::{Msu, RetrieveError};
 use std::alloc::AllocError;
 use std::collections::VecDeque;
@@ -34,6 +35,8 @@ pub struct Processes {
     pub book: Book,
     pub transceiver: Transceiver,
     pub names: Names,
+    /// Whether octets are counted, as that was told last.
+    pub counting: bool,
 }
 
 impl Processes {
@@ -164,6 +167,27 @@ impl Processes {
             to: Party::Txc,
             notice: Notice::AckSeen(false),
         });
+    }
+
+    /// Whether the set hears of octet counting.
+    pub fn hears_counting(&self) -> bool
+        ensures { result ≡ is_there self.now.names.options.counting }
+    {
+        is_there(self.names.options.counting)
+    }
+
+    /// Tells both error rate monitors that octets are counted, or aren't (Q.703, 4.1.4), where the set hears of that and it isn't as it was told
+    /// last; at first they are.
+    #[tactic(auto, unfolding(crate::specs::Machine::counting_told))]
+    pub fn tell_counting(&mut self, on: bool)
+        ensures processes { self.new ≡ counting_told on self.old }
+        ensures messages { self.new.transceiver.messages ≡ self.old.transceiver.messages }
+    {
+        accepted_messages_wait_in_order();
+        if self.hears_counting() && on != self.counting {
+            self.counting = on;
+            self.offer_all(&counting_offers(on));
+        }
     }
 
     /// Tells that no message is out, where some were.

@@ -4,7 +4,7 @@ ghost use Rattle.std.specs.List.{list_any, list_all};
 ghost use Rattle.actor_machine.specs.Refusals.{is_environment, is_process, offers};
 ghost use Rattle.turn_code.specs.declared.numbers.SignalNumber.{SignalNumber as PlainSignal};
 ghost use Rattle.link_processes.specs.Known.{touches};
-ghost use Rattle.link_processes.specs.Wanted.{tells, sends_alone, tells_alone};
+ghost use Rattle.link_processes.specs.Wanted.{tells, sends_alone, tells_alone, sends_either};
 
 use turn_check::Verified;
 use turn_code::{DraftRoute, Party, ProcessNumber, SignalNumber};
@@ -146,4 +146,42 @@ pub(crate) fn is_heard_alone(set: &Verified, signal: SignalNumber) -> bool
     ensures { result ≡ list_all (tells_alone signal) set.now.routes }
 {
     all_tell(set.draft().routes.as_slice(), signal)
+}
+
+/// Whether a route that carries it from or to the environment brings it from there to one of two processes.
+fn sends_either(
+    route: &DraftRoute,
+    one: ProcessNumber,
+    other: ProcessNumber,
+    signal: SignalNumber,
+) -> bool
+    ensures { result ≡ sends_either one.0 other.0 signal route.now }
+{
+    !touches(route, signal) || (brings_in(route, one, signal) || brings_in(route, other, signal))
+}
+
+/// Whether all routes do.
+fn all_send_either(
+    routes: &[DraftRoute],
+    one: ProcessNumber,
+    other: ProcessNumber,
+    signal: SignalNumber,
+) -> bool
+    ensures { result ≡ list_all (sends_either one.0 other.0 signal) routes.now }
+{
+    routes
+        .iter()
+        .all(|route| sends_either(route, one, other, signal))
+}
+
+/// Whether all such routes of a set bring it to one of two processes.
+pub(crate) fn is_sent_to_either(
+    set: &Verified,
+    one: ProcessNumber,
+    other: ProcessNumber,
+    signal: SignalNumber,
+) -> bool
+    ensures { result ≡ list_all (sends_either one.0 other.0 signal) set.now.routes }
+{
+    all_send_either(set.draft().routes.as_slice(), one, other, signal)
 }

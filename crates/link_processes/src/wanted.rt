@@ -3,9 +3,11 @@ ghost use Rattle.std.specs.Prelude.{◌≡◌, ◌↔◌, All, IsTrue, IfSome, I
 ghost use Rattle.turn_code.specs.Transitions.{parameters_of};
 ghost use Rattle.turn_code.specs.declared.numbers.SignalNumber.{SignalNumber as PlainSignal};
 ghost use Rattle.link_processes.specs.Known.{IsTouched};
-ghost use Rattle.link_processes.specs.Wanted.{wanted, IsSpoken, HasSent, HasHeard, FitsSent, FitsHeard, MaySendIt, MayHearIt, Has, IsFirstLacking};
+ghost use Rattle.link_processes.specs.Wanted.{wanted, IsSpoken, HasSent, HasHeard, FitsSent, FitsHeard, FitsCounting, MaySendIt, MayHearIt, MayCountIt, Has, IsFirstLacking};
 
-use crate::routes::{is_heard, is_heard_alone, is_sent, is_sent_alone, is_touched};
+use crate::routes::{
+    is_heard, is_heard_alone, is_sent, is_sent_alone, is_sent_to_either, is_touched,
+};
 use crate::words::{OptionName, ProcessName, SignalName};
 use std::fmt;
 use thiserror::Error;
@@ -26,6 +28,9 @@ pub enum Wanted {
     MaySend(ProcessName, OptionName),
     /// The same, where each such route brings it from some process to the environment.
     MayHear(OptionName),
+    /// Counting, which goes to both error rate monitors where a route from or to the environment carries it: each such route brings it to one of
+    /// them, and some route to this one.
+    MayCount(ProcessName),
 }
 
 impl fmt::Display for Wanted {
@@ -40,6 +45,7 @@ impl fmt::Display for Wanted {
             Self::Sent(to, name) => write!(f, "{}/{}", to.word(), name.word()),
             Self::Heard(name) => write!(f, "ENV/{}", name.word()),
             Self::MaySend(to, name) => write!(f, "{}/{}", to.word(), name.word()),
+            Self::MayCount(to) => write!(f, "{}/{}", to.word(), OptionName::Counting.word()),
             Self::MayHear(name) => write!(f, "ENV/{}", name.word()),
         }
     }
@@ -47,7 +53,7 @@ impl fmt::Display for Wanted {
 
 /// All that a terminal wants, in the order in which it is asked for: the processes, what the environment sends to each, and what comes to
 /// it.
-pub(crate) fn all_wanted() -> [Wanted; 38]
+pub(crate) fn all_wanted() -> [Wanted; 40]
     ensures { result ≡ wanted }
 {
     [
@@ -89,6 +95,8 @@ pub(crate) fn all_wanted() -> [Wanted; 38]
         Wanted::MayHear(OptionName::Cleared),
         Wanted::MayHear(OptionName::Clear),
         Wanted::MaySend(ProcessName::Rc, OptionName::Odd),
+        Wanted::MayCount(ProcessName::Aerm),
+        Wanted::MayCount(ProcessName::Suerm),
     ]
 }
 
@@ -206,6 +214,34 @@ fn may_hear(set: &Verified, name: OptionName) -> bool
     }
 }
 
+/// Whether the routes from and to the environment that carry Counting are all such as a terminal knows, and one of them brings it to a process.
+fn fits_counting(set: &Verified, to: ProcessName, signal: SignalNumber) -> bool
+    ensures { IsTrue result ↔ FitsCounting set.now to signal }
+{
+    let Some(aerm) = set.process_of(ProcessName::Aerm.word()) else {
+        return false;
+    };
+    let Some(suerm) = set.process_of(ProcessName::Suerm.word()) else {
+        return false;
+    };
+    let Some(process) = set.process_of(to.word()) else {
+        return false;
+    };
+    are_sorts(sorts_of(set, signal), OptionName::Counting.sorts())
+        && is_sent_to_either(set, aerm, suerm, signal)
+        && is_sent(set, process, signal)
+}
+
+/// Whether Counting, if a route from or to the environment carries it, is such, and goes to that process.
+fn may_count(set: &Verified, to: ProcessName) -> bool
+    ensures { IsTrue result ↔ MayCountIt set.now to }
+{
+    match touched(set, OptionName::Counting) {
+        Some(signal) => fits_counting(set, to, signal),
+        None => true,
+    }
+}
+
 /// Whether a set has what is wanted.
 fn has(set: &Verified, wanted: Wanted) -> bool
     ensures { IsTrue result ↔ Has set.now wanted }
@@ -216,6 +252,7 @@ fn has(set: &Verified, wanted: Wanted) -> bool
         Wanted::Heard(name) => has_heard(set, name),
         Wanted::MaySend(to, name) => may_send(set, to, name),
         Wanted::MayHear(name) => may_hear(set, name),
+        Wanted::MayCount(to) => may_count(set, to),
     }
 }
 

@@ -53,6 +53,7 @@ pub enum OptionName {
     Cleared,
     Clear,
     Odd,
+    Counting,
 }
 
 impl ProcessName {
@@ -144,6 +145,7 @@ impl OptionName {
             OptionName::Cleared => "Cleared",
             OptionName::Clear => "Clear",
             OptionName::Odd => "Odd",
+            OptionName::Counting => "Counting",
         }
     }
 
@@ -152,7 +154,7 @@ impl OptionName {
         ensures { result.now ≡ option_sorts self }
     {
         match self {
-            OptionName::Deliver => &[Sort::Boolean],
+            OptionName::Deliver | OptionName::Counting => &[Sort::Boolean],
             OptionName::Odd => &[Sort::Integer],
             OptionName::Flush
             | OptionName::Continue

@@ -8,6 +8,7 @@ use Rattle.bit_line.specs.Deframing.{Stands}
 use Rattle.bit_line.specs.Events.{AreEvents}
 use Rattle.bit_line.specs.declared.events.LineEvent.{LineEvent}
 use Rattle.link_processes.specs.declared.processes.Processes.{Processes}
+use Rattle.link_processes.specs.Machine.{counting_told}
 use Rattle.link_term.specs.Term.{Term, with_processes}
 use Rattle.link_term.specs.Hearing.{Hears, silent, octet, Heard}
 use Rattle.link_term.specs.Laws.{CuttingsAgree}
@@ -28,10 +29,10 @@ hears_joined : (bits : List Bool) (all mid now : List LineEvent) (t m u : Proces
     → Hears (bits ++ bits_of xs) mid m ys now u → Hears bits all t (xs ++ ys) now u
 hears_joined _ _ _ now _ _ u _ ys (silent bits all t) h =
     let P : List Bool → Type 0 = λ b. Hears b all t ys now u in subst P (no_bits bits) h
-hears_joined _ _ _ now _ _ u _ ys (octet bits all given t v m x xs mid room are taken hears) h =
+hears_joined _ _ _ now _ _ u _ ys (octet bits all given t v m x xs mid on room are taken counts hears) h =
     let P : List Bool → Type 0 = λ b. Hears b mid m ys now u in
-    octet bits all given t v u x (xs ++ ys) now room are taken
-    (hears_joined (bits ++ low_bits 8 x) (all ++ given) mid now v m u xs ys hears (subst P (next_bits bits x xs) h))
+    octet bits all given t v u x (xs ++ ys) now on room are taken counts
+    (hears_joined (bits ++ low_bits 8 x) (all ++ given) mid now (counting_told on v) m u xs ys hears (subst P (next_bits bits x xs) h))
 
 pub heard_joined : CuttingsAgree
 heard_joined t m u xs ys first second = record {

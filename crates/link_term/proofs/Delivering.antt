@@ -7,7 +7,7 @@ use Rattle.bit_line.specs.declared.events.LineEvent.{LineEvent}
 use Rattle.actor_machine.specs.Ledger.{rebased}
 use Rattle.link_transceiver.specs.TransceiverState.{TransceiverState}
 use Rattle.link_processes.specs.declared.processes.Processes.{Processes}
-use Rattle.link_processes.specs.Machine.{with_book, tidied, is_low, error_taken}
+use Rattle.link_processes.specs.Machine.{with_book, tidied, is_low, error_taken, counting_told}
 use Rattle.link_processes.specs.Laws.{MessagesLaw}
 use Rattle.link_term.specs.Hearing.{Reads, as_unit, as_error, AreTaken, nothing, unit, errored, sixteen, silent, octet}
 use Rattle.link_term.specs.Laws.{accepted_read, accepted_taken, accepted_along, Delivers}
@@ -31,7 +31,8 @@ module _ (law : MessagesLaw) where
   taken_delivers : (events : List LineEvent) (t u : Processes) (r : AreTaken events t u) → u.transceiver.messages ≡ t.transceiver.messages ++ accepted_taken r
   taken_delivers _ _ _ (nothing t) = sym (append-nil t.transceiver.messages)
   taken_delivers _ _ _ (unit octets left t u v read taken) =
-      joined t.transceiver.messages u.transceiver.messages v.transceiver.messages (accepted_read read) (accepted_taken taken) (read_delivers octets t u read)
+      joined t.transceiver.messages u.transceiver.messages v.transceiver.messages (accepted_read read) (accepted_taken taken)
+      (read_delivers octets (counting_told false t) u read ∙ ap (λ (ms : List Msu). ms ++ accepted_read read) (law.counting false t))
       (taken_delivers left u v taken)
   taken_delivers _ _ _ (errored left t v taken) =
       taken_delivers left (error_taken t) v taken ∙ ap (λ (ms : List Msu). ms ++ accepted_taken taken) (law.errors t)
@@ -40,7 +41,7 @@ module _ (law : MessagesLaw) where
 
   pub delivers : Delivers
   delivers _ _ _ _ _ _ (silent bits all t) = sym (append-nil t.transceiver.messages)
-  delivers _ _ _ _ _ _ (octet bits all given t u v first octets now room are taken hears) =
+  delivers _ _ _ _ _ _ (octet bits all given t u v first octets now on room are taken counts hears) =
       joined t.transceiver.messages u.transceiver.messages v.transceiver.messages (accepted_taken taken) (accepted_along hears)
       (taken_delivers given (tidied t) u taken ∙ ap (λ (h : TransceiverState). h.messages ++ accepted_taken taken) (tidied_transceiver t))
-      (delivers (bits ++ low_bits 8 first) (all ++ given) now u v octets hears)
+      (delivers (bits ++ low_bits 8 first) (all ++ given) now (counting_told on u) v octets hears ∙ ap (λ (ms : List Msu). ms ++ accepted_along hears) (law.counting on u))

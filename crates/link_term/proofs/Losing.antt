@@ -1,5 +1,5 @@
 -- What calls take from the messages that are kept to send, and how many of these count as sent.
-use Rattle.std.proofs.Common.{◌≡◌, ℕ, zero, suc, ◌+◌, ◌≤◌, Bool, List, [], ◌++◌, length, refl, sym, ap, ◌∙◌, subst, length-append, append_assoc, arith}
+use Rattle.std.proofs.Common.{◌≡◌, ℕ, zero, suc, ◌+◌, ◌≤◌, Bool, false, List, [], ◌++◌, length, refl, sym, ap, ◌∙◌, subst, length-append, append_assoc, arith}
 use Rattle.resend_store.specs.declared.messages.Msu.{Msu}
 use Rattle.resend_store.specs.Window.{Window}
 use Rattle.su_octets.specs.Bits.{low_bits}
@@ -9,7 +9,7 @@ use Rattle.bit_line.proofs.EventLaws.{stands_events}
 use Rattle.link_transceiver.specs.TransceiverState.{TransceiverState}
 use Rattle.link_transceiver.specs.Laws.{Loses}
 use Rattle.link_processes.specs.declared.processes.Processes.{Processes}
-use Rattle.link_processes.specs.Machine.{error_taken, sent, tidied}
+use Rattle.link_processes.specs.Machine.{error_taken, counting_told, sent, tidied}
 use Rattle.link_processes.specs.Laws.{KeptLaw}
 use Rattle.link_term.specs.Hearing.{Reads, as_unit, as_error, AreTaken, nothing, unit, errored, sixteen, silent, octet, Heard}
 use Rattle.link_term.specs.Kept.{window_of, Took, Sends}
@@ -41,7 +41,9 @@ module _ (law : KeptLaw) where
   taken_loses : (events : List LineEvent) (t u : Processes) (r : AreTaken events t u) → Loses (acknowledged_taken r) t.transceiver.sender u.transceiver.sender
   taken_loses _ _ _ (nothing t) = no_loss t.transceiver.sender
   taken_loses _ _ _ (unit octets left t u v read taken) =
-      losses_joined (acknowledged_read read) (acknowledged_taken taken) t.transceiver.sender u.transceiver.sender v.transceiver.sender (read_loses octets t u read)
+      let m : Processes = counting_told false t in
+      losses_joined (acknowledged_read read) (acknowledged_taken taken) t.transceiver.sender u.transceiver.sender v.transceiver.sender
+      (losses_joined [] (acknowledged_read read) t.transceiver.sender m.transceiver.sender u.transceiver.sender (law.counting false t) (read_loses octets m u read))
       (taken_loses left u v taken)
   taken_loses _ _ _ (errored left t v taken) =
       losses_joined [] (acknowledged_taken taken) t.transceiver.sender (error_taken t).transceiver.sender v.transceiver.sender (law.errors t)
@@ -52,11 +54,13 @@ module _ (law : KeptLaw) where
 
   pub stays_kept : StaysKept
   stays_kept _ _ _ _ _ _ (silent bits all t) = no_loss t.transceiver.sender
-  stays_kept _ _ _ _ _ _ (octet bits all given t u v first octets now room are taken hears) =
+  stays_kept _ _ _ _ _ _ (octet bits all given t u v first octets now on room are taken counts hears) =
       let P : Window → Type 0 = λ w. Loses (acknowledged_taken taken) w u.transceiver.sender in
+      let m : Processes = counting_told on u in
       losses_joined (acknowledged_taken taken) (acknowledged_along hears) t.transceiver.sender u.transceiver.sender v.transceiver.sender
       (subst P (ap (λ (h : TransceiverState). h.sender) (tidied_transceiver t)) (taken_loses given (tidied t) u taken))
-      (stays_kept (bits ++ low_bits 8 first) (all ++ given) now u v octets hears)
+      (losses_joined [] (acknowledged_along hears) u.transceiver.sender m.transceiver.sender v.transceiver.sender (law.counting on u)
+      (stays_kept (bits ++ low_bits 8 first) (all ++ given) now m v octets hears))
 
 -- ---- calls
 

@@ -1,5 +1,5 @@
 -- What events of the line lead to.
-use Rattle.std.proofs.Common.{◌≡◌, ℕ, ◌+◌, ◌<◌, ◌≤◌, zero, suc, List, [], ◌∷◌, length, drop, refl, sym, ap, ◌∙◌, subst, arith}
+use Rattle.std.proofs.Common.{◌≡◌, ℕ, ◌+◌, ◌<◌, ◌≤◌, zero, suc, false, List, [], ◌∷◌, length, drop, refl, sym, ap, ◌∙◌, subst, arith}
 use Rattle.su_octets.specs.Frame.{Frame}
 use Rattle.su_octets.specs.declared.units.Unit as units
 use Rattle.bit_line.specs.Events.{closings}
@@ -7,7 +7,7 @@ use Rattle.bit_line.specs.declared.events.LineEvent.{LineEvent}
 use Rattle.bit_line.specs.declared.events.LineEvent.TheVariants as event
 use Rattle.link_transceiver.specs.TransceiverState.{TransceiverState}
 use Rattle.link_processes.specs.declared.processes.Processes.{Processes}
-use Rattle.link_processes.specs.Machine.{unit_taken, error_taken, tidied}
+use Rattle.link_processes.specs.Machine.{unit_taken, error_taken, counting_told, tidied}
 use Rattle.link_transceiver.specs.Limits.{KEPT_MESSAGES}
 use Rattle.link_term.specs.Hearing.{Reads, as_unit, as_error, AreTaken, nothing, unit, errored, sixteen}
 use Rattle.link_term.proofs.Delivering.{tidied_transceiver}
@@ -18,12 +18,13 @@ reads_unit octets u t new frame h = let P : Processes → Type 0 = λ x. Reads o
 pub reads_error : (octets : List ℕ) (t new : Processes) → ((u : units.Unit) → Frame octets u → ⊥) → new ≡ error_taken t → Reads octets t new
 reads_error octets t new none h = let P : Processes → Type 0 = λ x. Reads octets t x in subst P (sym h) (as_error octets t none)
 
-pub taken_unit : (e : LineEvent) (octets slice : List ℕ) (left : List LineEvent) (t u v : Processes) → e ≡ event.Unit (record { items = octets })
-    → slice ≡ octets → Reads slice t u → AreTaken left u v → AreTaken (e ∷ left) t v
-taken_unit e octets slice left t u v h same read taken =
+pub taken_unit : (e : LineEvent) (octets slice : List ℕ) (left : List LineEvent) (t m u v : Processes) → e ≡ event.Unit (record { items = octets })
+    → slice ≡ octets → m ≡ counting_told false t → Reads slice m u → AreTaken left u v → AreTaken (e ∷ left) t v
+taken_unit e octets slice left t m u v h same told read taken =
     let P : LineEvent → Type 0 = λ x. AreTaken (x ∷ left) t v in
-    let Q : List ℕ → Type 0 = λ xs. Reads xs t u in
-    subst P (sym h) (unit octets left t u v (subst Q same read) taken)
+    let Q : List ℕ → Type 0 = λ xs. Reads xs m u in
+    let R : Processes → Type 0 = λ x. Reads octets x u in
+    subst P (sym h) (unit octets left t u v (subst R told (subst Q same read)) taken)
 
 pub taken_errored : (e : LineEvent) (left : List LineEvent) (t u v : Processes) → e ≡ event.Errored → u ≡ error_taken t → AreTaken left u v
     → AreTaken (e ∷ left) t v

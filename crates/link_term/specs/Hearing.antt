@@ -1,14 +1,14 @@
 -- What line octets that come in lead to.
-use Rattle.std.specs.Prelude.{◌≡◌, ℕ, ◌<◌, Bool, List, [], ◌∷◌, ◌++◌, length}
+use Rattle.std.specs.Prelude.{◌≡◌, ℕ, ◌<◌, Bool, false, List, [], ◌∷◌, ◌++◌, length}
 use Rattle.su_octets.specs.Bits.{low_bits, bits_of}
 use Rattle.su_octets.specs.Frame.{Frame}
 use Rattle.su_octets.specs.declared.units.Unit as units
 use Rattle.bit_line.specs.Deframing.{Stands}
-use Rattle.bit_line.specs.Events.{AreEvents}
+use Rattle.bit_line.specs.Events.{AreEvents, IsCounting}
 use Rattle.bit_line.specs.declared.events.LineEvent.{LineEvent}
 use Rattle.bit_line.specs.declared.events.LineEvent.TheVariants as event
 use Rattle.link_processes.specs.declared.processes.Processes.{Processes}
-use Rattle.link_processes.specs.Machine.{unit_taken, error_taken, tidied}
+use Rattle.link_processes.specs.Machine.{unit_taken, error_taken, counting_told, tidied}
 use Rattle.link_transceiver.specs.Limits.{KEPT_MESSAGES}
 use Rattle.link_term.specs.Term.{Term}
 
@@ -19,11 +19,12 @@ pub data Reads : List ℕ → Processes → Processes → Type 0 where
   as_error : (octets : List ℕ) (t : Processes) → ((u : units.Unit) → Frame octets u → ⊥)
       → Reads octets t (error_taken t)
 
--- what the events of the line lead to, in their order
+-- What the events of the line lead to, in their order. A unit ends octet counting, and that it does
+-- so is told before the unit is taken.
 pub data AreTaken : List LineEvent → Processes → Processes → Type 0 where
   nothing : (t : Processes) → AreTaken [] t t
-  unit : (octets : List ℕ) (left : List LineEvent) (t u v : Processes) → Reads octets t u
-      → AreTaken left u v
+  unit : (octets : List ℕ) (left : List LineEvent) (t u v : Processes)
+      → Reads octets (counting_told false t) u → AreTaken left u v
       → AreTaken (event.Unit (record { items = octets }) ∷ left) t v
   errored : (left : List LineEvent) (t v : Processes) → AreTaken left (error_taken t) v
       → AreTaken (event.Errored ∷ left) t v
@@ -31,17 +32,18 @@ pub data AreTaken : List LineEvent → Processes → Processes → Type 0 where
       → AreTaken (event.SixteenOctets ∷ left) t v
 
 -- Octets, each of which finds room for a message: room is made in the journal where it is needed,
--- and then come the events that the octet brings behind the bits before it, of which `all` were
--- told. `now` are those after the last octet.
+-- then come the events that the octet brings behind the bits before it, of which `all` were told,
+-- and behind them whether octets are counted from there on. `now` are those after the last octet.
 pub data Hears :
     List Bool → List LineEvent → Processes → List ℕ → List LineEvent → Processes → Type 0 where
   silent : (bits : List Bool) (all : List LineEvent) (t : Processes) → Hears bits all t [] all t
   octet : (bits : List Bool) (all given : List LineEvent) (t u v : Processes) (first : ℕ)
-      (octets : List ℕ) (now : List LineEvent)
+      (octets : List ℕ) (now : List LineEvent) (on : Bool)
       → length t.transceiver.messages < KEPT_MESSAGES
       → AreEvents (bits ++ low_bits 8 first) (all ++ given)
       → AreTaken given (tidied t) u
-      → Hears (bits ++ low_bits 8 first) (all ++ given) u octets now v
+      → IsCounting (bits ++ low_bits 8 first) on
+      → Hears (bits ++ low_bits 8 first) (all ++ given) (counting_told on u) octets now v
       → Hears bits all t (first ∷ octets) now v
 
 -- what a terminal makes of octets, whatever line bits came before

@@ -27,7 +27,7 @@ abbrev pub accepted_along :
     {bits : List Bool} {all now : List LineEvent} {t u : Processes} {octets : List ℕ}
     → Hears bits all t octets now u → List Msu
 accepted_along (silent bits all t) = []
-accepted_along (octet bits all given t u v first octets now room are taken hears) =
+accepted_along (octet bits all given t u v first octets now on room are taken counts hears) =
     accepted_taken taken ++ accepted_along hears
 
 abbrev pub Delivers : Type 0
@@ -52,7 +52,7 @@ abbrev pub acknowledged_along :
     {bits : List Bool} {all now : List LineEvent} {t u : Processes} {octets : List ℕ}
     → Hears bits all t octets now u → List Msu
 acknowledged_along (silent bits all t) = []
-acknowledged_along (octet bits all given t u v first octets now room are taken hears) =
+acknowledged_along (octet bits all given t u v first octets now on room are taken counts hears) =
     acknowledged_taken taken ++ acknowledged_along hears
 
 -- Those leave what is kept to send, and nothing else does.

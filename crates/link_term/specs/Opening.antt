@@ -1,5 +1,5 @@
 -- A terminal over a set.
-use Rattle.std.specs.Prelude.{◌≡◌, ℕ, [], All}
+use Rattle.std.specs.Prelude.{◌≡◌, ℕ, true, [], All}
 use Rattle.plain_limits.specs.Limits.{MOST_ENVIRONMENT, MOST_JOURNAL, MOST_PORT}
 use Rattle.turn_code.specs.declared.draft.Draft.{Draft}
 use Rattle.bit_line.specs.Deframing.{Stands}
@@ -33,13 +33,15 @@ first_over names limits mode =
     record (first_within limits mode) { odd = is_there names.options.odd }
 
 -- The set has all that a terminal wants of it, each by its number. No actor has begun, nothing is
--- kept, nothing came and nothing went. These are the limits of forced retransmission.
+-- kept, nothing came and nothing went, and octets are counted. These are the limits of forced
+-- retransmission.
 pub record IsOverWithin (d : Draft) (limits : RoundLimits) (mode : Mode) (t : Term)
     : Type 0 where
   pub has : All (Has d) wanted
   pub names : AreNames d t.processes.names
   pub book : t.processes.book ≡ opened_book d PORT ENVIRONMENT JOURNAL
   pub transceiver : t.processes.transceiver ≡ first_over t.processes.names limits mode
+  pub counting : t.processes.counting ≡ true
   pub line : Stands [] t.line
   pub sending : Gave [] [] t.sending
 

@@ -80,7 +80,8 @@ impl Terminal {
     /// and to SUERM with Good and Errored, to TXC with AckSeen(Boolean) and MsuSent, to RC with Bad and Unit(Integer); and routes from some
     /// process to ENV with Fresh, Take(Boolean), Line(Integer), Withhold(Boolean), InServiceNow, Down(Integer), RemoteOut and RemoteBack.
     /// What else it has is its own, but for names that it may have, in this form alone: from ENV to LSC Flush and Continue, to CC Overload, to
-    /// RC Odd(Integer), and from some process to ENV Deliver(Boolean), Clear and Cleared.
+    /// RC Odd(Integer), to AERM and to SUERM Counting(Boolean), both or neither, and from some process to ENV Deliver(Boolean), Clear and
+    /// Cleared.
     ///
     /// # Errors
     ///

@@ -1,6 +1,7 @@
 //! The line in.
 ghost use Rattle.std.specs.Prelude.{◌≡◌, ◌⊎◌, ◌+◌, ◌<◌, ◌≤◌, ◌∷◌, [], true, false, length, take};
 ghost use Rattle.bit_line.specs.Events.{closings};
+ghost use Rattle.link_processes.specs.Known.{is_there};
 ghost use Rattle.link_processes.specs.Machine.{tidied, is_low};
 ghost use Rattle.link_processes.specs.declared.processes.Processes.{Processes as PlainProcesses};
 ghost use Rattle.link_transceiver.specs.Limits.{KEPT_MESSAGES};
@@ -25,14 +26,17 @@ fn take_octets(processes: &mut Processes, octets: &[u8])
     }
 }
 
-/// What an event of the line leads to.
+/// What an event of the line leads to. A unit ends octet counting first.
 fn take_event(processes: &mut Processes, event: &LineEvent)
     requires { length processes.old.transceiver.messages + closings (event.now ∷ []) ≤ KEPT_MESSAGES }
     ensures taken { (v : PlainProcesses) (left : _) → AreTaken left processes.new v → AreTaken (event.now ∷ left) processes.old v }
     ensures few { length processes.new.transceiver.messages ≤ length processes.old.transceiver.messages + closings (event.now ∷ []) }
 {
     match event {
-        LineEvent::Unit(octets) => take_octets(processes, octets.as_slice()),
+        LineEvent::Unit(octets) => {
+            processes.tell_counting(false);
+            take_octets(processes, octets.as_slice());
+        }
         LineEvent::Errored => processes.take_error(),
         LineEvent::SixteenOctets => processes.take_error(),
     }
@@ -65,11 +69,25 @@ fn make_room(processes: &mut Processes) -> bool
     }
 }
 
+/// What is taken of octets at most before it is asked whether octets are counted: one, where the set hears of that, else all.
+fn next_part<'octets>(processes: &Processes, octets: &'octets [u8]) -> &'octets [u8]
+    requires { 0 < length octets.now }
+    ensures some { 0 < length result.now }
+    ensures part { result.now ≡ take (length result.now) octets.now }
+    ensures one { is_there processes.now.names.options.counting ≡ true → length result.now ≡ 1 }
+{
+    if processes.hears_counting() {
+        &octets[..1]
+    } else {
+        octets
+    }
+}
+
 impl Terminal {
     /// Takes octets of the line from the front up to the first one that reports something, unless 256 messages wait, or room has to be made
     /// in the journal and there is no memory. Answers how many it took; where that is none, nothing changed.
     ///
-    /// Room is made once: octets that report nothing leave all of it.
+    /// Room is made once: octets that report nothing leave all of it. Where the set hears of octet counting it takes one octet.
     fn take_part(&mut self, octets: &[u8]) -> usize
         requires { 0 < length octets.now }
         ensures most { result ≤ length octets.now }
@@ -82,8 +100,9 @@ impl Terminal {
         if !make_room(&mut self.processes) {
             return 0;
         }
-        let (taken, events) = self.line.feed_until(octets);
+        let (taken, events) = self.line.feed_until(next_part(&self.processes, octets));
         take_events(&mut self.processes, events.as_slice());
+        self.processes.tell_counting(self.line.is_counting());
         taken
     }
 
@@ -91,7 +110,9 @@ impl Terminal {
     /// handed out, or room has to be made in the journal and there is no memory. It can be given the others once more, as if they had
     /// never been given.
     ///
-    /// Units without errors go through the stores while the actors ask for that, and the actors learn of each unit (Q.703, 4 to 6 and 10).
+    /// Units without errors go through the stores while the actors ask for that, and the actors learn of each unit (Q.703, 4 to 6 and 10). Where
+    /// the set has Counting, both error rate monitors are told that octet counting ends, before the unit that ends it, and that it begins, behind
+    /// the octet in which it does.
     pub fn line_in(&mut self, octets: &[u8]) -> usize
         ensures few { result ≤ length octets.now }
         ensures heard { Heard self.old (take result octets.now) self.new }

@@ -1,8 +1,8 @@
 //! The terminal.
-ghost use Rattle.std.specs.Prelude.{◌≡◌, ◌↔◌, ◌<◌, ◌≤◌, [], IsTrue, false, length, All, IfOk, OnOk, OnErr, IfSome, Err, slice_get};
+ghost use Rattle.std.specs.Prelude.{◌≡◌, ◌↔◌, ◌<◌, ◌≤◌, [], IsTrue, true, false, length, All, IfOk, OnOk, OnErr, IfSome, Err, slice_get};
 ghost use Rattle.std.specs.Option.{option_copied};
 ghost use Rattle.resend_store.specs.Messages.{IsMessage};
-ghost use Rattle.resend_store.specs.Window.{IsWindow, waiting, with_put, retrieved, emptied, count_known, last_acknowledged};
+ghost use Rattle.resend_store.specs.Window.{IsWindow, waiting, with_put, retrieved, emptied, count_known, last_acknowledged, without_at};
 ghost use Rattle.bit_line.specs.Deframing.{Stands};
 ghost use Rattle.bit_line.specs.Stuffers.{Gave};
 ghost use Rattle.link_term.specs.Opening.{first_over};
@@ -57,7 +57,7 @@ impl Terminal {
         limits: RoundLimits,
         mode: Mode,
     ) -> Result<Terminal, AllocError>
-        ensures processes { IfOk result (λ t. t.processes ≡ record { book = book; transceiver = first_over names limits mode; names = names }) }
+        ensures processes { IfOk result (λ t. t.processes ≡ record { book = book; transceiver = first_over names limits mode; names = names; counting = true }) }
         ensures line { IfOk result (λ t. Stands [] t.line) }
         ensures sending { IfOk result (λ t. Gave [] [] t.sending) }
     {
@@ -69,6 +69,7 @@ impl Terminal {
                 book,
                 transceiver,
                 names,
+                counting: true,
             },
             line: Deframer::new(),
             sending: Stuffer::new(),
@@ -172,6 +173,23 @@ impl Terminal {
         ensures asked { self.new ≡ term_with_transceiver self.old (record self.old.processes.transceiver { came = false }) }
     {
         self.processes.transceiver.came_into_service()
+    }
+
+    /// Whether both directions began anew since this was last asked.
+    pub fn began_anew(&mut self) -> bool
+        ensures value { result ≡ self.old.processes.transceiver.began }
+        ensures asked { self.new ≡ term_with_transceiver self.old (record self.old.processes.transceiver { began = false }) }
+    {
+        self.processes.transceiver.began_anew()
+    }
+
+    /// Takes out, and drops, the message that waits to be sent at a place.
+    pub fn drop_waiting(&mut self, place: usize)
+        requires waits { self.old.processes.transceiver.sender.sent ≤ place }
+        requires there { place < length self.old.processes.transceiver.sender.kept }
+        ensures { self.new ≡ term_with_transceiver self.old (record self.old.processes.transceiver { sender = without_at self.old.processes.transceiver.sender place }) }
+    {
+        self.processes.transceiver.drop_waiting(place);
     }
 
     /// Whether the link is in service, by what was told last.

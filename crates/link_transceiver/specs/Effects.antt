@@ -43,6 +43,7 @@ renewed h = record h {
   behind_odd = false;
   spare = 0;
   faults = no_faults;
+  began = true;
 }
 
 -- so many more were cleared

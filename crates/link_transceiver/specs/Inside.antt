@@ -24,6 +24,7 @@ transceiver_state_of s = record {
   in_service = s.in_service;
   far_out = s.far_out;
   came = s.came;
+  began = s.began;
 }
 
 abbrev pub IsTransceiver : Inside → Type 0

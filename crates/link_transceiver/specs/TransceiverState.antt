@@ -64,6 +64,8 @@ pub record TransceiverState : Type 0 where
   pub far_out : Bool
   -- whether it came into service since that was last asked
   pub came : Bool
+  -- whether both its directions began anew since that was last asked
+  pub began : Bool
 
 -- that of a terminal that is made, with these limits of forced retransmission
 abbrev pub first_within : RoundLimits → Mode → TransceiverState
@@ -87,6 +89,7 @@ first_within limits mode = record {
   in_service = false;
   far_out = false;
   came = false;
+  began = false;
 }
 
 -- with the usual ones

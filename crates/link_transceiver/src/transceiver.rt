@@ -3,7 +3,7 @@ ghost use Rattle.std.specs.Prelude.{◌≡◌, ◌<◌, ◌≤◌, ◌↔◌, �
 ghost use Rattle.std.specs.Option.{option_copied};
 ghost use Rattle.resend_store.specs.Limits.{MOST_WAITING, MOST_KEPT};
 ghost use Rattle.resend_store.specs.Messages.{IsMessage};
-ghost use Rattle.resend_store.specs.Window.{IsWindow, waiting, with_put, retrieved, emptied, count_known, last_acknowledged};
+ghost use Rattle.resend_store.specs.Window.{IsWindow, waiting, with_put, retrieved, emptied, count_known, last_acknowledged, without_at};
 ghost use Rattle.link_transceiver.specs.Effects.{effect, backward_of, renewed, directed, kind_named, kind_by, is_busy_named, withheld_by, told, latest};
 ghost use Rattle.link_transceiver.specs.TransceiverState.{IsBackward, first_transceiver, first_within};
 ghost use Rattle.link_transceiver.specs.Limits.{KEPT_MESSAGES};
@@ -54,6 +54,8 @@ pub struct Transceiver {
     far_out: bool,
     /// Whether it came into service since that was last asked.
     came: bool,
+    /// Whether both its directions began anew since that was last asked.
+    began: bool,
 }
 
 impl Model for Transceiver {
@@ -104,6 +106,7 @@ impl Transceiver {
             in_service: false,
             far_out: false,
             came: false,
+            began: false,
         })
     }
 
@@ -257,6 +260,25 @@ impl Transceiver {
         came
     }
 
+    /// Whether both directions began anew since this was last asked.
+    pub fn began_anew(&mut self) -> bool
+        ensures value { result ≡ self.old.began }
+        ensures asked { self.new ≡ record self.old { began = false } }
+    {
+        let began = self.began;
+        self.began = false;
+        began
+    }
+
+    /// Takes out, and drops, the message that waits to be sent at a place.
+    pub fn drop_waiting(&mut self, place: usize)
+        requires waits { self.old.sender.sent ≤ place }
+        requires there { place < length self.old.sender.kept }
+        ensures { self.new ≡ record self.old { sender = without_at self.old.sender place } }
+    {
+        self.sender.drop_waiting(place);
+    }
+
     /// Whether the far side's processor is out, by what was told last; not while the link is down.
     pub fn far_out(&self) -> bool
         ensures { result ≡ self.now.far_out }
@@ -294,6 +316,7 @@ impl Transceiver {
         self.receiver.fresh();
         self.faults = LastThree::new();
         self.hold = self.hold.renewed();
+        self.began = true;
         self.deliver = true;
         self.behind_odd = false;
         self.spare = 0;

@@ -8,6 +8,7 @@ use Rattle.pool_soak.specs.Findings.{IsSoaked, IsSoakedInVain, IsTurnedDown}
 use Rattle.line_filter.specs.Filters.{Line}
 use Rattle.line_play.specs.Opening.{IsNoSet}
 use Rattle.mtp2_play.specs.Spoken.{SpokeOver, BegunOver}
+use Rattle.mtp2_words.specs.resend_store_types.messages.RoundLimits.{RoundLimits}
 use Rattle.mtp2_words.specs.declared.ends.LineEnd.{LineEnd}
 use Rattle.mtp2_play.specs.Printed.{IsSpoken}
 use Rattle.mtp2_play.specs.Sets.{own_set_of, own_text_of}
@@ -27,12 +28,12 @@ refusal known old new g = some_bytes known (PrintsRefusal old new) g
 
 -- ---- `line`
 
-pub spoken : (known : Option (List ℕ)) (end : LineEnd) (status : ℕ) (old new : Line) → IsSpoken known end status old new → IsSpoken None end status old new
-spoken known end status old new s = record {
-  spoke = λ h. some_bytes known (SpokeOver end old new) (s.spoke h);
+pub spoken : (known : Option (List ℕ)) (usual : RoundLimits) (end : LineEnd) (status : ℕ) (old new : Line) → IsSpoken known usual end status old new → IsSpoken None usual end status old new
+spoken known usual end status old new s = record {
+  spoke = λ h. some_bytes known (SpokeOver usual end old new) (s.spoke h);
   begun = elim s.begun [
     | inl same ↦ inl same
-    | inr it ↦ inr (some_bytes known (BegunOver end old new) it)
+    | inr it ↦ inr (some_bytes known (BegunOver usual end old new) it)
   ];
   refused = λ h. some_bytes known (IsNoSet None None) (s.refused h);
   untouched = s.untouched;
@@ -40,22 +41,22 @@ spoken known end status old new s = record {
 }
 
 -- the set of the program's own that is named is over its text
-pub spoken_over_own : {R : Type 0} (remaining : R → Option (List ℕ)) (set : Named) (own : SetWord R) (end : LineEnd) (status : ℕ) (old new : Line)
-    → own_set_of set ≡ Some own → IsSpoken (given remaining own) end status old new → IsSpoken (own_text_of set) end status old new
-spoken_over_own remaining Standard standard_set end status old new is s = s
-spoken_over_own remaining Standard q703_set end status old new is s = search (rules, is)
-spoken_over_own remaining Standard monitors_set end status old new is s = search (rules, is)
-spoken_over_own remaining Standard (Text text) end status old new is s = search (rules, is)
-spoken_over_own remaining Q703 standard_set end status old new is s = search (rules, is)
-spoken_over_own remaining Q703 q703_set end status old new is s = s
-spoken_over_own remaining Q703 monitors_set end status old new is s = search (rules, is)
-spoken_over_own remaining Q703 (Text text) end status old new is s = search (rules, is)
-spoken_over_own remaining Monitors standard_set end status old new is s = search (rules, is)
-spoken_over_own remaining Monitors q703_set end status old new is s = search (rules, is)
-spoken_over_own remaining Monitors monitors_set end status old new is s = s
-spoken_over_own remaining Monitors (Text text) end status old new is s = search (rules, is)
-spoken_over_own remaining Stdin own end status old new is s = search (rules, is)
-spoken_over_own remaining (File path) own end status old new is s = search (rules, is)
+pub spoken_over_own : {R : Type 0} (remaining : R → Option (List ℕ)) (set : Named) (own : SetWord R) (usual : RoundLimits) (end : LineEnd) (status : ℕ) (old new : Line)
+    → own_set_of set ≡ Some own → IsSpoken (given remaining own) usual end status old new → IsSpoken (own_text_of set) usual end status old new
+spoken_over_own remaining Standard standard_set usual end status old new is s = s
+spoken_over_own remaining Standard q703_set usual end status old new is s = search (rules, is)
+spoken_over_own remaining Standard monitors_set usual end status old new is s = search (rules, is)
+spoken_over_own remaining Standard (Text text) usual end status old new is s = search (rules, is)
+spoken_over_own remaining Q703 standard_set usual end status old new is s = search (rules, is)
+spoken_over_own remaining Q703 q703_set usual end status old new is s = s
+spoken_over_own remaining Q703 monitors_set usual end status old new is s = search (rules, is)
+spoken_over_own remaining Q703 (Text text) usual end status old new is s = search (rules, is)
+spoken_over_own remaining Monitors standard_set usual end status old new is s = search (rules, is)
+spoken_over_own remaining Monitors q703_set usual end status old new is s = search (rules, is)
+spoken_over_own remaining Monitors monitors_set usual end status old new is s = s
+spoken_over_own remaining Monitors (Text text) usual end status old new is s = search (rules, is)
+spoken_over_own remaining Stdin own usual end status old new is s = search (rules, is)
+spoken_over_own remaining (File path) own usual end status old new is s = search (rules, is)
 
 -- ---- `soak`
 
@@ -70,11 +71,11 @@ turned_down known old new g = some_bytes known (IsTurnedDown old new) g
 
 -- ---- `play`: its script
 
-pub played : (echo : Bool) (set script old new : Option (List ℕ)) → IsOnSet set script (IsPlayed echo old new) → IsOnSet set None (IsPlayed echo old new)
-played echo set script old new s = record { draft = s.draft; is_set = s.is_set; of_script = some_bytes script (IsPlayed echo old new s.draft) s.of_script }
+pub played : (usual : RoundLimits) (echo : Bool) (set script old new : Option (List ℕ)) → IsOnSet set script (IsPlayed usual echo old new) → IsOnSet set None (IsPlayed usual echo old new)
+played usual echo set script old new s = record { draft = s.draft; is_set = s.is_set; of_script = some_bytes script (IsPlayed usual echo old new s.draft) s.of_script }
 
-pub in_part : (echo : Bool) (set script old new : Option (List ℕ)) → IsOnSet set script (IsPlayedInPart echo old new) → IsOnSet set None (IsPlayedInPart echo old new)
-in_part echo set script old new s = record { draft = s.draft; is_set = s.is_set; of_script = some_bytes script (IsPlayedInPart echo old new s.draft) s.of_script }
+pub in_part : (usual : RoundLimits) (echo : Bool) (set script old new : Option (List ℕ)) → IsOnSet set script (IsPlayedInPart usual echo old new) → IsOnSet set None (IsPlayedInPart usual echo old new)
+in_part usual echo set script old new s = record { draft = s.draft; is_set = s.is_set; of_script = some_bytes script (IsPlayedInPart usual echo old new s.draft) s.of_script }
 
 not_run_in : (set script old new : Option (List ℕ)) → IsOnSet set script (IsNotRun old new) → IsOnSet set None (IsNotRun old new)
 not_run_in set script old new s = record { draft = s.draft; is_set = s.is_set; of_script = some_bytes script (IsNotRun old new s.draft) s.of_script }
@@ -85,11 +86,11 @@ not_run set script old new (script_refused s) = script_refused (not_run_in set s
 
 -- ---- and its set
 
-pub played_on_some : (echo : Bool) (set old new : Option (List ℕ)) → IsOnSet set None (IsPlayed echo old new) → IsOnSet None None (IsPlayed echo old new)
-played_on_some echo set old new s = record { draft = s.draft; is_set = some_bytes set _ s.is_set; of_script = s.of_script }
+pub played_on_some : (usual : RoundLimits) (echo : Bool) (set old new : Option (List ℕ)) → IsOnSet set None (IsPlayed usual echo old new) → IsOnSet None None (IsPlayed usual echo old new)
+played_on_some usual echo set old new s = record { draft = s.draft; is_set = some_bytes set _ s.is_set; of_script = s.of_script }
 
-pub in_part_on_some : (echo : Bool) (set old new : Option (List ℕ)) → IsOnSet set None (IsPlayedInPart echo old new) → IsOnSet None None (IsPlayedInPart echo old new)
-in_part_on_some echo set old new s = record { draft = s.draft; is_set = some_bytes set _ s.is_set; of_script = s.of_script }
+pub in_part_on_some : (usual : RoundLimits) (echo : Bool) (set old new : Option (List ℕ)) → IsOnSet set None (IsPlayedInPart usual echo old new) → IsOnSet None None (IsPlayedInPart usual echo old new)
+in_part_on_some usual echo set old new s = record { draft = s.draft; is_set = some_bytes set _ s.is_set; of_script = s.of_script }
 
 not_run_on : (set old new : Option (List ℕ)) → IsOnSet set None (IsNotRun old new) → IsOnSet None None (IsNotRun old new)
 not_run_on set old new s = record { draft = s.draft; is_set = some_bytes set _ s.is_set; of_script = s.of_script }

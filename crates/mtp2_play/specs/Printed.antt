@@ -13,8 +13,10 @@ use Rattle.mtp2_frame.specs.Printed.{PrintsUnit, PrintsFault}
 use Rattle.line_filter.specs.Filters.{Line as Octets}
 use Rattle.line_play.specs.Opening.{IsNoSet}
 use Rattle.mtp2_play.specs.Spoken.{SpokeOver, BegunOver, IsUntouched}
+use Rattle.mtp2_words.specs.resend_store_types.messages.RoundLimits.{RoundLimits}
 use Rattle.mtp2_words.specs.declared.ends.LineEnd.{LineEnd}
 use Rattle.mtp2_play.specs.Sets.{own_text_of}
+use Rattle.mtp2_words.specs.Limits.{usual_limits_of}
 use Rattle.mtp2_words.specs.declared.words.Named.{Named}
 use Rattle.mtp2_words.specs.declared.words.Request.{Request}
 use Rattle.mtp2_words.specs.declared.words.Request.TheVariants.{Check, Play, Soak, Line, Frame}
@@ -48,8 +50,8 @@ pub record AreCheckedAll (sets : List Named) (status : ℕ) (old new : Option (L
 -- expectation failed, or why nothing ran; with its lines in front where they are asked for
 pub record IsPlayedOn (set : Named) (echo : Bool) (status : ℕ) (old new : Option (List ℕ)) :
     Type 0 where
-  pub held : status ≡ 0 → IsOnSet (own_text_of set) None (IsPlayed echo old new)
-  pub missed : status ≡ 1 → IsOnSet (own_text_of set) None (IsPlayedInPart echo old new)
+  pub held : status ≡ 0 → IsOnSet (own_text_of set) None (IsPlayed (usual_limits_of set) echo old new)
+  pub missed : status ≡ 1 → IsOnSet (own_text_of set) None (IsPlayedInPart (usual_limits_of set) echo old new)
   pub refused : status ≡ 2 → IsRefused (own_text_of set) None old new
 
 -- what `soak` prints of a script: its two lines, where so many workers can work, or why it is
@@ -68,11 +70,12 @@ pub record IsFramed (word : List ℕ) (status : ℕ) (old new : Option (List ℕ
 
 -- What `line` makes of its line, over the set of these bytes: where it is done a new terminal over
 -- the set spoke there as it was told, and however it ends what was written is a beginning of that.
--- A set is refused for its text, or for a name that it lacks, before anything is read or written.
-pub record IsSpoken (known : Option (List ℕ)) (end : LineEnd) (status : ℕ) (old new : Octets) :
-    Type 0 where
-  pub spoke : status ≡ 0 → IsGiven known (SpokeOver end old new)
-  pub begun : IsUntouched old new ⊎ IsGiven known (BegunOver end old new)
+-- The limits of forced retransmission are the usual ones, but for those that are chosen. A set is
+-- refused for its text, or for a name that it lacks, before anything is read or written.
+pub record IsSpoken (known : Option (List ℕ)) (usual : RoundLimits) (end : LineEnd) (status : ℕ)
+    (old new : Octets) : Type 0 where
+  pub spoke : status ≡ 0 → IsGiven known (SpokeOver usual end old new)
+  pub begun : IsUntouched old new ⊎ IsGiven known (BegunOver usual end old new)
   pub refused : status ≡ 2 → IsGiven known (IsNoSet None None)
   pub untouched : status ≡ 2 → IsUntouched old new
   pub ends : IsDone status
@@ -94,7 +97,8 @@ IsAnswered (Check sets) status old new =
 IsAnswered (Play set script seen) status old new =
     IsPlayedOn set seen.echo status old.written new.written
 IsAnswered (Soak script workers) status old new = IsServed workers status old.written new.written
-IsAnswered (Line set end) status old new = IsSpoken (own_text_of set) end status old new
+IsAnswered (Line set end) status old new =
+    IsSpoken (own_text_of set) (usual_limits_of set) end status old new
 IsAnswered (Frame octets) status old new = IsFramed octets.now status old.written new.written
 IsAnswered (Draw set process states) status old new = IsDone status
 IsAnswered (Print set) status old new = IsPrinted set status old.written new.written

@@ -9,6 +9,8 @@ use Rattle.line_filter.specs.declared.filter.Bits.{Bits}
 use Rattle.line_play.specs.Lines.{end_acts}
 use Rattle.line_play.specs.Opening.{IsNewOver}
 use Rattle.line_play.specs.declared.link_end.LinkEnd.{LinkEnd}
+use Rattle.mtp2_words.specs.Ends.{limits_over}
+use Rattle.mtp2_words.specs.resend_store_types.messages.RoundLimits.{RoundLimits}
 use Rattle.mtp2_words.specs.declared.ends.LineEnd.{LineEnd}
 
 -- where no word names orders, there are none
@@ -37,10 +39,11 @@ pub record Spoke {A : Type 0} (orders : Option A) (term : Term) (bits : Bits) (a
       (record { read = old.read; written = old.written; told = told_before })
       (record { read = new.read; written = new.written; told = told })
 
--- so did a new terminal over the set of these bytes
-pub record SpokeOver (end : LineEnd) (old new : Line) (bytes : List ℕ) : Type 0 where
+-- so did a new terminal over the set of these bytes, within the limits that are chosen or these
+pub record SpokeOver (usual : RoundLimits) (end : LineEnd) (old new : Line) (bytes : List ℕ) :
+    Type 0 where
   pub term : Term
-  pub is_new : IsNewOver end.mode term bytes
+  pub is_new : IsNewOver (limits_over usual end) end.mode term bytes
   pub spoke : Spoke end.orders term end.bits (min end.ahead MOST_AHEAD) old new
 
 -- A terminal began to speak: what was written is a beginning of what it gives for octets that were
@@ -51,10 +54,11 @@ pub record Begun {A : Type 0} (orders : Option A) (term : Term) (bits : Bits) (a
   pub is_first : IsFirst orders term first
   pub begun : IsBegun end_acts bits ahead 0 first old new
 
--- so did a new terminal over the set of these bytes
-pub record BegunOver (end : LineEnd) (old new : Line) (bytes : List ℕ) : Type 0 where
+-- so did a new terminal over the set of these bytes, within the limits that are chosen or these
+pub record BegunOver (usual : RoundLimits) (end : LineEnd) (old new : Line) (bytes : List ℕ) :
+    Type 0 where
   pub term : Term
-  pub is_new : IsNewOver end.mode term bytes
+  pub is_new : IsNewOver (limits_over usual end) end.mode term bytes
   pub begun : Begun end.orders term end.bits (min end.ahead MOST_AHEAD) old new
 
 -- nothing was read on the line, or written there

@@ -1,13 +1,14 @@
 //! The command `line`.
 ghost use Rattle.std.specs.Prelude.{◌≡◌, ◌⊎◌, None};
 ghost use Rattle.script_check.specs.Checked.{given};
+ghost use Rattle.mtp2_words.specs.Limits.{usual_limits_of};
 ghost use Rattle.mtp2_play.specs.Sets.{own_text_of};
 ghost use Rattle.mtp2_play.specs.Printed.{IsSpoken};
 
 use crate::running::run_line as run_on;
 use crate::sets::own_set;
 use line_play::SetWord;
-use mtp2_words::{LineEnd, Named};
+use mtp2_words::{LineEnd, Named, RoundLimits};
 use plain_text::{NamedReader, Teller};
 use script_check::FAILED;
 use std::fs::{self, File};
@@ -25,16 +26,17 @@ fn line_on<
 >(
     host: &H,
     teller: &Teller<'_, H>,
+    usual: RoundLimits,
     end: &LineEnd<'_>,
     set: SetWord<S>,
     reader: &mut R,
     writer: &mut W,
 ) -> u8
-    ensures { IsSpoken (given S.remaining set) end.now result
+    ensures { IsSpoken (given S.remaining set) usual end.now result
         (record { read = R.remaining reader.old; written = W.contents writer.old })
         (record { read = R.remaining reader.new; written = W.contents writer.new }) }
 {
-    run_on(host, teller, end, set, reader, writer)
+    run_on(host, teller, usual, end, set, reader, writer)
 }
 
 /// Has a terminal over a set whose text comes from a reader speak on a line.
@@ -46,16 +48,25 @@ fn line_text<
 >(
     host: &H,
     teller: &Teller<'_, H>,
+    usual: RoundLimits,
     end: &LineEnd<'_>,
     text: S,
     reader: &mut R,
     writer: &mut W,
 ) -> u8
-    ensures { IsSpoken None end.now result
+    ensures { IsSpoken None usual end.now result
         (record { read = R.remaining reader.old; written = W.contents writer.old })
         (record { read = R.remaining reader.new; written = W.contents writer.new }) }
 {
-    line_on(host, teller, end, SetWord::Text(text), reader, writer)
+    line_on(
+        host,
+        teller,
+        usual,
+        end,
+        SetWord::Text(text),
+        reader,
+        writer,
+    )
 }
 
 /// Has a terminal over a set of the program's own speak on a line.
@@ -67,12 +78,12 @@ fn line_own<H: Files<File = File> + Threads + Eprint + Clock + AllocGlobal, R: R
     reader: &mut R,
     writer: &mut W,
 ) -> u8
-    ensures { IsSpoken (own_text_of set.now) end.now result
+    ensures { IsSpoken (own_text_of set.now) (usual_limits_of set.now) end.now result
         (record { read = R.remaining reader.old; written = W.contents writer.old })
         (record { read = R.remaining reader.new; written = W.contents writer.new }) }
 {
     match own_set(set) {
-        Some(own) => line_on(host, teller, end, own, reader, writer),
+        Some(own) => line_on(host, teller, set.usual_limits(), end, own, reader, writer),
         None => FAILED,
     }
 }
@@ -88,7 +99,7 @@ pub fn run_line<H: Files<File = File> + Threads + Eprint + Clock + AllocGlobal, 
     reader: &mut R,
     writer: &mut W,
 ) -> u8
-    ensures { IsSpoken (own_text_of set.now) end.now result
+    ensures { IsSpoken (own_text_of set.now) (usual_limits_of set.now) end.now result
         (record { read = R.remaining reader.old; written = W.contents writer.old })
         (record { read = R.remaining reader.new; written = W.contents writer.new }) }
 {
@@ -96,7 +107,7 @@ pub fn run_line<H: Files<File = File> + Threads + Eprint + Clock + AllocGlobal, 
         Named::File(path) => match fs::open(host, path) {
             Ok(file) => {
                 let text = NamedReader::new(teller, path, file);
-                line_text(host, teller, end, text, reader, writer)
+                line_text(host, teller, set.usual_limits(), end, text, reader, writer)
             }
             Err(error) => teller.fail(path, &error),
         },

@@ -5,7 +5,7 @@ ghost use Rattle.script_play.specs.Played.{IsOnSet, IsPlayed, IsPlayedInPart, Is
 ghost use Rattle.mtp2_play.specs.Printed.{IsPlayedOn};
 
 use crate::sets::{STDIN, own_set, set_word};
-use mtp2_words::{Named, Seeing, Source};
+use mtp2_words::{Named, RoundLimits, Seeing, Source};
 use plain_text::{NamedReader, Teller};
 use script_check::{FAILED, SetWord};
 use script_play::{play, play_traced};
@@ -29,13 +29,14 @@ fn play_on<H: Eprint, S: Read + Drop, T: Read + Drop, F: Write, W: Write>(
     alloc: Global,
     teller: &Teller<'_, H>,
     set: SetWord<S>,
+    usual: RoundLimits,
     name: &str,
     script: T,
     watch: &mut Watch<F>,
     writer: &mut W,
 ) -> u8
-    ensures held { result ≡ 0 → IsOnSet (given S.remaining set) None (IsPlayed watch.old.echo (W.contents writer.old) (W.contents writer.new)) }
-    ensures missed { result ≡ 1 → IsOnSet (given S.remaining set) None (IsPlayedInPart watch.old.echo (W.contents writer.old) (W.contents writer.new)) }
+    ensures held { result ≡ 0 → IsOnSet (given S.remaining set) None (IsPlayed usual watch.old.echo (W.contents writer.old) (W.contents writer.new)) }
+    ensures missed { result ≡ 1 → IsOnSet (given S.remaining set) None (IsPlayedInPart usual watch.old.echo (W.contents writer.old) (W.contents writer.new)) }
     ensures refused { result ≡ 2 → IsRefused (given S.remaining set) None (W.contents writer.old) (W.contents writer.new) }
     ensures status { (result ≡ 0) ⊎ (result ≡ 1) ⊎ (result ≡ 2) ⊎ (result ≡ 4) }
 {
@@ -44,6 +45,7 @@ fn play_on<H: Eprint, S: Read + Drop, T: Read + Drop, F: Write, W: Write>(
         Some(trace) if !echo => play_traced(
             alloc,
             set,
+            usual,
             name,
             script,
             every,
@@ -51,7 +53,16 @@ fn play_on<H: Eprint, S: Read + Drop, T: Read + Drop, F: Write, W: Write>(
             writer,
             &mut teller.errors(),
         ),
-        _ => play(alloc, set, name, script, echo, writer, &mut teller.errors()),
+        _ => play(
+            alloc,
+            set,
+            usual,
+            name,
+            script,
+            echo,
+            writer,
+            &mut teller.errors(),
+        ),
     }
 }
 
@@ -60,26 +71,28 @@ fn play_source<R: Runtime + AllocGlobal, H: Eprint, S: Read + Drop, F: Write, W:
     rt: &R,
     teller: &Teller<'_, H>,
     set: SetWord<S>,
+    usual: RoundLimits,
     name: &str,
     script: Source<'_>,
     watch: &mut Watch<F>,
     writer: &mut W,
 ) -> u8
-    ensures held { result ≡ 0 → IsOnSet (given S.remaining set) None (IsPlayed watch.old.echo (W.contents writer.old) (W.contents writer.new)) }
-    ensures missed { result ≡ 1 → IsOnSet (given S.remaining set) None (IsPlayedInPart watch.old.echo (W.contents writer.old) (W.contents writer.new)) }
+    ensures held { result ≡ 0 → IsOnSet (given S.remaining set) None (IsPlayed usual watch.old.echo (W.contents writer.old) (W.contents writer.new)) }
+    ensures missed { result ≡ 1 → IsOnSet (given S.remaining set) None (IsPlayedInPart usual watch.old.echo (W.contents writer.old) (W.contents writer.new)) }
     ensures refused { result ≡ 2 → IsRefused (given S.remaining set) None (W.contents writer.old) (W.contents writer.new) }
     ensures status { (result ≡ 0) ⊎ (result ≡ 1) ⊎ (result ≡ 2) ⊎ (result ≡ 4) }
 {
     match script {
         Source::Stdin => {
             let script = NamedReader::new(teller, STDIN, rt.reader());
-            play_on(rt.alloc(), teller, set, name, script, watch, writer)
+            play_on(rt.alloc(), teller, set, usual, name, script, watch, writer)
         }
         Source::File(path) => match fs::open(rt, path) {
             Ok(file) => play_on(
                 rt.alloc(),
                 teller,
                 set,
+                usual,
                 name,
                 NamedReader::new(teller, path, file),
                 watch,
@@ -102,8 +115,9 @@ fn play_own<R: Runtime + AllocGlobal, H: Eprint, F: Write, W: Write>(
     ensures printed { IsPlayedOn set.entry watch.old.echo result (W.contents writer.old) (W.contents writer.new) }
     ensures status { (result ≡ 0) ⊎ (result ≡ 1) ⊎ (result ≡ 2) ⊎ (result ≡ 4) }
 {
+    let usual = set.usual_limits();
     match own_set(&set) {
-        Some(own) => play_source(rt, teller, own, set_word(&set), script, watch, writer),
+        Some(own) => play_source(rt, teller, own, usual, set_word(&set), script, watch, writer),
         None => FAILED,
     }
 }
@@ -113,18 +127,28 @@ fn play_own<R: Runtime + AllocGlobal, H: Eprint, F: Write, W: Write>(
 fn play_text<R: Runtime + AllocGlobal, H: Eprint, S: Read + Drop, F: Write, W: Write>(
     rt: &R,
     teller: &Teller<'_, H>,
+    usual: RoundLimits,
     name: &str,
     text: S,
     script: Source<'_>,
     watch: &mut Watch<F>,
     writer: &mut W,
 ) -> u8
-    ensures held { result ≡ 0 → IsOnSet None None (IsPlayed watch.old.echo (W.contents writer.old) (W.contents writer.new)) }
-    ensures missed { result ≡ 1 → IsOnSet None None (IsPlayedInPart watch.old.echo (W.contents writer.old) (W.contents writer.new)) }
+    ensures held { result ≡ 0 → IsOnSet None None (IsPlayed usual watch.old.echo (W.contents writer.old) (W.contents writer.new)) }
+    ensures missed { result ≡ 1 → IsOnSet None None (IsPlayedInPart usual watch.old.echo (W.contents writer.old) (W.contents writer.new)) }
     ensures refused { result ≡ 2 → IsRefused None None (W.contents writer.old) (W.contents writer.new) }
     ensures status { (result ≡ 0) ⊎ (result ≡ 1) ⊎ (result ≡ 2) ⊎ (result ≡ 4) }
 {
-    play_source(rt, teller, SetWord::Text(text), name, script, watch, writer)
+    play_source(
+        rt,
+        teller,
+        SetWord::Text(text),
+        usual,
+        name,
+        script,
+        watch,
+        writer,
+    )
 }
 
 /// Runs `play` on the set and the script that the command line names, with a trace where there is a file for it. A file that can't be opened is
@@ -140,18 +164,28 @@ fn run_watched<R: Runtime + AllocGlobal, H: Eprint, F: Write, W: Write>(
     ensures printed { IsPlayedOn set.entry watch.old.echo result (W.contents writer.old) (W.contents writer.new) }
     ensures status { (result ≡ 0) ⊎ (result ≡ 1) ⊎ (result ≡ 2) ⊎ (result ≡ 4) }
 {
+    let usual = set.usual_limits();
     match set {
         Named::Standard | Named::Q703 | Named::Monitors => play_own(
             rt, teller, set, script, watch, writer,
         ),
         Named::Stdin => {
             let text = NamedReader::new(teller, STDIN, rt.reader());
-            play_text(rt, teller, set_word(&set), text, script, watch, writer)
+            play_text(
+                rt,
+                teller,
+                usual,
+                set_word(&set),
+                text,
+                script,
+                watch,
+                writer,
+            )
         }
         Named::File(path) => match fs::open(rt, path) {
             Ok(file) => {
                 let text = NamedReader::new(teller, path, file);
-                play_text(rt, teller, path, text, script, watch, writer)
+                play_text(rt, teller, usual, path, text, script, watch, writer)
             }
             Err(error) => teller.fail(path, &error),
         },

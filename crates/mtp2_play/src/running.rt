@@ -11,7 +11,7 @@ ghost use Rattle.mtp2_play.specs.Spoken.{AreOrdered, Spoke, SpokeOver, Begun, Be
 use line_filter::{LineOrders, Orders};
 use line_play::{Desk, LinkEnd, MOST_AHEAD, SetWord, Terminal, link_desk, new_terminal, run_link};
 use line_streams::{OrderStream, ReportStream, open_orders, open_reports};
-use mtp2_words::LineEnd;
+use mtp2_words::{LineEnd, RoundLimits};
 use plain_text::{Errors, FAILED, Teller};
 use std::alloc::Global;
 use std::fs::File;
@@ -114,7 +114,7 @@ fn speak<H: Files<File = File> + Threads + Eprint + Clock + AllocGlobal, R: Read
 }
 
 /// Puts one end of a link on a line: line octets come from a reader, and one goes to a writer for each, behind those that go ahead (of which
-/// 8,000 are the most). Orders and reports that can't be opened are told by their names.
+/// 8,000 are the most). Cyclic retransmission is forced within the usual limits, but for those that are chosen. Orders and reports that can't be opened are told by their names.
 ///
 /// Gives the exit status: 0 at the end of what there is to read, or at the order `quit`; 2 where the text is refused or lacks a name that a
 /// terminal wants; 4 where memory, a file, a read or a write fails, of reports too. However it ends, what is written on the line is a beginning
@@ -128,17 +128,18 @@ pub fn run_line<
 >(
     host: &H,
     teller: &Teller<'_, H>,
+    usual: RoundLimits,
     end: &LineEnd<'_>,
     set: SetWord<S>,
     reader: &mut R,
     writer: &mut W,
 ) -> u8
-    ensures spoke { result ≡ 0 → IsGiven (given S.remaining set) (SpokeOver end.now
+    ensures spoke { result ≡ 0 → IsGiven (given S.remaining set) (SpokeOver usual end.now
         (record { read = R.remaining reader.old; written = W.contents writer.old })
         (record { read = R.remaining reader.new; written = W.contents writer.new })) }
     ensures begun { IsUntouched (record { read = R.remaining reader.old; written = W.contents writer.old })
         (record { read = R.remaining reader.new; written = W.contents writer.new })
-        ⊎ IsGiven (given S.remaining set) (BegunOver end.now
+        ⊎ IsGiven (given S.remaining set) (BegunOver usual end.now
         (record { read = R.remaining reader.old; written = W.contents writer.old })
         (record { read = R.remaining reader.new; written = W.contents writer.new })) }
     ensures refused { result ≡ 2 → IsGiven (given S.remaining set) (IsNoSet None None) }
@@ -146,7 +147,14 @@ pub fn run_line<
         (record { read = R.remaining reader.new; written = W.contents writer.new }) }
     ensures status { (result ≡ 0) ⊎ (result ≡ 2) ⊎ (result ≡ 4) }
 {
-    match new_terminal(host.alloc(), end.mode, set, &mut Errors { rt: host }) {
+    let limits = end.limits_over(usual);
+    match new_terminal(
+        host.alloc(),
+        limits,
+        end.mode,
+        set,
+        &mut Errors { rt: host },
+    ) {
         Ok(terminal) => speak(host, teller, end, terminal, reader, writer),
         Err(status) => status,
     }

@@ -70,6 +70,8 @@ pub record AsksSoak (given : Given) (script : Source) (workers : ℕ) : Type 0 w
 -- each word of an end of a link stands under its id
 pub record AreUnderIds (given : Given) (words : LineWords) : Type 0 where
   pub mode : given (codes "MODE") ≡ Some words.mode.now
+  pub n1 : given (codes "n1") ≡ option_map (λ w. w.now) words.n1
+  pub n2 : given (codes "n2") ≡ option_map (λ w. w.now) words.n2
   pub orders : given (codes "orders") ≡ option_map (λ w. w.now) words.orders
   pub reports : given (codes "reports") ≡ option_map (λ w. w.now) words.reports
   pub bits : given (codes "bits") ≡ option_map (λ w. w.now) words.bits
@@ -77,7 +79,7 @@ pub record AreUnderIds (given : Given) (words : LineWords) : Type 0 where
   pub capture : given (codes "capture") ≡ option_map (λ w. w.now) words.capture
   pub every : says_true (given (codes "every")) ≡ words.every
 
--- the end of a link that MODE, --orders, --reports, --bits, --ahead, --capture and --every say
+-- the end of a link that MODE, --n1, --n2, --orders, --reports, --bits, --ahead, --capture and --every say
 pub record AsksEnd (given : Given) (end : LineEnd) : Type 0 where
   pub words : LineWords
   pub under_ids : AreUnderIds given words

@@ -64,6 +64,11 @@ with_line_options command =
     (option_word (codes "reports")))
     (option_word (codes "bits"))) (option_word (codes "ahead"))
 
+-- a command with the options that say when cyclic retransmission is forced
+abbrev pub with_limit_options : App → App
+with_limit_options command =
+    with_rule (with_rule command (option_word (codes "n1"))) (option_word (codes "n2"))
+
 -- a command with the options that say what is captured of a line
 abbrev pub with_capture_options : App → App
 with_capture_options command =
@@ -71,7 +76,7 @@ with_capture_options command =
 
 -- `line MODE`, with all options
 abbrev pub line_command : App
-line_command = with_capture_options (with_line_options line_begun)
+line_command = with_capture_options (with_limit_options (with_line_options line_begun))
 
 -- `frame HEX`
 abbrev pub frame_command : App

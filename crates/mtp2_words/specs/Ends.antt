@@ -1,11 +1,14 @@
 -- What words say of one end of a link.
 use Rattle.std.specs.Prelude.{◌≡◌, ◌⊎◌, ℕ, nat_le, if◌then◌else◌, List, Option, Some, None}
 use Rattle.std.specs.Prelude.{option_map, option_and_then, bytes_eq, codes}
+use Rattle.resend_store.specs.declared.messages.Mode.{Mode}
+use Rattle.resend_store.specs.declared.messages.RoundLimits.{RoundLimits}
 use Rattle.script_lines.specs.Numbers.{count_of}
 use Rattle.script_links.specs.Orders.{mode_named}
 use Rattle.line_filter.specs.Filters.{MOST_AHEAD}
 use Rattle.line_filter.specs.declared.filter.Bits.{Bits}
 use Rattle.line_filter.specs.declared.filter.Bits.TheVariants.{Low, High}
+use Rattle.mtp2_words.specs.Limits.{messages_of, octets_of}
 use Rattle.mtp2_words.specs.declared.ends.LineEnd.{LineEnd}
 use Rattle.mtp2_words.specs.declared.ends.LineWords.{LineWords}
 
@@ -32,18 +35,39 @@ abbrev pub ahead_of : Option (List ℕ) → Option ℕ
 ahead_of None = Some 0
 ahead_of (Some word) = ahead_named word
 
+-- what is chosen, or else the usual
+abbrev pub chosen_or : ℕ → Option ℕ → ℕ
+chosen_or usual None = usual
+chosen_or usual (Some chosen) = chosen
+
+-- the limits that an end has where the usual ones are these
+abbrev pub limits_over : RoundLimits → LineEnd → RoundLimits
+limits_over usual end = record {
+  messages = chosen_or usual.messages end.messages;
+  octets = chosen_or usual.octets end.octets;
+}
+
 -- each word says its part
 pub record IsEndOf (words : LineWords) (end : LineEnd) : Type 0 where
   pub mode_is : mode_named words.mode.now ≡ Some end.mode
   pub bits_are : bits_of (option_map (λ w. w.now) words.bits) ≡ Some end.bits
   pub ahead_is : ahead_of (option_map (λ w. w.now) words.ahead) ≡ Some end.ahead
+  pub messages_are : messages_of end.mode (option_map (λ w. w.now) words.n1) ≡ Some end.messages
+  pub octets_are : octets_of end.mode (option_map (λ w. w.now) words.n2) ≡ Some end.octets
   pub orders_are : option_map (λ w. w.now) end.orders ≡ option_map (λ w. w.now) words.orders
   pub reports_are : option_map (λ w. w.now) end.reports ≡ option_map (λ w. w.now) words.reports
   pub capture_is : option_map (λ w. w.now) end.capture ≡ option_map (λ w. w.now) words.capture
   pub every_is : end.every ≡ words.every
 
+-- N1 or N2 is a word that says no limit of the error correction
+pub record HasNoLimit (words : LineWords) : Type 0 where
+  pub mode : Mode
+  pub mode_is : mode_named words.mode.now ≡ Some mode
+  pub none : (messages_of mode (option_map (λ w. w.now) words.n1) ≡ None)
+      ⊎ (octets_of mode (option_map (λ w. w.now) words.n2) ≡ None)
+
 -- one of them says nothing
 abbrev pub IsNoEnd : LineWords → Type 0
 IsNoEnd words =
     (mode_named words.mode.now ≡ None) ⊎ (bits_of (option_map (λ w. w.now) words.bits) ≡ None)
-    ⊎ (ahead_of (option_map (λ w. w.now) words.ahead) ≡ None)
+    ⊎ (ahead_of (option_map (λ w. w.now) words.ahead) ≡ None) ⊎ HasNoLimit words

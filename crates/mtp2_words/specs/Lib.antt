@@ -1,5 +1,7 @@
 pub mod Asked
 pub mod Commands
 pub mod Ends
+pub mod Limits
 pub mod TurnedDown
 pub mod Words
+pub use Rattle.script_links.specs.resend_store_types

@@ -1,10 +1,11 @@
 //! What words say of one end of a link.
 ghost use Rattle.std.specs.Prelude.{◌≡◌, IfSome, IsNone, option_map};
 ghost use Rattle.script_links.specs.Orders.{mode_named};
-ghost use Rattle.mtp2_words.specs.Ends.{bits_named, bits_of, ahead_named, ahead_of, IsEndOf, IsNoEnd};
+ghost use Rattle.mtp2_words.specs.Ends.{bits_named, bits_of, ahead_named, ahead_of, limits_over, IsEndOf, IsNoEnd};
 
+use crate::limits::{messages_of, octets_of};
 use line_filter::{Bits, MOST_AHEAD};
-use resend_store::Mode;
+use resend_store::{Mode, RoundLimits};
 use script_lines::count;
 use script_links::mode_named;
 
@@ -13,6 +14,10 @@ use script_links::mode_named;
 pub struct LineEnd<'a> {
     /// The kind of error correction.
     pub mode: Mode,
+    /// How many unacknowledged messages force cyclic retransmission (N1), 1 to 127, where that is chosen.
+    pub messages: Option<u8>,
+    /// How many unacknowledged octets of SIO and SIF do (N2), 300 to 8,192, where that is chosen.
+    pub octets: Option<u16>,
     /// Where its orders stand; none, where nothing is said.
     pub orders: Option<&'a str>,
     /// Where its reports go; standard error, where nothing is said.
@@ -32,6 +37,10 @@ pub struct LineEnd<'a> {
 pub struct LineWords<'a> {
     /// `basic` or `cyclic`.
     pub mode: &'a str,
+    /// Digits, of 1 to 127, for cyclic alone; what the set has, where nothing is said.
+    pub n1: Option<&'a str>,
+    /// Digits, of 300 to 8,192, for cyclic alone; what the set has, where nothing is said.
+    pub n2: Option<&'a str>,
     /// A file or a FIFO with orders.
     pub orders: Option<&'a str>,
     /// A file or a FIFO for reports.
@@ -44,6 +53,18 @@ pub struct LineWords<'a> {
     pub capture: Option<&'a str>,
     /// Whether every unit is captured.
     pub every: bool,
+}
+
+impl LineEnd<'_> {
+    /// The limits of forced retransmission, where the usual ones are these.
+    pub fn limits_over(&self, usual: RoundLimits) -> RoundLimits
+        ensures { result ≡ limits_over usual self.now }
+    {
+        RoundLimits {
+            messages: self.messages.unwrap_or(usual.messages),
+            octets: self.octets.unwrap_or(usual.octets),
+        }
+    }
 }
 
 /// Which bit of an octet a word names.
@@ -95,10 +116,14 @@ pub fn line_end<'a>(words: &LineWords<'a>) -> Option<LineEnd<'a>>
     ensures none { IsNone result → IsNoEnd words.now }
 {
     let mode = mode_named(words.mode)?;
+    let messages = messages_of(mode, words.n1)?;
+    let octets = octets_of(mode, words.n2)?;
     let bits = bits_of(words.bits)?;
     let ahead = ahead_of(words.ahead)?;
     Some(LineEnd {
         mode,
+        messages,
+        octets,
         orders: words.orders,
         reports: words.reports,
         bits,

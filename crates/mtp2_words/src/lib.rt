@@ -4,6 +4,7 @@
 mod commands;
 mod ends;
 mod flags;
+mod limits;
 mod says;
 mod seeing;
 mod words;
@@ -11,5 +12,6 @@ mod words;
 pub use clap::Error;
 pub use clap::error::ErrorKind;
 pub use ends::{LineEnd, LineWords, line_end};
+pub use resend_store::RoundLimits;
 pub use seeing::Seeing;
 pub use words::{Named, Request, Source, read};

@@ -33,7 +33,7 @@ pub(crate) fn complaint_of(matches: &ArgMatches<'_>) -> &'static str {
         }
         "soak" => "--workers is a number from 1 to 16",
         "line" => {
-            "MODE is basic or cyclic, --bits low or high, --ahead a number up to 8000; standard input is the line, so it can't be --text"
+            "MODE is basic or cyclic, --bits low or high, --ahead a number up to 8000; --n1, 1 to 127, and --n2, 300 to 8192, are for cyclic; standard input is the line, so it can't be --text"
         }
         "draw" => "--states is for a PROCESS",
         "text" => "SET is standard, q703 or monitors",

@@ -168,6 +168,8 @@ fn line_of<'a>(given: &ArgMatches<'a>) -> Option<LineEnd<'a>>
     let mode = given.get_str("MODE")?;
     line_end(&LineWords {
         mode,
+        n1: given.get_str("n1"),
+        n2: given.get_str("n2"),
         orders: given.get_str("orders"),
         reports: given.get_str("reports"),
         bits: given.get_str("bits"),

@@ -10,9 +10,9 @@ use Rattle.resend_store.specs.declared.messages.Outgoing.{Outgoing}
 use Rattle.resend_store.specs.Numbers.{plus, minus}
 use Rattle.resend_store.specs.Window.{Window, with_put, next, count_by, without, asked, after_back}
 use Rattle.resend_store.specs.Intake.{Hearing, hear}
-use Rattle.resend_store.specs.Runs.{put, on_back, is_accepted, accepted, step}
+use Rattle.resend_store.specs.Runs.{put, put_diverted, on_back, is_accepted, accepted, step}
 use Rattle.resend_store.specs.Hearings.{is_accept}
-use Rattle.resend_store.specs.Exchange.{Answer, Exchange, Event, gets, sends, answers, arrives, is_lost, comes_back, is_lost_back, exchange_start, hears, first_arrives, first_is_lost, first_comes_back, first_is_lost_back, exchange_step, exchange_after, DeliversInOrder}
+use Rattle.resend_store.specs.Exchange.{Answer, Exchange, Event, gets, gets_diverted, sends, answers, arrives, is_lost, comes_back, is_lost_back, exchange_anew, exchange_start, hears, first_arrives, first_is_lost, first_comes_back, first_is_lost_back, exchange_step, exchange_after, DeliversInOrder}
 use Rattle.resend_store.proofs.Sent.{Fine, UnitIs, fills, carries, SameFine, next_fine}
 use Rattle.resend_store.proofs.Stands.{slice_get_drop}
 use Rattle.resend_store.proofs.InTurn.{taken, passed, hear_is}
@@ -20,7 +20,7 @@ use Rattle.std.proofs.lemmas.Bool.{le-leb as le_test}
 
 -- The units under way, where s of the messages were sent and the receiver wants the message d next. None of them carries a
 -- message so old that its number could be taken for a later one's, also once those before it have been accepted.
-data Flight (ms : List Msu) (s : ℕ) : ℕ → List Outgoing → Type 0 where
+pub data Flight (ms : List Msu) (s : ℕ) : ℕ → List Outgoing → Type 0 where
   none_left : {d : ℕ} → Flight ms s d []
   idle : {d : ℕ} {u : Outgoing} {us : List Outgoing} → u.msu ≡ None → Flight ms s d us → Flight ms s d (u ∷ us)
   loaded : {d : ℕ} {u : Outgoing} {us : List Outgoing} (i : ℕ) → i < s → d ≤ i + 127 → u.msu ≡ slice_get ms i → u.fsn ≡ i % 128 → Flight ms s (max d (i + 1)) us → Flight ms s d (u ∷ us)
@@ -60,11 +60,11 @@ flight_push ms s d (v ∷ us) u k here new wanted msu fsn (loaded i sent near ot
     loaded i sent near other number (flight_push ms s (max d (i + 1)) us u k here new (omega arith) msu fsn rest)
 
 -- The answers under way: each names a message count between the one before and d.
-data Backs : ℕ → ℕ → List Answer → Type 0 where
+pub data Backs : ℕ → ℕ → List Answer → Type 0 where
   none_back : {a d : ℕ} → a ≤ d → Backs a d []
   one_back : {a d : ℕ} {b : Answer} {bs : List Answer} (k : ℕ) → a ≤ k → plus b.bsn 1 ≡ k % 128 → Backs k d bs → Backs a d (b ∷ bs)
 
-backs_le : (a d : ℕ) (bs : List Answer) → Backs a d bs → a ≤ d
+pub backs_le : (a d : ℕ) (bs : List Answer) → Backs a d bs → a ≤ d
 backs_le a d [] (none_back h) = h
 backs_le a d (b ∷ bs) (one_back k h e rest) = let further = backs_le k d bs rest in omega arith
 
@@ -81,7 +81,7 @@ backs_push a d [] b e (none_back le) = one_back d le e (none_back (omega arith))
 backs_push a d (x ∷ bs) b e (one_back k le same rest) = one_back k le same (backs_push k d bs b e rest)
 
 -- what holds at each moment: a messages are acknowledged, d accepted
-record Sound (x : Exchange) : Type 0 where
+pub record Sound (x : Exchange) : Type 0 where
   pub a : ℕ
   pub d : ℕ
   pub fine : Fine x.sender
@@ -252,7 +252,7 @@ sound_lose x (u ∷ us) e h = record {
 
 -- ---- an answer comes back, or is lost
 
-count_exact : (a k bsn first : ℕ) → a ≤ k → k ≤ a + 127 → first ≡ a % 128 → plus bsn 1 ≡ k % 128 → minus bsn (minus first 1) ≡ k - a
+pub count_exact : (a k bsn first : ℕ) → a ≤ k → k ≤ a + 127 → first ≡ a % 128 → plus bsn 1 ≡ k % 128 → minus bsn (minus first 1) ≡ k - a
 count_exact a k bsn first h near e f = omega arith
 
 asked_by : (b : Bool) (w v : Window) → Fine w → SameFine v w → SameFine (if b then w else v) w
@@ -335,6 +335,7 @@ sound_lose_back x (b ∷ bs) e h = record {
 
 sound_step : (x : Exchange) (e : Event) → Sound x → Sound (exchange_step x e)
 sound_step x (gets m) h = sound_get (is_accepted x.sender (put m)) x m h
+sound_step x (gets_diverted m) h = sound_get (is_accepted x.sender (put_diverted m)) x m h
 sound_step x sends h = sound_send x h
 sound_step x answers h = record {
   a = h.a;
@@ -354,12 +355,12 @@ sound_step x is_lost h = sound_lose x x.forth refl h
 sound_step x comes_back h = sound_back x x.back refl h
 sound_step x is_lost_back h = sound_lose_back x x.back refl h
 
-sound_run : (x : Exchange) (es : List Event) → Sound x → Sound (exchange_after x es)
+pub sound_run : (x : Exchange) (es : List Event) → Sound x → Sound (exchange_after x es)
 sound_run x [] h = h
 sound_run x (e ∷ es) h = sound_run (exchange_step x e) es (sound_step x e h)
 
-sound_start : (mode : Mode) → Sound (exchange_start mode)
-sound_start mode = record {
+pub sound_anew : (mode : Mode) (messages : List Msu) → Sound (exchange_anew mode messages)
+sound_anew mode messages = record {
   a = 0;
   d = 0;
   fine = record { fits = omega arith; narrow = omega arith; again = omega arith; turn = omega arith };
@@ -376,5 +377,5 @@ sound_start mode = record {
 pub delivers_in_order : DeliversInOrder
 delivers_in_order mode events =
     let x = exchange_after (exchange_start mode) events in
-    let h : Sound x = sound_run (exchange_start mode) events (sound_start mode) in
+    let h : Sound x = sound_run (exchange_start mode) events (sound_anew mode []) in
     (drop h.d x.taken, sym (ap (λ (ms : List Msu). ms ++ drop h.d x.taken) h.delivered ∙ take-append-drop h.d x.taken))

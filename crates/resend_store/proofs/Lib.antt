@@ -1,8 +1,10 @@
+pub mod Completing
 pub mod Delivery
 pub mod Given
 pub mod InOrder
 pub mod InTurn
 pub mod Nexts
+pub mod Removing
 pub mod Sent
 pub mod Stands
 pub mod Weights

@@ -1,13 +1,14 @@
 -- One direction of a link: a sender, a receiver, and a line each way, which may lose units and
 -- delay them, and never changes their order.
-use Rattle.std.specs.Prelude.{◌≡◌, ℕ, if◌then◌else◌, List, [], ◌∷◌, ◌++◌, is_some}
+use Rattle.std.specs.Prelude.{◌≡◌, ℕ, ◌≤◌, ◌&&◌, not, Bool, true, false, if◌then◌else◌, Some, List}
+use Rattle.std.specs.Prelude.{[], ◌∷◌, ◌++◌, is_some}
 use Rattle.std.specs.Option.{option_to_list}
 use Rattle.resend_store.specs.declared.messages.Msu.{Msu}
 use Rattle.resend_store.specs.declared.messages.Mode.{Mode}
 use Rattle.resend_store.specs.declared.messages.Outgoing.{Outgoing}
-use Rattle.resend_store.specs.Window.{Window, start, next}
+use Rattle.resend_store.specs.Window.{Window, start, next, count_by, retrieved}
 use Rattle.resend_store.specs.Intake.{Intake, first_intake, hear}
-use Rattle.resend_store.specs.Runs.{put, on_back, step, brought}
+use Rattle.resend_store.specs.Runs.{put, put_diverted, on_back, step, brought}
 use Rattle.resend_store.specs.Hearings.{is_accept}
 
 -- what a unit brings back: the number of the message accepted last, and the bit
@@ -26,8 +27,9 @@ pub record Exchange : Type 0 where
   pub delivered : List Msu
 
 pub data Event : Type 0 where
-  -- the sender is given a message
+  -- the sender is given a message, or one that another link left behind
   gets : Msu → Event
+  gets_diverted : Msu → Event
   -- the sender sends a unit; the receiver answers
   sends : Event
   answers : Event
@@ -38,16 +40,21 @@ pub data Event : Type 0 where
   comes_back : Event
   is_lost_back : Event
 
-abbrev pub exchange_start : Mode → Exchange
-exchange_start mode =
+-- both begin anew, and these messages wait
+abbrev pub exchange_anew : Mode → List Msu → Exchange
+exchange_anew mode messages =
     record {
-      sender = start mode;
+      sender = record (start mode) { kept = messages };
       receiver = first_intake mode;
       forth = [];
       back = [];
-      taken = [];
+      taken = messages;
       delivered = [];
     }
+
+-- nothing was put yet
+abbrev pub exchange_start : Mode → Exchange
+exchange_start mode = exchange_anew mode []
 
 -- a unit arrives at the receiver
 abbrev pub hears : Exchange → Outgoing → Exchange
@@ -77,6 +84,11 @@ first_is_lost_back x (b ∷ bs) = record x { back = bs }
 abbrev pub exchange_step : Exchange → Event → Exchange
 exchange_step x (gets m) =
     record x { sender = step x.sender (put m); taken = x.taken ++ brought x.sender (put m) }
+exchange_step x (gets_diverted m) =
+    record x {
+      sender = step x.sender (put_diverted m);
+      taken = x.taken ++ brought x.sender (put_diverted m);
+    }
 exchange_step x sends =
     record x { sender = (next x.sender).left; forth = x.forth ++ (next x.sender).unit ∷ [] }
 exchange_step x answers =
@@ -96,3 +108,31 @@ abbrev pub DeliversInOrder : Type 0
 DeliversInOrder = (mode : Mode) (events : List Event) →
     let x = exchange_after (exchange_start mode) events in
     (missing : List Msu) × (x.taken ≡ x.delivered ++ missing)
+
+-- whether a unit arrives at the receiver
+abbrev pub is_arrival : Event → Bool
+is_arrival arrives = true
+is_arrival _ = false
+
+-- None does, so nothing is accepted. A receiver whose link level 3 holds discards what comes, as if
+-- it were lost.
+abbrev pub none_arrives : List Event → Bool
+none_arrives [] = true
+none_arrives (e ∷ es) = not (is_arrival e) && none_arrives es
+
+-- Both began anew while some messages waited. Then the number that was accepted last is told, and
+-- nothing is accepted any more, however long that number is under way and whatever else happens.
+-- What was accepted, and then what is retrieved with that number, is what the sender took: nothing
+-- is lost and nothing comes twice, and the order stays. That number is never refused as one that
+-- acknowledges more than was sent.
+pub record RetrievalCompletes : Type 0 where
+  pub taken : (mode : Mode) (waiting : List Msu) (events later : List Event)
+      → none_arrives later ≡ true →
+      let x = exchange_after (exchange_anew mode waiting) events in
+      let y = exchange_after x later in
+      y.taken ≡ y.delivered ++ retrieved y.sender (Some x.receiver.last)
+  pub known : (mode : Mode) (waiting : List Msu) (events later : List Event)
+      → none_arrives later ≡ true →
+      let x = exchange_after (exchange_anew mode waiting) events in
+      let y = exchange_after x later in
+      count_by y.sender x.receiver.last ≤ y.sender.sent

@@ -213,6 +213,10 @@ emptied w fsn = record w {
   turn = 0;
 }
 
+-- The one that waits at a place is taken out.
+abbrev pub without_at : Window → ℕ → Window
+without_at w i = record w { kept = take i w.kept ++ drop (i + 1) w.kept }
+
 -- Everything kept waits again, the unacknowledged ones first, and the numbers are at their start.
 abbrev pub refreshed : Window → Window
 refreshed w = record w { sent = 0; first = 0; fib = 1; again = 0; forced = false; turn = 0 }

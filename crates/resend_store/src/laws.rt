@@ -1,5 +1,5 @@
 //! Laws over every list of calls.
-ghost use Rattle.resend_store.specs.Exchange.{DeliversInOrder};
+ghost use Rattle.resend_store.specs.Exchange.{DeliversInOrder, RetrievalCompletes};
 ghost use Rattle.resend_store.specs.Hearings.{AcceptsInTurn};
 ghost use Rattle.resend_store.specs.Runs.{NewInOrder};
 ghost use Rattle.resend_store.specs.Whole.{KeptIsEnough};
@@ -27,4 +27,10 @@ pub fn accepted_units_are_in_turn()
 /// is a beginning of what the sender took: nothing is lost in between, nothing comes twice, and the order stays.
 pub fn messages_are_delivered_in_order()
     ensures { DeliversInOrder }
+{}
+
+/// Over the same lines, from when both begin anew while some messages wait: what was accepted, followed by what is retrieved with the number
+/// that was accepted last, is what the sender took, as long as nothing is accepted once that number was told, as on a link that is held.
+pub fn retrieval_completes_delivery()
+    ensures { RetrievalCompletes }
 {}

@@ -12,7 +12,7 @@ mod store;
 
 pub use laws::{
     accepted_units_are_in_turn, kept_window_stands_for_all_messages,
-    messages_are_delivered_in_order, new_messages_go_out_in_order,
+    messages_are_delivered_in_order, new_messages_go_out_in_order, retrieval_completes_delivery,
 };
 pub use messages::{
     FORCED_MESSAGES, FORCED_OCTETS, LEAST_FORCED_OCTETS, MAX_KEPT, MAX_UNACKNOWLEDGED, MAX_WAITING,

@@ -1,6 +1,6 @@
 //! Messages, and what a sender and a receiver answer.
 ghost use Rattle.std.specs.Prelude.{◌≡◌, ◌≤◌, ⊤};
-ghost use Rattle.resend_store.specs.Messages.{octets_of, chosen_limits};
+ghost use Rattle.resend_store.specs.Messages.{octets_of, usual_limits, chosen_limits};
 
 use arrayvec::ArrayVec;
 use std::alloc::AllocError;

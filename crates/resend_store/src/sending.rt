@@ -4,7 +4,7 @@ ghost use Rattle.std.specs.Option.{option_copied};
 ghost use Rattle.resend_store.specs.Limits.{MOST_KEPT, MOST_UNACKNOWLEDGED, MOST_WAITING};
 ghost use Rattle.resend_store.specs.Messages.{IsMessage};
 ghost use Rattle.resend_store.specs.Steps.{settled, gives};
-ghost use Rattle.resend_store.specs.Window.{IsWindow, waiting, start, start_within, with_put, may_send, unit_at, fill_in, repeats, sends_new, cycles, next, count_by, without, after_back, retrieved, count_known, emptied, refreshed};
+ghost use Rattle.resend_store.specs.Window.{IsWindow, waiting, start, start_within, with_put, may_send, unit_at, fill_in, repeats, sends_new, cycles, next, count_by, without, after_back, retrieved, count_known, emptied, without_at, refreshed};
 
 use crate::messages::{
     MAX_KEPT, MAX_UNACKNOWLEDGED, MAX_WAITING, Mode, Msu, Outgoing, RoundLimits, USUAL_LIMITS,
@@ -140,6 +140,15 @@ impl Sender {
         }
         self.store.push(msu);
         Ok(())
+    }
+
+    /// Takes out, and drops, the message that waits at a place.
+    pub fn drop_waiting(&mut self, place: usize)
+        requires waits { self.old.sent ≤ place }
+        requires there { place < length self.old.kept }
+        ensures { self.new ≡ without_at self.old place }
+    {
+        self.store.remove(place);
     }
 
     /// What goes out in the next unit (Q.703, sections 5 and 6).

@@ -87,6 +87,18 @@ impl Store {
         self.kept.push_back_reserved(msu);
     }
 
+    /// The one that waits at a place is taken out.
+    pub(crate) fn remove(&mut self, place: usize)
+        requires waits { self.old.sent ≤ place }
+        requires there { place < length self.old.kept }
+        ensures { self.new ≡ record self.old { kept = take place self.old.kept ++ drop (place + 1) self.old.kept } }
+    {
+        match self.kept.remove(place) {
+            Some(_msu) => {}
+            None => {}
+        }
+    }
+
     /// The first that waits is sent.
     pub(crate) fn send_one(&mut self)
         requires waiting { self.old.sent < length self.old.kept }

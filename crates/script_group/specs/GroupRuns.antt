@@ -6,10 +6,11 @@ use Rattle.std.specs.List.{flat_map}
 use Rattle.std.specs.Io.KnownBytes.{Appends}
 use Rattle.turn_code.specs.declared.draft.Draft.{Draft}
 use Rattle.script_terminal.specs.Term.{Term}
-use Rattle.script_terminal.specs.Opening.{IsOver}
+use Rattle.script_terminal.specs.Opening.{IsOverWithin}
 use Rattle.script_terminal.specs.Wanted.{wanted, IsFirstLacking}
 use Rattle.script_terminal.specs.link_term_types.opening.OpenError.{OpenError}
 use Rattle.script_terminal.specs.link_term_types.opening.OpenError.TheVariants.{NoName, NoMemory}
+use Rattle.resend_store.specs.declared.messages.RoundLimits.{RoundLimits}
 use Rattle.link_group.specs.Set.{LinkSet}
 use Rattle.link_group.specs.New.{new_set}
 use Rattle.script_links.specs.declared.heads.GroupHead.{GroupHead}
@@ -39,15 +40,17 @@ abbrev pub begun : LinkSet → Playing
 begun c = record { set = c; retrievals = []; on = 0 }
 
 -- as many new terminals over a set of processes as a script's first line says, with its error
--- correction
-pub record AreNew (d : Draft) (head : GroupHead) (terminals : List Term) : Type 0 where
+-- correction, and these limits of forced retransmission
+pub record AreNew (d : Draft) (limits : RoundLimits) (head : GroupHead) (terminals : List Term) :
+    Type 0 where
   pub number : length terminals ≡ head.links
-  pub are_new : All (IsOver d head.mode) terminals
+  pub are_new : All (IsOverWithin d limits head.mode) terminals
 
 -- links with such terminals between this point and the other
-pub record IsNewSet (d : Draft) (head : GroupHead) (c : LinkSet) : Type 0 where
+pub record IsNewSet (d : Draft) (limits : RoundLimits) (head : GroupHead) (c : LinkSet) :
+    Type 0 where
   pub terminals : List Term
-  pub new : AreNew d head terminals
+  pub new : AreNew d limits head terminals
   pub set : c ≡ new_set OWN_POINT OTHER_POINT terminals
 
 -- the name is the first that the set of processes lacks of those that a terminal wants; want of
@@ -57,10 +60,11 @@ LacksOne d (NoName name) = IsFirstLacking d name wanted
 LacksOne d NoMemory = Unit {0}
 
 -- P holds of the beginning of a script: links with so many terminals over a set of processes, all
--- new, with this error correction
-pub record IsOfNewSet (d : Draft) (head : GroupHead) (P : Playing → Type 0) : Type 0 where
+-- new, with this error correction and these limits
+pub record IsOfNewSet (d : Draft) (limits : RoundLimits) (head : GroupHead)
+    (P : Playing → Type 0) : Type 0 where
   pub terminals : List Term
-  pub new : AreNew d head terminals
+  pub new : AreNew d limits head terminals
   pub holds : P (begun (new_set OWN_POINT OTHER_POINT terminals))
 
 -- ---- runs

@@ -8,7 +8,7 @@ ghost use Rattle.script_group.specs.GroupRuns.{begun, playing_of, last_of, IsNew
 use crate::opening::open_set;
 use crate::player::GroupPlayer;
 use link_group::{Group, Retrievals};
-use script_links::GroupHead;
+use script_links::{GroupHead, RoundLimits};
 use script_terminal::{OpenError, Printer};
 use std::alloc::Global;
 use turn_check::Verified;
@@ -39,14 +39,19 @@ fn begin(alloc: Global, group: Group) -> Result<GroupPlayer, OpenError>
     }
 }
 
-/// The links of a script's first line, as the script begins with them. `end_player` takes the player.
-pub fn open_group(alloc: Global, set: &Verified, head: GroupHead) -> Result<GroupPlayer, OpenError>
+/// The links of a script's first line, as the script begins with them, with these limits of forced retransmission. `end_player` takes the player.
+pub fn open_group(
+    alloc: Global,
+    set: &Verified,
+    limits: RoundLimits,
+    head: GroupHead,
+) -> Result<GroupPlayer, OpenError>
     requires { IsFew head.links }
-    ensures ok { IfOk result (λ p. (c : LinkSet) × IsNewSet set.now head c × (playing_of p ≡ begun c)) }
+    ensures ok { IfOk result (λ p. (c : LinkSet) × IsNewSet set.now limits head c × (playing_of p ≡ begun c)) }
     ensures last { IfOk result (λ p. last_of p ≡ None) }
     ensures err { IfErr result (LacksOne set.now) }
 {
-    match open_set(alloc, set, head) {
+    match open_set(alloc, set, limits, head) {
         Ok(group) => begin(alloc, group),
         Err(error) => Err(error),
     }

@@ -1,12 +1,12 @@
 //! The set in which a script begins.
 ghost use Rattle.std.specs.Prelude.{◌≡◌, ◌++◌, ◌∷◌, [], IfOk, IfErr, OnOk};
-ghost use Rattle.script_terminal.specs.Opening.{IsOver};
+ghost use Rattle.script_terminal.specs.Opening.{IsOverWithin};
 ghost use Rattle.script_terminal.specs.Term.{Term};
 ghost use Rattle.script_links.specs.GroupScripts.{IsFew};
 ghost use Rattle.script_group.specs.GroupRuns.{AreNew, IsNewSet, LacksOne};
 
 use link_group::{Group, Mode, Terminal};
-use script_links::GroupHead;
+use script_links::{GroupHead, RoundLimits};
 use script_terminal::OpenError;
 use std::alloc::Global;
 use turn_check::Verified;
@@ -20,16 +20,17 @@ const OTHER_POINT: u16 = 2;
 fn push_terminal(
     alloc: Global,
     set: &Verified,
+    limits: RoundLimits,
     mode: Mode,
     terminals: &mut Vec<Terminal>,
 ) -> Result<(), OpenError>
-    ensures ok { OnOk result ((t : Term) × IsOver set.now mode t × (terminals.new.items ≡ terminals.old.items ++ t ∷ [])) }
+    ensures ok { OnOk result ((t : Term) × IsOverWithin set.now limits mode t × (terminals.new.items ≡ terminals.old.items ++ t ∷ [])) }
     ensures err { IfErr result (LacksOne set.now) }
 {
     if terminals.reserve(1).is_err() {
         return Err(OpenError::NoMemory);
     }
-    match Terminal::of_set(alloc, mode, set) {
+    match Terminal::of_set_within(alloc, limits, mode, set) {
         Ok(terminal) => {
             terminals.push_reserved(terminal);
             Ok(())
@@ -39,13 +40,18 @@ fn push_terminal(
 }
 
 /// So many.
-fn terminals(alloc: Global, set: &Verified, head: GroupHead) -> Result<Vec<Terminal>, OpenError>
-    ensures ok { IfOk result (λ v. AreNew set.now head v.items) }
+fn terminals(
+    alloc: Global,
+    set: &Verified,
+    limits: RoundLimits,
+    head: GroupHead,
+) -> Result<Vec<Terminal>, OpenError>
+    ensures ok { IfOk result (λ v. AreNew set.now limits head v.items) }
     ensures err { IfErr result (LacksOne set.now) }
 {
     let mut terminals = Vec::new(alloc);
     for made in 0..head.links {
-        match push_terminal(alloc, set, head.mode, &mut terminals) {
+        match push_terminal(alloc, set, limits, head.mode, &mut terminals) {
             Ok(()) => {}
             Err(error) => return Err(error),
         }
@@ -54,12 +60,17 @@ fn terminals(alloc: Global, set: &Verified, head: GroupHead) -> Result<Vec<Termi
 }
 
 /// Links with so many new terminals over a set of processes, between this point and the other.
-pub(crate) fn open_set(alloc: Global, set: &Verified, head: GroupHead) -> Result<Group, OpenError>
+pub(crate) fn open_set(
+    alloc: Global,
+    set: &Verified,
+    limits: RoundLimits,
+    head: GroupHead,
+) -> Result<Group, OpenError>
     requires { IsFew head.links }
-    ensures ok { IfOk result (IsNewSet set.now head) }
+    ensures ok { IfOk result (IsNewSet set.now limits head) }
     ensures err { IfErr result (LacksOne set.now) }
 {
-    let terminals = match terminals(alloc, set, head) {
+    let terminals = match terminals(alloc, set, limits, head) {
         Ok(terminals) => terminals,
         Err(error) => return Err(error),
     };

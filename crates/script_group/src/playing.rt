@@ -8,7 +8,7 @@ ghost use Rattle.script_group.specs.GroupRuns.{begun, playing_of, last_of, IsGro
 use crate::opening::open_set;
 use crate::player::GroupPlayer;
 use link_group::{Group, Retrievals};
-use script_links::{GroupSaid, GroupScript};
+use script_links::{GroupSaid, GroupScript, RoundLimits};
 use script_terminal::{FAILED, Printer, refuse_set};
 use std::alloc::Global;
 use std::io::Write;
@@ -80,7 +80,7 @@ fn play_new<W: Write>(alloc: Global, group: Group, commands: &[GroupSaid<'_>], w
 
 /// Runs a link set's script on links with terminals over a set of processes, and prints what each command but `on` and `expect` gives: one
 /// line, but for `out`, which prints one for each unit. There are as many new terminals as the script's first line says, with its error
-/// correction; this end's point code is 1, the other end's 2. At every end the set ends, with the messages that are not diverted yet.
+/// correction, and these limits of forced retransmission; this end's point code is 1, the other end's 2. At every end the set ends, with the messages that are not diverted yet.
 ///
 /// Gives the exit status: 0 where each command ran and its lines were written, 1 after `failed line N` where an expectation failed, 2 after
 /// `refused X2 NoName NAME` alone where the set lacks a name that a terminal speaks to or hears, 4 where memory or a write fails. Nothing is
@@ -88,18 +88,19 @@ fn play_new<W: Write>(alloc: Global, group: Group, commands: &[GroupSaid<'_>], w
 pub fn play_group<W: Write>(
     alloc: Global,
     set: &Verified,
+    limits: RoundLimits,
     script: &GroupScript<'_>,
     writer: &mut W,
 ) -> u8
     requires { IsFew script.now.head.links }
     ensures held { result ≡ 0
-        → IsOfNewSet set.now script.now.head (IsGroupWritten (map plain_group_said script.now.commands.items) (W.contents writer.old) (W.contents writer.new)) }
+        → IsOfNewSet set.now limits script.now.head (IsGroupWritten (map plain_group_said script.now.commands.items) (W.contents writer.old) (W.contents writer.new)) }
     ensures missed { result ≡ 1
-        → IsOfNewSet set.now script.now.head (IsGroupMissed (map plain_group_said script.now.commands.items) (W.contents writer.old) (W.contents writer.new)) }
+        → IsOfNewSet set.now limits script.now.head (IsGroupMissed (map plain_group_said script.now.commands.items) (W.contents writer.old) (W.contents writer.new)) }
     ensures refused { result ≡ 2 → LacksName set.now (W.contents writer.old) (W.contents writer.new) }
     ensures status { (result ≡ 0) ⊎ (result ≡ 1) ⊎ (result ≡ 2) ⊎ (result ≡ 4) }
 {
-    match open_set(alloc, set, script.head) {
+    match open_set(alloc, set, limits, script.head) {
         Ok(group) => play_new(alloc, group, &script.commands, writer),
         Err(error) => refuse_set(alloc, writer, error),
     }

@@ -1,11 +1,54 @@
--- The first line of a link set's script.
+-- The first lines of a terminal's script and of a link set's.
 use Rattle.std.specs.Prelude.{ℕ, nat_le, ◌&&◌, if◌then◌else◌, List, [], ◌∷◌, Option, None, Some}
-use Rattle.std.specs.Prelude.{option_and_then, codes}
+use Rattle.std.specs.Prelude.{option_map, option_and_then, codes}
 use Rattle.std.specs.Str.{bytes_eq}
+use Rattle.resend_store.specs.Messages.{chosen_limits}
 use Rattle.resend_store.specs.declared.messages.Mode.{Mode}
+use Rattle.resend_store.specs.declared.messages.Mode.TheVariants.{Cyclic}
+use Rattle.resend_store.specs.declared.messages.RoundLimits.{RoundLimits}
 use Rattle.script_lines.specs.Numbers.{count_of}
 use Rattle.script_links.specs.Orders.{mode_named}
+use Rattle.script_links.specs.declared.heads.TermHead.{TermHead}
 use Rattle.script_links.specs.declared.heads.GroupHead.{GroupHead}
+
+-- ---- a terminal's
+
+-- these limits, or the usual ones where none are chosen
+abbrev pub limits_over : RoundLimits → Option RoundLimits → RoundLimits
+limits_over usual None = usual
+limits_over usual (Some limits) = limits
+
+-- N1 messages and N2 octets, each a count in its range
+abbrev pub limits_by : Option ℕ → Option ℕ → Option RoundLimits
+limits_by None octets = None
+limits_by (Some messages) None = None
+limits_by (Some messages) (Some octets) = chosen_limits messages octets
+
+-- cyclic retransmission within limits
+abbrev pub cyclic_within : Option RoundLimits → Option TermHead
+cyclic_within limits = option_map (λ l. record { mode = Cyclic; limits = Some l }) limits
+
+-- a kind of error correction, for which no limits are chosen
+abbrev pub of_mode : Option Mode → Option TermHead
+of_mode mode = option_map (λ m. record { mode = m; limits = None }) mode
+
+-- `terminal`, and the kind
+abbrev pub head_of_mode : List ℕ → List ℕ → Option TermHead
+head_of_mode word mode = if bytes_eq word (codes "terminal") then of_mode (mode_named mode) else None
+
+-- `terminal cyclic`, N1 and N2
+abbrev pub head_within : List ℕ → List ℕ → List ℕ → List ℕ → Option TermHead
+head_within word mode messages octets =
+    if bytes_eq word (codes "terminal") && bytes_eq mode (codes "cyclic") then
+    cyclic_within (limits_by (count_of messages) (count_of octets))
+    else None
+
+abbrev pub term_head_of : List (List ℕ) → Option TermHead
+term_head_of (word ∷ mode ∷ []) = head_of_mode word mode
+term_head_of (word ∷ mode ∷ messages ∷ octets ∷ []) = head_within word mode messages octets
+term_head_of _ = None
+
+-- ---- a link set's
 
 -- A set has one link at least; a link's number has the 4 bits of a selection (Q.704, 2.2).
 abbrev pub MOST_LINKS : ℕ

@@ -6,3 +6,4 @@ pub mod Orders
 pub mod TermCommands
 pub mod TermScripts
 pub mod UnitWords
+pub use Rattle.resend_store.specs.declared as resend_store_types

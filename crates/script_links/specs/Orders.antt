@@ -39,11 +39,3 @@ abbrev pub mode_named : List ℕ → Option Mode
 mode_named word =
     if bytes_eq word (codes "basic") then Some Basic
     else (if bytes_eq word (codes "cyclic") then Some Cyclic else None)
-
--- the first line of a terminal's script: `terminal`, and the kind
-abbrev pub mode_by : List ℕ → List ℕ → Option Mode
-mode_by word mode = if bytes_eq word (codes "terminal") then mode_named mode else None
-
-abbrev pub mode_of : List (List ℕ) → Option Mode
-mode_of (word ∷ mode ∷ []) = mode_by word mode
-mode_of _ = None

@@ -3,14 +3,14 @@ use Rattle.std.specs.Prelude.{ℕ, ◌≡◌, Bool, nat_lt, if◌then◌else◌,
 use Rattle.std.specs.Prelude.{Option, None, Some, option_map, is_none, find, Result, Ok, Err}
 use Rattle.std.specs.List.{filter_map, list_any}
 use Rattle.plain_text.specs.Reading.{LONGEST}
-use Rattle.resend_store.specs.declared.messages.Mode.{Mode}
 use Rattle.script_lines.specs.Lines.{PlainLine, lines_of, line_at}
 use Rattle.script_lines.specs.Scripts.{PlainScript, plain_script, script_of, AreInRange}
 use Rattle.script_lines.specs.declared.script.ScriptFault.{ScriptFault}
 use Rattle.script_lines.specs.declared.script.ScriptFault.TheVariants.{BadLine, NoMemory}
-use Rattle.script_links.specs.Orders.{mode_of}
+use Rattle.script_links.specs.Heads.{term_head_of}
 use Rattle.script_links.specs.TermCommands.{PlainTermCommand, plain_term_command, term_command_of}
 use Rattle.script_links.specs.TermCommands.{is_told as asks_told_by}
+use Rattle.script_links.specs.declared.heads.TermHead.{TermHead}
 use Rattle.script_links.specs.declared.script.TermSaid.{TermSaid}
 use Rattle.script_links.specs.declared.script.TermScript.{TermScript}
 use Rattle.script_links.specs.declared.script.AnyScript.{AnyScript}
@@ -41,11 +41,11 @@ abbrev pub asks_told : List PlainTermSaid → Bool
 asks_told commands = list_any is_told commands
 
 pub record PlainTermScript : Type 0 where
-  pub mode : Mode
+  pub head : TermHead
   pub commands : List PlainTermSaid
 
 abbrev pub plain_term_script : TermScript → PlainTermScript
-plain_term_script s = record { mode = s.mode; commands = map plain_term_said s.commands.items }
+plain_term_script s = record { head = s.head; commands = map plain_term_said s.commands.items }
 
 pub data PlainAnyScript : Type 0 where
   book : PlainScript → PlainAnyScript
@@ -61,22 +61,23 @@ IsInRange (code.Book s) = AreInRange s.settings
 IsInRange (code.Terminal s) = Unit {0}
 
 -- commands, or the number of the first line that is none
-abbrev pub term_by : Mode → List PlainLine → Option PlainLine → Result PlainAnyScript ℕ
-term_by mode lines None =
-    Ok (terminal (record { mode = mode; commands = filter_map term_said_of lines }))
-term_by mode lines (Some line) = Err line.number
+abbrev pub term_by : TermHead → List PlainLine → Option PlainLine → Result PlainAnyScript ℕ
+term_by head lines None =
+    Ok (terminal (record { head = head; commands = filter_map term_said_of lines }))
+term_by head lines (Some line) = Err line.number
 
 abbrev pub as_book : Result PlainScript ℕ → Result PlainAnyScript ℕ
 as_book (Ok s) = Ok (book s)
 as_book (Err line) = Err line
 
-abbrev pub any_by : List PlainLine → Result PlainScript ℕ → Option Mode → Result PlainAnyScript ℕ
+abbrev pub any_by :
+    List PlainLine → Result PlainScript ℕ → Option TermHead → Result PlainAnyScript ℕ
 any_by more as_other None = as_book as_other
-any_by more as_other (Some mode) = term_by mode more (find is_bad_term more)
+any_by more as_other (Some head) = term_by head more (find is_bad_term more)
 
 abbrev pub any_in : List PlainLine → Result PlainScript ℕ → Result PlainAnyScript ℕ
 any_in [] as_other = as_book as_other
-any_in (line ∷ more) as_other = any_by more as_other (mode_of line.words)
+any_in (line ∷ more) as_other = any_by more as_other (term_head_of line.words)
 
 -- what a text reads as, or the number of its first bad line; of a text that is too long that of the
 -- first byte too many

@@ -1,11 +1,33 @@
-//! The first line of a link set's script.
+//! The first lines of a terminal's script and of a link set's.
 ghost use Rattle.std.specs.Prelude.{◌≡◌, ◌≤◌, IfSome};
 ghost use Rattle.script_lines.specs.Lines.{texts};
-ghost use Rattle.script_links.specs.Heads.{MOST_LINKS, links_of, head_by, head_of};
+ghost use Rattle.script_lines.specs.Numbers.{count_of};
+ghost use Rattle.script_links.specs.Heads.{MOST_LINKS, limits_over, limits_by, head_of_mode, head_within, term_head_of, links_of, head_by, head_of};
 
 use crate::orders::mode_named;
-use resend_store::Mode;
+use resend_store::{Mode, RoundLimits};
 use script_lines::count;
+
+/// What the first line of a terminal's script says.
+#[derive(Clone, Copy, PartialEq, Eq, Debug)]
+pub struct TermHead {
+    /// The kind of error correction.
+    pub mode: Mode,
+    /// With how many messages or octets cyclic retransmission is forced, where that is chosen.
+    pub limits: Option<RoundLimits>,
+}
+
+impl TermHead {
+    /// The limits that it chooses, or the usual ones where it chooses none.
+    pub fn limits_over(&self, usual: RoundLimits) -> RoundLimits
+        ensures { result ≡ limits_over usual self.now.limits }
+    {
+        match self.limits {
+            Some(limits) => limits,
+            None => usual,
+        }
+    }
+}
 
 /// What the first line of a link set's script says.
 #[derive(Clone, Copy, PartialEq, Eq, Debug)]
@@ -14,6 +36,60 @@ pub struct GroupHead {
     pub mode: Mode,
     /// How many links there are, 1 to 16.
     pub links: u32,
+}
+
+/// The limits that two words say: N1, 1 to 127 messages, and N2, 300 to 8,192 octets (Q.703, 6.4).
+fn limits_in(messages: &str, octets: &str) -> Option<RoundLimits>
+    ensures { result ≡ limits_by (count_of messages.now) (count_of octets.now) }
+{
+    let Some(messages) = count(messages) else {
+        return None;
+    };
+    match count(octets) {
+        Some(octets) => RoundLimits::chosen(messages as u64, octets as u64),
+        None => None,
+    }
+}
+
+/// What `terminal` and another word say.
+fn head_of_mode(word: &str, mode: &str) -> Option<TermHead>
+    ensures { result ≡ head_of_mode word.now mode.now }
+{
+    if word != "terminal" {
+        return None;
+    }
+    match mode_named(mode) {
+        Some(mode) => Some(TermHead { mode, limits: None }),
+        None => None,
+    }
+}
+
+/// What `terminal cyclic` and two numbers say.
+fn head_within(word: &str, mode: &str, messages: &str, octets: &str) -> Option<TermHead>
+    ensures { result ≡ head_within word.now mode.now messages.now octets.now }
+{
+    if word != "terminal" || mode != "cyclic" {
+        return None;
+    }
+    match limits_in(messages, octets) {
+        Some(limits) => Some(TermHead {
+            mode: Mode::Cyclic,
+            limits: Some(limits),
+        }),
+        None => None,
+    }
+}
+
+/// What the words of a line say, where they are `terminal basic`, `terminal cyclic` or `terminal cyclic N1 N2`, with N1 from 1 to 127 and N2 from
+/// 300 to 8,192. Any other line is no first line of a terminal's script.
+pub fn term_head_in(words: &[&str]) -> Option<TermHead>
+    ensures { result ≡ term_head_of (texts words.now) }
+{
+    match words {
+        [word, mode] => head_of_mode(word, mode),
+        [word, mode, messages, octets] => head_within(word, mode, messages, octets),
+        _ => None,
+    }
 }
 
 /// How many links a word says, where it is a count from 1 to 16.

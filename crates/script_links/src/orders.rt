@@ -1,7 +1,6 @@
 //! What a terminal is told, and its kind of error correction, by one word each.
 ghost use Rattle.std.specs.Prelude.{◌≡◌};
-ghost use Rattle.script_lines.specs.Lines.{texts};
-ghost use Rattle.script_links.specs.Orders.{mode_named, mode_by, mode_of, order_of};
+ghost use Rattle.script_links.specs.Orders.{mode_named, order_of};
 
 use resend_store::Mode;
 
@@ -65,27 +64,5 @@ pub fn mode_named(word: &str) -> Option<Mode>
         Some(Mode::Cyclic)
     } else {
         None
-    }
-}
-
-/// The kind of error correction that `terminal` and another word name.
-fn mode_by(word: &str, mode: &str) -> Option<Mode>
-    ensures { result ≡ mode_by word.now mode.now }
-{
-    if word == "terminal" {
-        mode_named(mode)
-    } else {
-        None
-    }
-}
-
-/// The kind of error correction of the script whose first line has these words: `terminal basic` or `terminal cyclic`. Any other line
-/// is none of a terminal's script.
-pub fn mode_in(words: &[&str]) -> Option<Mode>
-    ensures { result ≡ mode_of (texts words.now) }
-{
-    match words {
-        [word, mode] => mode_by(word, mode),
-        _ => None,
     }
 }

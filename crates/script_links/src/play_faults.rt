@@ -1,8 +1,8 @@
 //! Why a line is none of a script that `play` runs, for a person to read.
 
-use crate::heads::head_in;
+use crate::heads::{head_in, term_head_in};
 use crate::octets::octets_in;
-use crate::orders::{mode_in, mode_named, order_in};
+use crate::orders::{mode_named, order_in};
 use crate::reasons::PlayFault;
 use crate::unit_words::unit_in_words;
 use crate::verbs::{TermVerb, term_verb_in};
@@ -233,7 +233,7 @@ pub fn term_line_fault<'a>(
 ) -> Result<Option<PlayFault<'a>>, AllocError> {
     match words {
         [word, more @ ..] => {
-            if mode_in(words).is_some() {
+            if term_head_in(words).is_some() {
                 return Ok(Some(PlayFault::Line(LineFault::Late { word })));
             }
             term_fault(alloc, word, more, "a terminal's script")
@@ -278,18 +278,41 @@ pub fn group_line_fault<'a>(
     }
 }
 
+/// Why a kind of error correction, N1 and N2 are none of a terminal's script.
+fn limits_fault<'a>(mode: &'a str, messages: &'a str, octets: &'a str) -> Option<PlayFault<'a>> {
+    if let Some(fault) = mode_fault(mode) {
+        return Some(fault);
+    }
+    if mode != "cyclic" {
+        return Some(PlayFault::NoLimits { word: mode });
+    }
+    match number_fault(messages, 1, 127) {
+        Some(fault) => Some(PlayFault::Line(fault)),
+        None => of_line(number_fault(octets, 300, 8192)),
+    }
+}
+
+/// Why words behind `terminal` are no first line.
+fn term_head_fault<'a>(word: &'a str, more: &[&'a str]) -> Option<PlayFault<'a>> {
+    match more {
+        [mode] => mode_fault(mode),
+        [mode, messages, octets] => limits_fault(mode, messages, octets),
+        [] => of_line(words_fault(word, more, 1, 1)),
+        _ => of_line(words_fault(word, more, 3, 3)),
+    }
+}
+
 /// Why words that begin with `terminal` or `group` are no first line.
 fn head_fault<'a>(word: &'a str, more: &[&'a str]) -> Option<PlayFault<'a>> {
+    if word == "terminal" {
+        return term_head_fault(word, more);
+    }
     match more {
-        [mode] if word == "terminal" => mode_fault(mode),
-        [mode, links] if word == "group" => match mode_fault(mode) {
+        [mode, links] => match mode_fault(mode) {
             Some(fault) => Some(fault),
             None => of_line(number_fault(links, 1, 16)),
         },
-        _ => {
-            let wanted = if word == "group" { 2 } else { 1 };
-            of_line(words_fault(word, more, wanted, wanted))
-        }
+        _ => of_line(words_fault(word, more, 2, 2)),
     }
 }
 
@@ -297,7 +320,7 @@ fn head_fault<'a>(word: &'a str, more: &[&'a str]) -> Option<PlayFault<'a>> {
 pub fn other_line_fault<'a>(words: &[&'a str]) -> Option<PlayFault<'a>> {
     match words {
         [word, more @ ..] if *word == "terminal" || *word == "group" => {
-            if mode_in(words).is_some() || head_in(words).is_some() {
+            if term_head_in(words).is_some() || head_in(words).is_some() {
                 return Some(PlayFault::Line(LineFault::Late { word }));
             }
             head_fault(word, more)
@@ -314,7 +337,7 @@ fn line_fault<'a>(
 ) -> Result<Option<PlayFault<'a>>, AllocError> {
     if head_in(first).is_some() {
         group_line_fault(alloc, words)
-    } else if mode_in(first).is_some() {
+    } else if term_head_in(first).is_some() {
         term_line_fault(alloc, words)
     } else {
         Ok(other_line_fault(words))

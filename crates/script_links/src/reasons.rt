@@ -32,6 +32,10 @@ pub enum PlayFault<'a> {
     NoMode {
         word: &'a str,
     },
+    /// The word is a kind of error correction without N1 and N2.
+    NoLimits {
+        word: &'a str,
+    },
     /// These words are no unit, as one is written in words.
     NoUnit {
         word: &'a str,
@@ -67,6 +71,7 @@ impl fmt::Display for PlayFault<'_> {
                 "'{word}' is none of power, start, stop, emergency, calm, outage, back, busy, free, flush, continue and overload",
             ),
             Self::NoMode { word } => write!(f, "'{word}' is neither basic nor cyclic"),
+            Self::NoLimits { word } => write!(f, "'{word}' has no N1 and N2: cyclic has"),
             Self::NoUnit { word } => write!(
                 f,
                 "'{word}' wants pairs of hexadecimal digits, or FISU, LSSU or MSU with bsn N bib B fsn N fib B and status NAME, or sio HEX sif HEX",

@@ -6,9 +6,8 @@ ghost use Rattle.script_lines.specs.Scripts.{script_of};
 ghost use Rattle.script_links.specs.TermScripts.{plain_term_said, plain_any_script, is_bad_term, term_said_of, as_book, term_by, any_in, any_script_of, IsInRange, Tells, IsBadTermLine};
 
 use crate::commands::{TermCommand, term_command_in};
-use crate::orders::mode_in;
+use crate::heads::{TermHead, term_head_in};
 use plain_text::{MOST_BYTES, line_at_limit};
-use resend_store::Mode;
 use script_lines::{Line, Script, ScriptFault, book_script, lines_in};
 use std::alloc::{AllocError, Global};
 
@@ -24,8 +23,8 @@ pub struct TermSaid<'a> {
 /// A terminal's script.
 #[derive(Drop)]
 pub struct TermScript<'a> {
-    /// The kind of error correction that its first line names.
-    pub mode: Mode,
+    /// What its first line says.
+    pub head: TermHead,
     /// Its commands, in order.
     pub commands: Vec<TermSaid<'a>>,
 }
@@ -60,7 +59,8 @@ fn commands_in<'a>(alloc: Global, lines: &[Line<'a>]) -> Result<Vec<TermSaid<'a>
     Ok(commands)
 }
 
-/// Reads a script: a terminal's, where the first line that says something is `terminal basic` or `terminal cyclic`, else a book's.
+/// Reads a script: a terminal's, where the first line that says something is `terminal basic`, `terminal cyclic` or `terminal cyclic N1 N2` with
+/// N1 from 1 to 127 and N2 from 300 to 8,192, else a book's.
 ///
 /// # Errors
 ///
@@ -99,8 +99,8 @@ fn script_by<'a>(
     ensures fault { IfErr result (Tells (any_in (map plain_line lines.now) (script_of text.now))) }
 {
     match lines {
-        [first, more @ ..] => match mode_in(&first.words) {
-            Some(mode) => terminal(alloc, mode, more),
+        [first, more @ ..] => match term_head_in(&first.words) {
+            Some(head) => terminal(alloc, head, more),
             None => book(alloc, text),
         },
         [] => book(alloc, text),
@@ -108,13 +108,17 @@ fn script_by<'a>(
 }
 
 /// The terminal's script of the lines behind the first.
-fn terminal<'a>(alloc: Global, mode: Mode, lines: &[Line<'a>]) -> Result<AnyScript<'a>, ScriptFault>
-    ensures script { IfOk result (λ s. term_by mode (map plain_line lines.now) (find is_bad_term (map plain_line lines.now)) ≡ Ok (plain_any_script s)) }
+fn terminal<'a>(
+    alloc: Global,
+    head: TermHead,
+    lines: &[Line<'a>],
+) -> Result<AnyScript<'a>, ScriptFault>
+    ensures script { IfOk result (λ s. term_by head (map plain_line lines.now) (find is_bad_term (map plain_line lines.now)) ≡ Ok (plain_any_script s)) }
     ensures within { IfOk result IsInRange }
-    ensures fault { IfErr result (Tells (term_by mode (map plain_line lines.now) (find is_bad_term (map plain_line lines.now)))) }
+    ensures fault { IfErr result (Tells (term_by head (map plain_line lines.now) (find is_bad_term (map plain_line lines.now)))) }
 {
     match commands_in(alloc, lines) {
-        Ok(commands) => Ok(AnyScript::Terminal(TermScript { mode, commands })),
+        Ok(commands) => Ok(AnyScript::Terminal(TermScript { head, commands })),
         Err(fault) => Err(fault),
     }
 }

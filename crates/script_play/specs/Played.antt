@@ -7,6 +7,7 @@ use Rattle.turn_code.specs.declared.draft.Draft.{Draft}
 use Rattle.script_lines.specs.declared.script.ScriptFault.{ScriptFault}
 use Rattle.script_lines.specs.declared.script.ScriptFault.TheVariants.{BadLine, NoMemory}
 use Rattle.script_seen.specs.Played.{first_book, IsWritten, IsMissed}
+use Rattle.script_links.specs.resend_store_types.messages.RoundLimits.{RoundLimits}
 use Rattle.script_links.specs.TermScripts.{PlainAnyScript, book, terminal}
 use Rattle.script_links.specs.GroupScripts.{PlainPlayScript, other, group, play_script_of}
 use Rattle.script_check.specs.Checked.{IsGiven, IsSetOf, PrintsRefusal}
@@ -18,78 +19,83 @@ use Rattle.script_seen.specs.Kinds.{IsTermShownMissed, IsGroupShown, IsGroupShow
 use Rattle.script_seen.specs.GroupRuns.{IsOfNewSet, IsGroupWritten, IsGroupMissed}
 
 -- all commands of a script were obeyed, and their lines written: by a book of the set, or by a new
--- terminal over it
-abbrev pub IsOtherObeyed : Draft → PlainAnyScript → Option (List ℕ) → Option (List ℕ) → Type 0
-IsOtherObeyed d (book s) old new = IsWritten (first_book d s.settings) s.commands old new
-IsOtherObeyed d (terminal s) old new = IsOfNew d s.mode (IsTermWritten s.commands old new)
+-- terminal over it, whose cyclic retransmission is forced within the usual limits where the script
+-- chooses none
+abbrev pub IsOtherObeyed : RoundLimits → Draft → PlainAnyScript → Option (List ℕ) → Option (List ℕ) → Type 0
+IsOtherObeyed usual d (book s) old new = IsWritten (first_book d s.settings) s.commands old new
+IsOtherObeyed usual d (terminal s) old new = IsOfNew d usual s.head (IsTermWritten s.commands old new)
 
 -- or by a set of links with such terminals
-abbrev pub IsObeyed : Draft → PlainPlayScript → Option (List ℕ) → Option (List ℕ) → Type 0
-IsObeyed d (other s) old new = IsOtherObeyed d s old new
-IsObeyed d (group s) old new = IsOfNewSet d s.head (IsGroupWritten s.commands old new)
+abbrev pub IsObeyed : RoundLimits → Draft → PlainPlayScript → Option (List ℕ) → Option (List ℕ) → Type 0
+IsObeyed usual d (other s) old new = IsOtherObeyed usual d s old new
+IsObeyed usual d (group s) old new = IsOfNewSet d usual s.head (IsGroupWritten s.commands old new)
 
 -- an expectation of a script failed behind commands that were obeyed
-abbrev pub IsOtherMissed : Draft → PlainAnyScript → Option (List ℕ) → Option (List ℕ) → Type 0
-IsOtherMissed d (book s) old new = IsMissed (first_book d s.settings) s.commands old new
-IsOtherMissed d (terminal s) old new = IsOfNew d s.mode (IsTermFailed s.commands old new)
+abbrev pub IsOtherMissed : RoundLimits → Draft → PlainAnyScript → Option (List ℕ) → Option (List ℕ) → Type 0
+IsOtherMissed usual d (book s) old new = IsMissed (first_book d s.settings) s.commands old new
+IsOtherMissed usual d (terminal s) old new = IsOfNew d usual s.head (IsTermFailed s.commands old new)
 
-abbrev pub IsMissedIn : Draft → PlainPlayScript → Option (List ℕ) → Option (List ℕ) → Type 0
-IsMissedIn d (other s) old new = IsOtherMissed d s old new
-IsMissedIn d (group s) old new = IsOfNewSet d s.head (IsGroupMissed s.commands old new)
+abbrev pub IsMissedIn : RoundLimits → Draft → PlainPlayScript → Option (List ℕ) → Option (List ℕ) → Type 0
+IsMissedIn usual d (other s) old new = IsOtherMissed usual d s old new
+IsMissedIn usual d (group s) old new = IsOfNewSet d usual s.head (IsGroupMissed s.commands old new)
 
 -- ---- with each command's line in front of what it prints
 
 abbrev pub IsOtherShown :
-    List PlainLine → Draft → PlainAnyScript → Option (List ℕ) → Option (List ℕ) → Type 0
-IsOtherShown lines d (book s) old new =
+    RoundLimits → List PlainLine → Draft → PlainAnyScript → Option (List ℕ) → Option (List ℕ) → Type 0
+IsOtherShown usual lines d (book s) old new =
     IsBookShown lines (first_book d s.settings) s.commands old new
-IsOtherShown lines d (terminal s) old new =
-    IsOfNew d s.mode (IsTermShown lines s.commands old new)
+IsOtherShown usual lines d (terminal s) old new =
+    IsOfNew d usual s.head (IsTermShown lines s.commands old new)
 
 abbrev pub AreShown :
-    List PlainLine → Draft → PlainPlayScript → Option (List ℕ) → Option (List ℕ) → Type 0
-AreShown lines d (other s) old new = IsOtherShown lines d s old new
-AreShown lines d (group s) old new = IsOfNewSet d s.head (IsGroupShown lines s.commands old new)
+    RoundLimits → List PlainLine → Draft → PlainPlayScript → Option (List ℕ) → Option (List ℕ) → Type 0
+AreShown usual lines d (other s) old new = IsOtherShown usual lines d s old new
+AreShown usual lines d (group s) old new = IsOfNewSet d usual s.head (IsGroupShown lines s.commands old new)
 
 abbrev pub IsOtherShownMissed :
-    List PlainLine → Draft → PlainAnyScript → Option (List ℕ) → Option (List ℕ) → Type 0
-IsOtherShownMissed lines d (book s) old new =
+    RoundLimits → List PlainLine → Draft → PlainAnyScript → Option (List ℕ) → Option (List ℕ) → Type 0
+IsOtherShownMissed usual lines d (book s) old new =
     IsBookShownMissed lines (first_book d s.settings) s.commands old new
-IsOtherShownMissed lines d (terminal s) old new =
-    IsOfNew d s.mode (IsTermShownMissed lines s.commands old new)
+IsOtherShownMissed usual lines d (terminal s) old new =
+    IsOfNew d usual s.head (IsTermShownMissed lines s.commands old new)
 
 abbrev pub AreShownMissed :
-    List PlainLine → Draft → PlainPlayScript → Option (List ℕ) → Option (List ℕ) → Type 0
-AreShownMissed lines d (other s) old new = IsOtherShownMissed lines d s old new
-AreShownMissed lines d (group s) old new =
-    IsOfNewSet d s.head (IsGroupShownMissed lines s.commands old new)
+    RoundLimits → List PlainLine → Draft → PlainPlayScript → Option (List ℕ) → Option (List ℕ) → Type 0
+AreShownMissed usual lines d (other s) old new = IsOtherShownMissed usual lines d s old new
+AreShownMissed usual lines d (group s) old new =
+    IsOfNewSet d usual s.head (IsGroupShownMissed lines s.commands old new)
 
 -- ---- either way
 
 -- a script was obeyed on a set; with the lines of its text in front, where that is asked for
 abbrev pub IsObeyedAs :
-    Bool → List PlainLine → Draft → PlainPlayScript → Option (List ℕ) → Option (List ℕ) → Type 0
-IsObeyedAs false lines d s old new = IsObeyed d s old new
-IsObeyedAs true lines d s old new = AreShown lines d s old new
+    RoundLimits → Bool → List PlainLine → Draft → PlainPlayScript → Option (List ℕ)
+    → Option (List ℕ) → Type 0
+IsObeyedAs usual false lines d s old new = IsObeyed usual d s old new
+IsObeyedAs usual true lines d s old new = AreShown usual lines d s old new
 
 abbrev pub IsMissedAs :
-    Bool → List PlainLine → Draft → PlainPlayScript → Option (List ℕ) → Option (List ℕ) → Type 0
-IsMissedAs false lines d s old new = IsMissedIn d s old new
-IsMissedAs true lines d s old new = AreShownMissed lines d s old new
+    RoundLimits → Bool → List PlainLine → Draft → PlainPlayScript → Option (List ℕ)
+    → Option (List ℕ) → Type 0
+IsMissedAs usual false lines d s old new = IsMissedIn usual d s old new
+IsMissedAs usual true lines d s old new = AreShownMissed usual lines d s old new
 
 -- the bytes are a script, all of whose commands were obeyed
-pub record IsPlayed (echo : Bool) (old new : Option (List ℕ)) (d : Draft) (bytes : List ℕ) : Type 0 where
+pub record IsPlayed (usual : RoundLimits) (echo : Bool) (old new : Option (List ℕ)) (d : Draft)
+    (bytes : List ℕ) : Type 0 where
   pub utf8 : IsUtf8 bytes
   pub script : PlainPlayScript
   pub reads : play_script_of bytes ≡ Ok script
-  pub run : IsObeyedAs echo (lines_of bytes) d script old new
+  pub run : IsObeyedAs usual echo (lines_of bytes) d script old new
 
 -- the bytes are a script, an expectation of which failed
-pub record IsPlayedInPart (echo : Bool) (old new : Option (List ℕ)) (d : Draft) (bytes : List ℕ) : Type 0 where
+pub record IsPlayedInPart (usual : RoundLimits) (echo : Bool) (old new : Option (List ℕ))
+    (d : Draft) (bytes : List ℕ) : Type 0 where
   pub utf8 : IsUtf8 bytes
   pub script : PlainPlayScript
   pub reads : play_script_of bytes ≡ Ok script
-  pub missed : IsMissedAs echo (lines_of bytes) d script old new
+  pub missed : IsMissedAs usual echo (lines_of bytes) d script old new
 
 -- ---- refusals
 

@@ -10,7 +10,7 @@ ghost use Rattle.script_play.specs.Played.{IsOtherShown, IsOtherShownMissed, Are
 use plain_text::{MOST_BYTES, TextRead, line_at_limit, read_text};
 use script_check::{SetWord, find_set, refuse_set};
 use script_lines::ScriptFault;
-use script_links::{AnyScript, PlayScript, play_fault, play_script_in};
+use script_links::{AnyScript, PlayScript, RoundLimits, play_fault, play_script_in};
 use script_seen::{
     FAILED, play_book, play_group, play_terminal, refuse, show_book, show_group, show_terminal,
     write_line,
@@ -20,9 +20,11 @@ use std::io::{Read, Write};
 use std::str;
 use turn_check::Verified;
 
-/// Runs a script on a set of processes, or, where its first line is `terminal basic` or `terminal cyclic`, on a signalling link terminal over
+/// Runs a script on a set of processes, or, where its first line is `terminal basic`, `terminal cyclic` or `terminal cyclic N1 N2`, on a signalling link terminal over
 /// that set, or, where it is `group basic N` or `group cyclic N`, on N links between two points with such terminals; and prints a line for each
 /// command but `on` and `expect`, and for each unit that goes out.
+///
+/// The cyclic retransmission of a terminal is forced within the usual limits, unless the script's first line is `terminal cyclic N1 N2`.
 ///
 /// Where `echo` says so each command's line of the script stands in front of what it prints: `> ` and its words, parted by one space.
 ///
@@ -38,6 +40,7 @@ use turn_check::Verified;
 pub fn play<S: Read + Drop, R: Read + Drop, W: Write, E: Write>(
     alloc: Global,
     set: SetWord<S>,
+    usual: RoundLimits,
     name: &str,
     mut script: R,
     echo: bool,
@@ -46,9 +49,9 @@ pub fn play<S: Read + Drop, R: Read + Drop, W: Write, E: Write>(
 ) -> u8
     ensures accepted { (result ≡ 0) ⊎ (result ≡ 1) → IfSome (given S.remaining set) IsAccepted }
     ensures held { result ≡ 0
-        → IsOnSet (given S.remaining set) (R.remaining script) (IsPlayed echo (W.contents writer.old) (W.contents writer.new)) }
+        → IsOnSet (given S.remaining set) (R.remaining script) (IsPlayed usual echo (W.contents writer.old) (W.contents writer.new)) }
     ensures missed { result ≡ 1
-        → IsOnSet (given S.remaining set) (R.remaining script) (IsPlayedInPart echo (W.contents writer.old) (W.contents writer.new)) }
+        → IsOnSet (given S.remaining set) (R.remaining script) (IsPlayedInPart usual echo (W.contents writer.old) (W.contents writer.new)) }
     ensures refused { result ≡ 2
         → IsRefused (given S.remaining set) (R.remaining script) (W.contents writer.old) (W.contents writer.new) }
     ensures status { (result ≡ 0) ⊎ (result ≡ 1) ⊎ (result ≡ 2) ⊎ (result ≡ 4) }
@@ -57,7 +60,7 @@ pub fn play<S: Read + Drop, R: Read + Drop, W: Write, E: Write>(
     let read = read_text(alloc, &mut script);
     match set {
         Ok(set) => match read {
-            Ok(read) => play_text(alloc, &set, &read, echo, writer, errors),
+            Ok(read) => play_text(alloc, &set, usual, &read, echo, writer, errors),
             Err(_) => FAILED,
         },
         Err(refusal) => refuse_set(alloc, name, &refusal, writer, errors),
@@ -102,14 +105,15 @@ pub(crate) fn explain_length<E: Write>(alloc: Global, line: usize, errors: &mut 
 fn play_text<W: Write, E: Write>(
     alloc: Global,
     set: &Verified,
+    usual: RoundLimits,
     read: &TextRead,
     echo: bool,
     writer: &mut W,
     errors: &mut E,
 ) -> u8
-    ensures held { result ≡ 0 → (bytes : List ℕ) → Keeps bytes read.now → IsPlayed echo (W.contents writer.old) (W.contents writer.new) set.now bytes }
+    ensures held { result ≡ 0 → (bytes : List ℕ) → Keeps bytes read.now → IsPlayed usual echo (W.contents writer.old) (W.contents writer.new) set.now bytes }
     ensures missed { result ≡ 1 → (bytes : List ℕ) → Keeps bytes read.now
-        → IsPlayedInPart echo (W.contents writer.old) (W.contents writer.new) set.now bytes }
+        → IsPlayedInPart usual echo (W.contents writer.old) (W.contents writer.new) set.now bytes }
     ensures refused { result ≡ 2 → (bytes : List ℕ) → Keeps bytes read.now → IsNotRun (W.contents writer.old) (W.contents writer.new) set.now bytes }
     ensures status { (result ≡ 0) ⊎ (result ≡ 1) ⊎ (result ≡ 2) ⊎ (result ≡ 4) }
 {
@@ -123,7 +127,7 @@ fn play_text<W: Write, E: Write>(
     }
     match str::from_utf8(&read.kept) {
         Ok(text) => match play_script_in(alloc, text) {
-            Ok(script) => run_script(alloc, set, &script, text, echo, writer, errors),
+            Ok(script) => run_script(alloc, set, usual, &script, text, echo, writer, errors),
             Err(fault) => {
                 explain(alloc, text, fault, errors);
                 refuse_script(alloc, writer, fault)
@@ -137,19 +141,20 @@ fn play_text<W: Write, E: Write>(
 fn play_other<W: Write, E: Write>(
     alloc: Global,
     set: &Verified,
+    usual: RoundLimits,
     script: &AnyScript<'_>,
     writer: &mut W,
     errors: &mut E,
 ) -> u8
     requires { IsInRange script.now }
-    ensures held { result ≡ 0 → IsOtherObeyed set.now (plain_any_script script.now) (W.contents writer.old) (W.contents writer.new) }
-    ensures missed { result ≡ 1 → IsOtherMissed set.now (plain_any_script script.now) (W.contents writer.old) (W.contents writer.new) }
+    ensures held { result ≡ 0 → IsOtherObeyed usual set.now (plain_any_script script.now) (W.contents writer.old) (W.contents writer.new) }
+    ensures missed { result ≡ 1 → IsOtherMissed usual set.now (plain_any_script script.now) (W.contents writer.old) (W.contents writer.new) }
     ensures refused { result ≡ 2 → HasNoOther set.now (plain_any_script script.now) (W.contents writer.old) (W.contents writer.new) }
     ensures status { (result ≡ 0) ⊎ (result ≡ 1) ⊎ (result ≡ 2) ⊎ (result ≡ 4) }
 {
     match script {
         AnyScript::Book(script) => play_book(alloc, set, script, writer, errors),
-        AnyScript::Terminal(script) => play_terminal(alloc, set, script, writer),
+        AnyScript::Terminal(script) => play_terminal(alloc, set, usual, script, writer),
     }
 }
 
@@ -157,19 +162,20 @@ fn play_other<W: Write, E: Write>(
 fn play_script<W: Write, E: Write>(
     alloc: Global,
     set: &Verified,
+    usual: RoundLimits,
     script: &PlayScript<'_>,
     writer: &mut W,
     errors: &mut E,
 ) -> u8
     requires { IsFit script.now }
-    ensures held { result ≡ 0 → IsObeyed set.now (plain_play_script script.now) (W.contents writer.old) (W.contents writer.new) }
-    ensures missed { result ≡ 1 → IsMissedIn set.now (plain_play_script script.now) (W.contents writer.old) (W.contents writer.new) }
+    ensures held { result ≡ 0 → IsObeyed usual set.now (plain_play_script script.now) (W.contents writer.old) (W.contents writer.new) }
+    ensures missed { result ≡ 1 → IsMissedIn usual set.now (plain_play_script script.now) (W.contents writer.old) (W.contents writer.new) }
     ensures refused { result ≡ 2 → HasNoTerminal set.now (plain_play_script script.now) (W.contents writer.old) (W.contents writer.new) }
     ensures status { (result ≡ 0) ⊎ (result ≡ 1) ⊎ (result ≡ 2) ⊎ (result ≡ 4) }
 {
     match script {
-        PlayScript::Other(script) => play_other(alloc, set, script, writer, errors),
-        PlayScript::Group(script) => play_group(alloc, set, script, writer),
+        PlayScript::Other(script) => play_other(alloc, set, usual, script, writer, errors),
+        PlayScript::Group(script) => play_group(alloc, set, usual, script, writer),
     }
 }
 
@@ -177,21 +183,22 @@ fn play_script<W: Write, E: Write>(
 fn show_other<W: Write, E: Write>(
     alloc: Global,
     set: &Verified,
+    usual: RoundLimits,
     script: &AnyScript<'_>,
     text: &str,
     writer: &mut W,
     errors: &mut E,
 ) -> u8
     requires { IsInRange script.now }
-    ensures held { result ≡ 0 → IsOtherShown (lines_of text.now) set.now (plain_any_script script.now) (W.contents writer.old) (W.contents writer.new) }
+    ensures held { result ≡ 0 → IsOtherShown usual (lines_of text.now) set.now (plain_any_script script.now) (W.contents writer.old) (W.contents writer.new) }
     ensures missed { result ≡ 1
-        → IsOtherShownMissed (lines_of text.now) set.now (plain_any_script script.now) (W.contents writer.old) (W.contents writer.new) }
+        → IsOtherShownMissed usual (lines_of text.now) set.now (plain_any_script script.now) (W.contents writer.old) (W.contents writer.new) }
     ensures refused { result ≡ 2 → HasNoOther set.now (plain_any_script script.now) (W.contents writer.old) (W.contents writer.new) }
     ensures status { (result ≡ 0) ⊎ (result ≡ 1) ⊎ (result ≡ 2) ⊎ (result ≡ 4) }
 {
     match script {
         AnyScript::Book(script) => show_book(alloc, set, script, text, writer, errors),
-        AnyScript::Terminal(script) => show_terminal(alloc, set, script, text, writer),
+        AnyScript::Terminal(script) => show_terminal(alloc, set, usual, script, text, writer),
     }
 }
 
@@ -199,21 +206,22 @@ fn show_other<W: Write, E: Write>(
 fn show_script<W: Write, E: Write>(
     alloc: Global,
     set: &Verified,
+    usual: RoundLimits,
     script: &PlayScript<'_>,
     text: &str,
     writer: &mut W,
     errors: &mut E,
 ) -> u8
     requires { IsFit script.now }
-    ensures held { result ≡ 0 → AreShown (lines_of text.now) set.now (plain_play_script script.now) (W.contents writer.old) (W.contents writer.new) }
+    ensures held { result ≡ 0 → AreShown usual (lines_of text.now) set.now (plain_play_script script.now) (W.contents writer.old) (W.contents writer.new) }
     ensures missed { result ≡ 1
-        → AreShownMissed (lines_of text.now) set.now (plain_play_script script.now) (W.contents writer.old) (W.contents writer.new) }
+        → AreShownMissed usual (lines_of text.now) set.now (plain_play_script script.now) (W.contents writer.old) (W.contents writer.new) }
     ensures refused { result ≡ 2 → HasNoTerminal set.now (plain_play_script script.now) (W.contents writer.old) (W.contents writer.new) }
     ensures status { (result ≡ 0) ⊎ (result ≡ 1) ⊎ (result ≡ 2) ⊎ (result ≡ 4) }
 {
     match script {
-        PlayScript::Other(script) => show_other(alloc, set, script, text, writer, errors),
-        PlayScript::Group(script) => show_group(alloc, set, script, text, writer),
+        PlayScript::Other(script) => show_other(alloc, set, usual, script, text, writer, errors),
+        PlayScript::Group(script) => show_group(alloc, set, usual, script, text, writer),
     }
 }
 
@@ -221,6 +229,7 @@ fn show_script<W: Write, E: Write>(
 fn run_script<W: Write, E: Write>(
     alloc: Global,
     set: &Verified,
+    usual: RoundLimits,
     script: &PlayScript<'_>,
     text: &str,
     echo: bool,
@@ -229,15 +238,15 @@ fn run_script<W: Write, E: Write>(
 ) -> u8
     requires { IsFit script.now }
     ensures held { result ≡ 0
-        → IsObeyedAs echo (lines_of text.now) set.now (plain_play_script script.now) (W.contents writer.old) (W.contents writer.new) }
+        → IsObeyedAs usual echo (lines_of text.now) set.now (plain_play_script script.now) (W.contents writer.old) (W.contents writer.new) }
     ensures missed { result ≡ 1
-        → IsMissedAs echo (lines_of text.now) set.now (plain_play_script script.now) (W.contents writer.old) (W.contents writer.new) }
+        → IsMissedAs usual echo (lines_of text.now) set.now (plain_play_script script.now) (W.contents writer.old) (W.contents writer.new) }
     ensures refused { result ≡ 2 → HasNoTerminal set.now (plain_play_script script.now) (W.contents writer.old) (W.contents writer.new) }
     ensures status { (result ≡ 0) ⊎ (result ≡ 1) ⊎ (result ≡ 2) ⊎ (result ≡ 4) }
 {
     if echo {
-        show_script(alloc, set, script, text, writer, errors)
+        show_script(alloc, set, usual, script, text, writer, errors)
     } else {
-        play_script(alloc, set, script, writer, errors)
+        play_script(alloc, set, usual, script, writer, errors)
     }
 }

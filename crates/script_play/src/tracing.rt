@@ -12,7 +12,7 @@ use crate::playing::{explain, explain_length, refuse_script};
 use plain_text::{TextRead, line_at_limit, read_text};
 use script_check::{SetWord, find_set, refuse_set};
 use script_lines::ScriptFault;
-use script_links::{AnyScript, PlayScript, play_script_in};
+use script_links::{AnyScript, PlayScript, RoundLimits, play_script_in};
 use script_seen::{FAILED, refuse, trace_book, trace_terminal, write_line};
 use std::alloc::Global;
 use std::io::{Read, Write};
@@ -23,6 +23,7 @@ use turn_check::Verified;
 fn trace_other<W: Write, T: Write, E: Write>(
     alloc: Global,
     set: &Verified,
+    usual: RoundLimits,
     script: &AnyScript<'_>,
     text: &str,
     every: bool,
@@ -31,12 +32,12 @@ fn trace_other<W: Write, T: Write, E: Write>(
     errors: &mut E,
 ) -> u8
     requires { IsInRange script.now }
-    ensures held { result ≡ 0 → IsOtherObeyed set.now (plain_any_script script.now) (W.contents writer.old) (W.contents writer.new) }
-    ensures missed { result ≡ 1 → IsOtherMissed set.now (plain_any_script script.now) (W.contents writer.old) (W.contents writer.new) }
+    ensures held { result ≡ 0 → IsOtherObeyed usual set.now (plain_any_script script.now) (W.contents writer.old) (W.contents writer.new) }
+    ensures missed { result ≡ 1 → IsOtherMissed usual set.now (plain_any_script script.now) (W.contents writer.old) (W.contents writer.new) }
     ensures traced { result ≡ 0
-        → IsOtherTraced every (lines_of text.now) set.now (plain_any_script script.now) (T.contents trace.old) (T.contents trace.new) }
+        → IsOtherTraced usual every (lines_of text.now) set.now (plain_any_script script.now) (T.contents trace.old) (T.contents trace.new) }
     ensures in_part { result ≡ 1
-        → IsOtherTracedInPart every (lines_of text.now) set.now (plain_any_script script.now) (T.contents trace.old) (T.contents trace.new) }
+        → IsOtherTracedInPart usual every (lines_of text.now) set.now (plain_any_script script.now) (T.contents trace.old) (T.contents trace.new) }
     ensures refused { result ≡ 2 → HasNoOther set.now (plain_any_script script.now) (W.contents writer.old) (W.contents writer.new) }
     ensures status { (result ≡ 0) ⊎ (result ≡ 1) ⊎ (result ≡ 2) ⊎ (result ≡ 4) }
 {
@@ -45,7 +46,7 @@ fn trace_other<W: Write, T: Write, E: Write>(
             trace_book(alloc, set, script, text, every, trace, writer, errors)
         }
         AnyScript::Terminal(script) => {
-            trace_terminal(alloc, set, script, text, every, trace, writer)
+            trace_terminal(alloc, set, usual, script, text, every, trace, writer)
         }
     }
 }
@@ -66,6 +67,7 @@ fn lacks_trace<E: Write>(alloc: Global, errors: &mut E) -> u8
 fn trace_script<W: Write, T: Write, E: Write>(
     alloc: Global,
     set: &Verified,
+    usual: RoundLimits,
     script: &PlayScript<'_>,
     text: &str,
     every: bool,
@@ -74,18 +76,18 @@ fn trace_script<W: Write, T: Write, E: Write>(
     errors: &mut E,
 ) -> u8
     requires { IsFit script.now }
-    ensures held { result ≡ 0 → IsObeyed set.now (plain_play_script script.now) (W.contents writer.old) (W.contents writer.new) }
-    ensures missed { result ≡ 1 → IsMissedIn set.now (plain_play_script script.now) (W.contents writer.old) (W.contents writer.new) }
+    ensures held { result ≡ 0 → IsObeyed usual set.now (plain_play_script script.now) (W.contents writer.old) (W.contents writer.new) }
+    ensures missed { result ≡ 1 → IsMissedIn usual set.now (plain_play_script script.now) (W.contents writer.old) (W.contents writer.new) }
     ensures traced { result ≡ 0
-        → AreTraced every (lines_of text.now) set.now (plain_play_script script.now) (T.contents trace.old) (T.contents trace.new) }
+        → AreTraced usual every (lines_of text.now) set.now (plain_play_script script.now) (T.contents trace.old) (T.contents trace.new) }
     ensures in_part { result ≡ 1
-        → AreTracedInPart every (lines_of text.now) set.now (plain_play_script script.now) (T.contents trace.old) (T.contents trace.new) }
+        → AreTracedInPart usual every (lines_of text.now) set.now (plain_play_script script.now) (T.contents trace.old) (T.contents trace.new) }
     ensures refused { result ≡ 2 → HasNoTerminal set.now (plain_play_script script.now) (W.contents writer.old) (W.contents writer.new) }
     ensures status { (result ≡ 0) ⊎ (result ≡ 1) ⊎ (result ≡ 2) ⊎ (result ≡ 4) }
 {
     match script {
         PlayScript::Other(script) => {
-            trace_other(alloc, set, script, text, every, trace, writer, errors)
+            trace_other(alloc, set, usual, script, text, every, trace, writer, errors)
         }
         PlayScript::Group(_) => lacks_trace(alloc, errors),
     }
@@ -95,19 +97,20 @@ fn trace_script<W: Write, T: Write, E: Write>(
 fn trace_text<W: Write, T: Write, E: Write>(
     alloc: Global,
     set: &Verified,
+    usual: RoundLimits,
     read: &TextRead,
     every: bool,
     trace: &mut T,
     writer: &mut W,
     errors: &mut E,
 ) -> u8
-    ensures held { result ≡ 0 → (bytes : List ℕ) → Keeps bytes read.now → IsPlayed false (W.contents writer.old) (W.contents writer.new) set.now bytes }
+    ensures held { result ≡ 0 → (bytes : List ℕ) → Keeps bytes read.now → IsPlayed usual false (W.contents writer.old) (W.contents writer.new) set.now bytes }
     ensures missed { result ≡ 1 → (bytes : List ℕ) → Keeps bytes read.now
-        → IsPlayedInPart false (W.contents writer.old) (W.contents writer.new) set.now bytes }
+        → IsPlayedInPart usual false (W.contents writer.old) (W.contents writer.new) set.now bytes }
     ensures traced { result ≡ 0 → (bytes : List ℕ) → Keeps bytes read.now
-        → IsPlayTraced every (T.contents trace.old) (T.contents trace.new) set.now bytes }
+        → IsPlayTraced usual every (T.contents trace.old) (T.contents trace.new) set.now bytes }
     ensures in_part { result ≡ 1 → (bytes : List ℕ) → Keeps bytes read.now
-        → IsPlayTracedInPart every (T.contents trace.old) (T.contents trace.new) set.now bytes }
+        → IsPlayTracedInPart usual every (T.contents trace.old) (T.contents trace.new) set.now bytes }
     ensures refused { result ≡ 2 → (bytes : List ℕ) → Keeps bytes read.now → IsNotRun (W.contents writer.old) (W.contents writer.new) set.now bytes }
     ensures status { (result ≡ 0) ⊎ (result ≡ 1) ⊎ (result ≡ 2) ⊎ (result ≡ 4) }
 {
@@ -121,7 +124,7 @@ fn trace_text<W: Write, T: Write, E: Write>(
     }
     match str::from_utf8(&read.kept) {
         Ok(text) => match play_script_in(alloc, text) {
-            Ok(script) => trace_script(alloc, set, &script, text, every, trace, writer, errors),
+            Ok(script) => trace_script(alloc, set, usual, &script, text, every, trace, writer, errors),
             Err(fault) => {
                 explain(alloc, text, fault, errors);
                 refuse_script(alloc, writer, fault)
@@ -140,6 +143,7 @@ fn trace_text<W: Write, T: Write, E: Write>(
 pub fn play_traced<S: Read + Drop, R: Read + Drop, W: Write, T: Write, E: Write>(
     alloc: Global,
     set: SetWord<S>,
+    usual: RoundLimits,
     name: &str,
     mut script: R,
     every: bool,
@@ -149,13 +153,13 @@ pub fn play_traced<S: Read + Drop, R: Read + Drop, W: Write, T: Write, E: Write>
 ) -> u8
     ensures accepted { (result ≡ 0) ⊎ (result ≡ 1) → IfSome (given S.remaining set) IsAccepted }
     ensures held { result ≡ 0
-        → IsOnSet (given S.remaining set) (R.remaining script) (IsPlayed false (W.contents writer.old) (W.contents writer.new)) }
+        → IsOnSet (given S.remaining set) (R.remaining script) (IsPlayed usual false (W.contents writer.old) (W.contents writer.new)) }
     ensures missed { result ≡ 1
-        → IsOnSet (given S.remaining set) (R.remaining script) (IsPlayedInPart false (W.contents writer.old) (W.contents writer.new)) }
+        → IsOnSet (given S.remaining set) (R.remaining script) (IsPlayedInPart usual false (W.contents writer.old) (W.contents writer.new)) }
     ensures traced { result ≡ 0
-        → IsOnSet (given S.remaining set) (R.remaining script) (IsPlayTraced every (T.contents trace.old) (T.contents trace.new)) }
+        → IsOnSet (given S.remaining set) (R.remaining script) (IsPlayTraced usual every (T.contents trace.old) (T.contents trace.new)) }
     ensures in_part { result ≡ 1
-        → IsOnSet (given S.remaining set) (R.remaining script) (IsPlayTracedInPart every (T.contents trace.old) (T.contents trace.new)) }
+        → IsOnSet (given S.remaining set) (R.remaining script) (IsPlayTracedInPart usual every (T.contents trace.old) (T.contents trace.new)) }
     ensures refused { result ≡ 2
         → IsRefused (given S.remaining set) (R.remaining script) (W.contents writer.old) (W.contents writer.new) }
     ensures status { (result ≡ 0) ⊎ (result ≡ 1) ⊎ (result ≡ 2) ⊎ (result ≡ 4) }
@@ -164,7 +168,7 @@ pub fn play_traced<S: Read + Drop, R: Read + Drop, W: Write, T: Write, E: Write>
     let read = read_text(alloc, &mut script);
     match set {
         Ok(set) => match read {
-            Ok(read) => trace_text(alloc, &set, &read, every, trace, writer, errors),
+            Ok(read) => trace_text(alloc, &set, usual, &read, every, trace, writer, errors),
             Err(_) => FAILED,
         },
         Err(refusal) => refuse_set(alloc, name, &refusal, writer, errors),

@@ -10,7 +10,7 @@ ghost use Rattle.script_seen.specs.Kinds.{IsGroupShown, IsGroupShownMissed, Grou
 use crate::fronts::{first_of, length_of, no_octets, show_line, write_behind};
 use script_group::{FAILED, GroupPlayer, HELD, MISSED, end_player, open_group, refuse_set};
 use script_lines::{Line, lines_in};
-use script_links::{GroupSaid, GroupScript};
+use script_links::{GroupSaid, GroupScript, RoundLimits};
 use std::alloc::Global;
 use std::io::{self, Write};
 use turn_check::Verified;
@@ -112,19 +112,20 @@ fn show_all<W: Write>(
 pub fn show_group<W: Write>(
     alloc: Global,
     set: &Verified,
+    limits: RoundLimits,
     script: &GroupScript<'_>,
     text: &str,
     writer: &mut W,
 ) -> u8
     requires { IsFew script.now.head.links }
     ensures held { result ≡ 0
-        → IsOfNewSet set.now script.now.head (IsGroupShown (lines_of text.now) (map plain_group_said script.now.commands.items) (W.contents writer.old) (W.contents writer.new)) }
+        → IsOfNewSet set.now limits script.now.head (IsGroupShown (lines_of text.now) (map plain_group_said script.now.commands.items) (W.contents writer.old) (W.contents writer.new)) }
     ensures missed { result ≡ 1
-        → IsOfNewSet set.now script.now.head (IsGroupShownMissed (lines_of text.now) (map plain_group_said script.now.commands.items) (W.contents writer.old) (W.contents writer.new)) }
+        → IsOfNewSet set.now limits script.now.head (IsGroupShownMissed (lines_of text.now) (map plain_group_said script.now.commands.items) (W.contents writer.old) (W.contents writer.new)) }
     ensures refused { result ≡ 2 → LacksName set.now (W.contents writer.old) (W.contents writer.new) }
     ensures status { (result ≡ 0) ⊎ (result ≡ 1) ⊎ (result ≡ 2) ⊎ (result ≡ 4) }
 {
-    match open_group(alloc, set, script.head) {
+    match open_group(alloc, set, limits, script.head) {
         Ok(player) => {
             let mut player = player;
             let status = show_all(alloc, &mut player, &script.commands, text, writer);

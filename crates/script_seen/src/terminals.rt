@@ -9,7 +9,7 @@ ghost use Rattle.script_seen.specs.Kinds.{IsTermShown, IsTermShownBy, IsTermShow
 use crate::fronts::{first_of, length_of, no_octets, show_line, write_behind};
 use script_group::{FAILED, HELD, MISSED, TermPlayer, Terminal, asks_told, new_player, refuse_set};
 use script_lines::{Line, lines_in};
-use script_links::{TermSaid, TermScript};
+use script_links::{RoundLimits, TermSaid, TermScript};
 use std::alloc::Global;
 use std::io::{self, Write};
 use turn_check::Verified;
@@ -141,18 +141,20 @@ fn show_on<W: Write>(
 pub fn show_terminal<W: Write>(
     alloc: Global,
     set: &Verified,
+    usual: RoundLimits,
     script: &TermScript<'_>,
     text: &str,
     writer: &mut W,
 ) -> u8
     ensures held { result ≡ 0
-        → IsOfNew set.now script.now.mode (IsTermShown (lines_of text.now) (map plain_term_said script.now.commands.items) (W.contents writer.old) (W.contents writer.new)) }
+        → IsOfNew set.now usual script.now.head (IsTermShown (lines_of text.now) (map plain_term_said script.now.commands.items) (W.contents writer.old) (W.contents writer.new)) }
     ensures missed { result ≡ 1
-        → IsOfNew set.now script.now.mode (IsTermShownMissed (lines_of text.now) (map plain_term_said script.now.commands.items) (W.contents writer.old) (W.contents writer.new)) }
+        → IsOfNew set.now usual script.now.head (IsTermShownMissed (lines_of text.now) (map plain_term_said script.now.commands.items) (W.contents writer.old) (W.contents writer.new)) }
     ensures refused { result ≡ 2 → LacksName set.now (W.contents writer.old) (W.contents writer.new) }
     ensures status { (result ≡ 0) ⊎ (result ≡ 1) ⊎ (result ≡ 2) ⊎ (result ≡ 4) }
 {
-    match Terminal::of_set(alloc, script.mode, set) {
+    let limits = script.head.limits_over(usual);
+    match Terminal::of_set_within(alloc, limits, script.head.mode, set) {
         Ok(terminal) => show_on(alloc, terminal, script, text, writer),
         Err(error) => refuse_set(alloc, writer, error),
     }

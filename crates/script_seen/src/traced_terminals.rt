@@ -16,7 +16,7 @@ use crate::tracing::{Tracer, new_tracer};
 use actor_book::Limits;
 use script_group::{FAILED, HELD, MISSED, TermPlayer, Terminal, asks_told, new_player, refuse_set};
 use script_lines::{Line, lines_in};
-use script_links::{TermCommand, TermSaid, TermScript};
+use script_links::{RoundLimits, TermCommand, TermSaid, TermScript};
 use std::alloc::{AllocError, Global};
 use std::io::{self, Write};
 use turn_check::Verified;
@@ -188,6 +188,7 @@ fn trace_on<W: Write, T: Write>(
 pub fn trace_terminal<W: Write, T: Write>(
     alloc: Global,
     set: &Verified,
+    usual: RoundLimits,
     script: &TermScript<'_>,
     text: &str,
     every: bool,
@@ -195,19 +196,20 @@ pub fn trace_terminal<W: Write, T: Write>(
     writer: &mut W,
 ) -> u8
     ensures held { result ≡ 0
-        → IsOfNew set.now script.now.mode (IsTermWritten (map plain_term_said script.now.commands.items) (W.contents writer.old) (W.contents writer.new)) }
+        → IsOfNew set.now usual script.now.head (IsTermWritten (map plain_term_said script.now.commands.items) (W.contents writer.old) (W.contents writer.new)) }
     ensures missed { result ≡ 1
-        → IsOfNew set.now script.now.mode (IsTermFailed (map plain_term_said script.now.commands.items) (W.contents writer.old) (W.contents writer.new)) }
+        → IsOfNew set.now usual script.now.head (IsTermFailed (map plain_term_said script.now.commands.items) (W.contents writer.old) (W.contents writer.new)) }
     ensures traced { result ≡ 0
-        → IsOfNew set.now script.now.mode (λ t. IsTermTraced every (asks_told (map plain_term_said script.now.commands.items)) (lines_of text.now) t
+        → IsOfNew set.now usual script.now.head (λ t. IsTermTraced every (asks_told (map plain_term_said script.now.commands.items)) (lines_of text.now) t
         (map plain_term_said script.now.commands.items) (T.contents trace.old) (T.contents trace.new)) }
     ensures in_part { result ≡ 1
-        → IsOfNew set.now script.now.mode (λ t. IsTermTracedInPart every (asks_told (map plain_term_said script.now.commands.items)) (lines_of text.now) t
+        → IsOfNew set.now usual script.now.head (λ t. IsTermTracedInPart every (asks_told (map plain_term_said script.now.commands.items)) (lines_of text.now) t
         (map plain_term_said script.now.commands.items) (T.contents trace.old) (T.contents trace.new)) }
     ensures refused { result ≡ 2 → LacksName set.now (W.contents writer.old) (W.contents writer.new) }
     ensures status { (result ≡ 0) ⊎ (result ≡ 1) ⊎ (result ≡ 2) ⊎ (result ≡ 4) }
 {
-    match Terminal::of_set(alloc, script.mode, set) {
+    let limits = script.head.limits_over(usual);
+    match Terminal::of_set_within(alloc, limits, script.head.mode, set) {
         Ok(terminal) => match trace_on(alloc, set, terminal, script, text, every, trace, writer) {
             Ok(status) => status,
             Err(_) => FAILED,

@@ -3,9 +3,9 @@ use Rattle.std.specs.Prelude.{◌≡◌, ℕ, Bool, List, [], ◌∷◌, ◌++�
 use Rattle.std.specs.List.{flat_map}
 use Rattle.std.specs.Io.KnownBytes.{Appends}
 use Rattle.turn_code.specs.declared.draft.Draft.{Draft}
-use Rattle.resend_store.specs.declared.messages.Mode.{Mode}
+use Rattle.resend_store.specs.declared.messages.RoundLimits.{RoundLimits}
 use Rattle.link_term.specs.Term.{Term}
-use Rattle.link_term.specs.Opening.{IsOver}
+use Rattle.link_term.specs.Opening.{IsOverWithin}
 use Rattle.link_term.specs.Wanted.{wanted, IsFirstLacking}
 use Rattle.link_term.specs.WantedText.{wanted_text}
 use Rattle.link_term.specs.declared.opening.OpenError.{OpenError}
@@ -13,8 +13,10 @@ use Rattle.link_term.specs.declared.opening.OpenError.TheVariants.{NoName, NoMem
 use Rattle.link_term.specs.link_processes_types.wanted.Wanted.{Wanted}
 use Rattle.script_book.specs.Lines.{line_of}
 use Rattle.script_book.specs.Played.{last_in, Misses}
+use Rattle.script_links.specs.Heads.{limits_over}
 use Rattle.script_links.specs.TermCommands.{expected}
 use Rattle.script_links.specs.TermScripts.{PlainTermSaid, asks_told}
+use Rattle.script_links.specs.declared.heads.TermHead.{TermHead}
 use Rattle.script_terminal.specs.TermAnswers.{GoOut, Obeys}
 use Rattle.script_terminal.specs.declared.terminals.TermPlayer.{TermPlayer}
 
@@ -93,10 +95,12 @@ abbrev pub IsTermFailed :
     List PlainTermSaid → Option (List ℕ) → Option (List ℕ) → Term → Type 0
 IsTermFailed commands old new first = IsTermMissed (asks_told commands) commands old new first
 
--- P holds of a terminal over the set that is new, with this error correction
-pub record IsOfNew (d : Draft) (mode : Mode) (P : Term → Type 0) : Type 0 where
+-- P holds of a terminal over the set that is new, with the error correction of a script's first
+-- line, and with the limits that it chooses or these
+pub record IsOfNew (d : Draft) (usual : RoundLimits) (head : TermHead) (P : Term → Type 0) :
+    Type 0 where
   pub terminal : Term
-  pub is_new : IsOver d mode terminal
+  pub is_new : IsOverWithin d (limits_over usual head.limits) head.mode terminal
   pub holds : P terminal
 
 -- ---- no terminal

@@ -7,7 +7,7 @@ ghost use Rattle.script_terminal.specs.TermAnswers.{next_of, behind_next, unit_l
 ghost use Rattle.script_terminal.specs.TermRuns.{last_of, HasPrinted, HasGivenOut, IsTermRun, IsTermWritten, IsTermMissed, IsTermFailed, IsTermMissedBy, IsOfNew, PrintsLacking, LacksName};
 
 use crate::answers::answer;
-use link_term::{OpenError, Terminal};
+use link_term::{OpenError, RoundLimits, Terminal};
 use script_book::{FAILED, HELD, MISSED, Printer, refuse, text_line, write_line};
 use script_links::{TermCommand, TermSaid, TermScript};
 use std::alloc::Global;
@@ -205,7 +205,8 @@ pub fn refuse_set<W: Write>(alloc: Global, writer: &mut W, error: OpenError) -> 
 }
 
 /// Runs a terminal's script on a terminal over a set, and prints what each command but `expect` gives: one line, but for `out`, which prints
-/// one for each unit. What the terminal tells is kept where a command asks for it.
+/// one for each unit. What the terminal tells is kept where a command asks for it. Cyclic retransmission is forced within the usual limits where
+/// the script's first line chooses none.
 ///
 /// Gives the exit status: 0 where each command ran and its lines were written, 1 after `failed line N` where an expectation failed, 2 after
 /// `refused X2 NoName NAME` alone where the set lacks a name that a terminal speaks to or hears, 4 where memory or a write fails. Nothing is
@@ -213,17 +214,19 @@ pub fn refuse_set<W: Write>(alloc: Global, writer: &mut W, error: OpenError) -> 
 pub fn play_terminal<W: Write>(
     alloc: Global,
     set: &Verified,
+    usual: RoundLimits,
     script: &TermScript<'_>,
     writer: &mut W,
 ) -> u8
     ensures held { result ≡ 0
-        → IsOfNew set.now script.now.mode (IsTermWritten (map plain_term_said script.now.commands.items) (W.contents writer.old) (W.contents writer.new)) }
+        → IsOfNew set.now usual script.now.head (IsTermWritten (map plain_term_said script.now.commands.items) (W.contents writer.old) (W.contents writer.new)) }
     ensures missed { result ≡ 1
-        → IsOfNew set.now script.now.mode (IsTermFailed (map plain_term_said script.now.commands.items) (W.contents writer.old) (W.contents writer.new)) }
+        → IsOfNew set.now usual script.now.head (IsTermFailed (map plain_term_said script.now.commands.items) (W.contents writer.old) (W.contents writer.new)) }
     ensures refused { result ≡ 2 → LacksName set.now (W.contents writer.old) (W.contents writer.new) }
     ensures status { (result ≡ 0) ⊎ (result ≡ 1) ⊎ (result ≡ 2) ⊎ (result ≡ 4) }
 {
-    match Terminal::of_set(alloc, script.mode, set) {
+    let limits = script.head.limits_over(usual);
+    match Terminal::of_set_within(alloc, limits, script.head.mode, set) {
         Ok(terminal) => play_on(alloc, terminal, script, writer),
         Err(error) => refuse_set(alloc, writer, error),
     }

@@ -4,7 +4,7 @@ use Rattle.line_play.proofs.opening.new_terminal.Goals as goal
 
 pub returns-in-Ok-clause-refused : goal.returns-in-Ok-clause-refused
 returns-in-Ok-clause-refused g c two =
-    no_name _ c.in-Ok.set c.in-Err-of_set.error _ _ c.in-Ok.ensures.set c.in-Err-of_set.ensures.err (c.refuse_name.ensures.printed two)
+    no_name _ c.in-Ok.set c.in-Err-of_set_within.error _ _ c.in-Ok.ensures.set c.in-Err-of_set_within.ensures.err (c.refuse_name.ensures.printed two)
 
 pub returns-clause-refused : goal.returns-clause-refused
 returns-clause-refused g c two =

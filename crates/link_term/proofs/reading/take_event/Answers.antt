@@ -3,8 +3,8 @@ use Rattle.link_term.proofs.reading.take_event.Goals as goal
 
 pub returns-in-Unit-clause-taken : goal.returns-in-Unit-clause-taken
 returns-in-Unit-clause-taken c v left taken =
-    taken_unit c.args.event.now c.in-Unit.octets.items c.as_slice.result.now left c.args.processes.now c.take_octets.new.processes v c.in-Unit.is
-    c.as_slice.ensures.value c.take_octets.ensures.reads taken
+    taken_unit c.args.event.now c.in-Unit.octets.items c.as_slice.result.now left c.args.processes.now c.tell_counting.new.self c.take_octets.new.processes v c.in-Unit.is
+    c.as_slice.ensures.value c.tell_counting.ensures.processes c.take_octets.ensures.reads taken
 
 pub returns-in-Errored-clause-taken : goal.returns-in-Errored-clause-taken
 returns-in-Errored-clause-taken c v left taken =

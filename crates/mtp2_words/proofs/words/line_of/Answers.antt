@@ -8,23 +8,27 @@ use Rattle.mtp2_words.proofs.words.line_of.Goals as goal
 abbrev words : goal.After-line_end → LineWords
 words c = record {
   mode = c.in_ok-mode.mode;
-  orders = c.get_str-2.result;
-  reports = c.get_str-3.result;
-  bits = c.get_str-4.result;
-  ahead = c.get_str-5.result;
-  capture = c.get_str-6.result;
+  n1 = c.get_str-2.result;
+  n2 = c.get_str-3.result;
+  orders = c.get_str-4.result;
+  reports = c.get_str-5.result;
+  bits = c.get_str-6.result;
+  ahead = c.get_str-7.result;
+  capture = c.get_str-8.result;
   every = c.is_given.result;
 }
 
 under_ids : (c : goal.After-line_end) → AreUnderIds (given_by c.args.given.now) (words c)
 under_ids c = record {
   mode = sym c.in_ok-mode.ensures;
-  orders = sym c.get_str-2.ensures;
-  reports = sym c.get_str-3.ensures;
-  bits = sym c.get_str-4.ensures;
-  ahead = sym c.get_str-5.ensures;
-  capture = sym c.get_str-6.ensures;
-  every = ap says_true (sym c.get_str-7.ensures) ∙ sym c.is_given.ensures;
+  n1 = sym c.get_str-2.ensures;
+  n2 = sym c.get_str-3.ensures;
+  orders = sym c.get_str-4.ensures;
+  reports = sym c.get_str-5.ensures;
+  bits = sym c.get_str-6.ensures;
+  ahead = sym c.get_str-7.ensures;
+  capture = sym c.get_str-8.ensures;
+  every = ap says_true (sym c.get_str-9.ensures) ∙ sym c.is_given.ensures;
 }
 
 pub returns-clause-some : goal.returns-clause-some

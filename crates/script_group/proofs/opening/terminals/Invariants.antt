@@ -3,4 +3,4 @@ use Rattle.script_group.proofs.Openings.{AreSoFar}
 use Rattle.script_group.proofs.opening.terminals.Given as goal
 
 abbrev pub invariant-loop-made : goal.invariant-loop-made
-invariant-loop-made l = AreSoFar l.set l.head.mode l.made l.terminals.items
+invariant-loop-made l = AreSoFar l.set l.limits l.head.mode l.made l.terminals.items

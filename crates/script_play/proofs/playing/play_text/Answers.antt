@@ -21,7 +21,7 @@ returns-in-Ok-play_script_in-clause-held g c zero bytes keeps =
     let same : c.in-Ok.text.now ≡ bytes =
     c.in-Ok.ensures.cases.0 ∙ (c.deref-2.ensures.value ∙ all_kept bytes c.args.read.now keeps (sym c.is_too_long.ensures ∙ c.if-is_too_long.false)) in
     let R : List ℕ → Type 0 =
-    λ bs. IsObeyedAs c.args.echo (lines_of bs) c.args.set.now (plain_play_script c.in-Ok-play_script_in.script) (g.W.Write.contents c.args.writer.now)
+    λ bs. IsObeyedAs c.args.usual c.args.echo (lines_of bs) c.args.set.now (plain_play_script c.in-Ok-play_script_in.script) (g.W.Write.contents c.args.writer.now)
     (g.W.Write.contents c.run_script.new.writer) in
     record {
       utf8 = keeps.utf8.0 is_text;
@@ -48,7 +48,7 @@ returns-in-Ok-play_script_in-clause-missed g c one bytes keeps =
     let same : c.in-Ok.text.now ≡ bytes =
     c.in-Ok.ensures.cases.0 ∙ (c.deref-2.ensures.value ∙ all_kept bytes c.args.read.now keeps (sym c.is_too_long.ensures ∙ c.if-is_too_long.false)) in
     let R : List ℕ → Type 0 =
-    λ bs. IsMissedAs c.args.echo (lines_of bs) c.args.set.now (plain_play_script c.in-Ok-play_script_in.script) (g.W.Write.contents c.args.writer.now)
+    λ bs. IsMissedAs c.args.usual c.args.echo (lines_of bs) c.args.set.now (plain_play_script c.in-Ok-play_script_in.script) (g.W.Write.contents c.args.writer.now)
     (g.W.Write.contents c.run_script.new.writer) in
     record {
       utf8 = keeps.utf8.0 is_text;

@@ -1,7 +1,7 @@
 use Rattle.std.proofs.Common.{refl, arith}
 use Rattle.link_term.proofs.Cutting.{heard_from, heard_none}
 use Rattle.link_term.proofs.Losing.{took_heard, took_from, took_none}
-use Rattle.link_term.proofs.Quiet.{heard_part, some_taken}
+use Rattle.link_term.proofs.Quiet.{heard_part, heard_of, part_within, one_of, some_taken}
 use Rattle.link_term.proofs.Taking.{room_for, taken_from}
 use Rattle.link_term.proofs.terminal.Terminal.take_part.Goals as goal
 
@@ -11,15 +11,23 @@ take_events-requires c =
     (c.if-not-make_room.ensures.room refl) (c.if-not-make_room.ensures.tidied refl) c.as_slice.ensures.value
     (c.feed_until-taken.ensures.one c.self.invariant.0 c.self.invariant.1)
 
+pub returns-clause-most : goal.returns-clause-most
+returns-clause-most c = part_within c.args.octets.now c.next_part.result.now c.feed_until-taken.result.0 c.next_part.ensures.part c.feed_until-taken.ensures.most
+
 pub returns-clause-heard : goal.returns-clause-heard
 returns-clause-heard c =
     heard_from c.args.self.now _ _ _ c.self.view_is
-    (heard_part _ _ c.args.octets.now c.feed_until-taken.result.0 c.feed_until-taken.result.1.items c.requires c.feed_until-taken.ensures.most
+    (heard_of _ _ c.args.octets.now c.next_part.result.now c.feed_until-taken.result.0 c.next_part.ensures.part c.feed_until-taken.ensures.most
+    (heard_part _ _ c.take_events.new.processes c.next_part.result.now c.feed_until-taken.result.0 c.feed_until-taken.result.1.items c.is_counting.result
+    c.next_part.ensures.some c.feed_until-taken.ensures.most
+    (one_of c.next_part.result.now c.feed_until-taken.result.0 _ c.feed_until-taken.ensures.most c.next_part.ensures.one)
     c.feed_until-taken.ensures.all c.feed_until-taken.ensures.stands c.feed_until-taken.ensures.events c.feed_until-taken.ensures.before
+    c.is_counting.ensures
     (c.if-not-make_room.ensures.room refl)
     (taken_from c.as_slice.result.now c.feed_until-taken.result.1.items c.make_room.new.processes c.self.inside.processes c.take_events.new.processes
     c.as_slice.ensures.value (c.if-not-make_room.ensures.tidied refl) c.take_events.ensures)
-    refl)
+    c.tell_counting.ensures.processes
+    refl))
 
 pub returns-then-not-make_room-clause-heard : goal.returns-then-not-make_room-clause-heard
 returns-then-not-make_room-clause-heard c =
@@ -28,24 +36,28 @@ returns-then-not-make_room-clause-heard c =
 pub returns-clause-left : goal.returns-clause-left
 returns-clause-left c none =
     let least =
-    some_taken c.self.inside.line c.self.invariant.0 c.args.octets.now c.feed_until-taken.result.0 c.feed_until-taken.result.1.items
-    c.self.invariant.1 c.requires c.feed_until-taken.ensures.all c.feed_until-taken.ensures.before in
+    some_taken c.self.inside.line c.self.invariant.0 c.next_part.result.now c.feed_until-taken.result.0 c.feed_until-taken.result.1.items
+    c.self.invariant.1 c.next_part.ensures.some c.feed_until-taken.ensures.all c.feed_until-taken.ensures.before in
     let f : ⊥ = omega (arith, none, least) in absurd f
 
 pub returns-clause-stops : goal.returns-clause-stops
 returns-clause-stops c none =
     let least =
-    some_taken c.self.inside.line c.self.invariant.0 c.args.octets.now c.feed_until-taken.result.0 c.feed_until-taken.result.1.items
-    c.self.invariant.1 c.requires c.feed_until-taken.ensures.all c.feed_until-taken.ensures.before in
+    some_taken c.self.inside.line c.self.invariant.0 c.next_part.result.now c.feed_until-taken.result.0 c.feed_until-taken.result.1.items
+    c.self.invariant.1 c.next_part.ensures.some c.feed_until-taken.ensures.all c.feed_until-taken.ensures.before in
     let f : ⊥ = omega (arith, none, least) in absurd f
 
 pub returns-clause-took : goal.returns-clause-took
 returns-clause-took c =
-    let part = heard_part _ _ c.args.octets.now c.feed_until-taken.result.0 c.feed_until-taken.result.1.items c.requires c.feed_until-taken.ensures.most
+    let part = heard_part _ _ c.take_events.new.processes c.next_part.result.now c.feed_until-taken.result.0 c.feed_until-taken.result.1.items
+    c.is_counting.result c.next_part.ensures.some c.feed_until-taken.ensures.most
+    (one_of c.next_part.result.now c.feed_until-taken.result.0 _ c.feed_until-taken.ensures.most c.next_part.ensures.one)
     c.feed_until-taken.ensures.all c.feed_until-taken.ensures.stands c.feed_until-taken.ensures.events c.feed_until-taken.ensures.before
+    c.is_counting.ensures
     (c.if-not-make_room.ensures.room refl)
     (taken_from c.as_slice.result.now c.feed_until-taken.result.1.items c.make_room.new.processes c.self.inside.processes c.take_events.new.processes
     c.as_slice.ensures.value (c.if-not-make_room.ensures.tidied refl) c.take_events.ensures)
+    c.tell_counting.ensures.processes
     refl in
     took_from c.args.self.now _ _ c.self.view_is (took_heard c.unacknowledged_messages_stay.ensures _ _ c.self.invariant.0 _ c.self.invariant.1 part)
 

@@ -1,0 +1,48 @@
+-- Limits of forced retransmission (Q.703, 6.4), by words.
+use Rattle.std.specs.Prelude.{ℕ, List, Option, Some, None, option_map, option_and_then}
+use Rattle.std.specs.Int.{is_in_range}
+use Rattle.std.specs.Prelude.{if◌then◌else◌}
+use Rattle.resend_store.specs.Limits.{N1, N2, LEAST_N2}
+use Rattle.resend_store.specs.Messages.{usual_limits}
+use Rattle.resend_store.specs.declared.messages.Mode.{Mode}
+use Rattle.resend_store.specs.declared.messages.Mode.TheVariants.{Basic, Cyclic}
+use Rattle.resend_store.specs.declared.messages.RoundLimits.{RoundLimits}
+use Rattle.script_lines.specs.Numbers.{count_of}
+use Rattle.mtp2_words.specs.declared.words.Named.{Named}
+use Rattle.mtp2_words.specs.declared.words.Named.TheVariants.{Standard, Q703, Monitors, Stdin, File}
+
+-- N2 of the set `q703`, where nothing else is chosen
+abbrev pub Q703_OCTETS : ℕ
+Q703_OCTETS = 3000
+
+-- the limits over a set where none are chosen
+abbrev pub usual_limits_of : Named → RoundLimits
+usual_limits_of Standard = usual_limits
+usual_limits_of Q703 = record { messages = N1; octets = Q703_OCTETS }
+usual_limits_of Monitors = usual_limits
+usual_limits_of Stdin = usual_limits
+usual_limits_of (File path) = usual_limits
+
+-- a number in a range
+abbrev pub within : ℕ → ℕ → ℕ → Option ℕ
+within least most n = if is_in_range least most n then Some n else None
+
+-- how many messages: a count, 1 to N1
+abbrev pub messages_named : List ℕ → Option ℕ
+messages_named word = option_and_then (within 1 N1) (count_of word)
+
+-- how many octets: a count, LEAST_N2 to N2
+abbrev pub octets_named : List ℕ → Option ℕ
+octets_named word = option_and_then (within LEAST_N2 N2) (count_of word)
+
+-- what a word chooses, if there is one; basic error correction has nothing to choose
+abbrev pub chosen_by : (List ℕ → Option ℕ) → Mode → Option (List ℕ) → Option (Option ℕ)
+chosen_by named mode None = Some None
+chosen_by named Basic (Some word) = None
+chosen_by named Cyclic (Some word) = option_map Some (named word)
+
+abbrev pub messages_of : Mode → Option (List ℕ) → Option (Option ℕ)
+messages_of mode word = chosen_by messages_named mode word
+
+abbrev pub octets_of : Mode → Option (List ℕ) → Option (Option ℕ)
+octets_of mode word = chosen_by octets_named mode word

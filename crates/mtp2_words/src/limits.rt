@@ -1,0 +1,83 @@
+//! Limits of forced retransmission, by words.
+ghost use Rattle.std.specs.Prelude.{◌≡◌, option_map};
+ghost use Rattle.mtp2_words.specs.Limits.{usual_limits_of, messages_named, messages_of, octets_named, octets_of};
+
+use crate::words::Named;
+use resend_store::{
+    FORCED_MESSAGES, FORCED_OCTETS, LEAST_FORCED_OCTETS, Mode, RoundLimits, USUAL_LIMITS,
+};
+use script_lines::count;
+
+/// With how many unacknowledged octets cyclic retransmission is forced over the set `q703` where nothing else is chosen. On a full line these last
+/// less long than the far side may take to acknowledge a message.
+const Q703_OCTETS: u16 = 3_000;
+
+impl Named<'_> {
+    /// The limits of forced retransmission over this set, where none are chosen.
+    pub fn usual_limits(&self) -> RoundLimits
+        ensures { result ≡ usual_limits_of self.now }
+    {
+        match self {
+            Named::Q703 => RoundLimits {
+                messages: USUAL_LIMITS.messages,
+                octets: Q703_OCTETS,
+            },
+            Named::Standard | Named::Monitors | Named::Stdin | Named::File(_) => USUAL_LIMITS,
+        }
+    }
+}
+
+/// How many messages a word says, 1 to 127.
+fn messages_named(word: &str) -> Option<u8>
+    ensures { result ≡ messages_named word.now }
+{
+    match count(word) {
+        Some(number) if 1 <= number && number as usize <= FORCED_MESSAGES => Some(number as u8),
+        _ => None,
+    }
+}
+
+/// How many messages are chosen, by the word for it: none or some, which basic error correction hasn't.
+pub(crate) fn messages_of(mode: Mode, word: Option<&str>) -> Option<Option<u8>>
+    ensures { result ≡ messages_of mode (option_map (λ w. w.now) word.entry) }
+{
+    match word {
+        Some(word) => match mode {
+            Mode::Cyclic => match messages_named(word) {
+                Some(messages) => Some(Some(messages)),
+                None => None,
+            },
+            Mode::Basic => None,
+        },
+        None => Some(None),
+    }
+}
+
+/// How many octets a word says, 300 to 8,192.
+fn octets_named(word: &str) -> Option<u16>
+    ensures { result ≡ octets_named word.now }
+{
+    match count(word) {
+        Some(number)
+            if LEAST_FORCED_OCTETS <= number as usize && number as usize <= FORCED_OCTETS => {
+            Some(number as u16)
+        }
+        _ => None,
+    }
+}
+
+/// How many octets are chosen, by the word for it: none or some, which basic error correction hasn't.
+pub(crate) fn octets_of(mode: Mode, word: Option<&str>) -> Option<Option<u16>>
+    ensures { result ≡ octets_of mode (option_map (λ w. w.now) word.entry) }
+{
+    match word {
+        Some(word) => match mode {
+            Mode::Cyclic => match octets_named(word) {
+                Some(octets) => Some(Some(octets)),
+                None => None,
+            },
+            Mode::Basic => None,
+        },
+        None => Some(None),
+    }
+}
