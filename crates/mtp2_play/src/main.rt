@@ -67,9 +67,7 @@ fn run<
 {
     match request {
         Request::Check { sets } => run_checks(rt, teller, sets, writer),
-        Request::Play { set, script, seen } => {
-            run_play(rt, teller, *set, *script, seen, writer)
-        }
+        Request::Play { set, script, seen } => { run_play(rt, teller, *set, *script, seen, writer) }
         Request::Soak { script, workers } => run_soak(rt, teller, *script, *workers, writer),
         Request::Line { set, end } => run_line(host, teller, set, end, reader, writer),
         Request::Frame { octets } => frame(rt.alloc(), octets, writer),

@@ -117,7 +117,16 @@ fn play_own<R: Runtime + AllocGlobal, H: Eprint, F: Write, W: Write>(
 {
     let usual = set.usual_limits();
     match own_set(&set) {
-        Some(own) => play_source(rt, teller, own, usual, set_word(&set), script, watch, writer),
+        Some(own) => play_source(
+            rt,
+            teller,
+            own,
+            usual,
+            set_word(&set),
+            script,
+            watch,
+            writer,
+        ),
         None => FAILED,
     }
 }

@@ -87,7 +87,9 @@ fn trace_script<W: Write, T: Write, E: Write>(
 {
     match script {
         PlayScript::Other(script) => {
-            trace_other(alloc, set, usual, script, text, every, trace, writer, errors)
+            trace_other(
+                alloc, set, usual, script, text, every, trace, writer, errors,
+            )
         }
         PlayScript::Group(_) => lacks_trace(alloc, errors),
     }
@@ -124,7 +126,9 @@ fn trace_text<W: Write, T: Write, E: Write>(
     }
     match str::from_utf8(&read.kept) {
         Ok(text) => match play_script_in(alloc, text) {
-            Ok(script) => trace_script(alloc, set, usual, &script, text, every, trace, writer, errors),
+            Ok(script) => trace_script(
+                alloc, set, usual, &script, text, every, trace, writer, errors,
+            ),
             Err(fault) => {
                 explain(alloc, text, fault, errors);
                 refuse_script(alloc, writer, fault)
