@@ -1,2 +1,6 @@
 mod Showings
+mod Steps
+mod Tellings
+mod Tracings
 mod ShownRuns
+mod TracedRuns

@@ -8,3 +8,6 @@ pub use Rattle.script_group.specs.GroupRuns
 pub use Rattle.script_group.specs.Lines
 pub use Rattle.script_group.specs.Played
 pub use Rattle.script_group.specs.TermRuns
+pub use Rattle.script_links.specs.GroupScripts
+pub use Rattle.script_links.specs.TermScripts
+pub use Rattle.script_links.specs.resend_store_types

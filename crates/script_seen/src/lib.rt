@@ -18,6 +18,7 @@ pub use groups::show_group;
 pub use script_group::{
     FAILED, OpenError, play_book, play_group, play_terminal, refuse, refuse_set, write_line,
 };
+pub use script_links::{AnyScript, PlayScript, RoundLimits, play_fault, play_script_in};
 pub use terminals::show_terminal;
 pub use traced_books::trace_book;
 pub use traced_terminals::trace_terminal;

@@ -1,13 +1,12 @@
 //! What turns make of timers.
-ghost use Rattle.std.specs.Prelude.{◌≡◌, ◌<◌, ℕ, OnOk, IfSome};
-ghost use Rattle.plain_limits.specs.Limits.{MOST_ACTORS, MOST_TIMERS_EACH};
+ghost use Rattle.std.specs.Prelude.{◌≡◌, IfOk, OnOk};
 ghost use Rattle.tick_wheel.specs.Turning.{timers_of};
-ghost use Rattle.actor_machine.specs.Effects.{delay, without_timers, timer_of};
+ghost use Rattle.actor_machine.specs.Effects.{delay, without, without_timers, timers_after, timer_of};
 ghost use Rattle.script_seen.specs.Following.{timers_by, timers_laid};
 
 use std::io::{self, ErrorKind};
 use tick_wheel::{Timer, Wheel};
-use turn_code::{Effect, TimerNumber};
+use turn_code::{Effect, End, TimerNumber};
 
 /// How many actors a link has at most.
 const ACTORS: u16 = 128;
@@ -15,7 +14,7 @@ const ACTORS: u16 = 128;
 /// How many timers a process has at most.
 const TIMERS: u8 = 8;
 
-/// The timer of an actor; none where there is no such timer.
+/// The timer of an actor; an error where there is no such timer.
 fn timer_of(actor: u16, number: u8) -> io::Result<Timer>
     ensures { IfOk result (λ t. t ≡ timer_of actor number) }
 {
@@ -64,7 +63,7 @@ fn lay(wheel: &mut Wheel, actor: u16, effect: &Effect) -> io::Result<()>
 }
 
 /// What the effects of an actor's turn make of timers.
-pub(crate) fn lay_all(wheel: &mut Wheel, actor: u16, effects: &[Effect]) -> io::Result<()>
+fn lay_all(wheel: &mut Wheel, actor: u16, effects: &[Effect]) -> io::Result<()>
     ensures { OnOk result (timers_of wheel.new ≡ timers_laid actor (timers_of wheel.old) effects.now) }
 {
     for effect in effects {
@@ -74,11 +73,28 @@ pub(crate) fn lay_all(wheel: &mut Wheel, actor: u16, effects: &[Effect]) -> io::
 }
 
 /// No timer of an actor is active.
-pub(crate) fn stop_timers(wheel: &mut Wheel, actor: u16) -> io::Result<()>
+#[tactic(auto, unfolding(actor_machine::specs::Effects::without_timers))]
+fn stop_timers(wheel: &mut Wheel, actor: u16) -> io::Result<()>
     ensures { OnOk result (timers_of wheel.new ≡ without_timers (timers_of wheel.old) actor) }
 {
     for number in 0..TIMERS {
         reset_timer(wheel, actor, number)?;
     }
     Ok(())
+}
+
+/// What a turn of an actor makes of timers, by its effects and by how it ends.
+pub(crate) fn keep_time(
+    wheel: &mut Wheel,
+    actor: u16,
+    effects: &[Effect],
+    end: End,
+) -> io::Result<()>
+    ensures { OnOk result (timers_of wheel.new ≡ timers_after end (timers_laid actor (timers_of wheel.old) effects.now) actor) }
+{
+    lay_all(wheel, actor, effects)?;
+    match end {
+        End::State(_) => Ok(()),
+        End::Stop => stop_timers(wheel, actor),
+    }
 }

@@ -5,7 +5,7 @@ ghost use Rattle.actor_machine.specs.Kept.{opened_book};
 ghost use Rattle.script_lines.specs.Lines.{plain_line, lines_of};
 ghost use Rattle.script_links.specs.TermCommands.{plain_term_command};
 ghost use Rattle.script_links.specs.TermScripts.{PlainTermSaid, plain_term_said, asks_told};
-ghost use Rattle.script_group.specs.Opening.{PORT, ENVIRONMENT, JOURNAL};
+ghost use Rattle.plain_limits.specs.Limits.{MOST_PORT, MOST_ENVIRONMENT, MOST_JOURNAL};
 ghost use Rattle.script_group.specs.Term.{Term};
 ghost use Rattle.script_group.specs.TermRuns.{last_of, IsTermRun, IsTermWritten, IsTermMissed, IsTermFailed, IsTermMissedBy, IsOfNew, LacksName};
 ghost use Rattle.script_seen.specs.Traced.{IsFront};
@@ -134,7 +134,7 @@ fn trace_each<W: Write, T: Write>(
 /// The tracer of a terminal over a set.
 fn open_tracer(alloc: Global, set: &Verified, every: bool) -> Result<Tracer, AllocError>
     ensures every { IfOk result (λ t. t.every ≡ every) }
-    ensures start { IfOk result (IsAtStart (opened_book set.now PORT ENVIRONMENT JOURNAL)) }
+    ensures start { IfOk result (IsAtStart (opened_book set.now MOST_PORT MOST_ENVIRONMENT MOST_JOURNAL)) }
 {
     match Limits::new(PORT, ENVIRONMENT, JOURNAL) {
         Some(limits) => new_tracer(alloc, set, limits, every),
@@ -157,9 +157,9 @@ fn trace_on<W: Write, T: Write>(
         → IsTermWritten (map plain_term_said script.now.commands.items) (W.contents writer.old) (W.contents writer.new) terminal) }
     ensures missed { IfOk result (λ status. status ≡ 1
         → IsTermFailed (map plain_term_said script.now.commands.items) (W.contents writer.old) (W.contents writer.new) terminal) }
-    ensures traced { IfOk result (λ status. status ≡ 0 → book_in terminal ≡ opened_book set.now PORT ENVIRONMENT JOURNAL
+    ensures traced { IfOk result (λ status. status ≡ 0 → book_in terminal ≡ opened_book set.now MOST_PORT MOST_ENVIRONMENT MOST_JOURNAL
         → IsTermTraced every (asks_told (map plain_term_said script.now.commands.items)) (lines_of text.now) terminal (map plain_term_said script.now.commands.items) (T.contents trace.old) (T.contents trace.new)) }
-    ensures in_part { IfOk result (λ status. status ≡ 1 → book_in terminal ≡ opened_book set.now PORT ENVIRONMENT JOURNAL
+    ensures in_part { IfOk result (λ status. status ≡ 1 → book_in terminal ≡ opened_book set.now MOST_PORT MOST_ENVIRONMENT MOST_JOURNAL
         → IsTermTracedInPart every (asks_told (map plain_term_said script.now.commands.items)) (lines_of text.now) terminal (map plain_term_said script.now.commands.items) (T.contents trace.old) (T.contents trace.new)) }
     ensures status { IfOk result (λ status. (status ≡ 0) ⊎ (status ≡ 1)) }
 {

@@ -12,7 +12,7 @@ ghost use Rattle.script_seen.specs.Traced.{since};
 ghost use Rattle.script_seen.specs.Following.{IsStep, Agree, IsFollowed, IsCaughtUp, IsEnded};
 
 use crate::events::{due_text, offer_text, skip_text};
-use crate::timing::{lay_all, stop_timers};
+use crate::timing::keep_time;
 use crate::turns::{Ended, turn_text};
 use actor_book::{Book, Limits};
 use actor_machine::{Event, Offer};
@@ -20,7 +20,6 @@ use std::alloc::{AllocError, Global};
 use std::io::{self, ErrorKind, Write};
 use tick_wheel::Wheel;
 use turn_check::Verified;
-use turn_code::End;
 use turn_machine::run;
 
 /// A book to which the same happens as to another one, with timers of its own; whether skips and dull turns are told.
@@ -108,10 +107,7 @@ impl Tracer {
         let Ok(report) = self.again.finish(done.copy()) else {
             return Err(lost());
         };
-        lay_all(&mut self.wheel, actor, done.effects())?;
-        if report.end == End::Stop {
-            stop_timers(&mut self.wheel, actor)?;
-        }
+        keep_time(&mut self.wheel, actor, done.effects(), report.end)?;
         Ok(Ended {
             clock,
             me,
