@@ -21,47 +21,58 @@ use Rattle.script_seen.specs.GroupRuns.{IsOfNewSet, IsGroupWritten, IsGroupMisse
 -- all commands of a script were obeyed, and their lines written: by a book of the set, or by a new
 -- terminal over it, whose cyclic retransmission is forced within the usual limits where the script
 -- chooses none
-abbrev pub IsOtherObeyed : RoundLimits → Draft → PlainAnyScript → Option (List ℕ) → Option (List ℕ) → Type 0
+abbrev pub IsOtherObeyed :
+    RoundLimits → Draft → PlainAnyScript → Option (List ℕ) → Option (List ℕ) → Type 0
 IsOtherObeyed usual d (book s) old new = IsWritten (first_book d s.settings) s.commands old new
-IsOtherObeyed usual d (terminal s) old new = IsOfNew d usual s.head (IsTermWritten s.commands old new)
+IsOtherObeyed usual d (terminal s) old new =
+    IsOfNew d usual s.head (IsTermWritten s.commands old new)
 
 -- or by a set of links with such terminals
-abbrev pub IsObeyed : RoundLimits → Draft → PlainPlayScript → Option (List ℕ) → Option (List ℕ) → Type 0
+abbrev pub IsObeyed :
+    RoundLimits → Draft → PlainPlayScript → Option (List ℕ) → Option (List ℕ) → Type 0
 IsObeyed usual d (other s) old new = IsOtherObeyed usual d s old new
 IsObeyed usual d (group s) old new = IsOfNewSet d usual s.head (IsGroupWritten s.commands old new)
 
 -- an expectation of a script failed behind commands that were obeyed
-abbrev pub IsOtherMissed : RoundLimits → Draft → PlainAnyScript → Option (List ℕ) → Option (List ℕ) → Type 0
+abbrev pub IsOtherMissed :
+    RoundLimits → Draft → PlainAnyScript → Option (List ℕ) → Option (List ℕ) → Type 0
 IsOtherMissed usual d (book s) old new = IsMissed (first_book d s.settings) s.commands old new
-IsOtherMissed usual d (terminal s) old new = IsOfNew d usual s.head (IsTermFailed s.commands old new)
+IsOtherMissed usual d (terminal s) old new =
+    IsOfNew d usual s.head (IsTermFailed s.commands old new)
 
-abbrev pub IsMissedIn : RoundLimits → Draft → PlainPlayScript → Option (List ℕ) → Option (List ℕ) → Type 0
+abbrev pub IsMissedIn :
+    RoundLimits → Draft → PlainPlayScript → Option (List ℕ) → Option (List ℕ) → Type 0
 IsMissedIn usual d (other s) old new = IsOtherMissed usual d s old new
 IsMissedIn usual d (group s) old new = IsOfNewSet d usual s.head (IsGroupMissed s.commands old new)
 
 -- ---- with each command's line in front of what it prints
 
 abbrev pub IsOtherShown :
-    RoundLimits → List PlainLine → Draft → PlainAnyScript → Option (List ℕ) → Option (List ℕ) → Type 0
+    RoundLimits → List PlainLine → Draft → PlainAnyScript → Option (List ℕ) → Option (List ℕ)
+    → Type 0
 IsOtherShown usual lines d (book s) old new =
     IsBookShown lines (first_book d s.settings) s.commands old new
 IsOtherShown usual lines d (terminal s) old new =
     IsOfNew d usual s.head (IsTermShown lines s.commands old new)
 
 abbrev pub AreShown :
-    RoundLimits → List PlainLine → Draft → PlainPlayScript → Option (List ℕ) → Option (List ℕ) → Type 0
+    RoundLimits → List PlainLine → Draft → PlainPlayScript → Option (List ℕ) → Option (List ℕ)
+    → Type 0
 AreShown usual lines d (other s) old new = IsOtherShown usual lines d s old new
-AreShown usual lines d (group s) old new = IsOfNewSet d usual s.head (IsGroupShown lines s.commands old new)
+AreShown usual lines d (group s) old new =
+    IsOfNewSet d usual s.head (IsGroupShown lines s.commands old new)
 
 abbrev pub IsOtherShownMissed :
-    RoundLimits → List PlainLine → Draft → PlainAnyScript → Option (List ℕ) → Option (List ℕ) → Type 0
+    RoundLimits → List PlainLine → Draft → PlainAnyScript → Option (List ℕ) → Option (List ℕ)
+    → Type 0
 IsOtherShownMissed usual lines d (book s) old new =
     IsBookShownMissed lines (first_book d s.settings) s.commands old new
 IsOtherShownMissed usual lines d (terminal s) old new =
     IsOfNew d usual s.head (IsTermShownMissed lines s.commands old new)
 
 abbrev pub AreShownMissed :
-    RoundLimits → List PlainLine → Draft → PlainPlayScript → Option (List ℕ) → Option (List ℕ) → Type 0
+    RoundLimits → List PlainLine → Draft → PlainPlayScript → Option (List ℕ) → Option (List ℕ)
+    → Type 0
 AreShownMissed usual lines d (other s) old new = IsOtherShownMissed usual lines d s old new
 AreShownMissed usual lines d (group s) old new =
     IsOfNewSet d usual s.head (IsGroupShownMissed lines s.commands old new)

@@ -18,7 +18,8 @@ abbrev pub IsOtherTraced :
 IsOtherTraced usual every lines d (book s) old new =
     IsBookTraced every lines (first_book d s.settings) s.commands old new
 IsOtherTraced usual every lines d (terminal s) old new =
-    IsOfNew d usual s.head (λ t. IsTermTraced every (asks_told s.commands) lines t s.commands old new)
+    IsOfNew d usual s.head
+    (λ t. IsTermTraced every (asks_told s.commands) lines t s.commands old new)
 
 -- a script of a link set has no trace
 abbrev pub AreTraced :
@@ -40,7 +41,8 @@ IsOtherTracedInPart usual every lines d (terminal s) old new =
 abbrev pub AreTracedInPart :
     RoundLimits → Bool → List PlainLine → Draft → PlainPlayScript → Option (List ℕ)
     → Option (List ℕ) → Type 0
-AreTracedInPart usual every lines d (other s) old new = IsOtherTracedInPart usual every lines d s old new
+AreTracedInPart usual every lines d (other s) old new =
+    IsOtherTracedInPart usual every lines d s old new
 AreTracedInPart usual every lines d (group s) old new = ⊥
 
 -- the bytes are a script, all of whose commands are traced

@@ -1,4 +1,5 @@
 mod Showings
+mod Items
 mod Steps
 mod Tellings
 mod Tracings

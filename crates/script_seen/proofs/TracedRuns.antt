@@ -1,5 +1,5 @@
 -- What is traced of a run of each kind of script, one command more.
-use Rattle.std.proofs.Common.{◌≡◌, ℕ, Bool, ◌+◌, ◌<◌, ◌≤◌, List, [], ◌∷◌, ◌++◌, length, map, take, drop, get_or, Option, None, Some, refl, sym, ap, subst}
+use Rattle.std.proofs.Common.{◌≡◌, ℕ, Bool, true, ◌+◌, ◌<◌, ◌≤◌, List, [], ◌∷◌, ◌++◌, length, map, take, drop, get_or, Option, None, Some, refl, sym, ap, subst}
 use Rattle.std.proofs.KnownBytes.{Appends-nil}
 use Rattle.actor_machine.specs.Ledger.{Ledger, next, state_of}
 use Rattle.script_lines.specs.Lines.{PlainLine}
@@ -11,10 +11,10 @@ use Rattle.script_group.specs.Term.{Term}
 use Rattle.script_group.specs.Played.{begins as book_begins, IsRun, IsWritten, IsMissed, IsMissedBy}
 use Rattle.script_group.specs.TermRuns.{begins as term_begins, IsTermRun, IsTermMissed, IsTermMissedBy}
 use Rattle.script_seen.specs.Kinds.{book_line, term_line}
-use Rattle.script_seen.specs.Traced.{since}
+use Rattle.script_seen.specs.Traced.{since, are_in_step}
 use Rattle.script_seen.specs.Following.{IsFollowed}
-use Rattle.script_seen.specs.TracedKinds.{IsAtStart, book_asks, BookBehind, BookTracing, IsBookTraced, IsBookTracedInPart}
-use Rattle.script_seen.specs.TracedKinds.{term_asks, book_in, TermBehind, TermTracing, IsTermTraced, IsTermTracedInPart}
+use Rattle.script_seen.specs.TracedKinds.{IsAtStart, book_asks, BookBehind, BookMisses, BookTracing, IsBookTraced, IsBookTracedInPart}
+use Rattle.script_seen.specs.TracedKinds.{term_asks, book_in, TermBehind, TermMisses, TermTracing, IsTermTraced, IsTermTracedInPart}
 use Rattle.script_seen.specs.declared.tracing.Tracer.{Tracer}
 use Rattle.script_seen.proofs.Showings.{one_more, parts_at, all_taken}
 use Rattle.script_seen.proofs.Tracings.{HasFrontOf, tracing_begins, tracing_more, is_traced}
@@ -46,9 +46,10 @@ book_behind b commands first now book last run = record { lines = run.lines; las
 -- one command more
 pub book_traced : (lines : List PlainLine) (b : Ledger) (before : List PlainSaid) (said : PlainSaid) (begun old mid new : Option (List ℕ)) (book : Ledger)
     (t u : Tracer) → BookTracing lines b before begun old t → HasFrontOf (book_asks said) lines said.line old mid → BookBehind b (before ++ said ∷ []) book
-    → book.first ≤ next t.again → IsFollowed t (since (next t.again) book) u mid new → BookTracing lines b (before ++ said ∷ []) begun new u
-book_traced lines b before said begun old mid new book t u s f behind within followed =
-    tracing_more lines book_line book_asks b.set (state_of b) (BookBehind b) before said begun old mid new book t u s f behind within followed
+    → book.first ≤ next t.again → IsFollowed t (since (next t.again) book) u mid new → are_in_step (state_of u.again) (state_of book) ≡ true
+    → BookTracing lines b (before ++ said ∷ []) begun new u
+book_traced lines b before said begun old mid new book t u s f behind within followed in_step =
+    tracing_more lines book_line book_asks b.set (state_of b) (BookBehind b) before said begun old mid new book t u s f behind within followed in_step
 
 pub book_goes_on : (lines : List PlainLine) (b : Ledger) (items : List Said) (i : ℕ) (x : Said) (last first now begun traced : Option (List ℕ)) (book : Ledger)
     (latest : Option (List ℕ)) (t u : Tracer) → i < length items → x ≡ get_or items i x
@@ -86,16 +87,22 @@ pub book_traced_all : (every : Bool) (lines : List PlainLine) (b : Ledger) (comm
 book_traced_all every lines b commands begun now u same s =
     is_traced every lines book_line book_asks b.set (state_of b) (BookBehind b) commands begun now u same s
 
+pub book_misses_at : (b : Ledger) (commands : List PlainSaid) (said : PlainSaid) (first middle now : Option (List ℕ)) (book : Ledger) (last : Option (List ℕ))
+    → IsRun b commands first middle book last → IsMissedBy said last middle now → BookMisses b commands said
+book_misses_at b commands said first middle now book last run missed =
+    record { lines = run.lines; now = book; last = last; goes = run.goes; text = missed.text; expects = missed.expects; other = missed.other }
+
 pub book_traced_part : (every : Bool) (lines : List PlainLine) (b : Ledger) (items : List Said) (i : ℕ) (x : Said) (begun now new : Option (List ℕ)) (u : Tracer)
-    → i < length items → x ≡ get_or items i x → u.every ≡ every → new ≡ now → BookTracing lines b (map plain_said (take i items)) begun now u
-    → IsBookTracedInPart every lines b (map plain_said items) begun new
-book_traced_part every lines b items i x begun now new u within is same stays s =
+    → i < length items → x ≡ get_or items i x → u.every ≡ every → new ≡ now → BookMisses b (map plain_said (take i items)) (plain_said x)
+    → BookTracing lines b (map plain_said (take i items)) begun now u → IsBookTracedInPart every lines b (map plain_said items) begun new
+book_traced_part every lines b items i x begun now new u within is same stays missed s =
     let P : Option (List ℕ) → Type 0 = λ o. IsBookTraced every lines b (map plain_said (take i items)) begun o in
     record {
       before = map plain_said (take i items);
       said = plain_said x;
       after = map plain_said (drop (i + 1) items);
       stands = parts_at plain_said items i x within is;
+      missed = missed;
       traced = subst P (sym stays) (book_traced_all every lines b (map plain_said (take i items)) begun now u same s);
     }
 
@@ -129,10 +136,10 @@ term_behind keeps t commands first now term last book is run = record { lines = 
 pub term_traced : (keeps : Bool) (lines : List PlainLine) (t : Term) (before : List PlainTermSaid) (said : PlainTermSaid) (begun old mid new : Option (List ℕ))
     (book : Ledger) (from to : Tracer) → TermTracing keeps lines t before begun old from → HasFrontOf (term_asks said) lines said.line old mid
     → TermBehind keeps t (before ++ said ∷ []) book → book.first ≤ next from.again → IsFollowed from (since (next from.again) book) to mid new
-    → TermTracing keeps lines t (before ++ said ∷ []) begun new to
-term_traced keeps lines t before said begun old mid new book from to s f behind within followed =
+    → are_in_step (state_of to.again) (state_of book) ≡ true → TermTracing keeps lines t (before ++ said ∷ []) begun new to
+term_traced keeps lines t before said begun old mid new book from to s f behind within followed in_step =
     tracing_more lines term_line term_asks (book_in t).set (state_of (book_in t)) (TermBehind keeps t) before said begun old mid new book from to s f behind within
-    followed
+    followed in_step
 
 pub term_goes_on : (keeps : Bool) (lines : List PlainLine) (t : Term) (items : List TermSaid) (i : ℕ) (x : TermSaid)
     (last first now begun traced : Option (List ℕ)) (term : Term) (latest : Option (List ℕ)) (from to : Tracer) → i < length items → x ≡ get_or items i x
@@ -170,16 +177,22 @@ pub term_traced_all : (every keeps : Bool) (lines : List PlainLine) (t : Term) (
 term_traced_all every keeps lines t commands begun now tracer same s =
     is_traced every lines term_line term_asks (book_in t).set (state_of (book_in t)) (TermBehind keeps t) commands begun now tracer same s
 
+pub term_misses_at : (keeps : Bool) (t : Term) (commands : List PlainTermSaid) (said : PlainTermSaid) (first middle now : Option (List ℕ)) (term : Term)
+    (last : Option (List ℕ)) → IsTermRun keeps t commands first middle term last → IsTermMissedBy said last middle now → TermMisses keeps t commands said
+term_misses_at keeps t commands said first middle now term last run missed =
+    record { lines = run.lines; now = term; last = last; goes = run.goes; text = missed.text; expects = missed.expects; other = missed.other }
+
 pub term_traced_part : (every keeps : Bool) (lines : List PlainLine) (t : Term) (items : List TermSaid) (i : ℕ) (x : TermSaid) (begun now new : Option (List ℕ))
     (tracer : Tracer) → i < length items → x ≡ get_or items i x → tracer.every ≡ every → new ≡ now
-    → TermTracing keeps lines t (map plain_term_said (take i items)) begun now tracer
+    → TermMisses keeps t (map plain_term_said (take i items)) (plain_term_said x) → TermTracing keeps lines t (map plain_term_said (take i items)) begun now tracer
     → IsTermTracedInPart every keeps lines t (map plain_term_said items) begun new
-term_traced_part every keeps lines t items i x begun now new tracer within is same stays s =
+term_traced_part every keeps lines t items i x begun now new tracer within is same stays missed s =
     let P : Option (List ℕ) → Type 0 = λ o. IsTermTraced every keeps lines t (map plain_term_said (take i items)) begun o in
     record {
       before = map plain_term_said (take i items);
       said = plain_term_said x;
       after = map plain_term_said (drop (i + 1) items);
       stands = parts_at plain_term_said items i x within is;
+      missed = missed;
       traced = subst P (sym stays) (term_traced_all every keeps lines t (map plain_term_said (take i items)) begun now tracer same s);
     }

@@ -1,5 +1,5 @@
 -- What is traced of commands, one command more.
-use Rattle.std.proofs.Common.{◌≡◌, ◌∙◌, ℕ, ◌+◌, ◌≤◌, Bool, List, [], ◌∷◌, ◌++◌, length, Option, refl, sym, ap, subst}
+use Rattle.std.proofs.Common.{◌≡◌, ◌∙◌, ℕ, ◌+◌, ◌≤◌, Bool, true, List, [], ◌∷◌, ◌++◌, length, Option, refl, sym, ap, subst}
 use Rattle.std.specs.Io.KnownBytes.{Appends}
 use Rattle.std.proofs.KnownBytes.{Appends-nil, Appends-trans}
 use Rattle.turn_code.specs.declared.draft.Draft.{Draft}
@@ -7,7 +7,7 @@ use Rattle.tick_wheel.specs.Timers.{Timers}
 use Rattle.actor_machine.specs.Core.{Core}
 use Rattle.actor_machine.specs.Ledger.{Ledger, runs, replay, next, state_of}
 use Rattle.script_lines.specs.Lines.{PlainLine}
-use Rattle.script_seen.specs.Traced.{since, told_text, IsFront, Traces, begins, more, IsAt, IsTracing, IsTraced}
+use Rattle.script_seen.specs.Traced.{since, told_text, are_in_step, IsFront, Traces, begins, more, IsAt, IsTracing, IsTraced}
 use Rattle.script_seen.specs.Following.{Agree, IsFollowed}
 use Rattle.script_seen.specs.declared.tracing.Tracer.{Tracer}
 
@@ -44,20 +44,21 @@ has_front_of asks lines number old new f = record { front = f.0; is_front = f.1;
 pub tracing_more : {S : Type 0} (lines : List PlainLine) (line : S → ℕ) (asks : S → Bool) (d : Draft) (first : Core) (B : List S → Ledger → Type 0)
     (commands : List S) (said : S) (begun old mid new : Option (List ℕ)) (b : Ledger) (t u : Tracer)
     → IsTracing lines line asks d first B commands begun old t → HasFrontOf (asks said) lines (line said) old mid → B (commands ++ said ∷ []) b
-    → b.first ≤ next t.again → IsFollowed t (since (next t.again) b) u mid new
+    → b.first ≤ next t.again → IsFollowed t (since (next t.again) b) u mid new → are_in_step (state_of u.again) (state_of b) ≡ true
     → IsTracing lines line asks d first B (commands ++ said ∷ []) begun new u
-tracing_more lines line asks d first B commands said begun old mid new b t u s f behind within followed =
+tracing_more lines line asks d first B commands said begun old mid new b t u s f behind within followed in_step =
     let came : CameTo t.every d s.place s.now b u mid new = came_to d s.place s.now b t u mid new s.is_at followed in
     let es = since s.place b in
     let text : List ℕ = s.text ++ (f.front ++ told_text t.every d s.now es) in
     let E : Bool → Type 0 = λ e. Traces e lines line asks d first B (commands ++ said ∷ []) (s.place + length es) (replay d (runs d) s.now es) text in
     let P : ℕ → Type 0 = λ n. b.first ≤ n in
+    let W : Core → Type 0 = λ w. are_in_step w (state_of b) ≡ true in
     let agree : Agree t = s.is_at.timers ∙ ap (λ (x : Core). x.timers) (sym s.is_at.state) in
     record {
       place = s.place + length es;
       now = replay d (runs d) s.now es;
       text = text;
-      traces = subst E (sym followed.every) (more said f.front b s.traces f.is_front behind (subst P s.is_at.place_is within));
+      traces = subst E (sym followed.every) (more said f.front b s.traces f.is_front behind (subst P s.is_at.place_is within) (subst W came.state in_step));
       is_at = record {
         set = followed.set ∙ s.is_at.set;
         place_is = came.place_is;

@@ -1,7 +1,7 @@
--- What a trace says of a script's run: each command's line, and behind it what is told of each event
--- that happened by that command.
+-- What a trace says of a script's run: each command's line, and behind it what is told of each
+-- event that happened by that command.
 use Rattle.std.specs.Prelude.{◌≡◌, ◌≤◌, ◌+◌, ◌-◌, ℕ, Bool, true, false, List, []}
-use Rattle.std.specs.Prelude.{◌∷◌, ◌++◌, length, drop, Option}
+use Rattle.std.specs.Prelude.{◌∷◌, ◌++◌, ◌==◌, ◌&&◌, length, drop, Option}
 use Rattle.std.specs.List.{flat_map}
 use Rattle.std.specs.Io.KnownBytes.{Appends}
 use Rattle.turn_code.specs.declared.draft.Draft.{Draft}
@@ -29,9 +29,17 @@ abbrev pub IsFront : Bool → List PlainLine → ℕ → List ℕ → Type 0
 IsFront true lines number front = front ≡ []
 IsFront false lines number front = IsLine lines number front
 
--- What is traced of commands in their order, from a state of the link of a set on. B says which book
--- there is behind commands; how many events had happened, and the state, stand behind these. Each
--- command's line is in front of what is told of the events that its journal has since.
+-- as many ticks went by, and as many turns began and ended, with as many instructions
+abbrev pub are_in_step : Core → Core → Bool
+are_in_step w v =
+    (w.timers.clock == v.timers.clock)
+    && ((w.turns == v.turns)
+    && ((w.finishes == v.finishes) && (w.instructions == v.instructions)))
+
+-- What is traced of commands in their order, from a state of the link of a set on. B says which
+-- book there is behind commands; how many events had happened, and the state, stand behind these. Each
+-- command's line is in front of what is told of the events that its journal has since, none of
+-- which is lost; behind them the state is in step with that of the book.
 pub data Traces {S : Type 0} (every : Bool) (lines : List PlainLine) (line : S → ℕ)
     (asks : S → Bool) (d : Draft) (first : Core) (B : List S → Ledger → Type 0) :
     List S → ℕ → Core → List ℕ → Type 0 where
@@ -41,6 +49,7 @@ pub data Traces {S : Type 0} (every : Bool) (lines : List PlainLine) (line : S �
       → Traces every lines line asks d first B commands place w text
       → IsFront (asks said) lines (line said) front
       → B (commands ++ said ∷ []) b → b.first ≤ place
+      → are_in_step (replay d (runs d) w (since place b)) (state_of b) ≡ true
       → Traces every lines line asks d first B (commands ++ said ∷ [])
       (place + length (since place b)) (replay d (runs d) w (since place b))
       (text ++ (front ++ told_text every d w (since place b)))
@@ -73,12 +82,14 @@ pub record IsTraced {S : Type 0} (every : Bool) (lines : List PlainLine) (line :
   pub traces : Traces every lines line asks d first B commands place now text
   pub written : Appends old new text
 
--- so are those in front of one of these commands
+-- so are those in front of one of these commands, an expectation that fails: M says so of it behind
+-- those
 pub record IsTracedInPart {S : Type 0} (every : Bool) (lines : List PlainLine) (line : S → ℕ)
     (asks : S → Bool) (d : Draft) (first : Core) (B : List S → Ledger → Type 0)
-    (commands : List S) (old new : Option (List ℕ)) : Type 0 where
+    (M : List S → S → Type 0) (commands : List S) (old new : Option (List ℕ)) : Type 0 where
   pub before : List S
   pub said : S
   pub after : List S
   pub stands : commands ≡ before ++ said ∷ after
+  pub missed : M before said
   pub traced : IsTraced every lines line asks d first B before old new

@@ -1,5 +1,5 @@
 -- What is traced of a run of each kind of script.
-use Rattle.std.specs.Prelude.{◌≡◌, ℕ, Bool, true, false, List, Option}
+use Rattle.std.specs.Prelude.{◌≡◌, ℕ, Bool, true, false, List, Option, Some}
 use Rattle.actor_machine.specs.Ledger.{Ledger, state_of}
 use Rattle.script_lines.specs.Commands.{PlainCommand, offer, flood, call, tick, env, rest, value}
 use Rattle.script_lines.specs.Commands.{expect}
@@ -49,6 +49,16 @@ pub record BookBehind (b : Ledger) (commands : List PlainSaid) (now : Ledger) : 
   pub last : Option (List ℕ)
   pub goes : BookGoes b commands lines now last
 
+-- and an expectation behind them names another line than the one that was printed last
+pub record BookMisses (b : Ledger) (commands : List PlainSaid) (said : PlainSaid) : Type 0 where
+  pub lines : List (List ℕ)
+  pub now : Ledger
+  pub last : Option (List ℕ)
+  pub goes : BookGoes b commands lines now last
+  pub text : List ℕ
+  pub expects : said.command ≡ expect text
+  pub other : last ≡ Some text → ⊥
+
 abbrev pub BookTracing :
     List PlainLine → Ledger → List PlainSaid → Option (List ℕ) → Option (List ℕ) → Tracer
     → Type 0
@@ -65,8 +75,8 @@ abbrev pub IsBookTracedInPart :
     Bool → List PlainLine → Ledger → List PlainSaid → Option (List ℕ) → Option (List ℕ)
     → Type 0
 IsBookTracedInPart every lines b commands old new =
-    IsTracedInPart every lines book_line book_asks b.set (state_of b) (BookBehind b) commands
-    old new
+    IsTracedInPart every lines book_line book_asks b.set (state_of b) (BookBehind b)
+    (BookMisses b) commands old new
 
 -- ---- terminals
 
@@ -102,6 +112,17 @@ pub record TermBehind (keeps : Bool) (t : Term) (commands : List PlainTermSaid) 
   pub goes : TermGoes keeps t commands lines term last
   pub is : book_in term ≡ now
 
+-- and an expectation behind them names another line than the one that was printed last
+pub record TermMisses (keeps : Bool) (t : Term) (commands : List PlainTermSaid)
+    (said : PlainTermSaid) : Type 0 where
+  pub lines : List (List ℕ)
+  pub now : Term
+  pub last : Option (List ℕ)
+  pub goes : TermGoes keeps t commands lines now last
+  pub text : List ℕ
+  pub expects : said.command ≡ term.expected text
+  pub other : last ≡ Some text → ⊥
+
 abbrev pub TermTracing :
     Bool → List PlainLine → Term → List PlainTermSaid → Option (List ℕ) → Option (List ℕ)
     → Tracer → Type 0
@@ -121,4 +142,4 @@ abbrev pub IsTermTracedInPart :
     → Option (List ℕ) → Type 0
 IsTermTracedInPart every keeps lines t commands old new =
     IsTracedInPart every lines term_line term_asks (book_in t).set (state_of (book_in t))
-    (TermBehind keeps t) commands old new
+    (TermBehind keeps t) (TermMisses keeps t) commands old new

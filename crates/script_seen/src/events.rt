@@ -1,5 +1,5 @@
 //! What is told of events that are no turns.
-ghost use Rattle.std.specs.Prelude.{◌≡◌, ◌++◌, ◌∷◌, [], map, slice_get, OnOk, IfOk};
+ghost use Rattle.std.specs.Prelude.{◌≡◌, ◌++◌, ◌∷◌, [], Some, map, slice_get, if◌then◌else◌, OnOk, IfOk};
 ghost use Rattle.std.specs.List.{flat_map, list_any};
 ghost use Rattle.std.specs.Option.{option_copied};
 ghost use Rattle.turn_check.specs.Answered.{same_trigger};
@@ -8,7 +8,7 @@ ghost use Rattle.actor_machine.specs.Core.{names_in};
 ghost use Rattle.actor_machine.specs.Ledger.{state_of};
 ghost use Rattle.actor_machine.specs.Looking.{trigger_of, is_saved};
 ghost use Rattle.script_group.specs.Lines.{line_of};
-ghost use Rattle.script_seen.specs.Told.{actor_text, timer_of_text, offer_line, due_line, skip_line, skip_lines, item_values, item_sender, stands_text};
+ghost use Rattle.script_seen.specs.Told.{values_text, from_text, actor_text, timer_of_text, offer_line, due_line, skip_line, skip_lines, item_values, item_sender, stands_text};
 
 use crate::pushing::{
     push_actor, push_from, push_number, push_signal, push_state, push_timer, push_trigger,

@@ -1,5 +1,5 @@
 //! What the lines of a trace are made of.
-ghost use Rattle.std.specs.Prelude.{◌≡◌, ◌++◌, [], OnOk, unwrap_or, option_copied, option_map};
+ghost use Rattle.std.specs.Prelude.{◌≡◌, ◌++◌, ◌∷◌, [], IfOk, OnOk, unwrap_or, option_copied};
 ghost use Rattle.std.specs.Fmt.{decimal};
 ghost use Rattle.script_lines.specs.Replies.{sender_text, instance_text, process_text, signal_text, state_text, trigger_text, input_text, place_text, end_text, value_text};
 ghost use Rattle.turn_check.specs.Named.{trigger_at};

@@ -1,5 +1,5 @@
 //! A trace: what happened to a link is made to happen once more, and told.
-ghost use Rattle.std.specs.Prelude.{◌≡◌, ◌+◌, OnOk, IfOk};
+ghost use Rattle.std.specs.Prelude.{◌≡◌, ◌≤◌, true, OnOk, IfOk};
 ghost use Rattle.std.specs.List.{flat_map};
 ghost use Rattle.std.specs.Io.KnownBytes.{Appends};
 ghost use Rattle.actor_machine.specs.Ledger.{Ledger, next, state_of};
@@ -8,7 +8,7 @@ ghost use Rattle.actor_machine.specs.declared.event.Event.TheVariants as event;
 ghost use Rattle.tick_wheel.specs.Turning.{timers_of};
 ghost use Rattle.script_group.specs.Lines.{line_of};
 ghost use Rattle.script_seen.specs.Told.{told};
-ghost use Rattle.script_seen.specs.Traced.{since};
+ghost use Rattle.script_seen.specs.Traced.{since, are_in_step};
 ghost use Rattle.script_seen.specs.Following.{IsStep, Agree, IsFollowed, IsCaughtUp, IsEnded};
 
 use crate::events::{due_text, offer_text, skip_text};
@@ -195,6 +195,17 @@ impl Tracer {
         Ok(self.again.rebase()?)
     }
 
+    /// Whether as many ticks went by as for a book, and as many turns began and ended.
+    fn is_in_step(&self, book: &Book) -> bool
+        ensures { result ≡ are_in_step (state_of self.now.again) (state_of book.now) }
+    {
+        let (one, other) = (self.again.state(), book.state());
+        one.clock() == other.clock()
+            && one.turns() == other.turns()
+            && one.finishes() == other.finishes()
+            && one.instructions() == other.instructions()
+    }
+
     /// Has what has happened to a book since happen here too, and tells each event.
     ///
     /// # Errors
@@ -208,12 +219,17 @@ impl Tracer {
     ) -> io::Result<()>
         ensures first { OnOk result (book.now.first ≤ next self.old.again) }
         ensures followed { OnOk result (IsFollowed self.old (since (next self.old.again) book.now) self.new (T.contents out.old) (T.contents out.new)) }
+        ensures in_step { OnOk result (are_in_step (state_of self.new.again) (state_of book.now) ≡ true) }
     {
         self.catch_up(book)?;
         let done = self.again.journal().len();
         let Some(events) = book.journal().get(done..) else {
             return Err(lost());
         };
-        self.happen_all(alloc, events, out)
+        self.happen_all(alloc, events, out)?;
+        if !self.is_in_step(book) {
+            return Err(lost());
+        }
+        Ok(())
     }
 }

@@ -2,7 +2,7 @@ use Rattle.std.proofs.Common.{map, ◌∙◌}
 use Rattle.script_lines.specs.Lines.{plain_line}
 use Rattle.script_lines.specs.Scripts.{plain_said}
 use Rattle.script_group.specs.Played.{last_of}
-use Rattle.script_seen.proofs.TracedRuns.{book_going_begins, book_goes_on, book_gone, book_missed_at, book_traced_all, book_traced_part}
+use Rattle.script_seen.proofs.TracedRuns.{book_going_begins, book_goes_on, book_gone, book_missed_at, book_misses_at, book_traced_all, book_traced_part}
 use Rattle.script_seen.proofs.traced_books.trace_each.Goals as goal
 
 pub loop-said-init : goal.loop-said-init
@@ -33,6 +33,7 @@ pub returns-then-not-branch-clause-in_part : goal.returns-then-not-branch-clause
 returns-then-not-branch-clause-in_part g c one none at =
     book_traced_part _ (map plain_line c.args.lines.now) c.args.player.now.book c.args.commands.now c.loop-said.said-index c.said-item.result _ _ _ _
     c.loop-said-test.true c.said-item.is c.loop-said.invariant.every (c.in_ok-trace_next.ensures.untraced c.if-not-branch.true)
+    (book_misses_at c.args.player.now.book _ _ _ _ _ _ _ (c.loop-said.invariant.run none) (c.in_ok-trace_next.ensures.missed c.if-not-branch.true))
     (c.loop-said.invariant.traced none at)
 
 pub returns-clause-held : goal.returns-clause-held

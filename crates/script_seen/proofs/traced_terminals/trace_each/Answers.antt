@@ -2,7 +2,7 @@ use Rattle.std.proofs.Common.{map, ◌∙◌}
 use Rattle.script_lines.specs.Lines.{plain_line}
 use Rattle.script_links.specs.TermScripts.{plain_term_said}
 use Rattle.script_group.specs.TermRuns.{last_of}
-use Rattle.script_seen.proofs.TracedRuns.{term_going_begins, term_goes_on, term_gone, term_missed_at, term_traced_all, term_traced_part}
+use Rattle.script_seen.proofs.TracedRuns.{term_going_begins, term_goes_on, term_gone, term_missed_at, term_misses_at, term_traced_all, term_traced_part}
 use Rattle.script_seen.proofs.traced_terminals.trace_each.Goals as goal
 
 pub loop-said-init : goal.loop-said-init
@@ -33,6 +33,7 @@ pub returns-then-not-branch-clause-in_part : goal.returns-then-not-branch-clause
 returns-then-not-branch-clause-in_part g c one none at =
     term_traced_part _ c.args.keeps (map plain_line c.args.lines.now) c.args.player.now.terminal c.args.commands.now c.loop-said.said-index c.said-item.result _ _ _ _
     c.loop-said-test.true c.said-item.is c.loop-said.invariant.every (c.in_ok-trace_next.ensures.untraced c.if-not-branch.true)
+    (term_misses_at c.args.keeps c.args.player.now.terminal _ _ _ _ _ _ _ (c.loop-said.invariant.run none) (c.in_ok-trace_next.ensures.missed c.if-not-branch.true))
     (c.loop-said.invariant.traced none at)
 
 pub returns-clause-held : goal.returns-clause-held
