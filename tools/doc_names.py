@@ -3,7 +3,8 @@
 - docs/architecture.md: each crate has its row in the table of the rooms, and each row its crate.
 - docs/standards.md: each definition, function, edit, quoted word of examples/ and heading of docs/ is there, and a quoted
   name is that of one entry.
-- README.md and docs/*.md: each path that they write is there."""
+- README.md and docs/*.md: each path that they write is there, what is built aside.
+- tools/README.md: each tool is named there."""
 import functools
 import re
 
@@ -94,9 +95,16 @@ def paths(root):
     found = []
     for document in [root / "README.md", *sorted((root / "docs").glob("*.md"))]:
         for path in sorted(set(PATH.findall(document.read_text()))):
-            if "CRATE" not in path and "NAME" not in path and not (root / path).exists():
+            if "CRATE" not in path and "NAME" not in path and "/out/" not in path and not (root / path).exists():
                 found.append(f"{document.relative_to(root)}: no file {path}")
     return found
+
+
+def tools(root):
+    """The tools that their README doesn't name."""
+    named = set(re.findall(r"`([\w.-]+)`", (root / "tools" / "README.md").read_text()))
+    files = [it for it in sorted((root / "tools").rglob("*")) if it.is_file() and "__pycache__" not in it.parts]
+    return [f"tools/README.md: no {it.relative_to(root)}" for it in files if it.name not in named | {"README.md"}]
 
 
 def lacking(root):
@@ -104,4 +112,4 @@ def lacking(root):
     look = Look(root)
     architecture(look, (root / "docs" / "architecture.md").read_text())
     standards(look, (root / "docs" / "standards.md").read_text())
-    return look.found + paths(root)
+    return look.found + paths(root) + tools(root)

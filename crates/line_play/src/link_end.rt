@@ -96,6 +96,7 @@ impl LineTerminal for LinkEnd {
 
     fn unit_out(&mut self) -> io::Result<Option<Unit>> {
         let unit = self.terminal.unit_out()?;
+        let _cleared = self.terminal.obey_clear();
         Ok(unit)
     }
 

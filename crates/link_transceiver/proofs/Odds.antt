@@ -1,11 +1,15 @@
 -- Units behind one at fault, and what the buffers lose.
-use Rattle.std.proofs.Common.{◌≡◌, ℤ, ◌&&◌, Bool, true, false, not, Option, Some, None, List, [], ◌∷◌, slice_get, refl, arith}
+use Rattle.std.proofs.Common.{◌≡◌, ℕ, ℤ, ◌&&◌, Bool, true, false, not, Option, Some, None, List, [], ◌∷◌, slice_get, is_some, refl, sym, ap, ◌∙◌, arith}
 use Rattle.std.specs.Prelude.{if◌then◌else◌}
+use Rattle.arrayvec.specs.ArrayVec.{ArrayVec}
+use Rattle.resend_store.specs.Intake.{Hearing}
 use Rattle.resend_store.specs.declared.messages.Msu.{Msu}
 use Rattle.resend_store.specs.Window.{last_acknowledged}
 use Rattle.su_octets.specs.declared.units.Head.{Head}
 use Rattle.su_octets.specs.declared.units.Unit.{Unit}
 use Rattle.su_octets.specs.declared.units.Unit.TheVariants as unit
+use Rattle.link_transceiver.specs.declared.faults.Fault.{Fault}
+use Rattle.link_transceiver.specs.declared.faults.Fault.TheVariants.{AbnormalBsn}
 use Rattle.link_transceiver.specs.declared.signals.EnvSignal.{EnvSignal}
 use Rattle.link_transceiver.specs.declared.signals.EnvSignal.TheVariants as signal
 use Rattle.link_transceiver.specs.declared.signals.LineKind.{LineKind}
@@ -14,10 +18,11 @@ use Rattle.link_transceiver.specs.declared.signals.LinkStatus.{LinkStatus}
 use Rattle.link_transceiver.specs.Limits.{BUSY_CODE}
 use Rattle.link_transceiver.specs.TransceiverState.{TransceiverState, is_held}
 use Rattle.link_transceiver.specs.Effects.{effect, renewed, directed, told, sends, kind_named, is_busy_named, clears}
-use Rattle.link_transceiver.specs.Judging.{Judged, judged, by_stores, through, left_aside, Stored, stored, refused, taken, heard, discarded, bsn_heeded, head_heeded, accepts, hearing, is_abnormal}
+use Rattle.link_transceiver.specs.Judging.{Judged, judged, by_stores, through, left_aside, Stored, stored, refused, taken, led, heard, discarded, fault_of, fault_in, hears, sets_aside, bsn_heeded, head_heeded, accepts, hearing, is_abnormal}
 use Rattle.link_transceiver.specs.Going.{Gone, gone, gone_by, gives, status_gone, fill_in_gone, sender_gone}
 use Rattle.link_transceiver.specs.Reporting.{reported, message_reported, status_reported}
 use Rattle.link_transceiver.specs.Laws.{CountsCleared, DiscardsBehindOdd, accepted_of, is_accept}
+use Rattle.link_transceiver.proofs.Aside.{same_fault}
 
 -- ---- behind a unit at fault
 
@@ -111,8 +116,71 @@ judged-unnamed h (unit.Fisu head) e f = by_stores-unnamed h head None e f
 judged-unnamed h (unit.Msu head sio sif) e f = by_stores-unnamed h head (Some (record { sio = sio; sif = sif })) e f
 judged-unnamed h (unit.Lssu head status second) e f = f
 
+-- ---- which units have one behind them
+
+taken-fault : (h : TransceiverState) (head : Head) (msu : Option Msu) → (taken h head msu).fault ≡ fault_in (sets_aside h.receiver head.fib).verdict
+unfolding hearing
+taken-fault h head msu = elim (accepts h)
+    as (λ b. fault_in (if◌then◌else◌ {A = Hearing} b (hears h.receiver head.fsn head.fib (is_some msu)) (sets_aside h.receiver head.fib)).verdict
+    ≡ fault_in (sets_aside h.receiver head.fib).verdict)
+    [ true ↦ sym (same_fault h.receiver head (is_some msu)) | false ↦ refl ]
+
+stored-fault : (h : TransceiverState) (head : Head) (msu : Option Msu) → (stored h head msu).fault ≡ fault_of h head
+unfolding stored fault_of
+stored-fault h head msu = elim (is_abnormal h.sender head.bsn)
+    as (λ b. (if◌then◌else◌ {A = Stored} b (refused h) (taken h head msu)).fault
+    ≡ (if◌then◌else◌ {A = Option Fault} b (Some AbnormalBsn) (fault_in (sets_aside h.receiver head.fib).verdict)))
+    [ true ↦ refl | false ↦ taken-fault h head msu ]
+
+led-fault : (h : TransceiverState) (head : Head) (msu : Option Msu) (b : Bool) →
+    (if◌then◌else◌ {A = Stored} b (discarded h head) (stored h head msu)).fault ≡ fault_of h head
+led-fault h head msu true = refl
+led-fault h head msu false = stored-fault h head msu
+
+heard-mark : (h : TransceiverState) (head : Head) (msu : Option Msu) → h.odd ≡ true →
+    (heard h head msu).transceiver.behind_odd ≡ is_some (fault_of h (head_heeded h head))
+unfolding heard
+heard-mark h head msu e =
+    ap (λ (b : Bool). b && is_some (led h (head_heeded h head) msu).fault) e ∙ ap (λ (o : Option Fault). is_some o) (led-fault h (head_heeded h head) msu h.behind_odd)
+
+by_stores-mark : (h : TransceiverState) (head : Head) (msu : Option Msu) → h.odd ≡ true → h.take ≡ true →
+    (by_stores h head msu).transceiver.behind_odd ≡ is_some (fault_of h (head_heeded h head))
+unfolding by_stores
+by_stores-mark h head msu e f =
+    ap (λ (b : Bool). (if◌then◌else◌ {A = Judged} b (through h (heard h head msu)) (left_aside 8 h)).transceiver.behind_odd) f ∙ heard-mark h head msu e
+
+by_stores-aside : (h : TransceiverState) (head : Head) (msu : Option Msu) → h.take ≡ false → (by_stores h head msu).transceiver.behind_odd ≡ h.behind_odd
+unfolding by_stores
+by_stores-aside h head msu f =
+    ap (λ (b : Bool). (if◌then◌else◌ {A = Judged} b (through h (heard h head msu)) (left_aside 8 h)).transceiver.behind_odd) f
+
+fill_in-mark : (h : TransceiverState) (head : Head) → h.odd ≡ true → h.take ≡ true →
+    (judged h (unit.Fisu head)).transceiver.behind_odd ≡ is_some (fault_of h (head_heeded h head))
+unfolding judged
+fill_in-mark h head e f = by_stores-mark h head None e f
+
+message-mark : (h : TransceiverState) (head : Head) (sio : ℕ) (sif : ArrayVec ℕ) → h.odd ≡ true → h.take ≡ true →
+    (judged h (unit.Msu head sio sif)).transceiver.behind_odd ≡ is_some (fault_of h (head_heeded h head))
+unfolding judged
+message-mark h head sio sif e f = by_stores-mark h head (Some (record { sio = sio; sif = sif })) e f
+
+status-mark : (h : TransceiverState) (head : Head) (status : ℕ) (second : Option ℕ) →
+    (judged h (unit.Lssu head status second)).transceiver.behind_odd ≡ h.behind_odd
+unfolding judged
+status-mark h head status second = refl
+
+judged-aside : (h : TransceiverState) (u : Unit) → h.take ≡ false → (judged h u).transceiver.behind_odd ≡ h.behind_odd
+unfolding judged
+judged-aside h (unit.Fisu head) f = by_stores-aside h head None f
+judged-aside h (unit.Msu head sio sif) f = by_stores-aside h head (Some (record { sio = sio; sif = sif })) f
+judged-aside h (unit.Lssu head status second) f = refl
+
 pub discards_behind_odd : DiscardsBehindOdd
 discards_behind_odd = record {
+  fill_in = fill_in-mark;
+  message = message-mark;
+  status = status-mark;
+  aside = judged-aside;
   sender = λ h u e. (judged-behind h u e).0;
   receiver = λ h u e. (judged-behind h u e).1;
   accepted = behind-accepted;

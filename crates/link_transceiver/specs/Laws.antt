@@ -1,7 +1,8 @@
 -- What holds of a transceiver over every list of calls.
 use Rattle.std.specs.Prelude.{◌≡◌, ℕ, pos, ◌+◌, ◌≤◌, ◌&&◌, not, Bool, true, false, if◌then◌else◌}
-use Rattle.std.specs.Prelude.{Option, Some, None, Result, Ok, Err, List, [], ◌∷◌, ◌++◌, length}
-use Rattle.std.specs.Prelude.{take}
+use Rattle.std.specs.Prelude.{Option, Some, None, is_some, Result, Ok, Err, List, [], ◌∷◌, ◌++◌}
+use Rattle.std.specs.Prelude.{length, take}
+use Rattle.arrayvec.specs.ArrayVec.{ArrayVec}
 use Rattle.resend_store.specs.Window.{Window, unacknowledged, waiting, count_by}
 use Rattle.resend_store.specs.Window.{last_acknowledged}
 use Rattle.resend_store.specs.Intake.{Intake}
@@ -23,7 +24,7 @@ use Rattle.link_transceiver.specs.declared.signals.Report.TheVariants as report
 use Rattle.link_transceiver.specs.TransceiverState.{TransceiverState, is_held}
 use Rattle.link_transceiver.specs.Effects.{effect, renewed_hold, backward_of, counted, clears}
 use Rattle.link_transceiver.specs.Judging.{hears, sets_aside, accepts, hearing, fault_in}
-use Rattle.link_transceiver.specs.Judging.{is_abnormal, bsn_heeded, head_heeded, judged}
+use Rattle.link_transceiver.specs.Judging.{is_abnormal, bsn_heeded, head_heeded, fault_of, judged}
 use Rattle.link_transceiver.specs.Going.{gone}
 use Rattle.link_transceiver.specs.Reporting.{reported}
 
@@ -212,10 +213,25 @@ pub record HoldsBack : Type 0 where
   pub on_signal :
       (s : EnvSignal) (h : TransceiverState) → (effect s h).hold ≡ hold_after s h.hold
 
--- Behind a unit at fault, where Odd tells of that, the next one acknowledges nothing, asks for
--- nothing and isn't accepted. Units that are at fault by their forward indicator alone have
--- acknowledged before.
+-- Behind a unit at fault, where Odd tells of that, the next fill-in or message signal unit
+-- acknowledges nothing, asks for nothing and isn't accepted; behind one without fault it is taken
+-- as ever. Units that are at fault by their forward indicator alone have acknowledged before.
 pub record DiscardsBehindOdd : Type 0 where
+  pub fill_in :
+      (h : TransceiverState) (head : Head) → h.odd ≡ true → h.take ≡ true
+      → (judged h (unit.Fisu head)).transceiver.behind_odd
+      ≡ is_some (fault_of h (head_heeded h head))
+  pub message :
+      (h : TransceiverState) (head : Head) (sio : ℕ) (sif : ArrayVec ℕ) → h.odd ≡ true
+      → h.take ≡ true
+      → (judged h (unit.Msu head sio sif)).transceiver.behind_odd
+      ≡ is_some (fault_of h (head_heeded h head))
+  pub status :
+      (h : TransceiverState) (head : Head) (status : ℕ) (second : Option ℕ)
+      → (judged h (unit.Lssu head status second)).transceiver.behind_odd ≡ h.behind_odd
+  pub aside :
+      (h : TransceiverState) (u : Unit) → h.take ≡ false
+      → (judged h u).transceiver.behind_odd ≡ h.behind_odd
   pub sender :
       (h : TransceiverState) (u : Unit) → h.behind_odd ≡ true
       → (judged h u).transceiver.sender ≡ h.sender

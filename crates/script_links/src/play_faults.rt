@@ -178,7 +178,7 @@ fn behind_group_verb<'a>(
 ) -> Result<Option<PlayFault<'a>>, AllocError> {
     match verb {
         GroupVerb::On => Ok(of_line(number_fault(next, 0, MOST))),
-        GroupVerb::Send => octets_fault(alloc, word, next, 5, 273),
+        GroupVerb::Send | GroupVerb::Bound => octets_fault(alloc, word, next, 5, 273),
         GroupVerb::Message => octets_fault(alloc, word, next, 0, MANY),
         GroupVerb::Admit => Ok(way_fault(next)),
     }

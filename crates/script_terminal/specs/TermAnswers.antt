@@ -190,12 +190,17 @@ pub data Retrieves (behind : Option ℕ) (t : Term) : List ℕ → Term → Type
 
 -- ---- units that go out
 
--- the unit that goes out next, if one does, and the terminal behind it
+-- the buffers are emptied, where the text asked for that
+abbrev pub behind_clear : Term → Term
+behind_clear t = with_processes t (clear_obeyed t.processes)
+
+-- The unit that goes out next, if one does, and the terminal behind it: its buffers are emptied
+-- where the text asked for that.
 abbrev pub next_of : Term → Sent
 next_of t = sent (tidied t.processes)
 
 abbrev pub behind_next : Term → Term
-behind_next t = with_processes t (next_of t).processes
+behind_next t = behind_clear (with_processes t (next_of t).processes)
 
 abbrev pub unit_line : Option su.Unit → List ℕ
 unit_line None = codes "silent"
@@ -232,10 +237,6 @@ Does keeps (state process) t text u =
 Does keeps (shown process variable) t text u =
     (text ≡ value_line t.processes.book variable (actor_named t.processes.book process)) × (u ≡ t)
 Does keeps (expected text) t said u = (said ≡ []) × (u ≡ t)
-
--- the buffers are emptied, where the text asked for that
-abbrev pub behind_clear : Term → Term
-behind_clear t = with_processes t (clear_obeyed t.processes)
 
 -- a command was done, and the buffers emptied behind it where the text asked for that
 pub record Answers (keeps : Bool) (c : PlainTermCommand) (t : Term) (text : List ℕ) (u : Term) :

@@ -22,14 +22,16 @@ pub struct TermPlayer {
 }
 
 impl TermPlayer {
-    /// Prints the unit that goes out next, or `silent`. Whether it was a unit.
+    /// Prints the unit that goes out next, or `silent`; behind it the buffers are emptied where the text asked for that. Whether it was a unit.
     fn print_unit<W: Write>(&mut self, alloc: Global, writer: &mut W) -> io::Result<bool>
         ensures unit { IfOk result (λ on. on ≡ is_some (next_of self.old.terminal).unit) }
         ensures goes { OnOk result (self.new.terminal ≡ behind_next self.old.terminal) }
         ensures printed { OnOk result (HasPrinted (W.contents writer.old) (W.contents writer.new) (last_of self.old) (last_of self.new)
             (unit_line (next_of self.old.terminal).unit ∷ [])) }
     {
-        match self.terminal.unit_out()? {
+        let given = self.terminal.unit_out()?;
+        let _cleared = self.terminal.obey_clear();
+        match given {
             Some(unit) => {
                 let line = text_line(alloc, &unit)?;
                 self.printer.print(line, writer)?;
