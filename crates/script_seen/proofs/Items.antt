@@ -1,5 +1,5 @@
 -- The first item of a port that isn't saved.
-use Rattle.std.proofs.Common.{◌≡◌, ◌∙◌, ℕ, ◌+◌, ◌<◌, Bool, true, false, List, ◌∷◌, length, drop, Option, Some, refl, ap}
+use Rattle.std.proofs.Common.{◌≡◌, ◌∙◌, ℕ, zero, suc, ◌+◌, ◌<◌, Bool, true, false, List, [], ◌∷◌, length, drop, Option, None, Some, arith, refl, ap}
 use Rattle.std.specs.Prelude.{slice_get}
 use Rattle.std.proofs.lemmas.List.{at_drop_more}
 use Rattle.std.proofs.lemmas.Option.{get_or_from_slice_get, slice_get_within}
@@ -21,3 +21,9 @@ saved_on f xs k x there saved = at_place f xs k x there ∙ rw saved refl
 pub unsaved_here : (f : Item → Bool) (xs : List Item) (k : ℕ) (x : Item) → slice_get xs k ≡ Some x → f x ≡ false
     → first_unsaved f (drop k xs) ≡ Some x
 unsaved_here f xs k x there unsaved = at_place f xs k x there ∙ rw unsaved refl
+
+-- there is an item at each place
+pub no_past : (xs : List Item) (k : ℕ) → k < length xs → slice_get xs k ≡ None → ⊥
+no_past [] k lt none = omega (arith, lt)
+no_past (x ∷ xs) zero lt none = cc
+no_past (x ∷ xs) (suc k) lt none = no_past xs k (omega (arith, lt)) none

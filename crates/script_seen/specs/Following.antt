@@ -55,8 +55,9 @@ pub record IsEnded (b : Ledger) (n : ℕ) (e : Ended) : Type 0 where
   pub clock : e.clock ≡ (state_of b).timers.clock
   pub named : slice_get (names_in (state_of b).actors) n ≡ Some e.me
   pub turn : turn_at b.set n (slice_get (state_of b).actors n) ≡ Some e.done
-  pub report :
-      (o : Outcome) → outcome_of e.done ≡ Some o → e.report ≡ report_of n e.me o (state_of b)
+  pub outcome : Outcome
+  pub ran : outcome_of e.done ≡ Some outcome
+  pub report : e.report ≡ report_of n e.me outcome (state_of b)
 
 -- ---- timers
 

@@ -1,6 +1,6 @@
 -- The lines of a trace: what is told of each event that happens to a link.
 use Rattle.std.specs.Prelude.{ℕ, ◌+◌, ◌==◌, Bool, true, false, not, ◌&&◌, ◌||◌, List, [], ◌∷◌, ◌++◌}
-use Rattle.std.specs.Prelude.{Option, None, Some, is_some, find, length, slice_get, unwrap_or}
+use Rattle.std.specs.Prelude.{Option, None, Some, is_some, position, length, slice_get, unwrap_or}
 use Rattle.std.specs.Prelude.{bytes_eq, codes, map, if◌then◌else◌}
 use Rattle.std.specs.List.{flat_map}
 use Rattle.std.specs.Fmt.{decimal}
@@ -101,9 +101,13 @@ abbrev pub lost_text : Option Lost → List ℕ
 lost_text None = []
 lost_text (Some l) = cause_text l.cause
 
+abbrev pub found_loss : List Lost → Option ℕ → Option Lost
+found_loss lost None = None
+found_loss lost (Some n) = slice_get lost n
+
 -- the loss of the effect at place k, if it was lost
 abbrev pub lost_at : List Lost → ℕ → Option Lost
-lost_at lost k = find (λ (l : Lost). l.place == k) lost
+lost_at lost k = found_loss lost (position (λ (l : Lost). l.place == k) lost)
 
 -- the effect at place k of a turn of an actor, at this time of the clock
 abbrev pub effect_text : Draft → ℕ → ActorName → List Lost → ℕ → Effect → List ℕ

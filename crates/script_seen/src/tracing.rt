@@ -130,9 +130,9 @@ impl Tracer {
         ensures step { OnOk result (IsStep self.old (event.Advance ticks) self.new) }
         ensures text { IfOk result (λ v. Agree self.old → v.items ≡ flat_map line_of (told self.old.every self.old.again.set (state_of self.old.again) (event.Advance ticks))) }
     {
-        if self.wheel.advance(ticks).is_err() {
+        let Ok(_) = self.wheel.advance(ticks) else {
             return Err(lost());
-        }
+        };
         let text = due_text(alloc, &self.again, self.wheel.clock(), self.wheel.due())?;
         match self.again.advance(ticks) {
             Ok(_) => Ok(text),
@@ -222,11 +222,12 @@ impl Tracer {
         ensures in_step { OnOk result (are_in_step (state_of self.new.again) (state_of book.now) ≡ true) }
     {
         self.catch_up(book)?;
+        let journal = book.journal();
         let done = self.again.journal().len();
-        let Some(events) = book.journal().get(done..) else {
+        if journal.len() < done {
             return Err(lost());
-        };
-        self.happen_all(alloc, events, out)?;
+        }
+        self.happen_all(alloc, &journal[done..], out)?;
         if !self.is_in_step(book) {
             return Err(lost());
         }

@@ -1,9 +1,9 @@
 //! The line of a turn in a trace.
-ghost use Rattle.std.specs.Prelude.{◌≡◌, ◌≤◌, ◌<◌, ◌++◌, Some, length, codes, OnOk, IfOk};
+ghost use Rattle.std.specs.Prelude.{◌≡◌, ◌==◌, ◌++◌, Some, position, codes, OnOk, IfOk};
 ghost use Rattle.std.specs.List.{flat_map};
 ghost use Rattle.turn_code.specs.Outcome.{Outcome};
 ghost use Rattle.turn_machine.specs.Turn.{outcome_of};
-ghost use Rattle.plain_limits.specs.Limits.{MOST_VARIABLES};
+ghost use Rattle.actor_machine.specs.declared.reply.Lost.{Lost as OneLost};
 ghost use Rattle.script_lines.specs.Replies.{signal_text};
 ghost use Rattle.script_group.specs.Lines.{line_of};
 ghost use Rattle.script_seen.specs.Told.{values_text, receiver_text, effect_text, effects_text, change_text, changes_text, cause_text, lost_text, lost_at, began_text, ended_text, turn_line, turn_lines, stays_in, is_dull, value_at};
@@ -28,13 +28,31 @@ pub struct Ended {
     pub(crate) report: Report,
 }
 
+/// Whether it is the loss of the effect at a place.
+fn is_at(loss: &Lost, place: usize) -> bool
+    ensures { result ≡ (loss.now.place == place) }
+{
+    usize::from(loss.place) == place
+}
+
+/// The number of the loss of the effect at a place, if it was lost.
+fn loss_number(lost: &[Lost], place: usize) -> Option<usize>
+    ensures { result ≡ position (λ (l : OneLost). l.place == place) lost.now }
+{
+    lost.iter().position(|loss| is_at(loss, place))
+}
+
 /// The loss of the effect at a place, if it was lost.
 fn loss_at(lost: &[Lost], place: usize) -> Option<Lost>
     ensures { result ≡ lost_at lost.now place }
 {
-    lost.iter()
-        .find(|one| usize::from(one.place) == place)
-        .copied()
+    match loss_number(lost, place) {
+        Some(number) => match lost.get(number) {
+            Some(loss) => Some(*loss),
+            None => None,
+        },
+        None => None,
+    }
 }
 
 /// Why an output was lost.
@@ -75,7 +93,7 @@ fn push_output(
     push_receiver(alloc, line, set, me, sending.receiver)
 }
 
-/// An effect, which stands at a place, of a turn that ends at a tick.
+/// An effect, which stands at a place, of a turn that ends at a tick. A deadline past 2^64 would be told as want of memory, but the clock ends before.
 fn push_effect(
     alloc: Global,
     line: &mut Vec<u8>,
@@ -98,7 +116,10 @@ fn push_effect(
             line.extend_from_slice(b"set ")?;
             push_timer(line, set, me.process, *timer)?;
             line.extend_from_slice(b" at ")?;
-            push_number(alloc, line, clock.saturating_add(delay_of(*ticks)))
+            match clock.checked_add(delay_of(*ticks)) {
+                Some(at) => push_number(alloc, line, at),
+                None => Err(AllocError),
+            }
         }
         Effect::Reset(timer) => {
             line.extend_from_slice(b"reset ")?;
@@ -135,7 +156,7 @@ fn value_at(before: &[Option<Value>], number: usize) -> Option<Value>
     }
 }
 
-/// A variable that isn't what it was, behind a comma.
+/// A variable that isn't what it was, behind a comma. A number above 255 would be told as want of memory, but a process has fewer variables.
 fn push_change(
     alloc: Global,
     line: &mut Vec<u8>,
@@ -145,7 +166,6 @@ fn push_change(
     number: usize,
     value: Option<Value>,
 ) -> Result<(), AllocError>
-    requires { number < MOST_VARIABLES }
     ensures { OnOk result (line.new.items ≡ line.old.items ++ change_text set.now process.0 before.now number value) }
 {
     let was = shown(alloc, value_at(before, number))?;
@@ -153,8 +173,11 @@ fn push_change(
     if was.as_slice() == is.as_slice() {
         return Ok(());
     }
+    let Ok(number) = u8::try_from(number) else {
+        return Err(AllocError);
+    };
     line.extend_from_slice(b", ")?;
-    push_variable(line, set, process, VariableNumber(number as u8))?;
+    push_variable(line, set, process, VariableNumber(number))?;
     line.extend_from_slice(b" := ")?;
     Ok(line.extend_from_slice(&is)?)
 }
@@ -168,7 +191,6 @@ fn push_changes(
     before: &[Option<Value>],
     after: &[Option<Value>],
 ) -> Result<(), AllocError>
-    requires { length after.now ≤ MOST_VARIABLES }
     ensures { OnOk result (line.new.items ≡ line.old.items ++ changes_text set.now process.0 before.now 0 after.now) }
 {
     for (number, value) in after.iter().enumerate() {
