@@ -11,7 +11,7 @@ returns-in-Ok-clause-step c =
     let o = c.args.offer.now in
     let P : List Value → Type 0 =
     λ vs. c.offer.new.self ≡ (ask c.args.self.now.again (event.Offer (record { actor = o.actor; signal = o.signal; values = record { items = vs } }))).book in
-    quiet_step c.args.self.now _ (event.Offer o) (offer_keeps o) (subst P c.deref.ensures.value.0 c.in-Ok.ensures.book) c.in-Ok.ensures.next refl refl
+    quiet_step c.args.self.now _ (event.Offer o) (offer_keeps o) (subst P c.deref.ensures.0 c.in-Ok.ensures.book) c.in-Ok.ensures.next refl refl
 
 pub returns-in-Ok-clause-text : goal.returns-in-Ok-clause-text
 returns-in-Ok-clause-text c =
