@@ -73,8 +73,8 @@ def changeover_in(sif):
 class Link(Terminal):
     """A terminal that also knows whether it is in service, and what is marked of its changeover."""
 
-    def __init__(self, text, cyclic):
-        super().__init__(text, cyclic)
+    def __init__(self, text, cyclic, *limits):
+        super().__init__(text, cyclic, *limits)
         self.serves = self.came = self.served = self.anew = self.failed = self.far_out = False
         self.admitted = True
         # Its changeover: the place up to which messages were accepted as the other end told, whether any answer came, and ticks since it began.
@@ -400,8 +400,8 @@ def command(words):
 class Player:
     """A set, the hands of its links, and the link that lines speak of."""
 
-    def __init__(self, text, cyclic, links):
-        self.group, self.hands, self.on = Group([Link(text, cyclic) for _ in range(links)]), {}, 0
+    def __init__(self, text, cyclic, links, *limits):
+        self.group, self.hands, self.on = Group([Link(text, cyclic, *limits) for _ in range(links)]), {}, 0
 
     def do(self, word, *rest):
         """Does a command, and gives the lines to print for it."""
@@ -501,13 +501,13 @@ def run(player, commands, say):
 
 def play(word, script, say):
     """Plays a script of any kind on a set of processes, and gives the status."""
-    return play_text(plain_term.text_of(word).encode(), script, say)
+    return play_text(plain_term.text_of(word).encode(), script, say, plain_term.USUAL.get(word, ()))
 
 
-def play_text(text, script, say):
-    """Plays a script of any kind on a text, and gives the status."""
+def play_text(text, script, say, usual=()):
+    """Plays a script of any kind on a text, and gives the status; with these N1 and N2 where it says none."""
     if head(script) is None:
-        return plain_term.play_text(text, script, say)
+        return plain_term.play_text(text, script, say, usual)
     try:
         text.decode()
         check(text)
@@ -521,7 +521,7 @@ def play_text(text, script, say):
         except BadLine:
             say(f"refused X1 BadLine line {at}")
             return 2
-    player = Player(text, *head(script))
+    player = Player(text, *head(script), *usual)
     lacking = plain_term.lacking_in(player.group.links[0].book)
     if lacking:
         say(f"refused X2 NoName {lacking[0]}")

@@ -24,6 +24,8 @@ from plain_units import FLAG, Line, Receiver, Sender, bits_of, check_octets, dec
 
 ROOT = pathlib.Path(__file__).resolve().parents[2]
 SETS = {"standard": "standard.sdl", "q703": "q703.sdl", "monitors": "monitors.sdl"}
+# N1 and N2 over a set where nothing else is chosen; elsewhere those of a sender.
+USUAL = {"q703": (127, 3000)}
 STATUSES = ["SIO", "SIN", "SIE", "SIOS", "SIPO", "SIB", "6", "7"]
 COPIES = re.compile(r"%(?:(\d+)-)?(\d+)\{([^}]*)\}")
 UP = ["command power", "command start", "unit FFFF0100", "unit FFFF0101", "tick 8200", "unit FFFF00"]
@@ -38,8 +40,6 @@ SORTS = {
     "AckSeen": "BOOLEAN", "Unit": "INTEGER", "Take": "BOOLEAN", "Line": "INTEGER", "Withhold": "BOOLEAN", "Down": "INTEGER", "Deliver": "BOOLEAN",
     "Odd": "INTEGER", "Counting": "BOOLEAN",
 }
-# Whether the first line may say N1 and N2: that is beside what `play` has.
-ALL_NAMES = False
 # What a text may have besides.
 OPTIONAL = "ENV/Deliver RC/Odd ENV/Clear ENV/Cleared LSC/Flush LSC/Continue CC/Overload AERM/Counting SUERM/Counting".split()
 
@@ -477,7 +477,7 @@ def limits_of(words):
     """The limits N1 and N2 that the first line of a terminal script says, if it is one."""
     if words in (["terminal", "basic"], ["terminal", "cyclic"]):
         return []
-    if not ALL_NAMES or words[:2] != ["terminal", "cyclic"] or len(words) != 4:
+    if words[:2] != ["terminal", "cyclic"] or len(words) != 4:
         return None
     try:
         messages, octets = map(number, words[2:])
@@ -503,11 +503,11 @@ def run(terminal, commands, say):
 
 def play(word, script, say):
     """Plays a script on a set, and gives the status."""
-    return play_text(text_of(word).encode(), script, say)
+    return play_text(text_of(word).encode(), script, say, USUAL.get(word, ()))
 
 
-def play_text(text, script, say):
-    """Plays a script on a text, and gives the status."""
+def play_text(text, script, say, usual=()):
+    """Plays a script on a text, and gives the status; with these N1 and N2 where it says none."""
     if not is_terminal(script):
         return play_book(text, script, say)
     (_, first), *lines = spoken(script)
@@ -524,7 +524,7 @@ def play_text(text, script, say):
         except BadLine:
             say(f"refused X1 BadLine line {at}")
             return 2
-    terminal = Terminal(text, first[1] == "cyclic", *limits_of(first))
+    terminal = Terminal(text, first[1] == "cyclic", *(limits_of(first) or usual))
     terminal.keeps = any(it[0] == "told" for _, it in commands)
     lacking = lacking_in(terminal.book)
     if lacking:

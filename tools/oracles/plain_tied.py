@@ -2,7 +2,8 @@
 """A plain terminal on a line, written apart from the program: to hold `mtp2_play line` against. Its terminal is that of plain_term.py; the octets, the orders and
 the reports are as docs/links.md says them, on whole lists.
 
-usage: tools/oracles/plain_tied.py MODE [--orders FILE] [--reports FILE] [--bits low|high] [--ahead N]      a filter, as `mtp2_play line` is; it reads all before it writes
+usage: tools/oracles/plain_tied.py MODE [--text SET] [--n1 N] [--n2 N] [--orders FILE] [--reports FILE] [--bits low|high] [--ahead N]
+                                                                      a filter, as `mtp2_play line` is; it reads all before it writes
        tools/oracles/plain_tied.py --two MODE MILLISECONDS FIRST SECOND     two of them tied crosswise, by their files of orders: what each tells, and how many octets
                                                                       each sent, with their CRC-32
        tools/oracles/plain_tied.py --tied [--check]                        examples/line/tied.txt with its lives worked out; with --check nothing is printed, and the
@@ -17,13 +18,15 @@ sys.path += map(str, pathlib.Path(__file__).resolve().parents[1].glob("*"))
 
 from plain_lines import TEXT, Far
 from plain_play import Refused, shown
-from plain_term import COMMANDS, ROOT, BadLine, octets_in
+from plain_term import COMMANDS, MORE, ROOT, SETS, USUAL, BadLine, do, number, octets_in
 from plain_units import FLAG, bits_of, check_octets, octets_of, stuffed
 
 MOST = 600
 TIED = ROOT / "examples" / "line" / "tied.txt"
 DIGITS = re.compile(r"[0-9]+")
-STATUSES = {"InServiceNow": "in service", "RemoteOut": "far out", "RemoteBack": "far back"}
+STATUSES = {"InServiceNow": "in service", "RemoteOut": "far out", "RemoteBack": "far back", "Cleared": "cleared"}
+ORDERS = {**COMMANDS, **MORE}
+ASKED = ("told", "accepted", "retrieve")
 
 
 def turned(octet):
@@ -36,7 +39,7 @@ def millisecond(word):
 
 
 # What a report that is no order has behind its millisecond.
-REPORTED = ("in", "down", "far", "message", "state", "value", "refused", "lost")
+REPORTED = ("in", "down", "far", "cleared", "message", "state", "value", *ASKED, "refused", "lost")
 
 
 def orders_of(stream):
@@ -66,8 +69,8 @@ def orders_of(stream):
 class Filter:
     """One end. What it sent and what it told are whole lists."""
 
-    def __init__(self, mode, orders=b"", ahead=0, text=TEXT):
-        self.terminal, self.orders = Far(text, mode == "cyclic"), list(orders_of(orders))
+    def __init__(self, mode, orders=b"", ahead=0, text=TEXT, limits=()):
+        self.terminal, self.orders = Far(text, mode == "cyclic", *limits), list(orders_of(orders))
         self.sent, self.told, self.count, self.over = [255] * ahead, [], 0, False
         self.ready, self.rest, self.begun = [], [], False
 
@@ -119,10 +122,12 @@ class Filter:
     def obey(self, words):
         """What an order asked for, if it asked for something."""
         book = self.terminal.book
-        if words[0] == "command" and len(words) == 2 or words[0] in COMMANDS and len(words) == 1:
-            if words[-1] not in COMMANDS:
+        if words[0] == "command" and len(words) == 2 or words[0] in ORDERS and len(words) == 1:
+            if words[-1] not in ORDERS:
                 raise BadLine
-            self.terminal.command(*COMMANDS[words[-1]])
+            do(self.terminal, "command", ORDERS[words[-1]])
+        elif words[0] in ASKED and (len(words) == 1 or words[0] == "retrieve" and len(words) == 2 and number(words[1]) < 128):
+            return do(self.terminal, words[0], number(words[1]) if words[1:] else None)[0]
         elif words[0] == "msu" and len(words) == 2 and 3 <= len(octets_in(words[1])) <= 273:
             self.terminal.sender.put(octets_in(words[1]))
         elif words[0] == "state" and len(words) == 2:
@@ -135,9 +140,21 @@ class Filter:
         return None
 
 
-def two(mode, milliseconds, first, second, damaged=None):
-    """Two ends, each of which hears what the other sent, the first of which sent a millisecond of 1s ahead; an octet of the second is damaged."""
-    ends = [Filter(mode, first, 8), Filter(mode, second)]
+def set_of(word):
+    """The text of a set that a word names."""
+    return (ROOT / "examples" / SETS[word]).read_bytes() if word in SETS else pathlib.Path(word).read_bytes()
+
+
+def limits_over(word, n1=None, n2=None):
+    """N1 and N2 of a terminal over a set: those that are chosen, or else the set's."""
+    usual = USUAL.get(word, (127, 8192))
+    return usual[0] if n1 is None else n1, usual[1] if n2 is None else n2
+
+
+def two(mode, milliseconds, first, second, damaged=None, sets=("standard", "standard"), chosen=()):
+    """Two ends, each of which hears what the other sent, the first of which sent a millisecond of 1s ahead; an octet of the second is damaged. Each has a set of its
+    own, and both have the N1 and N2 that are chosen."""
+    ends = [Filter(mode, orders, ahead, set_of(word), limits_over(word, *chosen)) for word, orders, ahead in zip(sets, (first, second), (8, 0))]
     for now in range(milliseconds):
         for one in (1, 0):
             for octet in ends[1 - one].sent[8 * now : 8 * now + 8]:
@@ -156,9 +173,12 @@ def entries():
         given, shown = entry.split("\n--\n")
         name, text = given.strip("\n").split("\n", 1)
         line, orders = text.split("\n", 1)
-        words = line.split(" ")
+        mode, milliseconds, *more = line.split(" ")
         first, second = (it.encode() for it in orders.split("..\n", 1))
-        yield name, text, (words[0], int(words[1]), first, second, int(words[2]) if words[2:] else None), shown.rstrip("\n").split("\n")
+        damaged = next((int(it) for it in more if it.isdigit()), None)
+        sets = [it for it in more if it in SETS] or ["standard", "standard"]
+        chosen = [next((int(it.removeprefix(name)) for it in more if it.startswith(name)), None) for name in ("n1=", "n2=")]
+        yield name, text, (mode, int(milliseconds), first, second, damaged, sets, chosen), shown.rstrip("\n").split("\n")
 
 
 def tied():
@@ -179,11 +199,12 @@ def main(words):
         return int(made != TIED.read_text())
     read = argparse.ArgumentParser()
     read.add_argument("mode", choices=["basic", "cyclic"])
-    read.add_argument("--orders"), read.add_argument("--reports")
+    read.add_argument("--orders"), read.add_argument("--reports"), read.add_argument("--text", default="standard")
+    read.add_argument("--n1", type=int), read.add_argument("--n2", type=int)
     read.add_argument("--bits", choices=["low", "high"], default="low")
     read.add_argument("--ahead", type=int, default=0)
     given = read.parse_args(words)
-    end = Filter(given.mode, pathlib.Path(given.orders).read_bytes() if given.orders else b"", given.ahead)
+    end = Filter(given.mode, pathlib.Path(given.orders).read_bytes() if given.orders else b"", given.ahead, set_of(given.text), limits_over(given.text, given.n1, given.n2))
     turn = turned if given.bits == "high" else lambda it: it
     for octet in sys.stdin.buffer.read():
         if end.over:

@@ -1,5 +1,5 @@
--- Messages that belong to one link alone: those of changeover and changeback, traffic restart (Q.704,
--- 15.4 to 15.6), and tests of a link (Q.707).
+-- Messages that have to go by the link they are given to: those of changeover and changeback,
+-- traffic restart (Q.704, 15.4 to 15.6), and tests of a link (Q.707).
 use Rattle.std.specs.Prelude.{ℕ, ◌/◌, ◌%◌, ◌==◌, ◌&&◌, ◌||◌, nat_lt, Bool, false, not}
 use Rattle.std.specs.Prelude.{if◌then◌else◌, Option, Some, None, List, [], ◌∷◌, length, drop, filter}
 use Rattle.resend_store.specs.declared.messages.Msu.{Msu}

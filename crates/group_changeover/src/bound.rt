@@ -1,4 +1,4 @@
-//! Messages that belong to one link alone.
+//! Messages that have to go by the link that they are given to.
 ghost use Rattle.std.specs.Prelude.{◌≡◌, ◌%◌, Some, All};
 ghost use Rattle.resend_store.specs.Messages.{IsMessage};
 ghost use Rattle.group_changeover.specs.Bound.{is_short, is_long, is_testing, is_management, is_test, is_content, goes_between, is_bound_by, is_bound, unbound};
@@ -77,7 +77,7 @@ impl Points {
         label.dpc == self.peer && label.opc == self.own
     }
 
-    /// Whether a service information octet and a field are a message that belongs to its link alone: one of changeover, a changeback declaration or
+    /// Whether a service information octet and a field are a message that is bound to a link: one of changeover, a changeback declaration or
     /// its acknowledgement, traffic restart allowed (Q.704, 15.4 to 15.6), or a test of the link or its acknowledgement (Q.707), from this point to
     /// the other.
     #[tactic(auto, unfolding(crate::specs::Bound::is_bound_by))]

@@ -19,7 +19,7 @@ use Rattle.resend_store.specs.Window.{without_at}
 use Rattle.group_changeover.specs.Bound.{unbound}
 use Rattle.group_changeover.specs.declared.bound.Points.{Points}
 use Rattle.group_members.specs.OneLink.{held, window, shares, accepted_of, with_availability}
-use Rattle.group_members.specs.OneLink.{bound_by, bound_between}
+use Rattle.group_members.specs.OneLink.{bound_by, bound_among}
 
 -- it came into service since that was last asked
 abbrev pub came : Link → Bool
@@ -71,8 +71,8 @@ without_bound_at p i t =
     if bound_by p (slice_get (window_of t).kept i)
     then with_kept (without_at (window_of t) i).kept t else t
 
--- those that wait are, each that is bound to it
-unfoldable pub without_bound : Points → Term → Term
+-- of those that wait, each that is bound to it is
+abbrev pub without_bound : Points → Term → Term
 without_bound p t =
     with_kept
     (take (window_of t).sent (window_of t).kept
@@ -82,15 +82,18 @@ abbrev pub how_many : Option ℕ → ℕ
 how_many None = 0
 how_many (Some n) = n
 
+-- of those that the far side told of, how many are bound to it and wait
+abbrev pub bound_told : Link → ℕ
+bound_told k =
+    length (bound_among k (how_many (accepted_of k))) - length (bound_among k (window k).sent)
+
 -- The messages that are bound to it and wait leave. What the far side told of the messages that were
 -- kept it told of those that are kept still.
 abbrev pub leaves_out : Link → Link
 leaves_out k =
     record k {
       terminal = without_bound k.points k.terminal;
-      availability =
-          fewer (length (bound_between k (window k).sent (how_many (accepted_of k))))
-          k.availability;
+      availability = fewer (bound_told k) k.availability;
     }
 
 -- They leave where its directions began anew since that was last asked.

@@ -166,9 +166,9 @@ abbrev pub bound_by : Points → Option Msu → Bool
 bound_by p None = false
 bound_by p (Some m) = is_bound p m
 
--- of those that it holds from a place on to another, those that are bound to it
-abbrev pub bound_between : Link → ℕ → ℕ → List Msu
-bound_between k from to = filter (is_bound k.points) (drop from (take to (held k)))
+-- of the first so many that it holds, those that are bound to it
+abbrev pub bound_among : Link → ℕ → List Msu
+bound_among k n = filter (is_bound k.points) (take n (held k))
 
 -- K2 while its retrieval is out, and before an answer for as long as is waited; then K4
 unfoldable pub retrieve_fault_in : Link → Changing → Option RetrieveError

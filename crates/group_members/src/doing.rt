@@ -28,8 +28,12 @@ impl Link {
     fn leaves_out(&mut self)
         ensures { self.new ≡ leaves_out self.old }
     {
-        let told = self.accepted().unwrap_or(0);
-        let left = self.bound_between(self.terminal.sent(), told);
+        let told = match self.accepted() {
+            Some(count) => count,
+            None => 0,
+        };
+        let sent = self.bound_among(self.terminal.sent());
+        let left = self.bound_among(told).saturating_sub(sent);
         drop_bound(&mut self.terminal, self.points);
         self.availability = self.availability.fewer(left);
     }
@@ -113,7 +117,6 @@ fn drop_bound_at(terminal: &mut Terminal, points: Points, place: usize)
 }
 
 /// Drops the messages that wait and are bound to a link.
-#[tactic(auto, unfolding(crate::specs::Doing::without_bound))]
 fn drop_bound(terminal: &mut Terminal, points: Points)
     ensures { terminal.new ≡ without_bound points terminal.old }
 {

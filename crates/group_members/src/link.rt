@@ -5,7 +5,7 @@ ghost use Rattle.group_changeover.specs.Changeovers.{IsKind};
 ghost use Rattle.link_term.specs.Kept.{window_of};
 ghost use Rattle.group_changeover.specs.Saying.{count_in};
 ghost use Rattle.group_members.specs.Failing.{fail_fault_of, changeover_begins_at, order_of, count_heard, replies, hears};
-ghost use Rattle.group_members.specs.OneLink.{fault_of, carries, shares, gives_messages, is_own_out, has_outage, put_fault, puts, bind_fault, bound_by, bound_between, unknown, window, held, count_of, hold_by, unsure_by, retrieve_fault, retrieve_refusal, accepted_of, lacking, handed_by, emptied_behind, hands_out, abandon_fault, abandon_refusal};
+ghost use Rattle.group_members.specs.OneLink.{fault_of, carries, shares, gives_messages, is_own_out, has_outage, put_fault, puts, bind_fault, bound_by, bound_among, unknown, window, held, count_of, hold_by, unsure_by, retrieve_fault, retrieve_refusal, accepted_of, lacking, handed_by, emptied_behind, hands_out, abandon_fault, abandon_refusal};
 
 use group_changeover::{
     AbandonError, Availability, BindError, Changing, FailError, Kind, Points, RetrieveError,
@@ -181,28 +181,28 @@ impl Link {
         }
     }
 
-    /// How many of the messages that it holds from a place on to another are bound to it.
-    pub(crate) fn bound_between(&self, from: usize, to: usize) -> usize
-        ensures value { result ≡ length (bound_between self.now from to) }
-        ensures within { result ≤ to }
+    /// How many of the first so many messages that it holds are bound to it.
+    pub(crate) fn bound_among(&self, count: usize) -> usize
+        ensures value { result ≡ length (bound_among self.now count) }
+        ensures within { result ≤ count }
     {
-        let mut count: usize = 0;
-        for place in from..to {
+        let mut bound: usize = 0;
+        for place in 0..count {
             if self.is_bound_at(place) {
-                count += 1;
+                bound += 1;
             }
         }
-        count
+        bound
     }
 
     /// How many are sent of those that aren't bound to it.
-    #[tactic(auto, unfolding(crate::specs::OneLink::unknown))]
+    #[tactic(auto, using(crate::proofs::Renewing::unknown_is))]
     pub(crate) fn unknown(&self) -> usize
         ensures { result ≡ unknown self.now }
     {
         let _window = self.terminal.held();
         let sent = self.terminal.sent();
-        sent - self.bound_between(0, sent)
+        sent - self.bound_among(sent)
     }
 
     /// How many of the messages that are kept a number acknowledges, where they are no more than are sent.

@@ -119,7 +119,7 @@ pub data Reached : LinkSet → (ℕ → List Msu) → List Msu → List Gone →
       → Reached c retrievals accepted gone
       → (did : ByLink (Listened octets taken) l c d)
       → Reached d retrievals accepted
-      (gone ++ acknowledged (unbound (points_of c) did.at.was.took.gone))
+      (gone ++ acknowledged (unbound did.at.before.points did.at.was.took.gone))
   speaks : (c d : LinkSet) (retrievals : ℕ
       → List Msu) (accepted : List Msu) (gone : List Gone) (l units : ℕ) (octets : List ℕ)
       → Reached c retrievals accepted gone

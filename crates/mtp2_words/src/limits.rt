@@ -3,9 +3,7 @@ ghost use Rattle.std.specs.Prelude.{◌≡◌, option_map};
 ghost use Rattle.mtp2_words.specs.Limits.{usual_limits_of, messages_named, messages_of, octets_named, octets_of};
 
 use crate::words::Named;
-use resend_store::{
-    FORCED_MESSAGES, FORCED_OCTETS, LEAST_FORCED_OCTETS, Mode, RoundLimits, USUAL_LIMITS,
-};
+use resend_store::{Mode, RoundLimits, USUAL_LIMITS};
 use script_lines::count;
 
 /// With how many unacknowledged octets cyclic retransmission is forced over the set `q703` where nothing else is chosen. On a full line these last
@@ -32,7 +30,7 @@ fn messages_named(word: &str) -> Option<u8>
     ensures { result ≡ messages_named word.now }
 {
     match count(word) {
-        Some(number) if 1 <= number && number as usize <= FORCED_MESSAGES => Some(number as u8),
+        Some(number) if 1 <= number && number <= 127 => Some(number as u8),
         _ => None,
     }
 }
@@ -58,10 +56,7 @@ fn octets_named(word: &str) -> Option<u16>
     ensures { result ≡ octets_named word.now }
 {
     match count(word) {
-        Some(number)
-            if LEAST_FORCED_OCTETS <= number as usize && number as usize <= FORCED_OCTETS => {
-            Some(number as u16)
-        }
+        Some(number) if 300 <= number && number <= 8192 => Some(number as u16),
         _ => None,
     }
 }

@@ -5,6 +5,7 @@ use Rattle.std.proofs.lemmas.List.{drop-drop, take-append-drop}
 use Rattle.resend_store.specs.declared.messages.Mode.{Mode}
 use Rattle.resend_store.specs.declared.messages.Msu.{Msu}
 use Rattle.resend_store.specs.declared.messages.Outgoing.{Outgoing}
+use Rattle.resend_store.specs.declared.messages.RoundLimits.{RoundLimits}
 use Rattle.resend_store.specs.Intake.{Intake}
 use Rattle.resend_store.specs.Window.{count_by, retrieved}
 use Rattle.resend_store.specs.Exchange.{Answer, Exchange, Event, gets, gets_diverted, sends, answers, arrives, is_lost, comes_back, is_lost_back, first_is_lost, first_comes_back, first_is_lost_back, exchange_step, exchange_after, exchange_anew, none_arrives, RetrievalCompletes}
@@ -58,15 +59,15 @@ stays x (is_lost_back ∷ es) h = stays (exchange_step x is_lost_back) es h ∙ 
 
 -- ---- both
 
-module _ (mode : Mode) (waiting : List Msu) (events later : List Event) (none : none_arrives later ≡ true) where
+module _ (limits : RoundLimits) (mode : Mode) (waiting : List Msu) (events later : List Event) (none : none_arrives later ≡ true) where
   abbrev told : Exchange
-  told = exchange_after (exchange_anew mode waiting) events
+  told = exchange_after (exchange_anew limits mode waiting) events
 
   abbrev at_last : Exchange
   at_last = exchange_after told later
 
   sound_at_last : Sound at_last
-  sound_at_last = sound_run told later (sound_run (exchange_anew mode waiting) events (sound_anew mode waiting))
+  sound_at_last = sound_run told later (sound_run (exchange_anew limits mode waiting) events (sound_anew limits mode waiting))
 
   same : at_last.receiver ≡ told.receiver
   same = stays told later none

@@ -7,6 +7,7 @@ use Rattle.resend_store.specs.declared.messages.Mode.{Mode}
 use Rattle.resend_store.specs.declared.messages.Mode.TheVariants.{Basic, Cyclic}
 use Rattle.resend_store.specs.declared.messages.Msu.{Msu}
 use Rattle.resend_store.specs.declared.messages.Outgoing.{Outgoing}
+use Rattle.resend_store.specs.declared.messages.RoundLimits.{RoundLimits}
 use Rattle.resend_store.specs.Numbers.{plus, minus}
 use Rattle.resend_store.specs.Window.{Window, with_put, next, count_by, without, asked, after_back}
 use Rattle.resend_store.specs.Intake.{Hearing, hear}
@@ -359,8 +360,8 @@ pub sound_run : (x : Exchange) (es : List Event) → Sound x → Sound (exchange
 sound_run x [] h = h
 sound_run x (e ∷ es) h = sound_run (exchange_step x e) es (sound_step x e h)
 
-pub sound_anew : (mode : Mode) (messages : List Msu) → Sound (exchange_anew mode messages)
-sound_anew mode messages = record {
+pub sound_anew : (limits : RoundLimits) (mode : Mode) (messages : List Msu) → Sound (exchange_anew limits mode messages)
+sound_anew limits mode messages = record {
   a = 0;
   d = 0;
   fine = record { fits = omega arith; narrow = omega arith; again = omega arith; turn = omega arith };
@@ -375,7 +376,7 @@ sound_anew mode messages = record {
 }
 
 pub delivers_in_order : DeliversInOrder
-delivers_in_order mode events =
-    let x = exchange_after (exchange_start mode) events in
-    let h : Sound x = sound_run (exchange_start mode) events (sound_anew mode []) in
+delivers_in_order limits mode events =
+    let x = exchange_after (exchange_start limits mode) events in
+    let h : Sound x = sound_run (exchange_start limits mode) events (sound_anew limits mode []) in
     (drop h.d x.taken, sym (ap (λ (ms : List Msu). ms ++ drop h.d x.taken) h.delivered ∙ take-append-drop h.d x.taken))

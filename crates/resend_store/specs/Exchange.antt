@@ -6,7 +6,8 @@ use Rattle.std.specs.Option.{option_to_list}
 use Rattle.resend_store.specs.declared.messages.Msu.{Msu}
 use Rattle.resend_store.specs.declared.messages.Mode.{Mode}
 use Rattle.resend_store.specs.declared.messages.Outgoing.{Outgoing}
-use Rattle.resend_store.specs.Window.{Window, start, next, count_by, retrieved}
+use Rattle.resend_store.specs.declared.messages.RoundLimits.{RoundLimits}
+use Rattle.resend_store.specs.Window.{Window, start_within, next, count_by, retrieved}
 use Rattle.resend_store.specs.Intake.{Intake, first_intake, hear}
 use Rattle.resend_store.specs.Runs.{put, put_diverted, on_back, step, brought}
 use Rattle.resend_store.specs.Hearings.{is_accept}
@@ -41,10 +42,10 @@ pub data Event : Type 0 where
   is_lost_back : Event
 
 -- both begin anew, and these messages wait
-abbrev pub exchange_anew : Mode → List Msu → Exchange
-exchange_anew mode messages =
+abbrev pub exchange_anew : RoundLimits → Mode → List Msu → Exchange
+exchange_anew limits mode messages =
     record {
-      sender = record (start mode) { kept = messages };
+      sender = record (start_within limits mode) { kept = messages };
       receiver = first_intake mode;
       forth = [];
       back = [];
@@ -53,8 +54,8 @@ exchange_anew mode messages =
     }
 
 -- nothing was put yet
-abbrev pub exchange_start : Mode → Exchange
-exchange_start mode = exchange_anew mode []
+abbrev pub exchange_start : RoundLimits → Mode → Exchange
+exchange_start limits mode = exchange_anew limits mode []
 
 -- a unit arrives at the receiver
 abbrev pub hears : Exchange → Outgoing → Exchange
@@ -105,8 +106,8 @@ exchange_after x (e ∷ es) = exchange_after (exchange_step x e) es
 -- Whatever happens, what was accepted is a beginning of what the sender took: nothing is lost
 -- between, nothing comes twice, and the order stays.
 abbrev pub DeliversInOrder : Type 0
-DeliversInOrder = (mode : Mode) (events : List Event) →
-    let x = exchange_after (exchange_start mode) events in
+DeliversInOrder = (limits : RoundLimits) (mode : Mode) (events : List Event) →
+    let x = exchange_after (exchange_start limits mode) events in
     (missing : List Msu) × (x.taken ≡ x.delivered ++ missing)
 
 -- whether a unit arrives at the receiver
@@ -126,13 +127,13 @@ none_arrives (e ∷ es) = not (is_arrival e) && none_arrives es
 -- is lost and nothing comes twice, and the order stays. That number is never refused as one that
 -- acknowledges more than was sent.
 pub record RetrievalCompletes : Type 0 where
-  pub taken : (mode : Mode) (waiting : List Msu) (events later : List Event)
+  pub taken : (limits : RoundLimits) (mode : Mode) (waiting : List Msu) (events later : List Event)
       → none_arrives later ≡ true →
-      let x = exchange_after (exchange_anew mode waiting) events in
+      let x = exchange_after (exchange_anew limits mode waiting) events in
       let y = exchange_after x later in
       y.taken ≡ y.delivered ++ retrieved y.sender (Some x.receiver.last)
-  pub known : (mode : Mode) (waiting : List Msu) (events later : List Event)
+  pub known : (limits : RoundLimits) (mode : Mode) (waiting : List Msu) (events later : List Event)
       → none_arrives later ≡ true →
-      let x = exchange_after (exchange_anew mode waiting) events in
+      let x = exchange_after (exchange_anew limits mode waiting) events in
       let y = exchange_after x later in
       count_by y.sender x.receiver.last ≤ y.sender.sent

@@ -85,7 +85,10 @@ fn is_bound_message(octets: &[u8]) -> bool
 }
 
 /// `bound HEX`.
-fn bound_in<'a>(alloc: Global, word: &str) -> Result<Option<GroupCommand<'a>>, AllocError>
+pub(crate) fn bound_in<'a>(
+    alloc: Global,
+    word: &str,
+) -> Result<Option<GroupCommand<'a>>, AllocError>
     ensures { IfOk result (λ r. option_map plain_group_command r ≡ binding_by (octets_of word.now)) }
 {
     match octets_in(alloc, word)? {

@@ -2,7 +2,7 @@
 ghost use Rattle.std.specs.Prelude.{◌≡◌, ◌≤◌, IfSome};
 ghost use Rattle.script_lines.specs.Lines.{texts};
 ghost use Rattle.script_lines.specs.Numbers.{count_of};
-ghost use Rattle.script_links.specs.Heads.{MOST_LINKS, limits_over, limits_by, head_of_mode, head_within, term_head_of, links_of, head_by, head_of};
+ghost use Rattle.script_links.specs.Heads.{MOST_LINKS, limits_over, limits_by, cyclic_within, of_mode, head_of_mode, head_within, term_head_of, links_of, head_by, head_of};
 
 use crate::orders::mode_named;
 use resend_store::{Mode, RoundLimits};
@@ -51,15 +51,36 @@ fn limits_in(messages: &str, octets: &str) -> Option<RoundLimits>
     }
 }
 
+/// A kind of error correction, for which no limits are chosen.
+fn of_mode(mode: Option<Mode>) -> Option<TermHead>
+    ensures { result ≡ of_mode mode }
+{
+    match mode {
+        Some(mode) => Some(TermHead { mode, limits: None }),
+        None => None,
+    }
+}
+
 /// What `terminal` and another word say.
 fn head_of_mode(word: &str, mode: &str) -> Option<TermHead>
     ensures { result ≡ head_of_mode word.now mode.now }
 {
-    if word != "terminal" {
-        return None;
+    if word == "terminal" {
+        of_mode(mode_named(mode))
+    } else {
+        None
     }
-    match mode_named(mode) {
-        Some(mode) => Some(TermHead { mode, limits: None }),
+}
+
+/// Cyclic retransmission within limits.
+fn cyclic_within(limits: Option<RoundLimits>) -> Option<TermHead>
+    ensures { result ≡ cyclic_within limits }
+{
+    match limits {
+        Some(limits) => Some(TermHead {
+            mode: Mode::Cyclic,
+            limits: Some(limits),
+        }),
         None => None,
     }
 }
@@ -68,15 +89,10 @@ fn head_of_mode(word: &str, mode: &str) -> Option<TermHead>
 fn head_within(word: &str, mode: &str, messages: &str, octets: &str) -> Option<TermHead>
     ensures { result ≡ head_within word.now mode.now messages.now octets.now }
 {
-    if word != "terminal" || mode != "cyclic" {
-        return None;
-    }
-    match limits_in(messages, octets) {
-        Some(limits) => Some(TermHead {
-            mode: Mode::Cyclic,
-            limits: Some(limits),
-        }),
-        None => None,
+    if word == "terminal" && mode == "cyclic" {
+        cyclic_within(limits_in(messages, octets))
+    } else {
+        None
     }
 }
 

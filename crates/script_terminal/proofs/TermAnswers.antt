@@ -1,6 +1,6 @@
 -- What commands make of a terminal.
 use Rattle.std.proofs.Common.{◌≡◌, ℕ, zero, suc, ◌+◌, ◌-◌, ◌<◌, ◌≤◌, List, [], ◌∷◌, ◌++◌, length, take, drop, Option, None, Some, Result, Ok, Err, Bool, true, false, inl, inr, refl, sym, ap, subst, arith, ◌∙◌}
-use Rattle.std.specs.Prelude.{◌⊎◌, ◌↔◌, codes, if◌then◌else◌, slice_get, is_some}
+use Rattle.std.specs.Prelude.{◌⊎◌, ◌↔◌, IsTrue, codes, if◌then◌else◌, slice_get, is_some}
 use Rattle.std.specs.Fmt.{decimal}
 use Rattle.std.proofs.Math.Seq.{drop-nil}
 use Rattle.std.proofs.lemmas.Bool.{cases_lt}
@@ -18,6 +18,7 @@ use Rattle.actor_machine.specs.Step.{Says}
 use Rattle.actor_machine.specs.declared.event.Event.{Event}
 use Rattle.actor_machine.specs.declared.reply.Reply.{Reply}
 use Rattle.actor_machine.specs.declared.reply.Reply.TheVariants as reply
+use Rattle.link_transceiver.specs.Limits.{KEPT_MESSAGES}
 use Rattle.link_transceiver.specs.TransceiverState.{TransceiverState}
 use Rattle.link_transceiver.specs.Reporting.{Reported, status_reported, message_reported, reported}
 use Rattle.link_transceiver.specs.declared.signals.LinkStatus.{LinkStatus}
@@ -32,7 +33,7 @@ use Rattle.link_term.specs.Hearing.{Heard}
 use Rattle.link_term.specs.declared.answers.CallError.{CallError}
 use Rattle.link_term.specs.declared.answers.CallError.TheVariants.{Refused, NoMemory}
 use Rattle.script_book.specs.Answers.{answer_text}
-use Rattle.script_terminal.specs.TermAnswers.{after_answer, IsAsked, IsRefusedLine, Puts, taken, full, IsMessageOf, IsPut, without_reports, TakesNoMore, Listens, done, part, Hears, heard_all, in_parts, Takes, TakesTimes, never, again, behind_retrieve, IsRetrieveLine, Retrieves, given, bad}
+use Rattle.script_terminal.specs.TermAnswers.{after_answer, IsAsked, IsRefusedLine, Puts, taken, full, IsMessageOf, IsPut, without_reports, IsFull, TakesNoMore, Listens, done, part, Hears, heard_all, in_parts, Takes, TakesTimes, never, again, behind_retrieve, IsRetrieveLine, Retrieves, given, bad}
 
 -- ---- events
 
@@ -242,47 +243,55 @@ hears_all t u octets n all heard =
     let least : length octets ≤ length octets = omega arith in
     heard_all t u octets (subst Q (take_all (length octets) octets least) (subst P all heard))
 
--- the terminal took no more, and what was told is dropped
+not_over : (n : ℕ) (xs : List ℕ) → n < length xs → drop n xs ≡ [] → ⊥
+not_over n xs less none = omega (arith, less, ap length none, length-drop n xs)
+
+-- as many messages wait as may, and what was told is dropped
 pub hears_part : (t m w u : Term) (octets xs : List ℕ) (n : ℕ) → n < length octets → Heard t (take n octets) m
-    → (n < length octets → TakesNoMore m) → w ≡ without_reports m → xs ≡ drop n octets → Hears w xs u → Hears t octets u
-hears_part t m w u octets xs n less heard stops without rest hears =
+    → IsFull m → w ≡ without_reports m → xs ≡ drop n octets → Hears w xs u → Hears t octets u
+hears_part t m w u octets xs n less heard packed without rest hears =
     let P : List ℕ → Type 0 = λ ys. Hears t ys u in
     let Q : Term → Type 0 = λ v. Hears v xs u in
     let R : List ℕ → Type 0 = λ ys. Hears (without_reports m) ys u in
-    subst P (take-append-drop n octets) (in_parts t m u (take n octets) (drop n octets) heard (stops less) (subst R rest (subst Q without hears)))
+    subst P (take-append-drop n octets) (in_parts t m u (take n octets) (drop n octets) heard (not_over n octets less) packed (subst R rest (subst Q without hears)))
 
--- So far these octets were heard, with what was told dropped where the terminal took no more: all of
--- them, or those before a place where it takes no more.
+-- So far these octets were heard, with what was told dropped where as many messages waited as may: all
+-- of them, or those before a place where it may be dropped if so many wait.
 pub record Hearing (t m : Term) (octets : List ℕ) (from : ℕ) : Type 0 where
   pub within : from ≤ length octets
   pub all : length octets ≤ from → Hears t octets m
-  pub others : from < length octets → (u : Term) → Hears (without_reports m) (drop from octets) u → Hears t octets u
+  pub others : from < length octets → IsFull m → (u : Term) → Hears (without_reports m) (drop from octets) u → Hears t octets u
 
-pub hearing_begun : (t m : Term) (octets : List ℕ) (n : ℕ) → n ≤ length octets → Heard t (take n octets) m → (n < length octets → TakesNoMore m)
-    → Hearing t m octets n
-hearing_begun t m octets n few heard stops = record {
+pub hearing_begun : (t m : Term) (octets : List ℕ) (n : ℕ) → n ≤ length octets → Heard t (take n octets) m → Hearing t m octets n
+hearing_begun t m octets n few heard = record {
   within = few;
   all = λ over. hears_all t m octets n (omega (arith, few, over)) heard;
-  others = λ less u hears. hears_part t m (without_reports m) u octets (drop n octets) n less heard stops refl refl hears;
+  others = λ less packed u hears. hears_part t m (without_reports m) u octets (drop n octets) n less heard packed refl refl hears;
 }
 
-pub hearing_on : (t m w v : Term) (octets xs : List ℕ) (from k : ℕ) → Hearing t m octets from → from < length octets → w ≡ without_reports m
-    → xs ≡ drop from octets → k ≤ length xs → Heard w (take k xs) v → (k < length xs → TakesNoMore v) → Hearing t v octets (from + k)
-hearing_on t m w v octets xs from k before less without same few heard stops =
+pub hearing_on : (t m w v : Term) (octets xs : List ℕ) (from k : ℕ) → Hearing t m octets from → from < length octets → IsFull m → w ≡ without_reports m
+    → xs ≡ drop from octets → k ≤ length xs → Heard w (take k xs) v → Hearing t v octets (from + k)
+hearing_on t m w v octets xs from k before less packed without same few heard =
     let count : length xs ≡ length octets - from = ap length same ∙ length-drop from octets in
     let P : Term → Type 0 = λ z. Hears z xs v in
     let Q : List ℕ → Type 0 = λ ys. Hears (without_reports m) ys v in
     record {
       within = omega (arith, count, few, less);
-      all = λ over. before.others less v (subst Q same (subst P without (hears_all w v xs k (omega (arith, count, few, over, less)) heard)));
-      others = λ more u hears.
+      all = λ over. before.others less packed v (subst Q same (subst P without (hears_all w v xs k (omega (arith, count, few, over, less)) heard)));
+      others = λ more next_full u hears.
           let rest : drop (from + k) octets ≡ drop k xs = sym (drop-drop k from octets) ∙ ap (drop k) (sym same) in
           let R : List ℕ → Type 0 = λ ys. Hears (without_reports v) ys u in
           let S : Term → Type 0 = λ z. Hears z xs u in
           let T : List ℕ → Type 0 = λ ys. Hears (without_reports m) ys u in
-          before.others less u
-          (subst T same (subst S without (hears_part w v (without_reports v) u xs (drop k xs) k (omega (arith, count, more, less)) heard stops refl refl (subst R rest hears))));
+          before.others less packed u
+          (subst T same (subst S without (hears_part w v (without_reports v) u xs (drop k xs) k (omega (arith, count, more, less)) heard next_full refl refl (subst R rest hears))));
     }
+
+-- as many messages wait as may where there is no room
+pub full_by : (b : Bool) (t : Term) → IsTrue b ↔ (length t.processes.transceiver.messages < KEPT_MESSAGES) → b ≡ false → IsFull t
+full_by b t room no =
+    at_most (length t.processes.transceiver.messages) KEPT_MESSAGES (cases_lt (length t.processes.transceiver.messages) KEPT_MESSAGES)
+    (λ less. let e : true ≡ false = sym (room.1 less) ∙ no in cc)
 
 -- ---- so many times
 

@@ -111,11 +111,14 @@ abbrev pub without_reports : Term → Term
 without_reports t =
     term_with_transceiver t (record t.processes.transceiver { messages = []; statuses = [] })
 
+-- as many messages wait as may
+abbrev pub IsFull : Term → Type 0
+IsFull t = KEPT_MESSAGES ≤ length t.processes.transceiver.messages
+
 -- why a terminal takes no further octet: as many messages wait as may, or there is no memory to
 -- make room in the journal
 abbrev pub TakesNoMore : Term → Type 0
-TakesNoMore t =
-    (KEPT_MESSAGES ≤ length t.processes.transceiver.messages) ⊎ (is_low t.processes ≡ true)
+TakesNoMore t = IsFull t ⊎ (is_low t.processes ≡ true)
 
 -- Octets of the line come in, part after part, and behind each part all reports are taken out. A
 -- part has all that is left, or ends where the terminal takes no more.
@@ -125,12 +128,12 @@ pub data Listens : Term → List ℕ → Term → Type 0 where
       → ((more ≡ [] → ⊥) → TakesNoMore m)
       → Listens (without_reports m) more u → Listens t (first ∷ (octets ++ more)) u
 
--- Octets of the line come in, and what is told is kept. Only where the terminal takes no more what
--- waits is dropped, and then the other octets come in so.
+-- Octets of the line come in, and what is told is kept. Only where octets are left and as many
+-- messages wait as may, what waits is dropped, and then the other octets come in so.
 pub data Hears : Term → List ℕ → Term → Type 0 where
   heard_all : (t u : Term) (octets : List ℕ) → Heard t octets u → Hears t octets u
-  in_parts : (t m u : Term) (octets more : List ℕ) → Heard t octets m → TakesNoMore m
-      → Hears (without_reports m) more u → Hears t (octets ++ more) u
+  in_parts : (t m u : Term) (octets more : List ℕ) → Heard t octets m → (more ≡ [] → ⊥)
+      → IsFull m → Hears (without_reports m) more u → Hears t (octets ++ more) u
 
 -- whether what is told is kept
 abbrev pub Takes : Bool → Term → List ℕ → Term → Type 0

@@ -109,7 +109,8 @@ fn accepted(alloc: Global, terminal: &Terminal) -> Result<Vec<u8>, AllocError>
 
 /// Whether a number, if there is one, may be that of a message.
 fn is_number(behind: Option<u8>) -> bool
-    ensures { IsTrue result → IfSome behind (λ number. number < 128) }
+    ensures number { IsTrue result → IfSome behind (λ number. number < 128) }
+    ensures any { IfSome behind (λ number. number < 128) → IsTrue result }
 {
     match behind {
         Some(number) => number < 128,

@@ -33,12 +33,15 @@ fn listen(terminal: &mut Terminal, octets: &[u8]) -> Result<(), AllocError>
     Ok(())
 }
 
-/// Takes octets of the line, all of them, and keeps what the terminal tells, but drops it where the terminal takes no more.
+/// Takes octets of the line, all of them, and keeps what the terminal tells, but drops it where octets are left and as many messages wait as may.
 fn hear(terminal: &mut Terminal, octets: &[u8]) -> Result<(), AllocError>
     ensures { OnOk result (Hears terminal.old octets.now terminal.new) }
 {
     let mut from = terminal.line_in(octets);
     while from < octets.len() {
+        if terminal.has_room() {
+            return Err(AllocError);
+        }
         drop_reports(terminal);
         let taken = terminal.line_in(&octets[from..]);
         if taken == 0 {

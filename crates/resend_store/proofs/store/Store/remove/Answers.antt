@@ -1,7 +1,6 @@
-use Rattle.std.proofs.Common.{rules, ◌≡◌, ◌+◌, ◌<◌, ◌≤◌, ◌++◌, List, length, drop, take, ap, sym, ◌∙◌, subst, arith}
-use Rattle.std.proofs.lemmas.List.{length-take}
+use Rattle.std.proofs.Common.{rules, ◌≡◌, ◌+◌, ◌<◌, ◌≤◌, ◌++◌, List, length, drop, take, ap, sym, ◌∙◌, arith}
 use Rattle.resend_store.specs.declared.messages.Msu.{Msu}
-use Rattle.resend_store.specs.Messages.{IsMessage, octets}
+use Rattle.resend_store.specs.Messages.{octets}
 use Rattle.resend_store.specs.Stored.{Stored}
 use Rattle.resend_store.proofs.Removing.{on_some, front_stays, one_less, others_whole, taken_out}
 use Rattle.resend_store.proofs.store.Store.remove.Goals as goal
