@@ -3,4 +3,3 @@ pub mod Equal
 mod Keeping
 pub mod Lists
 mod Moving
-pub mod Unbound

@@ -1,4 +1,3 @@
-pub mod Bound
 pub mod Changeovers
 pub mod Labels
 pub mod Laws

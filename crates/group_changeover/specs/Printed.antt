@@ -3,8 +3,6 @@ use Rattle.std.specs.Prelude.{ℕ, List, ◌++◌, codes}
 use Rattle.std.specs.Fmt.{decimal}
 use Rattle.group_changeover.specs.declared.errors.SendError.{SendError}
 use Rattle.group_changeover.specs.declared.errors.SendError.TheVariants as send
-use Rattle.group_changeover.specs.declared.errors.BindError.{BindError}
-use Rattle.group_changeover.specs.declared.errors.BindError.TheVariants as bind
 use Rattle.group_changeover.specs.declared.errors.FailError.{FailError}
 use Rattle.group_changeover.specs.declared.errors.FailError.TheVariants as fail
 use Rattle.group_changeover.specs.declared.errors.RetrieveError.{RetrieveError}
@@ -24,14 +22,9 @@ use Rattle.group_changeover.specs.declared.errors.CommandError.TheVariants as co
 use Rattle.actor_machine.specs.Printed.{refusal_text}
 
 abbrev pub send_error_text : SendError → List ℕ
-send_error_text send.Bound = codes "K5 Bound"
 send_error_text send.NoLink = codes "K1 NoLink"
 send_error_text send.Waiting = codes "K2 Waiting"
 send_error_text send.Full = codes "E1 Full"
-
-abbrev pub bind_error_text : BindError → List ℕ
-bind_error_text bind.NoLink = codes "K1 NoLink"
-bind_error_text bind.Full = codes "E1 Full"
 
 abbrev pub fail_error_text : FailError → List ℕ
 fail_error_text fail.NoLink = codes "K1 NoLink"

@@ -3,7 +3,6 @@
 #![tactic(auto)]
 
 mod availability;
-mod bound;
 mod changeover;
 mod errors;
 mod labels;
@@ -13,11 +12,10 @@ mod sharing;
 mod table;
 
 pub use availability::{Answer, Availability, Behind, Changing, SELECTIONS, T2};
-pub use bound::{Points, leave_out};
 pub use changeover::{Changeover, Kind, read_changeover};
 pub use errors::{
-    AbandonError, BindError, CommandError, DivertFault, FailError, LineError, LinkError,
-    RebalanceError, RetrieveError, SendError,
+    AbandonError, CommandError, DivertFault, FailError, LineError, LinkError, RebalanceError,
+    RetrieveError, SendError,
 };
 pub use labels::{Label, label_of};
 pub use laws::steps_keep_places;

@@ -51,7 +51,6 @@ started command k =
 
 -- The terminal took it.
 pub record Commanded (command : Command) (old new : Link) : Type 0 where
-  pub points : new.points ≡ old.points
   pub free : is_barred command old ≡ false
   pub answer :
       let t = tidied old.terminal.processes
@@ -64,7 +63,6 @@ pub record Commanded (command : Command) (old new : Link) : Type 0 where
 
 -- The terminal refused it: nothing changed, but that there may be room in its journal now.
 pub record Refused (command : Command) (refusal : Refusal) (old new : Link) : Type 0 where
-  pub points : new.points ≡ old.points
   pub free : is_barred command old ≡ false
   pub answer :
       let t = tidied old.terminal.processes

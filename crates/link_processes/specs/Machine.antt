@@ -1,6 +1,7 @@
 -- What a terminal does: each call is one of these steps, on the history of its actors and what it
 -- keeps beside them.
-use Rattle.std.specs.Prelude.{ℕ, zero, suc, ◌&&◌, ◌==◌, not, Bool, true, false, nat_lt, cond, if◌then◌else◌}
+use Rattle.std.specs.Prelude.{ℕ, zero, suc, ◌&&◌, not, Bool, true, false, nat_lt, cond}
+use Rattle.std.specs.Prelude.{if◌then◌else◌}
 use Rattle.std.specs.Prelude.{Option, Some, None, List, [], ◌∷◌, length}
 use Rattle.resend_store.specs.Window.{emptied as without_kept}
 use Rattle.su_octets.specs.declared.units.Unit.{Unit}
@@ -160,9 +161,13 @@ to_clear t = if t.transceiver.clearing then length t.transceiver.sender.kept els
 
 -- ---- octet counting
 
+abbrev pub differs : Bool → Bool → Bool
+differs true b = not b
+differs false b = b
+
 -- whether the set hears of octet counting, and it isn't as it was told last
 abbrev pub is_news : Bool → Processes → Bool
-is_news on t = is_there t.names.options.counting && not (on == t.counting)
+is_news on t = is_there t.names.options.counting && differs on t.counting
 
 -- Octets are counted, or they aren't: where that is news, both error rate monitors are told.
 unfoldable pub counting_told : Bool → Processes → Processes

@@ -86,9 +86,9 @@ sends_either p q s r = not (touches s r) || (offers p s r || offers q s r)
 pub record FitsCounting (d : Draft) (to : ProcessName) (k : SignalNumber) : Type 0 where
   pub aerm : ℕ
   pub suerm : ℕ
-  pub process : ℕ
   pub is_aerm : IsProcess d aerm process.Aerm
   pub is_suerm : IsProcess d suerm process.Suerm
+  pub process : ℕ
   pub is_process : IsProcess d process to
   pub sorts : parameters_of (slice_get d.signals k.0) ≡ option_sorts option.Counting
   pub alone : list_all (sends_either aerm suerm k) d.routes ≡ true

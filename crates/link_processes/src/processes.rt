@@ -11,7 +11,7 @@ ghost use Rattle.link_transceiver.specs.Laws.{Loses};
 ghost use Rattle.link_transceiver.specs.Limits.{KEPT_MESSAGES};
 ghost use Rattle.link_processes.specs.Known.{is_there};
 ghost use Rattle.link_processes.specs.Offering.{command_event, offer_event};
-ghost use Rattle.link_processes.specs.Machine.{with_book, with_transceiver, heard, rested, offered, all_offered, noted_by, unit_taken, error_taken, told_of, none_out, handed_out, buffers_emptied, clear_obeyed, to_clear, counting_told, sent, tidied, is_low, tick_refusal};
+ghost use Rattle.link_processes.specs.Machine.{with_book, with_transceiver, heard, rested, offered, all_offered, noted_by, unit_taken, error_taken, told_of, none_out, handed_out, buffers_emptied, clear_obeyed, to_clear, differs, counting_told, sent, tidied, is_low, tick_refusal};
 
 use crate::commands::{Command, command_number, command_signal};
 use crate::laws::{accepted_messages_wait_in_order, unacknowledged_messages_stay};
@@ -37,6 +37,13 @@ pub struct Processes {
     pub names: Names,
     /// Whether octets are counted, as that was told last.
     pub counting: bool,
+}
+
+/// Whether it is otherwise.
+fn differs(on: bool, told: bool) -> bool
+    ensures { result ≡ differs on told }
+{
+    if on { !told } else { told }
 }
 
 impl Processes {
@@ -184,7 +191,7 @@ impl Processes {
         ensures messages { self.new.transceiver.messages ≡ self.old.transceiver.messages }
     {
         accepted_messages_wait_in_order();
-        if self.hears_counting() && on != self.counting {
+        if self.hears_counting() && differs(on, self.counting) {
             self.counting = on;
             self.offer_all(&counting_offers(on));
         }

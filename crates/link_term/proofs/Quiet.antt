@@ -1,6 +1,6 @@
 -- Octets of which none but the last reports anything.
-use Rattle.std.proofs.Common.{◌≡◌, ℕ, ◌+◌, ◌-◌, ◌<◌, ◌≤◌, min, Bool, true, false, not, ◌&&◌, ◌⊎◌, inl, inr, is_some, Option, List, [], ◌∷◌, ◌++◌, length, reverse, take, get_or, refl, sym, ap, ◌∙◌, subst, append-nil, append_assoc, length-append, arith}
-use Rattle.std.specs.Prelude.{if◌then◌else◌, ◌≢◌, ◌==◌}
+use Rattle.std.proofs.Common.{◌≡◌, ℕ, ◌+◌, ◌-◌, ◌<◌, ◌≤◌, Bool, true, false, ◌&&◌, ◌⊎◌, inl, inr, is_some, Option, List, [], ◌∷◌, ◌++◌, length, reverse, take, get_or, refl, sym, ap, ◌∙◌, subst, append-nil, append_assoc, length-append, arith}
+use Rattle.std.specs.Prelude.{if◌then◌else◌, ◌≢◌}
 use Rattle.std.proofs.lemmas.Bool.{true≢false}
 use Rattle.std.proofs.lemmas.List.{take_more, take-take, length-take, reverse-append}
 use Rattle.su_octets.specs.Bits.{low_bits, bits_of}
@@ -16,7 +16,7 @@ use Rattle.link_transceiver.specs.Limits.{KEPT_MESSAGES}
 use Rattle.link_processes.specs.declared.processes.Processes.{Processes}
 use Rattle.link_transceiver.specs.Offers.{counting_offers}
 use Rattle.link_processes.specs.Known.{is_there}
-use Rattle.link_processes.specs.Machine.{with_book, all_offered, counting_told, tidied, is_low}
+use Rattle.link_processes.specs.Machine.{with_book, all_offered, differs, counting_told, tidied, is_low}
 use Rattle.link_processes.specs.declared.names.Names.{Names}
 use Rattle.link_term.specs.Term.{Term}
 use Rattle.link_term.specs.Hearing.{AreTaken, nothing, Hears, silent, octet, Heard}
@@ -98,7 +98,7 @@ never false c x y h = refl
 deaf_told : (on : Bool) (t : Processes) → Deaf t → counting_told on t ≡ t
 unfolding counting_told
 deaf_told on t deaf =
-    never (is_there t.names.options.counting) (not (on == t.counting)) (all_offered (counting_offers on) (record t { counting = on })) t deaf
+    never (is_there t.names.options.counting) (differs on t.counting) (all_offered (counting_offers on) (record t { counting = on })) t deaf
 
 names_if : (b : Bool) (x y : Processes) (n : Names) → x.names ≡ n → y.names ≡ n → (if b then x else y).names ≡ n
 names_if true x y n p q = p
@@ -120,7 +120,7 @@ hushed_more y ys t (inl none) = let f : ⊥ = omega (arith, ap length none) in a
 hushed_more y ys t (inr deaf) = deaf
 
 counted_by : (bits : List Bool) (all : List LineEvent) → AreEvents bits all → (on : Bool) × IsCounting bits on
-counted_by bits all are = (is_some are.0, are.0, all, are.1, refl)
+counted_by bits all are = (is_some are.0, (are.0, all, are.1, refl))
 
 -- ---- octets in turn
 
@@ -231,15 +231,18 @@ heard_part t u m octets n given on some within one whole stands events before co
 pub part_within : (octets part : List ℕ) (n : ℕ) → part ≡ take (length part) octets → n ≤ length part → n ≤ length octets
 part_within octets part n is few = omega (arith, few, ap length is, length-take (length part) octets)
 
-pub one_of : (part : List ℕ) (n : ℕ) (there : Bool) → n ≤ length part → (there ≡ true → length part ≡ 1) → there ≡ true → n ≤ 1
-one_of part n there few one h = omega (arith, few, one h)
+pub one_of : (t m : Processes) (part : List ℕ) (n : ℕ) → m ≡ tidied t → n ≤ length part → (is_there m.names.options.counting ≡ true → length part ≡ 1)
+    → is_there t.names.options.counting ≡ true → n ≤ 1
+one_of t m part n is few one there =
+    let names : m.names ≡ t.names = ap (λ (x : Processes). x.names) is ∙ tidied_names t in
+    let here : is_there m.names.options.counting ≡ true = ap (λ (x : Names). is_there x.options.counting) names ∙ there in
+    omega (arith, few, one here)
 
 -- what is taken of a part is taken of the octets
 pub heard_of : (t u : Term) (octets part : List ℕ) (n : ℕ) → part ≡ take (length part) octets → n ≤ length part → Heard t (take n part) u → Heard t (take n octets) u
 heard_of t u octets part n is few heard =
     let P : List ℕ → Type 0 = λ xs. Heard t xs u in
-    let least : min n (length part) ≡ n = omega (arith, few) in
-    subst P (ap (take n) is ∙ take-take n (length part) octets ∙ ap (λ (k : ℕ). take k octets) least) heard
+    subst P (ap (take n) is ∙ take-take n (length part) octets few) heard
 
 -- at least one octet is taken
 pub some_taken : (d : Deframer) (bits : List Bool) (octets : List ℕ) (n : ℕ) (given : List LineEvent) → Stands bits d → 0 < length octets

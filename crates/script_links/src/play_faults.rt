@@ -1,6 +1,5 @@
 //! Why a line is none of a script that `play` runs, for a person to read.
 
-use crate::group_commands::bound_in;
 use crate::heads::{head_in, term_head_in};
 use crate::octets::octets_in;
 use crate::orders::{mode_named, order_in};
@@ -170,21 +169,6 @@ fn way_fault<'a>(word: &'a str) -> Option<PlayFault<'a>> {
     }
 }
 
-/// Why the word behind `bound` is no message that is bound to a link.
-fn bound_fault<'a>(
-    alloc: Global,
-    word: &'a str,
-    next: &'a str,
-) -> Result<Option<PlayFault<'a>>, AllocError> {
-    if let Some(fault) = octets_fault(alloc, word, next, 6, 22)? {
-        return Ok(Some(fault));
-    }
-    match bound_in(alloc, next)? {
-        Some(_) => Ok(None),
-        None => Ok(Some(PlayFault::NotBound { word })),
-    }
-}
-
 /// Why the word behind a link set's verb is none of its.
 fn behind_group_verb<'a>(
     alloc: Global,
@@ -195,7 +179,6 @@ fn behind_group_verb<'a>(
     match verb {
         GroupVerb::On => Ok(of_line(number_fault(next, 0, MOST))),
         GroupVerb::Send => octets_fault(alloc, word, next, 5, 273),
-        GroupVerb::Bound => bound_fault(alloc, word, next),
         GroupVerb::Message => octets_fault(alloc, word, next, 0, MANY),
         GroupVerb::Admit => Ok(way_fault(next)),
     }

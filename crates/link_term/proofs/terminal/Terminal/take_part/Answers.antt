@@ -20,7 +20,8 @@ returns-clause-heard c =
     (heard_of _ _ c.args.octets.now c.next_part.result.now c.feed_until-taken.result.0 c.next_part.ensures.part c.feed_until-taken.ensures.most
     (heard_part _ _ c.take_events.new.processes c.next_part.result.now c.feed_until-taken.result.0 c.feed_until-taken.result.1.items c.is_counting.result
     c.next_part.ensures.some c.feed_until-taken.ensures.most
-    (one_of c.next_part.result.now c.feed_until-taken.result.0 _ c.feed_until-taken.ensures.most c.next_part.ensures.one)
+    (one_of c.self.inside.processes c.make_room.new.processes c.next_part.result.now c.feed_until-taken.result.0 (c.if-not-make_room.ensures.tidied refl)
+    c.feed_until-taken.ensures.most c.next_part.ensures.one)
     c.feed_until-taken.ensures.all c.feed_until-taken.ensures.stands c.feed_until-taken.ensures.events c.feed_until-taken.ensures.before
     c.is_counting.ensures
     (c.if-not-make_room.ensures.room refl)
@@ -51,7 +52,8 @@ pub returns-clause-took : goal.returns-clause-took
 returns-clause-took c =
     let part = heard_part _ _ c.take_events.new.processes c.next_part.result.now c.feed_until-taken.result.0 c.feed_until-taken.result.1.items
     c.is_counting.result c.next_part.ensures.some c.feed_until-taken.ensures.most
-    (one_of c.next_part.result.now c.feed_until-taken.result.0 _ c.feed_until-taken.ensures.most c.next_part.ensures.one)
+    (one_of c.self.inside.processes c.make_room.new.processes c.next_part.result.now c.feed_until-taken.result.0 (c.if-not-make_room.ensures.tidied refl)
+    c.feed_until-taken.ensures.most c.next_part.ensures.one)
     c.feed_until-taken.ensures.all c.feed_until-taken.ensures.stands c.feed_until-taken.ensures.events c.feed_until-taken.ensures.before
     c.is_counting.ensures
     (c.if-not-make_room.ensures.room refl)
