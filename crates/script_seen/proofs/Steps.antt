@@ -2,7 +2,7 @@
 use Rattle.std.proofs.Common.{◌≡◌, ◌∙◌, ℕ, ◌+◌, ◌-◌, ◌<◌, ◌≤◌, Bool, List, [], ◌∷◌, ◌++◌, length, take, drop, get_or, append-nil, append_assoc, Option, Some, None, map, arith, refl, sym, ap, subst}
 use Rattle.std.specs.Io.KnownBytes.{Appends}
 use Rattle.std.proofs.KnownBytes.{Appends-nil, Appends-trans}
-use Rattle.std.proofs.lemmas.List.{take_all, take_more, length-append}
+use Rattle.std.proofs.lemmas.List.{take_all, take_more, length-append, length-drop}
 use Rattle.std.proofs.lemmas.Grind.{flat_map-append}
 use Rattle.std.specs.Prelude.{option_map, slice_get, Ok}
 use Rattle.std.proofs.lemmas.Option.{same_Some}
@@ -344,6 +344,10 @@ followed_from b t m u es from to k f =
       agree = λ agree. f.agree (agrees agree);
       told = λ agree. subst E k.every (subst D k.set (subst V k.state (f.told (agrees agree))));
     }
+
+-- what stands behind the first ones of a list, to its end
+pub all_behind : (xs : List Event) (k : ℕ) → take (length xs - k) (drop k xs) ≡ drop k xs
+all_behind xs k = take_all (length xs - k) (drop k xs) (omega (arith, length-drop k xs))
 
 pub followed_since : (b : Ledger) (t m u : Tracer) (done : ℕ) (es : List Event) (from to : Option (List ℕ)) → IsCaughtUp b t m → done ≡ length m.again.journal
     → es ≡ drop done b.journal → IsFollowed m es u from to → IsFollowed t (since (next t.again) b) u from to

@@ -14,8 +14,8 @@ pub loop-place-preserved : goal.loop-place-preserved
 loop-place-preserved c =
     c.loop-place.invariant
     ∙ elim c.match-get.branch [
-        | in-Some+else-not-is_saved w ↦
-            saved_on (is_saved c.args.set.now c.args.process.0 c.args.state.0) c.args.port.now.items c.loop-place.place w.in-Some.item.now (sym w.in-Some.ensures)
-            (sym w.is_saved.ensures ∙ w.if-not-is_saved.false)
-        | in-None w ↦ absurd (no_past c.args.port.now.items c.loop-place.place (omega (arith, c.loop-place-test.true, c.len-place-end.ensures.value)) (sym w.in-None.ensures))
-      ]
+      | in-Some+else-not-is_saved w ↦
+          saved_on (is_saved c.args.set.now c.args.process.0 c.args.state.0) c.args.port.now.items c.loop-place.place w.in-Some.item.now (sym w.in-Some.ensures)
+          (sym w.is_saved.ensures ∙ w.if-not-is_saved.false)
+      | in-None w ↦ absurd (no_past c.args.port.now.items c.loop-place.place (omega (arith, c.loop-place-test.true, c.len-place-end.ensures.value)) (sym w.in-None.ensures))
+    ]
