@@ -1,6 +1,8 @@
 -- What is traced of a run of each kind of script, one command more.
-use Rattle.std.proofs.Common.{◌≡◌, ℕ, Bool, true, ◌+◌, ◌<◌, ◌≤◌, List, [], ◌∷◌, ◌++◌, length, map, take, drop, get_or, Option, None, Some, refl, sym, ap, subst}
+use Rattle.std.proofs.Common.{◌≡◌, ◌∙◌, ℕ, Bool, true, ◌+◌, ◌<◌, ◌≤◌, List, [], ◌∷◌, ◌++◌, length, map, take, drop, get_or, Option, None, Some, refl, sym, ap, subst}
 use Rattle.std.proofs.KnownBytes.{Appends-nil}
+use Rattle.turn_code.specs.declared.draft.Draft.{Draft}
+use Rattle.actor_machine.specs.Kept.{opened_book}
 use Rattle.actor_machine.specs.Ledger.{Ledger, next, state_of}
 use Rattle.script_lines.specs.Lines.{PlainLine}
 use Rattle.script_lines.specs.Scripts.{PlainSaid, plain_said}
@@ -12,12 +14,23 @@ use Rattle.script_group.specs.Played.{begins as book_begins, IsRun, IsWritten, I
 use Rattle.script_group.specs.TermRuns.{begins as term_begins, IsTermRun, IsTermMissed, IsTermMissedBy}
 use Rattle.script_seen.specs.Kinds.{book_line, term_line}
 use Rattle.script_seen.specs.Traced.{since, are_in_step}
-use Rattle.script_seen.specs.Following.{IsFollowed}
+use Rattle.script_seen.specs.Following.{Agree, IsFollowed}
 use Rattle.script_seen.specs.TracedKinds.{IsAtStart, book_asks, BookBehind, BookMisses, BookTracing, IsBookTraced, IsBookTracedInPart}
 use Rattle.script_seen.specs.TracedKinds.{term_asks, book_in, TermBehind, TermMisses, TermTracing, IsTermTraced, IsTermTracedInPart}
 use Rattle.script_seen.specs.declared.tracing.Tracer.{Tracer}
 use Rattle.script_seen.proofs.Showings.{one_more, parts_at, all_taken}
 use Rattle.script_seen.proofs.Tracings.{HasFrontOf, tracing_begins, tracing_more, is_traced}
+
+-- a tracer of a set's new book
+pub opened_at : (d : Draft) (port env journal : ℕ) (t : Tracer) → t.again ≡ opened_book d port env journal → Agree t
+    → IsAtStart (opened_book d port env journal) t
+unfolding opened_book
+opened_at d port env journal t is agree = record {
+  set = ap (λ (b : Ledger). b.set) is;
+  place_is = ap (λ (b : Ledger). next b) is;
+  state = ap (λ (b : Ledger). state_of b) is;
+  timers = agree ∙ ap (λ (b : Ledger). (state_of b).timers) is;
+}
 
 -- ---- books
 

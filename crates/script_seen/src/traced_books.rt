@@ -139,7 +139,8 @@ fn open_tracer(
     ensures every { IfOk result (λ t. t.every ≡ every) }
     ensures start { IfOk result (IsAtStart (first_book set.now settings)) }
 {
-    new_tracer(alloc, set, limits_of(settings), every)
+    let tracer = new_tracer(alloc, set, limits_of(settings), every)?;
+    Ok(tracer)
 }
 
 /// The same, from a link's beginning. Gives the exit status, 0 or 1 where an expectation failed.
@@ -167,7 +168,7 @@ fn trace_link<W: Write, T: Write, E: Write>(
     let lines = lines_in(alloc, text)?;
     let mut tracer = open_tracer(alloc, set, script.settings, every)?;
     let mut player = open_player(alloc, set, script.settings)?;
-    trace_each(
+    let status = trace_each(
         alloc,
         &mut player,
         &script.commands,
@@ -176,7 +177,8 @@ fn trace_link<W: Write, T: Write, E: Write>(
         trace,
         writer,
         errors,
-    )
+    )?;
+    Ok(status)
 }
 
 /// Runs a book script on the processes of a set, as `play_book` does, and traces it: each command's line of the script's text, but of `state`,

@@ -136,10 +136,11 @@ fn open_tracer(alloc: Global, set: &Verified, every: bool) -> Result<Tracer, All
     ensures every { IfOk result (λ t. t.every ≡ every) }
     ensures start { IfOk result (IsAtStart (opened_book set.now MOST_PORT MOST_ENVIRONMENT MOST_JOURNAL)) }
 {
-    match Limits::new(PORT, ENVIRONMENT, JOURNAL) {
-        Some(limits) => new_tracer(alloc, set, limits, every),
-        None => unreachable!(),
-    }
+    let Some(limits) = Limits::new(PORT, ENVIRONMENT, JOURNAL) else {
+        unreachable!();
+    };
+    let tracer = new_tracer(alloc, set, limits, every)?;
+    Ok(tracer)
 }
 
 /// The same, on a new terminal over a set. Gives the exit status, 0 or 1 where an expectation failed.
@@ -168,7 +169,7 @@ fn trace_on<W: Write, T: Write>(
     let mut player = new_player(terminal);
     let commands = script.commands.as_slice();
     let keeps = asks_told(commands);
-    trace_each(
+    let status = trace_each(
         alloc,
         &mut player,
         commands,
@@ -177,7 +178,35 @@ fn trace_on<W: Write, T: Write>(
         &mut tracer,
         trace,
         writer,
-    )
+    )?;
+    Ok(status)
+}
+
+/// The same. Gives the exit status, 4 where memory or a write fails.
+fn trace_new<W: Write, T: Write>(
+    alloc: Global,
+    set: &Verified,
+    terminal: Terminal,
+    script: &TermScript<'_>,
+    text: &str,
+    every: bool,
+    trace: &mut T,
+    writer: &mut W,
+) -> u8
+    ensures held { result ≡ 0
+        → IsTermWritten (map plain_term_said script.now.commands.items) (W.contents writer.old) (W.contents writer.new) terminal }
+    ensures missed { result ≡ 1
+        → IsTermFailed (map plain_term_said script.now.commands.items) (W.contents writer.old) (W.contents writer.new) terminal }
+    ensures traced { result ≡ 0 → book_in terminal ≡ opened_book set.now MOST_PORT MOST_ENVIRONMENT MOST_JOURNAL
+        → IsTermTraced every (asks_told (map plain_term_said script.now.commands.items)) (lines_of text.now) terminal (map plain_term_said script.now.commands.items) (T.contents trace.old) (T.contents trace.new) }
+    ensures in_part { result ≡ 1 → book_in terminal ≡ opened_book set.now MOST_PORT MOST_ENVIRONMENT MOST_JOURNAL
+        → IsTermTracedInPart every (asks_told (map plain_term_said script.now.commands.items)) (lines_of text.now) terminal (map plain_term_said script.now.commands.items) (T.contents trace.old) (T.contents trace.new) }
+    ensures status { (result ≡ 0) ⊎ (result ≡ 1) ⊎ (result ≡ 4) }
+{
+    match trace_on(alloc, set, terminal, script, text, every, trace, writer) {
+        Ok(status) => status,
+        Err(_) => FAILED,
+    }
 }
 
 /// Runs a terminal's script on a terminal over a set, as `play_terminal` does, and traces it as `trace_book` does: its processes' events.
@@ -210,10 +239,7 @@ pub fn trace_terminal<W: Write, T: Write>(
 {
     let limits = script.head.limits_over(usual);
     match Terminal::of_set_within(alloc, limits, script.head.mode, set) {
-        Ok(terminal) => match trace_on(alloc, set, terminal, script, text, every, trace, writer) {
-            Ok(status) => status,
-            Err(_) => FAILED,
-        },
+        Ok(terminal) => trace_new(alloc, set, terminal, script, text, every, trace, writer),
         Err(error) => refuse_set(alloc, writer, error),
     }
 }
