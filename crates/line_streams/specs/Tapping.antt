@@ -1,5 +1,6 @@
 -- What taps on the octets of a line have recorded.
-use Rattle.std.specs.Prelude.{◌≡◌, ◌⊎◌, ℕ, ◌<◌, List, [], ◌++◌, length, map, Option}
+use Rattle.std.specs.Prelude.{◌≡◌, ◌⊎◌, ℕ, ◌<◌, List, [], ◌++◌, length, map, Option, true}
+use Rattle.std.specs.Prelude.{is_none}
 use Rattle.std.specs.Io.KnownBytes.{Appends}
 use Rattle.rtrb.specs.Ring.{sent, received, known_free, IsPair}
 use Rattle.rtrb.specs.declared.producer.Producer.{Producer}
@@ -36,3 +37,4 @@ pub record IsTapped {R W S : Type 0} (plan : Plan) (reader : R) (writer : W) (in
   pub bits : out_tap.bits ≡ plan.bits
   pub link : out_tap.capture.link ≡ plan.link
   pub every : out_tap.capture.repeats.every ≡ plan.every
+  pub no_trouble : is_none out_tap.trouble ≡ true

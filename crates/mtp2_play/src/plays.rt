@@ -1,0 +1,228 @@
+//! The command `play` from its files to the exit status.
+ghost use Rattle.std.specs.Prelude.{◌≡◌, ◌⊎◌, None};
+ghost use Rattle.script_check.specs.Checked.{given};
+ghost use Rattle.script_play.specs.Played.{IsOnSet, IsPlayed, IsPlayedInPart, IsRefused};
+ghost use Rattle.mtp2_words.specs.Limits.{usual_limits_of};
+ghost use Rattle.mtp2_play.specs.Printed.{IsPlayedOn};
+
+use crate::sets::{STDIN, own_set, set_word};
+use mtp2_words::{Named, Seeing, Source};
+use plain_text::{NamedReader, Teller};
+use script_check::{FAILED, SetWord};
+use script_play::{play, play_traced};
+use std::alloc::Global;
+use std::fs;
+use std::io::{Read, Write};
+use std::rt::Runtime;
+
+/// What of a script's run is seen beside its replies: whether the lines of commands are, where a trace goes, and whether what has no effect is
+/// traced too.
+#[derive(Drop)]
+struct Watch<F> {
+    echo: bool,
+    every: bool,
+    trace: Option<F>,
+}
+
+/// Runs a script that comes from a reader on a set.
+#[tactic(auto, using(crate::proofs::Known::played, crate::proofs::Known::in_part, crate::proofs::Known::not_run))]
+fn play_on<H: Eprint, S: Read + Drop, T: Read + Drop, F: Write, W: Write>(
+    alloc: Global,
+    teller: &Teller<'_, H>,
+    set: SetWord<S>,
+    named: &Named<'_>,
+    name: &str,
+    script: T,
+    watch: &mut Watch<F>,
+    writer: &mut W,
+) -> u8
+    ensures held { result ≡ 0 → IsOnSet (given S.remaining set) None (IsPlayed (usual_limits_of named.now) watch.old.echo (W.contents writer.old) (W.contents writer.new)) }
+    ensures missed { result ≡ 1 → IsOnSet (given S.remaining set) None (IsPlayedInPart (usual_limits_of named.now) watch.old.echo (W.contents writer.old) (W.contents writer.new)) }
+    ensures refused { result ≡ 2 → IsRefused (given S.remaining set) None (W.contents writer.old) (W.contents writer.new) }
+    ensures status { (result ≡ 0) ⊎ (result ≡ 1) ⊎ (result ≡ 2) ⊎ (result ≡ 4) }
+{
+    let usual = named.usual_limits();
+    let (echo, every) = (watch.echo, watch.every);
+    match &mut watch.trace {
+        Some(trace) if !echo => play_traced(
+            alloc,
+            set,
+            usual,
+            name,
+            script,
+            every,
+            trace,
+            writer,
+            &mut teller.errors(),
+        ),
+        _ => play(
+            alloc,
+            set,
+            usual,
+            name,
+            script,
+            echo,
+            writer,
+            &mut teller.errors(),
+        ),
+    }
+}
+
+/// Runs a script of a file, or of standard input, on a set.
+fn play_source<R: Runtime + AllocGlobal, H: Eprint, S: Read + Drop, F: Write, W: Write>(
+    rt: &R,
+    teller: &Teller<'_, H>,
+    set: SetWord<S>,
+    named: &Named<'_>,
+    name: &str,
+    script: Source<'_>,
+    watch: &mut Watch<F>,
+    writer: &mut W,
+) -> u8
+    ensures held { result ≡ 0 → IsOnSet (given S.remaining set) None (IsPlayed (usual_limits_of named.now) watch.old.echo (W.contents writer.old) (W.contents writer.new)) }
+    ensures missed { result ≡ 1 → IsOnSet (given S.remaining set) None (IsPlayedInPart (usual_limits_of named.now) watch.old.echo (W.contents writer.old) (W.contents writer.new)) }
+    ensures refused { result ≡ 2 → IsRefused (given S.remaining set) None (W.contents writer.old) (W.contents writer.new) }
+    ensures status { (result ≡ 0) ⊎ (result ≡ 1) ⊎ (result ≡ 2) ⊎ (result ≡ 4) }
+{
+    match script {
+        Source::Stdin => {
+            let script = NamedReader::new(teller, STDIN, rt.reader());
+            play_on(rt.alloc(), teller, set, named, name, script, watch, writer)
+        }
+        Source::File(path) => match fs::open(rt, path) {
+            Ok(file) => play_on(
+                rt.alloc(),
+                teller,
+                set,
+                named,
+                name,
+                NamedReader::new(teller, path, file),
+                watch,
+                writer,
+            ),
+            Err(error) => teller.fail(path, &error),
+        },
+    }
+}
+
+/// Runs a script on a set of the program's own.
+fn play_own<R: Runtime + AllocGlobal, H: Eprint, F: Write, W: Write>(
+    rt: &R,
+    teller: &Teller<'_, H>,
+    set: Named<'_>,
+    script: Source<'_>,
+    watch: &mut Watch<F>,
+    writer: &mut W,
+) -> u8
+    ensures printed { IsPlayedOn set.entry watch.old.echo result (W.contents writer.old) (W.contents writer.new) }
+    ensures status { (result ≡ 0) ⊎ (result ≡ 1) ⊎ (result ≡ 2) ⊎ (result ≡ 4) }
+{
+    match own_set(&set) {
+        Some(own) => play_source(
+            rt,
+            teller,
+            own,
+            &set,
+            set_word(&set),
+            script,
+            watch,
+            writer,
+        ),
+        None => FAILED,
+    }
+}
+
+/// Runs a script on a set whose text comes from a reader.
+#[tactic(auto, using(crate::proofs::Known::played_on_some, crate::proofs::Known::in_part_on_some, crate::proofs::Known::not_run_on_some))]
+fn play_text<R: Runtime + AllocGlobal, H: Eprint, S: Read + Drop, F: Write, W: Write>(
+    rt: &R,
+    teller: &Teller<'_, H>,
+    named: &Named<'_>,
+    name: &str,
+    text: S,
+    script: Source<'_>,
+    watch: &mut Watch<F>,
+    writer: &mut W,
+) -> u8
+    ensures held { result ≡ 0 → IsOnSet None None (IsPlayed (usual_limits_of named.now) watch.old.echo (W.contents writer.old) (W.contents writer.new)) }
+    ensures missed { result ≡ 1 → IsOnSet None None (IsPlayedInPart (usual_limits_of named.now) watch.old.echo (W.contents writer.old) (W.contents writer.new)) }
+    ensures refused { result ≡ 2 → IsRefused None None (W.contents writer.old) (W.contents writer.new) }
+    ensures status { (result ≡ 0) ⊎ (result ≡ 1) ⊎ (result ≡ 2) ⊎ (result ≡ 4) }
+{
+    play_source(
+        rt,
+        teller,
+        SetWord::Text(text),
+        named,
+        name,
+        script,
+        watch,
+        writer,
+    )
+}
+
+/// Runs `play` on the set and the script that the command line names, with a trace where there is a file for it. A file that can't be opened is
+/// a failure, whatever there is to say of the other text.
+fn run_watched<R: Runtime + AllocGlobal, H: Eprint, F: Write, W: Write>(
+    rt: &R,
+    teller: &Teller<'_, H>,
+    set: Named<'_>,
+    script: Source<'_>,
+    watch: &mut Watch<F>,
+    writer: &mut W,
+) -> u8
+    ensures printed { IsPlayedOn set.entry watch.old.echo result (W.contents writer.old) (W.contents writer.new) }
+    ensures status { (result ≡ 0) ⊎ (result ≡ 1) ⊎ (result ≡ 2) ⊎ (result ≡ 4) }
+{
+    match set {
+        Named::Standard | Named::Q703 | Named::Monitors => play_own(
+            rt, teller, set, script, watch, writer,
+        ),
+        Named::Stdin => {
+            let text = NamedReader::new(teller, STDIN, rt.reader());
+            play_text(
+                rt,
+                teller,
+                &set,
+                set_word(&set),
+                text,
+                script,
+                watch,
+                writer,
+            )
+        }
+        Named::File(path) => match fs::open(rt, path) {
+            Ok(file) => {
+                let text = NamedReader::new(teller, path, file);
+                play_text(rt, teller, &set, path, text, script, watch, writer)
+            }
+            Err(error) => teller.fail(path, &error),
+        },
+    }
+}
+
+/// The same with what is to be seen of the run.
+pub(crate) fn run_play<R: Runtime + AllocGlobal, H: Eprint, W: Write>(
+    rt: &R,
+    teller: &Teller<'_, H>,
+    set: Named<'_>,
+    script: Source<'_>,
+    seen: &Seeing<'_>,
+    writer: &mut W,
+) -> u8
+    ensures printed { IsPlayedOn set.entry seen.now.echo result (W.contents writer.old) (W.contents writer.new) }
+    ensures status { (result ≡ 0) ⊎ (result ≡ 1) ⊎ (result ≡ 2) ⊎ (result ≡ 4) }
+{
+    let mut watch = Watch {
+        echo: seen.echo,
+        every: seen.every,
+        trace: None,
+    };
+    if let Some(path) = seen.trace {
+        match fs::create(rt, path) {
+            Ok(file) => watch.trace = Some(file),
+            Err(error) => return teller.fail(path, &error),
+        }
+    }
+    run_watched(rt, teller, set, script, &mut watch, writer)
+}

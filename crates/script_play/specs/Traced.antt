@@ -1,0 +1,62 @@
+-- What the status of `play` says of a trace.
+use Rattle.std.specs.Prelude.{◌≡◌, ℕ, Bool, List, Option, Ok, IsUtf8}
+use Rattle.turn_code.specs.declared.draft.Draft.{Draft}
+use Rattle.script_seen.specs.resend_store_types.messages.RoundLimits.{RoundLimits}
+use Rattle.script_seen.specs.TermScripts.{PlainAnyScript, book, terminal, asks_told}
+use Rattle.script_seen.specs.GroupScripts.{PlainPlayScript, other, group, play_script_of}
+use Rattle.script_lines.specs.Lines.{PlainLine, lines_of}
+use Rattle.script_seen.specs.Played.{first_book}
+use Rattle.script_seen.specs.TermRuns.{IsOfNew}
+use Rattle.script_seen.specs.TracedKinds.{IsBookTraced, IsBookTracedInPart, IsTermTraced}
+use Rattle.script_seen.specs.TracedKinds.{IsTermTracedInPart}
+
+-- all commands of a script are traced: of a book of the set, or of a new terminal over it, with the
+-- usual limits where the script chooses none
+abbrev pub IsOtherTraced :
+    RoundLimits → Bool → List PlainLine → Draft → PlainAnyScript → Option (List ℕ)
+    → Option (List ℕ) → Type 0
+IsOtherTraced usual every lines d (book s) old new =
+    IsBookTraced every lines (first_book d s.settings) s.commands old new
+IsOtherTraced usual every lines d (terminal s) old new =
+    IsOfNew d usual s.head
+    (λ t. IsTermTraced every (asks_told s.commands) lines t s.commands old new)
+
+-- a script of a link set has no trace
+abbrev pub AreTraced :
+    RoundLimits → Bool → List PlainLine → Draft → PlainPlayScript → Option (List ℕ)
+    → Option (List ℕ) → Type 0
+AreTraced usual every lines d (other s) old new = IsOtherTraced usual every lines d s old new
+AreTraced usual every lines d (group s) old new = ⊥
+
+-- so are those in front of an expectation that failed
+abbrev pub IsOtherTracedInPart :
+    RoundLimits → Bool → List PlainLine → Draft → PlainAnyScript → Option (List ℕ)
+    → Option (List ℕ) → Type 0
+IsOtherTracedInPart usual every lines d (book s) old new =
+    IsBookTracedInPart every lines (first_book d s.settings) s.commands old new
+IsOtherTracedInPart usual every lines d (terminal s) old new =
+    IsOfNew d usual s.head
+    (λ t. IsTermTracedInPart every (asks_told s.commands) lines t s.commands old new)
+
+abbrev pub AreTracedInPart :
+    RoundLimits → Bool → List PlainLine → Draft → PlainPlayScript → Option (List ℕ)
+    → Option (List ℕ) → Type 0
+AreTracedInPart usual every lines d (other s) old new =
+    IsOtherTracedInPart usual every lines d s old new
+AreTracedInPart usual every lines d (group s) old new = ⊥
+
+-- the bytes are a script, all of whose commands are traced
+pub record IsPlayTraced (usual : RoundLimits) (every : Bool) (old new : Option (List ℕ))
+    (d : Draft) (bytes : List ℕ) : Type 0 where
+  pub utf8 : IsUtf8 bytes
+  pub script : PlainPlayScript
+  pub reads : play_script_of bytes ≡ Ok script
+  pub traced : AreTraced usual every (lines_of bytes) d script old new
+
+-- the bytes are a script, an expectation of which failed; the commands in front of that are traced
+pub record IsPlayTracedInPart (usual : RoundLimits) (every : Bool) (old new : Option (List ℕ))
+    (d : Draft) (bytes : List ℕ) : Type 0 where
+  pub utf8 : IsUtf8 bytes
+  pub script : PlainPlayScript
+  pub reads : play_script_of bytes ≡ Ok script
+  pub traced : AreTracedInPart usual every (lines_of bytes) d script old new
