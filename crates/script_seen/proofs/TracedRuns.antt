@@ -7,11 +7,11 @@ use Rattle.actor_machine.specs.Ledger.{Ledger, next, state_of}
 use Rattle.script_lines.specs.Lines.{PlainLine}
 use Rattle.script_lines.specs.Scripts.{PlainSaid, plain_said}
 use Rattle.script_lines.specs.declared.script.Said.{Said}
-use Rattle.script_links.specs.TermScripts.{PlainTermSaid, plain_term_said}
+use Rattle.script_links.specs.TermScripts.{PlainTermSaid, plain_term_said, asks_told}
 use Rattle.script_links.specs.declared.script.TermSaid.{TermSaid}
 use Rattle.script_group.specs.Term.{Term}
 use Rattle.script_group.specs.Played.{begins as book_begins, IsRun, IsWritten, IsMissed, IsMissedBy}
-use Rattle.script_group.specs.TermRuns.{begins as term_begins, IsTermRun, IsTermMissed, IsTermMissedBy}
+use Rattle.script_group.specs.TermRuns.{begins as term_begins, IsTermRun, IsTermWritten, IsTermMissed, IsTermMissedBy, IsTermFailed}
 use Rattle.script_seen.specs.Kinds.{book_line, term_line}
 use Rattle.script_seen.specs.Traced.{since, are_in_step}
 use Rattle.script_seen.specs.Following.{Agree, IsFollowed}
@@ -209,3 +209,14 @@ term_traced_part every keeps lines t items i x begun now new tracer within is sa
       missed = missed;
       traced = subst P (sym stays) (term_traced_all every keeps lines t (map plain_term_said (take i items)) begun now tracer same s);
     }
+
+-- what is told is kept where one of the commands asks for it
+pub term_written : (keeps : Bool) (t : Term) (commands : List PlainTermSaid) (old new : Option (List ℕ)) → keeps ≡ asks_told commands
+    → (now : Term) × (last : Option (List ℕ)) × IsTermRun keeps t commands old new now last → IsTermWritten commands old new t
+term_written keeps t commands old new same (now, last, run) =
+    let K : Bool → Type 0 = λ k. IsTermRun k t commands old new now last in record { now = now; last = last; run = subst K same run }
+
+pub term_failed : (keeps : Bool) (t : Term) (commands : List PlainTermSaid) (old new : Option (List ℕ)) → keeps ≡ asks_told commands
+    → IsTermMissed keeps commands old new t → IsTermFailed commands old new t
+term_failed keeps t commands old new same missed =
+    let K : Bool → Type 0 = λ k. IsTermMissed k commands old new t in subst K same missed

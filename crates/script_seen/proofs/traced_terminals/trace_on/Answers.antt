@@ -4,8 +4,30 @@ use Rattle.script_group.specs.Term.{Term}
 use Rattle.script_lines.specs.Lines.{PlainLine, plain_line, lines_of}
 use Rattle.script_links.specs.TermScripts.{plain_term_said, asks_told}
 use Rattle.script_links.specs.declared.script.TermSaid.{TermSaid}
+use Rattle.script_group.specs.TermRuns.{IsTermWritten, IsTermFailed}
 use Rattle.script_seen.specs.TracedKinds.{book_in, IsAtStart, IsTermTraced, IsTermTracedInPart}
+use Rattle.script_seen.proofs.TracedRuns.{term_written, term_failed}
 use Rattle.script_seen.proofs.traced_terminals.trace_on.Goals as goal
+
+pub returns-clause-held : goal.returns-clause-held
+returns-clause-held g c zero =
+    let cs = c.as_slice-commands.result.now in
+    let X : Term → Type 0 = λ x. IsTermWritten (map plain_term_said cs) (g.W.Write.contents c.args.writer.now) (g.W.Write.contents c.trace_each.new.writer) x in
+    let C : List TermSaid → Type 0 =
+    λ xs. IsTermWritten (map plain_term_said xs) (g.W.Write.contents c.args.writer.now) (g.W.Write.contents c.trace_each.new.writer) c.args.terminal in
+    subst C c.as_slice-commands.ensures.value
+    (subst X c.new_player-player.ensures.terminal
+    (term_written _ _ (map plain_term_said cs) _ _ c.asks_told-keeps.ensures (c.in_ok-status.ensures.held zero c.new_player-player.ensures.last)))
+
+pub returns-clause-missed : goal.returns-clause-missed
+returns-clause-missed g c one =
+    let cs = c.as_slice-commands.result.now in
+    let X : Term → Type 0 = λ x. IsTermFailed (map plain_term_said cs) (g.W.Write.contents c.args.writer.now) (g.W.Write.contents c.trace_each.new.writer) x in
+    let C : List TermSaid → Type 0 =
+    λ xs. IsTermFailed (map plain_term_said xs) (g.W.Write.contents c.args.writer.now) (g.W.Write.contents c.trace_each.new.writer) c.args.terminal in
+    subst C c.as_slice-commands.ensures.value
+    (subst X c.new_player-player.ensures.terminal
+    (term_failed _ _ (map plain_term_said cs) _ _ c.asks_told-keeps.ensures (c.in_ok-status.ensures.missed one c.new_player-player.ensures.last)))
 
 pub returns-clause-traced : goal.returns-clause-traced
 returns-clause-traced g c zero new =
