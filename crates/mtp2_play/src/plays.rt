@@ -118,16 +118,7 @@ fn play_own<R: Runtime + AllocGlobal, H: Eprint, F: Write, W: Write>(
     ensures status { (result ≡ 0) ⊎ (result ≡ 1) ⊎ (result ≡ 2) ⊎ (result ≡ 4) }
 {
     match own_set(&set) {
-        Some(own) => play_source(
-            rt,
-            teller,
-            own,
-            &set,
-            set_word(&set),
-            script,
-            watch,
-            writer,
-        ),
+        Some(own) => play_source(rt, teller, own, &set, set_word(&set), script, watch, writer),
         None => FAILED,
     }
 }
