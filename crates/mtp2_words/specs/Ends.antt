@@ -58,6 +58,7 @@ pub record IsEndOf (words : LineWords) (end : LineEnd) : Type 0 where
   pub reports_are : option_map (λ w. w.now) end.reports ≡ option_map (λ w. w.now) words.reports
   pub capture_is : option_map (λ w. w.now) end.capture ≡ option_map (λ w. w.now) words.capture
   pub every_is : end.every ≡ words.every
+  pub measures_are : option_map (λ w. w.now) end.measures ≡ option_map (λ w. w.now) words.measures
 
 -- N1 or N2 is a word that says no limit of the error correction
 pub record HasNoLimit (words : LineWords) : Type 0 where

@@ -28,6 +28,8 @@ pub struct LineEnd<'a> {
     pub capture: Option<&'a str>,
     /// Whether every unit is captured; else repeats are left out.
     pub every: bool,
+    /// Where its measurements go at the end of the run; nowhere, where nothing is said.
+    pub measures: Option<&'a str>,
 }
 
 /// The words that say it.
@@ -51,6 +53,8 @@ pub struct LineWords<'a> {
     pub capture: Option<&'a str>,
     /// Whether every unit is captured.
     pub every: bool,
+    /// A file for measurements.
+    pub measures: Option<&'a str>,
 }
 
 impl LineEnd<'_> {
@@ -128,5 +132,6 @@ pub fn line_end<'a>(words: &LineWords<'a>) -> Option<LineEnd<'a>>
         ahead,
         capture: words.capture,
         every: words.every,
+        measures: words.measures,
     })
 }

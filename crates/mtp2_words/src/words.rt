@@ -176,6 +176,7 @@ fn line_of<'a>(given: &ArgMatches<'a>) -> Option<LineEnd<'a>>
         ahead: given.get_str("ahead"),
         capture: given.get_str("capture"),
         every: is_given(given.get_str("every")),
+        measures: given.get_str("measures"),
     })
 }
 

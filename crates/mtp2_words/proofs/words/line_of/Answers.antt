@@ -16,6 +16,7 @@ words c = record {
   ahead = c.get_str-7.result;
   capture = c.get_str-8.result;
   every = c.is_given.result;
+  measures = c.get_str-10.result;
 }
 
 under_ids : (c : goal.After-line_end) → AreUnderIds (given_by c.args.given.now) (words c)
@@ -29,6 +30,7 @@ under_ids c = record {
   ahead = sym c.get_str-7.ensures;
   capture = sym c.get_str-8.ensures;
   every = ap says_true (sym c.get_str-9.ensures) ∙ sym c.is_given.ensures;
+  measures = sym c.get_str-10.ensures;
 }
 
 pub returns-clause-some : goal.returns-clause-some
