@@ -1,5 +1,5 @@
 -- What holds of bytes of which something may be known holds of some bytes.
-use Rattle.std.proofs.Common.{subst, ◌≡◌, ℕ, Bool, inl, inr, List, Option, None, Some, rules}
+use Rattle.std.proofs.Common.{subst, sym, ◌≡◌, ℕ, Bool, false, inl, inr, List, Option, None, Some, rules}
 use Rattle.script_check.specs.Checked.{given, IsGiven, PrintsCosts, PrintsRefusal}
 use Rattle.script_check.specs.declared.sets.SetWord.{SetWord}
 use Rattle.script_check.specs.declared.sets.SetWord.TheVariants.{Standard as standard_set, Q703 as q703_set, Monitors as monitors_set, Text}
@@ -82,6 +82,18 @@ pub in_part : (usual wanted : RoundLimits) (echo : Bool) (set script old new : O
 in_part usual wanted echo set script old new same s =
     let Q : RoundLimits → Type 0 = λ l. IsOnSet set None (IsPlayedInPart l echo old new) in
     subst Q same (record { draft = s.draft; is_set = s.is_set; of_script = some_bytes script (IsPlayedInPart usual echo old new s.draft) s.of_script })
+
+-- with a trace, which goes without the lines of commands
+pub traced : (usual wanted : RoundLimits) (echo : Bool) (set script old new : Option (List ℕ)) → usual ≡ wanted → echo ≡ false
+    → IsOnSet set script (IsPlayed usual false old new) → IsOnSet set None (IsPlayed wanted echo old new)
+traced usual wanted echo set script old new same without s =
+    let E : Bool → Type 0 = λ e. IsOnSet set None (IsPlayed wanted e old new) in subst E (sym without) (played usual wanted false set script old new same s)
+
+pub traced_in_part : (usual wanted : RoundLimits) (echo : Bool) (set script old new : Option (List ℕ)) → usual ≡ wanted → echo ≡ false
+    → IsOnSet set script (IsPlayedInPart usual false old new) → IsOnSet set None (IsPlayedInPart wanted echo old new)
+traced_in_part usual wanted echo set script old new same without s =
+    let E : Bool → Type 0 = λ e. IsOnSet set None (IsPlayedInPart wanted e old new) in
+    subst E (sym without) (in_part usual wanted false set script old new same s)
 
 not_run_in : (set script old new : Option (List ℕ)) → IsOnSet set script (IsNotRun old new) → IsOnSet set None (IsNotRun old new)
 not_run_in set script old new s = record { draft = s.draft; is_set = s.is_set; of_script = some_bytes script (IsNotRun old new s.draft) s.of_script }

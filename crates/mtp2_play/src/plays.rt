@@ -25,7 +25,7 @@ struct Watch<F> {
 }
 
 /// Runs a script that comes from a reader on a set.
-#[tactic(auto, using(crate::proofs::Known::played, crate::proofs::Known::in_part, crate::proofs::Known::not_run))]
+#[tactic(auto, using(crate::proofs::Known::played, crate::proofs::Known::in_part, crate::proofs::Known::not_run, crate::proofs::Known::traced, crate::proofs::Known::traced_in_part))]
 fn play_on<H: Eprint, S: Read + Drop, T: Read + Drop, F: Write, W: Write>(
     alloc: Global,
     teller: &Teller<'_, H>,
@@ -43,8 +43,21 @@ fn play_on<H: Eprint, S: Read + Drop, T: Read + Drop, F: Write, W: Write>(
 {
     let usual = named.usual_limits();
     let (echo, every) = (watch.echo, watch.every);
+    let mut errors = teller.errors();
+    if echo {
+        return play(
+            alloc,
+            set,
+            usual,
+            name,
+            script,
+            echo,
+            writer,
+            &mut errors,
+        );
+    }
     match &mut watch.trace {
-        Some(trace) if !echo => play_traced(
+        Some(trace) => play_traced(
             alloc,
             set,
             usual,
@@ -53,9 +66,9 @@ fn play_on<H: Eprint, S: Read + Drop, T: Read + Drop, F: Write, W: Write>(
             every,
             trace,
             writer,
-            &mut teller.errors(),
+            &mut errors,
         ),
-        _ => play(
+        None => play(
             alloc,
             set,
             usual,
@@ -63,7 +76,7 @@ fn play_on<H: Eprint, S: Read + Drop, T: Read + Drop, F: Write, W: Write>(
             script,
             echo,
             writer,
-            &mut teller.errors(),
+            &mut errors,
         ),
     }
 }
@@ -204,16 +217,17 @@ pub(crate) fn run_play<R: Runtime + AllocGlobal, H: Eprint, W: Write>(
     ensures printed { IsPlayedOn set.entry seen.now.echo result (W.contents writer.old) (W.contents writer.new) }
     ensures status { (result ≡ 0) ⊎ (result ≡ 1) ⊎ (result ≡ 2) ⊎ (result ≡ 4) }
 {
+    let trace = match seen.trace {
+        Some(path) => match fs::create(rt, path) {
+            Ok(file) => Some(file),
+            Err(error) => return teller.fail(path, &error),
+        },
+        None => None,
+    };
     let mut watch = Watch {
         echo: seen.echo,
         every: seen.every,
-        trace: None,
+        trace,
     };
-    if let Some(path) = seen.trace {
-        match fs::create(rt, path) {
-            Ok(file) => watch.trace = Some(file),
-            Err(error) => return teller.fail(path, &error),
-        }
-    }
     run_watched(rt, teller, set, script, &mut watch, writer)
 }

@@ -1,5 +1,5 @@
 -- What the words of a command's matches ask for, by what single words say.
-use Rattle.std.proofs.Common.{◌≡◌, ◌∙◌, ℕ, ◌+◌, ◌<◌, [], ◌∷◌, ◌++◌, Bor, map, take, length, get_or, List, Option, Some, None, Result, Ok, Err, IfOk, IsNone, IfSome, IsSomeAnd, refl, sym, ap, subst, inl, inr, is_some, option_map, option_and_then, box_value, codes, Bool}
+use Rattle.std.proofs.Common.{◌≡◌, ◌∙◌, ℕ, ◌+◌, ◌<◌, [], ◌∷◌, ◌++◌, Bor, map, take, length, get_or, List, Option, Some, None, Result, Ok, Err, IfOk, IsNone, IfSome, IsSomeAnd, refl, sym, ap, subst, inl, inr, is_some, option_map, option_and_then, box_value, codes, Bool, true, false}
 use Rattle.std.proofs.lemmas.Option.{none-some, same_Some}
 use Rattle.std.proofs.lemmas.List.{take_more, map-append}
 use Rattle.plain_laws.proofs.Pairwise.{zip_push}
@@ -45,6 +45,9 @@ all_named given words sets e h =
 both_words : (given : Given) (set_word script_word : Text) → Some set_word ≡ given (codes "SET") → Some script_word ≡ given (codes "SCRIPT")
     → AreBothStdin given → AreStdin set_word script_word
 both_words given set_word script_word e f b = (same_Some set_word _ (e ∙ b.set_is), same_Some script_word _ (f ∙ b.script_is))
+
+pub contrary : (b : Bool) → b ≡ true → b ≡ false → ⊥
+contrary b yes no = cc
 
 -- a word is there where what is read of it is there
 there : (o : Option (Bor Text)) → is_some (option_map (λ w. w.now) o) ≡ is_some o
