@@ -328,13 +328,17 @@ def run_terminal(text, script, seen, say, usual):
 
 def seen_of(text, script, every=False, say=lambda line: None, usual=()):
     """What is seen of a script on a text, and the status; with these N1 and N2 where a terminal's script says none."""
-    seen = SeenBook.seen = Seen(text, every)
-    plain_play.Turn, plain_term.Book = SeenTurn, SeenBook
     if plain_group.is_group(script) if hasattr(plain_group, "is_group") else False:
         raise SystemExit("scripts of link sets have no trace here")
-    if plain_term.is_terminal(script):
-        return seen, run_terminal(text, script, seen, say, usual)
-    return seen, run_book(text, script, seen, say)
+    seen = SeenBook.seen = Seen(text, every)
+    plain = plain_play.Turn, plain_term.Book
+    plain_play.Turn, plain_term.Book = SeenTurn, SeenBook
+    try:
+        if plain_term.is_terminal(script):
+            return seen, run_terminal(text, script, seen, say, usual)
+        return seen, run_book(text, script, seen, say)
+    finally:
+        plain_play.Turn, plain_term.Book = plain
 
 
 def main(given):
