@@ -1,7 +1,8 @@
 //! The command `play` from its files to the exit status.
-ghost use Rattle.std.specs.Prelude.{◌≡◌, ◌⊎◌, None};
+ghost use Rattle.std.specs.Prelude.{◌≡◌, ◌⊎◌, None, false};
 ghost use Rattle.script_check.specs.Checked.{given};
 ghost use Rattle.script_play.specs.Played.{IsOnSet, IsPlayed, IsPlayedInPart, IsRefused};
+ghost use Rattle.script_play.specs.Traced.{IsPlayTraced, IsPlayTracedInPart};
 ghost use Rattle.mtp2_words.specs.Limits.{usual_limits_of};
 ghost use Rattle.mtp2_play.specs.Printed.{IsPlayedOn};
 
@@ -24,8 +25,42 @@ struct Watch<F> {
     trace: Option<F>,
 }
 
-/// Runs a script that comes from a reader on a set.
-#[tactic(auto, using(crate::proofs::Known::played, crate::proofs::Known::in_part, crate::proofs::Known::not_run, crate::proofs::Known::traced, crate::proofs::Known::traced_in_part))]
+/// Runs a script that comes from a reader on a set, with a trace.
+#[tactic(auto, using(crate::proofs::Known::played, crate::proofs::Known::in_part, crate::proofs::Known::traced, crate::proofs::Known::traced_in_part, crate::proofs::Known::not_run))]
+fn trace_on<H: Eprint, S: Read + Drop, T: Read + Drop, F: Write, W: Write>(
+    alloc: Global,
+    teller: &Teller<'_, H>,
+    set: SetWord<S>,
+    named: &Named<'_>,
+    name: &str,
+    script: T,
+    every: bool,
+    trace: &mut F,
+    writer: &mut W,
+) -> u8
+    ensures held { result ≡ 0 → IsOnSet (given S.remaining set) None (IsPlayed (usual_limits_of named.now) false (W.contents writer.old) (W.contents writer.new)) }
+    ensures missed { result ≡ 1 → IsOnSet (given S.remaining set) None (IsPlayedInPart (usual_limits_of named.now) false (W.contents writer.old) (W.contents writer.new)) }
+    ensures traced { result ≡ 0 → IsOnSet (given S.remaining set) None (IsPlayTraced (usual_limits_of named.now) every (F.contents trace.old) (F.contents trace.new)) }
+    ensures in_part { result ≡ 1 → IsOnSet (given S.remaining set) None (IsPlayTracedInPart (usual_limits_of named.now) every (F.contents trace.old) (F.contents trace.new)) }
+    ensures refused { result ≡ 2 → IsRefused (given S.remaining set) None (W.contents writer.old) (W.contents writer.new) }
+    ensures status { (result ≡ 0) ⊎ (result ≡ 1) ⊎ (result ≡ 2) ⊎ (result ≡ 4) }
+{
+    let usual = named.usual_limits();
+    play_traced(
+        alloc,
+        set,
+        usual,
+        name,
+        script,
+        every,
+        trace,
+        writer,
+        &mut teller.errors(),
+    )
+}
+
+/// Runs a script that comes from a reader on a set, and sees it: where the lines of its commands are shown no trace is made.
+#[tactic(auto, using(crate::proofs::Known::played, crate::proofs::Known::in_part, crate::proofs::Known::not_run, crate::proofs::Known::without_lines, crate::proofs::Known::without_lines_in_part))]
 fn play_on<H: Eprint, S: Read + Drop, T: Read + Drop, F: Write, W: Write>(
     alloc: Global,
     teller: &Teller<'_, H>,
@@ -57,16 +92,8 @@ fn play_on<H: Eprint, S: Read + Drop, T: Read + Drop, F: Write, W: Write>(
         );
     }
     match &mut watch.trace {
-        Some(trace) => play_traced(
-            alloc,
-            set,
-            usual,
-            name,
-            script,
-            every,
-            trace,
-            writer,
-            &mut errors,
+        Some(trace) => trace_on(
+            alloc, teller, set, named, name, script, every, trace, writer,
         ),
         None => play(
             alloc,
