@@ -1,5 +1,5 @@
 //! Lines that a thread has go on.
-ghost use Rattle.std.specs.Prelude.{◌≡◌, IfOk, OnOk};
+ghost use Rattle.std.specs.Prelude.{◌≡◌, OnOk};
 ghost use Rattle.rtrb.specs.Ring.{sent};
 ghost use Rattle.line_streams.specs.Departing.{GoesWhole, TellsOn, TellsLost};
 
@@ -47,9 +47,7 @@ impl Departures {
     /// # Errors
     ///
     /// Where there is no memory, no pipe or no thread.
-    pub fn start<R: Files + Threads>(rt: &R, alloc: Global, file: File) -> io::Result<Departures>
-        ensures { IfOk result (λ d. d.outlet.lost ≡ 0) }
-    {
+    pub fn start<R: Files + Threads>(rt: &R, alloc: Global, file: File) -> io::Result<Departures> {
         let (producer, consumer) = RingBuffer::new(alloc, ROOM)?;
         let (reader, writer) = rt.pipe()?;
         let gone = Arc::new(alloc, AtomicU64::new(0))?;
