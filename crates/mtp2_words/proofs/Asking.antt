@@ -56,15 +56,12 @@ there (Some w) = refl
 
 -- --echo and --trace are what is seen
 both_seen : (given : Given) (seen : Seeing) → AreSeen given seen → AskBoth given → AreBothSeen seen
-both_seen given seen a b = record {
-  echo_is = sym a.echo ∙ b.echo_is;
-  trace_is = sym (there seen.trace) ∙ (ap is_some (sym a.trace) ∙ b.trace_is);
-}
+both_seen given seen a b = (sym a.echo ∙ b.echo_is, sym (there seen.trace) ∙ (ap is_some (sym a.trace) ∙ b.trace_is))
 
 pub ask_both : (given : Given) (seen : Seeing) → AreSeen given seen → AreBothSeen seen → IsNoPlay given
 ask_both given seen a b = inr (inr (inr (record {
-  echo_is = a.echo ∙ b.echo_is;
-  trace_is = ap is_some a.trace ∙ (there seen.trace ∙ b.trace_is);
+  echo_is = a.echo ∙ b.0;
+  trace_is = ap is_some a.trace ∙ (there seen.trace ∙ b.1);
 })))
 
 pub plays : (given : Given) (set_word script_word : Text) (wanted : Seeing) (request : Request) → Some set_word ≡ given (codes "SET")

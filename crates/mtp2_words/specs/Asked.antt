@@ -43,9 +43,8 @@ pub record AreSeen (given : Given) (seen : Seeing) : Type 0 where
   pub every : says_true (given (codes "every")) ≡ seen.every
 
 -- the lines of commands and a trace
-pub record AreBothSeen (seen : Seeing) : Type 0 where
-  pub echo_is : seen.echo ≡ true
-  pub trace_is : is_some seen.trace ≡ true
+abbrev pub AreBothSeen : Seeing → Type 0
+AreBothSeen seen = (seen.echo ≡ true) × (is_some seen.trace ≡ true)
 
 -- --echo and --trace are there
 pub record AskBoth (given : Given) : Type 0 where
