@@ -1,5 +1,6 @@
 -- What holds of bytes of which something may be known holds of some bytes.
 use Rattle.std.proofs.Common.{subst, sym, ◌≡◌, ℕ, Bool, false, inl, inr, List, Option, None, Some, rules}
+use Rattle.turn_code.specs.declared.draft.Draft.{Draft}
 use Rattle.script_check.specs.Checked.{given, IsGiven, PrintsCosts, PrintsRefusal}
 use Rattle.script_check.specs.declared.sets.SetWord.{SetWord}
 use Rattle.script_check.specs.declared.sets.SetWord.TheVariants.{Standard as standard_set, Q703 as q703_set, Monitors as monitors_set, Text}
@@ -84,28 +85,49 @@ in_part usual wanted echo set script old new same s =
     let Q : RoundLimits → Type 0 = λ l. IsOnSet set None (IsPlayedInPart l echo old new) in
     subst Q same (record { draft = s.draft; is_set = s.is_set; of_script = some_bytes script (IsPlayedInPart usual echo old new s.draft) s.of_script })
 
--- what goes to a trace
-pub traced : (usual wanted : RoundLimits) (every : Bool) (set script old new : Option (List ℕ)) → usual ≡ wanted
-    → IsOnSet set script (IsPlayTraced usual every old new) → IsOnSet set None (IsPlayTraced wanted every old new)
-traced usual wanted every set script old new same s =
-    let Q : RoundLimits → Type 0 = λ l. IsOnSet set None (IsPlayTraced l every old new) in
-    subst Q same (record { draft = s.draft; is_set = s.is_set; of_script = some_bytes script (IsPlayTraced usual every old new s.draft) s.of_script })
+-- with a trace
+pub traced : (usual wanted : RoundLimits) (every : Bool) (set script old new begun now : Option (List ℕ)) → usual ≡ wanted
+    → IsOnSet set script (IsPlayTraced usual every old new begun now) → IsOnSet set None (IsPlayTraced wanted every old new begun now)
+traced usual wanted every set script old new begun now same s =
+    let Q : RoundLimits → Type 0 = λ l. IsOnSet set None (IsPlayTraced l every old new begun now) in
+    subst Q same (record { draft = s.draft; is_set = s.is_set; of_script = some_bytes script (IsPlayTraced usual every old new begun now s.draft) s.of_script })
 
-pub traced_in_part : (usual wanted : RoundLimits) (every : Bool) (set script old new : Option (List ℕ)) → usual ≡ wanted
-    → IsOnSet set script (IsPlayTracedInPart usual every old new) → IsOnSet set None (IsPlayTracedInPart wanted every old new)
-traced_in_part usual wanted every set script old new same s =
-    let Q : RoundLimits → Type 0 = λ l. IsOnSet set None (IsPlayTracedInPart l every old new) in
-    subst Q same (record { draft = s.draft; is_set = s.is_set; of_script = some_bytes script (IsPlayTracedInPart usual every old new s.draft) s.of_script })
+pub traced_in_part : (usual wanted : RoundLimits) (every : Bool) (set script old new begun now : Option (List ℕ)) → usual ≡ wanted
+    → IsOnSet set script (IsPlayTracedInPart usual every old new begun now) → IsOnSet set None (IsPlayTracedInPart wanted every old new begun now)
+traced_in_part usual wanted every set script old new begun now same s =
+    let Q : RoundLimits → Type 0 = λ l. IsOnSet set None (IsPlayTracedInPart l every old new begun now) in
+    subst Q same (record { draft = s.draft; is_set = s.is_set; of_script = some_bytes script (IsPlayTracedInPart usual every old new begun now s.draft) s.of_script })
 
--- it goes without the lines of commands
-pub without_lines : (usual : RoundLimits) (echo : Bool) (set old new : Option (List ℕ)) → echo ≡ false → IsOnSet set None (IsPlayed usual false old new)
-    → IsOnSet set None (IsPlayed usual echo old new)
-without_lines usual echo set old new without s = let E : Bool → Type 0 = λ e. IsOnSet set None (IsPlayed usual e old new) in subst E (sym without) s
+-- such a script was played, without the lines of its commands
+untraced : (usual : RoundLimits) (every : Bool) (old new begun now : Option (List ℕ)) (d : Draft) (bytes : List ℕ)
+    → IsPlayTraced usual every old new begun now d bytes → IsPlayed usual false old new d bytes
+untraced usual every old new begun now d bytes p = record { utf8 = p.utf8; script = p.script; reads = p.reads; run = p.run }
 
-pub without_lines_in_part : (usual : RoundLimits) (echo : Bool) (set old new : Option (List ℕ)) → echo ≡ false
-    → IsOnSet set None (IsPlayedInPart usual false old new) → IsOnSet set None (IsPlayedInPart usual echo old new)
-without_lines_in_part usual echo set old new without s =
-    let E : Bool → Type 0 = λ e. IsOnSet set None (IsPlayedInPart usual e old new) in subst E (sym without) s
+untraced_in_part : (usual : RoundLimits) (every : Bool) (old new begun now : Option (List ℕ)) (d : Draft) (bytes : List ℕ)
+    → IsPlayTracedInPart usual every old new begun now d bytes → IsPlayedInPart usual false old new d bytes
+untraced_in_part usual every old new begun now d bytes p = record { utf8 = p.utf8; script = p.script; reads = p.reads; missed = p.missed }
+
+pub without_lines : (usual : RoundLimits) (echo every : Bool) (set old new begun now : Option (List ℕ)) → echo ≡ false
+    → IsOnSet set None (IsPlayTraced usual every old new begun now) → IsOnSet set None (IsPlayed usual echo old new)
+without_lines usual echo every set old new begun now without s =
+    let E : Bool → Type 0 = λ e. IsOnSet set None (IsPlayed usual e old new) in
+    let o = s.of_script in
+    subst E (sym without) (record {
+      draft = s.draft;
+      is_set = s.is_set;
+      of_script = record { bytes = o.bytes; are_known = tt; holds = untraced usual every old new begun now s.draft o.bytes o.holds };
+    })
+
+pub without_lines_in_part : (usual : RoundLimits) (echo every : Bool) (set old new begun now : Option (List ℕ)) → echo ≡ false
+    → IsOnSet set None (IsPlayTracedInPart usual every old new begun now) → IsOnSet set None (IsPlayedInPart usual echo old new)
+without_lines_in_part usual echo every set old new begun now without s =
+    let E : Bool → Type 0 = λ e. IsOnSet set None (IsPlayedInPart usual e old new) in
+    let o = s.of_script in
+    subst E (sym without) (record {
+      draft = s.draft;
+      is_set = s.is_set;
+      of_script = record { bytes = o.bytes; are_known = tt; holds = untraced_in_part usual every old new begun now s.draft o.bytes o.holds };
+    })
 
 not_run_in : (set script old new : Option (List ℕ)) → IsOnSet set script (IsNotRun old new) → IsOnSet set None (IsNotRun old new)
 not_run_in set script old new s = record { draft = s.draft; is_set = s.is_set; of_script = some_bytes script (IsNotRun old new s.draft) s.of_script }

@@ -1,5 +1,5 @@
 //! The command `play` from its files to the exit status.
-ghost use Rattle.std.specs.Prelude.{◌≡◌, ◌⊎◌, None, false};
+ghost use Rattle.std.specs.Prelude.{◌≡◌, ◌⊎◌, None};
 ghost use Rattle.script_check.specs.Checked.{given};
 ghost use Rattle.script_play.specs.Played.{IsOnSet, IsPlayed, IsPlayedInPart, IsRefused};
 ghost use Rattle.script_play.specs.Traced.{IsPlayTraced, IsPlayTracedInPart};
@@ -26,7 +26,7 @@ struct Watch<F> {
 }
 
 /// Runs a script that comes from a reader on a set, with a trace.
-#[tactic(auto, using(crate::proofs::Known::played, crate::proofs::Known::in_part, crate::proofs::Known::traced, crate::proofs::Known::traced_in_part, crate::proofs::Known::not_run))]
+#[tactic(auto, using(crate::proofs::Known::traced, crate::proofs::Known::traced_in_part, crate::proofs::Known::not_run))]
 fn trace_on<H: Eprint, S: Read + Drop, T: Read + Drop, F: Write, W: Write>(
     alloc: Global,
     teller: &Teller<'_, H>,
@@ -38,10 +38,12 @@ fn trace_on<H: Eprint, S: Read + Drop, T: Read + Drop, F: Write, W: Write>(
     trace: &mut F,
     writer: &mut W,
 ) -> u8
-    ensures held { result ≡ 0 → IsOnSet (given S.remaining set) None (IsPlayed (usual_limits_of named.now) false (W.contents writer.old) (W.contents writer.new)) }
-    ensures missed { result ≡ 1 → IsOnSet (given S.remaining set) None (IsPlayedInPart (usual_limits_of named.now) false (W.contents writer.old) (W.contents writer.new)) }
-    ensures traced { result ≡ 0 → IsOnSet (given S.remaining set) None (IsPlayTraced (usual_limits_of named.now) every (F.contents trace.old) (F.contents trace.new)) }
-    ensures in_part { result ≡ 1 → IsOnSet (given S.remaining set) None (IsPlayTracedInPart (usual_limits_of named.now) every (F.contents trace.old) (F.contents trace.new)) }
+    ensures held { result ≡ 0
+        → IsOnSet (given S.remaining set) None
+        (IsPlayTraced (usual_limits_of named.now) every (W.contents writer.old) (W.contents writer.new) (F.contents trace.old) (F.contents trace.new)) }
+    ensures missed { result ≡ 1
+        → IsOnSet (given S.remaining set) None
+        (IsPlayTracedInPart (usual_limits_of named.now) every (W.contents writer.old) (W.contents writer.new) (F.contents trace.old) (F.contents trace.new)) }
     ensures refused { result ≡ 2 → IsRefused (given S.remaining set) None (W.contents writer.old) (W.contents writer.new) }
     ensures status { (result ≡ 0) ⊎ (result ≡ 1) ⊎ (result ≡ 2) ⊎ (result ≡ 4) }
 {

@@ -9,6 +9,7 @@ use Rattle.script_seen.specs.Played.{first_book}
 use Rattle.script_seen.specs.TermRuns.{IsOfNew}
 use Rattle.script_seen.specs.TracedKinds.{IsBookTraced, IsBookTracedInPart, IsTermTraced}
 use Rattle.script_seen.specs.TracedKinds.{IsTermTracedInPart}
+use Rattle.script_play.specs.Played.{IsObeyed, IsMissedIn}
 
 -- all commands of a script are traced: of a book of the set, or of a new terminal over it, with the
 -- usual limits where the script chooses none
@@ -45,18 +46,20 @@ AreTracedInPart usual every lines d (other s) old new =
     IsOtherTracedInPart usual every lines d s old new
 AreTracedInPart usual every lines d (group s) old new = ⊥
 
--- the bytes are a script, all of whose commands are traced
-pub record IsPlayTraced (usual : RoundLimits) (every : Bool) (old new : Option (List ℕ))
+-- the bytes are a script, all of whose commands were obeyed and are traced
+pub record IsPlayTraced (usual : RoundLimits) (every : Bool) (old new begun now : Option (List ℕ))
     (d : Draft) (bytes : List ℕ) : Type 0 where
   pub utf8 : IsUtf8 bytes
   pub script : PlainPlayScript
   pub reads : play_script_of bytes ≡ Ok script
-  pub traced : AreTraced usual every (lines_of bytes) d script old new
+  pub run : IsObeyed usual d script old new
+  pub traced : AreTraced usual every (lines_of bytes) d script begun now
 
 -- the bytes are a script, an expectation of which failed; the commands in front of that are traced
-pub record IsPlayTracedInPart (usual : RoundLimits) (every : Bool) (old new : Option (List ℕ))
-    (d : Draft) (bytes : List ℕ) : Type 0 where
+pub record IsPlayTracedInPart (usual : RoundLimits) (every : Bool)
+    (old new begun now : Option (List ℕ)) (d : Draft) (bytes : List ℕ) : Type 0 where
   pub utf8 : IsUtf8 bytes
   pub script : PlainPlayScript
   pub reads : play_script_of bytes ≡ Ok script
-  pub traced : AreTracedInPart usual every (lines_of bytes) d script old new
+  pub missed : IsMissedIn usual d script old new
+  pub traced : AreTracedInPart usual every (lines_of bytes) d script begun now
