@@ -47,7 +47,7 @@ both_words : (given : Given) (set_word script_word : Text) → Some set_word ≡
 both_words given set_word script_word e f b = (same_Some set_word _ (e ∙ b.set_is), same_Some script_word _ (f ∙ b.script_is))
 
 pub contrary : (b : Bool) → b ≡ true → b ≡ false → ⊥
-contrary b yes no = cc
+contrary b one other = cc
 
 -- a word is there where what is read of it is there
 there : (o : Option (Bor Text)) → is_some (option_map (λ w. w.now) o) ≡ is_some o
