@@ -88,31 +88,13 @@ fn play_on<H: Eprint, S: Read + Drop, T: Read + Drop, F: Write, W: Write>(
     let (echo, every) = (watch.echo, watch.every);
     let mut errors = teller.errors();
     if echo {
-        return play(
-            alloc,
-            set,
-            usual,
-            name,
-            script,
-            echo,
-            writer,
-            &mut errors,
-        );
+        return play(alloc, set, usual, name, script, echo, writer, &mut errors);
     }
     match &mut watch.trace {
         Some(trace) => trace_on(
             alloc, teller, set, named, name, script, every, trace, writer,
         ),
-        None => play(
-            alloc,
-            set,
-            usual,
-            name,
-            script,
-            echo,
-            writer,
-            &mut errors,
-        ),
+        None => play(alloc, set, usual, name, script, echo, writer, &mut errors),
     }
 }
 
