@@ -1,6 +1,6 @@
 //! A line, and lines below it, which stand further in.
-ghost use Rattle.std.specs.Prelude.{◌≡◌, ◌++◌, true, OnOk};
-ghost use Rattle.draw_sets.specs.Noting.{spaced, indented, IsBelow};
+ghost use Rattle.std.specs.Prelude.{◌≡◌, ◌++◌, true, All, OnOk};
+ghost use Rattle.draw_sets.specs.Noting.{spaced, indented, IsBelow, IsInLine};
 
 use draw_text::push_bytes;
 use std::alloc::AllocError;
@@ -41,5 +41,25 @@ pub(crate) fn push_below(text: &mut Vec<u8>, line: &[u8], notes: &[u8]) -> Resul
     push_bytes(text, line)?;
     text.push(b'\n')?;
     push_indented(text, notes)?;
+    Ok(())
+}
+
+/// A byte behind what is there, if it ends no line.
+fn push_in_line(text: &mut Vec<u8>, byte: u8) -> Result<(), AllocError>
+    ensures { OnOk result (All IsInLine text.old.items → All IsInLine text.new.items) }
+{
+    if byte != b'\n' {
+        text.push(byte)?;
+    }
+    Ok(())
+}
+
+/// The bytes of a name behind what is there.
+pub(crate) fn push_name(text: &mut Vec<u8>, name: &[u8]) -> Result<(), AllocError>
+    ensures { OnOk result (All IsInLine text.old.items → All IsInLine text.new.items) }
+{
+    for byte in name {
+        push_in_line(text, *byte)?;
+    }
     Ok(())
 }

@@ -2,7 +2,7 @@
 ghost use Rattle.std.specs.Prelude.{◌∷◌, All, List, ℕ, IfOk, OnOk};
 ghost use Rattle.draw_sets.specs.Noting.{AreAdded, AreNoted, AreWritten, IsBegun, IsBelow, IsInLine};
 
-use crate::below::push_below;
+use crate::below::{push_below, push_name};
 use crate::rows::{Row, Section, sections_of};
 use draw_text::push_bytes;
 use std::alloc::{AllocError, Global};
@@ -266,26 +266,6 @@ fn push_noted(
 {
     let notes = notes_of(alloc, blamed, olds, news, line)?;
     push_below(text, line, &notes)
-}
-
-/// A byte behind what is there, if it ends no line.
-fn push_in_line(text: &mut Vec<u8>, byte: u8) -> Result<(), AllocError>
-    ensures { OnOk result (All IsInLine text.old.items → All IsInLine text.new.items) }
-{
-    if byte != b'\n' {
-        text.push(byte)?;
-    }
-    Ok(())
-}
-
-/// The bytes of a name behind what is there.
-fn push_name(text: &mut Vec<u8>, name: &[u8]) -> Result<(), AllocError>
-    ensures { OnOk result (All IsInLine text.old.items → All IsInLine text.new.items) }
-{
-    for byte in name {
-        push_in_line(text, *byte)?;
-    }
-    Ok(())
 }
 
 /// The name of a connection with its process.
