@@ -1,5 +1,6 @@
 -- What the status of `play` says of a trace.
-use Rattle.std.specs.Prelude.{◌≡◌, ℕ, Bool, true, false, List, Option, Some, None, Ok, IsUtf8}
+use Rattle.std.specs.Prelude.{◌≡◌, ℕ, Bool, true, false, List, Option}
+use Rattle.std.specs.Prelude.{Some, None, Ok, IsUtf8}
 use Rattle.turn_code.specs.declared.draft.Draft.{Draft}
 use Rattle.script_seen.specs.resend_store_types.messages.RoundLimits.{RoundLimits}
 use Rattle.script_seen.specs.TermScripts.{PlainAnyScript, book, terminal, asks_told}
@@ -68,22 +69,22 @@ pub record IsPlayTracedInPart (usual : RoundLimits) (every : Bool)
 
 -- A script was played as it is to be seen: with the lines of its commands, where that is asked for;
 -- else with a trace, where there is a file for it, which had this and now has that.
-abbrev pub IsWatched :
-    RoundLimits → Bool → Bool → Option (List ℕ) → Option (List ℕ) → Option (Option (List ℕ))
-    → Option (Option (List ℕ)) → Draft → List ℕ → Type 0
-IsWatched usual true every old new begun now d bytes = IsPlayed usual true old new d bytes
-IsWatched usual false every old new None now d bytes = IsPlayed usual false old new d bytes
-IsWatched usual false every old new (Some begun) None d bytes = ⊥
-IsWatched usual false every old new (Some begun) (Some now) d bytes =
-    IsPlayTraced usual every old new begun now d bytes
+pub data IsWatched (usual : RoundLimits) (echo every : Bool) (old new : Option (List ℕ))
+    (begun now : Option (Option (List ℕ))) (d : Draft) (bytes : List ℕ) : Type 0 where
+  has_lines : echo ≡ true → IsPlayed usual echo old new d bytes
+      → IsWatched usual echo every old new begun now d bytes
+  has_neither : echo ≡ false → begun ≡ None → IsPlayed usual echo old new d bytes
+      → IsWatched usual echo every old new begun now d bytes
+  has_trace : (was has : Option (List ℕ)) → echo ≡ false → begun ≡ Some was → now ≡ Some has
+      → IsPlayTraced usual every old new was has d bytes
+      → IsWatched usual echo every old new begun now d bytes
 
-abbrev pub IsWatchedInPart :
-    RoundLimits → Bool → Bool → Option (List ℕ) → Option (List ℕ) → Option (Option (List ℕ))
-    → Option (Option (List ℕ)) → Draft → List ℕ → Type 0
-IsWatchedInPart usual true every old new begun now d bytes =
-    IsPlayedInPart usual true old new d bytes
-IsWatchedInPart usual false every old new None now d bytes =
-    IsPlayedInPart usual false old new d bytes
-IsWatchedInPart usual false every old new (Some begun) None d bytes = ⊥
-IsWatchedInPart usual false every old new (Some begun) (Some now) d bytes =
-    IsPlayTracedInPart usual every old new begun now d bytes
+pub data IsWatchedInPart (usual : RoundLimits) (echo every : Bool) (old new : Option (List ℕ))
+    (begun now : Option (Option (List ℕ))) (d : Draft) (bytes : List ℕ) : Type 0 where
+  has_lines_in_part : echo ≡ true → IsPlayedInPart usual echo old new d bytes
+      → IsWatchedInPart usual echo every old new begun now d bytes
+  has_neither_in_part : echo ≡ false → begun ≡ None → IsPlayedInPart usual echo old new d bytes
+      → IsWatchedInPart usual echo every old new begun now d bytes
+  has_trace_in_part : (was has : Option (List ℕ)) → echo ≡ false → begun ≡ Some was → now ≡ Some has
+      → IsPlayTracedInPart usual every old new was has d bytes
+      → IsWatchedInPart usual echo every old new begun now d bytes
