@@ -8,10 +8,10 @@ use Rattle.script_play.specs.Traced.{IsWatchedInPart, has_lines_in_part, has_nei
 
 pub with_lines : (usual : RoundLimits) (echo every : Bool) (set script old new : Option (List ℕ)) (begun now : Option (Option (List ℕ))) → echo ≡ true
     → IsOnSet set script (IsPlayed usual echo old new) → IsOnSet set script (IsWatched usual echo every old new begun now)
-with_lines usual echo every set script old new begun now yes s = record {
+with_lines usual echo every set script old new begun now echoed s = record {
   draft = s.draft;
   is_set = s.is_set;
-  of_script = record { bytes = s.of_script.bytes; are_known = s.of_script.are_known; holds = has_lines yes s.of_script.holds };
+  of_script = record { bytes = s.of_script.bytes; are_known = s.of_script.are_known; holds = has_lines echoed s.of_script.holds };
 }
 
 pub with_neither : (usual : RoundLimits) (echo every : Bool) (set script old new : Option (List ℕ)) (begun now : Option (Option (List ℕ))) → echo ≡ false
@@ -33,7 +33,7 @@ with_trace usual echo every set script old new was has begun now unlined first l
 
 was_played_in : (usual : RoundLimits) (echo every : Bool) (old new : Option (List ℕ)) (begun now : Option (Option (List ℕ))) (d : Draft) (bytes : List ℕ)
     → IsWatched usual echo every old new begun now d bytes → IsPlayed usual echo old new d bytes
-was_played_in usual echo every old new begun now d bytes (has_lines yes p) = p
+was_played_in usual echo every old new begun now d bytes (has_lines echoed p) = p
 was_played_in usual echo every old new begun now d bytes (has_neither unlined none p) = p
 was_played_in usual echo every old new begun now d bytes (has_trace was has unlined first last p) =
     let E : Bool → Type 0 = λ e. IsPlayed usual e old new d bytes in
@@ -55,10 +55,10 @@ was_played usual echo every set script old new begun now s = record {
 
 pub with_lines_in_part : (usual : RoundLimits) (echo every : Bool) (set script old new : Option (List ℕ)) (begun now : Option (Option (List ℕ))) → echo ≡ true
     → IsOnSet set script (IsPlayedInPart usual echo old new) → IsOnSet set script (IsWatchedInPart usual echo every old new begun now)
-with_lines_in_part usual echo every set script old new begun now yes s = record {
+with_lines_in_part usual echo every set script old new begun now echoed s = record {
   draft = s.draft;
   is_set = s.is_set;
-  of_script = record { bytes = s.of_script.bytes; are_known = s.of_script.are_known; holds = has_lines_in_part yes s.of_script.holds };
+  of_script = record { bytes = s.of_script.bytes; are_known = s.of_script.are_known; holds = has_lines_in_part echoed s.of_script.holds };
 }
 
 pub with_neither_in_part : (usual : RoundLimits) (echo every : Bool) (set script old new : Option (List ℕ)) (begun now : Option (Option (List ℕ))) → echo ≡ false
@@ -80,7 +80,7 @@ with_trace_in_part usual echo every set script old new was has begun now unlined
 
 was_played_in_part_in : (usual : RoundLimits) (echo every : Bool) (old new : Option (List ℕ)) (begun now : Option (Option (List ℕ))) (d : Draft) (bytes : List ℕ)
     → IsWatchedInPart usual echo every old new begun now d bytes → IsPlayedInPart usual echo old new d bytes
-was_played_in_part_in usual echo every old new begun now d bytes (has_lines_in_part yes p) = p
+was_played_in_part_in usual echo every old new begun now d bytes (has_lines_in_part echoed p) = p
 was_played_in_part_in usual echo every old new begun now d bytes (has_neither_in_part unlined none p) = p
 was_played_in_part_in usual echo every old new begun now d bytes (has_trace_in_part was has unlined first last p) =
     let E : Bool → Type 0 = λ e. IsPlayedInPart usual e old new d bytes in
