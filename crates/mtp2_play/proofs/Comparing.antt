@@ -1,6 +1,6 @@
 -- What `diff` says of two sets.
-use Rattle.std.proofs.Common.{◌≡◌, ◌∙◌, ◌⊎◌, inl, inr, ℕ, ◌+◌, ◌-◌, min, true, List, [], ◌++◌, Option, None, Some, ap, subst, sym, codes, decimal, rules, arith}
-use Rattle.std.specs.Prelude.{All}
+use Rattle.std.proofs.Common.{◌≡◌, ◌∙◌, ◌⊎◌, inl, inr, ℕ, ◌+◌, ◌-◌, min, true, List, [], ◌++◌, Option, None, Some, ap, subst, sym, codes, decimal, append_assoc, Bool, false, rules, arith}
+use Rattle.std.specs.Prelude.{All, bytes_eq, if◌then◌else◌}
 use Rattle.std.specs.Io.KnownBytes.{Appends}
 use Rattle.draw_diff.specs.Items.{item_lines, items_of}
 use Rattle.draw_diff.specs.Ways.{lines_in, new_way_lines, old_way_lines, ways_in}
@@ -42,8 +42,8 @@ of_own remaining Monitors standard_set P is g = search (rules, is)
 of_own remaining Monitors q703_set P is g = search (rules, is)
 of_own remaining Monitors monitors_set P is g = g
 of_own remaining Monitors (Text text) P is g = search (rules, is)
-of_own remaining Stdin own P is g = search (rules, is)
-of_own remaining (File path) own P is g = search (rules, is)
+of_own remaining Stdin own P is g = of_some _ P g
+of_own remaining (File path) own P is g = of_some _ P g
 
 -- ---- where one of them is refused
 
@@ -96,10 +96,14 @@ lines_of d e found none olds one news two h empty before first after second =
     let begun : one ≡ old_way_lines d e = first ∙ (ap (λ x. x ++ olds) empty ∙ (before ∙ h.olds)) in
     second ∙ (ap (λ x. x ++ news) begun ∙ ap (λ x. old_way_lines d e ++ x) (after ∙ h.news))
 
+-- what is written piece by piece, from its end or from its beginning
+in_order : (a b c d e : List ℕ) → a ++ (b ++ (c ++ (d ++ e))) ≡ a ++ b ++ c ++ d ++ e
+in_order a b c d e = sym (append_assoc (a ++ b ++ c) d e ∙ (append_assoc (a ++ b) c (d ++ e) ∙ append_assoc a b (c ++ (d ++ e))))
+
 -- how many of them mean the same
 pub same_of : (d e : Draft) (found : Difference) (known same all : ℕ) (olds news text : List ℕ) → AreFound d e found → known ≡ ways_in d → olds ≡ found.olds.items
     → news ≡ found.news.items → same ≡ known - lines_in olds → all ≡ min (known + lines_in news) 18446744073709551615
-    → text ≡ codes "same " ++ decimal same ++ codes " of " ++ decimal all ++ codes "\n" → text ≡ same_text d e
+    → text ≡ codes "same " ++ (decimal same ++ (codes " of " ++ (decimal all ++ codes "\n"))) → text ≡ same_text d e
 same_of d e found known same all olds news text h ways before after less more is =
     let same_is : same ≡ ways_in d - lines_in (old_way_lines d e) =
     less ∙ (ap (λ n. n - lines_in olds) ways ∙ ap (λ x. ways_in d - lines_in x) (before ∙ h.olds)) in
@@ -107,8 +111,18 @@ same_of d e found known same all olds news text h ways before after less more is
     more
     ∙ (ap (λ n. min (n + lines_in news) 18446744073709551615) ways ∙ ap (λ x. min (ways_in d + lines_in x) 18446744073709551615) (after ∙ h.news)) in
     is
+    ∙ (in_order (codes "same ") (decimal same) (codes " of ") (decimal all) (codes "\n")
     ∙ (ap (λ n. codes "same " ++ decimal n ++ codes " of " ++ decimal all ++ codes "\n") same_is
-    ∙ ap (λ n. codes "same " ++ decimal (ways_in d - lines_in (old_way_lines d e)) ++ codes " of " ++ decimal n ++ codes "\n") all_is)
+    ∙ ap (λ n. codes "same " ++ decimal (ways_in d - lines_in (old_way_lines d e)) ++ codes " of " ++ decimal n ++ codes "\n") all_is))
+
+-- whether terminals find their names in both, where this isn't said alike
+pub changed_of : (before after text : List ℕ) → bytes_eq before after ≡ false
+    → text ≡ codes "terminal " ++ (before ++ (codes " -> " ++ (after ++ codes "\n"))) → text ≡ terminal_text before after
+changed_of before after text apart is =
+    let one : List ℕ = codes "terminal " ++ before ++ codes "\n" in
+    let two : List ℕ = codes "terminal " ++ before ++ codes " -> " ++ after ++ codes "\n" in
+    let P : Bool → Type 0 = λ b. text ≡ (if b then one else two) in
+    subst P (sym apart) (is ∙ in_order (codes "terminal ") before (codes " -> ") after (codes "\n"))
 
 -- whether a terminal finds its names
 
@@ -116,7 +130,7 @@ pub says_yes : (d : Draft) (said : List ℕ) → said ≡ codes "yes" → All (H
 says_yes d said is has = inl (is, has)
 
 pub says_no : (d : Draft) (name : Wanted) (said : List ℕ) → said ≡ codes "no " ++ wanted_text name → IsFirstLacking d name wanted → SaysTerminal d said
-says_no d name said is lacks = inr (name, lacks, is)
+says_no d name said is first = inr (name, first, is)
 
 -- the last two lines, the second behind the first
 pub summed : (d e : Draft) (before after old new one line shown whole : List ℕ) → SaysTerminal d before → SaysTerminal e after → one ≡ same_text d e → old ≡ before

@@ -7,7 +7,7 @@ returns-in-Ok-named_side-clause-compared g c =
     c.compare_sides.ensures.alike c.compare_sides.ensures.differ c.compare_sides.ensures.printed c.compare_sides.ensures.status
 
 pub returns-in-Ok-clause-compared : goal.returns-in-Ok-clause-compared
-returns-in-Ok-clause-compared g c = new_refused _ _ _ _ _ _ c.in-Ok.ensures.kept c.in-Err.ensures.refused c.in-Err.ensures.status
+returns-in-Ok-clause-compared g c = new_refused _ _ _ _ _ _ c.in-Ok.ensures.kept c.in-Err-named_side.ensures.refused c.in-Err-named_side.ensures.status
 
 pub returns-clause-compared : goal.returns-clause-compared
-returns-clause-compared g c = old_refused _ _ _ _ _ c.in-Err-2.ensures.refused c.in-Err-2.ensures.status
+returns-clause-compared g c = old_refused _ _ _ _ _ c.in-Err.ensures.refused c.in-Err.ensures.status
