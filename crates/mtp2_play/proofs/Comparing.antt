@@ -116,13 +116,20 @@ same_of d e found known same all olds news text h ways before after less more is
     ∙ ap (λ n. codes "same " ++ decimal (ways_in d - lines_in (old_way_lines d e)) ++ codes " of " ++ decimal n ++ codes "\n") all_is))
 
 -- whether terminals find their names in both, where this isn't said alike
+
+pub pushed_of : (before after one two three four five : List ℕ) → one ≡ codes "terminal " → two ≡ one ++ before → three ≡ two ++ codes " -> " → four ≡ three ++ after
+    → five ≡ four ++ codes "\n" → five ≡ codes "terminal " ++ before ++ codes " -> " ++ after ++ codes "\n"
+pushed_of before after one two three four five first second third fourth fifth =
+    fifth
+    ∙ ap (λ x. x ++ codes "\n") (fourth ∙ ap (λ x. x ++ after) (third ∙ ap (λ x. x ++ codes " -> ") (second ∙ ap (λ x. x ++ before) first)))
+
 pub changed_of : (before after text : List ℕ) → bytes_eq before after ≡ false
-    → text ≡ codes "terminal " ++ (before ++ (codes " -> " ++ (after ++ codes "\n"))) → text ≡ terminal_text before after
+    → text ≡ codes "terminal " ++ before ++ codes " -> " ++ after ++ codes "\n" → text ≡ terminal_text before after
 changed_of before after text apart is =
     let one : List ℕ = codes "terminal " ++ before ++ codes "\n" in
     let two : List ℕ = codes "terminal " ++ before ++ codes " -> " ++ after ++ codes "\n" in
     let P : Bool → Type 0 = λ b. text ≡ (if b then one else two) in
-    subst P (sym apart) (is ∙ in_order (codes "terminal ") before (codes " -> ") after (codes "\n"))
+    subst P (sym apart) is
 
 -- whether a terminal finds its names
 

@@ -1,5 +1,5 @@
 //! The command `diff` on the sets that the command line names.
-ghost use Rattle.std.specs.Prelude.{◌≡◌, ◌⊎◌, true, [], None, Some, IfErr, IfOk, OnOk, string_bytes};
+ghost use Rattle.std.specs.Prelude.{◌≡◌, ◌⊎◌, ◌++◌, true, [], None, Some, IfErr, IfOk, OnOk, codes, string_bytes};
 ghost use Rattle.std.specs.Io.KnownBytes.{Appends};
 ghost use Rattle.draw_sets.specs.Noting.{AreNoted};
 ghost use Rattle.script_check.specs.Checked.{given, IsGiven, IsRefusal, IsSetOf};
@@ -227,6 +227,18 @@ fn same_line(
     format!(in alloc; "same {same} of {all}\n")
 }
 
+/// The line on terminals over the two sets, of which different things are said.
+fn changed_line(alloc: Global, before: &str, after: &str) -> Result<String, AllocError>
+    ensures { IfOk result (λ t. string_bytes t ≡ codes "terminal " ++ before.now ++ codes " -> " ++ after.now ++ codes "\n") }
+{
+    let mut text = String::from_str(alloc, "terminal ")?;
+    text.push_str(before)?;
+    text.push_str(" -> ")?;
+    text.push_str(after)?;
+    text.push_str("\n")?;
+    Ok(text)
+}
+
 /// The line on terminals over the two sets, of which this is said.
 fn terminal_line(alloc: Global, before: &str, after: &str) -> Result<String, AllocError>
     ensures { IfOk result (λ t. string_bytes t ≡ terminal_text before.now after.now) }
@@ -234,7 +246,7 @@ fn terminal_line(alloc: Global, before: &str, after: &str) -> Result<String, All
     if before == after {
         format!(in alloc; "terminal {before}\n")
     } else {
-        format!(in alloc; "terminal {before} -> {after}\n")
+        changed_line(alloc, before, after)
     }
 }
 
