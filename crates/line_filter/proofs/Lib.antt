@@ -4,6 +4,6 @@ mod Filling
 mod Leaving
 mod Looking
 mod Passing
-mod Reporting
+pub mod Reporting
 mod Saying
 mod Telling

@@ -41,8 +41,12 @@ fn tell_line<P: Reports, L: Display>(alloc: Global, reports: &mut P, line: &L) -
 }
 
 /// Tells a line, the millisecond first.
+///
+/// # Errors
+///
+/// Where there is no memory, or that can't be told.
 #[tactic(auto, using(crate::proofs::Reporting::tells_one))]
-fn tell<P: Reports>(alloc: Global, now: u64, text: &str, reports: &mut P) -> io::Result<()>
+pub fn tell<P: Reports>(alloc: Global, now: u64, text: &str, reports: &mut P) -> io::Result<()>
     ensures { OnOk result (TellsLines (P.stand reports.old) (P.stand reports.new) (told now text.now)) }
 {
     tell_line(alloc, reports, &format_args!("{now} {text}"))

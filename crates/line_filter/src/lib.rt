@@ -16,7 +16,7 @@ mod times;
 mod voice;
 mod writing;
 
-pub use desk::Desk;
+pub use desk::{Desk, tell};
 pub use filter::{Bits, MOST_AHEAD, run_line};
 pub use laws::what_goes_out_was_said;
 pub use orders::{NoOrders, Orders};

@@ -4,6 +4,7 @@ pub mod Lines
 pub mod LinkActs
 pub mod Measured
 pub mod Opening
+pub mod SetRuns
 pub mod Told
 pub use Rattle.line_filter.specs.Filters
 pub use Rattle.line_filter.specs.declared as line_filter_types

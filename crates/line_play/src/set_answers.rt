@@ -1,4 +1,8 @@
 //! What orders to a set lead to.
+ghost use Rattle.std.specs.Prelude.{◌≡◌, IfOk, IfSome, IsNone, OnOk, None, Some};
+ghost use Rattle.script_lines.specs.Words.{words_of};
+ghost use Rattle.set_tending.specs.Rounds.{Adds};
+ghost use Rattle.line_play.specs.SetRuns.{Continues, IsSent, octets_sent, sent_by};
 
 use crate::set_desk::SetDesk;
 use crate::set_orders::{Focus, SetOrder, set_order_in};
@@ -24,7 +28,10 @@ impl<O, P: Reports> SetDesk<O, P> {
         alloc: Global,
         focus: Focus,
         order: script_links::Order,
-    ) -> Result<Option<Refused>, AllocError> {
+    ) -> Result<Option<Refused>, AllocError>
+        ensures adds { OnOk result (Adds self.old.tender self.new.tender) }
+        ensures reports { self.new.reports ≡ self.old.reports }
+    {
         let (from, to) = self.links(focus);
         let mut first: Option<CommandError> = None;
         for link in from..to {
@@ -45,7 +52,11 @@ impl<O, P: Reports> SetDesk<O, P> {
     }
 
     /// `send HEX`.
-    fn obey_send(&mut self, alloc: Global, octets: &[u8]) -> Result<Option<Refused>, AllocError> {
+    fn obey_send(&mut self, alloc: Global, octets: &[u8]) -> Result<Option<Refused>, AllocError>
+        ensures sent { IfOk result (λ r. IsNone r → IsSent octets.now self.old.tender self.new.tender) }
+        ensures refused { IfOk result (λ r. IfSome r (λ why. self.new.tender ≡ self.old.tender)) }
+        ensures reports { self.new.reports ≡ self.old.reports }
+    {
         let Some(msu) = message(octets) else {
             return refusal(alloc, &"X1 BadLine");
         };
@@ -80,13 +91,16 @@ impl<O, P: Reports> SetDesk<O, P> {
         }
     }
 
-    /// Does what an order says that is answered by `ok` alone. Why not, if it doesn't.
+    /// Does what an order says that sends no message and is answered by `ok` alone. Why not, if it doesn't.
     fn obey_plain(
         &mut self,
         alloc: Global,
         focus: Focus,
         order: &SetOrder<'_>,
-    ) -> Result<Option<Refused>, AllocError> {
+    ) -> Result<Option<Refused>, AllocError>
+        ensures adds { OnOk result (Adds self.old.tender self.new.tender) }
+        ensures reports { self.new.reports ≡ self.old.reports }
+    {
         match order {
             SetOrder::On(Focus::Link(link)) if *link >= self.tender.len() => {
                 refusal(alloc, &"K1 NoLink")
@@ -96,7 +110,6 @@ impl<O, P: Reports> SetDesk<O, P> {
                 Ok(None)
             }
             SetOrder::Link(order) => self.obey_links(alloc, focus, *order),
-            SetOrder::Send(octets) => self.obey_send(alloc, octets),
             SetOrder::Reset => {
                 self.reset_all(focus);
                 Ok(None)
@@ -112,7 +125,42 @@ impl<O, P: Reports> SetDesk<O, P> {
             | SetOrder::Measures
             | SetOrder::Table
             | SetOrder::Held
-            | SetOrder::Unsure => Ok(None),
+            | SetOrder::Unsure
+            | SetOrder::Send(_) => Ok(None),
+        }
+    }
+
+    /// Has a message sent, as an order says, and tells that.
+    fn obey_sending(&mut self, alloc: Global, text: &str, octets: &[u8]) -> io::Result<()>
+        requires { sent_by (words_of text.now) ≡ Some octets.now }
+        ensures { OnOk result (Continues self.old.tender (P.stand self.old.reports) self.new.tender (P.stand self.new.reports)) }
+    {
+        match self.obey_send(alloc, octets)? {
+            Some(why) => self.tell_text(alloc, format!(in alloc; "refused {why}")?),
+            None => self.tell_text(alloc, format!(in alloc; "ok {text}")?),
+        }
+    }
+
+    /// Does what an order says that sends no message, and tells it.
+    fn obey_other(
+        &mut self,
+        alloc: Global,
+        focus: Focus,
+        text: &str,
+        order: &SetOrder<'_>,
+    ) -> io::Result<()>
+        requires { sent_by (words_of text.now) ≡ None }
+        ensures { OnOk result (Continues self.old.tender (P.stand self.old.reports) self.new.tender (P.stand self.new.reports)) }
+    {
+        if let Some(why) = self.why_unanswered(alloc, focus, order)? {
+            return self.tell_text(alloc, format!(in alloc; "refused {why}")?);
+        }
+        match self.obey_plain(alloc, focus, order)? {
+            Some(why) => self.tell_text(alloc, format!(in alloc; "refused {why}")?),
+            None => {
+                self.tell_text(alloc, format!(in alloc; "ok {text}")?)?;
+                self.tell_asked(alloc, focus, order)
+            }
         }
     }
 
@@ -123,24 +171,23 @@ impl<O, P: Reports> SetDesk<O, P> {
         focus: Focus,
         text: &str,
         order: &SetOrder<'_>,
-    ) -> io::Result<()> {
-        if let Some(why) = self.why_unanswered(alloc, focus, order)? {
-            return self.tell(alloc, &format_args!("refused {why}"));
-        }
-        match self.obey_plain(alloc, focus, order)? {
-            Some(why) => self.tell(alloc, &format_args!("refused {why}")),
-            None => {
-                self.tell(alloc, &format_args!("ok {text}"))?;
-                self.tell_asked(alloc, focus, order)
-            }
+    ) -> io::Result<()>
+        requires { octets_sent order.now ≡ sent_by (words_of text.now) }
+        ensures { OnOk result (Continues self.old.tender (P.stand self.old.reports) self.new.tender (P.stand self.new.reports)) }
+    {
+        match order {
+            SetOrder::Send(octets) => self.obey_sending(alloc, text, octets),
+            _ => self.obey_other(alloc, focus, text, order),
         }
     }
 
     /// Does what a line says, and tells it.
-    pub(crate) fn obey(&mut self, alloc: Global, focus: Focus, text: &str) -> io::Result<()> {
+    pub(crate) fn obey(&mut self, alloc: Global, focus: Focus, text: &str) -> io::Result<()>
+        ensures { OnOk result (Continues self.old.tender (P.stand self.old.reports) self.new.tender (P.stand self.new.reports)) }
+    {
         match set_order_in(alloc, text)? {
             Some(order) => self.obey_order(alloc, focus, text, &order),
-            None => self.tell(alloc, &"refused X1 BadLine"),
+            None => self.tell(alloc, "refused X1 BadLine"),
         }
     }
 }

@@ -1,4 +1,6 @@
 //! What is told of a set's links where an order asks.
+ghost use Rattle.std.specs.Prelude.{◌≡◌, OnOk};
+ghost use Rattle.line_play.specs.SetRuns.{Continues};
 
 use crate::set_desk::SetDesk;
 use crate::set_measures::Since;
@@ -35,7 +37,10 @@ impl<O, P> SetDesk<O, P> {
     }
 
     /// `measure reset`, for a link.
-    fn reset(&mut self, link: usize) {
+    fn reset(&mut self, link: usize)
+        ensures tender { self.new.tender ≡ self.old.tender }
+        ensures reports { self.new.reports ≡ self.old.reports }
+    {
         let Some(terminal) = self.tender.set().terminal(link) else {
             return;
         };
@@ -47,7 +52,10 @@ impl<O, P> SetDesk<O, P> {
     }
 
     /// `measure reset`.
-    pub(crate) fn reset_all(&mut self, focus: Focus) {
+    pub(crate) fn reset_all(&mut self, focus: Focus)
+        ensures tender { self.new.tender ≡ self.old.tender }
+        ensures reports { self.new.reports ≡ self.old.reports }
+    {
         let (from, to) = self.links(focus);
         for link in from..to {
             self.reset(link);
@@ -67,11 +75,13 @@ impl<O, P: Reports> SetDesk<O, P> {
         let Ok(text) = str::from_utf8(line) else {
             return Err(io::Error::from(ErrorKind::InvalidData));
         };
-        self.tell(alloc, &format_args!("{link} {what} {text}"))
+        self.tell_text(alloc, format!(in alloc; "{link} {what} {text}")?)
     }
 
     /// `state P`, for a link.
-    fn tell_state(&mut self, alloc: Global, link: usize, process: &str) -> io::Result<()> {
+    fn tell_state(&mut self, alloc: Global, link: usize, process: &str) -> io::Result<()>
+        ensures { OnOk result (Continues self.old.tender (P.stand self.old.reports) self.new.tender (P.stand self.new.reports)) }
+    {
         let line = match self.tender.set().book(link) {
             Some(book) => state_line(alloc, book, process)?,
             None => return Ok(()),
@@ -87,7 +97,9 @@ impl<O, P: Reports> SetDesk<O, P> {
         link: usize,
         process: &str,
         variable: &str,
-    ) -> io::Result<()> {
+    ) -> io::Result<()>
+        ensures { OnOk result (Continues self.old.tender (P.stand self.old.reports) self.new.tender (P.stand self.new.reports)) }
+    {
         let line = match self.tender.set().book(link) {
             Some(book) => value_line(alloc, book, process, variable)?,
             None => return Ok(()),
@@ -97,23 +109,26 @@ impl<O, P: Reports> SetDesk<O, P> {
     }
 
     /// `measure NAME`, for a link.
-    fn tell_measure(&mut self, alloc: Global, link: usize, measure: Measure) -> io::Result<()> {
+    fn tell_measure(&mut self, alloc: Global, link: usize, measure: Measure) -> io::Result<()>
+        ensures { OnOk result (Continues self.old.tender (P.stand self.old.reports) self.new.tender (P.stand self.new.reports)) }
+    {
         let count = self.counted(link, measure);
         let name = measure.word();
-        self.tell(alloc, &format_args!("{link} measure {name} {count}"))
+        self.tell_text(alloc, format!(in alloc; "{link} measure {name} {count}")?)
     }
 
     /// `measure aborted_periods`, for a link.
-    fn tell_aborted(&mut self, alloc: Global, link: usize) -> io::Result<()> {
+    fn tell_aborted(&mut self, alloc: Global, link: usize) -> io::Result<()>
+        ensures { OnOk result (Continues self.old.tender (P.stand self.old.reports) self.new.tender (P.stand self.new.reports)) }
+    {
         let count = self.aborted(link);
-        self.tell(
-            alloc,
-            &format_args!("{link} measure aborted_periods {count}"),
-        )
+        self.tell_text(alloc, format!(in alloc; "{link} measure aborted_periods {count}")?)
     }
 
     /// `measure`, for a link: what was counted, in the order of the names.
-    fn tell_measures(&mut self, alloc: Global, link: usize) -> io::Result<()> {
+    fn tell_measures(&mut self, alloc: Global, link: usize) -> io::Result<()>
+        ensures { OnOk result (Continues self.old.tender (P.stand self.old.reports) self.new.tender (P.stand self.new.reports)) }
+    {
         let all = all_measures();
         for measure in &all {
             self.tell_measure(alloc, link, *measure)?;
@@ -122,16 +137,20 @@ impl<O, P: Reports> SetDesk<O, P> {
     }
 
     /// `held`, for a link.
-    fn tell_held(&mut self, alloc: Global, link: usize) -> io::Result<()> {
+    fn tell_held(&mut self, alloc: Global, link: usize) -> io::Result<()>
+        ensures { OnOk result (Continues self.old.tender (P.stand self.old.reports) self.new.tender (P.stand self.new.reports)) }
+    {
         let held = self.tender.set().held(link).unwrap_or(0);
         let sent = self.tender.set().sent(link).unwrap_or(0);
-        self.tell(alloc, &format_args!("{link} held {held} sent {sent}"))
+        self.tell_text(alloc, format!(in alloc; "{link} held {held} sent {sent}")?)
     }
 
     /// `table`.
-    fn tell_table(&mut self, alloc: Global) -> io::Result<()> {
+    fn tell_table(&mut self, alloc: Global) -> io::Result<()>
+        ensures { OnOk result (Continues self.old.tender (P.stand self.old.reports) self.new.tender (P.stand self.new.reports)) }
+    {
         let shared = self.tender.shared_out();
-        self.tell(alloc, &shared)
+        self.tell_text(alloc, format!(in alloc; "{shared}")?)
     }
 
     /// Tells what an order asked of a link, where it asked for something.
@@ -140,7 +159,9 @@ impl<O, P: Reports> SetDesk<O, P> {
         alloc: Global,
         link: usize,
         order: &SetOrder<'_>,
-    ) -> io::Result<()> {
+    ) -> io::Result<()>
+        ensures { OnOk result (Continues self.old.tender (P.stand self.old.reports) self.new.tender (P.stand self.new.reports)) }
+    {
         match order {
             SetOrder::State(process) => self.tell_state(alloc, link, process),
             SetOrder::Value(process, variable) => self.tell_value(alloc, link, process, variable),
@@ -158,12 +179,14 @@ impl<O, P: Reports> SetDesk<O, P> {
         alloc: Global,
         focus: Focus,
         order: &SetOrder<'_>,
-    ) -> io::Result<()> {
+    ) -> io::Result<()>
+        ensures { OnOk result (Continues self.old.tender (P.stand self.old.reports) self.new.tender (P.stand self.new.reports)) }
+    {
         match order {
             SetOrder::Table => self.tell_table(alloc),
             SetOrder::Unsure => {
                 let unsure = self.tender.set().unsure();
-                self.tell(alloc, &format_args!("unsure {unsure}"))
+                self.tell_text(alloc, format!(in alloc; "unsure {unsure}")?)
             }
             SetOrder::Held => {
                 for link in 0..self.tender.len() {

@@ -1,12 +1,16 @@
 //! A set on its lines, with its orders and reports.
+ghost use Rattle.std.specs.Prelude.{◌≡◌, IfOk, IfErr, OnOk, string_bytes};
+ghost use Rattle.line_filter.specs.Orders.{told};
+ghost use Rattle.line_filter.specs.Reporting.{TellsLines};
+ghost use Rattle.set_tending.specs.Texts.{told_text};
+ghost use Rattle.line_play.specs.SetRuns.{Continues};
 
 use crate::set_measures::Since;
 use crate::set_orders::Focus;
 use crate::set_queue::Queue;
-use line_filter::Reports;
+use line_filter::{Reports, tell};
 use set_tending::{TendError, Tender, Told, Wire};
 use std::alloc::{AllocError, Global};
-use std::fmt::Display;
 use std::io::{self, ErrorKind};
 
 /// A set on its lines. It can't be dropped: its set ends with what is retrieved.
@@ -78,6 +82,9 @@ impl<O, P> SetDesk<O, P> {
     where
         O: Drop,
         P: Drop,
+        ensures new { IfOk result (λ desk. desk.tender ≡ tender) }
+        ensures reports { IfOk result (λ desk. desk.reports ≡ reports) }
+        ensures back { IfErr result (λ back. back ≡ tender) }
     {
         match parts(alloc, tender.len()) {
             Ok((wires, since)) => Ok(SetDesk {
@@ -95,7 +102,9 @@ impl<O, P> SetDesk<O, P> {
     }
 
     /// The millisecond: how many rounds there were.
-    pub fn millisecond(&self) -> u64 {
+    pub fn millisecond(&self) -> u64
+        ensures { result ≡ self.now.tender.ticks }
+    {
         self.tender.now()
     }
 
@@ -116,26 +125,52 @@ impl<O, P> SetDesk<O, P> {
     }
 }
 
+/// Tells what the set told.
+fn tell_told<P: Reports>(alloc: Global, now: u64, item: &Told, reports: &mut P) -> io::Result<()>
+    ensures { OnOk result (TellsLines (P.stand reports.old) (P.stand reports.new) (told now (told_text item.now))) }
+{
+    let text = format!(in alloc; "{item}")?;
+    tell(alloc, now, text.as_str(), reports)
+}
+
+/// Tells all that a set has to tell.
+pub(crate) fn tell_all<P: Reports>(
+    alloc: Global,
+    tender: &mut Tender,
+    reports: &mut P,
+) -> io::Result<()>
+    ensures { OnOk result (Continues tender.old (P.stand reports.old) tender.new (P.stand reports.new)) }
+{
+    for _told in 0..u64::MAX {
+        match tender.take_told() {
+            Some(item) => tell_told(alloc, tender.now(), &item, reports)?,
+            None => return Ok(()),
+        }
+    }
+    Err(io::Error::from(ErrorKind::Other))
+}
+
 impl<O, P: Reports> SetDesk<O, P> {
     /// Tells a line, the millisecond first.
-    pub(crate) fn tell<D: Display>(&mut self, alloc: Global, text: &D) -> io::Result<()> {
-        let now = self.tender.now();
-        let line = format!(in alloc; "{now} {text}\n")?;
-        self.reports.tell(line.as_bytes())
+    pub(crate) fn tell(&mut self, alloc: Global, text: &str) -> io::Result<()>
+        ensures tells { OnOk result (TellsLines (P.stand self.old.reports) (P.stand self.new.reports) (told self.old.tender.ticks text.now)) }
+        ensures tender { self.new.tender ≡ self.old.tender }
+    {
+        tell(alloc, self.tender.now(), text, &mut self.reports)
+    }
+
+    /// The same.
+    pub(crate) fn tell_text(&mut self, alloc: Global, text: String) -> io::Result<()>
+        ensures tells { OnOk result (TellsLines (P.stand self.old.reports) (P.stand self.new.reports) (told self.old.tender.ticks (string_bytes text))) }
+        ensures tender { self.new.tender ≡ self.old.tender }
+    {
+        self.tell(alloc, text.as_str())
     }
 
     /// Tells all that the set has to tell.
-    pub(crate) fn tell_all(&mut self, alloc: Global) -> io::Result<()> {
-        for _told in 0..u64::MAX {
-            match self.tender.take_told() {
-                Some(told) => self.tell_one(alloc, &told)?,
-                None => return Ok(()),
-            }
-        }
-        Err(io::Error::from(ErrorKind::Other))
-    }
-
-    fn tell_one(&mut self, alloc: Global, told: &Told) -> io::Result<()> {
-        self.tell(alloc, told)
+    pub(crate) fn tell_all(&mut self, alloc: Global) -> io::Result<()>
+        ensures { OnOk result (Continues self.old.tender (P.stand self.old.reports) self.new.tender (P.stand self.new.reports)) }
+    {
+        tell_all(alloc, &mut self.tender, &mut self.reports)
     }
 }

@@ -1,4 +1,8 @@
 //! Orders to a set, as they are written.
+ghost use Rattle.std.specs.Prelude.{◌≡◌, IfOk, IfSome, None};
+ghost use Rattle.script_lines.specs.Words.{words_of};
+ghost use Rattle.script_links.specs.Octets.{octets_of};
+ghost use Rattle.line_play.specs.SetRuns.{octets_sent, sent_by};
 
 use script_lines::words_in;
 use script_links::{Order, TermCommand, count, octets_in, order_in, term_command_in};
@@ -57,7 +61,9 @@ fn focus_in(word: &str) -> Option<Focus> {
 }
 
 /// An order of one word.
-fn word_in<'a>(word: &str) -> Option<SetOrder<'a>> {
+fn word_in<'a>(word: &str) -> Option<SetOrder<'a>>
+    ensures { IfSome result (λ s. octets_sent s ≡ None) }
+{
     match word {
         "measure" => Some(SetOrder::Measures),
         "table" => Some(SetOrder::Table),
@@ -69,7 +75,9 @@ fn word_in<'a>(word: &str) -> Option<SetOrder<'a>> {
 }
 
 /// `send HEX`.
-fn send_in<'a>(alloc: Global, word: &str) -> Result<Option<SetOrder<'a>>, AllocError> {
+fn send_in<'a>(alloc: Global, word: &str) -> Result<Option<SetOrder<'a>>, AllocError>
+    ensures { IfOk result (λ o. IfSome o (λ s. octets_sent s ≡ octets_of word.now)) }
+{
     match octets_in(alloc, word)? {
         Some(octets) if 5 <= octets.len() && octets.len() <= 273 => {
             Ok(Some(SetOrder::Send(octets)))
@@ -79,7 +87,9 @@ fn send_in<'a>(alloc: Global, word: &str) -> Result<Option<SetOrder<'a>>, AllocE
 }
 
 /// What a command of a terminal's script asks of links, if it asks for something.
-fn question<'a>(command: &TermCommand<'a>) -> Option<SetOrder<'a>> {
+fn question<'a>(command: &TermCommand<'a>) -> Option<SetOrder<'a>>
+    ensures { IfSome result (λ s. octets_sent s ≡ None) }
+{
     match command {
         TermCommand::State(process) => Some(SetOrder::State(*process)),
         TermCommand::Value(process, variable) => Some(SetOrder::Value(*process, *variable)),
@@ -91,7 +101,9 @@ fn question<'a>(command: &TermCommand<'a>) -> Option<SetOrder<'a>> {
 }
 
 /// What is asked of links, by the words for it: what their actors are, and what was measured.
-fn asked_in<'a>(alloc: Global, words: &[&'a str]) -> Result<Option<SetOrder<'a>>, AllocError> {
+fn asked_in<'a>(alloc: Global, words: &[&'a str]) -> Result<Option<SetOrder<'a>>, AllocError>
+    ensures { IfOk result (λ o. IfSome o (λ s. octets_sent s ≡ None)) }
+{
     match term_command_in(alloc, words)? {
         Some(command) => Ok(question(&command)),
         None => Ok(None),
@@ -110,7 +122,9 @@ pub(crate) fn is_set_report(alloc: Global, line: &str) -> Result<bool, AllocErro
 }
 
 /// The order that a line says; none where it says none.
-pub fn set_order_in<'a>(alloc: Global, line: &'a str) -> Result<Option<SetOrder<'a>>, AllocError> {
+pub fn set_order_in<'a>(alloc: Global, line: &'a str) -> Result<Option<SetOrder<'a>>, AllocError>
+    ensures { IfOk result (λ o. IfSome o (λ s. octets_sent s ≡ sent_by (words_of line.now))) }
+{
     let words = words_in(alloc, line)?;
     match words.as_slice() {
         [] => Ok(None),

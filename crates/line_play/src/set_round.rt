@@ -1,4 +1,7 @@
 //! A round of a set on its lines.
+ghost use Rattle.std.specs.Prelude.{◌≡◌, OnOk};
+ghost use Rattle.set_tending.specs.Rounds.{AddsHeeded};
+ghost use Rattle.line_play.specs.SetRuns.{Continues};
 
 use crate::set_desk::{SetDesk, failed};
 use crate::set_lines::{Came, Lines};
@@ -37,7 +40,9 @@ impl<O: Orders, P: Reports> SetDesk<O, P> {
         link: usize,
         came: &[u8],
         out: &mut Vec<u8>,
-    ) -> io::Result<()> {
+    ) -> io::Result<()>
+        ensures { OnOk result (Continues self.old.tender (P.stand self.old.reports) self.new.tender (P.stand self.new.reports)) }
+    {
         out.clear();
         let Some(wire) = self.wires.get_mut(link) else {
             return Ok(());
@@ -51,13 +56,16 @@ impl<O: Orders, P: Reports> SetDesk<O, P> {
         }
         match passed {
             Passed::Same => Ok(()),
-            Passed::Silent => self.tell(alloc, &format_args!("{link} line silent")),
-            Passed::Back => self.tell(alloc, &format_args!("{link} line back")),
+            Passed::Silent => self.tell_text(alloc, format!(in alloc; "{link} line silent")?),
+            Passed::Back => self.tell_text(alloc, format!(in alloc; "{link} line back")?),
         }
     }
 
     /// A round of a line that isn't open.
-    fn miss(&mut self, link: usize) -> io::Result<()> {
+    fn miss(&mut self, link: usize) -> io::Result<()>
+        ensures adds { OnOk result (AddsHeeded self.old.tender self.new.tender) }
+        ensures reports { self.new.reports ≡ self.old.reports }
+    {
         let Some(wire) = self.wires.get_mut(link) else {
             return Ok(());
         };
@@ -82,24 +90,28 @@ impl<O: Orders, P: Reports> SetDesk<O, P> {
         link: usize,
         part: &mut [u8],
         out: &mut Vec<u8>,
-    ) -> io::Result<()> {
+    ) -> io::Result<()>
+        ensures { OnOk result (Continues self.old.tender (P.stand self.old.reports) self.new.tender (P.stand self.new.reports)) }
+    {
         match lines.take(link, part) {
             Came::Octets(count) => {
                 let came = part.get(..count).unwrap_or(&[]);
                 self.pass(alloc, lines, link, came, out)
             }
             Came::Closed => self.miss(link),
-            Came::Ended => self.tell(alloc, &format_args!("{link} line ended")),
-            Came::Failed => self.tell(alloc, &format_args!("{link} line failed")),
+            Came::Ended => self.tell_text(alloc, format!(in alloc; "{link} line ended")?),
+            Came::Failed => self.tell_text(alloc, format!(in alloc; "{link} line failed")?),
             Came::Opened => {
                 self.go_ahead(lines, link);
-                self.tell(alloc, &format_args!("{link} line open"))
+                self.tell_text(alloc, format!(in alloc; "{link} line open")?)
             }
         }
     }
 
     /// Obeys the orders that wait, as far as they don't have to wait any more.
-    fn obey_waiting(&mut self, alloc: Global) -> io::Result<()> {
+    fn obey_waiting(&mut self, alloc: Global) -> io::Result<()>
+        ensures { OnOk result (Continues self.old.tender (P.stand self.old.reports) self.new.tender (P.stand self.new.reports)) }
+    {
         for _order in 0..u64::MAX {
             let waits = match self.queue.first() {
                 Some(first) => self.tender.sends_wait() && is_send(alloc, &first.text)?,
@@ -116,7 +128,9 @@ impl<O: Orders, P: Reports> SetDesk<O, P> {
     }
 
     /// Takes an order: it is obeyed, or waits behind others, but for one that stops links. A report says none.
-    fn take_order(&mut self, alloc: Global, text: String) -> io::Result<()> {
+    fn take_order(&mut self, alloc: Global, text: String) -> io::Result<()>
+        ensures { OnOk result (Continues self.old.tender (P.stand self.old.reports) self.new.tender (P.stand self.new.reports)) }
+    {
         if is_set_report(alloc, &text)? {
             return Ok(());
         }
@@ -136,7 +150,9 @@ impl<O: Orders, P: Reports> SetDesk<O, P> {
     }
 
     /// Obeys the orders that are due. Whether the run goes on.
-    fn obey_due(&mut self, alloc: Global) -> io::Result<bool> {
+    fn obey_due(&mut self, alloc: Global) -> io::Result<bool>
+        ensures { OnOk result (Continues self.old.tender (P.stand self.old.reports) self.new.tender (P.stand self.new.reports)) }
+    {
         self.obey_waiting(alloc)?;
         for _order in 0..u64::MAX {
             if self.queue.is_full() {
@@ -145,7 +161,7 @@ impl<O: Orders, P: Reports> SetDesk<O, P> {
             let now = self.tender.now();
             match self.orders.next(alloc, now)? {
                 Some(text) if text.as_str() == "quit" => {
-                    self.tell(alloc, &"ok quit")?;
+                    self.tell(alloc, "ok quit")?;
                     return Ok(false);
                 }
                 Some(text) => self.take_order(alloc, text)?,
@@ -167,7 +183,9 @@ impl<O: Orders, P: Reports> SetDesk<O, P> {
         lines: &mut L,
         part: &mut [u8],
         out: &mut Vec<u8>,
-    ) -> io::Result<bool> {
+    ) -> io::Result<bool>
+        ensures { OnOk result (Continues self.old.tender (P.stand self.old.reports) self.new.tender (P.stand self.new.reports)) }
+    {
         lines.begin(self.tender.now());
         for link in 0..self.tender.len() {
             self.carry(alloc, lines, link, part, out)?;

@@ -1,6 +1,6 @@
 //! One line of a set.
 ghost use Rattle.std.specs.Prelude.{◌≡◌, IfOk, OnOk};
-ghost use Rattle.set_tending.specs.Rounds.{AddsHeeded};
+ghost use Rattle.set_tending.specs.Rounds.{Adds, AddsHeeded};
 ghost use Rattle.set_tending.specs.Wires.{GivesNext, Speaks, Waits, Passes};
 
 use line_filter::Voice;
@@ -64,6 +64,7 @@ impl Wire {
     /// The octet that goes out next. A unit that isn't whole would be told as want of memory, but none comes here.
     fn next(&mut self, tender: &mut Tender, link: usize) -> Result<u8, TendError>
         ensures gives { IfOk result (λ octet. GivesNext link tender.old self.old.voice octet tender.new self.new.voice) }
+        ensures adds { OnOk result (Adds tender.old tender.new) }
         ensures quiet { self.new.quiet ≡ self.old.quiet }
     {
         if let Some(octet) = self.voice.rest() {
@@ -89,6 +90,7 @@ impl Wire {
         out: &mut Vec<u8>,
     ) -> Result<(), TendError>
         ensures speaks { OnOk result (Speaks link count tender.old self.old.voice out.old.items tender.new self.new.voice out.new.items) }
+        ensures adds { OnOk result (Adds tender.old tender.new) }
         ensures quiet { self.new.quiet ≡ self.old.quiet }
     {
         for _octet in 0..count {
@@ -145,7 +147,8 @@ impl Wire {
         came: &[u8],
         out: &mut Vec<u8>,
     ) -> Result<Passed, TendError>
-        ensures { OnOk result (Passes link ahead came.now tender.old self.old out.old.items tender.new self.new out.new.items) }
+        ensures passes { OnOk result (Passes link ahead came.now tender.old self.old out.old.items tender.new self.new out.new.items) }
+        ensures heeds { OnOk result (AddsHeeded tender.old tender.new) }
     {
         if came.is_empty() {
             return self.wait(tender, link, ahead, out);
@@ -166,7 +169,9 @@ impl Wire {
     /// # Errors
     ///
     /// Where there is no memory.
-    pub fn miss(&mut self, tender: &mut Tender, link: usize) -> Result<(), TendError> {
+    pub fn miss(&mut self, tender: &mut Tender, link: usize) -> Result<(), TendError>
+        ensures { OnOk result (AddsHeeded tender.old tender.new) }
+    {
         hear(tender, link, &SILENT)
     }
 }
