@@ -1,3 +1,4 @@
 mod Measures
 mod NoSets
+mod SetTelling
 mod Turning

@@ -5,11 +5,11 @@ ghost use Rattle.line_play.specs.SetRuns.{Continues};
 use crate::set_desk::SetDesk;
 use crate::set_measures::Since;
 use crate::set_orders::{Focus, SetOrder};
+use crate::texts::text_of;
 use line_filter::Reports;
 use script_terminal::{Measure, all_measures, state_line, value_line};
 use std::alloc::Global;
-use std::io::{self, ErrorKind};
-use std::str;
+use std::io;
 
 impl<O, P> SetDesk<O, P> {
     /// The links that an order speaks of, from one to before another.
@@ -64,20 +64,6 @@ impl<O, P> SetDesk<O, P> {
 }
 
 impl<O, P: Reports> SetDesk<O, P> {
-    /// Tells what a link's actor or variable is.
-    fn tell_of_link(
-        &mut self,
-        alloc: Global,
-        link: usize,
-        what: &str,
-        line: &[u8],
-    ) -> io::Result<()> {
-        let Ok(text) = str::from_utf8(line) else {
-            return Err(io::Error::from(ErrorKind::InvalidData));
-        };
-        self.tell_text(alloc, format!(in alloc; "{link} {what} {text}")?)
-    }
-
     /// `state P`, for a link.
     fn tell_state(&mut self, alloc: Global, link: usize, process: &str) -> io::Result<()>
         ensures { OnOk result (Continues self.old.tender (P.stand self.old.reports) self.new.tender (P.stand self.new.reports)) }
@@ -86,8 +72,8 @@ impl<O, P: Reports> SetDesk<O, P> {
             Some(book) => state_line(alloc, book, process)?,
             None => return Ok(()),
         };
-        let what = format!(in alloc; "state {process}")?;
-        self.tell_of_link(alloc, link, &what, &line)
+        let text = text_of(alloc, &line)?;
+        self.tell_text(alloc, format!(in alloc; "{link} state {process} {text}")?)
     }
 
     /// `value P x`, for a link.
@@ -104,8 +90,8 @@ impl<O, P: Reports> SetDesk<O, P> {
             Some(book) => value_line(alloc, book, process, variable)?,
             None => return Ok(()),
         };
-        let what = format!(in alloc; "value {process} {variable}")?;
-        self.tell_of_link(alloc, link, &what, &line)
+        let text = text_of(alloc, &line)?;
+        self.tell_text(alloc, format!(in alloc; "{link} value {process} {variable} {text}")?)
     }
 
     /// `measure NAME`, for a link.
@@ -173,6 +159,30 @@ impl<O, P: Reports> SetDesk<O, P> {
         }
     }
 
+    /// Tells what an order asked of links, from one to before another.
+    fn tell_of_links(
+        &mut self,
+        alloc: Global,
+        from: usize,
+        to: usize,
+        order: &SetOrder<'_>,
+    ) -> io::Result<()>
+        ensures { OnOk result (Continues self.old.tender (P.stand self.old.reports) self.new.tender (P.stand self.new.reports)) }
+    {
+        for link in from..to {
+            self.tell_one_asked(alloc, link, order)?;
+        }
+        Ok(())
+    }
+
+    /// `unsure`.
+    fn tell_unsure(&mut self, alloc: Global) -> io::Result<()>
+        ensures { OnOk result (Continues self.old.tender (P.stand self.old.reports) self.new.tender (P.stand self.new.reports)) }
+    {
+        let unsure = self.tender.set().unsure();
+        self.tell_text(alloc, format!(in alloc; "unsure {unsure}")?)
+    }
+
     /// Tells what an order that was obeyed asked for: of links, of each of which it speaks, or of the set.
     pub(crate) fn tell_asked(
         &mut self,
@@ -184,22 +194,11 @@ impl<O, P: Reports> SetDesk<O, P> {
     {
         match order {
             SetOrder::Table => self.tell_table(alloc),
-            SetOrder::Unsure => {
-                let unsure = self.tender.set().unsure();
-                self.tell_text(alloc, format!(in alloc; "unsure {unsure}")?)
-            }
-            SetOrder::Held => {
-                for link in 0..self.tender.len() {
-                    self.tell_one_asked(alloc, link, order)?;
-                }
-                Ok(())
-            }
+            SetOrder::Unsure => self.tell_unsure(alloc),
+            SetOrder::Held => self.tell_of_links(alloc, 0, self.tender.len(), order),
             _ => {
                 let (from, to) = self.links(focus);
-                for link in from..to {
-                    self.tell_one_asked(alloc, link, order)?;
-                }
-                Ok(())
+                self.tell_of_links(alloc, from, to, order)
             }
         }
     }

@@ -1,0 +1,6 @@
+use Rattle.line_play.specs.SetRuns.{Continues}
+use Rattle.line_play.proofs.set_round.SetDesk.obey_waiting.Given as goal
+
+abbrev pub invariant-loop-_order : goal.invariant-loop-_order
+invariant-loop-_order g l =
+    Continues l.initial.self.tender (g.P.Reports.stand l.initial.self.reports) l.self.tender (g.P.Reports.stand l.self.reports)
