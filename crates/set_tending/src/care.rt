@@ -113,6 +113,7 @@ impl Care {
     }
 
     /// It comes into service. What was to be said of it speaks of numbers that are no more.
+    #[tactic(auto, unfolding(crate::specs::Cares::risen))]
     pub fn risen(self, now: u64) -> Care
         ensures { result ≡ risen now self }
     {
@@ -126,6 +127,7 @@ impl Care {
     }
 
     /// It goes down.
+    #[tactic(auto, unfolding(crate::specs::Cares::fallen))]
     pub fn fallen(self, now: u64) -> Care
         ensures { result ≡ fallen now self }
     {
@@ -141,6 +143,7 @@ impl Care {
     }
 
     /// It is to be in service from now on.
+    #[tactic(auto, unfolding(crate::specs::Cares::desired))]
     pub fn desired(self, now: u64) -> Care
         ensures { result ≡ desired now self }
     {
@@ -157,6 +160,7 @@ impl Care {
     }
 
     /// It isn't any more.
+    #[tactic(auto, unfolding(crate::specs::Cares::let_be))]
     pub fn let_be(self) -> Care
         ensures { result ≡ let_be self }
     {
@@ -272,6 +276,7 @@ impl Care {
     }
 
     /// Since which tick its Start has been due, where it is.
+    #[tactic(auto, unfolding(crate::specs::Cares::is_due))]
     pub fn is_due(self, now: u64) -> Option<u64>
         ensures { result ≡ is_due now self }
     {

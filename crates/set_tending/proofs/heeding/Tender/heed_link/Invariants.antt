@@ -1,5 +1,0 @@
-use Rattle.set_tending.specs.Rounds.{AddsHeeded}
-use Rattle.set_tending.proofs.heeding.Tender.heed_link.Given as goal
-
-abbrev pub invariant-loop-_report : goal.invariant-loop-_report
-invariant-loop-_report l = AddsHeeded l.initial.self l.self

@@ -1,5 +1,0 @@
-use Rattle.set_tending.proofs.Filling.{sum_more}
-use Rattle.set_tending.proofs.obeying.Tender.octets_held.Goals as goal
-
-pub loop-place-preserved : goal.loop-place-preserved
-loop-place-preserved c = sum_more _ _ _ _ c.loop-place.invariant c.octets_at.ensures
