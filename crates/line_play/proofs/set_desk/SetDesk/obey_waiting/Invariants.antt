@@ -1,5 +1,5 @@
 use Rattle.line_play.specs.SetRuns.{Continues}
-use Rattle.line_play.proofs.set_round.SetDesk.obey_waiting.Given as goal
+use Rattle.line_play.proofs.set_desk.SetDesk.obey_waiting.Given as goal
 
 abbrev pub invariant-loop-_order : goal.invariant-loop-_order
 invariant-loop-_order g l =
