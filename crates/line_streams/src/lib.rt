@@ -15,8 +15,10 @@ mod seen;
 mod taps;
 
 pub use arrivals::Arrivals;
+pub use bit_line::Deframer;
 pub use capture::{Capture, Kept};
 pub use departures::Departures;
+pub use ended::ended;
 pub use feeds::{Fed, Feed};
 pub use opening::{OrderStream, ReportStream, open_both, open_orders, open_reports};
 pub use outlet::Outlet;
