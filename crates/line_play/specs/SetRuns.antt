@@ -60,12 +60,12 @@ pub record IsSent (octets : List ℕ) (old new : Tended) : Type 0 where
 -- A line that tells no message for level 3, and of no message that was taken: of a link's line, of
 -- what an order asked for, of an order that sends nothing, and of one that wasn't obeyed.
 pub data Says (text : List ℕ) : Type 0 where
-  of_line : (link : ℕ) (what : List ℕ) → text ≡ decimal link ++ codes " line " ++ what → Says text
-  state : (link : ℕ) (what : List ℕ) → text ≡ decimal link ++ codes " state " ++ what → Says text
-  value : (link : ℕ) (what : List ℕ) → text ≡ decimal link ++ codes " value " ++ what → Says text
-  measure :
-      (link : ℕ) (what : List ℕ) → text ≡ decimal link ++ codes " measure " ++ what → Says text
-  held : (link : ℕ) (what : List ℕ) → text ≡ decimal link ++ codes " held " ++ what → Says text
+  of_line : (link : ℕ) (what : List ℕ) → text ≡ decimal link ++ (codes " line " ++ what) → Says text
+  state : (link : ℕ) (what : List ℕ) → text ≡ decimal link ++ (codes " state " ++ what) → Says text
+  value : (link : ℕ) (what : List ℕ) → text ≡ decimal link ++ (codes " value " ++ what) → Says text
+  measure : (link : ℕ) (what : List ℕ) → text ≡ decimal link ++ (codes " measure " ++ what)
+      → Says text
+  held : (link : ℕ) (what : List ℕ) → text ≡ decimal link ++ (codes " held " ++ what) → Says text
   unsure : (count : ℕ) → text ≡ codes "unsure " ++ decimal count → Says text
   shared : (x : Told) → text ≡ told_text x → message_in x ≡ [] → Says text
   done : (order : List ℕ) → text ≡ codes "ok " ++ order → sent_by (words_of order) ≡ None

@@ -1,5 +1,5 @@
 //! What orders to a set lead to.
-ghost use Rattle.std.specs.Prelude.{◌≡◌, IfOk, IfSome, IsNone, OnOk, None, Some};
+ghost use Rattle.std.specs.Prelude.{◌≡◌, IfOk, IfSome, IsSome, IsNone, OnOk, None, Some};
 ghost use Rattle.script_lines.specs.Words.{words_of};
 ghost use Rattle.set_tending.specs.Rounds.{Adds};
 ghost use Rattle.line_play.specs.SetRuns.{Continues, IsSent, octets_sent, sent_by};
@@ -17,7 +17,9 @@ use std::io;
 type Refused = String;
 
 /// A refusal as a text.
-fn refusal<D: std::fmt::Display>(alloc: Global, why: &D) -> Result<Option<Refused>, AllocError> {
+fn refusal<D: std::fmt::Display>(alloc: Global, why: &D) -> Result<Option<Refused>, AllocError>
+    ensures { IfOk result (λ r. IsSome r) }
+{
     Ok(Some(format!(in alloc; "{why}")?))
 }
 
@@ -130,13 +132,28 @@ impl<O, P: Reports> SetDesk<O, P> {
         }
     }
 
+    /// Tells why an order isn't obeyed.
+    fn refuse(&mut self, alloc: Global, why: &str) -> io::Result<()>
+        ensures { OnOk result (Continues self.old.tender (P.stand self.old.reports) self.new.tender (P.stand self.new.reports)) }
+    {
+        self.tell_text(alloc, format!(in alloc; "refused {why}")?)
+    }
+
+    /// Tells that an order which sends no message was obeyed.
+    pub(crate) fn agree(&mut self, alloc: Global, text: &str) -> io::Result<()>
+        requires { sent_by (words_of text.now) ≡ None }
+        ensures { OnOk result (Continues self.old.tender (P.stand self.old.reports) self.new.tender (P.stand self.new.reports)) }
+    {
+        self.tell_text(alloc, format!(in alloc; "ok {text}")?)
+    }
+
     /// Has a message sent, as an order says, and tells that.
     fn obey_sending(&mut self, alloc: Global, text: &str, octets: &[u8]) -> io::Result<()>
         requires { sent_by (words_of text.now) ≡ Some octets.now }
         ensures { OnOk result (Continues self.old.tender (P.stand self.old.reports) self.new.tender (P.stand self.new.reports)) }
     {
         match self.obey_send(alloc, octets)? {
-            Some(why) => self.tell_text(alloc, format!(in alloc; "refused {why}")?),
+            Some(why) => self.refuse(alloc, why.as_str()),
             None => self.tell_text(alloc, format!(in alloc; "ok {text}")?),
         }
     }
@@ -153,12 +170,12 @@ impl<O, P: Reports> SetDesk<O, P> {
         ensures { OnOk result (Continues self.old.tender (P.stand self.old.reports) self.new.tender (P.stand self.new.reports)) }
     {
         if let Some(why) = self.why_unanswered(alloc, focus, order)? {
-            return self.tell_text(alloc, format!(in alloc; "refused {why}")?);
+            return self.refuse(alloc, why.as_str());
         }
         match self.obey_plain(alloc, focus, order)? {
-            Some(why) => self.tell_text(alloc, format!(in alloc; "refused {why}")?),
+            Some(why) => self.refuse(alloc, why.as_str()),
             None => {
-                self.tell_text(alloc, format!(in alloc; "ok {text}")?)?;
+                self.agree(alloc, text)?;
                 self.tell_asked(alloc, focus, order)
             }
         }
@@ -187,7 +204,7 @@ impl<O, P: Reports> SetDesk<O, P> {
     {
         match set_order_in(alloc, text)? {
             Some(order) => self.obey_order(alloc, focus, text, &order),
-            None => self.tell(alloc, "refused X1 BadLine"),
+            None => self.refuse(alloc, "X1 BadLine"),
         }
     }
 }

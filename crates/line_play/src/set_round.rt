@@ -1,6 +1,6 @@
 //! A round of a set on its lines.
 ghost use Rattle.std.specs.Prelude.{◌≡◌, OnOk};
-ghost use Rattle.set_tending.specs.Rounds.{AddsHeeded};
+ghost use Rattle.set_tending.specs.Rounds.{AddsHeeded, Ticks};
 ghost use Rattle.line_play.specs.SetRuns.{Continues};
 
 use crate::set_desk::{SetDesk, failed};
@@ -32,6 +32,21 @@ fn is_stop(alloc: Global, text: &str) -> Result<bool, AllocError> {
 }
 
 impl<O: Orders, P: Reports> SetDesk<O, P> {
+    /// Octets that came on a line go through it. What goes out is put in place of what stood there.
+    fn hear(&mut self, link: usize, came: &[u8], out: &mut Vec<u8>) -> io::Result<Passed>
+        ensures adds { OnOk result (AddsHeeded self.old.tender self.new.tender) }
+        ensures reports { self.new.reports ≡ self.old.reports }
+    {
+        out.clear();
+        let Some(wire) = self.wires.get_mut(link) else {
+            return Ok(Passed::Same);
+        };
+        match wire.pass(&mut self.tender, link, self.ahead, came, out) {
+            Ok(passed) => Ok(passed),
+            Err(error) => Err(failed(error)),
+        }
+    }
+
     /// Octets that came on a line go through it, and what goes out goes on.
     fn pass<L: Lines>(
         &mut self,
@@ -43,14 +58,7 @@ impl<O: Orders, P: Reports> SetDesk<O, P> {
     ) -> io::Result<()>
         ensures { OnOk result (Continues self.old.tender (P.stand self.old.reports) self.new.tender (P.stand self.new.reports)) }
     {
-        out.clear();
-        let Some(wire) = self.wires.get_mut(link) else {
-            return Ok(());
-        };
-        let passed = match wire.pass(&mut self.tender, link, self.ahead, came, out) {
-            Ok(passed) => passed,
-            Err(error) => return Err(failed(error)),
-        };
+        let passed = self.hear(link, came, out)?;
         if !out.is_empty() {
             lines.give(link, out.as_slice());
         }
@@ -108,21 +116,33 @@ impl<O: Orders, P: Reports> SetDesk<O, P> {
         }
     }
 
+    /// Whether none of the orders that wait is to be obeyed now.
+    fn rests(&self, alloc: Global) -> Result<bool, AllocError> {
+        match self.queue.first() {
+            Some(first) => Ok(self.tender.sends_wait() && is_send(alloc, &first.text)?),
+            None => Ok(true),
+        }
+    }
+
+    /// Obeys the first of them.
+    fn obey_first(&mut self, alloc: Global) -> io::Result<()>
+        ensures { OnOk result (Continues self.old.tender (P.stand self.old.reports) self.new.tender (P.stand self.new.reports)) }
+    {
+        match self.queue.take() {
+            Some(first) => self.obey(alloc, first.focus, &first.text),
+            None => Ok(()),
+        }
+    }
+
     /// Obeys the orders that wait, as far as they don't have to wait any more.
     fn obey_waiting(&mut self, alloc: Global) -> io::Result<()>
         ensures { OnOk result (Continues self.old.tender (P.stand self.old.reports) self.new.tender (P.stand self.new.reports)) }
     {
         for _order in 0..u64::MAX {
-            let waits = match self.queue.first() {
-                Some(first) => self.tender.sends_wait() && is_send(alloc, &first.text)?,
-                None => return Ok(()),
-            };
-            if waits {
+            if self.rests(alloc)? {
                 return Ok(());
             }
-            if let Some(first) = self.queue.take() {
-                self.obey(alloc, first.focus, &first.text)?;
-            }
+            self.obey_first(alloc)?;
         }
         Ok(())
     }
@@ -149,6 +169,18 @@ impl<O: Orders, P: Reports> SetDesk<O, P> {
         }
     }
 
+    /// Takes an order that is due. Whether the run goes on.
+    fn take_due(&mut self, alloc: Global, text: String) -> io::Result<bool>
+        ensures { OnOk result (Continues self.old.tender (P.stand self.old.reports) self.new.tender (P.stand self.new.reports)) }
+    {
+        if text.as_str() == "quit" {
+            self.agree(alloc, "quit")?;
+            return Ok(false);
+        }
+        self.take_order(alloc, text)?;
+        Ok(true)
+    }
+
     /// Obeys the orders that are due. Whether the run goes on.
     fn obey_due(&mut self, alloc: Global) -> io::Result<bool>
         ensures { OnOk result (Continues self.old.tender (P.stand self.old.reports) self.new.tender (P.stand self.new.reports)) }
@@ -159,16 +191,36 @@ impl<O: Orders, P: Reports> SetDesk<O, P> {
                 return Ok(true);
             }
             let now = self.tender.now();
-            match self.orders.next(alloc, now)? {
-                Some(text) if text.as_str() == "quit" => {
-                    self.tell(alloc, "ok quit")?;
-                    return Ok(false);
-                }
-                Some(text) => self.take_order(alloc, text)?,
-                None => return Ok(true),
+            let Some(text) = self.orders.next(alloc, now)? else {
+                return Ok(true);
+            };
+            if !self.take_due(alloc, text)? {
+                return Ok(false);
             }
         }
         Ok(true)
+    }
+
+    /// A tick passes.
+    fn tick(&mut self) -> io::Result<()>
+        ensures ticks { OnOk result (Ticks self.old.tender self.new.tender) }
+        ensures reports { self.new.reports ≡ self.old.reports }
+    {
+        match self.tender.tick() {
+            Ok(()) => Ok(()),
+            Err(error) => Err(failed(error)),
+        }
+    }
+
+    /// What is to be done for the links is done.
+    fn tend(&mut self) -> io::Result<()>
+        ensures adds { OnOk result (AddsHeeded self.old.tender self.new.tender) }
+        ensures reports { self.new.reports ≡ self.old.reports }
+    {
+        match self.tender.tend() {
+            Ok(()) => Ok(()),
+            Err(error) => Err(failed(error)),
+        }
     }
 
     /// A round: of each line what came is heard, and an octet goes out for each of its octets; a tick passes; what there is to tell is told; what is to be
@@ -190,8 +242,8 @@ impl<O: Orders, P: Reports> SetDesk<O, P> {
         for link in 0..self.tender.len() {
             self.carry(alloc, lines, link, part, out)?;
         }
-        self.tender.tick().map_err(failed)?;
-        self.tender.tend().map_err(failed)?;
+        self.tick()?;
+        self.tend()?;
         self.tell_all(alloc)?;
         let goes_on = self.obey_due(alloc)?;
         self.tell_all(alloc)?;

@@ -1,15 +1,20 @@
 -- How many octets the messages of a link have.
-use Rattle.std.proofs.Common.{◌≡◌, ◌∙◌, ℕ, zero, suc, ◌+◌, ◌-◌, ◌^◌, ◌≤◌, ◌||◌, Bool, List, [], ◌∷◌, ◌++◌, length, take, get_or, min, nat_le, unwrap_or, Option, None, Some, slice_get, refl, sym, ap, arith}
+use Rattle.std.proofs.Common.{◌≡◌, ◌∙◌, ℕ, zero, suc, ◌+◌, ◌-◌, ◌^◌, ◌≤◌, ◌&&◌, ◌||◌, not, Bool, true, false, List, [], ◌∷◌, ◌++◌, length, take, get_or, min, nat_le, unwrap_or, Option, None, Some, slice_get, refl, sym, ap, arith}
 use Rattle.std.proofs.lemmas.Bool.Decides.{nat_tests}
 use Rattle.std.proofs.lemmas.List.{take_more, take_all}
 use Rattle.std.proofs.lemmas.Option.{none-some, slice_get_within, get_or_from_slice_get}
 use Rattle.resend_store.specs.declared.messages.Msu.{Msu}
+use Rattle.group_changeover.specs.declared.labels.Label.{Label}
+use Rattle.group_changeover.specs.Labels.{label_in}
+use Rattle.group_changeover.specs.Sharing.{selection_of, selection_by, link_of}
+use Rattle.group_changeover.specs.Bound.{is_bound}
 use Rattle.link_group.specs.group_members_types.link.Link.{Link}
+use Rattle.link_group.specs.Set.{LinkSet, points_of}
 use Rattle.link_group.specs.OneLink.{held}
 use Rattle.link_group.specs.Reading.{held_count, message_at}
 use Rattle.link_group.specs.Links.{read_at}
 use Rattle.set_tending.specs.Cares.{LAST}
-use Rattle.set_tending.specs.Sending.{MOST_HELD, MOST_OCTETS, size_of, octets_in, held_by, is_full_of}
+use Rattle.set_tending.specs.Sending.{MOST_HELD, MOST_OCTETS, size_of, octets_in, held_by, is_full_of, is_full_at, finds_no_room}
 
 octets_append : (xs ys : List Msu) → octets_in (xs ++ ys) ≡ octets_in xs + octets_in ys
 octets_append [] ys = refl
@@ -64,3 +69,17 @@ full_by k count octets is octets_is =
     ap (λ (n : ℕ). nat_le MOST_HELD n || nat_le MOST_OCTETS octets) count_is
     ∙ (ap (λ (n : ℕ). nat_le MOST_HELD (length (held_by k)) || nat_le MOST_OCTETS n) octets_at
     ∙ ap (λ (b : Bool). nat_le MOST_HELD (length (held_by k)) || b) (capped_reaches (octets_in (held_by k))))
+
+-- ---- whether a message finds room
+
+pub no_room_bound : (c : LinkSet) (m : Msu) → is_bound (points_of c) m ≡ true → false ≡ finds_no_room c m
+no_room_bound c m bound = sym (ap (λ (b : Bool). not b && is_full_at c (link_of c.table (selection_of m))) bound)
+
+pub no_room_full : (c : LinkSet) (m : Msu) (label : Label) (full : Bool) → label_in m.sif.items ≡ Some label → is_bound (points_of c) m ≡ false
+    → full ≡ is_full_at c (link_of c.table label.sls) → full ≡ finds_no_room c m
+unfolding selection_of
+no_room_full c m label full is free full_is =
+    let selection_is : selection_of m ≡ label.sls = ap selection_by is in
+    full_is
+    ∙ (ap (λ (s : ℕ). is_full_at c (link_of c.table s)) (sym selection_is)
+    ∙ sym (ap (λ (b : Bool). not b && is_full_at c (link_of c.table (selection_of m))) free))

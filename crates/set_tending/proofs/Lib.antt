@@ -1,5 +1,6 @@
+mod Acting
 mod Calling
-mod Doing
+pub mod Doing
 mod Fields
 mod Filling
 mod Printing

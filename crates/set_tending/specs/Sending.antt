@@ -46,8 +46,11 @@ abbrev pub is_full_at : LinkSet → Option ℕ → Bool
 is_full_at c None = false
 is_full_at c (Some l) = is_full_by (slice_get c.links l)
 
--- the link of its selection is full, where it isn't bound to one; or what the set answers
+-- it isn't bound to a link, and the link of its selection is full
+abbrev pub finds_no_room : LinkSet → Msu → Bool
+finds_no_room c m =
+    not (is_bound (points_of c) m) && is_full_at c (link_of c.table (selection_of m))
+
+-- E1 where it finds no room, or what the set answers
 unfoldable pub tended_send_fault : LinkSet → Msu → Option SendError
-tended_send_fault c m =
-    if not (is_bound (points_of c) m) && is_full_at c (link_of c.table (selection_of m))
-    then Some Full else send_fault c m
+tended_send_fault c m = if finds_no_room c m then Some Full else send_fault c m

@@ -6,7 +6,8 @@ ghost use Rattle.link_group.specs.OneLink.{fault_of};
 ghost use Rattle.link_group.specs.Reading.{message_at};
 ghost use Rattle.set_tending.specs.Cares.{LAST};
 ghost use Rattle.set_tending.specs.Rounds.{Acts, Adds};
-ghost use Rattle.set_tending.specs.Sending.{tended_send_fault, size_of, octets_in, held_by, is_full_of, is_full_at};
+ghost use Rattle.set_tending.specs.Telling.{message_in};
+ghost use Rattle.set_tending.specs.Sending.{tended_send_fault, size_of, octets_in, held_by, is_full_of, is_full_at, finds_no_room};
 
 use crate::tender::Tender;
 use crate::told::Told;
@@ -58,20 +59,31 @@ impl Tender {
         }
     }
 
+    /// Whether a message isn't bound to a link, and the link of its selection has no room for it.
+    fn is_refused(&self, label: Label, msu: &Msu) -> bool
+        requires { label_in msu.now.sif.items ≡ Some label }
+        ensures { result ≡ finds_no_room self.now.set msu.now }
+    {
+        if self.set.is_bound(msu) {
+            return false;
+        }
+        self.lacks_room(label.sls)
+    }
+
     /// Takes a message to send, whose field begins with this label.
     ///
     /// # Errors
     ///
     /// `E1 Full` also where the link of its selection, which isn't in changeover, holds 256 messages or 3,000 octets, unless the message is bound to a
     /// link; else those of [`link_group::Group::send`]. Nothing changes then.
-    #[tactic(auto, unfolding(crate::specs::Sending::tended_send_fault, group_changeover::specs::Sharing::selection_of))]
+    #[tactic(auto, unfolding(crate::specs::Sending::tended_send_fault))]
     pub fn send(&mut self, label: Label, msu: Msu) -> Result<(), SendError>
         requires { label_in msu.sif.items ≡ Some label }
         ensures fault { fault_of result ≡ tended_send_fault self.old.set msu }
         ensures ok { OnOk result (Acts (msu ∷ []) [] self.old self.new) }
         ensures err { OnErr result (self.new ≡ self.old) }
     {
-        if !self.set.is_bound(&msu) && self.lacks_room(label.sls) {
+        if self.is_refused(label, &msu) {
             return Err(SendError::Full);
         }
         match self.set.send(label, msu) {
@@ -101,7 +113,9 @@ impl Tender {
     }
 
     /// The links of selections, as they are told.
-    pub fn shared_out(&self) -> Told {
+    pub fn shared_out(&self) -> Told
+        ensures { message_in result ≡ [] }
+    {
         Told::Shared(self.table())
     }
 }

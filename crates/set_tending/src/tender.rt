@@ -155,6 +155,7 @@ impl Tender {
     pub fn take_told(&mut self) -> Option<Told>
         ensures some { IfSome result (λ told. self.old.messages ≡ message_in told ++ self.new.messages) }
         ensures none { IsNone result → self.old.messages ≡ [] }
+        ensures left { IsNone result → self.new ≡ self.old }
         ensures same { self.new ≡ record self.old { messages = self.new.messages } }
     {
         self.told.pop_front()

@@ -1,10 +1,5 @@
-use Rattle.std.proofs.Common.{sym}
-use Rattle.set_tending.proofs.Calling.{by_none, by_fails}
-use Rattle.set_tending.proofs.Doing.{adds_is}
+use Rattle.set_tending.proofs.Acting.{adds_failure}
 use Rattle.set_tending.proofs.tender.Tender.fail.Goals as goal
 
-pub returns-in-Ok : goal.returns-in-Ok
-returns-in-Ok c = rw (← c.self.view_is) (adds_is _ _ _ c.in-Ok.ensures.ok (by_fails _ _ _ (sym c.in-Ok.ensures.fault)))
-
-pub returns-in-Err : goal.returns-in-Err
-returns-in-Err c = rw (← c.self.view_is) (adds_is _ _ _ c.in-Err.ensures.err (by_none _))
+pub returns : goal.returns
+returns c = rw (← c.self.view_is) (adds_failure _ _ c.args.link c.fail.result c.fail.ensures.fault c.fail.ensures.ok c.fail.ensures.err)

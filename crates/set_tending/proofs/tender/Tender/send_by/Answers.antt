@@ -1,10 +1,8 @@
-use Rattle.std.proofs.Common.{rules, sym}
-use Rattle.set_tending.proofs.Calling.{by_none, by_binds}
-use Rattle.set_tending.proofs.Doing.{adds_is}
+use Rattle.std.proofs.Common.{sym, ◌∙◌}
+use Rattle.set_tending.proofs.Acting.{adds_bind}
 use Rattle.set_tending.proofs.tender.Tender.send_by.Goals as goal
 
-pub returns-in-Ok : goal.returns-in-Ok
-returns-in-Ok c = rw (← c.self.view_is) (adds_is _ _ _ c.in-Ok.ensures.ok (by_binds _ _ c.args.link c.args.msu (sym c.in-Ok.ensures.fault) (search rules)))
-
-pub returns-in-Err : goal.returns-in-Err
-returns-in-Err c = rw (← c.self.view_is) (adds_is _ _ _ c.in-Err.ensures.err (by_none _))
+pub returns : goal.returns
+returns c =
+    rw (← c.self.view_is)
+    (adds_bind _ _ c.args.link c.args.msu c.send_by.result (sym c.is_bound.ensures ∙ c.if-not-is_bound.false) c.send_by.ensures.fault c.send_by.ensures.ok c.send_by.ensures.err)

@@ -1,9 +1,5 @@
-use Rattle.set_tending.proofs.Calling.{by_none, by_gives}
-use Rattle.set_tending.proofs.Doing.{adds_call, adds_is}
+use Rattle.set_tending.proofs.Acting.{adds_unit}
 use Rattle.set_tending.proofs.tender.Tender.unit_out.Goals as goal
 
-pub returns-in-Ok-clause-adds : goal.returns-in-Ok-clause-adds
-returns-in-Ok-clause-adds c = rw (← c.self.view_is) (adds_call _ _ (by_gives _ _ _ _ _ c.in-Ok.ensures.ok))
-
-pub returns-in-Err-clause-adds : goal.returns-in-Err-clause-adds
-returns-in-Err-clause-adds c = rw (← c.self.view_is) (adds_is _ _ _ c.in-Err.ensures.err (by_none _))
+pub returns-clause-adds : goal.returns-clause-adds
+returns-clause-adds c = rw (← c.self.view_is) (adds_unit _ _ c.args.link c.unit_out.result c.unit_out.ensures.ok c.unit_out.ensures.err)
