@@ -17,8 +17,6 @@ styled_octet d s octet small shown laid =
     ∙ ap Some (hex_byte true octet small)
 
 -- one item more
-pub more_parts : {X : Type 0} (f : X → List ℕ) (items : List X) (i : ℕ) (x : X) → i < length items → x ≡ get_or items i x
-    → flat_map f (take i items) ++ f x ≡ flat_map f (take (i + 1) items)
-more_parts f items i x within is =
-    flat_map_more f [] (take i items) x
-    ∙ ap (flat_map f) (ap (λ y. take i items ++ y ∷ []) is ∙ sym (take_more items i x within))
+pub more_at : {X : Type 0} (f : X → List ℕ) (items : List X) (i : ℕ) (d : X) → i < length items
+    → flat_map f (take i items) ++ f (get_or items i d) ≡ flat_map f (take (i + 1) items)
+more_at f items i d within = flat_map_more f [] (take i items) (get_or items i d) ∙ ap (flat_map f) (sym (take_more items i d within))

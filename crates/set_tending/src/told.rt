@@ -116,9 +116,9 @@ impl fmt::Display for LinkOf {
     }
 }
 
-/// The links of all selections.
+/// The links of selections, from 0 up.
 #[derive(Clone, Copy)]
-struct Links<'a>(&'a SharedOut);
+struct Links<'a>(&'a [Option<usize>]);
 
 impl fmt::Display for Links<'_> {
     ghost output = { λ links. Some (flat_map link_text links.0.now) };
@@ -159,7 +159,7 @@ impl fmt::Display for Told {
             Told::Diverted(link, count) => write!(f, "{link} diverted {count}"),
             Told::Tested(link) => write!(f, "{link} tested"),
             Told::Shared(shared) => {
-                let links = Links(shared);
+                let links = Links(shared.as_slice());
                 write!(f, "shared{links}")
             }
         }

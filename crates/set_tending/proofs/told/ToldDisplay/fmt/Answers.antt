@@ -1,8 +1,10 @@
-use Rattle.std.proofs.Common.{rules, append_assoc}
+use Rattle.std.proofs.Common.{codes, decimal, append_assoc, sym, ap, ◌∙◌}
+use Rattle.std.proofs.Output.{has_written_of_eq}
+use Rattle.set_tending.specs.Texts.{told_text, message_text}
 use Rattle.set_tending.proofs.told.ToldDisplay.fmt.Goals as goal
 
-pub returns-in-Says-clause-writes : goal.returns-in-Says-clause-writes
-returns-in-Says-clause-writes g c = rw c.in-Says.is (search (rules, append_assoc))
-
-pub returns-in-Hears-clause-writes : goal.returns-in-Hears-clause-writes
-returns-in-Hears-clause-writes g c = rw c.in-Hears.is (search (rules, append_assoc))
+pub returns-in-Message-clause-writes : goal.returns-in-Message-clause-writes
+returns-in-Message-clause-writes g c = λ plain ok.
+    has_written_of_eq _ _ _ _ _
+    (sym (append_assoc (decimal c.in-Message.link) (codes " message ") (message_text c.in-Message.msu)) ∙ ap told_text (sym c.in-Message.is))
+    (c.write-in-Message.ensures.writes plain ok)
