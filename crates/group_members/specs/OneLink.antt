@@ -223,13 +223,17 @@ emptied_behind n t =
     term_with_transceiver t
     (record t.processes.transceiver { sender = left_empty (window_of t) n })
 
+abbrev pub with_hand : List Msu → Link → Link
+with_hand ms k = record k { hand = ms }
+
 -- Messages are handed out, by how many are accepted, or where that isn't known the unsent; of what
 -- is handed out it is kept how many there are of each selection. The link is held no longer than
 -- until its directions begin anew.
 unfoldable pub hands_out : Option ℕ → Link → Link
 hands_out n k =
-    with_availability (with_retrieval (counts_of (handed_by k n)) k.availability)
-    (with_hold hold.UntilAnew (with_window (left_empty (window k) n) k))
+    with_hand (handed_by k n)
+    (with_availability (with_retrieval (counts_of (handed_by k n)) k.availability)
+    (with_hold hold.UntilAnew (with_window (left_empty (window k) n) k)))
 
 -- K2 unless K4 would be answered. K1 where no changeover goes on.
 abbrev pub abandon_by : Option RetrieveError → Option AbandonError

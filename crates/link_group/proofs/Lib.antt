@@ -8,7 +8,7 @@ mod EndingLaws
 pub mod Fields
 mod Fitting
 mod Getting
-pub mod Keeping
+mod Hands
 mod PlacingLaws
 pub mod Room
 mod Staying

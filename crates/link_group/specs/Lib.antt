@@ -1,7 +1,5 @@
 pub mod Changing
 pub mod Diverting
-pub mod Ending
-pub mod Holding
 pub mod Laws
 pub mod Lines
 pub mod New

@@ -9,8 +9,6 @@ mod lines;
 mod new;
 mod placing;
 mod reading;
-mod retrievals;
-mod retrieved;
 mod sending;
 mod state;
 mod ticks;
@@ -23,7 +21,5 @@ pub use group_members::{
     LinkError, LinkStatus, Mode, Msu, RebalanceError, Report, RetrieveError, SendError, Terminal,
 };
 pub use laws::{each_message_stands_in_one_place, unsure_messages_are_counted};
-pub use retrievals::{Ended, Retrievals};
-pub use retrieved::Retrieved;
 pub use sending::Heard;
 pub use state::LinkState;

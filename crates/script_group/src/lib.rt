@@ -14,7 +14,7 @@ mod saying;
 mod shown;
 
 pub use link_group::Terminal;
-pub use opened::{end_player, open_group};
+pub use opened::open_group;
 pub use player::GroupPlayer;
 pub use playing::play_group;
 pub use script_terminal::{

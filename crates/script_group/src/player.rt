@@ -6,16 +6,16 @@ ghost use Rattle.script_group.specs.GroupRuns.{playing_of, last_of, IsGroupRun, 
 
 use crate::answers::answer;
 use crate::outputs::give_out;
-use link_group::{Group, Retrievals};
+use link_group::Group;
 use script_links::{GroupCommand, GroupSaid};
 use script_terminal::{HELD, MISSED, Printer, write_line};
 use std::alloc::Global;
 use std::io::{self, Write};
 
-/// A set, the retrieved messages, the link that lines speak of, and what is printed for it.
+/// A set, the link that lines speak of, and what is printed for it.
+#[derive(Drop)]
 pub struct GroupPlayer {
     pub group: Group,
-    pub retrievals: Retrievals,
     pub on: usize,
     pub printer: Printer,
 }
@@ -66,7 +66,6 @@ impl GroupPlayer {
                 let line = answer(
                     alloc,
                     &mut self.group,
-                    &mut self.retrievals,
                     self.on,
                     command,
                 )?;

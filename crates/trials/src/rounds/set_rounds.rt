@@ -39,9 +39,7 @@ fn measure(rt: &impl Clock, full: &mut FullSet) -> Result<Moved, Stopped> {
 fn round(rt: &impl Clock, alloc: Global, set: &Verified) -> Result<Moved, Stopped> {
     match FullSet::open(alloc, set) {
         Ok(mut full) => {
-            let round = measure(rt, &mut full);
-            full.end();
-            round
+            measure(rt, &mut full)
         }
         Err(stopped) => Err(why_stopped(stopped)),
     }
