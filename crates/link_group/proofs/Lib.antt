@@ -9,6 +9,7 @@ pub mod Fields
 mod Fitting
 mod Getting
 mod Hands
+pub mod Live
 mod PlacingLaws
 pub mod Room
 mod Staying
