@@ -125,6 +125,8 @@ def said(lines):
 def obeyed(end, order):
     """The lines that an order is answered."""
     words = order.split(" ")
+    if words == ["measure"]:
+        return [f"ok {order}", *(f"{order} {name} {end.counts[name]}" for name in MEASURES)]
     try:
         if len(words) == 1 and words[0] in {**COMMANDS, **MORE}:
             words = ["command", words[0]]

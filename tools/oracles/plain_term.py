@@ -44,7 +44,7 @@ SORTS = {
 # What is measured (Q.752), in the order in which it is printed; the times are ticks.
 MEASURES = """service_time failures stops alignment_failures error_failures far_failures t1_failures number_failures t7_failures t6_failures
 errored_units errored_octets nacks_received nacks_sent octets_sent octets_repeated octets_received messages_sent messages_received
-far_outages far_outage_time outages outage_time busy busy_time far_busy far_busy_time rounds_n1 rounds_n2""".split()
+far_outages far_outage_time outages outage_time busy busy_time far_busy far_busy_time rounds_n1 rounds_n2 aborted_periods""".split()
 # Why a link went down, by the number that is told; 0 is a stop.
 CAUSES = dict(enumerate("alignment error far t1 number t7 t6".split(), 1))
 # What a text may have besides.
@@ -85,10 +85,18 @@ class Terminal:
         if self.book.journal - self.book.events < 32768:
             self.book.events = 0
 
+    def periods(self):
+        """Cp of initial alignment control, where the text has it: aborted proving periods of this alignment."""
+        value = next((it.variables.get("cp") for it in self.book.actors if it.process.name.lower() == "iac"), None)
+        return None if isinstance(value, bool) else value
+
     def rest(self):
         for _ in range(10000):
+            before = self.periods()
             if not self.turn():
                 return
+            if None not in (before, self.periods()) and before < self.periods():
+                self.counts["aborted_periods"] += 1
             while self.book.ring:
                 try:
                     self.hear(*self.book.take_env())

@@ -5,7 +5,8 @@ use Rattle.script_links.specs.Orders.{order_of}
 use Rattle.script_links.specs.declared.orders.Order.{Order}
 use Rattle.script_links.specs.TermCommands.{PlainTermCommand, order, unit, units, errors, line, msu}
 use Rattle.script_links.specs.TermCommands.{out, ticks, told, accepted, retrieving, measuring}
-use Rattle.script_links.specs.TermCommands.{resetting, state, shown, expected, term_command_of}
+use Rattle.script_links.specs.TermCommands.{counting_aborted, resetting, state, shown, expected}
+use Rattle.script_links.specs.TermCommands.{term_command_of}
 
 -- of a script's commands those that leave the line and its time alone
 abbrev pub is_on_line : PlainTermCommand → Bool
@@ -21,6 +22,7 @@ is_on_line told = true
 is_on_line accepted = true
 is_on_line (retrieving behind) = true
 is_on_line (measuring measure) = true
+is_on_line counting_aborted = true
 is_on_line resetting = true
 is_on_line (state process) = true
 is_on_line (shown process variable) = true
@@ -40,6 +42,7 @@ is_question told = true
 is_question accepted = true
 is_question (retrieving behind) = true
 is_question (measuring measure) = true
+is_question counting_aborted = true
 is_question resetting = false
 is_question (state process) = true
 is_question (shown process variable) = true

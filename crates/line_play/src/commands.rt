@@ -19,6 +19,7 @@ fn is_on_line(command: &TermCommand<'_>) -> bool
         | TermCommand::Accepted
         | TermCommand::Retrieve(_)
         | TermCommand::Measure(_)
+        | TermCommand::Aborted
         | TermCommand::Reset
         | TermCommand::State(_)
         | TermCommand::Value(_, _) => true,
@@ -41,6 +42,7 @@ pub fn is_question(command: &TermCommand<'_>) -> bool
         | TermCommand::Accepted
         | TermCommand::Retrieve(_)
         | TermCommand::Measure(_)
+        | TermCommand::Aborted
         | TermCommand::State(_)
         | TermCommand::Value(_, _) => true,
         TermCommand::Order(_)

@@ -27,7 +27,7 @@ use Rattle.link_transceiver.specs.Offers.{error_offers, acknowledgement_seen, co
 use Rattle.link_transceiver.specs.Laws.{HandsOutInOrder, KeepsUnacknowledged, Loses, Told, Came, Went, accepted_of, acknowledged_of, is_accepted}
 use Rattle.link_processes.specs.declared.processes.Processes.{Processes}
 use Rattle.link_processes.specs.Offering.{told_by, offer_event}
-use Rattle.link_processes.specs.Machine.{with_book, with_transceiver, Step, repeated, heeds, heard, taken_reply, taken_answer, one_taken, emptied, moved_by, moved, rested, offered, all_offered, with_measures, timed, unit_measured, unit_taken, error_taken, octets_taken, out_measured, calm_measured, is_news, counting_told, told_of, sent_by, sent, none_out, handed_out, buffers_emptied}
+use Rattle.link_processes.specs.Machine.{with_book, with_transceiver, Step, repeated, heeds, heard, taken_reply, taken_answer, one_taken, emptied, turned, moved_by, moved, rested, offered, all_offered, with_measures, timed, unit_measured, unit_taken, error_taken, octets_taken, out_measured, calm_measured, is_news, counting_told, told_of, sent_by, sent, none_out, handed_out, buffers_emptied}
 use Rattle.link_processes.specs.Laws.{MessagesLaw, KeptLaw}
 
 -- a relation between transceivers that holds over each signal, holds over all that takes signals alone
@@ -68,14 +68,14 @@ module _ (R : TransceiverState → TransceiverState → Type 0) (same : (h : Tra
   unfolding emptied
   emptied_keeps t = repeated_keeps one_taken one_keeps (length (state_of t.book).ring.items) t
 
-  turn_keeps : (t : Processes) (x : Turn) → R t.transceiver (moved_by t x).processes.transceiver
-  turn_keeps t Made = emptied_keeps t
-  turn_keeps t Blocked = same t.transceiver
-  turn_keeps t Idle = same t.transceiver
+  turn_keeps : (t : Processes) (b : Ledger) (x : Turn) → R t.transceiver (moved_by t b x).processes.transceiver
+  turn_keeps t b Made = emptied_keeps (turned t b)
+  turn_keeps t b Blocked = same t.transceiver
+  turn_keeps t b Idle = same t.transceiver
 
   moved_keeps : (t : Processes) → R t.transceiver (moved t).processes.transceiver
   unfolding moved
-  moved_keeps t = turn_keeps (with_book t (least_turn t.book).book) (least_turn t.book).turn
+  moved_keeps t = turn_keeps t (least_turn t.book).book (least_turn t.book).turn
 
   rested_keeps : (t : Processes) → R t.transceiver (rested t).transceiver
   unfolding rested

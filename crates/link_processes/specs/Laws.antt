@@ -7,7 +7,7 @@ use Rattle.actor_book.specs.Laws.{IsLeast, NoneCan}
 use Rattle.link_transceiver.specs.declared.offers.Offer.{Offer}
 use Rattle.link_transceiver.specs.Laws.{Loses, accepted_of, acknowledged_of}
 use Rattle.link_processes.specs.declared.processes.Processes.{Processes}
-use Rattle.link_processes.specs.Machine.{with_book, emptied, rested, offered, all_offered}
+use Rattle.link_processes.specs.Machine.{turned, emptied, rested, offered, all_offered}
 use Rattle.link_processes.specs.Machine.{unit_taken, error_taken, octets_taken, counting_told, sent}
 use Rattle.link_processes.specs.Machine.{handed_out, buffers_emptied}
 use Rattle.actor_machine.specs.declared.event.Event.{Event}
@@ -21,7 +21,7 @@ pub data IsRun : ℕ → Processes → Processes → Type 0 where
   blocked : (k : ℕ) (t : Processes) (n : ℕ) → IsLeast t.book n → (tried n t.book).turn ≡ Blocked
       → IsRun k t t
   goes : (k : ℕ) (t u : Processes) (n : ℕ) → IsLeast t.book n → (tried n t.book).turn ≡ Made
-      → IsRun k (emptied (with_book t (tried n t.book).book)) u → IsRun (suc k) t u
+      → IsRun k (emptied (turned t (tried n t.book).book)) u → IsRun (suc k) t u
 
 abbrev pub RestLaw : Type 0
 RestLaw = (t : Processes) → IsRun MOST_TURNS t (rested t)

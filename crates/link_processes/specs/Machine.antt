@@ -1,8 +1,10 @@
 -- What a terminal does: each call is one of these steps, on the history of its actors and what it
 -- keeps beside them.
 use Rattle.std.specs.Prelude.{ℕ, zero, suc, ◌&&◌, not, Bool, true, false, nat_lt, cond}
-use Rattle.std.specs.Prelude.{if◌then◌else◌}
+use Rattle.std.specs.Prelude.{if◌then◌else◌, ℤ, int_lt, slice_get}
 use Rattle.std.specs.Prelude.{Option, Some, None, List, [], ◌∷◌, length}
+use Rattle.turn_code.specs.declared.value.Value.{Value}
+use Rattle.turn_code.specs.declared.value.Value.TheVariants as value
 use Rattle.resend_store.specs.Window.{emptied as without_kept}
 use Rattle.su_octets.specs.declared.units.Unit.{Unit}
 use Rattle.actor_machine.specs.Ledger.{Ledger, runs, state_of, refusal_by, ask, room, rebased}
@@ -15,6 +17,7 @@ use Rattle.actor_machine.specs.declared.reply.Reply.{Reply}
 use Rattle.actor_machine.specs.declared.reply.Reply.TheVariants as reply
 use Rattle.actor_book.specs.declared.turn.Turn.{Turn}
 use Rattle.actor_book.specs.declared.turn.Turn.TheVariants.{Made, Blocked, Idle}
+use Rattle.actor_book.specs.Shown.{variable_of}
 use Rattle.actor_book.specs.Turns.{MOST_TURNS, least_turn}
 use Rattle.link_transceiver.specs.declared.offers.Offer.{Offer}
 use Rattle.link_transceiver.specs.declared.offers.UnitOut.{UnitOut}
@@ -27,7 +30,9 @@ use Rattle.link_transceiver.specs.Judging.{Judged, judged}
 use Rattle.link_transceiver.specs.Going.{gone}
 use Rattle.link_transceiver.specs.Measuring.{glance, seen_of, calmed, passed, signal_counted}
 use Rattle.link_transceiver.specs.Measuring.{error_counted, octets_counted, came_counted, went_counted}
+use Rattle.link_transceiver.specs.Measuring.{more_if, reset}
 use Rattle.link_transceiver.specs.Offers.{error_offers, acknowledgement_seen, counting_offers}
+use Rattle.link_processes.specs.declared.names.Names.{Names}
 use Rattle.link_processes.specs.declared.processes.Processes.{Processes}
 use Rattle.link_processes.specs.Known.{is_there}
 use Rattle.link_processes.specs.Offering.{told_by, offer_event}
@@ -50,6 +55,10 @@ pub record Step : Type 0 where
 unfoldable pub repeated : (Processes → Step) → ℕ → Processes → Processes
 repeated f zero t = t
 repeated f (suc k) t = cond (f t).goes (repeated f k (f t).processes) (f t).processes
+
+-- All counts begin anew. That the far side is congested is no count, and stays.
+abbrev pub all_reset : Processes → Processes
+all_reset t = record t { measures = reset t.measures; aborted = 0 }
 
 -- ---- what the actors tell the environment
 
@@ -84,16 +93,45 @@ one_taken t = taken_answer t (ask t.book TakeEnv).book (ask t.book TakeEnv).answ
 unfoldable pub emptied : Processes → Processes
 emptied t = repeated one_taken (length (state_of t.book).ring.items) t
 
+-- ---- proving periods
+
+-- Cp of initial alignment control (Q.703, figure 9), where the text has it and it is set: how many
+-- proving periods of the alignment under way were aborted
+abbrev pub periods_of : Names → Ledger → Option Value
+periods_of n b =
+    variable_of (slice_get (state_of b).actors n.periods.actor) n.periods.variable.0
+
+abbrev pub is_past : ℤ → Option Value → Bool
+is_past before None = false
+is_past before (Some (value.Int after)) = int_lt before after
+is_past before (Some (value.Bool after)) = false
+
+-- whether a number grew
+abbrev pub grew : Option Value → Option Value → Bool
+grew None after = false
+grew (Some (value.Int before)) after = is_past before after
+grew (Some (value.Bool before)) after = false
+
+-- a proving period was aborted where Cp grew; it is counted
+abbrev pub periods_counted : Option Value → Processes → Processes
+periods_counted before t =
+    record t { aborted = more_if (grew before (periods_of t.names t.book)) 1 t.aborted }
+
+-- the book is as a turn left it
+abbrev pub turned : Processes → Ledger → Processes
+turned t b = periods_counted (periods_of t.names t.book) (with_book t b)
+
 -- ---- a rest
 
-abbrev pub moved_by : Processes → Turn → Step
-moved_by t Made = record { processes = emptied t; goes = true }
-moved_by t Blocked = record { processes = t; goes = false }
-moved_by t Idle = record { processes = t; goes = false }
+abbrev pub moved_by : Processes → Ledger → Turn → Step
+moved_by t b Made = record { processes = emptied (turned t b); goes = true }
+moved_by t b Blocked = record { processes = with_book t b; goes = false }
+moved_by t b Idle = record { processes = with_book t b; goes = false }
 
--- the least actor that can has a turn, and what waits for the environment then is taken
+-- the least actor that can has a turn, a proving period that is aborted in it is counted, and what
+-- waits for the environment then is taken
 unfoldable pub moved : Processes → Step
-moved t = moved_by (with_book t (least_turn t.book).book) (least_turn t.book).turn
+moved t = moved_by t (least_turn t.book).book (least_turn t.book).turn
 
 -- one turn after another, until none can have one, the journal has no room for it, or there were as
 -- many as a rest has at most

@@ -1,5 +1,5 @@
 //! A terminal's actors, and what it keeps beside them.
-ghost use Rattle.std.specs.Prelude.{◌≡◌, ◌+◌, ◌<◌, ◌≤◌, ◌↔◌, [], true, false, length, All, None, Some, Err, IfOk, OnOk, OnErr, IfErr, IfSome};
+ghost use Rattle.std.specs.Prelude.{◌≡◌, ◌+◌, ◌<◌, ◌≤◌, ◌↔◌, [], true, false, length, drop, All, None, Some, Err, IfOk, OnOk, OnErr, IfErr, IfSome};
 ghost use Rattle.resend_store.specs.Messages.{IsMessage};
 ghost use Rattle.resend_store.specs.Window.{retrieved, count_known};
 ghost use Rattle.su_octets.specs.Whole.{IsWhole};
@@ -41,6 +41,8 @@ pub struct Processes {
     pub counting: bool,
     /// What was measured.
     pub measures: Measures,
+    /// How many proving periods were aborted: 2^64 - 1 where that many were or more.
+    pub aborted: u64,
 }
 
 /// Whether it is otherwise.
@@ -156,13 +158,27 @@ impl Processes {
         }
     }
 
+    /// How many messages go as the buffers are emptied: all that are kept, where an actor asked for that since it was last done, else none.
+    pub fn to_clear(&self) -> usize
+        ensures value { result ≡ to_clear self.now }
+        ensures within { result ≤ length self.now.transceiver.sender.kept }
+    {
+        if self.transceiver.is_to_clear() {
+            self.transceiver.held()
+        } else {
+            0
+        }
+    }
+
     /// Empties the buffers, where an actor asked for that since it was last done (Q.703, figure 13): what waits and what is unacknowledged goes,
     /// and is counted. The actors are told that no message is out, and come to rest. How many messages went.
     #[tactic(auto, unfolding(crate::specs::Machine::clear_obeyed))]
     pub fn obey_clear(&mut self) -> usize
         ensures count { result ≡ to_clear self.old }
         ensures processes { self.new ≡ clear_obeyed self.old }
+        ensures kept { self.new.transceiver.sender.kept ≡ drop result self.old.transceiver.sender.kept }
     {
+        unacknowledged_messages_stay();
         if !self.transceiver.is_to_clear() {
             return 0;
         }

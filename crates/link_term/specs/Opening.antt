@@ -44,6 +44,7 @@ pub record IsOverWithin (d : Draft) (limits : RoundLimits) (mode : Mode) (t : Te
   pub transceiver : t.processes.transceiver ≡ first_over t.processes.names limits mode
   pub counting : t.processes.counting ≡ true
   pub measures : t.processes.measures ≡ no_measures
+  pub aborted : t.processes.aborted ≡ 0
   pub line : Stands [] t.line
   pub sending : Gave [] [] t.sending
 

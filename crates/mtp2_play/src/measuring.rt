@@ -2,50 +2,31 @@
 ghost use Rattle.std.specs.Prelude.{◌≡◌, OnOk};
 ghost use Rattle.std.specs.Io.KnownBytes.{Appends};
 ghost use Rattle.std.specs.List.{flat_map};
-ghost use Rattle.mtp2_play.specs.Measured.{measure_line, measures_text};
+ghost use Rattle.mtp2_play.specs.Measured.{line_text, measures_text};
 
-use link_term::{Measure, Measures, all_measures};
+use line_play::{Terminal, measured_lines};
 use plain_text::write_line;
 use std::alloc::Global;
 use std::io::{self, Write};
 
-/// Writes what was measured: all of it, in its order, `NAME N` a line.
+/// Writes all that was measured, in its order, `NAME N` a line.
 pub fn write_measures<W: Write>(
     alloc: Global,
     writer: &mut W,
-    measures: &Measures,
+    terminal: &Terminal,
 ) -> io::Result<()>
-    ensures { OnOk result (Appends (W.contents writer.old) (W.contents writer.new) (measures_text measures.now)) }
+    ensures { OnOk result (Appends (W.contents writer.old) (W.contents writer.new) (measures_text terminal.now)) }
 {
-    let all = all_measures();
-    write_each(alloc, writer, measures, &all)
+    let lines = measured_lines(alloc, terminal)?;
+    write_lines(alloc, writer, &lines)
 }
 
-/// Writes what was measured of these, a line each.
-fn write_each<W: Write>(
-    alloc: Global,
-    writer: &mut W,
-    measures: &Measures,
-    all: &[Measure],
-) -> io::Result<()>
-    ensures { OnOk result (Appends (W.contents writer.old) (W.contents writer.new) (flat_map (measure_line measures.now) all.now)) }
+/// Writes lines.
+fn write_lines<W: Write>(alloc: Global, writer: &mut W, lines: &[String]) -> io::Result<()>
+    ensures { OnOk result (Appends (W.contents writer.old) (W.contents writer.new) (flat_map line_text lines.now)) }
 {
-    for measure in all {
-        write_one(alloc, writer, measures, *measure)?;
+    for line in lines {
+        write_line(alloc, writer, &format_args!("{line}"))?;
     }
     Ok(())
-}
-
-/// Writes the line of a measurement.
-fn write_one<W: Write>(
-    alloc: Global,
-    writer: &mut W,
-    measures: &Measures,
-    measure: Measure,
-) -> io::Result<()>
-    ensures { OnOk result (Appends (W.contents writer.old) (W.contents writer.new) (measure_line measures.now measure)) }
-{
-    let name = measure.word();
-    let count = measures.count(measure);
-    write_line(alloc, writer, &format_args!("{name} {count}"))
 }

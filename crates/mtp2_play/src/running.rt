@@ -13,7 +13,6 @@ use crate::measuring::write_measures;
 use line_filter::{LineOrders, Orders};
 use line_play::{Desk, LinkEnd, MOST_AHEAD, SetWord, Terminal, link_desk, new_terminal, run_link};
 use line_streams::{OrderStream, ReportStream, open_orders, open_reports};
-use link_term::Measures;
 use mtp2_words::{LineEnd, Named};
 use plain_text::{Errors, FAILED, Teller};
 use std::alloc::Global;
@@ -56,9 +55,9 @@ fn create<H: Files<File = File> + Eprint>(
 }
 
 /// Writes what was measured, where that goes somewhere.
-fn end_measures(alloc: Global, file: Option<File>, measures: &Measures) -> io::Result<()> {
+fn end_measures(alloc: Global, file: Option<File>, terminal: &Terminal) -> io::Result<()> {
     match file {
-        Some(mut file) => write_measures(alloc, &mut file, measures),
+        Some(mut file) => write_measures(alloc, &mut file, terminal),
         None => Ok(()),
     }
 }
@@ -143,8 +142,7 @@ fn speak<H: Files<File = File> + Threads + Eprint + Clock + AllocGlobal, R: Read
     };
     let mut desk = link_desk(terminal, orders, reports);
     let status = serve(host.alloc(), end, &mut desk, reader, writer);
-    let counts = desk.terminal.terminal.measures();
-    let measured = end_measures(host.alloc(), measures, &counts);
+    let measured = end_measures(host.alloc(), measures, &desk.terminal.terminal);
     let now = desk.millisecond();
     let ended = desk.reports.end(host, now);
     if measured.is_ok() && ended.is_ok() {

@@ -99,6 +99,7 @@ shared_of terminal.told = None
 shared_of terminal.accepted = None
 shared_of (terminal.retrieving behind) = None
 shared_of (terminal.measuring measure) = None
+shared_of terminal.counting_aborted = None
 shared_of terminal.resetting = None
 shared_of (terminal.state process) = Some (state process)
 shared_of (terminal.shown process variable) = Some (shown process variable)

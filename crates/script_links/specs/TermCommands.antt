@@ -33,6 +33,7 @@ pub data PlainTermCommand : Type 0 where
   accepted : PlainTermCommand
   retrieving : Option ℕ → PlainTermCommand
   measuring : Measure → PlainTermCommand
+  counting_aborted : PlainTermCommand
   resetting : PlainTermCommand
   state : List ℕ → PlainTermCommand
   shown : List ℕ → List ℕ → PlainTermCommand
@@ -51,6 +52,7 @@ plain_term_command code.Told = told
 plain_term_command code.Accepted = accepted
 plain_term_command (code.Retrieve behind) = retrieving behind
 plain_term_command (code.Measure measure) = measuring measure
+plain_term_command code.Aborted = counting_aborted
 plain_term_command code.Reset = resetting
 plain_term_command (code.State process) = state process.now
 plain_term_command (code.Value process variable) = shown process.now variable.now
@@ -70,6 +72,7 @@ is_told told = true
 is_told accepted = false
 is_told (retrieving behind) = false
 is_told (measuring measure) = false
+is_told counting_aborted = false
 is_told resetting = false
 is_told (state process) = false
 is_told (shown process variable) = false
@@ -99,11 +102,16 @@ units_by (Some n) octets = option_and_then (where_so is_unit (units n)) octets
 abbrev pub msu_by : Option (List ℕ) → Option PlainTermCommand
 msu_by octets = option_and_then (where_so is_message msu) octets
 
+-- the name of the count of aborted proving periods
+abbrev pub ABORTED : List ℕ
+ABORTED = codes "aborted_periods"
+
 -- a measurement, or that all counts begin anew
 abbrev pub measure_by : List ℕ → Option PlainTermCommand
 measure_by word =
     if bytes_eq word (codes "reset") then Some resetting
-    else option_map measuring (measure_named word)
+    else (if bytes_eq word ABORTED then Some counting_aborted
+    else option_map measuring (measure_named word))
 
 -- ---- those that it has in common with a book
 

@@ -46,6 +46,8 @@ pub enum TermCommand<'a> {
     Retrieve(Option<u8>),
     /// `measure NAME`: what was counted is printed.
     Measure(Measure),
+    /// `measure aborted_periods`: how many proving periods were aborted is printed.
+    Aborted,
     /// `measure reset`: all counts begin anew.
     Reset,
     /// `state P`: the state of P is printed.
@@ -153,12 +155,15 @@ fn retrieve_in<'a>(word: &str) -> Option<TermCommand<'a>>
     }
 }
 
-/// `measure NAME`, `measure reset`.
+/// `measure NAME`, `measure aborted_periods`, `measure reset`.
 fn measure_in<'a>(word: &str) -> Option<TermCommand<'a>>
     ensures { option_map plain_term_command result ≡ measure_by word.now }
 {
     if word == "reset" {
         return Some(TermCommand::Reset);
+    }
+    if word == "aborted_periods" {
+        return Some(TermCommand::Aborted);
     }
     match measure_named(word) {
         Some(measure) => Some(TermCommand::Measure(measure)),

@@ -163,7 +163,7 @@ fn shared_in<'a>(alloc: Global, words: &[&'a str]) -> Result<Option<GroupCommand
         TermCommand::Out(units) => Ok(Some(GroupCommand::Out(units))),
         TermCommand::Tick(ticks) => Ok(Some(GroupCommand::Tick(ticks))),
         TermCommand::Told | TermCommand::Accepted | TermCommand::Retrieve(_) => Ok(None),
-        TermCommand::Measure(_) | TermCommand::Reset => Ok(None),
+        TermCommand::Measure(_) | TermCommand::Aborted | TermCommand::Reset => Ok(None),
         TermCommand::State(process) => Ok(Some(GroupCommand::State(process))),
         TermCommand::Value(process, variable) => Ok(Some(GroupCommand::Value(process, variable))),
         TermCommand::Expect(text) => Ok(Some(GroupCommand::Expect(text))),

@@ -165,7 +165,7 @@ fn own_fault<'a>(
 
 /// Why a word is no measurement.
 fn measure_fault<'a>(word: &'a str) -> Option<PlayFault<'a>> {
-    if word == "reset" || measure_named(word).is_some() {
+    if word == "reset" || word == "aborted_periods" || measure_named(word).is_some() {
         None
     } else {
         Some(PlayFault::NoMeasure { word })

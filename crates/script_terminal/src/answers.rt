@@ -3,7 +3,7 @@ ghost use Rattle.std.specs.Prelude.{◌≡◌, ◌<◌, IfOk, OnOk, IfSome, IsNo
 ghost use Rattle.actor_machine.specs.declared.event.Event.TheVariants.{Advance};
 ghost use Rattle.link_term.specs.Offering.{command_event};
 ghost use Rattle.script_links.specs.TermCommands.{plain_term_command};
-ghost use Rattle.script_terminal.specs.TermAnswers.{command_of, IsAsked, IsRefusedLine, IsMessageOf, AreNoMessage, IsPut, accepted_line, Tells, measure_line, behind_reset, IsRetrieveLine, Retrieves, Does, Answers};
+ghost use Rattle.script_terminal.specs.TermAnswers.{command_of, IsAsked, IsRefusedLine, IsMessageOf, AreNoMessage, IsPut, accepted_line, Tells, measure_line, aborted_line, behind_reset, IsRetrieveLine, Retrieves, Does, Answers};
 
 use crate::hearing::{receive, take};
 use crate::orders::command_of;
@@ -165,6 +165,14 @@ fn measured(alloc: Global, terminal: &Terminal, measure: Measure) -> Result<Vec<
     text_line(alloc, &format_args!("ok {count}"))
 }
 
+/// `measure aborted_periods`: how many proving periods were aborted.
+fn aborted(alloc: Global, terminal: &Terminal) -> Result<Vec<u8>, AllocError>
+    ensures { IfOk result (λ v. v.items ≡ aborted_line terminal.now) }
+{
+    let count = terminal.aborted();
+    text_line(alloc, &format_args!("ok {count}"))
+}
+
 /// `measure reset`: all counts begin anew.
 fn reset(alloc: Global, terminal: &mut Terminal) -> Result<Vec<u8>, AllocError>
     ensures text { IfOk result (λ v. v.items ≡ codes "ok") }
@@ -196,6 +204,7 @@ fn done(
         TermCommand::Accepted => accepted(alloc, terminal),
         TermCommand::Retrieve(behind) => retrieve(alloc, terminal, *behind),
         TermCommand::Measure(measure) => measured(alloc, terminal, *measure),
+        TermCommand::Aborted => aborted(alloc, terminal),
         TermCommand::Reset => reset(alloc, terminal),
         TermCommand::State(process) => state_line(alloc, terminal.book(), process),
         TermCommand::Value(process, variable) => {

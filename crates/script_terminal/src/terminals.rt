@@ -144,6 +144,7 @@ fn is_told(said: &TermSaid<'_>) -> bool
         | TermCommand::Accepted
         | TermCommand::Retrieve(_)
         | TermCommand::Measure(_)
+        | TermCommand::Aborted
         | TermCommand::Reset
         | TermCommand::State(_)
         | TermCommand::Value(_, _)
