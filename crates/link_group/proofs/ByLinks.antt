@@ -1,18 +1,22 @@
 -- A call of one link's terminal.
 use Rattle.std.proofs.Common.{◌≡◌, ℕ, zero, suc, Option, List, [], ◌∷◌, ◌++◌, length, take, drop, refl, sym, ap, subst, arith}
+use Rattle.std.specs.Prelude.{slice_get}
 use Rattle.group_members.specs.declared.link.Link.{Link}
+use Rattle.group_members.specs.Links.{change}
+use Rattle.group_members.specs.Doing.{AtLink, asked, came_by}
 use Rattle.link_group.specs.Set.{LinkSet}
-use Rattle.group_members.specs.Doing.{AtLink}
-use Rattle.link_group.specs.Lines.{ByLink, seen}
+use Rattle.link_group.specs.Placing.{table_if}
+use Rattle.link_group.specs.Lines.{ByLink}
+use Rattle.link_group.proofs.Live.{over, by_seen}
 
-pub by_link : (did : Link → Link → Type 0) (l : ℕ) (c d : LinkSet) (ks new mid : List Link) (own peer unsure : ℕ) (table : List (Option ℕ))
-    → d ≡ seen l (record { own = own; peer = peer; links = mid; table = table; unsure = unsure }) → AtLink did l ks new → mid ≡ new → ks ≡ c.links
-    → c.own ≡ own → c.peer ≡ peer → c.table ≡ table → c.unsure ≡ unsure → ByLink did l c d
-by_link did l c d ks new mid own peer unsure table is at m same o p t u = record {
-  links = new;
-  at = subst (λ (xs : List Link). AtLink did l xs new) same at;
-  set = rw (o, p, t, u, sym m) is;
-}
+-- where the links were `old` first, then `new`, and then seen
+pub by_link : (did : Link → Link → Type 0) (l : ℕ) (c d : LinkSet) (old new mid new2 mid2 : List Link) (own peer unsure : ℕ) (table table2 : List (Option ℕ))
+    → c ≡ over own peer unsure table old → d ≡ over own peer unsure table2 mid2 → AtLink did l old new → mid ≡ new → mid2 ≡ new2 → new2 ≡ change mid l asked
+    → table2 ≡ table_if (came_by (slice_get mid l)) new2 table → ByLink did l c d
+by_link did l c d old new mid new2 mid2 own peer unsure table table2 was is at same same2 links tables =
+    subst (λ (x : LinkSet). ByLink did l x d) (sym was)
+    (subst (λ (x : LinkSet). ByLink did l (over own peer unsure table old) x) (sym is)
+    (by_seen did own peer unsure l table table2 old new mid new2 mid2 at same same2 links tables))
 
 all-of : (n : ℕ) (xs rest : List Link) → length xs ≡ n → take n (xs ++ rest) ≡ xs
 all-of zero [] rest e = refl

@@ -3,7 +3,7 @@ mod Calling
 pub mod Commands
 mod Counting
 mod Diverting
-mod Each
+pub mod Each
 mod EndingLaws
 pub mod Fields
 mod Fitting

@@ -24,7 +24,7 @@ use Rattle.group_changeover.specs.Limits.{SELECTIONS}
 use Rattle.group_changeover.specs.Sharing.{selection_of, link_of, selections, pick}
 use Rattle.group_members.specs.declared.link.Link.{Link}
 use Rattle.group_members.specs.Term.{Term}
-use Rattle.group_members.specs.New.{IsUnused}
+use Rattle.group_members.specs.New.{IsUnused, fresh}
 use Rattle.group_members.specs.OneLink.{fault_of, put_fault, puts, bind_fault, retrieve_fault, retrieve_refusal, abandon_fault, is_changing}
 use Rattle.group_members.specs.Links.{change, fault_at}
 use Rattle.group_members.specs.Failing.{fail_fault_of, changeover_begins_at, hears as hears_at, handed, given_up, sent_by}
@@ -39,7 +39,7 @@ use Rattle.link_group.specs.Diverting.{settled, after_hand, after_divert}
 use Rattle.link_group.specs.Placing.{table_if, rebalance_fault, rebalanced}
 use Rattle.link_group.specs.Lines.{ByLink, Alone, after_admission, seen, all_seen}
 use Rattle.link_group.specs.Ticks.{with_room, after_ticks, NoRoom}
-use Rattle.link_group.specs.New.{new_set}
+use Rattle.link_group.specs.New.{points, new_set}
 use Rattle.link_group.specs.Reached.{WasReached, acknowledged, unsure, told_front, unacknowledged_at, opens, sends, binds, fails, hears, retrieves, abandons, diverts, rebalances, listens, speaks, gives, reports, commands, refuses, ticks, makes_room, lacks_room, admits}
 
 abbrev pub Live : LinkSet → Type 0
@@ -118,6 +118,11 @@ live_lacking c d none live = ∥∥₁_map live (λ was. record { accepted = was
 
 pub live_same : (c d : LinkSet) → d ≡ c → Live c → Live d
 live_same c d is live = subst Live (sym is) live
+
+-- ---- the links as a call found them
+
+pub live_from : (own peer unsure : ℕ) (table : List (Option ℕ)) (ks old : List Link) → old ≡ ks → Live (over own peer unsure table ks) → Live (over own peer unsure table old)
+live_from own peer unsure table ks old from live = subst (λ (xs : List Link). Live (over own peer unsure table xs)) (sym from) live
 
 -- ---- of calls with a result: what is refused changes nothing
 
@@ -232,6 +237,11 @@ ticked_is n own peer unsure table table2 ks new mid new2 mid2 new3 mid3 same sam
     rw (tables, same3, asked_is, same2, passed_is, same, roomy_is) refl
 
 -- ---- a new set
+
+pub new_is : (own peer : ℕ) (ts : List Term) (ks : List Link) (table : List (Option ℕ)) → ks ≡ map (fresh (points own peer)) ts → table ≡ map (pick (able_links false ks)) selections
+    → over own peer 0 table ks ≡ new_set own peer ts
+unfolding new_set
+new_is own peer ts ks table links tables = rw (tables, links) refl
 
 pub live_new : (own peer : ℕ) (ts : List Term) (c : LinkSet) → c ≡ new_set own peer ts → All IsUnused ts → Live c
 live_new own peer ts c is unused = subst Live (sym is) ∣ new_reached own peer ts unused ∣₁

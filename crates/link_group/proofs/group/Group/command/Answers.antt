@@ -2,13 +2,24 @@ use Rattle.std.proofs.Common.{rules, refl}
 use Rattle.group_members.specs.Commanding.{Commanded}
 use Rattle.link_group.proofs.ByLinks.{by_link, written}
 use Rattle.link_group.proofs.Commands.{command_error, commanded}
+use Rattle.link_group.proofs.Live.{over, live_from, live_same, commanded_by_link, refused_alone}
 use Rattle.link_group.proofs.group.Group.command.Goals as goal
 
+-- (names of goals by thought: to be read off the first check)
 pub returns-in-Ok-clause-ok : goal.returns-in-Ok-clause-ok
 returns-in-Ok-clause-ok c =
-    by_link (Commanded c.args.command) c.args.link c.args.self.now c.see.new.self _ c.command_at.new.links _ c.self.inside.own c.self.inside.peer c.self.inside.unsure c.self.inside.table.links
-    c.see.ensures (commanded c.args.command c.args.link _ c.command_at.new.links c.in-Ok.ensures)
-    (written c.self.inside.links.len c.command_at.new.links c.self.inside.links.items (search rules)) (search rules) (search rules) (search rules) (search rules) (search rules)
+    by_link (Commanded c.args.command) c.args.link c.args.self.now _ _ c.command_at.new.links _ c.see.new.links _ c.self.inside.own c.self.inside.peer c.self.inside.unsure c.self.inside.table.links c.see.new.table.links (search rules) (search rules) (commanded c.args.command c.args.link _ c.command_at.new.links c.in-Ok.ensures)
+    (written c.self.inside.links.len c.command_at.new.links c.self.inside.links.items (search rules)) (written c.self.inside.links.len c.see.new.links _ (search rules)) c.see.ensures.links c.see.ensures.table
+
+pub invariant_of-self-in-Ok : goal.invariant_of-self-in-Ok
+invariant_of-self-in-Ok c =
+    (search rules, search rules, search rules,
+    commanded_by_link c.args.command c.args.link (over c.self.inside.own c.self.inside.peer c.self.inside.unsure c.self.inside.table.links _) _
+    (by_link (Commanded c.args.command) c.args.link _ _ _ c.command_at.new.links _ c.see.new.links _ c.self.inside.own c.self.inside.peer c.self.inside.unsure c.self.inside.table.links c.see.new.table.links refl refl (commanded c.args.command c.args.link _ c.command_at.new.links c.in-Ok.ensures)
+    (written c.self.inside.links.len c.command_at.new.links c.self.inside.links.items (search rules)) (written c.self.inside.links.len c.see.new.links _ (search rules)) c.see.ensures.links c.see.ensures.table)
+    (live_from c.self.inside.own c.self.inside.peer c.self.inside.unsure c.self.inside.table.links _ _ (search rules) c.self.invariant.3))
+
+-- invariant in Err: by the error's cases (Commands.error_at over `over .. old`): Refused by refused_alone, the others by live_same
 
 pub returns-in-Err-clause-err : goal.returns-in-Err-clause-err
 returns-in-Err-clause-err c =

@@ -1,7 +1,15 @@
 use Rattle.std.proofs.Common.{rules}
+use Rattle.link_group.proofs.ByLinks.{written}
 use Rattle.link_group.proofs.Fields.{order_says}
+use Rattle.link_group.proofs.Live.{live_from, live_failed}
 use Rattle.link_group.proofs.group.Group.fail.Goals as goal
 
 pub returns-clause-order : goal.returns-clause-order
 returns-clause-order c =
     order_says c.sif_of.result.items c.args.self.now c.self.inside.own c.self.inside.peer c.args.link c.in_ok-kind.kind c.sif_of.ensures (search rules) (search rules) (search rules)
+
+-- (names of goals by thought: to be read off the first check)
+pub invariant_of-self : goal.invariant_of-self
+invariant_of-self c =
+    (search rules, search rules, search rules,
+    live_failed c.fail_at.result c.self.inside.own c.self.inside.peer c.self.inside.unsure c.self.inside.table.links _ c.fail_at.new.links _ c.args.link (written c.self.inside.links.len c.fail_at.new.links c.self.inside.links.items (search rules)) c.fail_at.ensures.fault c.fail_at.ensures.ok c.fail_at.ensures.err (live_from c.self.inside.own c.self.inside.peer c.self.inside.unsure c.self.inside.table.links _ _ (search rules) c.self.invariant.3))

@@ -1,9 +1,19 @@
-use Rattle.std.proofs.Common.{rules}
+use Rattle.std.proofs.Common.{rules, refl}
 use Rattle.group_members.specs.Doing.{Spoken}
 use Rattle.link_group.proofs.ByLinks.{by_link, written}
+use Rattle.link_group.proofs.Live.{over, live_from, spoken_by_link}
 use Rattle.link_group.proofs.group.Group.line_out.Goals as goal
 
+-- (names of goals by thought: to be read off the first check)
 pub returns-in-Ok-clause-ok : goal.returns-in-Ok-clause-ok
 returns-in-Ok-clause-ok c =
-    by_link (Spoken c.args.units c.in-Ok.octets.items) c.args.link c.args.self.now c.see.new.self _ c.speak_at.new.links _ c.self.inside.own c.self.inside.peer c.self.inside.unsure c.self.inside.table.links
-    c.see.ensures c.in-Ok.ensures.ok (written c.self.inside.links.len c.speak_at.new.links c.self.inside.links.items (search rules)) (search rules) (search rules) (search rules) (search rules) (search rules)
+    by_link (Spoken c.args.units c.in-Ok.octets.items) c.args.link c.args.self.now _ _ c.speak_at.new.links _ c.see.new.links _ c.self.inside.own c.self.inside.peer c.self.inside.unsure c.self.inside.table.links c.see.new.table.links (search rules) (search rules) c.in-Ok.ensures.ok
+    (written c.self.inside.links.len c.speak_at.new.links c.self.inside.links.items (search rules)) (written c.self.inside.links.len c.see.new.links _ (search rules)) c.see.ensures.links c.see.ensures.table
+
+pub invariant_of-self-in-Ok : goal.invariant_of-self-in-Ok
+invariant_of-self-in-Ok c =
+    (search rules, search rules, search rules,
+    spoken_by_link c.args.units c.in-Ok.octets.items c.args.link (over c.self.inside.own c.self.inside.peer c.self.inside.unsure c.self.inside.table.links _) _
+    (by_link (Spoken c.args.units c.in-Ok.octets.items) c.args.link _ _ _ c.speak_at.new.links _ c.see.new.links _ c.self.inside.own c.self.inside.peer c.self.inside.unsure c.self.inside.table.links c.see.new.table.links refl refl c.in-Ok.ensures.ok
+    (written c.self.inside.links.len c.speak_at.new.links c.self.inside.links.items (search rules)) (written c.self.inside.links.len c.see.new.links _ (search rules)) c.see.ensures.links c.see.ensures.table)
+    (live_from c.self.inside.own c.self.inside.peer c.self.inside.unsure c.self.inside.table.links _ _ (search rules) c.self.invariant.3))
