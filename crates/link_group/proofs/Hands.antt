@@ -1,10 +1,9 @@
 -- What a link handed out stays its own, whatever is done to a set, until it is diverted.
-use Rattle.std.proofs.Common.{◌≡◌, ℕ, ◌+◌, ◌==◌, zero, suc, Bool, true, false, List, [], ◌∷◌, ◌++◌, Option, Some, None, length, map, take, drop, slice_set, refl, sym, ap, ◌∙◌, subst, inl, inr}
+use Rattle.std.proofs.Common.{◌≡◌, ℕ, ◌+◌, ◌==◌, zero, suc, Bool, true, List, [], ◌∷◌, ◌++◌, Option, Some, None, length, map, slice_set, refl, sym, ap, ◌∙◌, subst, inl, inr}
 use Rattle.std.specs.Prelude.{slice_get, option_map}
 use Rattle.std.proofs.lemmas.Option.{slice_get-map}
 use Rattle.plain_laws.proofs.Truths.{by_test}
 use Rattle.resend_store.specs.declared.messages.Msu.{Msu}
-use Rattle.actor_machine.specs.declared.event.Event.TheVariants.{Advance}
 use Rattle.group_changeover.specs.declared.bound.Points.{Points}
 use Rattle.group_changeover.specs.declared.changeover.Changeover.{Changeover}
 use Rattle.group_changeover.specs.declared.changeover.Kind.{Kind}
@@ -25,7 +24,7 @@ use Rattle.group_members.specs.Tables.{forgiven}
 use Rattle.group_members.specs.Moving.{Diversion, Diverted, is_out_at, hand_by, without_hand, takes_on, takers, is_own, moved_by, moved, move_fault, goes_on, moves, back_fault, back, gives_back, division, hands_over, ends_at, keeps_at}
 use Rattle.link_group.specs.Set.{LinkSet, change_by, sent, bound_at}
 use Rattle.link_group.specs.Changing.{is_for, after_failure, after_message, after_retrieve, messages_for, after_abandon, unsent_at}
-use Rattle.link_group.specs.Diverting.{diverted, settled_by, settled, emptied, after_taken}
+use Rattle.link_group.specs.Diverting.{diverted, settled_by, emptied, after_taken}
 use Rattle.link_group.specs.Placing.{rebalanced}
 use Rattle.link_group.specs.Lines.{seen, all_seen, after_admission, ByLink, Alone}
 use Rattle.link_group.specs.Ticks.{with_room, after_ticks, NoRoom}

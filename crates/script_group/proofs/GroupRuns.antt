@@ -20,9 +20,9 @@ use Rattle.script_terminal.specs.Lines.{line_of}
 use Rattle.script_terminal.specs.TermAnswers.{unit_line}
 use Rattle.script_terminal.specs.TermRuns.{HasPrinted}
 use Rattle.script_terminal.proofs.TermRuns.{printed_none, printed_one, printed_both}
-use Rattle.script_group.specs.GroupAnswers.{Playing, at, NO_LINK, GoOut, none_goes, silent, one_goes, Outputs, Answers, Obeys}
+use Rattle.script_group.specs.GroupAnswers.{Playing, NO_LINK, GoOut, none_goes, silent, one_goes, Outputs, Answers, Obeys}
 use Rattle.script_group.specs.GroupAnswers as answers
-use Rattle.script_group.specs.GroupRuns.{begun, Goes, begins, prints, holds, IsGroupRun, HasGone, HasGoneOut, HasGivenOut, IsGroupMissedBy, IsGroupMissed}
+use Rattle.script_group.specs.GroupRuns.{Goes, begins, prints, holds, IsGroupRun, HasGone, HasGoneOut, HasGivenOut, IsGroupMissedBy, IsGroupMissed}
 
 -- ---- units that go out
 
@@ -149,6 +149,7 @@ obeys_one (code.State p) t u text no_expect no_on no_out answers = record { text
 obeys_one (code.Value p x) t u text no_expect no_on no_out answers = record { text = text; one = refl; answers = answers }
 obeys_one (code.Send x) t u text no_expect no_on no_out answers = record { text = text; one = refl; answers = answers }
 obeys_one (code.Message x) t u text no_expect no_on no_out answers = record { text = text; one = refl; answers = answers }
+obeys_one (code.Bound x) t u text no_expect no_on no_out answers = record { text = text; one = refl; answers = answers }
 obeys_one (code.Admit way) t u text no_expect no_on no_out answers = record { text = text; one = refl; answers = answers }
 obeys_one (code.Own w) t u text no_expect no_on no_out answers = record { text = text; one = refl; answers = answers }
 obeys_one (code.Out n) t u text no_expect no_on no_out answers = absurd (no_out n refl)

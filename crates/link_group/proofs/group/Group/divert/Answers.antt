@@ -1,6 +1,6 @@
 use Rattle.std.proofs.Common.{rules}
 use Rattle.link_group.proofs.ByLinks.{written}
-use Rattle.link_group.proofs.Live.{over, live_from, live_same, diverted_is, live_diverted}
+use Rattle.link_group.proofs.Live.{over, live_from, diverted_is, live_diverted}
 use Rattle.link_group.proofs.group.Group.divert.Goals as goal
 
 -- (names of goals by thought: to be read off the first check)
