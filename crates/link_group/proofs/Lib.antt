@@ -12,5 +12,6 @@ mod Hands
 mod Live
 mod PlacingLaws
 pub mod Room
+mod Settling
 mod Staying
 mod Working

@@ -11,8 +11,8 @@ use crate::group::Group;
 use crate::placing::place_anew;
 use group_changeover::Table;
 use group_members::{
-    Command, CommandError, LineError, Link, LinkError, Report, admit_at, command_at, listen_at, see_at,
-    send_at, speak_at, tell_at,
+    Command, CommandError, LineError, Link, LinkError, Report, admit_at, command_at, listen_at,
+    see_at, send_at, speak_at, tell_at,
 };
 use su_octets::Unit;
 

@@ -9,8 +9,8 @@ ghost use Rattle.link_group.specs.Placing.{table_if, rebalance_fault, rebalanced
 use crate::group::Group;
 use group_changeover::Table;
 use group_members::{
-    Link, RebalanceError, able_links, anew_links, any_changing, any_in_way, forgive_all, table_anew,
-    table_of,
+    Link, RebalanceError, able_links, anew_links, any_changing, any_in_way, forgive_all,
+    table_anew, table_of,
 };
 
 /// Makes the table anew, as a link may have selections for the first time, for all selections but those whose link is in changeover, and those of

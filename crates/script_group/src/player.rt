@@ -63,12 +63,7 @@ impl GroupPlayer {
                 Ok(true)
             }
             command => {
-                let line = answer(
-                    alloc,
-                    &mut self.group,
-                    self.on,
-                    command,
-                )?;
+                let line = answer(alloc, &mut self.group, self.on, command)?;
                 self.printer.print(line, writer)?;
                 Ok(true)
             }

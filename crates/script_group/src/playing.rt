@@ -36,12 +36,7 @@ fn run_all<W: Write>(
 }
 
 /// Runs commands on a new set. Gives the exit status.
-fn play_set<W: Write>(
-    alloc: Global,
-    group: Group,
-    commands: &[GroupSaid<'_>],
-    writer: &mut W,
-) -> u8
+fn play_set<W: Write>(alloc: Global, group: Group, commands: &[GroupSaid<'_>], writer: &mut W) -> u8
     ensures held { result ≡ 0 → IsGroupWritten (map plain_group_said commands.now) (W.contents writer.old) (W.contents writer.new) (begun group) }
     ensures missed { result ≡ 1 → IsGroupMissed (map plain_group_said commands.now) (W.contents writer.old) (W.contents writer.new) (begun group) }
     ensures status { (result ≡ 0) ⊎ (result ≡ 1) ⊎ (result ≡ 4) }

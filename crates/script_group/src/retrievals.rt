@@ -20,11 +20,7 @@ fn unretrieved(alloc: Global, error: RetrieveError) -> Result<Vec<u8>, AllocErro
 }
 
 /// `retrieve`.
-pub(crate) fn retrieve(
-    alloc: Global,
-    group: &mut Group,
-    link: usize,
-) -> Result<Vec<u8>, AllocError>
+pub(crate) fn retrieve(alloc: Global, group: &mut Group, link: usize) -> Result<Vec<u8>, AllocError>
     ensures { IfOk result (λ v. Retrieves link group.old v.items group.new) }
 {
     match group.retrieve(link) {
@@ -44,11 +40,7 @@ fn unabandoned(alloc: Global, error: AbandonError) -> Result<Vec<u8>, AllocError
 }
 
 /// `abandon`.
-pub(crate) fn abandon(
-    alloc: Global,
-    group: &mut Group,
-    link: usize,
-) -> Result<Vec<u8>, AllocError>
+pub(crate) fn abandon(alloc: Global, group: &mut Group, link: usize) -> Result<Vec<u8>, AllocError>
     ensures { IfOk result (λ v. Abandons link group.old v.items group.new) }
 {
     match group.abandon(link) {

@@ -1,8 +1,6 @@
 //! Calls of a set. One that wants memory is made once more, since it changed nothing; what its clauses say ends here.
 
-use link_group::{
-    AbandonError, CallError, Command, CommandError, Group, LineError, RetrieveError,
-};
+use link_group::{AbandonError, CallError, Command, CommandError, Group, LineError, RetrieveError};
 use std::alloc::AllocError;
 
 /// Why a trial stopped.

@@ -33,12 +33,7 @@ pub struct SetEnd {
 
 impl SetEnd {
     /// An end at which nothing has happened.
-    pub fn new(
-        group: Group,
-        way: Way,
-        mail: VecDeque<Sif>,
-        late: VecDeque<Sif>,
-    ) -> SetEnd {
+    pub fn new(group: Group, way: Way, mail: VecDeque<Sif>, late: VecDeque<Sif>) -> SetEnd {
         SetEnd {
             group,
             counts: Counts::new(),

@@ -5,7 +5,10 @@ use Rattle.link_group.proofs.group.Group.abandon.Goals as goal
 
 -- (names of goals by thought: to be read off the first check)
 pub invariant_of-self-in-Ok : goal.invariant_of-self-in-Ok
-invariant_of-self-in-Ok c =
-    (search rules, search rules, search rules,
-    live_abandoned c.self.inside.own c.self.inside.peer c.self.inside.unsure _ c.in-Ok.sent c.self.inside.table.links _ c.abandon_at.new.links _ c.args.link (written c.self.inside.links.len c.abandon_at.new.links c.self.inside.links.items (search rules))
-    (sym c.in-Ok.ensures.fault) c.in-Ok.ensures.ok c.in-Ok.ensures.sent (search rules) (live_from c.self.inside.own c.self.inside.peer c.self.inside.unsure c.self.inside.table.links _ _ (search rules) c.self.invariant.3))
+invariant_of-self-in-Ok c = (
+  search rules,
+  search rules,
+  search rules,
+  live_abandoned c.self.inside.own c.self.inside.peer c.self.inside.unsure _ c.in-Ok.sent c.self.inside.table.links _ c.abandon_at.new.links _ c.args.link (written c.self.inside.links.len c.abandon_at.new.links c.self.inside.links.items (search rules))
+      (sym c.in-Ok.ensures.fault) c.in-Ok.ensures.ok c.in-Ok.ensures.sent (search rules) (live_from c.self.inside.own c.self.inside.peer c.self.inside.unsure c.self.inside.table.links _ _ (search rules) c.self.invariant.3),
+)

@@ -12,12 +12,15 @@ returns-in-Ok-clause-ok c =
     (written c.self.inside.links.len c.command_at.new.links c.self.inside.links.items (search rules)) (written c.self.inside.links.len c.see.new.links _ (search rules)) c.see.ensures.links c.see.ensures.table
 
 pub invariant_of-self-in-Ok : goal.invariant_of-self-in-Ok
-invariant_of-self-in-Ok c =
-    (search rules, search rules, search rules,
-    commanded_by_link c.args.command c.args.link (over c.self.inside.own c.self.inside.peer c.self.inside.unsure c.self.inside.table.links _) _
-    (by_link (Commanded c.args.command) c.args.link _ _ _ c.command_at.new.links _ c.see.new.links _ c.self.inside.own c.self.inside.peer c.self.inside.unsure c.self.inside.table.links c.see.new.table.links refl refl (commanded c.args.command c.args.link _ c.command_at.new.links c.in-Ok.ensures)
-    (written c.self.inside.links.len c.command_at.new.links c.self.inside.links.items (search rules)) (written c.self.inside.links.len c.see.new.links _ (search rules)) c.see.ensures.links c.see.ensures.table)
-    (live_from c.self.inside.own c.self.inside.peer c.self.inside.unsure c.self.inside.table.links _ _ (search rules) c.self.invariant.3))
+invariant_of-self-in-Ok c = (
+  search rules,
+  search rules,
+  search rules,
+  commanded_by_link c.args.command c.args.link (over c.self.inside.own c.self.inside.peer c.self.inside.unsure c.self.inside.table.links _) _
+      (by_link (Commanded c.args.command) c.args.link _ _ _ c.command_at.new.links _ c.see.new.links _ c.self.inside.own c.self.inside.peer c.self.inside.unsure c.self.inside.table.links c.see.new.table.links refl refl (commanded c.args.command c.args.link _ c.command_at.new.links c.in-Ok.ensures)
+      (written c.self.inside.links.len c.command_at.new.links c.self.inside.links.items (search rules)) (written c.self.inside.links.len c.see.new.links _ (search rules)) c.see.ensures.links c.see.ensures.table)
+      (live_from c.self.inside.own c.self.inside.peer c.self.inside.unsure c.self.inside.table.links _ _ (search rules) c.self.invariant.3),
+)
 
 -- invariant in Err: by the error's cases (Commands.error_at over `over .. old`): Refused by refused_alone, the others by live_same
 

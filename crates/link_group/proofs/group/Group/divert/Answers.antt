@@ -5,11 +5,14 @@ use Rattle.link_group.proofs.group.Group.divert.Goals as goal
 
 -- (names of goals by thought: to be read off the first check)
 pub invariant_of-self-in-Some : goal.invariant_of-self-in-Some
-invariant_of-self-in-Some c =
-    (search rules, search rules, search rules,
-    live_diverted c.args.link (over c.self.inside.own c.self.inside.peer c.self.inside.unsure c.self.inside.table.links _) _
-    (diverted_is c.self.inside.own c.self.inside.peer c.self.inside.unsure c.args.link c.self.inside.table.links _ _ c.take_hand.new.links _ c.divert_from.new.links _ c.in-Some.messages.items
-    (written c.self.inside.links.len c.divert_from.new.links _ (search rules)) (written c.self.inside.links.len c.take_hand.new.links c.self.inside.links.items (search rules)) (search rules) (search rules) (search rules) c.divert_from.ensures.links c.divert_from.ensures.table)
-    (live_from c.self.inside.own c.self.inside.peer c.self.inside.unsure c.self.inside.table.links _ _ (search rules) c.self.invariant.3))
+invariant_of-self-in-Some c = (
+  search rules,
+  search rules,
+  search rules,
+  live_diverted c.args.link (over c.self.inside.own c.self.inside.peer c.self.inside.unsure c.self.inside.table.links _) _
+      (diverted_is c.self.inside.own c.self.inside.peer c.self.inside.unsure c.args.link c.self.inside.table.links _ _ c.take_hand.new.links _ c.divert_from.new.links _ c.in-Some.messages.items
+      (written c.self.inside.links.len c.divert_from.new.links _ (search rules)) (written c.self.inside.links.len c.take_hand.new.links c.self.inside.links.items (search rules)) (search rules) (search rules) (search rules) c.divert_from.ensures.links c.divert_from.ensures.table)
+      (live_from c.self.inside.own c.self.inside.peer c.self.inside.unsure c.self.inside.table.links _ _ (search rules) c.self.invariant.3),
+)
 
 -- clause set: the same equation over the value: `diverted_is` between `c.self.view_is`; clause fault: `divert_fault` unfolded by the link's cases (slice_get there: link < length)

@@ -11,9 +11,12 @@ returns-clause-ok c =
     (written c.self.inside.links.len c.listen_at-taken.new.links c.self.inside.links.items (search rules)) (written c.self.inside.links.len c.see.new.links _ (search rules)) c.see.ensures.links c.see.ensures.table
 
 pub invariant_of-self : goal.invariant_of-self
-invariant_of-self c =
-    (search rules, search rules, search rules,
-    heard_by_link c.args.octets.now c.listen_at-taken.result c.args.link (over c.self.inside.own c.self.inside.peer c.self.inside.unsure c.self.inside.table.links _) _
-    (by_link (Listened c.args.octets.now c.listen_at-taken.result) c.args.link _ _ _ c.listen_at-taken.new.links _ c.see.new.links _ c.self.inside.own c.self.inside.peer c.self.inside.unsure c.self.inside.table.links c.see.new.table.links refl refl c.listen_at-taken.ensures
-    (written c.self.inside.links.len c.listen_at-taken.new.links c.self.inside.links.items (search rules)) (written c.self.inside.links.len c.see.new.links _ (search rules)) c.see.ensures.links c.see.ensures.table)
-    (live_from c.self.inside.own c.self.inside.peer c.self.inside.unsure c.self.inside.table.links _ _ (search rules) c.self.invariant.3))
+invariant_of-self c = (
+  search rules,
+  search rules,
+  search rules,
+  heard_by_link c.args.octets.now c.listen_at-taken.result c.args.link (over c.self.inside.own c.self.inside.peer c.self.inside.unsure c.self.inside.table.links _) _
+      (by_link (Listened c.args.octets.now c.listen_at-taken.result) c.args.link _ _ _ c.listen_at-taken.new.links _ c.see.new.links _ c.self.inside.own c.self.inside.peer c.self.inside.unsure c.self.inside.table.links c.see.new.table.links refl refl c.listen_at-taken.ensures
+      (written c.self.inside.links.len c.listen_at-taken.new.links c.self.inside.links.items (search rules)) (written c.self.inside.links.len c.see.new.links _ (search rules)) c.see.ensures.links c.see.ensures.table)
+      (live_from c.self.inside.own c.self.inside.peer c.self.inside.unsure c.self.inside.table.links _ _ (search rules) c.self.invariant.3),
+)

@@ -11,9 +11,12 @@ returns-in-Ok-clause-ok c =
     (written c.self.inside.links.len c.speak_at.new.links c.self.inside.links.items (search rules)) (written c.self.inside.links.len c.see.new.links _ (search rules)) c.see.ensures.links c.see.ensures.table
 
 pub invariant_of-self-in-Ok : goal.invariant_of-self-in-Ok
-invariant_of-self-in-Ok c =
-    (search rules, search rules, search rules,
-    spoken_by_link c.args.units c.in-Ok.octets.items c.args.link (over c.self.inside.own c.self.inside.peer c.self.inside.unsure c.self.inside.table.links _) _
-    (by_link (Spoken c.args.units c.in-Ok.octets.items) c.args.link _ _ _ c.speak_at.new.links _ c.see.new.links _ c.self.inside.own c.self.inside.peer c.self.inside.unsure c.self.inside.table.links c.see.new.table.links refl refl c.in-Ok.ensures.ok
-    (written c.self.inside.links.len c.speak_at.new.links c.self.inside.links.items (search rules)) (written c.self.inside.links.len c.see.new.links _ (search rules)) c.see.ensures.links c.see.ensures.table)
-    (live_from c.self.inside.own c.self.inside.peer c.self.inside.unsure c.self.inside.table.links _ _ (search rules) c.self.invariant.3))
+invariant_of-self-in-Ok c = (
+  search rules,
+  search rules,
+  search rules,
+  spoken_by_link c.args.units c.in-Ok.octets.items c.args.link (over c.self.inside.own c.self.inside.peer c.self.inside.unsure c.self.inside.table.links _) _
+      (by_link (Spoken c.args.units c.in-Ok.octets.items) c.args.link _ _ _ c.speak_at.new.links _ c.see.new.links _ c.self.inside.own c.self.inside.peer c.self.inside.unsure c.self.inside.table.links c.see.new.table.links refl refl c.in-Ok.ensures.ok
+      (written c.self.inside.links.len c.speak_at.new.links c.self.inside.links.items (search rules)) (written c.self.inside.links.len c.see.new.links _ (search rules)) c.see.ensures.links c.see.ensures.table)
+      (live_from c.self.inside.own c.self.inside.peer c.self.inside.unsure c.self.inside.table.links _ _ (search rules) c.self.invariant.3),
+)

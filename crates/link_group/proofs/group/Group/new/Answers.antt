@@ -4,7 +4,10 @@ use Rattle.link_group.proofs.group.Group.new.Goals as goal
 
 -- (names of goals by thought: to be read off the first check)
 pub invariant_of-result : goal.invariant_of-result
-invariant_of-result c =
-    (search rules, search rules, search rules,
-    live_new c.args.own c.args.peer c.args.terminals.items _ (new_is c.args.own c.args.peer c.args.terminals.items c.all_fresh-links.result.items c.table_of-table.result.links (search rules) (search rules))
-    c.requires.unused)
+invariant_of-result c = (
+  search rules,
+  search rules,
+  search rules,
+  live_new c.args.own c.args.peer c.args.terminals.items _ (new_is c.args.own c.args.peer c.args.terminals.items c.all_fresh-links.result.items c.table_of-table.result.links (search rules) (search rules))
+      c.requires.unused,
+)

@@ -11,9 +11,12 @@ returns-clause-ok c =
     (written c.self.inside.links.len c.tell_at-report.new.links c.self.inside.links.items (search rules)) (written c.self.inside.links.len c.see.new.links _ (search rules)) c.see.ensures.links c.see.ensures.table
 
 pub invariant_of-self : goal.invariant_of-self
-invariant_of-self c =
-    (search rules, search rules, search rules,
-    reported_by_link c.tell_at-report.result c.args.link (over c.self.inside.own c.self.inside.peer c.self.inside.unsure c.self.inside.table.links _) _
-    (by_link (Reported c.tell_at-report.result) c.args.link _ _ _ c.tell_at-report.new.links _ c.see.new.links _ c.self.inside.own c.self.inside.peer c.self.inside.unsure c.self.inside.table.links c.see.new.table.links refl refl c.tell_at-report.ensures
-    (written c.self.inside.links.len c.tell_at-report.new.links c.self.inside.links.items (search rules)) (written c.self.inside.links.len c.see.new.links _ (search rules)) c.see.ensures.links c.see.ensures.table)
-    (live_from c.self.inside.own c.self.inside.peer c.self.inside.unsure c.self.inside.table.links _ _ (search rules) c.self.invariant.3))
+invariant_of-self c = (
+  search rules,
+  search rules,
+  search rules,
+  reported_by_link c.tell_at-report.result c.args.link (over c.self.inside.own c.self.inside.peer c.self.inside.unsure c.self.inside.table.links _) _
+      (by_link (Reported c.tell_at-report.result) c.args.link _ _ _ c.tell_at-report.new.links _ c.see.new.links _ c.self.inside.own c.self.inside.peer c.self.inside.unsure c.self.inside.table.links c.see.new.table.links refl refl c.tell_at-report.ensures
+      (written c.self.inside.links.len c.tell_at-report.new.links c.self.inside.links.items (search rules)) (written c.self.inside.links.len c.see.new.links _ (search rules)) c.see.ensures.links c.see.ensures.table)
+      (live_from c.self.inside.own c.self.inside.peer c.self.inside.unsure c.self.inside.table.links _ _ (search rules) c.self.invariant.3),
+)

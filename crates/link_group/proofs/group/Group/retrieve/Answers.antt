@@ -5,6 +5,9 @@ use Rattle.link_group.proofs.group.Group.retrieve.Goals as goal
 
 -- (names of goals by thought: to be read off the first check)
 pub invariant_of-self : goal.invariant_of-self
-invariant_of-self c =
-    (search rules, search rules, search rules,
-    live_retrieved c.retrieve_at.result c.self.inside.own c.self.inside.peer c.self.inside.unsure c.self.inside.table.links _ c.retrieve_at.new.links _ c.args.link (written c.self.inside.links.len c.retrieve_at.new.links c.self.inside.links.items (search rules)) c.retrieve_at.ensures.fault c.retrieve_at.ensures.ok c.retrieve_at.ensures.err (live_from c.self.inside.own c.self.inside.peer c.self.inside.unsure c.self.inside.table.links _ _ (search rules) c.self.invariant.3))
+invariant_of-self c = (
+  search rules,
+  search rules,
+  search rules,
+  live_retrieved c.retrieve_at.result c.self.inside.own c.self.inside.peer c.self.inside.unsure c.self.inside.table.links _ c.retrieve_at.new.links _ c.args.link (written c.self.inside.links.len c.retrieve_at.new.links c.self.inside.links.items (search rules)) c.retrieve_at.ensures.fault c.retrieve_at.ensures.ok c.retrieve_at.ensures.err (live_from c.self.inside.own c.self.inside.peer c.self.inside.unsure c.self.inside.table.links _ _ (search rules) c.self.invariant.3),
+)

@@ -5,7 +5,10 @@ use Rattle.link_group.proofs.group.Group.send.Goals as goal
 
 -- (names of goals by thought: to be read off the first check)
 pub invariant_of-self-in-Some : goal.invariant_of-self-in-Some
-invariant_of-self-in-Some c =
-    (search rules, search rules, search rules,
-    live_sent c.put_at.result c.self.inside.own c.self.inside.peer c.self.inside.unsure c.self.inside.table.links _ c.put_at.new.links _ c.args.msu c.in-Some.at (written c.self.inside.links.len c.put_at.new.links c.self.inside.links.items (search rules)) (search rules) (search rules) (search rules)
-    c.put_at.ensures.fault c.put_at.ensures.ok c.put_at.ensures.err (live_from c.self.inside.own c.self.inside.peer c.self.inside.unsure c.self.inside.table.links _ _ (search rules) c.self.invariant.3))
+invariant_of-self-in-Some c = (
+  search rules,
+  search rules,
+  search rules,
+  live_sent c.put_at.result c.self.inside.own c.self.inside.peer c.self.inside.unsure c.self.inside.table.links _ c.put_at.new.links _ c.args.msu c.in-Some.at (written c.self.inside.links.len c.put_at.new.links c.self.inside.links.items (search rules)) (search rules) (search rules) (search rules)
+      c.put_at.ensures.fault c.put_at.ensures.ok c.put_at.ensures.err (live_from c.self.inside.own c.self.inside.peer c.self.inside.unsure c.self.inside.table.links _ _ (search rules) c.self.invariant.3),
+)

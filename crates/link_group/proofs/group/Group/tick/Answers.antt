@@ -15,11 +15,14 @@ pass_all-due-requires-clause-room c = room_on _ c.make_room_all.new.links c.as_m
 
 -- (names of goals by thought: to be read off the first check)
 pub invariant_of-self-in-Err : goal.invariant_of-self-in-Err
-invariant_of-self-in-Err c =
-    (search rules, search rules, search rules,
-    live_lacking (over c.self.inside.own c.self.inside.peer c.self.inside.unsure c.self.inside.table.links _) _
-    (no_room (over c.self.inside.own c.self.inside.peer c.self.inside.unsure c.self.inside.table.links _) _ _ c.make_room_all.new.links _ c.self.inside.own c.self.inside.peer c.self.inside.unsure c.self.inside.table.links
-    refl c.in-Err.ensures.err (written c.self.inside.links.len c.make_room_all.new.links c.self.inside.links.items (search rules)) refl refl refl refl refl)
-    (live_from c.self.inside.own c.self.inside.peer c.self.inside.unsure c.self.inside.table.links _ _ (search rules) c.self.invariant.3))
+invariant_of-self-in-Err c = (
+  search rules,
+  search rules,
+  search rules,
+  live_lacking (over c.self.inside.own c.self.inside.peer c.self.inside.unsure c.self.inside.table.links _) _
+      (no_room (over c.self.inside.own c.self.inside.peer c.self.inside.unsure c.self.inside.table.links _) _ _ c.make_room_all.new.links _ c.self.inside.own c.self.inside.peer c.self.inside.unsure c.self.inside.table.links
+      refl c.in-Err.ensures.err (written c.self.inside.links.len c.make_room_all.new.links c.self.inside.links.items (search rules)) refl refl refl refl refl)
+      (live_from c.self.inside.own c.self.inside.peer c.self.inside.unsure c.self.inside.table.links _ _ (search rules) c.self.invariant.3),
+)
 
 -- invariant where the ticks are refused: live_roomy with `new ≡ map roomy old` and `written`; at the end: live_ticked with ticked_is over make_room_all, pass_all and see_each
