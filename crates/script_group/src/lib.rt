@@ -1,4 +1,4 @@
-//! A link set's script as it runs: what each command makes of the set and of the retrieved messages, and the lines that are printed for it.
+//! A link set's script as it runs: what each command makes of the set, and the lines that are printed for it.
 #![tactic(auto)]
 
 mod answers;

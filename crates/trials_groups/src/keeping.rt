@@ -47,6 +47,7 @@ pub fn divert(group: &mut Group, link: usize) -> Went {
     match group.divert(link) {
         Ok(()) => Went::On,
         Err(DivertError::Left { fault: _, left }) => Went::Left(left),
-        Err(DivertError::NoLink | DivertError::Waiting) => Went::Nowhere,
+        Err(DivertError::NoLink) => Went::Nowhere,
+        Err(DivertError::Waiting) => Went::Nowhere,
     }
 }
