@@ -124,6 +124,10 @@ live_same c d is live = subst Live (sym is) live
 pub live_from : (own peer unsure : ℕ) (table : List (Option ℕ)) (ks old : List Link) → old ≡ ks → Live (over own peer unsure table ks) → Live (over own peer unsure table old)
 live_from own peer unsure table ks old from live = subst (λ (xs : List Link). Live (over own peer unsure table xs)) (sym from) live
 
+-- a call that changed nothing
+pub live_kept : (own peer unsure : ℕ) (table : List (Option ℕ)) (old new mid : List Link) → mid ≡ new → new ≡ old → Live (over own peer unsure table old) → Live (over own peer unsure table mid)
+live_kept own peer unsure table old new mid same kept live = subst (λ (xs : List Link). Live (over own peer unsure table xs)) (sym (same ∙ kept)) live
+
 -- ---- of calls with a result: what is refused changes nothing
 
 abbrev pub Told : {A E F : Type 0} → (Result A E → Option F) → Type 0

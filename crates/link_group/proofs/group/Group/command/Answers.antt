@@ -1,8 +1,8 @@
 use Rattle.std.proofs.Common.{rules, refl}
 use Rattle.group_members.specs.Commanding.{Commanded}
 use Rattle.link_group.proofs.ByLinks.{by_link, written}
-use Rattle.link_group.proofs.Commands.{command_error, commanded}
-use Rattle.link_group.proofs.Live.{over, live_from, live_same, commanded_by_link, refused_alone}
+use Rattle.link_group.proofs.Commands.{command_error, commanded, live_error}
+use Rattle.link_group.proofs.Live.{over, live_from, commanded_by_link}
 use Rattle.link_group.proofs.group.Group.command.Goals as goal
 
 -- (names of goals by thought: to be read off the first check)
@@ -22,7 +22,13 @@ invariant_of-self-in-Ok c = (
       (live_from c.self.inside.own c.self.inside.peer c.self.inside.unsure c.self.inside.table.links _ _ (search rules) c.self.invariant.3),
 )
 
--- invariant in Err: by the error's cases (Commands.error_at over `over .. old`): Refused by refused_alone, the others by live_same
+pub invariant_of-self-in-Err : goal.invariant_of-self-in-Err
+invariant_of-self-in-Err c = (
+  search rules,
+  search rules,
+  search rules,
+  live_error c.args.command c.args.link c.self.inside.own c.self.inside.peer c.self.inside.unsure c.self.inside.table.links _ c.command_at.new.links _ c.in-Err.fault (written c.self.inside.links.len c.command_at.new.links c.self.inside.links.items (search rules)) c.in-Err.ensures (live_from c.self.inside.own c.self.inside.peer c.self.inside.unsure c.self.inside.table.links _ _ (search rules) c.self.invariant.3),
+)
 
 pub returns-in-Err-clause-err : goal.returns-in-Err-clause-err
 returns-in-Err-clause-err c =

@@ -1,6 +1,6 @@
 use Rattle.std.proofs.Common.{rules}
 use Rattle.link_group.proofs.ByLinks.{written}
-use Rattle.link_group.proofs.Live.{over, live_from, diverted_is, live_diverted}
+use Rattle.link_group.proofs.Live.{over, live_from, diverted_is, live_diverted, live_kept}
 use Rattle.link_group.proofs.group.Group.divert.Goals as goal
 
 -- (names of goals by thought: to be read off the first check)
@@ -15,4 +15,8 @@ invariant_of-self-in-Some c = (
       (live_from c.self.inside.own c.self.inside.peer c.self.inside.unsure c.self.inside.table.links _ _ (search rules) c.self.invariant.3),
 )
 
--- clause set: the same equation over the value: `diverted_is` between `c.self.view_is`; clause fault: `divert_fault` unfolded by the link's cases (slice_get there: link < length)
+pub invariant_of-self-in-None : goal.invariant_of-self-in-None
+invariant_of-self-in-None c =
+    (search rules, search rules, search rules, live_kept c.self.inside.own c.self.inside.peer c.self.inside.unsure c.self.inside.table.links _ c.take_hand.new.links _ (written c.self.inside.links.len c.take_hand.new.links c.self.inside.links.items (search rules)) c.in-None.ensures.none (live_from c.self.inside.own c.self.inside.peer c.self.inside.unsure c.self.inside.table.links _ _ (search rules) c.self.invariant.3))
+
+-- clause set: `diverted_is` and `c.self.view_is`; clause fault: fault_past, fault_waits, fault_left of Settling

@@ -1,4 +1,4 @@
-use Rattle.std.proofs.Common.{rules, refl, ◌∙◌}
+use Rattle.std.proofs.Common.{rules, refl, ap, ◌∙◌}
 use Rattle.link_group.proofs.ByLinks.{written}
 use Rattle.link_group.proofs.Live.{over, live_from, live_roomy, live_lacking, ticked_is, live_ticked}
 use Rattle.link_group.proofs.Room.{no_room, room_on}
@@ -25,4 +25,22 @@ invariant_of-self-in-Err c = (
       (live_from c.self.inside.own c.self.inside.peer c.self.inside.unsure c.self.inside.table.links _ _ (search rules) c.self.invariant.3),
 )
 
--- invariant where the ticks are refused: live_roomy with `new ≡ map roomy old` and `written`; at the end: live_ticked with ticked_is over make_room_all, pass_all and see_each
+pub invariant_of-self-in-Some : goal.invariant_of-self-in-Some
+invariant_of-self-in-Some c = (
+  search rules,
+  search rules,
+  search rules,
+  live_roomy (over c.self.inside.own c.self.inside.peer c.self.inside.unsure c.self.inside.table.links _) _ (ap (over c.self.inside.own c.self.inside.peer c.self.inside.unsure c.self.inside.table.links) ((written c.self.inside.links.len c.make_room_all.new.links c.self.inside.links.items (search rules)) ∙ c.make_room_all.ensures.ok)) (live_from c.self.inside.own c.self.inside.peer c.self.inside.unsure c.self.inside.table.links _ _ (search rules) c.self.invariant.3),
+)
+
+pub invariant_of-self : goal.invariant_of-self
+invariant_of-self c = (
+  search rules,
+  search rules,
+  search rules,
+  live_ticked c.args.ticks (over c.self.inside.own c.self.inside.peer c.self.inside.unsure c.self.inside.table.links _) _
+      (ticked_is c.args.ticks c.self.inside.own c.self.inside.peer c.self.inside.unsure c.self.inside.table.links _ _ c.make_room_all.new.links _ c.pass_all-due.new.links _ c.see_each.new.links _
+      (written c.self.inside.links.len c.make_room_all.new.links c.self.inside.links.items (search rules)) (written c.self.inside.links.len c.pass_all-due.new.links _ (search rules)) (written c.self.inside.links.len c.see_each.new.links _ (search rules))
+      c.make_room_all.ensures.ok c.pass_all-due.ensures.links c.see_each.ensures.links c.see_each.ensures.table)
+      (live_from c.self.inside.own c.self.inside.peer c.self.inside.unsure c.self.inside.table.links _ _ (search rules) c.self.invariant.3),
+)

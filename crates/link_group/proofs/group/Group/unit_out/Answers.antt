@@ -1,7 +1,7 @@
 use Rattle.std.proofs.Common.{rules, refl}
 use Rattle.group_members.specs.Doing.{Sent}
 use Rattle.link_group.proofs.ByLinks.{by_link, written}
-use Rattle.link_group.proofs.Live.{over, live_from, given_by_link}
+use Rattle.link_group.proofs.Live.{over, live_from, given_by_link, live_kept}
 use Rattle.link_group.proofs.group.Group.unit_out.Goals as goal
 
 -- (names of goals by thought: to be read off the first check)
@@ -20,3 +20,7 @@ invariant_of-self-in-Ok c = (
       (written c.self.inside.links.len c.send_at.new.links c.self.inside.links.items (search rules)) (written c.self.inside.links.len c.see.new.links _ (search rules)) c.see.ensures.links c.see.ensures.table)
       (live_from c.self.inside.own c.self.inside.peer c.self.inside.unsure c.self.inside.table.links _ _ (search rules) c.self.invariant.3),
 )
+
+pub invariant_of-self-in-Err : goal.invariant_of-self-in-Err
+invariant_of-self-in-Err c =
+    (search rules, search rules, search rules, live_kept c.self.inside.own c.self.inside.peer c.self.inside.unsure c.self.inside.table.links _ c.send_at.new.links _ (written c.self.inside.links.len c.send_at.new.links c.self.inside.links.items (search rules)) c.in-Err.ensures.err (live_from c.self.inside.own c.self.inside.peer c.self.inside.unsure c.self.inside.table.links _ _ (search rules) c.self.invariant.3))
