@@ -8,7 +8,6 @@ use Rattle.group_changeover.specs.Sharing.{selections, link_of}
 use Rattle.group_members.specs.declared.link.Link.{Link}
 use Rattle.group_members.specs.Links.{change}
 use Rattle.group_members.specs.Moving.{Diversion, Diverted, division, is_out_at, hand_by, without_hand, takers, hands_over, ends_on, ends_at, keeps_at}
-use Rattle.link_group.specs.declared.ending.DivertError.{DivertError}
 use Rattle.link_group.specs.declared.ending.DivertError.TheVariants as error
 use Rattle.link_group.specs.Set.{LinkSet}
 use Rattle.link_group.specs.Diverting.{diverted, settled_by, settled, emptied, left_by, left_fault, divert_fault_by, divert_fault}
