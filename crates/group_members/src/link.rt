@@ -1,5 +1,5 @@
 //! One link of a set.
-ghost use Rattle.std.specs.Prelude.{◌≡◌, ◌≤◌, All, drop, length, slice_get, IfSome, IfOk, OnOk, OnErr, Some, None};
+ghost use Rattle.std.specs.Prelude.{◌≡◌, ◌+◌, ◌≤◌, All, drop, length, slice_get, IfSome, IfOk, OnOk, OnErr, Some, None};
 ghost use Rattle.resend_store.specs.Messages.{IsMessage};
 ghost use Rattle.group_changeover.specs.Changeovers.{IsKind};
 ghost use Rattle.link_term.specs.Kept.{window_of};
