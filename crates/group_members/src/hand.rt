@@ -1,7 +1,6 @@
 //! Messages that a link handed out.
 ghost use Rattle.std.specs.Prelude.{◌≡◌, [], All, length};
 ghost use Rattle.resend_store.specs.Messages.{IsMessage};
-ghost use Rattle.resend_store.specs.declared.messages.Msu.{Msu as PlainMsu};
 
 use link_term::Msu;
 use std::alloc::Global;
@@ -17,13 +16,10 @@ pub struct Hand {
 
 impl Model for Hand {
     ghost use Rattle.std.specs.Prelude.{List, All};
-    ghost use Rattle.std.specs.Coded.{codes};
     ghost use Rattle.resend_store.specs.Messages.{IsMessage};
     ghost use Rattle.resend_store.specs.declared.messages.Msu.{Msu as PlainMsu};
 
     ghost Value = { List PlainMsu };
-
-    ghost coded = { Prim.hlevel codes };
 
     ghost view = { λ h. h.messages.items };
 
