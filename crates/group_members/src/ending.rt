@@ -1,5 +1,5 @@
 //! The end of a changeover.
-ghost use Rattle.std.specs.Prelude.{◌≡◌, ◌<◌, slice_get, map, All, Some, None, IfSome, OnSome, IfNone, is_some, if◌then◌else◌};
+ghost use Rattle.std.specs.Prelude.{◌≡◌, ◌<◌, slice_get, map, All, Some, None, IfSome, OnSome, IfNone, is_some};
 ghost use Rattle.resend_store.specs.Messages.{IsMessage};
 ghost use Rattle.group_changeover.specs.Sharing.{selections, link_of, pick};
 ghost use Rattle.group_members.specs.Links.{change};
@@ -83,7 +83,8 @@ impl Link {
         ensures messages { IfSome result (λ messages. messages.items ≡ self.old.hand) }
         ensures whole { IfSome result (λ messages. All IsMessage messages.items) }
         ensures out { is_some result ≡ is_out_at (Some self.old) }
-        ensures link { self.new ≡ (if is_out_at (Some self.old) then without_hand self.old else self.old) }
+        ensures some { OnSome result (self.new ≡ without_hand self.old) }
+        ensures none { IfNone result (self.new ≡ self.old) }
     {
         match self.availability.changing {
             Some(changing) if changing.is_out() => Some(self.hand.take()),

@@ -130,10 +130,7 @@ live_kept own peer unsure table old new mid same kept live = subst (λ (xs : Lis
 
 -- ---- of calls with a result: what is refused changes nothing
 
-abbrev pub Told : {A E F : Type 0} → (Result A E → Option F) → Type 0
-Told {A} g = (x : A) → g (Ok x) ≡ None
-
-by_result : {A E F : Type 0} (g : Result A E → Option F) (r : Result A E) (f : Option F) (P : List Link → Type 0) (old new made mid : List Link) → Told g → mid ≡ new → g r ≡ f
+by_result : {A E F : Type 0} (g : Result A E → Option F) (r : Result A E) (f : Option F) (P : List Link → Type 0) (old new made mid : List Link) → ((x : A) → g (Ok x) ≡ None) → mid ≡ new → g r ≡ f
     → OnOk r (new ≡ made) → OnErr r (new ≡ old) → (f ≡ None → P old → P made) → P old → P mid
 by_result g (Ok x) f P old new made mid told same fault ok err step was = subst P (sym (same ∙ ok)) (step (sym fault ∙ told x) was)
 by_result g (Err e) f P old new made mid told same fault ok err step was = subst P (sym (same ∙ err)) was
