@@ -31,7 +31,7 @@ abbrev pub told : ℕ → List ℕ → List ℕ
 told now text = (decimal now ++ 32 ∷ text) ++ 10 ∷ []
 
 -- a line that an order asked for
-abbrev pub listed : ℕ → List ℕ → String → List ℕ
+abbrev pub listed : {Z : Type 0} → ℕ → List ℕ → String Z → List ℕ
 listed now order line = told now (order ++ 32 ∷ string_bytes line)
 
 -- the lines of an order that was obeyed, or refused

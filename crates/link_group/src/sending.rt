@@ -1,5 +1,5 @@
 //! Messages to send, and messages of a changeover.
-ghost use Rattle.std.specs.Prelude.{◌≡◌, Option, Some, length, OnOk, OnErr, IfOk, ◌<◌};
+ghost use Rattle.std.specs.Prelude.{◌≡◌, true, Option, Some, length, OnOk, OnErr, IfOk, ◌<◌};
 ghost use Rattle.group_changeover.specs.Limits.{SELECTIONS};
 ghost use Rattle.group_changeover.specs.Sharing.{selection_of};
 ghost use Rattle.group_changeover.specs.Labels.{label_in, IsLabel};
@@ -42,10 +42,11 @@ impl Group {
         ensures err { OnErr result (self.new ≡ self.old) }
         ensures within { selection_of msu < SELECTIONS }
     {
+        let selection = selection_of(&msu);
         if self.is_bound(&msu) {
             return Err(SendError::Bound);
         }
-        match self.table.link_of(selection_of(&msu)) {
+        match self.table.link_of(selection) {
             Some(at) => put_at(self.links.as_mut_slice(), at, msu),
             None => Err(SendError::NoLink),
         }

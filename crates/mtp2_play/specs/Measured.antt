@@ -5,7 +5,7 @@ use Rattle.line_play.specs.Measured.{measured_lines}
 use Rattle.line_play.specs.Term.{Term}
 
 -- a line, with its end
-abbrev pub line_text : String → List ℕ
+abbrev pub line_text : {Z : Type 0} → String Z → List ℕ
 line_text line = string_bytes line ++ 10 ∷ []
 
 -- all of them, in their order
