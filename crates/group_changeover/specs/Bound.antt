@@ -1,7 +1,18 @@
 -- Messages that have to go by the link they are given to: those of changeover and changeback,
 -- traffic restart (Q.704, 15.4 to 15.6), and tests of a link (Q.707).
 use Rattle.std.specs.Prelude.{ℕ, ◌/◌, ◌%◌, ◌==◌, ◌&&◌, ◌||◌, nat_lt, Bool, false, not}
-use Rattle.std.specs.Prelude.{if◌then◌else◌, Option, Some, None, List, [], ◌∷◌, length, drop, filter}
+use Rattle.std.specs.Prelude.{
+  if◌then◌else◌,
+  Option,
+  Some,
+  None,
+  List,
+  [],
+  ◌∷◌,
+  length,
+  drop,
+  filter,
+}
 use Rattle.resend_store.specs.declared.messages.Msu.{Msu}
 use Rattle.group_changeover.specs.declared.labels.Label.{Label}
 use Rattle.group_changeover.specs.declared.bound.Points.{Points}

@@ -87,7 +87,8 @@ abbrev pub bound_told : Link → ℕ
 bound_told k =
     length (bound_among k (how_many (accepted_of k))) - length (bound_among k (window k).sent)
 
--- The messages that are bound to it and wait leave. What the far side told of the messages that were
+-- The messages that are bound to it and wait leave. What the far side told of the messages that
+-- were
 -- kept it told of those that are kept still.
 abbrev pub leaves_out : Link → Link
 leaves_out k =

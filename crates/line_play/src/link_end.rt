@@ -1,5 +1,5 @@
 //! A signalling link terminal at the end of a line.
-ghost use Rattle.std.specs.Prelude.{IfOk, OnOk, option_map, string_bytes};
+ghost use Rattle.std.specs.Prelude.{◌≡◌, IfOk, OnOk, option_map, string_bytes};
 ghost use Rattle.script_lines.specs.Lines.{texts};
 ghost use Rattle.script_links.specs.TermCommands.{plain_term_command};
 ghost use Rattle.line_play.specs.Commands.{line_command_of};

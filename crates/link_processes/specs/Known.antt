@@ -197,7 +197,8 @@ pub record AreOptions (d : Draft) (x : Options) : Type 0 where
 abbrev pub NO_ACTOR : ℕ
 NO_ACTOR = 65535
 
--- The first variable Cp of the first instance of the first process IAC (Q.703, figure 9: the aborted
+-- The first variable Cp of the first instance of the first process IAC (Q.703, figure 9: the
+-- aborted
 -- proving periods of the alignment under way); case is ignored.
 pub record IsCount (d : Draft) (x : Periods) : Type 0 where
   pub process : ℕ

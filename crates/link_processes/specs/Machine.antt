@@ -29,7 +29,12 @@ use Rattle.link_transceiver.specs.Effects.{effect, clears}
 use Rattle.link_transceiver.specs.Judging.{Judged, judged}
 use Rattle.link_transceiver.specs.Going.{gone}
 use Rattle.link_transceiver.specs.Measuring.{glance, seen_of, calmed, passed, signal_counted}
-use Rattle.link_transceiver.specs.Measuring.{error_counted, octets_counted, came_counted, went_counted}
+use Rattle.link_transceiver.specs.Measuring.{
+  error_counted,
+  octets_counted,
+  came_counted,
+  went_counted,
+}
 use Rattle.link_transceiver.specs.Measuring.{more_if, reset}
 use Rattle.link_transceiver.specs.Offers.{error_offers, acknowledgement_seen, counting_offers}
 use Rattle.link_processes.specs.declared.names.Names.{Names}

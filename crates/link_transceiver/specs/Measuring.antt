@@ -1,6 +1,20 @@
 -- What a terminal measures (ITU-T Q.752), as a function of its steps: what each step adds, by the
 -- transceiver before it and behind it. Counts stay at the greatest one.
-use Rattle.std.specs.Prelude.{ℕ, ℤ, pos, negsuc, ◌+◌, ◌%◌, ◌==◌, nat_lt, ◌&&◌, ◌||◌, Bool, true, false}
+use Rattle.std.specs.Prelude.{
+  ℕ,
+  ℤ,
+  pos,
+  negsuc,
+  ◌+◌,
+  ◌%◌,
+  ◌==◌,
+  nat_lt,
+  ◌&&◌,
+  ◌||◌,
+  Bool,
+  true,
+  false,
+}
 use Rattle.std.specs.Prelude.{not, if◌then◌else◌, Option, Some, None, is_some, length}
 use Rattle.resend_store.specs.Window.{last_acknowledged, round_left, reaches_number}
 use Rattle.resend_store.specs.declared.measures.Measure.{Measure}

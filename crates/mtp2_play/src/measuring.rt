@@ -18,7 +18,8 @@ pub fn write_measures<W: Write>(
     ensures { OnOk result (Appends (W.contents writer.old) (W.contents writer.new) (measures_text terminal.now)) }
 {
     let lines = measured_lines(alloc, terminal)?;
-    write_lines(alloc, writer, &lines)
+    write_lines(alloc, writer, &lines)?;
+    Ok(())
 }
 
 /// Writes lines.

@@ -62,6 +62,18 @@ fn end_measures(alloc: Global, file: Option<File>, terminal: &Terminal) -> io::R
     }
 }
 
+/// The status of a run, which is 4 where what was measured couldn't be written.
+fn status_of(status: u8, measured: io::Result<()>) -> u8
+    requires { (status ≡ 0) ⊎ (status ≡ 4) }
+    ensures zero { result ≡ 0 → status ≡ 0 }
+    ensures status { (result ≡ 0) ⊎ (result ≡ 4) }
+{
+    match measured {
+        Ok(()) => status,
+        Err(_) => FAILED,
+    }
+}
+
 /// Opens what orders come from, where reports go and where measurements go. What can't be opened is told by its name.
 fn open_streams<'a, H: Files<File = File> + Threads + Eprint + AllocGlobal>(
     host: &'a H,
@@ -144,11 +156,9 @@ fn speak<H: Files<File = File> + Threads + Eprint + Clock + AllocGlobal, R: Read
     let status = serve(host.alloc(), end, &mut desk, reader, writer);
     let measured = end_measures(host.alloc(), measures, &desk.terminal.terminal);
     let now = desk.millisecond();
-    let ended = desk.reports.end(host, now);
-    if measured.is_ok() && ended.is_ok() {
-        status
-    } else {
-        FAILED
+    match desk.reports.end(host, now) {
+        Ok(()) => status_of(status, measured),
+        Err(_) => FAILED,
     }
 }
 

@@ -1,6 +1,6 @@
 use Rattle.std.proofs.Common.{rules, refl}
 use Rattle.mtp2_play.specs.Measured.{line_text}
-use Rattle.script_check.proofs.Written.{more_lines}
+use Rattle.mtp2_play.proofs.Written.{more_lines}
 use Rattle.mtp2_play.proofs.measuring.write_lines.Goals as goal
 
 pub loop-line-preserved : goal.loop-line-preserved

@@ -1,7 +1,7 @@
 use Rattle.std.proofs.Common.{◌≡◌, ◌++◌, drop, map}
 use Rattle.std.specs.List.{flat_map}
 use Rattle.draw_diff.specs.Ways.{alone_state}
-use Rattle.draw_diff.proofs.walk.push_alone_states.Given as goal
+use Rattle.draw_diff.proofs.alone.push_alone_states.Given as goal
 
 abbrev pub invariant-loop-state : goal.invariant-loop-state
 invariant-loop-state l =

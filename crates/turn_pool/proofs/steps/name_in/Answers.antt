@@ -2,7 +2,7 @@ use Rattle.std.proofs.Common.{Option, sym, subst}
 use Rattle.turn_pool.specs.Turns.{NamesBegun}
 use Rattle.turn_pool.specs.declared.gate.JobName.{JobName}
 use Rattle.turn_pool.proofs.Naming.{begun_named}
-use Rattle.turn_pool.proofs.worker.name_in.Goals as goal
+use Rattle.turn_pool.proofs.steps.name_in.Goals as goal
 
 pub returns-clause-begun : goal.returns-clause-begun
 returns-clause-begun c =

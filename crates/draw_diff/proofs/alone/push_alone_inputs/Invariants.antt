@@ -1,7 +1,7 @@
 use Rattle.std.proofs.Common.{◌≡◌, ◌++◌, drop, map}
 use Rattle.std.specs.List.{flat_map}
 use Rattle.draw_diff.specs.Ways.{alone_input}
-use Rattle.draw_diff.proofs.walk.push_alone_inputs.Given as goal
+use Rattle.draw_diff.proofs.alone.push_alone_inputs.Given as goal
 
 abbrev pub invariant-loop-input : goal.invariant-loop-input
 invariant-loop-input l =
