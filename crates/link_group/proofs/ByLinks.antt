@@ -1,13 +1,15 @@
 -- A call of one link's terminal.
-use Rattle.std.proofs.Common.{◌≡◌, ℕ, zero, suc, Option, List, [], ◌∷◌, ◌++◌, length, take, drop, refl, sym, ap, subst, arith}
-use Rattle.std.specs.Prelude.{slice_get}
+use Rattle.std.proofs.Common.{◌≡◌, ℕ, ◌+◌, ◌-◌, ◌^◌, zero, suc, Option, List, [], ◌∷◌, ◌++◌, length, take, drop, refl, sym, ap, subst, arith}
+use Rattle.std.specs.Prelude.{min, slice_get}
 use Rattle.group_members.specs.declared.link.Link.{Link}
 use Rattle.group_members.specs.Links.{change}
 use Rattle.group_members.specs.Doing.{AtLink, asked, came_by}
+use Rattle.link_processes.specs.declared.commands.Command.{Command}
+use Rattle.group_members.specs.Commanding.{cleared_at, Commanded}
 use Rattle.link_group.specs.Set.{LinkSet}
 use Rattle.link_group.specs.Placing.{table_if}
-use Rattle.link_group.specs.Lines.{ByLink}
-use Rattle.link_group.proofs.Live.{over, by_seen}
+use Rattle.link_group.specs.Lines.{ByLink, ByCommand}
+use Rattle.link_group.proofs.Live.{over, by_seen, by_seen_command}
 
 -- where the links were `old` first, then `new`, and then seen
 pub by_link : (did : Link → Link → Type 0) (l : ℕ) (c d : LinkSet) (old new mid new2 mid2 : List Link) (own peer unsure : ℕ) (table table2 : List (Option ℕ))
@@ -17,6 +19,15 @@ by_link did l c d old new mid new2 mid2 own peer unsure table table2 was is at s
     subst (λ (x : LinkSet). ByLink did l x d) (sym was)
     (subst (λ (x : LinkSet). ByLink did l (over own peer unsure table old) x) (sym is)
     (by_seen did own peer unsure l table table2 old new mid new2 mid2 at same same2 links tables))
+
+-- .. and by a command, behind which what went counts as unsure
+pub by_command : (command : Command) (l : ℕ) (c d : LinkSet) (old new mid new2 mid2 : List Link) (own peer was n unsure : ℕ) (table table2 : List (Option ℕ))
+    → c ≡ over own peer was table old → d ≡ over own peer unsure table2 mid2 → AtLink (Commanded command) l old new → mid ≡ new → mid2 ≡ new2 → new2 ≡ change mid l asked
+    → table2 ≡ table_if (came_by (slice_get mid l)) new2 table → n ≡ length (cleared_at command (slice_get old l)) → unsure ≡ min (2 ^ 64 - 1) (was + n) → ByCommand command l c d
+by_command command l c d old new mid new2 mid2 own peer was n unsure table table2 before is at same same2 links tables went count =
+    subst (λ (x : LinkSet). ByCommand command l x d) (sym before)
+    (subst (λ (x : LinkSet). ByCommand command l (over own peer was table old) x) (sym is)
+    (by_seen_command command own peer was n unsure l table table2 old new mid new2 mid2 at same same2 links tables went count))
 
 all-of : (n : ℕ) (xs rest : List Link) → length xs ≡ n → take n (xs ++ rest) ≡ xs
 all-of zero [] rest e = refl

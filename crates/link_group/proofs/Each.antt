@@ -1,24 +1,27 @@
 -- Over every list of calls each message stands in its one place.
-use Rattle.std.proofs.Common.{◌≡◌, ℕ, ◌-◌, Bool, true, false, List, [], length, Option, Some, None, refl, sym, ap, ◌∙◌, subst}
+use Rattle.std.proofs.Common.{◌≡◌, ℕ, ◌+◌, ◌-◌, ◌^◌, Bool, true, false, List, [], ◌++◌, length, Option, Some, None, refl, sym, ap, ◌∙◌, subst}
 use Rattle.std.proofs.lemmas.List.Elements.{All-nil}
 use Rattle.plain_laws.proofs.Truths.{by_test}
-use Rattle.std.specs.Prelude.{All, if◌then◌else◌, slice_get, get_or, option_map}
+use Rattle.std.specs.Prelude.{All, min, if◌then◌else◌, slice_get, get_or, option_map}
 use Rattle.std.proofs.lemmas.Option.{slice_get-map, slice_get_within, get_or_from_slice_get}
 use Rattle.resend_store.specs.declared.messages.Msu.{Msu}
 use Rattle.resend_store.specs.Window.{Window}
 use Rattle.link_transceiver.specs.TransceiverState.{TransceiverState}
-use Rattle.link_processes.specs.Machine.{tidied}
+use Rattle.link_processes.specs.Machine.{tidied, to_clear}
+use Rattle.link_processes.specs.declared.commands.Command.{Command}
 use Rattle.link_processes.specs.Laws.{KeptLaw}
 use Rattle.group_members.specs.Kept.{window_of}
 use Rattle.group_members.specs.Term.{Term, with_processes}
 use Rattle.group_changeover.specs.declared.availability.Availability.{Availability}
 use Rattle.group_changeover.specs.Laws.{StepsKeepPlaces}
+use Rattle.group_changeover.specs.Places.{OnePlace}
+use Rattle.group_changeover.specs.Sharing.{link_of}
 use Rattle.group_members.specs.declared.link.Link.{Link}
 use Rattle.group_members.specs.OneLink.{held, messages}
 use Rattle.group_changeover.specs.declared.bound.Points.{Points}
 use Rattle.group_changeover.specs.Bound.{unbound}
 use Rattle.group_changeover.proofs.Unbound.{IsUnbound, unbound-nil}
-use Rattle.group_members.specs.Commanding.{starts_anew, started, Commanded, Refused}
+use Rattle.group_members.specs.Commanding.{starts_anew, marked, started, behind_command, cleared_of, cleared_at, Commanded, Refused}
 use Rattle.group_members.specs.Doing.{Listened, Spoken, Sent, Reported}
 use Rattle.group_members.specs.Moving.{is_out_at, without_hand}
 use Rattle.group_members.specs.New.{IsUnused, fresh}
@@ -26,17 +29,17 @@ use Rattle.link_group.specs.New.{points, new_set}
 use Rattle.link_group.specs.Set.{LinkSet, points_of, sent, bound_at}
 use Rattle.link_group.specs.Changing.{after_failure, after_message, after_retrieve, messages_for, after_abandon, unsent_at}
 use Rattle.link_group.specs.Diverting.{diverted, emptied, after_taken, after_hand, after_divert}
-use Rattle.link_group.specs.Lines.{after_admission}
+use Rattle.link_group.specs.Lines.{ByLink, ByCommand, after_admission}
 use Rattle.link_group.specs.Placing.{rebalanced}
 use Rattle.link_group.specs.Ticks.{with_room, after_ticks}
-use Rattle.link_group.specs.Laws.{held_by, hand_at, EachInOnePlace, UnsureAreCounted, Accounted}
-use Rattle.link_group.specs.Reached.{Gone, Reached, WasReached, opens, sends, binds, fails, hears, retrieves, abandons, diverts, rebalances, listens, speaks, gives, reports, commands, refuses, ticks, makes_room, lacks_room, admits}
+use Rattle.link_group.specs.Laws.{held_by, held_at, hand_at, EachInOnePlace, UnsureAreCounted, Accounted}
+use Rattle.link_group.specs.Reached.{Gone, acknowledged, unsure, messages_gone, Reached, WasReached, opens, sends, binds, fails, hears, retrieves, abandons, diverts, rebalances, listens, speaks, gives, reports, commands, refuses, ticks, makes_room, lacks_room, admits}
 use Rattle.link_group.proofs.Calling.{with_retrieval_of, stays_sent, stays_bound, stays_retrieved, stays_abandoned}
 use Rattle.link_group.proofs.EndingLaws.{same_retrievals, left_to_divert, stays_diverted}
-use Rattle.link_group.proofs.Hands.{hands_new, hands_sent, hands_bound, hands_failed, hands_heard, hands_rebalanced, hands_by_link, hands_alone, hands_roomy, hands_ticked, hands_lacking, hands_admitted, hands_retrieved, hands_abandoned, out_emptied, hands_diverted}
-use Rattle.link_group.proofs.Fitting.{IsSmall, none_small, FitsAt, fits_fewer}
+use Rattle.link_group.proofs.Hands.{hands_new, hands_sent, hands_bound, hands_failed, hands_heard, hands_rebalanced, hands_by_link, hands_by_command, hands_alone, hands_roomy, hands_ticked, hands_lacking, hands_admitted, hands_retrieved, hands_abandoned, out_emptied, hands_diverted}
+use Rattle.link_group.proofs.Fitting.{IsSmall, none_small, FitsAt, fits_alike, fits_fewer}
 use Rattle.link_group.proofs.PlacingLaws.{stays_rebalanced}
-use Rattle.link_group.proofs.Staying.{Stays}
+use Rattle.link_group.proofs.Staying.{Stays, gone_marked}
 use Rattle.link_group.proofs.Working.{one_changes, stays_failed, stays_heard, stays_admitted, part_messages, link_works, link_keeps, alone_keeps, transceiver_tidied, stays_roomy, stays_ticked, stays_lacking}
 
 -- ---- a new set
@@ -75,7 +78,7 @@ stays_new laws own peer ts unused = record {
 
 -- ---- a terminal's calls
 
-started_changing : (b : Bool) (m : Availability) → (if b then record m { anew = true } else m).changing ≡ m.changing
+started_changing : (b : Bool) (m : Availability) → (marked b m).changing ≡ m.changing
 started_changing true m = refl
 started_changing false m = refl
 
@@ -91,6 +94,33 @@ same_failed m n e = ap (λ (x : Availability). x.failed) e
 
 refused_held : (k new : Link) → new.terminal ≡ with_processes k.terminal (tidied k.terminal.processes) → held k ≡ held new
 refused_held k new e = sym (ap (λ (t : Term). (window_of t).kept) e ∙ ap (λ (h : TransceiverState). h.sender.kept) (transceiver_tidied k.terminal.processes))
+
+-- what has left counts by its messages alone
+restated : (c : LinkSet) (retrievals : ℕ → List Msu) (accepted : List Msu) (gone more : List Gone) → messages_gone gone ≡ messages_gone more
+    → Stays c retrievals accepted gone → Stays c retrievals accepted more
+restated c retrievals accepted gone more same stays = record {
+  places = subst (λ (ms : List Msu). OnePlace (record { accepted = accepted; gone = ms; held = held_at c; retrieval = retrievals; link = link_of c.table })) same stays.places;
+  fits = stays.fits;
+  table = stays.table;
+}
+
+stays_commanded : (laws : StepsKeepPlaces) (c d : LinkSet) (retrievals : ℕ → List Msu) (accepted : List Msu) (gone : List Gone) (l : ℕ) (command : Command)
+    → Stays c retrievals accepted gone → ByCommand command l c d → Stays d retrievals accepted (gone ++ unsure (cleared_at command (slice_get c.links l)))
+stays_commanded laws c d retrievals accepted gone l command stays did =
+    let was = did.at.was in
+    let before : Link = did.at.before in
+    let all : List Msu = cleared_of (behind_command command before.terminal) in
+    let left : List Msu = unbound before.points all in
+    let b : LinkSet = record c { unsure = min (2 ^ 64 - 1) (c.unsure + length (cleared_at command (slice_get c.links l))) } in
+    let by : ByLink (Commanded command) l b d = record { links = did.links; at = did.at; set = did.set } in
+    let first : Stays b retrievals accepted gone = record { places = stays.places; fits = stays.fits; table = stays.table } in
+    let done : Stays d retrievals accepted (gone ++ acknowledged left) =
+        link_works laws (Commanded command) b d retrievals accepted gone l left first by (part_messages before did.at.after all was.points was.kept) was.points
+        (λ ms x. rw was.availability (fits_fewer (to_clear (behind_command command before.terminal).processes) (started command before) ms
+            (fits_alike before.availability (started command before) ms (started_changing (starts_anew command before) before.availability)
+            (started_failed (starts_anew command before) before.availability) x))) in
+    restated d retrievals accepted (gone ++ acknowledged left) (gone ++ unsure (cleared_at command (slice_get c.links l)))
+    (gone_marked false gone left ∙ (sym (gone_marked true gone left) ∙ ap (λ (o : Option Link). messages_gone (gone ++ unsure (cleared_at command o))) (sym did.at.there))) done
 
 -- ---- every list of calls
 
@@ -126,10 +156,10 @@ stays_reached laws law _ _ _ (hears c accepted gone m r) =
     named laws (after_message c m) (hand_at c) accepted gone (hands_heard c m) (stays_heard laws c (hand_at c) accepted gone m (stays_reached laws law c accepted gone r))
 stays_reached laws law _ _ _ (retrieves c accepted gone l r free) =
     named laws (after_retrieve c l) (with_retrieval_of (hand_at c) l (messages_for c l)) accepted _ (hands_retrieved c l)
-    (stays_retrieved laws c (hand_at c) accepted gone l (stays_reached laws law c accepted gone r) free)
+    (stays_retrieved laws law c (hand_at c) accepted gone l (stays_reached laws law c accepted gone r) free)
 stays_reached laws law _ _ _ (abandons c accepted gone l r free) =
     named laws (after_abandon c l) (with_retrieval_of (hand_at c) l (unsent_at c l)) accepted _ (hands_abandoned c l)
-    (stays_abandoned laws c (hand_at c) accepted gone l (stays_reached laws law c accepted gone r) free)
+    (stays_abandoned laws law c (hand_at c) accepted gone l (stays_reached laws law c accepted gone r) free)
 stays_reached laws law _ _ _ (diverts c accepted gone l r) = stays_gone laws c accepted gone l (stays_reached laws law c accepted gone r)
 stays_reached laws law _ _ _ (rebalances c accepted gone r free) =
     named laws (rebalanced c) (hand_at c) accepted gone (hands_rebalanced c) (stays_rebalanced laws c (hand_at c) accepted gone (stays_reached laws law c accepted gone r) free)
@@ -155,12 +185,8 @@ stays_reached laws law _ _ _ (reports c d accepted gone l report r did) =
     (link_keeps laws (Reported report) c d (hand_at c) accepted gone l (stays_reached laws law c accepted gone r) did (sym (ap (λ (w : Window). w.kept) was.same)) was.points
     (same_changing did.at.after.availability did.at.before.availability was.availability) (same_failed did.at.after.availability did.at.before.availability was.availability))
 stays_reached laws law _ _ _ (commands c d accepted gone l command r did) =
-    let was = did.at.was in
-    let before : Link = did.at.before in
-    named laws d (hand_at c) accepted gone (hands_by_link (Commanded command) l c d did was.hand)
-    (link_keeps laws (Commanded command) c d (hand_at c) accepted gone l (stays_reached laws law c accepted gone r) did was.keeps.kept was.points
-    (same_changing did.at.after.availability (started command before) was.availability ∙ started_changing (starts_anew command before) before.availability)
-    (same_failed did.at.after.availability (started command before) was.availability ∙ started_failed (starts_anew command before) before.availability))
+    named laws d (hand_at c) accepted _ (hands_by_command command l c d did did.at.was.hand)
+    (stays_commanded laws c d (hand_at c) accepted gone l command (stays_reached laws law c accepted gone r) did)
 stays_reached laws law _ _ _ (refuses c d accepted gone l command refusal r did) =
     let was = did.at.was in
     named laws d (hand_at c) accepted gone (hands_alone (Refused command refusal) l c d did was.hand)

@@ -1,5 +1,5 @@
 -- A set that a list of calls led to, and one call more.
-use Rattle.std.proofs.Common.{◌≡◌, ℕ, ◌+◌, ◌-◌, ◌^◌, ◌<◌, Bool, true, false, List, [], ◌∷◌, ◌++◌, Option, Some, None, Result, Ok, Err, map, refl, sym, ap, ◌∙◌, subst}
+use Rattle.std.proofs.Common.{◌≡◌, ℕ, ◌+◌, ◌-◌, ◌^◌, ◌<◌, Bool, true, false, List, [], ◌∷◌, ◌++◌, length, Option, Some, None, Result, Ok, Err, map, refl, sym, ap, ◌∙◌, subst}
 use Rattle.std.specs.Prelude.{All, OnOk, OnErr, min, if◌then◌else◌, slice_get}
 use Rattle.std.specs.List.{list_any}
 use Rattle.std.proofs.Math.Logic.{∥∥₁_map}
@@ -32,12 +32,12 @@ use Rattle.group_members.specs.Moving.{able_links, is_out_at, hand_by, without_h
 use Rattle.group_members.specs.Tables.{any_below, in_way, forgiven}
 use Rattle.group_members.specs.Doing.{AtLink, Listened, Spoken, Sent, Reported, asked, came_by, came_first, admits_at, admits_by}
 use Rattle.group_members.specs.Ticking.{roomy, passed}
-use Rattle.group_members.specs.Commanding.{Commanded, Refused}
+use Rattle.group_members.specs.Commanding.{cleared_at, Commanded, Refused}
 use Rattle.link_group.specs.Set.{LinkSet, points_of, send_fault, sent, bind_fault_at, bound_at}
 use Rattle.link_group.specs.Changing.{fail_fault, after_failure, is_for, after_message, retrieve_fault_at, after_retrieve, abandon_fault_at, after_abandon}
 use Rattle.link_group.specs.Diverting.{settled, after_hand, after_divert}
 use Rattle.link_group.specs.Placing.{table_if, rebalance_fault, rebalanced}
-use Rattle.link_group.specs.Lines.{ByLink, Alone, after_admission, seen, all_seen}
+use Rattle.link_group.specs.Lines.{ByLink, ByCommand, Alone, after_admission, seen, all_seen}
 use Rattle.link_group.specs.Ticks.{with_room, after_ticks, NoRoom}
 use Rattle.link_group.specs.New.{points, new_set}
 use Rattle.link_group.specs.Reached.{WasReached, acknowledged, unsure, told_front, unacknowledged_at, opens, sends, binds, fails, hears, retrieves, abandons, diverts, rebalances, listens, speaks, gives, reports, commands, refuses, ticks, makes_room, lacks_room, admits}
@@ -98,9 +98,9 @@ pub reported_by_link : (report : Option Report) (l : ℕ) (c d : LinkSet) → By
 reported_by_link report l c d did live =
     ∥∥₁_map live (λ was. record { accepted = was.accepted; gone = was.gone; reached = reports c d was.accepted was.gone l report was.reached did })
 
-pub commanded_by_link : (command : Command) (l : ℕ) (c d : LinkSet) → ByLink (Commanded command) l c d → Live c → Live d
-commanded_by_link command l c d did live =
-    ∥∥₁_map live (λ was. record { accepted = was.accepted; gone = was.gone; reached = commands c d was.accepted was.gone l command was.reached did })
+pub commanded_by_command : (command : Command) (l : ℕ) (c d : LinkSet) → ByCommand command l c d → Live c → Live d
+commanded_by_command command l c d did live =
+    ∥∥₁_map live (λ was. record { accepted = was.accepted; gone = _; reached = commands c d was.accepted was.gone l command was.reached did })
 
 pub refused_alone : (command : Command) (refusal : Refusal) (l : ℕ) (c d : LinkSet) → Alone (Refused command refusal) l c d → Live c → Live d
 refused_alone command refusal l c d did live =
@@ -229,6 +229,13 @@ pub by_seen : (did : Link → Link → Type 0) (own peer unsure l : ℕ) (table 
     → new2 ≡ change mid l asked → table2 ≡ table_if (came_by (slice_get mid l)) new2 table → ByLink did l (over own peer unsure table ks) (over own peer unsure table2 mid2)
 unfolding seen
 by_seen did own peer unsure l table table2 ks new mid new2 mid2 at same same2 is tables = record { links = new; at = at; set = rw (tables, same2, is, same) refl }
+
+pub by_seen_command : (command : Command) (own peer was n unsure l : ℕ) (table table2 : List (Option ℕ)) (ks new mid new2 mid2 : List Link) → AtLink (Commanded command) l ks new → mid ≡ new
+    → mid2 ≡ new2 → new2 ≡ change mid l asked → table2 ≡ table_if (came_by (slice_get mid l)) new2 table → n ≡ length (cleared_at command (slice_get ks l)) → unsure ≡ min (2 ^ 64 - 1) (was + n)
+    → ByCommand command l (over own peer was table ks) (over own peer unsure table2 mid2)
+unfolding seen
+by_seen_command command own peer was n unsure l table table2 ks new mid new2 mid2 at same same2 is tables went count =
+    record { links = new; at = at; set = rw (tables, same2, is, same, count, went) refl }
 
 pub ticked_is : (n own peer unsure : ℕ) (table table2 : List (Option ℕ)) (ks new mid new2 mid2 new3 mid3 : List Link) → mid ≡ new → mid2 ≡ new2 → mid3 ≡ new3 → new ≡ map roomy ks
     → new2 ≡ map (passed n) mid → new3 ≡ map asked mid2 → table2 ≡ table_if (list_any came_first mid2) new3 table

@@ -16,14 +16,14 @@ use Rattle.group_members.specs.declared.link.Link.{Link}
 use Rattle.group_members.specs.OneLink.{window, held, accepted_of}
 use Rattle.group_members.specs.New.{IsUnused}
 use Rattle.group_members.specs.Doing.{Listened, Spoken, Sent, Reported}
-use Rattle.group_members.specs.Commanding.{Commanded, Refused}
+use Rattle.group_members.specs.Commanding.{cleared_at, Refused}
 use Rattle.group_changeover.specs.Bound.{is_bound, unbound}
 use Rattle.link_group.specs.Set.{LinkSet, points_of, send_fault, sent, bind_fault_at, bound_at}
 use Rattle.link_group.specs.Changing.{fail_fault, after_failure, after_message, retrieve_fault_at}
 use Rattle.link_group.specs.Changing.{after_retrieve, abandon_fault_at, after_abandon}
 use Rattle.link_group.specs.Diverting.{after_divert}
 use Rattle.link_group.specs.Placing.{rebalance_fault, rebalanced}
-use Rattle.link_group.specs.Lines.{ByLink, Alone, after_admission}
+use Rattle.link_group.specs.Lines.{ByLink, ByCommand, Alone, after_admission}
 use Rattle.link_group.specs.Ticks.{with_room, after_ticks, NoRoom}
 use Rattle.link_group.specs.New.{new_set}
 
@@ -99,7 +99,8 @@ pub data Reached : LinkSet → List Msu → List Gone → Type 0 where
       → Reached c accepted gone → ByLink (Reported report) l c d → Reached d accepted gone
   commands :
       (c d : LinkSet) (accepted : List Msu) (gone : List Gone) (l : ℕ) (command : Command)
-      → Reached c accepted gone → ByLink (Commanded command) l c d → Reached d accepted gone
+      → Reached c accepted gone → ByCommand command l c d
+      → Reached d accepted (gone ++ unsure (cleared_at command (slice_get c.links l)))
   -- the terminal refuses it, and may have made room
   refuses :
       (c d : LinkSet) (accepted : List Msu) (gone : List Gone) (l : ℕ)

@@ -1,24 +1,23 @@
 use Rattle.std.proofs.Common.{rules, refl}
-use Rattle.group_members.specs.Commanding.{Commanded}
-use Rattle.link_group.proofs.ByLinks.{by_link, written}
+use Rattle.link_group.proofs.ByLinks.{by_command, written}
 use Rattle.link_group.proofs.Commands.{command_error, commanded, live_error}
-use Rattle.link_group.proofs.Live.{over, live_from, commanded_by_link}
+use Rattle.link_group.proofs.Live.{over, live_from, commanded_by_command}
 use Rattle.link_group.proofs.group.Group.command.Goals as goal
 
 -- (names of goals by thought: to be read off the first check)
 pub returns-in-Ok-clause-ok : goal.returns-in-Ok-clause-ok
 returns-in-Ok-clause-ok c =
-    by_link (Commanded c.args.command) c.args.link c.args.self.now _ _ c.command_at.new.links _ c.see.new.links _ c.self.inside.own c.self.inside.peer c.self.inside.unsure c.self.inside.table.links c.see.new.table.links (search rules) (search rules) (commanded c.args.command c.args.link _ c.command_at.new.links c.in-Ok.ensures)
-    (written c.self.inside.links.len c.command_at.new.links c.self.inside.links.items (search rules)) (written c.self.inside.links.len c.see.new.links _ (search rules)) c.see.ensures.links c.see.ensures.table
+    by_command c.args.command c.args.link c.args.self.now _ _ c.command_at.new.links _ c.see.new.links _ c.self.inside.own c.self.inside.peer c.self.inside.unsure c.in-Ok.cleared _ c.self.inside.table.links c.see.new.table.links (search rules) refl (commanded c.args.command c.args.link _ c.command_at.new.links c.in-Ok.ensures.did)
+    (written c.self.inside.links.len c.command_at.new.links c.self.inside.links.items (search rules)) (written c.self.inside.links.len c.see.new.links _ (search rules)) c.see.ensures.links c.see.ensures.table c.in-Ok.ensures.cleared (search rules)
 
 pub invariant_of-self-in-Ok : goal.invariant_of-self-in-Ok
 invariant_of-self-in-Ok c = (
   search rules,
   search rules,
   search rules,
-  commanded_by_link c.args.command c.args.link (over c.self.inside.own c.self.inside.peer c.self.inside.unsure c.self.inside.table.links _) _
-      (by_link (Commanded c.args.command) c.args.link _ _ _ c.command_at.new.links _ c.see.new.links _ c.self.inside.own c.self.inside.peer c.self.inside.unsure c.self.inside.table.links c.see.new.table.links refl refl (commanded c.args.command c.args.link _ c.command_at.new.links c.in-Ok.ensures)
-      (written c.self.inside.links.len c.command_at.new.links c.self.inside.links.items (search rules)) (written c.self.inside.links.len c.see.new.links _ (search rules)) c.see.ensures.links c.see.ensures.table)
+  commanded_by_command c.args.command c.args.link (over c.self.inside.own c.self.inside.peer c.self.inside.unsure c.self.inside.table.links _) _
+      (by_command c.args.command c.args.link _ _ _ c.command_at.new.links _ c.see.new.links _ c.self.inside.own c.self.inside.peer c.self.inside.unsure c.in-Ok.cleared _ c.self.inside.table.links c.see.new.table.links refl refl (commanded c.args.command c.args.link _ c.command_at.new.links c.in-Ok.ensures.did)
+      (written c.self.inside.links.len c.command_at.new.links c.self.inside.links.items (search rules)) (written c.self.inside.links.len c.see.new.links _ (search rules)) c.see.ensures.links c.see.ensures.table c.in-Ok.ensures.cleared (search rules))
       (live_from c.self.inside.own c.self.inside.peer c.self.inside.unsure c.self.inside.table.links _ _ (search rules) c.self.invariant.3),
 )
 
@@ -27,10 +26,10 @@ invariant_of-self-in-Err c = (
   search rules,
   search rules,
   search rules,
-  live_error c.args.command c.args.link c.self.inside.own c.self.inside.peer c.self.inside.unsure c.self.inside.table.links _ c.command_at.new.links _ c.in-Err.fault (written c.self.inside.links.len c.command_at.new.links c.self.inside.links.items (search rules)) c.in-Err.ensures (live_from c.self.inside.own c.self.inside.peer c.self.inside.unsure c.self.inside.table.links _ _ (search rules) c.self.invariant.3),
+  live_error c.args.command c.args.link c.self.inside.own c.self.inside.peer c.self.inside.unsure c.self.inside.table.links _ c.command_at.new.links _ c.in-Err.fault (written c.self.inside.links.len c.command_at.new.links c.self.inside.links.items (search rules)) c.in-Err.ensures.did (live_from c.self.inside.own c.self.inside.peer c.self.inside.unsure c.self.inside.table.links _ _ (search rules) c.self.invariant.3),
 )
 
 pub returns-in-Err-clause-err : goal.returns-in-Err-clause-err
 returns-in-Err-clause-err c =
     command_error c.args.command c.args.link c.args.self.now _ _ c.command_at.new.links _ c.self.inside.own c.self.inside.peer c.self.inside.unsure c.self.inside.table.links c.in-Err.fault
-    refl c.in-Err.ensures (written c.self.inside.links.len c.command_at.new.links c.self.inside.links.items (search rules)) (search rules) (search rules) (search rules) (search rules) (search rules)
+    refl c.in-Err.ensures.did (written c.self.inside.links.len c.command_at.new.links c.self.inside.links.items (search rules)) (search rules) (search rules) (search rules) (search rules) (search rules)
