@@ -5,6 +5,7 @@ mod Counting
 mod Diverting
 mod Each
 mod EndingLaws
+mod Faring
 pub mod Fields
 mod Fitting
 mod Getting
@@ -13,5 +14,7 @@ mod Live
 mod PlacingLaws
 pub mod Room
 mod Settling
+mod Sounding
 mod Staying
+mod Units
 mod Working

@@ -1,5 +1,6 @@
 pub mod Changing
 pub mod Diverting
+pub mod Ends
 pub mod Laws
 pub mod Lines
 pub mod New

@@ -1,4 +1,5 @@
 //! Laws of link sets. The calls cost nothing.
+ghost use Rattle.link_group.specs.Ends.{EndsComplete};
 ghost use Rattle.link_group.specs.Laws.{EachInOnePlace, UnsureAreCounted};
 
 use group_changeover::steps_keep_places;
@@ -18,4 +19,11 @@ pub fn each_message_stands_in_one_place()
 /// value.
 pub fn unsure_messages_are_counted()
     ensures { UnsureAreCounted }
+{}
+
+/// Between the two ends of a link, over lines that may lose units and delay them and never change their order, from a beginning of both its directions
+/// on: what the far end accepted, and then what is retrieved with the number that it told once it was held, is what came near, each once and in
+/// order, whenever that number is heard, and whatever is acknowledged behind that. Neither end begins anew between, and near isn't cleared.
+pub fn retrieval_completes_each_life()
+    ensures { EndsComplete }
 {}

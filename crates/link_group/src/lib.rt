@@ -20,6 +20,8 @@ pub use group_members::{
     AbandonError, BindError, CallError, Command, CommandError, DivertFault, FailError, LineError,
     LinkError, LinkStatus, Mode, Msu, RebalanceError, Report, RetrieveError, SendError, Terminal,
 };
-pub use laws::{each_message_stands_in_one_place, unsure_messages_are_counted};
+pub use laws::{
+    each_message_stands_in_one_place, retrieval_completes_each_life, unsure_messages_are_counted,
+};
 pub use sending::Heard;
 pub use state::LinkState;
