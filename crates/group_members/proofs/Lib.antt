@@ -1,6 +1,7 @@
 pub mod Below
 pub mod ByLinks
 pub mod Diversions
+pub mod Emptying
 pub mod Fronts
 pub mod Opening
 pub mod Passing

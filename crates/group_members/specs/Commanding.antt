@@ -11,7 +11,7 @@ use Rattle.link_term.specs.Offering.{command_event}
 use Rattle.link_term.specs.link_processes_types.commands.Command.{Command}
 use Rattle.link_term.specs.link_processes_types.commands.Command.TheVariants as order
 use Rattle.link_term.specs.Term.{Term, with_processes}
-use Rattle.link_term.specs.Kept.{window_of}
+use Rattle.link_term.specs.Kept.{Keeps, window_of}
 use Rattle.resend_store.specs.declared.messages.Msu.{Msu}
 use Rattle.group_changeover.specs.Availability.{fewer}
 use Rattle.group_changeover.specs.Bound.{unbound}
@@ -65,8 +65,8 @@ behind_command command t =
 abbrev pub cleared_of : Term → List Msu
 cleared_of t = take (to_clear t.processes) (window_of t).kept
 
--- The buffers are emptied, where the text asked for that. What the far side told of the messages that
--- were kept it told of those that are kept still.
+-- The buffers are emptied, where the text asked for that. What the far side told of the messages
+-- that were kept it told of those that are kept still.
 abbrev pub clears : Link → Link
 clears k = record k {
   terminal = with_processes k.terminal (clear_obeyed k.terminal.processes);
@@ -81,7 +81,8 @@ abbrev pub cleared_at : Command → Option Link → List Msu
 cleared_at command None = []
 cleared_at command (Some k) = cleared_by command k
 
--- The terminal took it. Behind it the buffers are emptied, where the text asked for that.
+-- The terminal took it. That takes no message away; behind it the buffers are emptied, where the
+-- text asked for that.
 pub record Commanded (command : Command) (old new : Link) : Type 0 where
   pub points : new.points ≡ old.points
   pub hand : new.hand ≡ old.hand
@@ -92,6 +93,7 @@ pub record Commanded (command : Command) (old new : Link) : Type 0 where
   pub terminal :
       let t = behind_command command old.terminal
       in new.terminal ≡ with_processes t (clear_obeyed t.processes)
+  pub keeps : Keeps old.terminal (behind_command command old.terminal)
   pub kept :
       held old ≡ cleared_of (behind_command command old.terminal) ++ held new
   pub availability :

@@ -264,8 +264,8 @@ fares_at_near x u us sound f =
       told = f.told;
       place = λ p e.
           let at = some_place (length x.near.sender.kept - length h.sender.kept) x.place p e in
-          let was = f.place at.0 at.2 in
-          (was.0, ap (λ (n : ℕ). n + length x.taken) at.3 ∙ place_left (length x.near.sender.kept) (length h.sender.kept) at.0 (length x.taken) (length x.delivered) less reach was.1);
+          let was = f.place at.0 at.1 in
+          (was.0, ap (λ (n : ℕ). n + length x.taken) at.2 ∙ place_left (length x.near.sender.kept) (length h.sender.kept) at.0 (length x.taken) (length x.delivered) less reach was.1);
     }
 
 fares_came_back : (x : Ends) (u : Unit) (us : List Unit) → x.back ≡ u ∷ us → Fares x → Fares (came_back u us x)

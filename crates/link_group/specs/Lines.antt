@@ -57,8 +57,9 @@ pub record Alone (did : Link → Link → Type 0) (l : ℕ) (c d : LinkSet) : Ty
 
 -- ---- commands
 
--- A command to the terminal of the link at a place. What went as its text emptied the buffers counts
--- as unsure, but for messages that are bound to the link; the count stays at its greatest value.
+-- A command to the terminal of the link at a place. What went as its text emptied the buffers
+-- counts as unsure, but for messages that are bound to the link; the count stays at its greatest
+-- value.
 pub record ByCommand (command : Command) (l : ℕ) (c d : LinkSet) : Type 0 where
   pub links : List Link
   pub at : AtLink (Commanded command) l c.links links
