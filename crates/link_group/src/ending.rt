@@ -70,6 +70,7 @@ impl Group {
     /// `K1 NoLink` where the link isn't there, `K2 Waiting` where its messages aren't handed out: nothing changes. Then, with how many messages are
     /// left: `K1 NoLink` where no link may take them, their own neither; `E1 Full` where the link of a selection would hold more than 1,151: none of that
     /// selection went, nor of those behind it (of messages that are to go back, none at all). What is left the link hands out still.
+    #[tactic(auto, unfolding(crate::specs::Diverting::divert_fault, crate::specs::Diverting::after_divert))]
     pub fn divert(&mut self, link: usize) -> Result<(), DivertError>
         ensures fault { fault_of result ≡ divert_fault self.old link }
         ensures set { self.new ≡ after_divert self.old link }

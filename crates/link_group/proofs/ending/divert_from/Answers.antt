@@ -5,7 +5,6 @@ use Rattle.group_members.specs.Moving.{Diverted, division, ends_on}
 use Rattle.link_group.proofs.Settling.{diverted_by, left_none, left_some, settled_whole, settled_part}
 use Rattle.link_group.proofs.ending.divert_from.Goals as goal
 
--- (names by thought: to be read off the first check)
 pub returns-in-Ok-clause-fault : goal.returns-in-Ok-clause-fault
 returns-in-Ok-clause-fault c = left_none _ (c.in-Ok.ensures.fault ∙ ap (λ (w : Diverted). w.fault) (diverted_by _ _ _ _ _ (c.as_slice.ensures.value ∙ c.takers-able.ensures)))
 
@@ -14,14 +13,14 @@ returns-in-Ok-clause-links c =
     (settled_whole c.args.links.now _ c.args.table.now.links _ c.args.at c.args.messages.items (division c.divert_all.new.links c.divert_all.new.table.links c.divert_all.new.messages.items)
     (c.in-Ok.ensures.moved ∙ ap (λ (w : Diverted). w.at) (diverted_by _ _ _ _ _ (c.as_slice.ensures.value ∙ c.takers-able.ensures)))
     (c.in-Ok.ensures.fault ∙ ap (λ (w : Diverted). w.fault) (diverted_by _ _ _ _ _ (c.as_slice.ensures.value ∙ c.takers-able.ensures))) c.end_at.ensures
-    (c.end_table.ensures ∙ ap (λ (ls : List ℕ). map (λ s. ends_on ls c.args.at (slice_get c.divert_all.new.links c.args.at) (link_of c.divert_all.new.table.links s) s) selections) (c.as_slice.ensures.value ∙ c.takers-able.ensures))).0
+    (c.end_table.ensures ∙ ap (λ (ls : List ℕ). map (λ s. ends_on ls c.args.at (slice_get c.divert_all.new.links c.args.at) (link_of c.divert_all.new.table.links s) s) selections) (c.as_slice-2.ensures.value ∙ c.takers-able.ensures))).0
 
 pub returns-in-Ok-clause-table : goal.returns-in-Ok-clause-table
 returns-in-Ok-clause-table c =
     (settled_whole c.args.links.now c.end_at.new.links c.args.table.now.links _ c.args.at c.args.messages.items (division c.divert_all.new.links c.divert_all.new.table.links c.divert_all.new.messages.items)
     (c.in-Ok.ensures.moved ∙ ap (λ (w : Diverted). w.at) (diverted_by _ _ _ _ _ (c.as_slice.ensures.value ∙ c.takers-able.ensures)))
     (c.in-Ok.ensures.fault ∙ ap (λ (w : Diverted). w.fault) (diverted_by _ _ _ _ _ (c.as_slice.ensures.value ∙ c.takers-able.ensures))) c.end_at.ensures
-    (c.end_table.ensures ∙ ap (λ (ls : List ℕ). map (λ s. ends_on ls c.args.at (slice_get c.divert_all.new.links c.args.at) (link_of c.divert_all.new.table.links s) s) selections) (c.as_slice.ensures.value ∙ c.takers-able.ensures))).1
+    (c.end_table.ensures ∙ ap (λ (ls : List ℕ). map (λ s. ends_on ls c.args.at (slice_get c.divert_all.new.links c.args.at) (link_of c.divert_all.new.table.links s) s) selections) (c.as_slice-2.ensures.value ∙ c.takers-able.ensures))).1
 
 pub returns-in-Err-clause-fault : goal.returns-in-Err-clause-fault
 returns-in-Err-clause-fault c =

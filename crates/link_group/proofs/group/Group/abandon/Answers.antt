@@ -3,9 +3,8 @@ use Rattle.link_group.proofs.ByLinks.{written}
 use Rattle.link_group.proofs.Live.{live_from, live_abandoned, live_kept}
 use Rattle.link_group.proofs.group.Group.abandon.Goals as goal
 
--- (names of goals by thought: to be read off the first check)
-pub invariant_of-self-in-Ok : goal.invariant_of-self-in-Ok
-invariant_of-self-in-Ok c = (
+pub invariant_of-self : goal.invariant_of-self
+invariant_of-self c = (
   search rules,
   search rules,
   search rules,

@@ -3,7 +3,6 @@ use Rattle.link_group.proofs.ByLinks.{written}
 use Rattle.link_group.proofs.Live.{over, live_from, admitted_is, live_admitted}
 use Rattle.link_group.proofs.group.Group.admit.Goals as goal
 
--- (names of goals by thought: to be read off the first check)
 pub invariant_of-self : goal.invariant_of-self
 invariant_of-self c = (
   search rules,

@@ -4,14 +4,13 @@ use Rattle.link_group.proofs.Commands.{command_error, commanded, live_error}
 use Rattle.link_group.proofs.Live.{over, live_from, commanded_by_command}
 use Rattle.link_group.proofs.group.Group.command.Goals as goal
 
--- (names of goals by thought: to be read off the first check)
 pub returns-in-Ok-clause-ok : goal.returns-in-Ok-clause-ok
 returns-in-Ok-clause-ok c =
     by_command c.args.command c.args.link c.args.self.now _ _ c.command_at.new.links _ c.see.new.links _ c.self.inside.own c.self.inside.peer c.self.inside.unsure c.in-Ok.cleared _ c.self.inside.table.links c.see.new.table.links (search rules) refl (commanded c.args.command c.args.link _ c.command_at.new.links c.in-Ok.ensures.did)
     (written c.self.inside.links.len c.command_at.new.links c.self.inside.links.items (search rules)) (written c.self.inside.links.len c.see.new.links _ (search rules)) c.see.ensures.links c.see.ensures.table c.in-Ok.ensures.cleared (search rules)
 
-pub invariant_of-self-in-Ok : goal.invariant_of-self-in-Ok
-invariant_of-self-in-Ok c = (
+pub invariant_of-self : goal.invariant_of-self
+invariant_of-self c = (
   search rules,
   search rules,
   search rules,

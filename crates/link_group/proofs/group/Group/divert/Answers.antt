@@ -3,9 +3,8 @@ use Rattle.link_group.proofs.ByLinks.{written}
 use Rattle.link_group.proofs.Live.{over, live_from, diverted_is, live_diverted, live_kept}
 use Rattle.link_group.proofs.group.Group.divert.Goals as goal
 
--- (names of goals by thought: to be read off the first check)
-pub invariant_of-self-in-Some : goal.invariant_of-self-in-Some
-invariant_of-self-in-Some c = (
+pub invariant_of-self : goal.invariant_of-self
+invariant_of-self c = (
   search rules,
   search rules,
   search rules,

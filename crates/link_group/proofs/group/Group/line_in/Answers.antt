@@ -4,7 +4,6 @@ use Rattle.link_group.proofs.ByLinks.{by_link, written}
 use Rattle.link_group.proofs.Live.{over, live_from, heard_by_link}
 use Rattle.link_group.proofs.group.Group.line_in.Goals as goal
 
--- (names of goals by thought: to be read off the first check)
 pub returns-clause-ok : goal.returns-clause-ok
 returns-clause-ok c =
     by_link (Listened c.args.octets.now c.listen_at-taken.result) c.args.link c.args.self.now _ _ c.listen_at-taken.new.links _ c.see.new.links _ c.self.inside.own c.self.inside.peer c.self.inside.unsure c.self.inside.table.links c.see.new.table.links (search rules) (search rules) c.listen_at-taken.ensures

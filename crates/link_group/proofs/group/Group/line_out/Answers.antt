@@ -4,14 +4,13 @@ use Rattle.link_group.proofs.ByLinks.{by_link, written}
 use Rattle.link_group.proofs.Live.{over, live_from, spoken_by_link, live_kept}
 use Rattle.link_group.proofs.group.Group.line_out.Goals as goal
 
--- (names of goals by thought: to be read off the first check)
 pub returns-in-Ok-clause-ok : goal.returns-in-Ok-clause-ok
 returns-in-Ok-clause-ok c =
     by_link (Spoken c.args.units c.in-Ok.octets.items) c.args.link c.args.self.now _ _ c.speak_at.new.links _ c.see.new.links _ c.self.inside.own c.self.inside.peer c.self.inside.unsure c.self.inside.table.links c.see.new.table.links (search rules) (search rules) c.in-Ok.ensures.ok
     (written c.self.inside.links.len c.speak_at.new.links c.self.inside.links.items (search rules)) (written c.self.inside.links.len c.see.new.links _ (search rules)) c.see.ensures.links c.see.ensures.table
 
-pub invariant_of-self-in-Ok : goal.invariant_of-self-in-Ok
-invariant_of-self-in-Ok c = (
+pub invariant_of-self : goal.invariant_of-self
+invariant_of-self c = (
   search rules,
   search rules,
   search rules,

@@ -2,7 +2,6 @@ use Rattle.std.proofs.Common.{rules}
 use Rattle.link_group.proofs.Live.{new_is, live_new}
 use Rattle.link_group.proofs.group.Group.new.Goals as goal
 
--- (names of goals by thought: to be read off the first check)
 pub invariant_of-result : goal.invariant_of-result
 invariant_of-result c = (
   search rules,

@@ -3,7 +3,6 @@ use Rattle.link_group.proofs.ByLinks.{written}
 use Rattle.link_group.proofs.Live.{live_from, live_rebalanced}
 use Rattle.link_group.proofs.group.Group.rebalance.Goals as goal
 
--- (names of goals by thought: to be read off the first check)
 pub invariant_of-self : goal.invariant_of-self
 invariant_of-self c = (
   search rules,

@@ -13,9 +13,8 @@ pub pass_all-due-requires-clause-room : goal.pass_all-due-requires-clause-room
 pass_all-due-requires-clause-room c = room_on _ c.make_room_all.new.links c.as_mut_slice-2.result.now c.in-Ok.ensures.ok
     (c.as_mut_slice-2.ensures.value ∙ written c.self.inside.links.len c.make_room_all.new.links c.self.inside.links.items (search rules))
 
--- (names of goals by thought: to be read off the first check)
-pub invariant_of-self-in-Err : goal.invariant_of-self-in-Err
-invariant_of-self-in-Err c = (
+pub invariant_of-self : goal.invariant_of-self
+invariant_of-self c = (
   search rules,
   search rules,
   search rules,
@@ -33,8 +32,8 @@ invariant_of-self-in-Some c = (
   live_roomy (over c.self.inside.own c.self.inside.peer c.self.inside.unsure c.self.inside.table.links _) _ (ap (over c.self.inside.own c.self.inside.peer c.self.inside.unsure c.self.inside.table.links) ((written c.self.inside.links.len c.make_room_all.new.links c.self.inside.links.items (search rules)) ∙ c.make_room_all.ensures.ok)) (live_from c.self.inside.own c.self.inside.peer c.self.inside.unsure c.self.inside.table.links _ _ (search rules) c.self.invariant.3),
 )
 
-pub invariant_of-self : goal.invariant_of-self
-invariant_of-self c = (
+pub invariant_of-self-2 : goal.invariant_of-self-2
+invariant_of-self-2 c = (
   search rules,
   search rules,
   search rules,
