@@ -10,6 +10,7 @@ pub mod Fields
 mod Fitting
 mod Getting
 mod Hands
+mod Heeding
 mod Live
 mod PlacingLaws
 pub mod Room

@@ -11,7 +11,7 @@ use Rattle.resend_store.specs.declared.messages.Verdict.TheVariants.{Accept, Dis
 use Rattle.resend_store.specs.declared.refusals.UnitError.{UnitError}
 use Rattle.resend_store.specs.Window.{Window, next, count_by, last_acknowledged, after_back}
 use Rattle.resend_store.specs.Intake.{Intake, Hearing, hear}
-use Rattle.resend_store.specs.Hearings.{is_accept}
+use Rattle.resend_store.specs.Hearings.{is_accept as verdict_accepts}
 use Rattle.resend_store.specs.Exchange.{Answer}
 use Rattle.su_octets.specs.declared.units.Head.{Head}
 use Rattle.su_octets.specs.declared.units.Unit.{Unit}
@@ -24,7 +24,7 @@ use Rattle.link_transceiver.specs.TransceiverState.{TransceiverState, is_held}
 use Rattle.link_transceiver.specs.Effects.{backward_of}
 use Rattle.link_transceiver.specs.Judging.{Judged, judged, by_stores, through, left_aside, Stored, stored, refused, taken, heard, discarded, bsn_heeded, head_heeded, acknowledged, hears, accepts, hearing, is_abnormal}
 use Rattle.link_transceiver.specs.Going.{Gone, gone, gone_by, gives, backward_out, head_with, idle_head, filled, status_gone, fill_in_gone, sender_gone, spare_behind}
-use Rattle.link_transceiver.specs.Laws as laws
+use Rattle.link_transceiver.specs.Laws.{is_accept, accepted_of}
 use Rattle.link_transceiver.proofs.Aside.{none_accepted, known_aside}
 use Rattle.link_group.specs.Ends.{units_in}
 
@@ -142,10 +142,10 @@ answering h =
 pub data Comes (old new : Intake) (o : Outgoing) (ms : List Msu) : Type 0 where
   passes_by : new ≡ old → ms ≡ [] → Comes old new o ms
   is_judged : new ≡ (hear old o.fsn o.fib (is_some o.msu)).known
-      → ms ≡ (if is_accept (hear old o.fsn o.fib (is_some o.msu)).verdict then option_to_list o.msu else []) → Comes old new o ms
+      → ms ≡ (if verdict_accepts (hear old o.fsn o.fib (is_some o.msu)).verdict then option_to_list o.msu else []) → Comes old new o ms
 
-same_accept : (v : Result Verdict UnitError) → laws.is_accept v ≡ is_accept v
-unfolding laws.is_accept
+same_accept : (v : Result Verdict UnitError) → is_accept v ≡ verdict_accepts v
+unfolding is_accept
 same_accept (Ok Accept) = refl
 same_accept (Ok Discard) = refl
 same_accept (Ok Nack) = refl
@@ -162,16 +162,16 @@ by_hearing r head has_msu = refl
 taken_none : (h : TransceiverState) (head : Head) (accepting : Bool) → accepts h ≡ accepting → Comes h.receiver (taken h head None).transceiver.receiver (outgoing_of head None) []
 taken_none h head true e =
     is_judged (ap (λ (b : Bool). (hearing b h.receiver head false).known) e ∙ ap (λ (s : Hearing). s.known) (by_hearing h.receiver head false))
-    (none_of_none (is_accept (hear h.receiver head.fsn head.fib false).verdict))
+    (none_of_none (verdict_accepts (hear h.receiver head.fsn head.fib false).verdict))
 taken_none h head false e = passes_by (known_aside (accepts h) h.receiver head false e) refl
 
 taken_some : (h : TransceiverState) (head : Head) (m : Msu) (accepting : Bool) → accepts h ≡ accepting
-    → Comes h.receiver (taken h head (Some m)).transceiver.receiver (outgoing_of head (Some m)) (if laws.is_accept (hearing (accepts h) h.receiver head true).verdict then m ∷ [] else [])
+    → Comes h.receiver (taken h head (Some m)).transceiver.receiver (outgoing_of head (Some m)) (if is_accept (hearing (accepts h) h.receiver head true).verdict then m ∷ [] else [])
 taken_some h head m true e =
     let by : hearing (accepts h) h.receiver head true ≡ hear h.receiver head.fsn head.fib true =
     ap (λ (b : Bool). hearing b h.receiver head true) e ∙ by_hearing h.receiver head true in
     is_judged (ap (λ (s : Hearing). s.known) by)
-    (ap (λ (s : Hearing). if laws.is_accept s.verdict then m ∷ [] else []) by
+    (ap (λ (s : Hearing). if is_accept s.verdict then m ∷ [] else []) by
     ∙ ap (λ (b : Bool). if b then m ∷ [] else []) (same_accept (hear h.receiver head.fsn head.fib true).verdict))
 taken_some h head m false e =
     passes_by (known_aside (accepts h) h.receiver head true e) (ap (λ (b : Bool). if b then m ∷ [] else []) (none_accepted (accepts h) h.receiver head true e))
@@ -183,11 +183,11 @@ stored_none h head = elim (is_abnormal h.sender head.bsn)
     [ true ↦ passes_by refl refl | false ↦ taken_none h head (accepts h) refl ]
 
 stored_some : (h : TransceiverState) (head : Head) (m : Msu) → Comes h.receiver (stored h head (Some m)).transceiver.receiver (outgoing_of head (Some m))
-    (if not (is_abnormal h.sender head.bsn) && laws.is_accept (hearing (accepts h) h.receiver head true).verdict then m ∷ [] else [])
+    (if not (is_abnormal h.sender head.bsn) && is_accept (hearing (accepts h) h.receiver head true).verdict then m ∷ [] else [])
 unfolding stored
 stored_some h head m = elim (is_abnormal h.sender head.bsn)
     as (λ b. Comes h.receiver (if◌then◌else◌ {A = Stored} b (refused h) (taken h head (Some m))).transceiver.receiver (outgoing_of head (Some m))
-    (if not b && laws.is_accept (hearing (accepts h) h.receiver head true).verdict then m ∷ [] else []))
+    (if not b && is_accept (hearing (accepts h) h.receiver head true).verdict then m ∷ [] else []))
     [ true ↦ passes_by refl refl | false ↦ taken_some h head m (accepts h) refl ]
 
 heard_none : (h : TransceiverState) (head : Head) → Comes h.receiver (heard h head None).transceiver.receiver (outgoing_of head None) []
@@ -199,7 +199,7 @@ heard_none h head = elim h.behind_odd
 -- the message, where a unit has these tests behind it
 abbrev if_accepted : TransceiverState → Head → Bool → Bool → Msu → List Msu
 if_accepted h head takes heeds m =
-    if takes && heeds && not (is_abnormal h.sender (bsn_heeded h head.bsn)) && laws.is_accept (hearing (accepts h) h.receiver (head_heeded h head) true).verdict then m ∷ [] else []
+    if takes && heeds && not (is_abnormal h.sender (bsn_heeded h head.bsn)) && is_accept (hearing (accepts h) h.receiver (head_heeded h head) true).verdict then m ∷ [] else []
 
 heard_some : (h : TransceiverState) (head : Head) (m : Msu)
     → Comes h.receiver (heard h head (Some m)).transceiver.receiver (outgoing_of head (Some m)) (if_accepted h head true (not h.behind_odd) m)
@@ -225,8 +225,8 @@ by_stores_some h head m = elim h.take
 
 -- a unit at the end that accepts messages
 pub data ComesIn (h : TransceiverState) (u : Unit) : Type 0 where
-  status_comes : outgoing_in u ≡ [] → (judged h u).transceiver.receiver ≡ h.receiver → laws.accepted_of h u ≡ [] → ComesIn h u
-  unit_comes : (o : Outgoing) → outgoing_in u ≡ o ∷ [] → Comes h.receiver (judged h u).transceiver.receiver o (laws.accepted_of h u) → ComesIn h u
+  status_comes : outgoing_in u ≡ [] → (judged h u).transceiver.receiver ≡ h.receiver → accepted_of h u ≡ [] → ComesIn h u
+  unit_comes : (o : Outgoing) → outgoing_in u ≡ o ∷ [] → Comes h.receiver (judged h u).transceiver.receiver o (accepted_of h u) → ComesIn h u
 
 pub coming_in : (h : TransceiverState) (u : Unit) → ComesIn h u
 unfolding judged

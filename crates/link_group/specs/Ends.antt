@@ -1,14 +1,19 @@
 -- One direction of a link between its two ends, over one life of it: from a beginning of both its
 -- directions on, until they begin anew.
-use Rattle.std.specs.Prelude.{◌≡◌, ℕ, ◌-◌, true, Option, Some, None, List, [], ◌∷◌, ◌++◌, length}
+use Rattle.std.specs.Prelude.{◌≡◌, ℕ, ◌-◌, Bool, true, false, Option, Some, None, List, [], ◌∷◌}
+use Rattle.std.specs.Prelude.{◌++◌, length}
 use Rattle.resend_store.specs.declared.messages.Msu.{Msu}
+use Rattle.resend_store.specs.Window.{emptied}
 use Rattle.su_octets.specs.declared.units.Unit.{Unit}
 use Rattle.link_transceiver.specs.declared.offers.UnitOut.{UnitOut}
+use Rattle.link_transceiver.specs.declared.signals.EnvSignal.{EnvSignal}
 use Rattle.link_transceiver.specs.declared.signals.EnvSignal.TheVariants as signal
+use Rattle.link_transceiver.specs.declared.signals.Hold.{Hold}
 use Rattle.link_transceiver.specs.TransceiverState.{TransceiverState, is_held}
-use Rattle.link_transceiver.specs.Effects.{effect, renewed}
+use Rattle.link_transceiver.specs.Effects.{effect, renewed, clears}
 use Rattle.link_transceiver.specs.Judging.{judged}
 use Rattle.link_transceiver.specs.Going.{gone}
+use Rattle.link_transceiver.specs.Reporting.{reported}
 use Rattle.link_transceiver.specs.Laws.{accepted_of}
 use Rattle.group_members.specs.OneLink.{count_told, lacking}
 
@@ -140,3 +145,31 @@ pub record EndsComplete : Type 0 where
   pub known :
       (x : Ends) (n : ℕ) → Lives x → x.told ≡ Some n
       → (p : ℕ) × (count_told x.near.sender x.told ≡ Some p)
+
+-- ---- what a terminal does is such a deed
+
+-- what has the directions begin anew
+abbrev pub is_beginning : EnvSignal → Bool
+is_beginning signal.Fresh = true
+is_beginning _ = false
+
+-- Whatever else its actors tell an end, that a report is taken there, that level 3 holds it, and
+-- that the far one's own messages are cleared or handed out: all that is such a deed.
+pub record EndsHeed : Type 0 where
+  pub near_told :
+      (x : Ends) (s : EnvSignal) → is_beginning s ≡ false
+      → Lives x → Lives (record x { near = effect s x.near })
+  pub far_told :
+      (x : Ends) (s : EnvSignal) → is_beginning s ≡ false
+      → Lives x → Lives (record x { far = effect s x.far })
+  pub near_asked : (x : Ends) → Lives x → Lives (record x { near = (reported x.near).transceiver })
+  pub far_asked : (x : Ends) → Lives x → Lives (record x { far = (reported x.far).transceiver })
+  pub near_held :
+      (x : Ends) (hold : Hold) → Lives x → Lives (record x { near = record x.near { hold = hold } })
+  pub far_held :
+      (x : Ends) (hold : Hold) → is_held hold ≡ true
+      → Lives x → Lives (record x { far = record x.far { hold = hold } })
+  pub far_cleared : (x : Ends) → Lives x → Lives (record x { far = clears x.far })
+  pub far_emptied :
+      (x : Ends) (accepted : Option ℕ) → Lives x
+      → Lives (record x { far = record x.far { sender = emptied x.far.sender accepted } })

@@ -1,5 +1,5 @@
 //! Laws of link sets. The calls cost nothing.
-ghost use Rattle.link_group.specs.Ends.{EndsComplete};
+ghost use Rattle.link_group.specs.Ends.{EndsComplete, EndsHeed};
 ghost use Rattle.link_group.specs.Laws.{EachInOnePlace, UnsureAreCounted};
 
 use group_changeover::steps_keep_places;
@@ -26,4 +26,10 @@ pub fn unsure_messages_are_counted()
 /// order, whenever that number is heard, and whatever is acknowledged behind that. Neither end begins anew between, and near isn't cleared.
 pub fn retrieval_completes_each_life()
     ensures { EndsComplete }
+{}
+
+/// What the actors of an end tell it, but for a new beginning of both directions, that a report is taken there, that level 3 holds it, and that the far
+/// end's own messages leave: all that belongs to such a life.
+pub fn ends_heed_all_else()
+    ensures { EndsHeed }
 {}
