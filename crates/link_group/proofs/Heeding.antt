@@ -1,6 +1,6 @@
 -- What the actors of an end tell it, and what level 3 does there, are deeds of a life.
-use Rattle.std.proofs.Common.{◌≡◌, ℤ, Bool, true, false, Option, Some, None, slice_get, refl, sym, ap, ◌∙◌, subst}
-use Rattle.std.specs.Prelude.{if◌then◌else◌}
+use Rattle.std.proofs.Common.{◌≡◌, ℤ, Bool, true, false, Option, Some, None, slice_get, refl, ap, ◌∙◌, inl, inr}
+use Rattle.std.specs.Prelude.{◌⊎◌, if◌then◌else◌}
 use Rattle.plain_laws.proofs.Truths.{by_test}
 use Rattle.resend_store.specs.declared.messages.Msu.{Msu}
 use Rattle.link_transceiver.specs.declared.signals.EnvSignal.{EnvSignal}
@@ -9,7 +9,7 @@ use Rattle.link_transceiver.specs.declared.signals.Hold.{Hold}
 use Rattle.link_transceiver.specs.declared.signals.LineKind.{LineKind}
 use Rattle.link_transceiver.specs.declared.signals.LinkStatus.{LinkStatus}
 use Rattle.link_transceiver.specs.TransceiverState.{TransceiverState, is_held}
-use Rattle.link_transceiver.specs.Effects.{effect, clears, directed, told, sends, kind_named, is_busy_named}
+use Rattle.link_transceiver.specs.Effects.{effect, renewed, clears, directed, told, sends, kind_named, is_busy_named}
 use Rattle.link_transceiver.specs.Reporting.{reported, message_reported, status_reported}
 use Rattle.link_group.specs.Ends.{Ends, Lives, withholds, acknowledges, near_else, far_else, is_beginning, EndsHeed}
 
@@ -20,26 +20,27 @@ record Aside (h g : TransceiverState) : Type 0 where
   receiver : g.receiver ≡ h.receiver
   withheld : g.withheld ≡ h.withheld
   hold : g.hold ≡ h.hold
+  began : g.began ≡ h.began
 
 aside : (h : TransceiverState) → Aside h h
-aside h = record { sender = refl; spare = refl; receiver = refl; withheld = refl; hold = refl }
+aside h = record { sender = refl; spare = refl; receiver = refl; withheld = refl; hold = refl; began = refl }
 
 sends_aside : (k : Option LineKind) (h : TransceiverState) → Aside h (sends k h)
-sends_aside (Some k) h = record { sender = refl; spare = refl; receiver = refl; withheld = refl; hold = refl }
+sends_aside (Some k) h = record { sender = refl; spare = refl; receiver = refl; withheld = refl; hold = refl; began = refl }
 sends_aside None h = aside h
 
 directed_aside : (number : ℤ) (h : TransceiverState) → Aside h (directed number h)
 unfolding directed
 directed_aside number h =
     by_test (λ (g : TransceiverState). Aside h g) (is_busy_named number) (record h { busy = true }) (sends (kind_named number) h)
-    (λ e. record { sender = refl; spare = refl; receiver = refl; withheld = refl; hold = refl }) (λ e. sends_aside (kind_named number) h)
+    (λ e. record { sender = refl; spare = refl; receiver = refl; withheld = refl; hold = refl; began = refl }) (λ e. sends_aside (kind_named number) h)
 
 status_aside : (h : TransceiverState) (o : Option LinkStatus) → Aside h (status_reported h o).transceiver
-status_aside h (Some status) = record { sender = refl; spare = refl; receiver = refl; withheld = refl; hold = refl }
+status_aside h (Some status) = record { sender = refl; spare = refl; receiver = refl; withheld = refl; hold = refl; began = refl }
 status_aside h None = aside h
 
 message_aside : (h : TransceiverState) (o : Option Msu) → Aside h (message_reported h o).transceiver
-message_aside h (Some msu) = record { sender = refl; spare = refl; receiver = refl; withheld = refl; hold = refl }
+message_aside h (Some msu) = record { sender = refl; spare = refl; receiver = refl; withheld = refl; hold = refl; began = refl }
 message_aside h None = status_aside h (slice_get h.statuses 0)
 
 reported_aside : (h : TransceiverState) → Aside h (reported h).transceiver
@@ -83,6 +84,38 @@ far_told x signal.RemoteOut e r = far_else x (effect signal.RemoteOut x.far) r r
 far_told x signal.RemoteBack e r = far_else x (effect signal.RemoteBack x.far) r refl refl (λ held. held)
 far_told x signal.Clear e r = far_else x (effect signal.Clear x.far) r refl refl (λ held. held)
 far_told x signal.Cleared e r = far_else x (effect signal.Cleared x.far) r refl refl (λ held. held)
+
+pub began_stays : (s : EnvSignal) (h : TransceiverState) → is_beginning s ≡ false → (effect s h).began ≡ h.began
+unfolding effect told
+began_stays signal.Fresh h e = let f : true ≡ false = e in absurd (cc)
+began_stays (signal.Take on) h e = refl
+began_stays (signal.Deliver on) h e = refl
+began_stays (signal.Line number) h e = (directed_aside number h).began
+began_stays (signal.Withhold true) h e = refl
+began_stays (signal.Withhold false) h e = refl
+began_stays signal.InServiceNow h e = refl
+began_stays (signal.Down reason) h e = refl
+began_stays signal.RemoteOut h e = refl
+began_stays signal.RemoteBack h e = refl
+began_stays signal.Clear h e = refl
+began_stays signal.Cleared h e = refl
+
+pub begins_or_stays : (s : EnvSignal) → (s ≡ signal.Fresh) ⊎ (is_beginning s ≡ false)
+begins_or_stays signal.Fresh = inl refl
+begins_or_stays (signal.Take on) = inr refl
+begins_or_stays (signal.Deliver on) = inr refl
+begins_or_stays (signal.Line number) = inr refl
+begins_or_stays (signal.Withhold on) = inr refl
+begins_or_stays signal.InServiceNow = inr refl
+begins_or_stays (signal.Down reason) = inr refl
+begins_or_stays signal.RemoteOut = inr refl
+begins_or_stays signal.RemoteBack = inr refl
+begins_or_stays signal.Clear = inr refl
+begins_or_stays signal.Cleared = inr refl
+
+pub fresh_begins : (h : TransceiverState) → (effect signal.Fresh h).began ≡ true
+unfolding effect renewed
+fresh_begins h = refl
 
 -- ---- what level 3 does, and what is cleared
 

@@ -1,3 +1,4 @@
+mod Along
 pub mod ByLinks
 mod Calling
 pub mod Commands

@@ -285,7 +285,7 @@ coming_back h (unit.Fisu head) e = unit_back (telling_of head) refl (by_stores_b
 coming_back h (unit.Msu head sio sif) e = unit_back (telling_of head) refl (by_stores_back h head (Some (record { sio = sio; sif = sif })) e)
 coming_back h (unit.Lssu head status second) e = status_back refl refl
 
--- ---- a unit that comes clears nothing
+-- ---- a unit that comes clears nothing, and no direction begins anew by it
 
 stored_spare : (h : TransceiverState) (head : Head) (o : Option Msu) → (stored h head o).transceiver.spare ≡ h.spare
 unfolding stored
@@ -310,3 +310,27 @@ unfolding judged
 judged_spare h (unit.Fisu head) = by_stores_spare h head None
 judged_spare h (unit.Msu head sio sif) = by_stores_spare h head (Some (record { sio = sio; sif = sif }))
 judged_spare h (unit.Lssu head status second) = refl
+
+stored_began : (h : TransceiverState) (head : Head) (o : Option Msu) → (stored h head o).transceiver.began ≡ h.began
+unfolding stored
+stored_began h head o = elim (is_abnormal h.sender head.bsn)
+    as (λ b. (if◌then◌else◌ {A = Stored} b (refused h) (taken h head o)).transceiver.began ≡ h.began)
+    [ true ↦ refl | false ↦ refl ]
+
+heard_began : (h : TransceiverState) (head : Head) (o : Option Msu) → (heard h head o).transceiver.began ≡ h.began
+unfolding heard
+heard_began h head o = elim h.behind_odd
+    as (λ b. (if◌then◌else◌ {A = Stored} b (discarded h (head_heeded h head)) (stored h (head_heeded h head) o)).transceiver.began ≡ h.began)
+    [ true ↦ refl | false ↦ stored_began h (head_heeded h head) o ]
+
+by_stores_began : (h : TransceiverState) (head : Head) (o : Option Msu) → (by_stores h head o).transceiver.began ≡ h.began
+unfolding by_stores
+by_stores_began h head o = elim h.take
+    as (λ b. (if◌then◌else◌ {A = Judged} b (through h (heard h head o)) (left_aside 8 h)).transceiver.began ≡ h.began)
+    [ true ↦ heard_began h head o | false ↦ refl ]
+
+pub judged_began : (h : TransceiverState) (u : Unit) → (judged h u).transceiver.began ≡ h.began
+unfolding judged
+judged_began h (unit.Fisu head) = by_stores_began h head None
+judged_began h (unit.Msu head sio sif) = by_stores_began h head (Some (record { sio = sio; sif = sif }))
+judged_began h (unit.Lssu head status second) = refl

@@ -1,3 +1,4 @@
+pub mod Along
 pub mod Changing
 pub mod Diverting
 pub mod Ends

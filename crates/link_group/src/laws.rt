@@ -1,4 +1,5 @@
 //! Laws of link sets. The calls cost nothing.
+ghost use Rattle.link_group.specs.Along.{TerminalsFare};
 ghost use Rattle.link_group.specs.Ends.{EndsComplete, EndsHeed};
 ghost use Rattle.link_group.specs.Laws.{EachInOnePlace, UnsureAreCounted};
 
@@ -32,4 +33,10 @@ pub fn retrieval_completes_each_life()
 /// end's own messages leave: all that belongs to such a life.
 pub fn ends_heed_all_else()
     ensures { EndsHeed }
+{}
+
+/// Each step of the terminals at the two ends belongs to such a life, as long as the directions don't begin anew in it: an event of the actors, a unit
+/// that goes out, and octets whose units are those under way, some of them lost.
+pub fn terminals_fare_so()
+    ensures { TerminalsFare }
 {}
