@@ -3,6 +3,7 @@ use Rattle.std.proofs.Common.{◌≡◌, ℤ, Bool, true, false, Option, Some, N
 use Rattle.std.specs.Prelude.{◌⊎◌, if◌then◌else◌}
 use Rattle.plain_laws.proofs.Truths.{by_test}
 use Rattle.resend_store.specs.declared.messages.Msu.{Msu}
+use Rattle.resend_store.specs.Window.{emptied}
 use Rattle.link_transceiver.specs.declared.signals.EnvSignal.{EnvSignal}
 use Rattle.link_transceiver.specs.declared.signals.EnvSignal.TheVariants as signal
 use Rattle.link_transceiver.specs.declared.signals.Hold.{Hold}
@@ -132,5 +133,5 @@ ends_heed = record {
   near_held = λ x hold r. near_else x (record x.near { hold = hold }) r refl refl;
   far_held = λ x hold e r. far_else x (record x.far { hold = hold }) r refl refl (λ held. e);
   far_cleared = far_cleared;
-  far_emptied = λ x accepted r. far_else x _ r refl refl (λ held. held);
+  far_emptied = λ x accepted r. far_else x (record x.far { sender = emptied x.far.sender accepted }) r refl refl (λ held. held);
 }
