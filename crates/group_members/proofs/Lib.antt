@@ -1,7 +1,6 @@
 pub mod Below
 pub mod ByLinks
 pub mod Diversions
-pub mod Emptying
 pub mod Fronts
 pub mod Opening
 pub mod Passing

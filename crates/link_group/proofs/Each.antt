@@ -115,10 +115,10 @@ stays_commanded laws c d retrievals accepted gone l command stays did =
     let by : ByLink (Commanded command) l b d = record { links = did.links; at = did.at; set = did.set } in
     let first : Stays b retrievals accepted gone = record { places = stays.places; fits = stays.fits; table = stays.table } in
     let done : Stays d retrievals accepted (gone ++ acknowledged left) =
-        link_works laws (Commanded command) b d retrievals accepted gone l left first by (part_messages before did.at.after all was.points was.kept) was.points
-        (λ ms x. rw was.availability (fits_fewer (to_clear (behind_command command before.terminal).processes) (started command before) ms
-            (fits_alike before.availability (started command before) ms (started_changing (starts_anew command before) before.availability)
-            (started_failed (starts_anew command before) before.availability) x))) in
+    link_works laws (Commanded command) b d retrievals accepted gone l left first by (part_messages before did.at.after all was.points was.kept) was.points
+    (λ ms x. rw was.availability (fits_fewer (to_clear (behind_command command before.terminal).processes) (started command before) ms
+    (fits_alike before.availability (started command before) ms (started_changing (starts_anew command before) before.availability)
+    (started_failed (starts_anew command before) before.availability) x))) in
     restated d retrievals accepted (gone ++ acknowledged left) (gone ++ unsure (cleared_at command (slice_get c.links l)))
     (gone_marked false gone left ∙ (sym (gone_marked true gone left) ∙ ap (λ (o : Option Link). messages_gone (gone ++ unsure (cleared_at command o))) (sym did.at.there))) done
 

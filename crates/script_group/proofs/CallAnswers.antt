@@ -12,7 +12,7 @@ use Rattle.su_octets.specs.Bits.{AreOctets}
 use Rattle.group_changeover.specs.Changeovers.{Says}
 use Rattle.link_group.specs.Set.{LinkSet, send_fault, sent, bind_fault_at, bound_at}
 use Rattle.link_group.specs.Changing.{fail_fault, after_failure, order_at, IsReply}
-use Rattle.link_group.specs.Lines.{ByLink, ByCommand, IsCommandError, after_admission}
+use Rattle.link_group.specs.Lines.{ByCommand, IsCommandError, after_admission}
 use Rattle.link_group.specs.Placing.{rebalance_fault, rebalanced}
 use Rattle.link_group.specs.Printed.{send_error_text, bind_error_text, fail_error_text, rebalance_error_text}
 use Rattle.link_group.specs.Ticking.{all_due}

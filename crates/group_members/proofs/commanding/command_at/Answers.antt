@@ -1,7 +1,6 @@
 use Rattle.group_members.specs.Commanding.{Commands}
 use Rattle.group_members.specs.OneLink.{fault_of}
-use Rattle.group_members.proofs.ByLinks.{at_link}
-use Rattle.group_members.proofs.Emptying.{cleared_there}
+use Rattle.group_members.proofs.ByLinks.{at_link, cleared_there}
 use Rattle.group_members.proofs.commanding.command_at.Goals as goal
 
 pub returns-clause-did : goal.returns-clause-did
