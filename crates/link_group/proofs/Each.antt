@@ -82,7 +82,7 @@ started_changing : (b : Bool) (m : Availability) → (marked b m).changing ≡ m
 started_changing true m = refl
 started_changing false m = refl
 
-started_failed : (b : Bool) (m : Availability) → (if b then record m { anew = true } else m).failed ≡ m.failed
+started_failed : (b : Bool) (m : Availability) → (marked b m).failed ≡ m.failed
 started_failed true m = refl
 started_failed false m = refl
 
