@@ -25,7 +25,7 @@ use Rattle.link_transceiver.proofs.Holding.{holds_back}
 use Rattle.link_transceiver.proofs.Withholding.{withholds as stays_withheld}
 use Rattle.group_members.specs.OneLink.{count_of, count_told}
 use Rattle.link_group.specs.Ends.{Ends, units_in, ends_anew, given, near_sends, far_sends, arrived, place_behind, came_back, Lives, begins, gets, near_goes, far_goes, arrives, is_lost, comes_back, is_lost_back, withholds, acknowledges, near_else, far_else, tells, hears, EndsComplete}
-use Rattle.link_group.proofs.Units.{outgoing_of, outgoing_in, outgoings, outgoings-append, telling_of, telling_in, telling_by, tellings, tellings-append, Goes, says_none, fills_in, gives_one, going, SameIntake, Answers, tells_none, tells_one, answering, Comes, passes_by, is_judged, ComesIn, status_comes, unit_comes, coming_in, Obeys, ignores, obeys, ComesBack, status_back, unit_back, coming_back, judged_spare}
+use Rattle.link_group.proofs.Units.{outgoing_of, outgoing_in, outgoings, outgoings-append, telling_of, telling_in, telling_by, tellings, tellings-append, Goes, says_none, fills_in, gives_one, going, SameIntake, Answers, tells_none, tells_one, answering, Comes, passes_by, is_judged, ComesIn, status_comes, unit_comes, coming_in, Obeys, ignores, is_obeyed, ComesBack, status_back, unit_back, coming_back, judged_spare}
 use Rattle.link_group.proofs.Sounding.{sound_given, sound_sent, sound_filled, sound_arrived, sound_lost, sound_came_back, sound_lost_back, sound_answered, sound_front, sound_again, sound_place, sound_few, sound_sizes, sound_whole, sound_in_order}
 
 -- ---- one direction, as the stores of both ends see it
@@ -238,7 +238,7 @@ obeyed w b few = ap (λ (t : Bool). if t then accepted w (on_back b.bsn b.bib) e
 
 back_to : (x : Exchange) (b : Answer) (bs : List Answer) (w : Window) → x.back ≡ b ∷ bs → Obeys x.sender w b → Sound x → Sound (record x { sender = w; back = bs })
 back_to x b bs w e (ignores same) h = subst (λ (v : Window). Sound (record x { sender = v; back = bs })) (sym same) (sound_lost_back x b bs e h)
-back_to x b bs w e (obeys same few) h =
+back_to x b bs w e (is_obeyed same few) h =
     subst (λ (v : Window). Sound (record x { sender = v; back = bs })) (obeyed x.sender b few ∙ sym same) (sound_came_back x b bs e h)
 
 place_left : (was now p T D : ℕ) → now ≤ was → T ≤ D + now → p + T ≡ D + was → (p - (was - now)) + T ≡ D + now
@@ -358,21 +358,21 @@ fares_hears x f = record {
 
 -- ---- every list of deeds
 
-fares : (x : Ends) → Lives x → Fares x
-fares _ (begins h g) = fares_anew h g
-fares _ (gets x ms r) = fares_given x ms (fares x r)
-fares _ (near_goes x r) = fares_near_sends x (fares x r)
-fares _ (far_goes x r) = fares_far_sends x (fares x r)
-fares _ (arrives x u us r e) = fares_arrived x u us e (fares x r)
-fares _ (is_lost x u us r e) = fares_lost x u us e (fares x r)
-fares _ (comes_back x u us r e) = fares_came_back x u us e (fares x r)
-fares _ (is_lost_back x u us r e) = fares_lost_back x u us e (fares x r)
-fares _ (withholds x r) = fares_withholds x (fares x r)
-fares _ (acknowledges x r) = fares_acknowledges x (fares x r)
-fares _ (near_else x h r same spare) = fares_near_else x h same spare (fares x r)
-fares _ (far_else x g r same withheld holds) = fares_far_else x g same withheld holds (fares x r)
-fares _ (tells x r held) = fares_tells x held (fares x r)
-fares _ (hears x r) = fares_hears x (fares x r)
+each_fares : (x : Ends) → Lives x → Fares x
+each_fares _ (begins h g) = fares_anew h g
+each_fares _ (gets x ms r) = fares_given x ms (each_fares x r)
+each_fares _ (near_goes x r) = fares_near_sends x (each_fares x r)
+each_fares _ (far_goes x r) = fares_far_sends x (each_fares x r)
+each_fares _ (arrives x u us r e) = fares_arrived x u us e (each_fares x r)
+each_fares _ (is_lost x u us r e) = fares_lost x u us e (each_fares x r)
+each_fares _ (comes_back x u us r e) = fares_came_back x u us e (each_fares x r)
+each_fares _ (is_lost_back x u us r e) = fares_lost_back x u us e (each_fares x r)
+each_fares _ (withholds x r) = fares_withholds x (each_fares x r)
+each_fares _ (acknowledges x r) = fares_acknowledges x (each_fares x r)
+each_fares _ (near_else x h r same spare) = fares_near_else x h same spare (each_fares x r)
+each_fares _ (far_else x g r same withheld holds) = fares_far_else x g same withheld holds (each_fares x r)
+each_fares _ (tells x r held) = fares_tells x held (each_fares x r)
+each_fares _ (hears x r) = fares_hears x (each_fares x r)
 
 is_known : (x : Ends) (n : ℕ) → Fares x → x.told ≡ Some n → (p : ℕ) × (count_told x.near.sender x.told ≡ Some p)
 is_known x n f e =
@@ -383,7 +383,7 @@ is_known x n f e =
 
 pub ends_complete : EndsComplete
 ends_complete = record {
-  in_order = λ x r. sound_in_order (exchange_of x) (fares x r).sound;
-  whole = λ x p r e. let f = fares x r in sound_whole (exchange_of x) p f.sound (f.place p e).1;
-  known = λ x n r e. is_known x n (fares x r) e;
+  in_order = λ x r. sound_in_order (exchange_of x) (each_fares x r).sound;
+  whole = λ x p r e. let f = each_fares x r in sound_whole (exchange_of x) p f.sound (f.place p e).1;
+  known = λ x n r e. is_known x n (each_fares x r) e;
 }

@@ -23,12 +23,12 @@ record Aside (h g : TransceiverState) : Type 0 where
   hold : g.hold ≡ h.hold
   began : g.began ≡ h.began
 
-aside : (h : TransceiverState) → Aside h h
-aside h = record { sender = refl; spare = refl; receiver = refl; withheld = refl; hold = refl; began = refl }
+aside_same : (h : TransceiverState) → Aside h h
+aside_same h = record { sender = refl; spare = refl; receiver = refl; withheld = refl; hold = refl; began = refl }
 
 sends_aside : (k : Option LineKind) (h : TransceiverState) → Aside h (sends k h)
 sends_aside (Some k) h = record { sender = refl; spare = refl; receiver = refl; withheld = refl; hold = refl; began = refl }
-sends_aside None h = aside h
+sends_aside None h = aside_same h
 
 directed_aside : (number : ℤ) (h : TransceiverState) → Aside h (directed number h)
 unfolding directed
@@ -38,7 +38,7 @@ directed_aside number h =
 
 status_aside : (h : TransceiverState) (o : Option LinkStatus) → Aside h (status_reported h o).transceiver
 status_aside h (Some status) = record { sender = refl; spare = refl; receiver = refl; withheld = refl; hold = refl; began = refl }
-status_aside h None = aside h
+status_aside h None = aside_same h
 
 message_aside : (h : TransceiverState) (o : Option Msu) → Aside h (message_reported h o).transceiver
 message_aside h (Some msu) = record { sender = refl; spare = refl; receiver = refl; withheld = refl; hold = refl; began = refl }

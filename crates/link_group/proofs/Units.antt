@@ -240,13 +240,13 @@ coming_in h (unit.Lssu head status second) = status_comes refl refl refl
 -- a backward number and bit that count for nothing, or that are obeyed
 pub data Obeys (old new : Window) (b : Answer) : Type 0 where
   ignores : new ≡ old → Obeys old new b
-  obeys : new ≡ after_back old b.bsn b.bib → count_by old b.bsn ≤ old.sent → Obeys old new b
+  is_obeyed : new ≡ after_back old b.bsn b.bib → count_by old b.bsn ≤ old.sent → Obeys old new b
 
 stored_by : (h : TransceiverState) (head : Head) (o : Option Msu) (abnormal : Bool) → is_abnormal h.sender head.bsn ≡ abnormal
     → Obeys h.sender (if◌then◌else◌ {A = Stored} abnormal (refused h) (taken h head o)).transceiver.sender (telling_of head)
 unfolding acknowledged
 stored_by h head o true e = ignores refl
-stored_by h head o false e = obeys refl (ltb-false h.sender.sent (count_by h.sender head.bsn) e)
+stored_by h head o false e = is_obeyed refl (ltb-false h.sender.sent (count_by h.sender head.bsn) e)
 
 stored_back : (h : TransceiverState) (head : Head) (o : Option Msu) → Obeys h.sender (stored h head o).transceiver.sender (telling_of head)
 unfolding stored
