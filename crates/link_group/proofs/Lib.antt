@@ -1,4 +1,5 @@
 mod Along
+mod Between
 pub mod ByLinks
 mod Calling
 pub mod Commands

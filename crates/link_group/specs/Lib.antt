@@ -1,4 +1,5 @@
 pub mod Along
+pub mod Between
 pub mod Changing
 pub mod Diverting
 pub mod Ends

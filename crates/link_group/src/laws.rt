@@ -1,5 +1,6 @@
 //! Laws of link sets. The calls cost nothing.
 ghost use Rattle.link_group.specs.Along.{TerminalsFare};
+ghost use Rattle.link_group.specs.Between.{SetsFare};
 ghost use Rattle.link_group.specs.Ends.{EndsComplete, EndsHeed};
 ghost use Rattle.link_group.specs.Laws.{EachInOnePlace, UnsureAreCounted};
 
@@ -39,4 +40,10 @@ pub fn ends_heed_all_else()
 /// that goes out, and octets whose units are those under way, some of them lost.
 pub fn terminals_fare_so()
     ensures { TerminalsFare }
+{}
+
+/// In a life of a link between two sets: what the far set accepted by it, and then what the near one hands out with the number that the far one told
+/// once it was held, is what came to the link, each message once and in order, messages that are bound to it left out.
+pub fn sets_fare_so()
+    ensures { SetsFare }
 {}
