@@ -9,6 +9,7 @@ use Rattle.group_members.specs.declared.link.Link.{Link}
 use Rattle.group_members.specs.OneLink.{accepted_of}
 use Rattle.link_group.specs.Set.{LinkSet, sent, bound_at}
 use Rattle.link_group.specs.Changing.{after_failure, after_retrieve}
+use Rattle.link_group.specs.Diverting.{after_divert}
 use Rattle.link_group.specs.Laws.{hand_at}
 use Rattle.link_group.specs.Ends.{Ends, Lives, given}
 
@@ -33,7 +34,7 @@ told_of (Some k) = accepted_of k
 -- What the far set has accepted by a link in that life, and then what the near one hands out with
 -- the number that the far one told once it was held, is what came to the link there, messages that
 -- are bound to it left out: each once, in order. What `send` and `send_by` take for the link comes
--- to it, and as a link fails its life goes on.
+-- to it, and what `divert` gives it, of whichever link; and as a link fails its life goes on.
 pub record SetsFare : Type 0 where
   pub complete :
       (l : ℕ) (c d : LinkSet) (x : Ends) (k : Link) (p : ℕ) → Between l c d x
@@ -46,6 +47,9 @@ pub record SetsFare : Type 0 where
   pub binds :
       (l : ℕ) (c d : LinkSet) (x : Ends) (m : Msu) → Between l c d x
       → Between l (bound_at c l m) d (given (m ∷ []) x)
+  pub diverts :
+      (l i : ℕ) (c d : LinkSet) (x : Ends) → Between l c d x
+      → (ms : List Msu) × Between l (after_divert c i) d (given ms x)
   pub near_fails :
       (l : ℕ) (c d : LinkSet) (x : Ends) → Between l c d x
       → Between l (after_failure c l) d (record x { near = record x.near { hold = hold.Kept } })
