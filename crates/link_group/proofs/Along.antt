@@ -86,7 +86,7 @@ kept_signal s h = sym (keeps_unacknowledged.on_signal s h).kept
 
 -- ---- room in a journal
 
-tidied_same : (t : Processes) → (tidied t).transceiver ≡ t.transceiver
+pub tidied_same : (t : Processes) → (tidied t).transceiver ≡ t.transceiver
 unfolding tidied
 tidied_same t = by_test (λ (u : Processes). u.transceiver ≡ t.transceiver) (is_low t) (with_book t (rebased t.book)) t (λ e. refl) (λ e. refl)
 

@@ -2,6 +2,7 @@ mod Along
 mod Between
 pub mod ByLinks
 mod Calling
+mod Calls
 pub mod Commands
 mod Counting
 mod Diverting

@@ -1,6 +1,6 @@
 //! Laws of link sets. The calls cost nothing.
 ghost use Rattle.link_group.specs.Along.{TerminalsFare};
-ghost use Rattle.link_group.specs.Between.{SetsFare};
+ghost use Rattle.link_group.specs.Between.{CallsFare, SetsFare};
 ghost use Rattle.link_group.specs.Ends.{EndsComplete, EndsHeed};
 ghost use Rattle.link_group.specs.Laws.{EachInOnePlace, UnsureAreCounted};
 
@@ -46,4 +46,10 @@ pub fn terminals_fare_so()
 /// once it was held, is what came to the link, each message once and in order, messages that are bound to it left out.
 pub fn sets_fare_so()
     ensures { SetsFare }
+{}
+
+/// A call by another link leaves such a life as it is. One by the link itself goes on with it, as long as the link's directions don't begin anew in
+/// it: a unit that goes out, octets whose units are those under way.
+pub fn calls_fare_so()
+    ensures { CallsFare }
 {}
