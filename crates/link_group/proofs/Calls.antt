@@ -17,7 +17,7 @@ use Rattle.link_group.specs.Set.{LinkSet}
 use Rattle.link_group.specs.Lines.{ByLink, seen}
 use Rattle.link_group.specs.Ends.{Ends, Lives, place_behind, near_else, far_else}
 use Rattle.link_group.specs.Along.{units_along, Arrive}
-use Rattle.link_group.specs.Between.{end_of, end_at, Between, asked_end, CallsFare}
+use Rattle.link_group.specs.Between.{end_of, end_at, Between, asked_end, Anything, CallsFare}
 use Rattle.link_group.proofs.Along.{tidied_same, terminals_fare}
 use Rattle.link_group.proofs.Getting.{change_here, change_other, set_there, set_other}
 
@@ -116,8 +116,8 @@ far_hears l c d e x octets taken by bits all now h rest b none a =
 
 pub calls_fare : CallsFare
 calls_fare = record {
-  near_other = λ did l i c e d x b other by. record { life = b.life; near = end_other did l i c e other by ∙ b.near; far = b.far };
-  far_other = λ did l i c d e x b other by. record { life = b.life; near = b.near; far = end_other did l i d e other by ∙ b.far };
+  near_other = λ l i c e d x b other by. record { life = b.life; near = end_other Anything l i c e other by ∙ b.near; far = b.far };
+  far_other = λ l i c d e x b other by. record { life = b.life; near = b.near; far = end_other Anything l i d e other by ∙ b.far };
   near_gives = near_gives;
   far_gives = far_gives;
   near_hears = near_hears;

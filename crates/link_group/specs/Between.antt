@@ -72,16 +72,20 @@ pub record SetsFare : Type 0 where
 abbrev pub asked_end : TransceiverState → TransceiverState
 asked_end h = record h { began = false; came = false }
 
+-- whatever a terminal did
+abbrev pub Anything : Link → Link → Type 0
+Anything old new = Prim.Unit {0}
+
 -- A call by another link leaves the life as it is. One by the link itself goes on with it, as long
 -- as the link's directions don't begin anew in it: a unit that goes out, octets whose units are
 -- those under way.
 pub record CallsFare : Type 0 where
   pub near_other :
-      (did : Link → Link → Type 0) (l i : ℕ) (c e d : LinkSet) (x : Ends) → Between l c d x
-      → (l ≡ i → ⊥) → ByLink did i c e → Between l e d x
+      (l i : ℕ) (c e d : LinkSet) (x : Ends) → Between l c d x
+      → (l ≡ i → ⊥) → ByLink Anything i c e → Between l e d x
   pub far_other :
-      (did : Link → Link → Type 0) (l i : ℕ) (c d e : LinkSet) (x : Ends) → Between l c d x
-      → (l ≡ i → ⊥) → ByLink did i d e → Between l c e x
+      (l i : ℕ) (c d e : LinkSet) (x : Ends) → Between l c d x
+      → (l ≡ i → ⊥) → ByLink Anything i d e → Between l c e x
   pub near_gives :
       (l : ℕ) (c e d : LinkSet) (x : Ends) (unit : Option Unit) (by : ByLink (Sent unit) l c e)
       → Between l c d x → (end_of by.at.after).began ≡ false
