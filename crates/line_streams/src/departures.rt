@@ -98,6 +98,21 @@ impl Departures {
         Ok(())
     }
 
+    /// Has a line of reports go on whole, or counts it as lost.
+    ///
+    /// # Errors
+    ///
+    /// Where a write of the thread's failed, and as [`Departures::tell`] says.
+    pub fn report(&mut self, line: &[u8]) -> io::Result<()>
+        ensures { OnOk result (TellsOn line.now self.old.outlet self.new.outlet) }
+    {
+        if self.has_failed() {
+            return Err(io::Error::from(ErrorKind::BrokenPipe));
+        }
+        self.tell(line)?;
+        Ok(())
+    }
+
     /// Has octets go on whole, or counts them as one that is lost.
     ///
     /// # Errors
@@ -182,20 +197,6 @@ impl Departures {
             thread::sleep(rt, Duration::from_millis(1));
             self.tell_lost(now)?;
         }
-        Ok(())
-    }
-}
-
-impl Write for Departures {
-    fn write(&mut self, line: &[u8]) -> io::Result<usize> {
-        if self.has_failed() {
-            return Err(io::Error::from(ErrorKind::BrokenPipe));
-        }
-        self.tell(line)?;
-        Ok(line.len())
-    }
-
-    fn flush(&mut self) -> io::Result<()> {
         Ok(())
     }
 }
