@@ -30,13 +30,13 @@ use Rattle.link_group.proofs.Units.{judged_began}
 
 -- ---- an end goes on by signals, none of which is a beginning
 
-abbrev NearOn : TransceiverState → TransceiverState → Type 0
+abbrev pub NearOn : TransceiverState → TransceiverState → Type 0
 NearOn h g = g.began ≡ false → (h.began ≡ false) × ((x : Ends) → x.near ≡ h → Lives x → Lives (record x { near = g }))
 
-near_same : (h : TransceiverState) → NearOn h h
+pub near_same : (h : TransceiverState) → NearOn h h
 near_same h = λ e. (e, λ x is r. subst (λ (k : TransceiverState). Lives (record x { near = k })) is r)
 
-near_joined : (a b c : TransceiverState) → NearOn a b → NearOn b c → NearOn a c
+pub near_joined : (a b c : TransceiverState) → NearOn a b → NearOn b c → NearOn a c
 near_joined a b c p q = λ e.
     let last = q e in
     let first = p last.0 in
@@ -49,7 +49,7 @@ near_by : (s : EnvSignal) (h : TransceiverState) → (s ≡ signal.Fresh) ⊎ (i
 near_by s h (inl is) = λ e. absurd (fresh_absurd s h is e)
 near_by s h (inr no) = λ e. (sym (began_stays s h no) ∙ e, λ x is r. subst (λ (k : TransceiverState). Lives (record x { near = effect s k })) is (ends_heed.near_told x s no r))
 
-near_signal : (s : EnvSignal) (h : TransceiverState) → NearOn h (effect s h)
+pub near_signal : (s : EnvSignal) (h : TransceiverState) → NearOn h (effect s h)
 near_signal s h = near_by s h (begins_or_stays s)
 
 abbrev FarOn : TransceiverState → TransceiverState → Type 0

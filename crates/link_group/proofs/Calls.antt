@@ -23,7 +23,7 @@ use Rattle.link_group.proofs.Getting.{change_here, change_other, set_there, set_
 
 -- ---- the links behind a call
 
-seen_links : (l : ℕ) (c : LinkSet) → (seen l c).links ≡ change c.links l asked
+pub seen_links : (l : ℕ) (c : LinkSet) → (seen l c).links ≡ change c.links l asked
 unfolding seen
 seen_links l c = refl
 
@@ -31,10 +31,10 @@ behind_links : (did : Link → Link → Type 0) (i : ℕ) (c e : LinkSet) (by : 
 behind_links did i c e by = ap (λ (y : LinkSet). y.links) by.set ∙ seen_links i (record c { links = by.links })
 
 -- where nothing began anew, nothing leaves
-asked_plain : (k : Link) → began k ≡ false → end_of (asked k) ≡ asked_end (end_of k)
+pub asked_plain : (k : Link) → began k ≡ false → end_of (asked k) ≡ asked_end (end_of k)
 asked_plain k e = ap (λ (b : Bool). end_of (asked_of (if◌then◌else◌ {A = Link} b (leaves_out (unbegun k)) (unbegun k)))) e
 
-end_behind : (did : Link → Link → Type 0) (l : ℕ) (c e : LinkSet) (by : ByLink did l c e) → (end_of by.at.after).began ≡ false → end_at e l ≡ Some (asked_end (end_of by.at.after))
+pub end_behind : (did : Link → Link → Type 0) (l : ℕ) (c e : LinkSet) (by : ByLink did l c e) → (end_of by.at.after).began ≡ false → end_at e l ≡ Some (asked_end (end_of by.at.after))
 end_behind did l c e by none =
     let there : slice_get by.links l ≡ Some by.at.after =
     ap (λ (ks : List Link). slice_get ks l) by.at.links ∙ set_there c.links l by.at.after by.at.before by.at.there in
@@ -42,7 +42,7 @@ end_behind did l c e by none =
     ∙ (ap (λ (o : Option Link). option_map end_of o) (change_here asked by.links l (Some by.at.after) there)
     ∙ ap (λ (h : TransceiverState). Some h) (asked_plain by.at.after none))
 
-end_before : (did : Link → Link → Type 0) (l : ℕ) (c e : LinkSet) (by : ByLink did l c e) (h : TransceiverState) → end_at c l ≡ Some h → h ≡ end_of by.at.before
+pub end_before : (did : Link → Link → Type 0) (l : ℕ) (c e : LinkSet) (by : ByLink did l c e) (h : TransceiverState) → end_at c l ≡ Some h → h ≡ end_of by.at.before
 end_before did l c e by h is =
     let both : Some h ≡ Some (end_of by.at.before) = sym is ∙ ap (λ (o : Option Link). option_map end_of o) by.at.there in cc
 

@@ -21,4 +21,5 @@ mod Settling
 mod Sounding
 mod Staying
 mod Units
+mod Within
 mod Working

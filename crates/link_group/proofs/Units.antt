@@ -102,6 +102,7 @@ pub record SameIntake (h g : TransceiverState) : Type 0 where
   pub receiver : g.receiver ≡ h.receiver
   pub withheld : g.withheld ≡ h.withheld
   pub hold : g.hold ≡ h.hold
+  pub began : g.began ≡ h.began
 
 abbrev pub telling_by : Backward → Answer
 telling_by b = record { bsn = b.bsn; bib = b.bib }
@@ -116,17 +117,17 @@ filled_tells head (Some msu) = refl
 
 fill_in_answers : (h : TransceiverState) → Answers h (fill_in_gone h)
 unfolding idle_head
-fill_in_answers h = tells_one refl (record { receiver = refl; withheld = refl; hold = refl })
+fill_in_answers h = tells_one refl (record { receiver = refl; withheld = refl; hold = refl; began = refl })
 
 message_answers : (h : TransceiverState) (held : Bool) → Answers h (if◌then◌else◌ {A = Gone} held (fill_in_gone h) (sender_gone h (gives h.sender)))
 message_answers h true = fill_in_answers h
 message_answers h false =
     let s = gives h.sender in
-    tells_one (filled_tells (head_with h s.unit.fsn s.unit.fib) s.unit.msu) (record { receiver = refl; withheld = refl; hold = refl })
+    tells_one (filled_tells (head_with h s.unit.fsn s.unit.fib) s.unit.msu) (record { receiver = refl; withheld = refl; hold = refl; began = refl })
 
 line_answers : (h : TransceiverState) (line : Option LineKind) → Answers h (gone_by h line)
-line_answers h None = tells_none refl (record { receiver = refl; withheld = refl; hold = refl })
-line_answers h (Some (kind.Status code)) = tells_none refl (record { receiver = refl; withheld = refl; hold = refl })
+line_answers h None = tells_none refl (record { receiver = refl; withheld = refl; hold = refl; began = refl })
+line_answers h (Some (kind.Status code)) = tells_none refl (record { receiver = refl; withheld = refl; hold = refl; began = refl })
 line_answers h (Some kind.FillIn) = fill_in_answers h
 line_answers h (Some kind.Messages) = message_answers h (is_held h.hold)
 
@@ -134,7 +135,14 @@ pub answering : (h : TransceiverState) → Answers h (gone h)
 unfolding gone
 answering h =
     by_test (λ (g : Gone). Answers h g) h.busy (status_gone (record h { busy = false }) BUSY_CODE) (gone_by h h.line)
-    (λ e. tells_none refl (record { receiver = refl; withheld = refl; hold = refl })) (λ e. line_answers h h.line)
+    (λ e. tells_none refl (record { receiver = refl; withheld = refl; hold = refl; began = refl })) (λ e. line_answers h h.line)
+
+began_answering : (h : TransceiverState) (g : Gone) → Answers h g → g.transceiver.began ≡ h.began
+began_answering h g (tells_none none same) = same.began
+began_answering h g (tells_one one same) = same.began
+
+pub gone_began : (h : TransceiverState) → (gone h).transceiver.began ≡ h.began
+gone_began h = began_answering h (gone h) (answering h)
 
 -- ---- units that come: what is known of the messages
 

@@ -12,6 +12,7 @@ pub mod Reading
 pub mod Set
 pub mod Stating
 pub mod Ticks
+pub mod Within
 pub use Rattle.group_changeover.specs.Printed
 pub use Rattle.group_changeover.specs.declared as group_changeover_types
 pub use Rattle.group_members.specs.Commanding

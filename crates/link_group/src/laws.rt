@@ -3,6 +3,7 @@ ghost use Rattle.link_group.specs.Along.{TerminalsFare};
 ghost use Rattle.link_group.specs.Between.{CallsFare, SetsFare};
 ghost use Rattle.link_group.specs.Ends.{EndsComplete, EndsHeed};
 ghost use Rattle.link_group.specs.Laws.{EachInOnePlace, UnsureAreCounted};
+ghost use Rattle.link_group.specs.Within.{LivesGoOn};
 
 use group_changeover::steps_keep_places;
 use link_processes::unacknowledged_messages_stay;
@@ -52,4 +53,10 @@ pub fn sets_fare_so()
 /// it: a unit that goes out, octets whose units are those under way.
 pub fn calls_fare_so()
     ensures { CallsFare }
+{}
+
+/// So do units that go out one after another, a report, ticks, commands, behind which the buffers of the near end aren't emptied, and what level 3 says of
+/// any link: that it is admitted, and messages of changeover. The number that the far end tells is that of the message that it accepted last.
+pub fn lives_go_on_so()
+    ensures { LivesGoOn }
 {}

@@ -22,7 +22,8 @@ pub use group_members::{
 };
 pub use laws::{
     calls_fare_so, each_message_stands_in_one_place, ends_heed_all_else,
-    retrieval_completes_each_life, sets_fare_so, terminals_fare_so, unsure_messages_are_counted,
+    lives_go_on_so, retrieval_completes_each_life, sets_fare_so, terminals_fare_so,
+    unsure_messages_are_counted,
 };
 pub use sending::Heard;
 pub use state::LinkState;
