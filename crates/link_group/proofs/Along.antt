@@ -47,7 +47,7 @@ fresh_absurd s h is e = let f : true ≡ false = sym (ap (λ (z : EnvSignal). (e
 
 near_by : (s : EnvSignal) (h : TransceiverState) → (s ≡ signal.Fresh) ⊎ (is_beginning s ≡ false) → NearOn h (effect s h)
 near_by s h (inl is) = λ e. absurd (fresh_absurd s h is e)
-near_by s h (inr no) = λ e. (sym (began_stays s h no) ∙ e, λ x is r. subst (λ (k : TransceiverState). Lives (record x { near = effect s k })) is (ends_heed.near_told x s no r))
+near_by s h (inr other) = λ e. (sym (began_stays s h other) ∙ e, λ x is r. subst (λ (k : TransceiverState). Lives (record x { near = effect s k })) is (ends_heed.near_told x s other r))
 
 pub near_signal : (s : EnvSignal) (h : TransceiverState) → NearOn h (effect s h)
 near_signal s h = near_by s h (begins_or_stays s)
@@ -66,7 +66,7 @@ far_joined a b c p q = λ e.
 
 far_by : (s : EnvSignal) (h : TransceiverState) → (s ≡ signal.Fresh) ⊎ (is_beginning s ≡ false) → FarOn h (effect s h)
 far_by s h (inl is) = λ e. absurd (fresh_absurd s h is e)
-far_by s h (inr no) = λ e. (sym (began_stays s h no) ∙ e, λ x is r. subst (λ (k : TransceiverState). Lives (record x { far = effect s k })) is (ends_heed.far_told x s no r))
+far_by s h (inr other) = λ e. (sym (began_stays s h other) ∙ e, λ x is r. subst (λ (k : TransceiverState). Lives (record x { far = effect s k })) is (ends_heed.far_told x s other r))
 
 far_signal : (s : EnvSignal) (h : TransceiverState) → FarOn h (effect s h)
 far_signal s h = far_by s h (begins_or_stays s)
@@ -112,12 +112,18 @@ along_began _ _ _ _ _ _ (octet bits all given t u v first octets now on room are
 
 -- ---- units under way
 
+arrive_split_by : (vs more us ws all : List Unit) → Arrive all us ws → all ≡ vs ++ more → (mid : List Unit) × Arrive vs us mid × Arrive more mid ws
+arrive_split_by [] more us ws all a e = (us, none_arrives refl, subst (λ (xs : List Unit). Arrive xs us ws) e a)
+arrive_split_by (v ∷ vs) more us ws _ (none_arrives same) e = absurd (cc)
+arrive_split_by (v ∷ vs) more _ ws all (one_lost {us = rest} a) e =
+    let s = arrive_split_by (v ∷ vs) more rest ws all a e in (s.0, one_lost s.1, s.2)
+arrive_split_by (v ∷ vs) more _ ws _ (one_arrives {u = w} {us = rest} {vs = left} same a) e =
+    let first : w ≡ v = cc in
+    let next : left ≡ vs ++ more = cc in
+    let s = arrive_split_by vs more rest ws left a next in (s.0, one_arrives (sym first ∙ same) s.1, s.2)
+
 arrive_split : (vs more us ws : List Unit) → Arrive (vs ++ more) us ws → (mid : List Unit) × Arrive vs us mid × Arrive more mid ws
-arrive_split [] more us ws a = (us, none_arrives refl, a)
-arrive_split (v ∷ vs) more us ws (one_lost {us = rest} a) =
-    let s = arrive_split (v ∷ vs) more rest ws a in (s.0, one_lost s.1, s.2)
-arrive_split (v ∷ vs) more us ws (one_arrives {us = rest} same a) =
-    let s = arrive_split vs more rest ws a in (s.0, one_arrives same s.1, s.2)
+arrive_split vs more us ws a = arrive_split_by vs more us ws (vs ++ more) a refl
 
 lose_back : (x : Ends) (us ws : List Unit) → x.back ≡ us → Arrive [] us ws → Lives x → Lives (record x { back = ws })
 lose_back x us ws e (none_arrives same) r = subst (λ (bs : List Unit). Lives (record x { back = bs })) (e ∙ same) r
@@ -180,14 +186,11 @@ near_judged x u us e r = record {
   lives = comes_back x u us r e;
 }
 
-near_unit : (x : Ends) (u : Unit) (t : Processes) (us ws : List Unit) → x.back ≡ us → Arrive (u ∷ []) us ws → x.near ≡ t.transceiver → (unit_taken u t).transceiver.began ≡ false → Lives x
+near_judged_unit : (x : Ends) (u : Unit) (t : Processes) (us ws : List Unit) → x.back ≡ u ∷ us → Arrive [] us ws → x.near ≡ t.transceiver → (unit_taken u t).transceiver.began ≡ false → Lives x
     → NearTo x (unit_taken u t).transceiver ws
-near_unit x u t all ws e (one_lost {u = w} {us = us} a) is began r =
-    let other = near_unit (record x { back = us }) u t us ws refl a is began (is_lost_back x w us r e) in
-    record { less = other.less; lives = other.lives }
-near_unit x u t all ws e (one_arrives {us = us} same a) is began r =
+near_judged_unit x u t us ws e a is began r =
     let h = (judged x.near u).transceiver in
-    let came : NearTo x h us = near_judged x u us (e ∙ ap (λ (v : Unit). v ∷ us) (sym same)) r in
+    let came : NearTo x h us = near_judged x u us e r in
     let y : Ends = near_at x h us in
     let told : NearTo y (unit_taken u t).transceiver us =
     near_signals y (judged t.transceiver u).transceiver (unit_taken u t).transceiver (ap (λ (k : TransceiverState). (judged k u).transceiver) is)
@@ -196,9 +199,20 @@ near_unit x u t all ws e (one_arrives {us = us} same a) is began r =
     near_further x h (unit_taken u t).transceiver us ws came
     (near_further y (unit_taken u t).transceiver (unit_taken u t).transceiver us ws told (near_waits z (unit_taken u t).transceiver ws refl a told.lives))
 
+near_unit : (x : Ends) (u : Unit) (t : Processes) (vs us ws : List Unit) → vs ≡ u ∷ [] → x.back ≡ us → Arrive vs us ws → x.near ≡ t.transceiver → (unit_taken u t).transceiver.began ≡ false
+    → Lives x → NearTo x (unit_taken u t).transceiver ws
+near_unit x u t _ us ws one e (none_arrives same) is began r = absurd (cc)
+near_unit x u t vs _ ws one e (one_lost {u = w} {us = rest} a) is began r =
+    let other = near_unit (record x { back = rest }) u t vs rest ws one refl a is began (is_lost_back x w rest r e) in
+    record { less = other.less; lives = other.lives }
+near_unit x u t _ _ ws one e (one_arrives {u = w} {us = rest} {vs = left} same a) is began r =
+    let first : w ≡ u = cc in
+    let none : left ≡ [] = cc in
+    near_judged_unit x u t rest ws (e ∙ ap (λ (v : Unit). v ∷ rest) (sym same ∙ first)) (subst (λ (xs : List Unit). Arrive xs rest ws) none a) is began r
+
 near_read : (octets : List ℕ) (t u : Processes) (read : Reads octets t u) (x : Ends) (ws : List Unit) → x.near ≡ t.transceiver → u.transceiver.began ≡ false
     → Arrive (units_read read) x.back ws → Lives x → NearTo x u.transceiver ws
-near_read _ _ _ (as_unit octets v t frame) x ws is began a r = near_unit x v t x.back ws refl a is began r
+near_read _ _ _ (as_unit octets v t frame) x ws is began a r = near_unit x v t (v ∷ []) x.back ws refl refl a is began r
 near_read _ _ _ (as_error octets t none) x ws is began a r =
     let one : NearTo x (error_taken t).transceiver x.back =
     near_signals x t.transceiver (error_taken t).transceiver is (error_keeps NearOn near_same near_joined near_signal t) (error_keeps SameKept kept_same kept_joined kept_signal t) began r in
@@ -265,20 +279,28 @@ far_waits x h rest is a r =
     subst (λ (xs : List Msu). Lives (record x { far = h; forth = rest; delivered = xs })) (sym (append-nil x.delivered))
     (subst (λ (k : TransceiverState). Lives (record x { far = k; forth = rest })) is (lose_forth x x.forth rest refl a r))
 
-far_unit : (x : Ends) (u : Unit) (t : Processes) (us ws : List Unit) → x.forth ≡ us → Arrive (u ∷ []) us ws → x.far ≡ t.transceiver → (unit_taken u t).transceiver.began ≡ false → Lives x
+far_judged_unit : (x : Ends) (u : Unit) (t : Processes) (us ws : List Unit) → x.forth ≡ u ∷ us → Arrive [] us ws → x.far ≡ t.transceiver → (unit_taken u t).transceiver.began ≡ false → Lives x
     → Lives (far_at x (unit_taken u t).transceiver ws (accepted_of t.transceiver u))
-far_unit x u t all ws e (one_lost {u = w} {us = us} a) is began r = far_unit (record x { forth = us }) u t us ws refl a is began (is_lost x w us r e)
-far_unit x u t all ws e (one_arrives {us = us} same a) is began r =
+far_judged_unit x u t us ws e a is began r =
     let ms : List Msu = accepted_of t.transceiver u in
     let came : Lives (far_at x (judged t.transceiver u).transceiver us ms) =
-    subst (λ (k : TransceiverState). Lives (far_at x (judged k u).transceiver us (accepted_of k u))) is (arrives x u us r (e ∙ ap (λ (v : Unit). v ∷ us) (sym same))) in
+    subst (λ (k : TransceiverState). Lives (far_at x (judged k u).transceiver us (accepted_of k u))) is (arrives x u us r e) in
     let y : Ends = far_at x (judged t.transceiver u).transceiver us ms in
     let told : Lives (record y { far = (unit_taken u t).transceiver }) = (unit_keeps FarOn far_same far_joined far_signal u t began).1 y refl came in
     lose_forth (record y { far = (unit_taken u t).transceiver }) us ws refl a told
 
+far_unit : (x : Ends) (u : Unit) (t : Processes) (vs us ws : List Unit) → vs ≡ u ∷ [] → x.forth ≡ us → Arrive vs us ws → x.far ≡ t.transceiver → (unit_taken u t).transceiver.began ≡ false
+    → Lives x → Lives (far_at x (unit_taken u t).transceiver ws (accepted_of t.transceiver u))
+far_unit x u t _ us ws one e (none_arrives same) is began r = absurd (cc)
+far_unit x u t vs _ ws one e (one_lost {u = w} {us = rest} a) is began r = far_unit (record x { forth = rest }) u t vs rest ws one refl a is began (is_lost x w rest r e)
+far_unit x u t _ _ ws one e (one_arrives {u = w} {us = rest} {vs = left} same a) is began r =
+    let first : w ≡ u = cc in
+    let none : left ≡ [] = cc in
+    far_judged_unit x u t rest ws (e ∙ ap (λ (v : Unit). v ∷ rest) (sym same ∙ first)) (subst (λ (xs : List Unit). Arrive xs rest ws) none a) is began r
+
 far_read : (octets : List ℕ) (t u : Processes) (read : Reads octets t u) (x : Ends) (ws : List Unit) → x.far ≡ t.transceiver → u.transceiver.began ≡ false
     → Arrive (units_read read) x.forth ws → Lives x → Lives (far_at x u.transceiver ws (accepted_read read))
-far_read _ _ _ (as_unit octets v t frame) x ws is began a r = far_unit x v t x.forth ws refl a is began r
+far_read _ _ _ (as_unit octets v t frame) x ws is began a r = far_unit x v t (v ∷ []) x.forth ws refl refl a is began r
 far_read _ _ _ (as_error octets t none) x ws is began a r =
     far_further x (error_taken t).transceiver (error_taken t).transceiver x.forth ws [] []
     (far_waits (far_at x (error_taken t).transceiver x.forth []) (error_taken t).transceiver ws refl a

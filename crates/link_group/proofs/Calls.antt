@@ -27,7 +27,7 @@ pub seen_links : (l : ℕ) (c : LinkSet) → (seen l c).links ≡ change c.links
 unfolding seen
 seen_links l c = refl
 
-behind_links : (did : Link → Link → Type 0) (i : ℕ) (c e : LinkSet) (by : ByLink did i c e) → e.links ≡ change by.links i asked
+pub behind_links : (did : Link → Link → Type 0) (i : ℕ) (c e : LinkSet) (by : ByLink did i c e) → e.links ≡ change by.links i asked
 behind_links did i c e by = ap (λ (y : LinkSet). y.links) by.set ∙ seen_links i (record c { links = by.links })
 
 -- where nothing began anew, nothing leaves

@@ -20,6 +20,7 @@ pub mod Room
 mod Settling
 mod Sounding
 mod Staying
+mod Telling
 mod Units
 mod Within
 mod Working

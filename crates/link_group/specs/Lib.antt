@@ -6,6 +6,7 @@ pub mod Ends
 pub mod Laws
 pub mod Lines
 pub mod New
+pub mod Numbers
 pub mod Placing
 pub mod Reached
 pub mod Reading

@@ -3,6 +3,7 @@ ghost use Rattle.link_group.specs.Along.{TerminalsFare};
 ghost use Rattle.link_group.specs.Between.{CallsFare, SetsFare};
 ghost use Rattle.link_group.specs.Ends.{EndsComplete, EndsHeed};
 ghost use Rattle.link_group.specs.Laws.{EachInOnePlace, UnsureAreCounted};
+ghost use Rattle.link_group.specs.Numbers.{NumberStands};
 ghost use Rattle.link_group.specs.Within.{LivesGoOn};
 
 use group_changeover::steps_keep_places;
@@ -59,4 +60,10 @@ pub fn calls_fare_so()
 /// any link: that it is admitted, and messages of changeover. The number that the far end tells is that of the message that it accepted last.
 pub fn lives_go_on_so()
     ensures { LivesGoOn }
+{}
+
+/// The number that the far end told, heard in a changeover while one counts, is marked by how many messages it acknowledges; that stays right, whatever units
+/// come behind it.
+pub fn a_number_stands()
+    ensures { NumberStands }
 {}
