@@ -21,7 +21,7 @@ use Rattle.link_group.specs.Set.{LinkSet}
 use Rattle.link_group.specs.Changing.{is_for, after_message}
 use Rattle.link_group.specs.Lines.{ByLink}
 use Rattle.link_group.specs.Ends.{Ends, place_behind}
-use Rattle.link_group.specs.Between.{end_of, Between, told_of}
+use Rattle.link_group.specs.Between.{end_of, Between, told_of, Anything}
 use Rattle.link_group.specs.Numbers.{NumberStands}
 use Rattle.link_group.proofs.Calls.{behind_links}
 use Rattle.link_group.proofs.Getting.{change_here, set_there}
@@ -133,5 +133,5 @@ number_stands = record {
       behind_so (Listened octets taken) l c e by none
       ∙ (listened_so octets taken by.at.before by.at.after by.at.was
       ∙ ap (place_behind (length (held by.at.before) - length (held by.at.after))) (sym (before_so (Listened octets taken) l c e by)));
-  stays = λ did l c e by none same. behind_so did l c e by none ∙ (same_mark by.at.before by.at.after same ∙ sym (before_so did l c e by));
+  stays = λ l c e by none same. behind_so Anything l c e by none ∙ (same_mark by.at.before by.at.after same ∙ sym (before_so Anything l c e by));
 }

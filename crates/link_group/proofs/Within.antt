@@ -318,10 +318,12 @@ changed_stays what ks i l h g (inr other) was now =
 
 message_stays : (c : LinkSet) (o : Option Changeover) (l : ℕ) (h g : TransceiverState) → end_at c l ≡ Some h → end_at (after_message c o) l ≡ Some g → Stays h g
 message_stays c None l h g was now = stays_equal (end_at c l) (end_at c l) h g refl was now
-message_stays c (Some m) l h g was =
+message_stays c (Some m) l h g was now =
+    let either : end_at (after_message c (Some m)) l ≡ Some g → Stays h g =
     by_test (λ (y : LinkSet). end_at y l ≡ Some g → Stays h g) (is_for c m) (record c { links = change c.links m.label.sls (hears_at m.kind) }) c
-    (λ e now. changed_stays m.kind c.links m.label.sls l h g (same l m.label.sls) was now)
-    (λ e now. stays_equal (end_at c l) (end_at c l) h g refl was now)
+    (λ e is. changed_stays m.kind c.links m.label.sls l h g (same l m.label.sls) was is)
+    (λ e is. stays_equal (end_at c l) (end_at c l) h g refl was is) in
+    either now
 
 near_messages : (l : ℕ) (c d : LinkSet) (x : Ends) (m : Option Changeover) (h : TransceiverState) → Between l c d x → end_at (after_message c m) l ≡ Some h
     → Between l (after_message c m) d (record x { near = h })

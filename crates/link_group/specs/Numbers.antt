@@ -10,7 +10,7 @@ use Rattle.link_group.specs.Set.{LinkSet}
 use Rattle.link_group.specs.Changing.{is_for, after_message}
 use Rattle.link_group.specs.Lines.{ByLink}
 use Rattle.link_group.specs.Ends.{Ends, place_behind}
-use Rattle.link_group.specs.Between.{end_of, Between, told_of}
+use Rattle.link_group.specs.Between.{end_of, Between, told_of, Anything}
 
 -- Where the number that the far end told is heard while one counts, it is marked of how many
 -- messages it speaks as they stand then. Units that come leave that right, whatever they
@@ -31,7 +31,7 @@ pub record NumberStands : Type 0 where
         (length (end_of by.at.before).sender.kept - length (end_of by.at.after).sender.kept)
         (told_of (slice_get c.links l))
   pub stays :
-      (did : Link → Link → Type 0) (l : ℕ) (c e : LinkSet) (by : ByLink did l c e)
+      (l : ℕ) (c e : LinkSet) (by : ByLink Anything l c e)
       → (end_of by.at.after).began ≡ false
       → by.at.after.availability ≡ by.at.before.availability
       → told_of (slice_get e.links l) ≡ told_of (slice_get c.links l)

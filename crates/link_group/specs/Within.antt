@@ -1,5 +1,5 @@
 -- What else goes on with a life of a link between two sets.
-use Rattle.std.specs.Prelude.{◌≡◌, ℕ, Bool, true, false, Option, Some, ◌++◌, slice_get}
+use Rattle.std.specs.Prelude.{◌≡◌, ℕ, Bool, true, false, Option, Some, List, ◌++◌, slice_get}
 use Rattle.link_transceiver.specs.TransceiverState.{TransceiverState, is_held}
 use Rattle.link_transceiver.specs.declared.signals.Report.{Report}
 use Rattle.link_processes.specs.declared.commands.Command.{Command}
