@@ -1,8 +1,6 @@
 mod Along
-mod Between
 pub mod ByLinks
 mod Calling
-mod Calls
 pub mod Commands
 mod Counting
 mod Diverting
@@ -20,7 +18,5 @@ pub mod Room
 mod Settling
 mod Sounding
 mod Staying
-mod Telling
 mod Units
-mod Within
 mod Working
