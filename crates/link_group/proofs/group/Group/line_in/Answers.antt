@@ -6,7 +6,7 @@ use Rattle.link_group.proofs.group.Group.line_in.Goals as goal
 
 pub returns-clause-ok : goal.returns-clause-ok
 returns-clause-ok c =
-    by_link (Listened c.args.octets.now c.listen_at-taken.result) c.args.link c.args.self.now _ _ c.listen_at-taken.new.links c.as_mut_slice-2.result.now c.see.new.links _ c.self.inside.own c.self.inside.peer c.self.inside.unsure c.self.inside.table.links c.see.new.table.links (search rules) (search rules) c.listen_at-taken.ensures
+    by_link (Listened c.args.octets.now c.listen_at-taken.result) c.args.link c.args.self.now _ _ c.listen_at-taken.new.links c.as_mut_slice-2.result.now c.see.new.links _ c.self.inside.own c.self.inside.peer c.self.inside.unsure c.self.inside.table.links c.see.new.table.links (search rules) refl c.listen_at-taken.ensures
     (c.as_mut_slice-2.ensures.value ∙ written c.self.inside.links.len c.listen_at-taken.new.links c.self.inside.links.items (search rules)) (written c.self.inside.links.len c.see.new.links _ (search rules)) c.see.ensures.links c.see.ensures.table
 
 pub invariant_of-self : goal.invariant_of-self

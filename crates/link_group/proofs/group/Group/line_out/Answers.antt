@@ -6,7 +6,7 @@ use Rattle.link_group.proofs.group.Group.line_out.Goals as goal
 
 pub returns-in-Ok-clause-ok : goal.returns-in-Ok-clause-ok
 returns-in-Ok-clause-ok c =
-    by_link (Spoken c.args.units c.in-Ok.octets.items) c.args.link c.args.self.now _ _ c.speak_at.new.links c.as_mut_slice-in-Ok.result.now c.see.new.links _ c.self.inside.own c.self.inside.peer c.self.inside.unsure c.self.inside.table.links c.see.new.table.links (search rules) (search rules) c.in-Ok.ensures.ok
+    by_link (Spoken c.args.units c.in-Ok.octets.items) c.args.link c.args.self.now _ _ c.speak_at.new.links c.as_mut_slice-in-Ok.result.now c.see.new.links _ c.self.inside.own c.self.inside.peer c.self.inside.unsure c.self.inside.table.links c.see.new.table.links (search rules) refl c.in-Ok.ensures.ok
     (c.as_mut_slice-in-Ok.ensures.value ∙ written c.self.inside.links.len c.speak_at.new.links c.self.inside.links.items (search rules)) (written c.self.inside.links.len c.see.new.links _ (search rules)) c.see.ensures.links c.see.ensures.table
 
 pub invariant_of-self : goal.invariant_of-self

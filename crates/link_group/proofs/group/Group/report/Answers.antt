@@ -6,7 +6,7 @@ use Rattle.link_group.proofs.group.Group.report.Goals as goal
 
 pub returns-clause-ok : goal.returns-clause-ok
 returns-clause-ok c =
-    by_link (Reported c.tell_at-report.result) c.args.link c.args.self.now _ _ c.tell_at-report.new.links c.as_mut_slice-2.result.now c.see.new.links _ c.self.inside.own c.self.inside.peer c.self.inside.unsure c.self.inside.table.links c.see.new.table.links (search rules) (search rules) c.tell_at-report.ensures
+    by_link (Reported c.tell_at-report.result) c.args.link c.args.self.now _ _ c.tell_at-report.new.links c.as_mut_slice-2.result.now c.see.new.links _ c.self.inside.own c.self.inside.peer c.self.inside.unsure c.self.inside.table.links c.see.new.table.links (search rules) refl c.tell_at-report.ensures
     (c.as_mut_slice-2.ensures.value ∙ written c.self.inside.links.len c.tell_at-report.new.links c.self.inside.links.items (search rules)) (written c.self.inside.links.len c.see.new.links _ (search rules)) c.see.ensures.links c.see.ensures.table
 
 pub invariant_of-self : goal.invariant_of-self
