@@ -1,5 +1,5 @@
 //! A set on its lines, with its orders and reports.
-ghost use Rattle.std.specs.Prelude.{◌≡◌, IfOk, IfErr, OnOk, string_bytes};
+ghost use Rattle.std.specs.Prelude.{◌≡◌, IfOk, OnOk, string_bytes};
 ghost use Rattle.line_filter.specs.Orders.{told};
 ghost use Rattle.line_filter.specs.Reporting.{TellsLines};
 ghost use Rattle.set_tending.specs.Texts.{told_text};
@@ -13,7 +13,8 @@ use set_tending::{TendError, Tender, Told, Wire};
 use std::alloc::{AllocError, Global};
 use std::io::{self, ErrorKind};
 
-/// A set on its lines. It can't be dropped: its set ends with what is retrieved.
+/// A set on its lines.
+#[derive(Drop)]
 pub struct SetDesk<O, P> {
     /// The set.
     pub tender: Tender,
@@ -71,34 +72,31 @@ impl<O, P> SetDesk<O, P> {
     ///
     /// # Errors
     ///
-    /// Where there is no memory, the set.
+    /// Where there is no memory.
     pub fn new(
         alloc: Global,
         tender: Tender,
         ahead: usize,
         orders: O,
         reports: P,
-    ) -> Result<SetDesk<O, P>, Tender>
+    ) -> Result<SetDesk<O, P>, AllocError>
     where
         O: Drop,
         P: Drop,
         ensures new { IfOk result (λ desk. desk.tender ≡ tender) }
         ensures reports { IfOk result (λ desk. desk.reports ≡ reports) }
-        ensures back { IfErr result (λ back. back ≡ tender) }
     {
-        match parts(alloc, tender.len()) {
-            Ok((wires, since)) => Ok(SetDesk {
-                tender,
-                wires,
-                since,
-                ahead,
-                orders,
-                focus: Focus::Link(0),
-                queue: Queue::new(alloc),
-                reports,
-            }),
-            Err(_) => Err(tender),
-        }
+        let (wires, since) = parts(alloc, tender.len())?;
+        Ok(SetDesk {
+            tender,
+            wires,
+            since,
+            ahead,
+            orders,
+            focus: Focus::Link(0),
+            queue: Queue::new(alloc),
+            reports,
+        })
     }
 
     /// The millisecond: how many rounds there were.
@@ -111,7 +109,7 @@ impl<O, P> SetDesk<O, P> {
     /// Ends the set. What orders came from, and where reports went.
     pub fn end(self) -> (O, P) {
         let SetDesk {
-            tender,
+            tender: _tender,
             wires: _wires,
             since: _since,
             ahead: _,
@@ -120,7 +118,6 @@ impl<O, P> SetDesk<O, P> {
             queue: _queue,
             reports,
         } = self;
-        tender.end();
         (orders, reports)
     }
 }

@@ -54,7 +54,7 @@ fn tend(alloc: Global, plan: SetPlan, terminals: Vec<Terminal>) -> Result<Tender
         return Err(FAILED);
     }
     match Group::new(alloc, own, peer, terminals) {
-        Ok(group) => Tender::new(alloc, plan.ends, plan.tests, group).map_err(|_group| FAILED),
+        Ok(group) => Ok(Tender::new(alloc, plan.ends, plan.tests, group)),
         Err(_terminals) => Err(FAILED),
     }
 }

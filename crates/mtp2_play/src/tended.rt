@@ -110,21 +110,13 @@ fn serve<H: Files<File = File> + Threads + Eprint + Clock + AllocGlobal>(
 {
     let tap = match tap_of(host, teller, lines.len(), end.capture) {
         Ok(tap) => tap,
-        Err(status) => {
-            tender.end();
-            return status;
-        }
+        Err(status) => return status,
     };
     let Ok(mut open_lines) = SetLines::new(host, host.alloc(), end.bits, lines, tap) else {
-        tender.end();
         return FAILED;
     };
-    let mut desk = match SetDesk::new(host.alloc(), tender, end.ahead, orders, reports) {
-        Ok(desk) => desk,
-        Err(tender) => {
-            tender.end();
-            return FAILED;
-        }
+    let Ok(mut desk) = SetDesk::new(host.alloc(), tender, end.ahead, orders, reports) else {
+        return FAILED;
     };
     let ran = go_round(host, &mut desk, &mut open_lines);
     let now = desk.millisecond();
@@ -150,17 +142,11 @@ fn begin<H: Files<File = File> + Threads + Eprint + Clock + AllocGlobal>(
 {
     let orders = match open_orders(host, host.alloc(), end.orders) {
         Ok(orders) => orders,
-        Err(error) => {
-            tender.end();
-            return teller.fail(end.orders.unwrap_or("orders"), &error);
-        }
+        Err(error) => return teller.fail(end.orders.unwrap_or("orders"), &error),
     };
     let reports = match open_reports(host, host.alloc(), end.reports, Errors { rt: host }) {
         Ok(reports) => reports,
-        Err(error) => {
-            tender.end();
-            return teller.fail(end.reports.unwrap_or("reports"), &error);
-        }
+        Err(error) => return teller.fail(end.reports.unwrap_or("reports"), &error),
     };
     let orders = LineOrders::new(host.alloc(), orders);
     serve(host, teller, lines, end, tender, orders, reports)

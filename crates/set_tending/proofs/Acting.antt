@@ -7,62 +7,76 @@ use Rattle.link_transceiver.specs.declared.signals.Report.{Report}
 use Rattle.group_changeover.specs.Sharing.{selection_of}
 use Rattle.group_changeover.specs.Limits.{SELECTIONS}
 use Rattle.group_changeover.specs.Bound.{is_bound}
+use Rattle.group_changeover.specs.declared.errors.AbandonError.{AbandonError}
 use Rattle.group_changeover.specs.declared.errors.BindError.{BindError}
 use Rattle.group_changeover.specs.declared.errors.FailError.{FailError}
 use Rattle.group_changeover.specs.declared.errors.RebalanceError.{RebalanceError}
-use Rattle.group_changeover.specs.declared.errors.SendError.{SendError}
-use Rattle.link_group.specs.OneLink.{fault_of}
+use Rattle.group_changeover.specs.declared.errors.RetrieveError.{RetrieveError}
+use Rattle.link_group.specs.OneLink.{fault_of, retrieve_refusal, abandon_refusal}
 use Rattle.link_group.specs.Doing.{Listened, Sent, Reported}
 use Rattle.link_group.specs.group_members_types.commanding.CommandError.{CommandError}
-use Rattle.link_group.specs.declared.retrieved.Kept.{Kept}
 use Rattle.link_group.specs.Set.{LinkSet, points_of, send_fault, sent, bind_fault_at, bound_at}
-use Rattle.link_group.specs.Changing.{fail_fault, after_failure}
+use Rattle.link_group.specs.Changing.{fail_fault, after_failure, retrieve_fault_at, after_retrieve, abandon_fault_at, after_abandon}
+use Rattle.link_group.specs.Diverting.{after_divert}
 use Rattle.link_group.specs.Placing.{rebalance_fault, rebalanced}
 use Rattle.link_group.specs.Lines.{ByLink, ByCommand, after_admission, IsCommandError}
 use Rattle.set_tending.specs.Telling.{message_in, messages_in}
 use Rattle.set_tending.specs.Calling.{ByCalls}
-use Rattle.set_tending.specs.Tended.{Tended, played}
+use Rattle.set_tending.specs.Tended.{Tended}
 use Rattle.set_tending.specs.Rounds.{Acts, Adds, HandsOut}
 use Rattle.set_tending.specs.declared.told.Told.{Told}
 use Rattle.set_tending.specs.declared.told.Told.TheVariants.{Message}
 use Rattle.set_tending.specs.declared.tender.Plan.{Plan}
-use Rattle.set_tending.proofs.Calling.{at, by_none, by_sends, by_binds, by_fails, by_rebalances, by_listens, by_gives, by_reports, by_commands, by_command_error, by_admits}
+use Rattle.set_tending.proofs.Calling.{by_none, by_sends, by_binds, by_fails, by_retrieves, by_abandons, by_diverts, by_rebalances, by_listens, by_gives, by_reports, by_commands, by_command_error, by_admits}
 use Rattle.set_tending.proofs.Doing.{adds_call, adds_is}
 
 pub adds_admit : {A E : Type 0} (t : Tended) (d : LinkSet) (l : ℕ) (way : Bool) (r : Result A E)
     → OnOk r (d ≡ after_admission t.set l way) → OnErr r (d ≡ t.set) → Adds t (record t { set = d })
-adds_admit t d l way (Ok v) ok err = adds_is t d (after_admission t.set l way) ok (by_admits t.set t.hands l way)
-adds_admit t d l way (Err e) ok err = adds_is t d t.set err (by_none (played t))
+adds_admit t d l way (Ok v) ok err = adds_is t d (after_admission t.set l way) ok (by_admits t.set l way)
+adds_admit t d l way (Err e) ok err = adds_is t d t.set err (by_none t.set)
 
 pub adds_bind : {A : Type 0} (t : Tended) (d : LinkSet) (l : ℕ) (m : Msu) (r : Result A BindError) → is_bound (points_of t.set) m ≡ true
     → fault_of r ≡ bind_fault_at t.set l → OnOk r (d ≡ bound_at t.set l m) → OnErr r (d ≡ t.set) → Adds t (record t { set = d })
-adds_bind t d l m (Ok v) bound fault ok err = adds_is t d (bound_at t.set l m) ok (by_binds t.set t.hands l m (sym fault) bound)
-adds_bind t d l m (Err e) bound fault ok err = adds_is t d t.set err (by_none (played t))
+adds_bind t d l m (Ok v) bound fault ok err = adds_is t d (bound_at t.set l m) ok (by_binds t.set l m (sym fault) bound)
+adds_bind t d l m (Err e) bound fault ok err = adds_is t d t.set err (by_none t.set)
 
 pub adds_failure : {A : Type 0} (t : Tended) (d : LinkSet) (l : ℕ) (r : Result A FailError)
     → fault_of r ≡ fail_fault t.set l → OnOk r (d ≡ after_failure t.set l) → OnErr r (d ≡ t.set) → Adds t (record t { set = d })
-adds_failure t d l (Ok v) fault ok err = adds_is t d (after_failure t.set l) ok (by_fails t.set t.hands l (sym fault))
-adds_failure t d l (Err e) fault ok err = adds_is t d t.set err (by_none (played t))
+adds_failure t d l (Ok v) fault ok err = adds_is t d (after_failure t.set l) ok (by_fails t.set l (sym fault))
+adds_failure t d l (Err e) fault ok err = adds_is t d t.set err (by_none t.set)
+
+pub adds_retrieve : {A : Type 0} (t : Tended) (d : LinkSet) (l : ℕ) (r : Result A RetrieveError)
+    → retrieve_refusal r ≡ retrieve_fault_at t.set l → OnOk r (d ≡ after_retrieve t.set l) → OnErr r (d ≡ t.set) → Adds t (record t { set = d })
+adds_retrieve t d l (Ok v) fault ok err = adds_is t d (after_retrieve t.set l) ok (by_retrieves t.set l (sym fault))
+adds_retrieve t d l (Err e) fault ok err = adds_is t d t.set err (by_none t.set)
+
+pub adds_abandon : {A : Type 0} (t : Tended) (d : LinkSet) (l : ℕ) (r : Result A AbandonError)
+    → abandon_refusal r ≡ abandon_fault_at t.set l → OnOk r (d ≡ after_abandon t.set l) → OnErr r (d ≡ t.set) → Adds t (record t { set = d })
+adds_abandon t d l (Ok v) fault ok err = adds_is t d (after_abandon t.set l) ok (by_abandons t.set l (sym fault))
+adds_abandon t d l (Err e) fault ok err = adds_is t d t.set err (by_none t.set)
+
+pub adds_divert : (t : Tended) (d : LinkSet) (l : ℕ) → d ≡ after_divert t.set l → Adds t (record t { set = d })
+adds_divert t d l is = adds_is t d (after_divert t.set l) is (by_diverts t.set l)
 
 pub adds_rebalance : {A : Type 0} (t : Tended) (d : LinkSet) (r : Result A RebalanceError)
     → fault_of r ≡ rebalance_fault t.set → OnOk r (d ≡ rebalanced t.set) → OnErr r (d ≡ t.set) → Adds t (record t { set = d })
-adds_rebalance t d (Ok v) fault ok err = adds_is t d (rebalanced t.set) ok (by_rebalances t.set t.hands (sym fault))
-adds_rebalance t d (Err e) fault ok err = adds_is t d t.set err (by_none (played t))
+adds_rebalance t d (Ok v) fault ok err = adds_is t d (rebalanced t.set) ok (by_rebalances t.set (sym fault))
+adds_rebalance t d (Err e) fault ok err = adds_is t d t.set err (by_none t.set)
 
 pub adds_command : {A : Type 0} (t : Tended) (d : LinkSet) (l : ℕ) (command : _) (r : Result A CommandError)
     → OnOk r (ByCommand command l t.set d) → IfErr r (IsCommandError command l t.set d) → Adds t (record t { set = d })
-adds_command t d l command (Ok v) ok err = adds_call t d (by_commands t.set d t.hands l command ok)
-adds_command t d l command (Err e) ok err = adds_call t d (by_command_error t.set d t.hands l command e err)
+adds_command t d l command (Ok v) ok err = adds_call t d (by_commands t.set d l command ok)
+adds_command t d l command (Err e) ok err = adds_call t d (by_command_error t.set d l command e err)
 
 pub adds_octets : {E : Type 0} (t : Tended) (d : LinkSet) (l : ℕ) (octets : List ℕ) (r : Result ℕ E)
     → IfOk r (λ (taken : ℕ). ByLink (Listened octets taken) l t.set d) → OnErr r (d ≡ t.set) → Adds t (record t { set = d })
-adds_octets t d l octets (Ok taken) ok err = adds_call t d (by_listens t.set d t.hands l octets taken ok)
-adds_octets t d l octets (Err e) ok err = adds_is t d t.set err (by_none (played t))
+adds_octets t d l octets (Ok taken) ok err = adds_call t d (by_listens t.set d l octets taken ok)
+adds_octets t d l octets (Err e) ok err = adds_is t d t.set err (by_none t.set)
 
 pub adds_unit : {E : Type 0} (t : Tended) (d : LinkSet) (l : ℕ) (r : Result (Option Unit) E)
     → IfOk r (λ (unit : Option Unit). ByLink (Sent unit) l t.set d) → OnErr r (d ≡ t.set) → Adds t (record t { set = d })
-adds_unit t d l (Ok unit) ok err = adds_call t d (by_gives t.set d t.hands l unit ok)
-adds_unit t d l (Err e) ok err = adds_is t d t.set err (by_none (played t))
+adds_unit t d l (Ok unit) ok err = adds_call t d (by_gives t.set d l unit ok)
+adds_unit t d l (Err e) ok err = adds_is t d t.set err (by_none t.set)
 
 -- ---- a report, if there is one
 
@@ -72,7 +86,7 @@ hands_out t d l None did = tt
 hands_out t d l (Some report) did = record { reports = did; same = refl }
 
 pub adds_report : (t : Tended) (d : LinkSet) (l : ℕ) (o : Option Report) → ByLink (Reported o) l t.set d → Adds t (record t { set = d })
-adds_report t d l o did = adds_call t d (by_reports t.set d t.hands l o did)
+adds_report t d l o did = adds_call t d (by_reports t.set d l o did)
 
 -- ---- messages
 
@@ -80,12 +94,12 @@ told_more : (told : List Told) (link : ℕ) (m : Msu) → messages_in (told ++ M
 told_more told link m = flat_map-append message_in told (Message link m ∷ [])
 
 -- one is to be told behind the others
-pub acts_message : (c : LinkSet) (hands : List Kept) (plan : Plan) (ticks : ℕ) (told after : List Told) (link : ℕ) (m : Msu)
+pub acts_message : (c : LinkSet) (plan : Plan) (ticks : ℕ) (told after : List Told) (link : ℕ) (m : Msu)
     → after ≡ told ++ Message link m ∷ []
-    → Acts [] (m ∷ []) (record { set = c; hands = hands; plan = plan; ticks = ticks; messages = messages_in told })
-    (record { set = c; hands = hands; plan = plan; ticks = ticks; messages = messages_in after })
-acts_message c hands plan ticks told after link m is = record {
-  calls = by_none (record { set = c; hands = hands });
+    → Acts [] (m ∷ []) (record { set = c; plan = plan; ticks = ticks; messages = messages_in told })
+    (record { set = c; plan = plan; ticks = ticks; messages = messages_in after })
+acts_message c plan ticks told after link m is = record {
+  calls = by_none c;
   plan = refl;
   ticks = refl;
   messages = ap messages_in is ∙ told_more told link m;
@@ -95,7 +109,7 @@ acts_message c hands plan ticks told after link m is = record {
 pub acts_send : (t : Tended) (d : LinkSet) (m : Msu) → send_fault t.set m ≡ None → selection_of m < SELECTIONS → d ≡ sent t.set m
     → Acts (m ∷ []) [] t (record t { set = d })
 acts_send t d m free small is = record {
-  calls = subst (λ (x : LinkSet). ByCalls (played t) (m ∷ []) (at x t.hands)) (sym is) (by_sends t.set t.hands m free small);
+  calls = subst (λ (x : LinkSet). ByCalls t.set (m ∷ []) x) (sym is) (by_sends t.set m free small);
   plan = refl;
   ticks = refl;
   messages = sym (append-nil t.messages);

@@ -1,22 +1,23 @@
 -- What the rules do, one thing behind another.
-use Rattle.std.proofs.Common.{◌≡◌, ◌∙◌, ℕ, List, [], ◌∷◌, ◌++◌, append-nil, append_assoc, refl, sym, ap, subst}
+use Rattle.std.proofs.Common.{◌≡◌, ◌∙◌, ℕ, Bool, length, List, [], ◌∷◌, ◌++◌, append-nil, append_assoc, refl, sym, ap, subst}
 use Rattle.std.specs.List.{flat_map}
 use Rattle.std.proofs.lemmas.Grind.{flat_map-append}
 use Rattle.resend_store.specs.declared.messages.Msu.{Msu}
 use Rattle.link_group.specs.Set.{LinkSet}
 use Rattle.set_tending.specs.Calling.{ByCalls}
 use Rattle.set_tending.specs.Telling.{user_message}
-use Rattle.set_tending.specs.Tended.{Tended, played}
+use Rattle.set_tending.specs.Tended.{Tended, IsNewTended}
 use Rattle.set_tending.specs.Rounds.{Acts, Does, Adds, Handed, HandsOut, Heeds, nothing, one, user_messages, IsHeeded, AddsHeeded}
+use Rattle.set_tending.specs.declared.ends.Ends.{Ends}
 use Rattle.set_tending.specs.declared.tender.Plan.{Plan}
-use Rattle.set_tending.proofs.Calling.{at, by_none, by_both, by_is}
+use Rattle.set_tending.proofs.Calling.{by_none, by_both, by_is}
 
 pub does_nothing : (t : Tended) → Does t t
-does_nothing t = record { calls = by_none (played t); plan = refl; ticks = refl; messages = refl }
+does_nothing t = record { calls = by_none t.set; plan = refl; ticks = refl; messages = refl }
 
 pub does_then : (s t u : Tended) → Does s t → Does t u → Does s u
 does_then s t u h k = record {
-  calls = by_both (played s) (played t) (played u) h.calls k.calls;
+  calls = by_both s.set t.set u.set h.calls k.calls;
   plan = k.plan ∙ h.plan;
   ticks = k.ticks ∙ h.ticks;
   messages = k.messages ∙ h.messages;
@@ -35,11 +36,11 @@ pub adds_does : (t u : Tended) → Does t u → Adds t u
 adds_does t u d = λ first h. does_then first t u h d
 
 -- a call of the set
-pub adds_call : (t : Tended) (d : LinkSet) → ByCalls (played t) [] (at d t.hands) → Adds t (record t { set = d })
+pub adds_call : (t : Tended) (d : LinkSet) → ByCalls t.set [] d → Adds t (record t { set = d })
 adds_call t d calls = adds_does t (record t { set = d }) (record { calls = calls; plan = refl; ticks = refl; messages = refl })
 
-pub adds_is : (t : Tended) (d e : LinkSet) → d ≡ e → ByCalls (played t) [] (at e t.hands) → Adds t (record t { set = d })
-adds_is t d e is calls = adds_call t d (by_is t.set d e t.hands is calls)
+pub adds_is : (t : Tended) (d e : LinkSet) → d ≡ e → ByCalls t.set [] e → Adds t (record t { set = d })
+adds_is t d e is calls = adds_call t d (by_is t.set d e is calls)
 
 pub adds_of : (t u : Tended) → Adds t u → Does t u
 adds_of t u adds = adds t (does_nothing t)
@@ -53,15 +54,29 @@ acts_of t u adds =
 pub acts_quiet : (t u : Tended) (messages : List Msu) → messages ≡ [] → Adds t u → Acts [] messages t u
 acts_quiet t u messages none adds = subst (λ (ms : List Msu). Acts [] ms t u) (sym none) (acts_of t u adds)
 
+-- a new one, once links were admitted or not
+pub new_tended : (ends : Ends) (tests : Bool) (set : LinkSet) (links : ℕ) (messages : List Msu) (t : Tended) → links ≡ length set.links → messages ≡ []
+    → Adds (record { set = set; plan = record { ends = ends; tests = tests; links = links }; ticks = 0; messages = messages }) t
+    → IsNewTended ends tests set t
+new_tended ends tests set links messages t links_is none adds =
+    let old : Tended = record { set = set; plan = record { ends = ends; tests = tests; links = links }; ticks = 0; messages = messages } in
+    let d : Does old t = adds_of old t adds in
+    record {
+      calls = d.calls;
+      plan = d.plan ∙ ap (λ (n : ℕ). record { ends = ends; tests = tests; links = n }) links_is;
+      ticks = d.ticks;
+      messages = d.messages ∙ none;
+    }
+
 -- ---- reports
 
-heeds_then : (s t u : Tended) (hs : List Handed) → Heeds s hs t → ByCalls (played t) [] (played u) → Heeds s hs u
-heeds_then s t u hs (nothing first) calls = nothing (by_both (played s) (played t) (played u) first calls)
+heeds_then : (s t u : Tended) (hs : List Handed) → Heeds s hs t → ByCalls t.set [] u.set → Heeds s hs u
+heeds_then s t u hs (nothing first) calls = nothing (by_both s.set t.set u.set first calls)
 heeds_then s t u hs (one {others} {v} {w} {x} h before out behind) calls =
-    one h before out (by_both (played w) (played t) (played u) behind calls)
+    one h before out (by_both w.set t.set u.set behind calls)
 
 pub heeded_nothing : (t : Tended) → IsHeeded t t
-heeded_nothing t = record { handed = []; heeds = nothing (by_none (played t)); plan = refl; ticks = refl; messages = sym (append-nil t.messages) }
+heeded_nothing t = record { handed = []; heeds = nothing (by_none t.set); plan = refl; ticks = refl; messages = sym (append-nil t.messages) }
 
 pub heeded_then : (s t u : Tended) → IsHeeded s t → Does t u → IsHeeded s u
 heeded_then s t u h d = record {

@@ -9,5 +9,4 @@ pub mod Tended
 pub mod Texts
 pub mod Wires
 pub use Rattle.link_group.specs.Diverting
-pub use Rattle.link_group.specs.Holding
 pub use Rattle.link_group.specs.declared as link_group_types

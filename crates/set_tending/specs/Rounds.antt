@@ -8,19 +8,19 @@ use Rattle.link_group.specs.Lines.{ByLink}
 use Rattle.link_group.specs.Ticks.{after_ticks}
 use Rattle.set_tending.specs.Calling.{ByCalls}
 use Rattle.set_tending.specs.Telling.{user_message}
-use Rattle.set_tending.specs.Tended.{Tended, played}
+use Rattle.set_tending.specs.Tended.{Tended}
 use Rattle.set_tending.specs.declared.tender.Plan.{Plan}
 
 -- `send` took these messages, and these are told behind those that were to be told.
 pub record Acts (taken tells : List Msu) (old new : Tended) : Type 0 where
-  pub calls : ByCalls (played old) taken (played new)
+  pub calls : ByCalls old.set taken new.set
   pub plan : new.plan ≡ old.plan
   pub ticks : new.ticks ≡ old.ticks
   pub messages : new.messages ≡ old.messages ++ tells
 
 -- Neither took any, and none is told.
 pub record Does (old new : Tended) : Type 0 where
-  pub calls : ByCalls (played old) [] (played new)
+  pub calls : ByCalls old.set [] new.set
   pub plan : new.plan ≡ old.plan
   pub ticks : new.ticks ≡ old.ticks
   pub messages : new.messages ≡ old.messages
@@ -44,9 +44,9 @@ pub record HandsOut (h : Handed) (old new : Tended) : Type 0 where
 -- Links hand out reports one after another; before them, and behind each, the rules do what they do
 -- by calls of the set.
 pub data Heeds (t : Tended) : List Handed → Tended → Type 0 where
-  nothing : {u : Tended} → ByCalls (played t) [] (played u) → Heeds t [] u
+  nothing : {u : Tended} → ByCalls t.set [] u.set → Heeds t [] u
   one : {hs : List Handed} {u v w : Tended} (h : Handed)
-      → Heeds t hs u → HandsOut h u v → ByCalls (played v) [] (played w)
+      → Heeds t hs u → HandsOut h u v → ByCalls v.set [] w.set
       → Heeds t (hs ++ h ∷ []) w
 
 -- of what links handed out the messages for level 3

@@ -42,7 +42,7 @@ impl Tender {
             return Ok(());
         };
         self.wait_on(link);
-        if !self.set.has_retrieval(link) && !self.care(link).serves {
+        if !self.set.hand(link).is_some() && !self.care(link).serves {
             let is_over =
                 state.answer == Some(Answer::Unknown) || !self.is_waited_for(link, waited);
             self.hand_out(link, is_over)?;
@@ -61,7 +61,7 @@ impl Tender {
 
     /// Whether a link is on its way into service: it was started, or is to be and may be.
     fn is_coming(&self, link: usize) -> bool {
-        let may_start = !self.set.in_changeover(link) || self.set.has_retrieval(link);
+        let may_start = !self.set.in_changeover(link) || self.set.hand(link).is_some();
         self.care(link).is_coming(may_start)
     }
 

@@ -24,8 +24,7 @@ pub use ends::Ends;
 pub use group_changeover::label_of;
 pub use link_group::{
     AbandonError, CallError, Command, CommandError, DivertError, Group, Label, LineError, LinkError,
-    LinkState, LinkStatus, Mode, Msu, Report, Retrievals, RetrieveError, Retrieved, SendError, Sif,
-    Terminal,
+    LinkState, LinkStatus, Mode, Msu, Report, RetrieveError, SendError, Sif, Terminal,
 };
 pub use tender::{Plan, TendError, Tender};
 pub use told::{SharedOut, Told};

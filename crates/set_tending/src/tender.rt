@@ -1,5 +1,5 @@
 //! The set with what is kept of it.
-ghost use Rattle.std.specs.Prelude.{◌≡◌, ◌++◌, [], IfOk, IfErr, IfSome, IsNone};
+ghost use Rattle.std.specs.Prelude.{◌≡◌, ◌++◌, [], IfSome, IsNone};
 ghost use Rattle.set_tending.specs.Telling.{message_in};
 ghost use Rattle.set_tending.specs.Tended.{IsNewTended};
 
@@ -7,7 +7,7 @@ use crate::care::Care;
 use crate::ends::Ends;
 use crate::sharing::Sharing;
 use crate::told::{SharedOut, Told};
-use link_group::{Group, LinkState, Retrievals};
+use link_group::{Group, LinkState};
 use std::alloc::{AllocError, Global};
 use std::collections::VecDeque;
 use std::marker::Model;
@@ -44,10 +44,10 @@ pub struct Plan {
     pub links: usize,
 }
 
-/// A set that tends itself. It can't be dropped: its set ends with what is retrieved.
+/// A set that tends itself.
+#[derive(Drop)]
 pub struct Tender {
     pub(crate) set: Group,
-    pub(crate) hands: Retrievals,
     pub(crate) plan: Plan,
     /// How many ticks have passed.
     pub(crate) ticks: u64,
@@ -72,39 +72,28 @@ impl Model for Tender {
 
     ghost coded = { Prim.hlevel (codes, timers_code) };
 
-    ghost view = { λ t. record { set = t.set; hands = t.hands.kept.items; plan = t.plan; ticks = t.ticks; messages = messages_in t.told.items } };
+    ghost view = { λ t. record { set = t.set; plan = t.plan; ticks = t.ticks; messages = messages_in t.told.items } };
 }
 
 impl Tender {
     /// A new set, whose links are tested or not. Nothing has happened.
-    ///
-    /// # Errors
-    ///
-    /// Where there is no memory, the set with that.
-    pub fn new(alloc: Global, ends: Ends, tests: bool, set: Group) -> Result<Tender, Group>
-        ensures new { IfOk result (IsNewTended ends tests set) }
-        ensures back { IfErr result (λ back. back ≡ set) }
+    pub fn new(alloc: Global, ends: Ends, tests: bool, set: Group) -> Tender
+        ensures { IsNewTended ends tests set result }
     {
         let links = set.len();
-        match Retrievals::new(alloc) {
-            Ok(hands) => {
-                let mut tender = Tender {
-                    set,
-                    hands,
-                    plan: Plan { ends, tests, links },
-                    ticks: 0,
-                    told: VecDeque::new(alloc),
-                    cares: [Care::new(); MOST_LINKS],
-                    sharing: Sharing::new(),
-                    is_open: false,
-                    restarts: false,
-                    shared: [None; MOST_LINKS],
-                };
-                tender.admit_all(!tests);
-                Ok(tender)
-            }
-            Err(_) => Err(set),
-        }
+        let mut tender = Tender {
+            set,
+            plan: Plan { ends, tests, links },
+            ticks: 0,
+            told: VecDeque::new(alloc),
+            cares: [Care::new(); MOST_LINKS],
+            sharing: Sharing::new(),
+            is_open: false,
+            restarts: false,
+            shared: [None; MOST_LINKS],
+        };
+        tender.admit_all(!tests);
+        tender
     }
 
     /// How many links there are.
@@ -175,22 +164,5 @@ impl Tender {
     /// What a link is, where it is there.
     pub(crate) fn state(&self, link: usize) -> Option<LinkState> {
         self.set.state(link)
-    }
-
-    /// Ends the set, with what is retrieved.
-    pub fn end(self) {
-        let Tender {
-            set,
-            hands,
-            plan: _,
-            ticks: _,
-            told: _told,
-            cares: _,
-            sharing: _,
-            is_open: _,
-            restarts: _,
-            shared: _,
-        } = self;
-        let _ended = set.end(hands);
     }
 }

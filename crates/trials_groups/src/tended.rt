@@ -39,10 +39,8 @@ fn open_end(alloc: Global, set: &Verified, run: TendedRun, way: Way) -> Result<T
         peer: way.to,
         network: 2,
     };
-    match Tender::new(alloc, ends, run.tests, group) {
-        Ok(tender) => Ok(TendedEnd::new(tender, wires, way, run.loud)),
-        Err(_group) => Err(Stopped::NoMemory),
-    }
+    let tender = Tender::new(alloc, ends, run.tests, group);
+    Ok(TendedEnd::new(tender, wires, way, run.loud))
 }
 
 fn channel(alloc: Global, clocked: bool) -> Result<Channel, Stopped> {
@@ -186,9 +184,7 @@ fn run_with(
         to: NEAR,
     };
     let mut far = open_end(alloc, set, run, way)?;
-    let made = run_both(alloc, text, line, run, near, &mut far);
-    far.end();
-    made
+    run_both(alloc, text, line, run, near, &mut far)
 }
 
 /// Makes the run of a line.
@@ -201,9 +197,7 @@ fn run_line(alloc: Global, text: &mut String, set: &Verified, line: &str) -> Res
         to: FAR,
     };
     let mut near = open_end(alloc, set, run, way)?;
-    let made = run_with(alloc, text, set, line, run, &mut near);
-    near.end();
-    made
+    run_with(alloc, text, set, line, run, &mut near)
 }
 
 /// Makes the run of each line: `basic` or `cyclic`, how many links, the seed, for how many seconds faults come, how many milliseconds lie between two of them on

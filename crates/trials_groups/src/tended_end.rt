@@ -11,6 +11,7 @@ use set_tending::{Command, Msu, Passed, TendError, Tender, Told, Wire};
 const AHEAD: usize = 8;
 
 /// One end.
+#[derive(Drop)]
 pub struct TendedEnd {
     pub tender: Tender,
     wires: Vec<Wire>,
@@ -153,22 +154,5 @@ impl TendedEnd {
             }
         }
         self.tender.is_calm()
-    }
-
-    /// Ends the set.
-    pub fn end(self) {
-        let TendedEnd {
-            tender,
-            wires: _wires,
-            counts: _,
-            way: _,
-            unsure: _,
-            changeovers: _,
-            restarts: _,
-            silences: _,
-            refused: _,
-            loud: _,
-        } = self;
-        tender.end();
     }
 }

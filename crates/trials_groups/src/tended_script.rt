@@ -15,6 +15,7 @@ use turn_check::Verified;
 const AHEAD: usize = 8;
 
 /// One end of a script.
+#[derive(Drop)]
 struct Side {
     name: &'static str,
     way: Way,
@@ -74,15 +75,13 @@ fn open_side(
         peer: way.to,
         network: 2,
     };
-    match Tender::new(alloc, ends, true, group) {
-        Ok(tender) => Ok(Side {
-            name,
-            way,
-            tender,
-            wires,
-        }),
-        Err(_group) => Err(Stopped::NoMemory),
-    }
+    let tender = Tender::new(alloc, ends, true, group);
+    Ok(Side {
+        name,
+        way,
+        tender,
+        wires,
+    })
 }
 
 /// What a word tells a link.
@@ -180,17 +179,6 @@ impl Side {
             }
         }
         Ok(())
-    }
-
-    /// Ends it.
-    fn end(self) {
-        let Side {
-            name: _,
-            way: _,
-            tender,
-            wires: _wires,
-        } = self;
-        tender.end();
     }
 }
 
@@ -339,9 +327,7 @@ fn run_near(
         back: channels(alloc, links)?,
     };
     let mut far = open_side(alloc, set, links, "far", Way { from: 2, to: 1 })?;
-    let made = steps(alloc, text, near, &mut far, &mut ties, lines);
-    far.end();
-    made
+    steps(alloc, text, near, &mut far, &mut ties, lines)
 }
 
 /// Does what a script says, and writes what both ends told: `links N` first; then `near ORDER` and `far ORDER`; `run N`, so many rounds, behind which is
@@ -361,7 +347,5 @@ pub fn run_script(
         return Err(Stopped::BadLine);
     };
     let mut near = open_side(alloc, set, links, "near", Way { from: 1, to: 2 })?;
-    let made = run_near(alloc, text, set, &mut near, links, lines);
-    near.end();
-    made
+    run_near(alloc, text, set, &mut near, links, lines)
 }

@@ -5,4 +5,4 @@ use Rattle.set_tending.proofs.tender.Tender.tell_message.Goals as goal
 pub returns-in-Ok : goal.returns-in-Ok
 returns-in-Ok c =
     rw (← c.self.view_is)
-    (acts_message c.self.inside.set c.self.inside.hands.kept.items c.self.inside.plan c.self.inside.ticks c.self.inside.told.items _ c.args.link c.args.msu (search rules))
+    (acts_message c.self.inside.set c.self.inside.plan c.self.inside.ticks c.self.inside.told.items _ c.args.link c.args.msu (search rules))
