@@ -1,5 +1,5 @@
 -- What holds of bytes of which something may be known holds of some bytes.
-use Rattle.std.proofs.Common.{subst, sym, ◌≡◌, ℕ, Bool, false, inl, inr, List, Option, None, Some, rules}
+use Rattle.std.proofs.Common.{subst, sym, ◌≡◌, ◌⊎◌, ℕ, Bool, false, inl, inr, List, Option, None, Some, rules, arith}
 use Rattle.script_check.specs.Checked.{given, IsGiven, PrintsCosts, PrintsRefusal}
 use Rattle.script_check.specs.declared.sets.SetWord.{SetWord}
 use Rattle.script_check.specs.declared.sets.SetWord.TheVariants.{Standard as standard_set, Q703 as q703_set, Monitors as monitors_set, Text}
@@ -12,7 +12,7 @@ use Rattle.line_play.specs.Opening.{IsNoSet}
 use Rattle.mtp2_play.specs.Spoken.{SpokeOver, BegunOver}
 use Rattle.mtp2_words.specs.resend_store_types.messages.RoundLimits.{RoundLimits}
 use Rattle.mtp2_words.specs.declared.ends.LineEnd.{LineEnd}
-use Rattle.mtp2_play.specs.Printed.{IsSpoken, IsPlayedOn, IsWatchedOn}
+use Rattle.mtp2_play.specs.Printed.{IsDone, IsSetRun, IsSpoken, IsPlayedOn, IsWatchedOn}
 use Rattle.mtp2_words.specs.Limits.{usual_limits_of}
 use Rattle.mtp2_play.specs.Sets.{own_set_of, own_text_of}
 use Rattle.mtp2_words.specs.declared.words.Named.{Named}
@@ -60,6 +60,53 @@ spoken_over_own remaining Monitors monitors_set usual end status old new is s = 
 spoken_over_own remaining Monitors (Text text) usual end status old new is s = search (rules, is)
 spoken_over_own remaining Stdin own usual end status old new is s = search (rules, is)
 spoken_over_own remaining (File path) own usual end status old new is s = search (rules, is)
+
+-- ---- `set`
+
+pub set_run : (known : Option (List ℕ)) (status : ℕ) → IsSetRun known status → IsSetRun None status
+set_run known status s = record { refused = λ h. some_bytes known (IsNoSet None None) (s.refused h); ends = s.ends }
+
+-- the set of the program's own that is named is over its text
+pub set_over_own : {R : Type 0} (remaining : R → Option (List ℕ)) (set : Named) (own : SetWord R) (status : ℕ) → own_set_of set ≡ Some own
+    → IsSetRun (given remaining own) status → IsSetRun (own_text_of set) status
+set_over_own remaining Standard standard_set status is s = s
+set_over_own remaining Standard q703_set status is s = search (rules, is)
+set_over_own remaining Standard monitors_set status is s = search (rules, is)
+set_over_own remaining Standard (Text text) status is s = search (rules, is)
+set_over_own remaining Q703 standard_set status is s = search (rules, is)
+set_over_own remaining Q703 q703_set status is s = s
+set_over_own remaining Q703 monitors_set status is s = search (rules, is)
+set_over_own remaining Q703 (Text text) status is s = search (rules, is)
+set_over_own remaining Monitors standard_set status is s = search (rules, is)
+set_over_own remaining Monitors q703_set status is s = search (rules, is)
+set_over_own remaining Monitors monitors_set status is s = s
+set_over_own remaining Monitors (Text text) status is s = search (rules, is)
+set_over_own remaining Stdin own status is s = search (rules, is)
+set_over_own remaining (File path) own status is s = search (rules, is)
+
+not_two : (status : ℕ) → (status ≡ 0) ⊎ (status ≡ 4) → status ≡ 2 → ⊥
+not_two status (inl done) two = omega (arith, done, two)
+not_two status (inr four) two = omega (arith, four, two)
+
+over_or_failed : (status : ℕ) → (status ≡ 0) ⊎ (status ≡ 4) → IsDone status
+over_or_failed status (inl done) = inl done
+over_or_failed status (inr four) = inr (inr four)
+
+-- it ran, or couldn't begin to
+pub set_over : (known : Option (List ℕ)) (status : ℕ) → (status ≡ 0) ⊎ (status ≡ 4) → IsSetRun known status
+set_over known status ends = record { refused = λ two. absurd (not_two status ends two); ends = over_or_failed status ends }
+
+pub set_turned_down : (known : Option (List ℕ)) (status : ℕ) → (status ≡ 2 → IsGiven known (IsNoSet None None)) → (status ≡ 2) ⊎ (status ≡ 4)
+    → IsSetRun known status
+set_turned_down known status why ends = record { refused = why; ends = inr ends }
+
+pub set_failed : (known : Option (List ℕ)) (status : ℕ) → status ≡ 4 → IsSetRun known status
+set_failed known status four = set_over known status (inr four)
+
+pub ends_as : (status result : ℕ) → (status ≡ 0) ⊎ (status ≡ 4) → (result ≡ status) ⊎ (result ≡ 4) → (result ≡ 0) ⊎ (result ≡ 4)
+ends_as status result (inl done) (inl same) = inl (omega (arith, done, same))
+ends_as status result (inr four) (inl same) = inr (omega (arith, four, same))
+ends_as status result ran (inr four) = inr four
 
 -- ---- `soak`
 

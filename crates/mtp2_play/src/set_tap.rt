@@ -1,4 +1,5 @@
 //! What is captured of a set's lines.
+ghost use Rattle.std.specs.Prelude.{◌≡◌, ◌⊎◌};
 
 use line_streams::{Capture, Kept, RecordStream, Seen, header, record};
 use plain_text::{FAILED, Teller, write_line};
@@ -126,7 +127,9 @@ impl SetTap {
         teller: &Teller<'_, H>,
         path: &str,
         status: u8,
-    ) -> u8 {
+    ) -> u8
+        ensures { (result ≡ status) ⊎ (result ≡ 4) }
+    {
         if let Some(error) = &self.trouble {
             return teller.fail(path, error);
         }

@@ -96,6 +96,13 @@ fn end_tap<H: Files + Eprint + Clock + AllocGlobal>(
     }
 }
 
+/// The exit status of a run, by whether it went well.
+fn status_of(went_well: bool) -> u8
+    ensures { (result ≡ 0) ⊎ (result ≡ 4) }
+{
+    if went_well { HELD } else { FAILED }
+}
+
 /// Runs a set on its lines. Gives the exit status.
 fn serve<H: Files<File = File> + Threads + Eprint + Clock + AllocGlobal>(
     host: &H,
@@ -122,11 +129,7 @@ fn serve<H: Files<File = File> + Threads + Eprint + Clock + AllocGlobal>(
     let now = desk.millisecond();
     let (_orders, mut reports) = desk.end();
     let ended = reports.end(host, now);
-    let status = if ran.is_ok() && ended.is_ok() {
-        HELD
-    } else {
-        FAILED
-    };
+    let status = status_of(ran.is_ok() && ended.is_ok());
     end_tap(host, teller, end.capture, open_lines.tap.take(), status)
 }
 

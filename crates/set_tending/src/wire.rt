@@ -1,5 +1,5 @@
 //! One line of a set.
-ghost use Rattle.std.specs.Prelude.{◌≡◌, IfOk, OnOk};
+ghost use Rattle.std.specs.Prelude.{◌≡◌, [], IfOk, OnOk};
 ghost use Rattle.set_tending.specs.Rounds.{Adds, AddsHeeded};
 ghost use Rattle.set_tending.specs.Wires.{GivesNext, Speaks, Waits, Passes};
 
@@ -61,23 +61,34 @@ impl Wire {
         }
     }
 
-    /// The octet that goes out next. A unit that isn't whole would be told as want of memory, but none comes here.
-    fn next(&mut self, tender: &mut Tender, link: usize) -> Result<u8, TendError>
+    /// The octet that goes out next where no unit is under way. A unit that isn't whole would be told as want of memory, but none comes here.
+    fn begin(&mut self, tender: &mut Tender, link: usize) -> Result<u8, TendError>
+        requires { self.old.voice.ready ≡ [] }
         ensures gives { IfOk result (λ octet. GivesNext link tender.old self.old.voice octet tender.new self.new.voice) }
-        ensures adds { OnOk result (Adds tender.old tender.new) }
+        ensures adds { Adds tender.old tender.new }
         ensures quiet { self.new.quiet ≡ self.old.quiet }
     {
-        if let Some(octet) = self.voice.rest() {
-            return Ok(octet);
-        }
-        match tender.unit_out(link)? {
-            Some(unit) => {
+        match tender.unit_out(link) {
+            Ok(Some(unit)) => {
                 if !unit.whole() {
                     return Err(TendError::NoMemory);
                 }
                 Ok(self.voice.begin(&unit))
             }
-            None => Ok(self.voice.fall_silent()),
+            Ok(None) => Ok(self.voice.fall_silent()),
+            Err(_) => Err(TendError::NoMemory),
+        }
+    }
+
+    /// The octet that goes out next.
+    fn next(&mut self, tender: &mut Tender, link: usize) -> Result<u8, TendError>
+        ensures gives { IfOk result (λ octet. GivesNext link tender.old self.old.voice octet tender.new self.new.voice) }
+        ensures adds { Adds tender.old tender.new }
+        ensures quiet { self.new.quiet ≡ self.old.quiet }
+    {
+        match self.voice.rest() {
+            Some(octet) => Ok(octet),
+            None => self.begin(tender, link),
         }
     }
 
