@@ -1,5 +1,5 @@
 -- What a call of the set, however it ends, does to a set that tends itself.
-use Rattle.std.proofs.Common.{◌≡◌, ◌∙◌, ℕ, ◌<◌, Bool, true, List, [], ◌∷◌, ◌++◌, append-nil, Option, None, Some, Result, Ok, Err, OnOk, OnErr, IfOk, IfErr, IfSome, refl, sym, ap, subst}
+use Rattle.std.proofs.Common.{◌≡◌, ◌∙◌, ℕ, ◌<◌, Bool, true, if◌then◌else◌, List, [], ◌∷◌, ◌++◌, append-nil, Option, None, Some, Result, Ok, Err, is_ok, OnOk, OnErr, IfOk, IfErr, IfSome, refl, sym, ap, subst}
 use Rattle.std.proofs.lemmas.Grind.{flat_map-append}
 use Rattle.resend_store.specs.declared.messages.Msu.{Msu}
 use Rattle.su_octets.specs.declared.units.Unit.{Unit}
@@ -92,6 +92,11 @@ adds_report t d l o did = adds_call t d (by_reports t.set d l o did)
 
 told_more : (told : List Told) (link : ℕ) (m : Msu) → messages_in (told ++ Message link m ∷ []) ≡ messages_in told ++ m ∷ []
 told_more told link m = flat_map-append message_in told (Message link m ∷ [])
+
+-- what was pushed stands behind the others
+pub told_pushed : {A E : Type 0} (r : Result A E) (told after : List Told) (x : Told) (v : A) → r ≡ Ok v
+    → after ≡ (if is_ok r then told ++ x ∷ [] else told) → after ≡ told ++ x ∷ []
+told_pushed {A} {E} r told after x v is items = items ∙ ap (λ (o : Result A E). if is_ok o then told ++ x ∷ [] else told) is
 
 -- one is to be told behind the others
 pub acts_message : (c : LinkSet) (plan : Plan) (ticks : ℕ) (told after : List Told) (link : ℕ) (m : Msu)

@@ -71,9 +71,8 @@ new_tended ends tests set links messages t links_is none adds =
 -- ---- reports
 
 heeds_then : (s t u : Tended) (hs : List Handed) → Heeds s hs t → ByCalls t.set [] u.set → Heeds s hs u
-heeds_then s t u hs (nothing first) calls = nothing (by_both s.set t.set u.set first calls)
-heeds_then s t u hs (one {others} {v} {w} {x} h before out behind) calls =
-    one h before out (by_both w.set t.set u.set behind calls)
+heeds_then s _ x _ (nothing {u} first) calls = nothing (by_both s.set u.set x.set first calls)
+heeds_then s _ x _ (one {hs} {u} {v} {w} h before out behind) calls = one h before out (by_both v.set w.set x.set behind calls)
 
 pub heeded_nothing : (t : Tended) → IsHeeded t t
 heeded_nothing t = record { handed = []; heeds = nothing (by_none t.set); plan = refl; ticks = refl; messages = sym (append-nil t.messages) }

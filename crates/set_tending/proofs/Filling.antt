@@ -17,7 +17,7 @@ use Rattle.set_tending.specs.Cares.{LAST}
 use Rattle.set_tending.specs.Sending.{MOST_HELD, MOST_OCTETS, size_of, octets_in, held_by, is_full_of, is_full_at, finds_no_room}
 
 octets_append : (xs ys : List Msu) → octets_in (xs ++ ys) ≡ octets_in xs + octets_in ys
-octets_append [] ys = refl
+octets_append [] ys = omega arith
 octets_append (x ∷ xs) ys = omega (arith, octets_append xs ys)
 
 none_past : (xs : List Msu) (n : ℕ) → slice_get xs n ≡ None → length xs ≤ n

@@ -3,12 +3,12 @@ use Rattle.set_tending.proofs.Doing.{adds_nothing, adds_then}
 use Rattle.set_tending.proofs.Speaking.{speaks_nothing, speaks_more}
 use Rattle.set_tending.proofs.wire.Wire.speak.Goals as goal
 
-pub loop-_octet-init : goal.loop-_octet-init
-loop-_octet-init c = record { speaks = speaks_nothing _ _ _ _; adds = adds_nothing _; quiet = refl }
+pub loop-octet-init : goal.loop-octet-init
+loop-octet-init c = record { speaks = speaks_nothing _ _ _ _; adds = adds_nothing _; quiet = refl }
 
-pub loop-_octet-preserved : goal.loop-_octet-preserved
-loop-_octet-preserved c = record {
-  speaks = speaks_more _ _ _ _ _ _ _ _ _ _ _ _ c.loop-_octet.invariant.speaks c.in_ok-octet.ensures.gives (search rules);
-  adds = adds_then _ _ _ c.loop-_octet.invariant.adds c.in_ok-octet.ensures.adds;
-  quiet = c.next.ensures.quiet ∙ c.loop-_octet.invariant.quiet;
+pub loop-octet-preserved : goal.loop-octet-preserved
+loop-octet-preserved c = record {
+  speaks = speaks_more _ _ _ _ _ _ _ _ _ _ _ _ c.loop-octet.invariant.speaks c.in_ok-octet.ensures.gives (search rules);
+  adds = adds_then _ _ _ c.loop-octet.invariant.adds c.in_ok-octet.ensures.adds;
+  quiet = c.next.ensures.quiet ∙ c.loop-octet.invariant.quiet;
 }

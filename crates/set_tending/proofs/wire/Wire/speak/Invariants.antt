@@ -3,8 +3,8 @@ use Rattle.set_tending.specs.Rounds.{Adds}
 use Rattle.set_tending.specs.Wires.{Speaks}
 use Rattle.set_tending.proofs.wire.Wire.speak.Given as goal
 
-abbrev pub invariant-loop-_octet : goal.invariant-loop-_octet
-invariant-loop-_octet l = record {
+abbrev pub invariant-loop-octet : goal.invariant-loop-octet
+invariant-loop-octet l = record {
   speaks : Speaks l.link l._octet l.initial.tender l.initial.self.voice l.initial.out.items l.tender l.self.voice l.out.items;
   adds : Adds l.initial.tender l.tender;
   quiet : l.self.quiet ≡ l.initial.self.quiet;
