@@ -9,7 +9,7 @@ usage: tools/oracles/plain_trace.py SET SCRIPT [--every]      prints the trace o
 
 SET and SCRIPT are as plain_term.py has them; the status is that of the script. Lines of a trace, behind the ticks gone by:
 
-    > COMMAND                                               a line of the script, but for state, value and expect
+    > COMMAND                                               a line of the script, but for state, value, measure NAME and expect
     T offer ACTOR SIG v ..
     T due ACTOR TIMER
     T skip ACTOR STATE/SIG v .. from SENDER                 with --every; a timer has no sender
@@ -217,7 +217,8 @@ class Seen:
         self.names = {(it[1][0][0].lower(), lo(name)): name[0] for it in P(text, lex(text)).block() if it[0] == "process" for part in it[1][1] if part[0] != "timer" for name in part[1]}
 
     def command(self, text):
-        if text.split(" ")[0] not in ("state", "value", "expect"):
+        asks = text.split(" ")[0] in ("state", "value", "measure", "expect") and text != "measure reset"
+        if not asks:
             self.lines.append(f"> {text}")
 
     def tell(self, kind, clock, actor, what):
@@ -303,9 +304,9 @@ def run_book(text, script, seen, say):
     return 0
 
 
-def run_terminal(text, script, seen, say):
+def run_terminal(text, script, seen, say, usual):
     (_, first), *rest = plain_term.spoken(script)
-    terminal = plain_term.Terminal(text, first[1] == "cyclic", *plain_term.limits_of(first))
+    terminal = plain_term.Terminal(text, first[1] == "cyclic", *(plain_term.limits_of(first) or usual))
     seen.book = terminal.book
     commands = [(at, plain_term.command(it)) for at, it in rest]
     terminal.keeps, last, lines = any(it[0] == "told" for _, it in commands), [None], lines_of(script)
@@ -325,14 +326,19 @@ def run_terminal(text, script, seen, say):
     return 0
 
 
-def seen_of(text, script, every=False, say=lambda line: None):
-    """What is seen of a script on a text, and the status."""
-    seen = SeenBook.seen = Seen(text, every)
-    plain_play.Turn, plain_term.Book = SeenTurn, SeenBook
+def seen_of(text, script, every=False, say=lambda line: None, usual=()):
+    """What is seen of a script on a text, and the status; with these N1 and N2 where a terminal's script says none."""
     if plain_group.is_group(script) if hasattr(plain_group, "is_group") else False:
         raise SystemExit("scripts of link sets have no trace here")
-    run = run_terminal if plain_term.is_terminal(script) else run_book
-    return seen, run(text, script, seen, say)
+    seen = SeenBook.seen = Seen(text, every)
+    plain = plain_play.Turn, plain_term.Book
+    plain_play.Turn, plain_term.Book = SeenTurn, SeenBook
+    try:
+        if plain_term.is_terminal(script):
+            return seen, run_terminal(text, script, seen, say, usual)
+        return seen, run_book(text, script, seen, say)
+    finally:
+        plain_play.Turn, plain_term.Book = plain
 
 
 def main(given):
@@ -341,7 +347,7 @@ def main(given):
         return 3
     word, path, *options = given
     script = sys.stdin.buffer.read() if path == "stdin" else pathlib.Path(path).read_bytes()
-    seen, status = seen_of(plain_term.text_of(word).encode(), script, "--every" in options)
+    seen, status = seen_of(plain_term.text_of(word).encode(), script, "--every" in options, usual=plain_term.USUAL.get(word, ()))
     if "--chart" in options:
         cut = options[options.index("--turns") + 1].split("..") if "--turns" in options else ["0", ""]
         print("\n".join(chart(seen, int(cut[0] or 0), int(cut[1]) if cut[1] else None)))

@@ -8,6 +8,7 @@ use Rattle.clap.specs.declared.error.kind.ErrorKind.TheVariants.{DisplayHelp, Di
 use Rattle.plain_limits.specs.Limits.{LEAST_WORKERS, MOST_WORKERS}
 use Rattle.script_check.specs.Checked.{IsGiven, PrintsCosts, PrintsRefusal}
 use Rattle.script_play.specs.Played.{IsOnSet, IsPlayed, IsPlayedInPart, IsRefused}
+use Rattle.script_play.specs.Traced.{IsWatched, IsWatchedInPart}
 use Rattle.pool_soak.specs.Findings.{IsSoaked, IsSoakedInVain, IsTurnedDown}
 use Rattle.mtp2_frame.specs.Printed.{PrintsUnit, PrintsFault}
 use Rattle.line_filter.specs.Filters.{Line as Octets}
@@ -15,6 +16,7 @@ use Rattle.line_play.specs.Opening.{IsNoSet}
 use Rattle.mtp2_play.specs.Spoken.{SpokeOver, BegunOver, IsUntouched}
 use Rattle.mtp2_words.specs.resend_store_types.messages.RoundLimits.{RoundLimits}
 use Rattle.mtp2_words.specs.declared.ends.LineEnd.{LineEnd}
+use Rattle.mtp2_play.specs.Compared.{IsCompared}
 use Rattle.mtp2_play.specs.Sets.{own_text_of}
 use Rattle.mtp2_words.specs.Limits.{usual_limits_of}
 use Rattle.mtp2_words.specs.declared.words.Named.{Named}
@@ -57,6 +59,19 @@ pub record IsPlayedOn (set : Named) (echo : Bool) (status : ℕ) (old new : Opti
       IsOnSet (own_text_of set) None (IsPlayedInPart (usual_limits_of set) echo old new)
   pub refused : status ≡ 2 → IsRefused (own_text_of set) None old new
 
+-- what it prints, and what it has written to the file of a trace, where there is one
+pub record IsWatchedOn (set : Named) (echo every : Bool) (status : ℕ) (old new : Option (List ℕ))
+    (begun now : Option (Option (List ℕ))) : Type 0 where
+  pub held :
+      status ≡ 0 →
+      IsOnSet (own_text_of set) None
+      (IsWatched (usual_limits_of set) echo every old new begun now)
+  pub missed :
+      status ≡ 1 →
+      IsOnSet (own_text_of set) None
+      (IsWatchedInPart (usual_limits_of set) echo every old new begun now)
+  pub refused : status ≡ 2 → IsRefused (own_text_of set) None old new
+
 -- what `soak` prints of a script: its two lines, where so many workers can work, or why it is
 -- refused
 pub record IsServed (workers status : ℕ) (old new : Option (List ℕ)) : Type 0 where
@@ -88,10 +103,6 @@ pub record IsPrinted (set : Named) (status : ℕ) (old new : Option (List ℕ)) 
   pub held : status ≡ 0 → IsSomeAnd (own_text_of set) (Appends old new)
   pub ends : (status ≡ 0) ⊎ (status ≡ 4)
 
--- the exit statuses of `diff`: alike, different, refused, failed
-abbrev pub IsCompared : ℕ → Type 0
-IsCompared status = (status ≡ 0) ⊎ (status ≡ 1) ⊎ (status ≡ 2) ⊎ (status ≡ 4)
-
 -- what a request has printed, and with which exit status; only `line` reads what is handed to it
 -- here
 abbrev pub IsAnswered : Request → ℕ → Octets → Octets → Type 0
@@ -105,4 +116,5 @@ IsAnswered (Line set end) status old new =
 IsAnswered (Frame octets) status old new = IsFramed octets.now status old.written new.written
 IsAnswered (Draw set process states) status old new = IsDone status
 IsAnswered (Print set) status old new = IsPrinted set status old.written new.written
-IsAnswered (Diff one other) status old new = IsCompared status
+IsAnswered (Diff one other) status old new =
+    IsCompared (own_text_of one) (own_text_of other) status old.written new.written

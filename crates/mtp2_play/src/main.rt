@@ -2,13 +2,10 @@
 //! signal units.
 #![tactic(auto)]
 
-ghost use Rattle.std.specs.Prelude.{◌≡◌, ◌≢◌, ◌⊎◌, None, map, string_bytes};
+ghost use Rattle.std.specs.Prelude.{◌≡◌, ◌≢◌, ◌⊎◌, map, string_bytes};
 ghost use Rattle.clap.specs.Words.{kind_of};
 ghost use Rattle.clap.specs.declared.error.kind.ErrorKind.TheVariants.{OutOfMemory};
-ghost use Rattle.script_check.specs.Checked.{given};
-ghost use Rattle.script_play.specs.Played.{IsOnSet, IsPlayed, IsPlayedInPart, IsRefused};
-ghost use Rattle.mtp2_words.specs.Limits.{usual_limits_of};
-ghost use Rattle.mtp2_play.specs.Printed.{IsAnswered, IsFault, IsPlayedOn};
+ghost use Rattle.mtp2_play.specs.Printed.{IsAnswered, IsFault};
 ghost use Rattle.mtp2_play.specs.Served.{IsServedBy, WasAnswered, WasServed};
 
 mod asked;
@@ -18,6 +15,7 @@ mod differences;
 mod lines;
 mod measuring;
 mod pictures;
+mod plays;
 mod running;
 mod sets;
 mod soaks;
@@ -29,16 +27,14 @@ use crate::checks::run_checks;
 use crate::differences::run_diff;
 use crate::lines::run_line;
 use crate::pictures::{picture_of, run_draw};
-use crate::sets::{STDIN, own_set, set_word};
+use crate::plays::run_play;
 use crate::soaks::serve_links;
 use crate::texts::print_own;
 use line_streams::{Plan, open_records, tap};
 use mtp2_frame::frame;
-use mtp2_words::{Error, ErrorKind, Named, Request, Seeing, Source, read};
-use plain_text::{NamedReader, Teller};
-use script_check::{FAILED, HELD, SetWord, USAGE};
-use script_play::play;
-use std::alloc::Global;
+use mtp2_words::{Error, ErrorKind, Request, read};
+use plain_text::Teller;
+use script_check::{FAILED, HELD, USAGE};
 use std::fs::File;
 use std::io::{self, Read, Write};
 use std::process::ExitCode;
@@ -73,9 +69,7 @@ fn run<
 {
     match request {
         Request::Check { sets } => run_checks(rt, teller, sets, writer),
-        Request::Play { set, script, seen } => {
-            run_play(rt, teller, *set, *script, *seen, writer)
-        }
+        Request::Play { set, script, seen } => { run_play(rt, teller, *set, *script, seen, writer) }
         Request::Soak { .. } => FAILED,
         Request::Line { set, end } => run_line(host, teller, set, end, reader, writer),
         Request::Frame { octets } => frame(rt.alloc(), octets, writer),
@@ -86,152 +80,6 @@ fn run<
         } => run_draw(rt, teller, *set, &picture_of(*process, *states), writer),
         Request::Print { set } => print_own(set, writer),
         Request::Diff { old, new } => run_diff(rt, teller, *old, *new, writer),
-    }
-}
-
-/// Runs a script that comes from a reader on a set.
-#[tactic(auto, using(crate::proofs::Known::played, crate::proofs::Known::in_part, crate::proofs::Known::not_run))]
-fn play_on<H: Eprint, S: Read + Drop, T: Read + Drop, W: Write>(
-    alloc: Global,
-    teller: &Teller<'_, H>,
-    set: SetWord<S>,
-    named: &Named<'_>,
-    name: &str,
-    script: T,
-    echo: bool,
-    writer: &mut W,
-) -> u8
-    ensures held { result ≡ 0 → IsOnSet (given S.remaining set) None (IsPlayed (usual_limits_of named.now) echo (W.contents writer.old) (W.contents writer.new)) }
-    ensures missed { result ≡ 1 → IsOnSet (given S.remaining set) None (IsPlayedInPart (usual_limits_of named.now) echo (W.contents writer.old) (W.contents writer.new)) }
-    ensures refused { result ≡ 2 → IsRefused (given S.remaining set) None (W.contents writer.old) (W.contents writer.new) }
-    ensures status { (result ≡ 0) ⊎ (result ≡ 1) ⊎ (result ≡ 2) ⊎ (result ≡ 4) }
-{
-    let usual = named.usual_limits();
-    play(
-        alloc,
-        set,
-        usual,
-        name,
-        script,
-        echo,
-        writer,
-        &mut teller.errors(),
-    )
-}
-
-/// Runs a script of a file, or of standard input, on a set.
-fn play_source<R: Runtime + AllocGlobal, H: Eprint, S: Read + Drop, W: Write>(
-    rt: &R,
-    teller: &Teller<'_, H>,
-    set: SetWord<S>,
-    named: &Named<'_>,
-    name: &str,
-    script: Source<'_>,
-    echo: bool,
-    writer: &mut W,
-) -> u8
-    ensures held { result ≡ 0 → IsOnSet (given S.remaining set) None (IsPlayed (usual_limits_of named.now) echo (W.contents writer.old) (W.contents writer.new)) }
-    ensures missed { result ≡ 1 → IsOnSet (given S.remaining set) None (IsPlayedInPart (usual_limits_of named.now) echo (W.contents writer.old) (W.contents writer.new)) }
-    ensures refused { result ≡ 2 → IsRefused (given S.remaining set) None (W.contents writer.old) (W.contents writer.new) }
-    ensures status { (result ≡ 0) ⊎ (result ≡ 1) ⊎ (result ≡ 2) ⊎ (result ≡ 4) }
-{
-    match script {
-        Source::Stdin => {
-            let script = NamedReader::new(teller, STDIN, rt.reader());
-            play_on(rt.alloc(), teller, set, named, name, script, echo, writer)
-        }
-        Source::File(path) => match fs::open(rt, path) {
-            Ok(file) => play_on(
-                rt.alloc(),
-                teller,
-                set,
-                named,
-                name,
-                NamedReader::new(teller, path, file),
-                echo,
-                writer,
-            ),
-            Err(error) => teller.fail(path, &error),
-        },
-    }
-}
-
-/// Runs a script on a set of the program's own.
-fn play_own<R: Runtime + AllocGlobal, H: Eprint, W: Write>(
-    rt: &R,
-    teller: &Teller<'_, H>,
-    set: Named<'_>,
-    script: Source<'_>,
-    echo: bool,
-    writer: &mut W,
-) -> u8
-    ensures printed { IsPlayedOn set.entry echo result (W.contents writer.old) (W.contents writer.new) }
-    ensures status { (result ≡ 0) ⊎ (result ≡ 1) ⊎ (result ≡ 2) ⊎ (result ≡ 4) }
-{
-    match own_set(&set) {
-        Some(own) => play_source(rt, teller, own, &set, set_word(&set), script, echo, writer),
-        None => FAILED,
-    }
-}
-
-/// Runs a script on a set whose text comes from a reader.
-#[tactic(auto, using(crate::proofs::Known::played_on_some, crate::proofs::Known::in_part_on_some, crate::proofs::Known::not_run_on_some))]
-fn play_text<R: Runtime + AllocGlobal, H: Eprint, S: Read + Drop, W: Write>(
-    rt: &R,
-    teller: &Teller<'_, H>,
-    named: &Named<'_>,
-    name: &str,
-    text: S,
-    script: Source<'_>,
-    echo: bool,
-    writer: &mut W,
-) -> u8
-    ensures held { result ≡ 0 → IsOnSet None None (IsPlayed (usual_limits_of named.now) echo (W.contents writer.old) (W.contents writer.new)) }
-    ensures missed { result ≡ 1 → IsOnSet None None (IsPlayedInPart (usual_limits_of named.now) echo (W.contents writer.old) (W.contents writer.new)) }
-    ensures refused { result ≡ 2 → IsRefused None None (W.contents writer.old) (W.contents writer.new) }
-    ensures status { (result ≡ 0) ⊎ (result ≡ 1) ⊎ (result ≡ 2) ⊎ (result ≡ 4) }
-{
-    play_source(
-        rt,
-        teller,
-        SetWord::Text(text),
-        named,
-        name,
-        script,
-        echo,
-        writer,
-    )
-}
-
-/// Runs `play` on the set and the script that the command line names. A file that can't be opened is a failure, whatever there is to say
-/// of the other text.
-fn run_play<R: Runtime + AllocGlobal, H: Eprint, W: Write>(
-    rt: &R,
-    teller: &Teller<'_, H>,
-    set: Named<'_>,
-    script: Source<'_>,
-    seen: Seeing,
-    writer: &mut W,
-) -> u8
-    ensures printed { IsPlayedOn set.entry seen.echo result (W.contents writer.old) (W.contents writer.new) }
-    ensures status { (result ≡ 0) ⊎ (result ≡ 1) ⊎ (result ≡ 2) ⊎ (result ≡ 4) }
-{
-    let echo = seen.echo;
-    match set {
-        Named::Standard | Named::Q703 | Named::Monitors => play_own(
-            rt, teller, set, script, echo, writer,
-        ),
-        Named::Stdin => {
-            let text = NamedReader::new(teller, STDIN, rt.reader());
-            play_text(rt, teller, &set, set_word(&set), text, script, echo, writer)
-        }
-        Named::File(path) => match fs::open(rt, path) {
-            Ok(file) => {
-                let text = NamedReader::new(teller, path, file);
-                play_text(rt, teller, &set, path, text, script, echo, writer)
-            }
-            Err(error) => teller.fail(path, &error),
-        },
     }
 }
 

@@ -1,8 +1,7 @@
 -- What the words of a command line ask for, by the ids under which they stand in its matches, and
 -- why they ask for nothing.
 use Rattle.std.specs.Prelude.{◌≡◌, ◌⊎◌, ℕ, Bool, true, List, Option, Some, None, IsSomeAnd}
-use Rattle.std.specs.Prelude.{option_map}
-use Rattle.std.specs.Prelude.{option_and_then, codes}
+use Rattle.std.specs.Prelude.{option_map, option_and_then, is_some, codes}
 use Rattle.std.specs.List.{AllZip}
 use Rattle.clap.specs.Words.{Row, Text, all_of, first_of, first_value, found_of}
 use Rattle.clap.specs.declared.parser.matches.ArgMatches.{ArgMatches}
@@ -40,14 +39,27 @@ pub record AreBothStdin (given : Given) : Type 0 where
 -- this of a run is seen beside its replies, by the options that are there
 pub record AreSeen (given : Given) (seen : Seeing) : Type 0 where
   pub echo : says_true (given (codes "echo")) ≡ seen.echo
+  pub trace : given (codes "trace") ≡ option_map (λ w. w.now) seen.trace
+  pub every : says_true (given (codes "every")) ≡ seen.every
 
--- `play`: the set that SET names, and the script that SCRIPT names; standard input isn't both
+-- the lines of commands and a trace
+abbrev pub AreBothSeen : Seeing → Type 0
+AreBothSeen seen = (seen.echo ≡ true) × (is_some seen.trace ≡ true)
+
+-- --echo and --trace are there
+pub record AskBoth (given : Given) : Type 0 where
+  pub echo_is : says_true (given (codes "echo")) ≡ true
+  pub trace_is : is_some (given (codes "trace")) ≡ true
+
+-- `play`: the set that SET names, and the script that SCRIPT names; standard input isn't both, nor
+-- are --echo and --trace both there
 pub record AsksPlay (given : Given) (set : Named) (script : Source) (seen : Seeing) :
     Type 0 where
   pub set_is : IsSomeAnd (given (codes "SET")) (IsNamed set)
   pub script_is : IsSomeAnd (given (codes "SCRIPT")) (IsSource script)
   pub one_input : AreBothStdin given → ⊥
   pub seen_is : AreSeen given seen
+  pub one_is_seen : AskBoth given → ⊥
 
 -- `soak`: the script that SCRIPT names, and as many workers as --workers says
 pub record AsksSoak (given : Given) (script : Source) (workers : ℕ) : Type 0 where
@@ -147,10 +159,11 @@ IsAskedBy (Some entered) request =
 abbrev pub IsNoCheck : Given → Type 0
 IsNoCheck given = given (codes "SET") ≡ None
 
--- `play`: no SET or no SCRIPT, or standard input for both
+-- `play`: no SET or no SCRIPT, standard input for both, or --echo and --trace
 abbrev pub IsNoPlay : Given → Type 0
 IsNoPlay given =
-    (given (codes "SET") ≡ None) ⊎ ((given (codes "SCRIPT") ≡ None) ⊎ AreBothStdin given)
+    (given (codes "SET") ≡ None)
+    ⊎ ((given (codes "SCRIPT") ≡ None) ⊎ (AreBothStdin given ⊎ AskBoth given))
 
 -- `soak`: no SCRIPT, or no --workers that says how many
 abbrev pub IsNoSoak : Given → Type 0

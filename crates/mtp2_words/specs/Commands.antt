@@ -34,7 +34,10 @@ play_begun =
 
 -- a command with the options that say what of a run is seen beside its replies
 abbrev pub with_seeing_options : App → App
-with_seeing_options command = with_rule command (flag_word (codes "echo"))
+with_seeing_options command =
+    with_rule
+    (with_rule (with_rule command (flag_word (codes "echo"))) (option_word (codes "trace")))
+    (flag_word (codes "every"))
 
 -- `play SET SCRIPT`, with its options
 abbrev pub play_command : App

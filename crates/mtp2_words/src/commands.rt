@@ -132,7 +132,18 @@ fn with_seeing_options<'a>(alloc: Global, command: Command<'a>) -> Result<Comman
         "echo",
         "Prints each command in front of what it prints, behind `> `",
     );
-    command.arg(echo)
+    let trace = option_word(
+        alloc,
+        "trace",
+        "PATH",
+        "A file or a FIFO for a trace: a line for each command, each signal of the environment, each timer that runs out and each turn",
+    );
+    let every = flag_word(
+        alloc,
+        "every",
+        "Has signals that are thrown away traced too, and turns that change nothing",
+    );
+    command.arg(echo)?.arg(trace)?.arg(every)
 }
 
 /// The command `play`.

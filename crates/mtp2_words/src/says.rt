@@ -28,7 +28,9 @@ pub(crate) fn complaint_of(matches: &ArgMatches<'_>) -> &'static str {
         return "no such command";
     };
     match name {
-        "play" => "standard input can be the set or the script, not both",
+        "play" => {
+            "standard input can be the set or the script, not both, and --echo and --trace don't go together"
+        }
         "soak" => "--workers is a number from 1 to 16",
         "line" => {
             "MODE is basic or cyclic, --bits low or high, --ahead a number up to 8000; --n1, 1 to 127, and --n2, 300 to 8192, are for cyclic; standard input is the line, so it can't be --text"

@@ -10,7 +10,7 @@ use crate::commands::all_commands;
 use crate::ends::{LineEnd, LineWords, line_end};
 use crate::flags::is_given;
 use crate::says::{are_stdin, complaint_of, workers_of};
-use crate::seeing::{Seeing, seen_of};
+use crate::seeing::{Seeing, are_both_seen, seen_of};
 use clap::error::ErrorKind;
 use clap::{ArgMatches, Error};
 use std::alloc::{AllocError, Global};
@@ -50,7 +50,7 @@ pub enum Request<'a> {
     Play {
         set: Named<'a>,
         script: Source<'a>,
-        seen: Seeing,
+        seen: Seeing<'a>,
     },
     /// `soak SCRIPT --workers N`: a file with a script, or standard input, and the number of threads, 1 to 16.
     Soak {
@@ -107,8 +107,8 @@ fn script_named(word: &str) -> Source<'_>
 }
 
 /// The set and the script that two words name, with what is seen of the run; none where standard input is to be both.
-fn played<'a>(set: &'a str, script: &'a str, seen: Seeing) -> Option<Request<'a>>
-    ensures play { IfSome result (IsPlay set.now script.now seen) }
+fn played<'a>(set: &'a str, script: &'a str, seen: Seeing<'a>) -> Option<Request<'a>>
+    ensures play { IfSome result (IsPlay set.now script.now seen.entry) }
     ensures none { IsNone result → AreStdin set.now script.now }
 {
     if are_stdin(set, script) {
@@ -228,7 +228,11 @@ fn asked_play<'a>(given: &ArgMatches<'a>) -> Option<Request<'a>>
 {
     let set = given.get_str("SET")?;
     let script = given.get_str("SCRIPT")?;
-    played(set, script, seen_of(given))
+    let seen = seen_of(given);
+    if are_both_seen(&seen) {
+        return None;
+    }
+    played(set, script, seen)
 }
 
 /// What the matches of `soak` ask for.

@@ -1,2 +1,3 @@
 mod Refusals
 mod Texts
+pub mod Watching

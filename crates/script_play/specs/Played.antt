@@ -7,9 +7,9 @@ use Rattle.turn_code.specs.declared.draft.Draft.{Draft}
 use Rattle.script_lines.specs.declared.script.ScriptFault.{ScriptFault}
 use Rattle.script_lines.specs.declared.script.ScriptFault.TheVariants.{BadLine, NoMemory}
 use Rattle.script_seen.specs.Played.{first_book, IsWritten, IsMissed}
-use Rattle.script_links.specs.resend_store_types.messages.RoundLimits.{RoundLimits}
-use Rattle.script_links.specs.TermScripts.{PlainAnyScript, book, terminal}
-use Rattle.script_links.specs.GroupScripts.{PlainPlayScript, other, group, play_script_of}
+use Rattle.script_seen.specs.resend_store_types.messages.RoundLimits.{RoundLimits}
+use Rattle.script_seen.specs.TermScripts.{PlainAnyScript, book, terminal}
+use Rattle.script_seen.specs.GroupScripts.{PlainPlayScript, other, group, play_script_of}
 use Rattle.script_check.specs.Checked.{IsGiven, IsSetOf, PrintsRefusal}
 use Rattle.script_seen.specs.Lines.{line_of}
 use Rattle.script_seen.specs.TermRuns.{IsOfNew, IsTermWritten, IsTermFailed, LacksName}

@@ -2,5 +2,7 @@
 #![tactic(auto)]
 
 mod playing;
+mod tracing;
 
 pub use playing::play;
+pub use tracing::play_traced;

@@ -2,18 +2,17 @@
 ghost use Rattle.std.specs.Prelude.{◌≡◌, ◌⊎◌, List, ℕ, IfSome};
 ghost use Rattle.plain_text.specs.Reading.{Keeps};
 ghost use Rattle.script_check.specs.Checked.{given, IsAccepted};
-ghost use Rattle.script_links.specs.TermScripts.{plain_any_script, IsInRange};
-ghost use Rattle.script_links.specs.GroupScripts.{plain_play_script, IsFit};
+ghost use Rattle.script_seen.specs.TermScripts.{plain_any_script, IsInRange};
+ghost use Rattle.script_seen.specs.GroupScripts.{plain_play_script, IsFit};
 ghost use Rattle.script_lines.specs.Lines.{lines_of};
 ghost use Rattle.script_play.specs.Played.{IsOtherShown, IsOtherShownMissed, AreShown, AreShownMissed, IsObeyedAs, IsMissedAs, IsOtherObeyed, IsObeyed, IsPlayed, IsOtherMissed, IsMissedIn, IsPlayedInPart, HasNoOther, HasNoTerminal, IsNotRun, PrintsFault, IsOnSet, IsRefused};
 
 use plain_text::{MOST_BYTES, TextRead, line_at_limit, read_text};
 use script_check::{SetWord, find_set, refuse_set};
 use script_lines::ScriptFault;
-use script_links::{AnyScript, PlayScript, RoundLimits, play_fault, play_script_in};
 use script_seen::{
-    FAILED, play_book, play_group, play_terminal, refuse, show_book, show_group, show_terminal,
-    write_line,
+    AnyScript, FAILED, PlayScript, RoundLimits, play_book, play_fault, play_group, play_script_in,
+    play_terminal, refuse, show_book, show_group, show_terminal, write_line,
 };
 use std::alloc::Global;
 use std::io::{Read, Write};
@@ -68,7 +67,7 @@ pub fn play<S: Read + Drop, R: Read + Drop, W: Write, E: Write>(
 }
 
 /// Writes the fault of a script. Gives the exit status.
-fn refuse_script<W: Write>(alloc: Global, writer: &mut W, fault: ScriptFault) -> u8
+pub(crate) fn refuse_script<W: Write>(alloc: Global, writer: &mut W, fault: ScriptFault) -> u8
     ensures printed { result ≡ 2 → PrintsFault fault (W.contents writer.old) (W.contents writer.new) }
     ensures status { (result ≡ 2) ⊎ (result ≡ 4) }
 {
@@ -79,7 +78,7 @@ fn refuse_script<W: Write>(alloc: Global, writer: &mut W, fault: ScriptFault) ->
 }
 
 /// Tells why a line of a text is none of a script.
-fn explain<E: Write>(alloc: Global, text: &str, fault: ScriptFault, errors: &mut E) {
+pub(crate) fn explain<E: Write>(alloc: Global, text: &str, fault: ScriptFault, errors: &mut E) {
     let ScriptFault::BadLine(line) = fault else {
         return;
     };
@@ -93,7 +92,7 @@ fn explain<E: Write>(alloc: Global, text: &str, fault: ScriptFault, errors: &mut
 }
 
 /// Tells that a text is too long for a script.
-fn explain_length<E: Write>(alloc: Global, line: usize, errors: &mut E) {
+pub(crate) fn explain_length<E: Write>(alloc: Global, line: usize, errors: &mut E) {
     let _told = write_line(
         alloc,
         errors,

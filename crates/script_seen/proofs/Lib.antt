@@ -1,2 +1,7 @@
 mod Showings
+mod Items
+mod Steps
+mod Tellings
+mod Tracings
 mod ShownRuns
+mod TracedRuns

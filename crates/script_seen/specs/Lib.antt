@@ -1,6 +1,13 @@
 pub mod Shown
 pub mod Kinds
+pub mod Told
+pub mod Traced
+pub mod TracedKinds
+pub mod Following
 pub use Rattle.script_group.specs.GroupRuns
 pub use Rattle.script_group.specs.Lines
 pub use Rattle.script_group.specs.Played
 pub use Rattle.script_group.specs.TermRuns
+pub use Rattle.script_links.specs.GroupScripts
+pub use Rattle.script_links.specs.TermScripts
+pub use Rattle.script_links.specs.resend_store_types

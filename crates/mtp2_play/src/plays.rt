@@ -1,0 +1,265 @@
+//! The command `play` from its files to the exit status.
+ghost use Rattle.std.specs.Prelude.{◌≡◌, ◌⊎◌, None, option_map};
+ghost use Rattle.script_check.specs.Checked.{given};
+ghost use Rattle.script_play.specs.Played.{IsOnSet, IsRefused};
+ghost use Rattle.script_play.specs.Traced.{IsPlayTraced, IsPlayTracedInPart, IsWatched, IsWatchedInPart};
+ghost use Rattle.mtp2_words.specs.Limits.{usual_limits_of};
+ghost use Rattle.mtp2_play.specs.Printed.{IsPlayedOn, IsWatchedOn};
+
+use crate::sets::{STDIN, own_set, set_word};
+use mtp2_words::{Named, Seeing, Source};
+use plain_text::{NamedReader, Teller};
+use script_check::{FAILED, SetWord};
+use script_play::{play, play_traced};
+use std::alloc::Global;
+use std::fs;
+use std::io::{Read, Write};
+use std::rt::Runtime;
+
+/// What of a script's run is seen beside its replies: whether the lines of commands are, where a trace goes, and whether what has no effect is
+/// traced too.
+#[derive(Drop)]
+struct Watch<F> {
+    echo: bool,
+    every: bool,
+    trace: Option<F>,
+}
+
+/// Runs a script that comes from a reader on a set, with a trace.
+#[tactic(auto, using(crate::proofs::Known::traced, crate::proofs::Known::traced_in_part, crate::proofs::Known::not_run))]
+fn trace_on<H: Eprint, S: Read + Drop, T: Read + Drop, F: Write, W: Write>(
+    alloc: Global,
+    teller: &Teller<'_, H>,
+    set: SetWord<S>,
+    named: &Named<'_>,
+    name: &str,
+    script: T,
+    every: bool,
+    trace: &mut F,
+    writer: &mut W,
+) -> u8
+    ensures held { result ≡ 0
+        → IsOnSet (given S.remaining set) None
+        (IsPlayTraced (usual_limits_of named.now) every (W.contents writer.old) (W.contents writer.new) (F.contents trace.old) (F.contents trace.new)) }
+    ensures missed { result ≡ 1
+        → IsOnSet (given S.remaining set) None
+        (IsPlayTracedInPart (usual_limits_of named.now) every (W.contents writer.old) (W.contents writer.new) (F.contents trace.old) (F.contents trace.new)) }
+    ensures refused { result ≡ 2 → IsRefused (given S.remaining set) None (W.contents writer.old) (W.contents writer.new) }
+    ensures status { (result ≡ 0) ⊎ (result ≡ 1) ⊎ (result ≡ 2) ⊎ (result ≡ 4) }
+{
+    let usual = named.usual_limits();
+    play_traced(
+        alloc,
+        set,
+        usual,
+        name,
+        script,
+        every,
+        trace,
+        writer,
+        &mut teller.errors(),
+    )
+}
+
+/// Runs a script that comes from a reader on a set, and sees it: where the lines of its commands are shown no trace is made.
+#[tactic(auto, using(crate::proofs::Known::not_run))]
+fn play_on<H: Eprint, S: Read + Drop, T: Read + Drop, F: Write, W: Write>(
+    alloc: Global,
+    teller: &Teller<'_, H>,
+    set: SetWord<S>,
+    named: &Named<'_>,
+    name: &str,
+    script: T,
+    watch: &mut Watch<F>,
+    writer: &mut W,
+) -> u8
+    ensures held { result ≡ 0
+        → IsOnSet (given S.remaining set) None
+        (IsWatched (usual_limits_of named.now) watch.old.echo watch.old.every (W.contents writer.old) (W.contents writer.new)
+        (option_map F.contents watch.old.trace) (option_map F.contents watch.new.trace)) }
+    ensures missed { result ≡ 1
+        → IsOnSet (given S.remaining set) None
+        (IsWatchedInPart (usual_limits_of named.now) watch.old.echo watch.old.every (W.contents writer.old) (W.contents writer.new)
+        (option_map F.contents watch.old.trace) (option_map F.contents watch.new.trace)) }
+    ensures refused { result ≡ 2 → IsRefused (given S.remaining set) None (W.contents writer.old) (W.contents writer.new) }
+    ensures status { (result ≡ 0) ⊎ (result ≡ 1) ⊎ (result ≡ 2) ⊎ (result ≡ 4) }
+{
+    let usual = named.usual_limits();
+    let (echo, every) = (watch.echo, watch.every);
+    let mut errors = teller.errors();
+    if echo {
+        return play(alloc, set, usual, name, script, echo, writer, &mut errors);
+    }
+    match &mut watch.trace {
+        Some(trace) => trace_on(
+            alloc, teller, set, named, name, script, every, trace, writer,
+        ),
+        None => play(alloc, set, usual, name, script, echo, writer, &mut errors),
+    }
+}
+
+/// Runs a script of a file, or of standard input, on a set.
+fn play_source<R: Runtime + AllocGlobal, H: Eprint, S: Read + Drop, F: Write, W: Write>(
+    rt: &R,
+    teller: &Teller<'_, H>,
+    set: SetWord<S>,
+    named: &Named<'_>,
+    name: &str,
+    script: Source<'_>,
+    watch: &mut Watch<F>,
+    writer: &mut W,
+) -> u8
+    ensures held { result ≡ 0
+        → IsOnSet (given S.remaining set) None
+        (IsWatched (usual_limits_of named.now) watch.old.echo watch.old.every (W.contents writer.old) (W.contents writer.new)
+        (option_map F.contents watch.old.trace) (option_map F.contents watch.new.trace)) }
+    ensures missed { result ≡ 1
+        → IsOnSet (given S.remaining set) None
+        (IsWatchedInPart (usual_limits_of named.now) watch.old.echo watch.old.every (W.contents writer.old) (W.contents writer.new)
+        (option_map F.contents watch.old.trace) (option_map F.contents watch.new.trace)) }
+    ensures refused { result ≡ 2 → IsRefused (given S.remaining set) None (W.contents writer.old) (W.contents writer.new) }
+    ensures status { (result ≡ 0) ⊎ (result ≡ 1) ⊎ (result ≡ 2) ⊎ (result ≡ 4) }
+{
+    match script {
+        Source::Stdin => {
+            let script = NamedReader::new(teller, STDIN, rt.reader());
+            play_on(rt.alloc(), teller, set, named, name, script, watch, writer)
+        }
+        Source::File(path) => match fs::open(rt, path) {
+            Ok(file) => play_on(
+                rt.alloc(),
+                teller,
+                set,
+                named,
+                name,
+                NamedReader::new(teller, path, file),
+                watch,
+                writer,
+            ),
+            Err(error) => teller.fail(path, &error),
+        },
+    }
+}
+
+/// Runs a script on a set of the program's own.
+fn play_own<R: Runtime + AllocGlobal, H: Eprint, F: Write, W: Write>(
+    rt: &R,
+    teller: &Teller<'_, H>,
+    set: Named<'_>,
+    script: Source<'_>,
+    watch: &mut Watch<F>,
+    writer: &mut W,
+) -> u8
+    ensures printed { IsWatchedOn set.entry watch.old.echo watch.old.every result (W.contents writer.old) (W.contents writer.new)
+        (option_map F.contents watch.old.trace) (option_map F.contents watch.new.trace) }
+    ensures status { (result ≡ 0) ⊎ (result ≡ 1) ⊎ (result ≡ 2) ⊎ (result ≡ 4) }
+{
+    match own_set(&set) {
+        Some(own) => play_source(rt, teller, own, &set, set_word(&set), script, watch, writer),
+        None => FAILED,
+    }
+}
+
+/// Runs a script on a set whose text comes from a reader.
+#[tactic(auto, using(crate::proofs::Known::watched_on_some, crate::proofs::Known::in_part_on_some, crate::proofs::Known::not_run_on_some))]
+fn play_text<R: Runtime + AllocGlobal, H: Eprint, S: Read + Drop, F: Write, W: Write>(
+    rt: &R,
+    teller: &Teller<'_, H>,
+    named: &Named<'_>,
+    name: &str,
+    text: S,
+    script: Source<'_>,
+    watch: &mut Watch<F>,
+    writer: &mut W,
+) -> u8
+    ensures held { result ≡ 0
+        → IsOnSet None None
+        (IsWatched (usual_limits_of named.now) watch.old.echo watch.old.every (W.contents writer.old) (W.contents writer.new)
+        (option_map F.contents watch.old.trace) (option_map F.contents watch.new.trace)) }
+    ensures missed { result ≡ 1
+        → IsOnSet None None
+        (IsWatchedInPart (usual_limits_of named.now) watch.old.echo watch.old.every (W.contents writer.old) (W.contents writer.new)
+        (option_map F.contents watch.old.trace) (option_map F.contents watch.new.trace)) }
+    ensures refused { result ≡ 2 → IsRefused None None (W.contents writer.old) (W.contents writer.new) }
+    ensures status { (result ≡ 0) ⊎ (result ≡ 1) ⊎ (result ≡ 2) ⊎ (result ≡ 4) }
+{
+    play_source(
+        rt,
+        teller,
+        SetWord::Text(text),
+        named,
+        name,
+        script,
+        watch,
+        writer,
+    )
+}
+
+/// Runs `play` on the set and the script that the command line names, with a trace where there is a file for it. A file that can't be opened is
+/// a failure, whatever there is to say of the other text.
+fn run_watched<R: Runtime + AllocGlobal, H: Eprint, F: Write, W: Write>(
+    rt: &R,
+    teller: &Teller<'_, H>,
+    set: Named<'_>,
+    script: Source<'_>,
+    watch: &mut Watch<F>,
+    writer: &mut W,
+) -> u8
+    ensures printed { IsWatchedOn set.entry watch.old.echo watch.old.every result (W.contents writer.old) (W.contents writer.new)
+        (option_map F.contents watch.old.trace) (option_map F.contents watch.new.trace) }
+    ensures status { (result ≡ 0) ⊎ (result ≡ 1) ⊎ (result ≡ 2) ⊎ (result ≡ 4) }
+{
+    match set {
+        Named::Standard | Named::Q703 | Named::Monitors => play_own(
+            rt, teller, set, script, watch, writer,
+        ),
+        Named::Stdin => {
+            let text = NamedReader::new(teller, STDIN, rt.reader());
+            play_text(
+                rt,
+                teller,
+                &set,
+                set_word(&set),
+                text,
+                script,
+                watch,
+                writer,
+            )
+        }
+        Named::File(path) => match fs::open(rt, path) {
+            Ok(file) => {
+                let text = NamedReader::new(teller, path, file);
+                play_text(rt, teller, &set, path, text, script, watch, writer)
+            }
+            Err(error) => teller.fail(path, &error),
+        },
+    }
+}
+
+/// The same with what is to be seen of the run.
+#[tactic(auto, using(crate::proofs::Known::was_played_on))]
+pub(crate) fn run_play<R: Runtime + AllocGlobal, H: Eprint, W: Write>(
+    rt: &R,
+    teller: &Teller<'_, H>,
+    set: Named<'_>,
+    script: Source<'_>,
+    seen: &Seeing<'_>,
+    writer: &mut W,
+) -> u8
+    ensures printed { IsPlayedOn set.entry seen.now.echo result (W.contents writer.old) (W.contents writer.new) }
+    ensures status { (result ≡ 0) ⊎ (result ≡ 1) ⊎ (result ≡ 2) ⊎ (result ≡ 4) }
+{
+    let trace = match seen.trace {
+        Some(path) => match fs::create(rt, path) {
+            Ok(file) => Some(file),
+            Err(error) => return teller.fail(path, &error),
+        },
+        None => None,
+    };
+    let mut watch = Watch {
+        echo: seen.echo,
+        every: seen.every,
+        trace,
+    };
+    run_watched(rt, teller, set, script, &mut watch, writer)
+}

@@ -1,0 +1,99 @@
+-- A script that was played as it is to be seen.
+use Rattle.std.proofs.Common.{◌≡◌, ℕ, Bool, true, false, List, Option, Some, None, sym, subst}
+use Rattle.turn_code.specs.declared.draft.Draft.{Draft}
+use Rattle.script_seen.specs.resend_store_types.messages.RoundLimits.{RoundLimits}
+use Rattle.script_play.specs.Played.{IsOnSet, IsPlayed, IsPlayedInPart}
+use Rattle.script_play.specs.Traced.{IsPlayTraced, IsPlayTracedInPart, IsWatched, has_lines, has_neither, has_trace}
+use Rattle.script_play.specs.Traced.{IsWatchedInPart, has_lines_in_part, has_neither_in_part, has_trace_in_part}
+
+pub with_lines : (usual : RoundLimits) (echo every : Bool) (set script old new : Option (List ℕ)) (begun now : Option (Option (List ℕ))) → echo ≡ true
+    → IsOnSet set script (IsPlayed usual echo old new) → IsOnSet set script (IsWatched usual echo every old new begun now)
+with_lines usual echo every set script old new begun now echoed s = record {
+  draft = s.draft;
+  is_set = s.is_set;
+  of_script = record { bytes = s.of_script.bytes; are_known = s.of_script.are_known; holds = has_lines echoed s.of_script.holds };
+}
+
+pub with_neither : (usual : RoundLimits) (echo every : Bool) (set script old new : Option (List ℕ)) (begun now : Option (Option (List ℕ))) → echo ≡ false
+    → begun ≡ None → IsOnSet set script (IsPlayed usual echo old new) → IsOnSet set script (IsWatched usual echo every old new begun now)
+with_neither usual echo every set script old new begun now unlined none s = record {
+  draft = s.draft;
+  is_set = s.is_set;
+  of_script = record { bytes = s.of_script.bytes; are_known = s.of_script.are_known; holds = has_neither unlined none s.of_script.holds };
+}
+
+pub with_trace : (usual : RoundLimits) (echo every : Bool) (set script old new was has : Option (List ℕ)) (begun now : Option (Option (List ℕ)))
+    → echo ≡ false → begun ≡ Some was → now ≡ Some has → IsOnSet set script (IsPlayTraced usual every old new was has)
+    → IsOnSet set script (IsWatched usual echo every old new begun now)
+with_trace usual echo every set script old new was has begun now unlined first last s = record {
+  draft = s.draft;
+  is_set = s.is_set;
+  of_script = record { bytes = s.of_script.bytes; are_known = s.of_script.are_known; holds = has_trace was has unlined first last s.of_script.holds };
+}
+
+was_played_in : (usual : RoundLimits) (echo every : Bool) (old new : Option (List ℕ)) (begun now : Option (Option (List ℕ))) (d : Draft) (bytes : List ℕ)
+    → IsWatched usual echo every old new begun now d bytes → IsPlayed usual echo old new d bytes
+was_played_in usual echo every old new begun now d bytes (has_lines echoed p) = p
+was_played_in usual echo every old new begun now d bytes (has_neither unlined none p) = p
+was_played_in usual echo every old new begun now d bytes (has_trace was has unlined first last p) =
+    let E : Bool → Type 0 = λ e. IsPlayed usual e old new d bytes in
+    subst E (sym unlined) (record { utf8 = p.utf8; script = p.script; reads = p.reads; run = p.run })
+
+pub was_played : (usual : RoundLimits) (echo every : Bool) (set script old new : Option (List ℕ)) (begun now : Option (Option (List ℕ)))
+    → IsOnSet set script (IsWatched usual echo every old new begun now) → IsOnSet set script (IsPlayed usual echo old new)
+was_played usual echo every set script old new begun now s = record {
+  draft = s.draft;
+  is_set = s.is_set;
+  of_script = record {
+    bytes = s.of_script.bytes;
+    are_known = s.of_script.are_known;
+    holds = was_played_in usual echo every old new begun now s.draft s.of_script.bytes s.of_script.holds;
+  };
+}
+
+-- ---- up to an expectation that fails
+
+pub with_lines_in_part : (usual : RoundLimits) (echo every : Bool) (set script old new : Option (List ℕ)) (begun now : Option (Option (List ℕ))) → echo ≡ true
+    → IsOnSet set script (IsPlayedInPart usual echo old new) → IsOnSet set script (IsWatchedInPart usual echo every old new begun now)
+with_lines_in_part usual echo every set script old new begun now echoed s = record {
+  draft = s.draft;
+  is_set = s.is_set;
+  of_script = record { bytes = s.of_script.bytes; are_known = s.of_script.are_known; holds = has_lines_in_part echoed s.of_script.holds };
+}
+
+pub with_neither_in_part : (usual : RoundLimits) (echo every : Bool) (set script old new : Option (List ℕ)) (begun now : Option (Option (List ℕ))) → echo ≡ false
+    → begun ≡ None → IsOnSet set script (IsPlayedInPart usual echo old new) → IsOnSet set script (IsWatchedInPart usual echo every old new begun now)
+with_neither_in_part usual echo every set script old new begun now unlined none s = record {
+  draft = s.draft;
+  is_set = s.is_set;
+  of_script = record { bytes = s.of_script.bytes; are_known = s.of_script.are_known; holds = has_neither_in_part unlined none s.of_script.holds };
+}
+
+pub with_trace_in_part : (usual : RoundLimits) (echo every : Bool) (set script old new was has : Option (List ℕ)) (begun now : Option (Option (List ℕ)))
+    → echo ≡ false → begun ≡ Some was → now ≡ Some has → IsOnSet set script (IsPlayTracedInPart usual every old new was has)
+    → IsOnSet set script (IsWatchedInPart usual echo every old new begun now)
+with_trace_in_part usual echo every set script old new was has begun now unlined first last s = record {
+  draft = s.draft;
+  is_set = s.is_set;
+  of_script = record { bytes = s.of_script.bytes; are_known = s.of_script.are_known; holds = has_trace_in_part was has unlined first last s.of_script.holds };
+}
+
+was_played_in_part_in : (usual : RoundLimits) (echo every : Bool) (old new : Option (List ℕ)) (begun now : Option (Option (List ℕ))) (d : Draft) (bytes : List ℕ)
+    → IsWatchedInPart usual echo every old new begun now d bytes → IsPlayedInPart usual echo old new d bytes
+was_played_in_part_in usual echo every old new begun now d bytes (has_lines_in_part echoed p) = p
+was_played_in_part_in usual echo every old new begun now d bytes (has_neither_in_part unlined none p) = p
+was_played_in_part_in usual echo every old new begun now d bytes (has_trace_in_part was has unlined first last p) =
+    let E : Bool → Type 0 = λ e. IsPlayedInPart usual e old new d bytes in
+    subst E (sym unlined) (record { utf8 = p.utf8; script = p.script; reads = p.reads; missed = p.missed })
+
+pub was_played_in_part : (usual : RoundLimits) (echo every : Bool) (set script old new : Option (List ℕ)) (begun now : Option (Option (List ℕ)))
+    → IsOnSet set script (IsWatchedInPart usual echo every old new begun now) → IsOnSet set script (IsPlayedInPart usual echo old new)
+was_played_in_part usual echo every set script old new begun now s = record {
+  draft = s.draft;
+  is_set = s.is_set;
+  of_script = record {
+    bytes = s.of_script.bytes;
+    are_known = s.of_script.are_known;
+    holds = was_played_in_part_in usual echo every old new begun now s.draft s.of_script.bytes s.of_script.holds;
+  };
+}

@@ -1,0 +1,90 @@
+-- What the status of `play` says of a trace.
+use Rattle.std.specs.Prelude.{◌≡◌, ℕ, Bool, true, false, List, Option}
+use Rattle.std.specs.Prelude.{Some, None, Ok, IsUtf8}
+use Rattle.turn_code.specs.declared.draft.Draft.{Draft}
+use Rattle.script_seen.specs.resend_store_types.messages.RoundLimits.{RoundLimits}
+use Rattle.script_seen.specs.TermScripts.{PlainAnyScript, book, terminal, asks_told}
+use Rattle.script_seen.specs.GroupScripts.{PlainPlayScript, other, group, play_script_of}
+use Rattle.script_lines.specs.Lines.{PlainLine, lines_of}
+use Rattle.script_seen.specs.Played.{first_book}
+use Rattle.script_seen.specs.TermRuns.{IsOfNew}
+use Rattle.script_seen.specs.TracedKinds.{IsBookTraced, IsBookTracedInPart, IsTermTraced}
+use Rattle.script_seen.specs.TracedKinds.{IsTermTracedInPart}
+use Rattle.script_play.specs.Played.{IsObeyed, IsMissedIn, IsPlayed, IsPlayedInPart}
+
+-- all commands of a script are traced: of a book of the set, or of a new terminal over it, with the
+-- usual limits where the script chooses none
+abbrev pub IsOtherTraced :
+    RoundLimits → Bool → List PlainLine → Draft → PlainAnyScript → Option (List ℕ)
+    → Option (List ℕ) → Type 0
+IsOtherTraced usual every lines d (book s) old new =
+    IsBookTraced every lines (first_book d s.settings) s.commands old new
+IsOtherTraced usual every lines d (terminal s) old new =
+    IsOfNew d usual s.head
+    (λ t. IsTermTraced every (asks_told s.commands) lines t s.commands old new)
+
+-- a script of a link set has no trace
+abbrev pub AreTraced :
+    RoundLimits → Bool → List PlainLine → Draft → PlainPlayScript → Option (List ℕ)
+    → Option (List ℕ) → Type 0
+AreTraced usual every lines d (other s) old new = IsOtherTraced usual every lines d s old new
+AreTraced usual every lines d (group s) old new = ⊥
+
+-- so are those in front of an expectation that failed
+abbrev pub IsOtherTracedInPart :
+    RoundLimits → Bool → List PlainLine → Draft → PlainAnyScript → Option (List ℕ)
+    → Option (List ℕ) → Type 0
+IsOtherTracedInPart usual every lines d (book s) old new =
+    IsBookTracedInPart every lines (first_book d s.settings) s.commands old new
+IsOtherTracedInPart usual every lines d (terminal s) old new =
+    IsOfNew d usual s.head
+    (λ t. IsTermTracedInPart every (asks_told s.commands) lines t s.commands old new)
+
+abbrev pub AreTracedInPart :
+    RoundLimits → Bool → List PlainLine → Draft → PlainPlayScript → Option (List ℕ)
+    → Option (List ℕ) → Type 0
+AreTracedInPart usual every lines d (other s) old new =
+    IsOtherTracedInPart usual every lines d s old new
+AreTracedInPart usual every lines d (group s) old new = ⊥
+
+-- the bytes are a script, all of whose commands were obeyed and are traced
+pub record IsPlayTraced (usual : RoundLimits) (every : Bool) (old new begun now : Option (List ℕ))
+    (d : Draft) (bytes : List ℕ) : Type 0 where
+  pub utf8 : IsUtf8 bytes
+  pub script : PlainPlayScript
+  pub reads : play_script_of bytes ≡ Ok script
+  pub run : IsObeyed usual d script old new
+  pub traced : AreTraced usual every (lines_of bytes) d script begun now
+
+-- the bytes are a script, an expectation of which failed; the commands in front of that are traced
+pub record IsPlayTracedInPart (usual : RoundLimits) (every : Bool)
+    (old new begun now : Option (List ℕ)) (d : Draft) (bytes : List ℕ) : Type 0 where
+  pub utf8 : IsUtf8 bytes
+  pub script : PlainPlayScript
+  pub reads : play_script_of bytes ≡ Ok script
+  pub missed : IsMissedIn usual d script old new
+  pub traced : AreTracedInPart usual every (lines_of bytes) d script begun now
+
+-- ---- with lines, with a trace, or with neither
+
+-- A script was played as it is to be seen: with the lines of its commands, where that is asked for;
+-- else with a trace, where there is a file for it, which had this and now has that.
+pub data IsWatched (usual : RoundLimits) (echo every : Bool) (old new : Option (List ℕ))
+    (begun now : Option (Option (List ℕ))) (d : Draft) (bytes : List ℕ) : Type 0 where
+  has_lines : echo ≡ true → IsPlayed usual echo old new d bytes
+      → IsWatched usual echo every old new begun now d bytes
+  has_neither : echo ≡ false → begun ≡ None → IsPlayed usual echo old new d bytes
+      → IsWatched usual echo every old new begun now d bytes
+  has_trace : (was has : Option (List ℕ)) → echo ≡ false → begun ≡ Some was → now ≡ Some has
+      → IsPlayTraced usual every old new was has d bytes
+      → IsWatched usual echo every old new begun now d bytes
+
+pub data IsWatchedInPart (usual : RoundLimits) (echo every : Bool) (old new : Option (List ℕ))
+    (begun now : Option (Option (List ℕ))) (d : Draft) (bytes : List ℕ) : Type 0 where
+  has_lines_in_part : echo ≡ true → IsPlayedInPart usual echo old new d bytes
+      → IsWatchedInPart usual echo every old new begun now d bytes
+  has_neither_in_part : echo ≡ false → begun ≡ None → IsPlayedInPart usual echo old new d bytes
+      → IsWatchedInPart usual echo every old new begun now d bytes
+  has_trace_in_part : (was has : Option (List ℕ)) → echo ≡ false → begun ≡ Some was → now ≡ Some has
+      → IsPlayTracedInPart usual every old new was has d bytes
+      → IsWatchedInPart usual echo every old new begun now d bytes

@@ -1,0 +1,177 @@
+//! The command `play` with a trace.
+ghost use Rattle.std.specs.Prelude.{◌≡◌, ◌⊎◌, List, ℕ, IfSome};
+ghost use Rattle.plain_text.specs.Reading.{Keeps};
+ghost use Rattle.script_check.specs.Checked.{given, IsAccepted};
+ghost use Rattle.script_seen.specs.TermScripts.{plain_any_script, IsInRange};
+ghost use Rattle.script_seen.specs.GroupScripts.{plain_play_script, IsFit};
+ghost use Rattle.script_lines.specs.Lines.{lines_of};
+ghost use Rattle.script_play.specs.Played.{IsOtherObeyed, IsObeyed, IsOtherMissed, IsMissedIn, HasNoOther, HasNoTerminal, IsNotRun, IsOnSet, IsRefused};
+ghost use Rattle.script_play.specs.Traced.{IsOtherTraced, AreTraced, IsPlayTraced, IsOtherTracedInPart, AreTracedInPart, IsPlayTracedInPart};
+
+use crate::playing::{explain, explain_length, refuse_script};
+use plain_text::{TextRead, line_at_limit, read_text};
+use script_check::{SetWord, find_set, refuse_set};
+use script_lines::ScriptFault;
+use script_seen::{
+    AnyScript, FAILED, PlayScript, RoundLimits, play_script_in, refuse, trace_book, trace_terminal,
+    write_line,
+};
+use std::alloc::Global;
+use std::io::{Read, Write};
+use std::str;
+use turn_check::Verified;
+
+/// Runs a script of a book or of a terminal, and traces it.
+fn trace_other<W: Write, T: Write, E: Write>(
+    alloc: Global,
+    set: &Verified,
+    usual: RoundLimits,
+    script: &AnyScript<'_>,
+    text: &str,
+    every: bool,
+    trace: &mut T,
+    writer: &mut W,
+    errors: &mut E,
+) -> u8
+    requires { IsInRange script.now }
+    ensures held { result ≡ 0 → IsOtherObeyed usual set.now (plain_any_script script.now) (W.contents writer.old) (W.contents writer.new) }
+    ensures missed { result ≡ 1 → IsOtherMissed usual set.now (plain_any_script script.now) (W.contents writer.old) (W.contents writer.new) }
+    ensures traced { result ≡ 0
+        → IsOtherTraced usual every (lines_of text.now) set.now (plain_any_script script.now) (T.contents trace.old) (T.contents trace.new) }
+    ensures in_part { result ≡ 1
+        → IsOtherTracedInPart usual every (lines_of text.now) set.now (plain_any_script script.now) (T.contents trace.old) (T.contents trace.new) }
+    ensures refused { result ≡ 2 → HasNoOther set.now (plain_any_script script.now) (W.contents writer.old) (W.contents writer.new) }
+    ensures status { (result ≡ 0) ⊎ (result ≡ 1) ⊎ (result ≡ 2) ⊎ (result ≡ 4) }
+{
+    match script {
+        AnyScript::Book(script) => {
+            trace_book(alloc, set, script, text, every, trace, writer, errors)
+        }
+        AnyScript::Terminal(script) => {
+            trace_terminal(alloc, set, usual, script, text, every, trace, writer)
+        }
+    }
+}
+
+/// Tells that a script of a link set has no trace. Gives the exit status.
+fn lacks_trace<E: Write>(alloc: Global, errors: &mut E) -> u8
+    ensures { result ≡ 4 }
+{
+    let _told = write_line(
+        alloc,
+        errors,
+        &"mtp2_play: a script of a link set has no trace",
+    );
+    FAILED
+}
+
+/// Runs a script, and traces it.
+fn trace_script<W: Write, T: Write, E: Write>(
+    alloc: Global,
+    set: &Verified,
+    usual: RoundLimits,
+    script: &PlayScript<'_>,
+    text: &str,
+    every: bool,
+    trace: &mut T,
+    writer: &mut W,
+    errors: &mut E,
+) -> u8
+    requires { IsFit script.now }
+    ensures held { result ≡ 0 → IsObeyed usual set.now (plain_play_script script.now) (W.contents writer.old) (W.contents writer.new) }
+    ensures missed { result ≡ 1 → IsMissedIn usual set.now (plain_play_script script.now) (W.contents writer.old) (W.contents writer.new) }
+    ensures traced { result ≡ 0
+        → AreTraced usual every (lines_of text.now) set.now (plain_play_script script.now) (T.contents trace.old) (T.contents trace.new) }
+    ensures in_part { result ≡ 1
+        → AreTracedInPart usual every (lines_of text.now) set.now (plain_play_script script.now) (T.contents trace.old) (T.contents trace.new) }
+    ensures refused { result ≡ 2 → HasNoTerminal set.now (plain_play_script script.now) (W.contents writer.old) (W.contents writer.new) }
+    ensures status { (result ≡ 0) ⊎ (result ≡ 1) ⊎ (result ≡ 2) ⊎ (result ≡ 4) }
+{
+    match script {
+        PlayScript::Other(script) => {
+            trace_other(
+                alloc, set, usual, script, text, every, trace, writer, errors,
+            )
+        }
+        PlayScript::Group(_) => lacks_trace(alloc, errors),
+    }
+}
+
+/// Runs the script of a text that was read, and traces it.
+fn trace_text<W: Write, T: Write, E: Write>(
+    alloc: Global,
+    set: &Verified,
+    usual: RoundLimits,
+    read: &TextRead,
+    every: bool,
+    trace: &mut T,
+    writer: &mut W,
+    errors: &mut E,
+) -> u8
+    ensures held { result ≡ 0 → (bytes : List ℕ) → Keeps bytes read.now
+        → IsPlayTraced usual every (W.contents writer.old) (W.contents writer.new) (T.contents trace.old) (T.contents trace.new) set.now bytes }
+    ensures missed { result ≡ 1 → (bytes : List ℕ) → Keeps bytes read.now
+        → IsPlayTracedInPart usual every (W.contents writer.old) (W.contents writer.new) (T.contents trace.old) (T.contents trace.new) set.now bytes }
+    ensures refused { result ≡ 2 → (bytes : List ℕ) → Keeps bytes read.now → IsNotRun (W.contents writer.old) (W.contents writer.new) set.now bytes }
+    ensures status { (result ≡ 0) ⊎ (result ≡ 1) ⊎ (result ≡ 2) ⊎ (result ≡ 4) }
+{
+    if !read.is_text {
+        return refuse(alloc, writer, &"refused F1 NotText");
+    }
+    if read.is_too_long() {
+        let line = line_at_limit(&read.kept);
+        explain_length(alloc, line, errors);
+        return refuse_script(alloc, writer, ScriptFault::BadLine(line));
+    }
+    match str::from_utf8(&read.kept) {
+        Ok(text) => match play_script_in(alloc, text) {
+            Ok(script) => trace_script(
+                alloc, set, usual, &script, text, every, trace, writer, errors,
+            ),
+            Err(fault) => {
+                explain(alloc, text, fault, errors);
+                refuse_script(alloc, writer, fault)
+            }
+        },
+        Err(_) => refuse(alloc, writer, &"refused F1 NotText"),
+    }
+}
+
+/// Runs a script as `play` does without the lines of its commands, and traces it: to `trace` goes each command's line of the script, but of
+/// `state`, `value`, `measure NAME` and `expect`, and behind it a line for each event that happened by it, as the journal of its actors has them.
+/// Where `every` says so, signals that are thrown away have a line too, and turns that keep their state and have no effect.
+///
+/// Gives the exit status, as `play` does: 4 where a write to `trace` fails too, where a terminal's journal begins anew within a command, and for a
+/// script of a link set, which has no trace.
+pub fn play_traced<S: Read + Drop, R: Read + Drop, W: Write, T: Write, E: Write>(
+    alloc: Global,
+    set: SetWord<S>,
+    usual: RoundLimits,
+    name: &str,
+    mut script: R,
+    every: bool,
+    trace: &mut T,
+    writer: &mut W,
+    errors: &mut E,
+) -> u8
+    ensures accepted { (result ≡ 0) ⊎ (result ≡ 1) → IfSome (given S.remaining set) IsAccepted }
+    ensures held { result ≡ 0
+        → IsOnSet (given S.remaining set) (R.remaining script)
+        (IsPlayTraced usual every (W.contents writer.old) (W.contents writer.new) (T.contents trace.old) (T.contents trace.new)) }
+    ensures missed { result ≡ 1
+        → IsOnSet (given S.remaining set) (R.remaining script)
+        (IsPlayTracedInPart usual every (W.contents writer.old) (W.contents writer.new) (T.contents trace.old) (T.contents trace.new)) }
+    ensures refused { result ≡ 2
+        → IsRefused (given S.remaining set) (R.remaining script) (W.contents writer.old) (W.contents writer.new) }
+    ensures status { (result ≡ 0) ⊎ (result ≡ 1) ⊎ (result ≡ 2) ⊎ (result ≡ 4) }
+{
+    let set = find_set(alloc, set);
+    let read = read_text(alloc, &mut script);
+    match set {
+        Ok(set) => match read {
+            Ok(read) => trace_text(alloc, &set, usual, &read, every, trace, writer, errors),
+            Err(_) => FAILED,
+        },
+        Err(refusal) => refuse_set(alloc, name, &refusal, writer, errors),
+    }
+}

@@ -1,0 +1,12 @@
+-- The timers so far, and those to come.
+use Rattle.std.proofs.Common.{◌≡◌, ◌++◌, drop, map}
+use Rattle.std.specs.List.{flat_map}
+use Rattle.actor_machine.specs.Ledger.{state_of}
+use Rattle.script_group.specs.Lines.{line_of}
+use Rattle.script_seen.specs.Told.{due_line}
+use Rattle.script_seen.proofs.events.due_text.Given as goal
+
+abbrev pub invariant-loop-one : goal.invariant-loop-one
+invariant-loop-one l =
+    l.text.items ++ flat_map line_of (map (due_line l.book.set (state_of l.book) l.clock) (drop l.one-index l.due))
+    ≡ flat_map line_of (map (due_line l.book.set (state_of l.book) l.clock) l.due)
