@@ -1,5 +1,5 @@
 -- A call of one link's terminal.
-use Rattle.std.proofs.Common.{◌≡◌, ℕ, ◌+◌, ◌-◌, ◌^◌, zero, suc, Option, List, [], ◌∷◌, ◌++◌, length, take, drop, refl, sym, ap, subst, arith}
+use Rattle.std.proofs.Common.{◌≡◌, ℕ, ◌+◌, ◌-◌, ◌^◌, ◌≤◌, zero, suc, Option, List, [], ◌∷◌, ◌++◌, length, take, drop, refl, sym, ap, subst, arith}
 use Rattle.std.specs.Prelude.{min, slice_get}
 use Rattle.group_members.specs.declared.link.Link.{Link}
 use Rattle.group_members.specs.Links.{change}
@@ -38,3 +38,7 @@ all-of (suc n) (x ∷ xs) rest e = ap (λ (ys : List Link). x ∷ ys) (all-of n 
 -- what stands in a vector once a slice of all of it was written
 pub written : (n : ℕ) (xs items : List Link) → length xs ≡ n → take n (xs ++ drop (length xs) items) ≡ xs
 written n xs items e = all-of n xs (drop (length xs) items) e
+
+-- and how many those are
+pub few_written : (n most : ℕ) (xs items : List Link) → length xs ≡ n → n ≤ most → length (take n (xs ++ drop (length xs) items)) ≤ most
+few_written n most xs items e h = let size = ap (λ (ys : List Link). length ys) (written n xs items e) in omega (arith, size, e, h)

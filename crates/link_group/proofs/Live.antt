@@ -1,8 +1,9 @@
 -- A set that a list of calls led to, and one call more.
-use Rattle.std.proofs.Common.{◌≡◌, ℕ, ◌+◌, ◌-◌, ◌^◌, ◌<◌, Bool, true, false, List, [], ◌∷◌, ◌++◌, length, Option, Some, None, Result, Ok, Err, map, refl, sym, ap, ◌∙◌, subst}
+use Rattle.std.proofs.Common.{◌≡◌, ℕ, ◌+◌, ◌-◌, ◌^◌, ◌<◌, ◌≤◌, arith, Bool, true, false, List, [], ◌∷◌, ◌++◌, length, Option, Some, None, Result, Ok, Err, map, refl, sym, ap, ◌∙◌, subst}
 use Rattle.std.specs.Prelude.{All, OnOk, OnErr, min, if◌then◌else◌, slice_get}
 use Rattle.std.specs.List.{list_any}
 use Rattle.std.proofs.Math.Logic.{∥∥₁_map}
+use Rattle.std.proofs.lemmas.List.{length-map}
 use Rattle.actor_machine.specs.declared.reply.Refusal.{Refusal}
 use Rattle.resend_store.specs.declared.messages.Msu.{Msu}
 use Rattle.su_octets.specs.declared.units.Unit.{Unit as Unit_out}
@@ -185,13 +186,13 @@ live_abandoned own peer unsure count n table ks new mid l same free is sent coun
     let whole : over own peer count table mid ≡ after_abandon (over own peer unsure table ks) l = rw (counts, sent, same, is) refl in
     subst Live (sym whole) (∥∥₁_map live (abandoned_reached (over own peer unsure table ks) l free))
 
-pub live_heard : (own peer unsure : ℕ) (table : List (Option ℕ)) (ks new mid : List Link) (m : Changeover) → mid ≡ new → is_for (over own peer unsure table ks) m ≡ true
-    → new ≡ change ks m.label.sls (hears_at m.kind) → Live (over own peer unsure table ks) → Live (over own peer unsure table mid)
-live_heard own peer unsure table ks new mid m same for is live =
+pub live_heard : (own peer unsure : ℕ) (table : List (Option ℕ)) (ks new mid : List Link) (m : Changeover) (l : ℕ) → mid ≡ new → is_for (over own peer unsure table ks) m ≡ true
+    → l ≡ m.label.sls → new ≡ change ks l (hears_at m.kind) → Live (over own peer unsure table ks) → Live (over own peer unsure table mid)
+live_heard own peer unsure table ks new mid m l same for at is live =
     let c : LinkSet = over own peer unsure table ks in
     let d : LinkSet = over own peer unsure table (change ks m.label.sls (hears_at m.kind)) in
     let whole : after_message c (Some m) ≡ d = ap (λ (b : Bool). if b then d else c) for in
-    subst (λ (xs : List Link). Live (over own peer unsure table xs)) (sym (same ∙ is)) (subst Live whole (∥∥₁_map live (heard_reached c (Some m))))
+    subst (λ (xs : List Link). Live (over own peer unsure table xs)) (sym (same ∙ is ∙ ap (λ (i : ℕ). change ks i (hears_at m.kind)) at)) (subst Live whole (∥∥₁_map live (heard_reached c (Some m))))
 
 pub diverted_is : (own peer unsure l : ℕ) (table table2 : List (Option ℕ)) (ks new mid new2 mid2 : List Link) (ms : List Msu) → mid2 ≡ new2 → mid ≡ new → is_out_at (slice_get ks l) ≡ true
     → new ≡ change ks l without_hand → ms ≡ hand_by (slice_get ks l) → new2 ≡ (settled mid table l ms).links → table2 ≡ (settled mid table l ms).table
@@ -250,6 +251,9 @@ pub new_is : (own peer : ℕ) (ts : List Term) (ks : List Link) (table : List (O
     → over own peer 0 table ks ≡ new_set own peer ts
 unfolding new_set
 new_is own peer ts ks table links tables = rw (tables, links) refl
+
+pub new_few : (own peer : ℕ) (ts : List Term) (ks : List Link) (most : ℕ) → ks ≡ map (fresh (points own peer)) ts → length ts ≤ most → length ks ≤ most
+new_few own peer ts ks most e h = let size = ap (λ (xs : List Link). length xs) e ∙ length-map ts (fresh (points own peer)) in omega (arith, size, h)
 
 pub live_new : (own peer : ℕ) (ts : List Term) (c : LinkSet) → c ≡ new_set own peer ts → All IsUnused ts → Live c
 live_new own peer ts c is unused = subst Live (sym is) ∣ new_reached own peer ts unused ∣₁

@@ -21,8 +21,8 @@ diverted_by ks ts l ms able is = ap (λ (ls : List ℕ). hands_over ls l (divisi
 pub left_none : (w : Diverted) → None ≡ w.fault → None ≡ left_fault w
 left_none w e = ap (left_by w.at) e
 
-pub left_some : (w : Diverted) (fault : DivertFault) (n : ℕ) → Some fault ≡ w.fault → n ≡ length w.at.rest → Some (error.Left fault n) ≡ left_fault w
-left_some w fault n e is = ap (λ (x : ℕ). Some (error.Left fault x)) is ∙ ap (left_by w.at) e
+pub left_some : (w : Diverted) (fault : DivertFault) (n m : ℕ) → Some fault ≡ w.fault → n ≡ m → m ≡ length w.at.rest → Some (error.Left fault n) ≡ left_fault w
+left_some w fault n m e same is = ap (λ (x : ℕ). Some (error.Left fault x)) (same ∙ is) ∙ ap (left_by w.at) e
 
 pub settled_whole : (ks links : List Link) (ts table : List (Option ℕ)) (l : ℕ) (ms : List Msu) (d : Diversion) → d ≡ (diverted ks ts l ms).at → None ≡ (diverted ks ts l ms).fault
     → links ≡ change d.links l ends_at → table ≡ map (λ s. ends_on (takers l ks) l (slice_get d.links l) (link_of d.table s) s) selections

@@ -15,6 +15,7 @@ use group_members::{
 
 /// Makes the table anew, as a link may have selections for the first time, for all selections but those whose link is in changeover, and those of
 /// which any link holds messages.
+#[tactic(auto, unfolding(crate::specs::Placing::table_anew))]
 pub(crate) fn place_anew(links: &[Link], table: &mut Table, first: bool)
     requires { length links.now ≤ MOST_LINKS }
     ensures { table.new.links ≡ table_if first links.now table.old.links }

@@ -1,5 +1,5 @@
-use Rattle.std.proofs.Common.{rules}
-use Rattle.link_group.proofs.ByLinks.{written}
+use Rattle.std.proofs.Common.{rules, arith, ◌∙◌}
+use Rattle.link_group.proofs.ByLinks.{written, few_written}
 use Rattle.link_group.proofs.Fields.{order_says}
 use Rattle.link_group.proofs.Live.{live_from, live_failed}
 use Rattle.link_group.proofs.group.Group.fail.Goals as goal
@@ -10,16 +10,16 @@ returns-clause-order c =
 
 pub invariant_of-self : goal.invariant_of-self
 invariant_of-self c = (
-  search rules,
-  search rules,
-  search rules,
+  few_written c.self.inside.links.len _ c.fail_at.new.links c.self.inside.links.items (search rules) (omega (arith, c.self.invariant.0, c.self.inside.links.ok.0)),
+  c.self.invariant.1,
+  c.self.invariant.2,
   live_failed c.fail_at.result c.self.inside.own c.self.inside.peer c.self.inside.unsure c.self.inside.table.links _ c.fail_at.new.links _ c.args.link (written c.self.inside.links.len c.fail_at.new.links c.self.inside.links.items (search rules)) c.fail_at.ensures.fault c.fail_at.ensures.ok c.fail_at.ensures.err (live_from c.self.inside.own c.self.inside.peer c.self.inside.unsure c.self.inside.table.links _ _ (search rules) c.self.invariant.3),
 )
 
 pub invariant_of-self-2 : goal.invariant_of-self-2
 invariant_of-self-2 c = (
-  search rules,
-  search rules,
-  search rules,
+  few_written c.self.inside.links.len _ c.fail_at.new.links c.self.inside.links.items (search rules) (omega (arith, c.self.invariant.0, c.self.inside.links.ok.0)),
+  c.self.invariant.1,
+  c.self.invariant.2,
   live_failed c.fail_at.result c.self.inside.own c.self.inside.peer c.self.inside.unsure c.self.inside.table.links _ c.fail_at.new.links _ c.args.link (written c.self.inside.links.len c.fail_at.new.links c.self.inside.links.items (search rules)) c.fail_at.ensures.fault c.fail_at.ensures.ok c.fail_at.ensures.err (live_from c.self.inside.own c.self.inside.peer c.self.inside.unsure c.self.inside.table.links _ _ (search rules) c.self.invariant.3),
 )
