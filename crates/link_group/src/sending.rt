@@ -151,9 +151,10 @@ impl Group {
         }
     }
 
-    /// Hands out the messages of a link in changeover that the far side may lack, for [`Group::divert`], and answers how many there are: those behind the ones that it told that it accepted, the
-    /// unacknowledged ones first, and where it told no number, those that were never sent (Q.704, retrieval). The first number that it told
-    /// counts, for the messages of which it spoke as it was heard; one that would acknowledge more than was sent then is none.
+    /// Hands out the messages of a link in changeover that the far side may lack, for [`Group::divert`], and answers how many there are:
+    /// those behind the ones that it told that it accepted, the unacknowledged ones first, and where it told no number, those that weren't
+    /// sent since both directions last began anew (Q.704, retrieval). The first number that it told counts, for the messages of which it
+    /// spoke as it was heard; one that would acknowledge more than was sent then is none.
     ///
     /// # Errors
     ///
@@ -170,8 +171,8 @@ impl Group {
         retrieve_at(self.links.as_mut_slice(), link)
     }
 
-    /// Gives up the messages of a link in changeover that were sent: they count as unsure. Hands out those that were never sent, and answers how many
-    /// there are.
+    /// Gives up the messages of a link in changeover that were sent: they count as unsure. Hands out those that weren't sent since both
+    /// directions last began anew, and answers how many there are.
     ///
     /// # Errors
     ///
