@@ -24,8 +24,8 @@ use Rattle.link_transceiver.proofs.Acknowledging.{keeps_unacknowledged}
 use Rattle.link_transceiver.proofs.Holding.{holds_back}
 use Rattle.link_transceiver.proofs.Withholding.{withholds as stays_withheld}
 use Rattle.group_members.specs.OneLink.{count_of, count_told}
-use Rattle.link_group.specs.Ends.{Ends, units_in, ends_anew, given, near_sends, far_sends, arrived, place_behind, came_back, Lives, begins, gets, near_goes, far_goes, arrives, is_lost, comes_back, is_lost_back, withholds, acknowledges, near_else, far_else, tells, hears, EndsComplete}
-use Rattle.link_group.proofs.Units.{outgoing_of, outgoing_in, outgoings, outgoings-append, telling_of, telling_in, telling_by, tellings, tellings-append, Goes, says_none, fills_in, gives_one, going, SameIntake, Answers, tells_none, tells_one, answering, Comes, passes_by, is_judged, ComesIn, status_comes, unit_comes, coming_in, Obeys, ignores, is_obeyed, ComesBack, status_back, unit_back, coming_back, judged_spare}
+use Rattle.link_group.specs.Ends.{Ends, units_in, AreStatuses, ends_anew, given, near_sends, far_sends, arrived, place_behind, came_back, Lives, begins, gets, near_goes, far_goes, arrives, is_lost, comes_back, is_lost_back, withholds, acknowledges, near_else, far_else, tells, hears, EndsComplete}
+use Rattle.link_group.proofs.Units.{no_outgoings, no_tellings, outgoing_of, outgoing_in, outgoings, outgoings-append, telling_of, telling_in, telling_by, tellings, tellings-append, Goes, says_none, fills_in, gives_one, going, SameIntake, Answers, tells_none, tells_one, answering, Comes, passes_by, is_judged, ComesIn, status_comes, unit_comes, coming_in, Obeys, ignores, is_obeyed, ComesBack, status_back, unit_back, coming_back, judged_spare}
 use Rattle.link_group.proofs.Sounding.{sound_given, sound_sent, sound_filled, sound_arrived, sound_lost, sound_came_back, sound_lost_back, sound_answered, sound_front, sound_again, sound_place, sound_few, sound_sizes, sound_whole, sound_in_order}
 
 -- ---- one direction, as the stores of both ends see it
@@ -86,10 +86,12 @@ withheld_anew (Some b) w r ms kept sent first again turn last = record {
   back = one_back 0 (omega arith) refl (none_back (omega arith));
 }
 
-fares_anew : (h g : TransceiverState) → Fares (ends_anew h g)
+fares_anew : (h g : TransceiverState) (forth back : List Unit) → AreStatuses forth → AreStatuses back → Fares (ends_anew h g forth back)
 unfolding renewed
-fares_anew h g = record {
-  sound = withheld_anew g.withheld (renewed h).sender (renewed g).receiver (renewed h).sender.kept refl refl refl refl refl refl;
+fares_anew h g forth back none_forth none_back = record {
+  sound = subst (λ (us : List Outgoing). Sound (record (exchange_of (ends_anew h g forth back)) { forth = us })) (sym (no_outgoings forth none_forth))
+      (subst (λ (bs : List Answer). Sound (record (exchange_of (ends_anew h g forth back)) { forth = []; back = bs ++ withheld_in (renewed_backward g.withheld) })) (sym (no_tellings back none_back))
+      (withheld_anew g.withheld (renewed h).sender (renewed g).receiver (renewed h).sender.kept refl refl refl refl refl refl));
   spare = refl;
   told = λ n e. absurd (none_some n e);
   place = λ p e. absurd (none_some p e);
@@ -359,7 +361,7 @@ fares_hears x f = record {
 -- ---- every list of deeds
 
 each_fares : (x : Ends) → Lives x → Fares x
-each_fares _ (begins h g) = fares_anew h g
+each_fares _ (begins h g forth back f b) = fares_anew h g forth back f b
 each_fares _ (gets x ms r) = fares_given x ms (each_fares x r)
 each_fares _ (near_goes x r) = fares_near_sends x (each_fares x r)
 each_fares _ (far_goes x r) = fares_far_sends x (each_fares x r)

@@ -1,5 +1,5 @@
 -- What else goes on with a life of a link between two sets.
-use Rattle.std.proofs.Common.{◌≡◌, ℕ, zero, suc, Bool, true, false, List, [], ◌++◌, Option, Some, None, refl, sym, ap, ◌∙◌, subst, map, inl, inr, append_assoc}
+use Rattle.std.proofs.Common.{◌≡◌, ℕ, ◌+◌, ◌-◌, ◌^◌, min, length, zero, suc, Bool, true, false, List, [], ◌++◌, Option, Some, None, refl, sym, ap, ◌∙◌, subst, map, inl, inr, append_assoc}
 use Rattle.std.specs.Prelude.{if◌then◌else◌, slice_get, option_map}
 use Rattle.std.specs.Option.{option_to_list}
 use Rattle.std.proofs.lemmas.List.{append-nil}
@@ -30,7 +30,7 @@ use Rattle.group_members.specs.Term.{Term}
 use Rattle.group_members.specs.declared.link.Link.{Link}
 use Rattle.group_members.specs.OneLink.{count_told, with_availability, with_hold, hold_by}
 use Rattle.group_members.specs.Links.{change}
-use Rattle.group_members.specs.Commanding.{behind_command, Commanded}
+use Rattle.group_members.specs.Commanding.{behind_command, Commanded, cleared_at}
 use Rattle.group_members.specs.Doing.{AtLink, Spoken, Reported, admits_at, asked}
 use Rattle.group_members.specs.Failing.{marked, hears as hears_at}
 use Rattle.group_members.specs.Speaking.{given as units_given, left}
@@ -141,15 +141,16 @@ ticked_links : (n : ℕ) (c : LinkSet) → (after_ticks n c).links ≡ map asked
 unfolding after_ticks all_seen
 ticked_links n c = refl
 
-ticked_end : (n l : ℕ) (c : LinkSet) (k : Link) → slice_get c.links l ≡ Some k → (end_of (passed n (roomy k))).began ≡ false → end_at (after_ticks n c) l ≡ Some (asked_end (end_of (passed n (roomy k))))
-ticked_end n l c k there none =
+pub ticked_there : (n l : ℕ) (c : LinkSet) (k : Link) → slice_get c.links l ≡ Some k → slice_get (after_ticks n c).links l ≡ Some (asked (passed n (roomy k)))
+ticked_there n l c k there =
     let ks : List Link = with_room c.links in
     let room : slice_get ks l ≡ Some (roomy k) = slice_get-map roomy c.links l ∙ ap (λ (o : Option Link). option_map roomy o) there in
     let passes : slice_get (map (passed n) ks) l ≡ Some (passed n (roomy k)) = slice_get-map (passed n) ks l ∙ ap (λ (o : Option Link). option_map (passed n) o) room in
-    let asks : slice_get (map asked (map (passed n) ks)) l ≡ Some (asked (passed n (roomy k))) =
-    slice_get-map asked (map (passed n) ks) l ∙ ap (λ (o : Option Link). option_map asked o) passes in
-    ap (λ (js : List Link). option_map end_of (slice_get js l)) (ticked_links n c)
-    ∙ (ap (λ (o : Option Link). option_map end_of o) asks ∙ ap (λ (h : TransceiverState). Some h) (asked_plain (passed n (roomy k)) none))
+    ap (λ (js : List Link). slice_get js l) (ticked_links n c) ∙ (slice_get-map asked (map (passed n) ks) l ∙ ap (λ (o : Option Link). option_map asked o) passes)
+
+ticked_end : (n l : ℕ) (c : LinkSet) (k : Link) → slice_get c.links l ≡ Some k → (end_of (passed n (roomy k))).began ≡ false → end_at (after_ticks n c) l ≡ Some (asked_end (end_of (passed n (roomy k))))
+ticked_end n l c k there none =
+    ap (λ (o : Option Link). option_map end_of o) (ticked_there n l c k there) ∙ ap (λ (h : TransceiverState). Some h) (asked_plain (passed n (roomy k)) none)
 
 end_is : (c : LinkSet) (l : ℕ) (k : Link) (h : TransceiverState) → slice_get c.links l ≡ Some k → end_at c l ≡ Some h → h ≡ end_of k
 end_is c l k h there is = let both : Some h ≡ Some (end_of k) = sym is ∙ ap (λ (o : Option Link). option_map end_of o) there in cc
@@ -170,12 +171,16 @@ far_ticks l n c d x k b there none =
 
 -- ---- commands
 
+pub commanded_links : (command : Command) (i : ℕ) (c e : LinkSet) (by : ByCommand command i c e) → e.links ≡ change by.links i asked
+commanded_links command i c e by =
+    ap (λ (y : LinkSet). y.links) by.set
+    ∙ seen_links i (record c { links = by.links; unsure = min (2 ^ 64 - 1) (c.unsure + length (cleared_at command (slice_get c.links i))) })
+
 commanded_end : (command : Command) (l : ℕ) (c e : LinkSet) (by : ByCommand command l c e) → (end_of by.at.after).began ≡ false → end_at e l ≡ Some (asked_end (end_of by.at.after))
 commanded_end command l c e by none =
     let there : slice_get by.links l ≡ Some by.at.after =
     ap (λ (ks : List Link). slice_get ks l) by.at.links ∙ set_there c.links l by.at.after by.at.before by.at.there in
-    let links : e.links ≡ change by.links l asked = ap (λ (y : LinkSet). y.links) by.set ∙ seen_links l (record c { links = by.links }) in
-    ap (λ (ks : List Link). option_map end_of (slice_get ks l)) links
+    ap (λ (ks : List Link). option_map end_of (slice_get ks l)) (commanded_links command l c e by)
     ∙ (ap (λ (o : Option Link). option_map end_of o) (change_here asked by.links l (Some by.at.after) there)
     ∙ ap (λ (h : TransceiverState). Some h) (asked_plain by.at.after none))
 
@@ -271,25 +276,25 @@ admitted_end c i l way = same_end (admits_at way) c.links i l (same l i) (λ k. 
 -- ---- level 3 says something of a link
 
 -- what that leaves of its end
-record Stays (h g : TransceiverState) : Type 0 where
-  sender : g.sender ≡ h.sender
-  spare : g.spare ≡ h.spare
-  receiver : g.receiver ≡ h.receiver
-  withheld : g.withheld ≡ h.withheld
-  holds : is_held h.hold ≡ true → is_held g.hold ≡ true
+pub record Stays (h g : TransceiverState) : Type 0 where
+  pub sender : g.sender ≡ h.sender
+  pub spare : g.spare ≡ h.spare
+  pub receiver : g.receiver ≡ h.receiver
+  pub withheld : g.withheld ≡ h.withheld
+  pub holds : is_held h.hold ≡ true → is_held g.hold ≡ true
 
-stays_same : (h : TransceiverState) → Stays h h
+pub stays_same : (h : TransceiverState) → Stays h h
 stays_same h = record { sender = refl; spare = refl; receiver = refl; withheld = refl; holds = λ held. held }
 
-stays_as : (h g i : TransceiverState) → h ≡ g → Stays i g → Stays i h
+pub stays_as : (h g i : TransceiverState) → h ≡ g → Stays i g → Stays i h
 stays_as h g i e s = subst (λ (z : TransceiverState). Stays i z) (sym e) s
 
-held_by_some : (o : Option Changing) → is_held (hold_by o) ≡ true
+pub held_by_some : (o : Option Changing) → is_held (hold_by o) ≡ true
 unfolding is_held
 held_by_some None = refl
 held_by_some (Some c) = by_test (λ (z : Hold). is_held z ≡ true) (is_out c) hold.UntilAnew hold.Kept (λ e. refl) (λ e. refl)
 
-heard_stays : (what : Kind) (k : Link) → Stays (end_of k) (end_of (hears_at what k))
+pub heard_stays : (what : Kind) (k : Link) → Stays (end_of k) (end_of (hears_at what k))
 heard_stays what k =
     by_test (λ (z : Link). Stays (end_of k) (end_of (with_availability (marked what k) z))) (is_held_by what k.availability) (with_hold (hold_by (marked what k).changing) k) k
     (λ e. record { sender = refl; spare = refl; receiver = refl; withheld = refl; holds = λ held. held_by_some (marked what k).changing })
@@ -316,7 +321,7 @@ changed_stays what ks i l h g (inl e) was now =
 changed_stays what ks i l h g (inr other) was now =
     stays_equal (option_map end_of (slice_get ks l)) (option_map end_of (slice_get (change ks i (hears_at what)) l)) h g (ap (λ (o : Option Link). option_map end_of o) (change_other (hears_at what) ks i l other)) was now
 
-message_stays : (c : LinkSet) (o : Option Changeover) (l : ℕ) (h g : TransceiverState) → end_at c l ≡ Some h → end_at (after_message c o) l ≡ Some g → Stays h g
+pub message_stays : (c : LinkSet) (o : Option Changeover) (l : ℕ) (h g : TransceiverState) → end_at c l ≡ Some h → end_at (after_message c o) l ≡ Some g → Stays h g
 message_stays c None l h g was now = stays_equal (end_at c l) (end_at c l) h g refl was now
 message_stays c (Some m) l h g was now =
     let either : end_at (after_message c (Some m)) l ≡ Some g → Stays h g =

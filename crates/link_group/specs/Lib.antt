@@ -3,6 +3,7 @@ pub mod Between
 pub mod Changing
 pub mod Diverting
 pub mod Ends
+pub mod Joined
 pub mod Laws
 pub mod Lines
 pub mod New
