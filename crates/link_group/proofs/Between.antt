@@ -223,7 +223,7 @@ far_fails l c d x b = record {
 
 -- ---- what is handed out
 
-given_out : (c : LinkSet) (l : ℕ) (k : Link) → slice_get c.links l ≡ Some k → hand_at (after_retrieve c l) l ≡ unbound k.points (lacking (window k) (accepted_of k))
+pub given_out : (c : LinkSet) (l : ℕ) (k : Link) → slice_get c.links l ≡ Some k → hand_at (after_retrieve c l) l ≡ unbound k.points (lacking (window k) (accepted_of k))
 unfolding messages_for
 given_out c l k there =
     hands_retrieved c l l ∙ retrieval_here (hand_at c) l (messages_for c l) ∙ ap (λ (o : Option Link). messages_by accepted_of o) there

@@ -246,7 +246,7 @@ back_to x b bs w e (is_obeyed same few) h =
 place_left : (was now p T D : ℕ) → now ≤ was → T ≤ D + now → p + T ≡ D + was → (p - (was - now)) + T ≡ D + now
 place_left was now p T D less reach e = omega (arith, less, reach, e)
 
-some_place : (n : ℕ) (o : Option ℕ) (p : ℕ) → place_behind n o ≡ Some p → (q : ℕ) × (o ≡ Some q) × (p ≡ q - n)
+pub some_place : (n : ℕ) (o : Option ℕ) (p : ℕ) → place_behind n o ≡ Some p → (q : ℕ) × (o ≡ Some q) × (p ≡ q - n)
 some_place n None p e = absurd (none_some p e)
 some_place n (Some q) p e = let same : q - n ≡ p = cc in (q, refl, sym same)
 
@@ -375,6 +375,10 @@ each_fares _ (near_else x h r same spare) = fares_near_else x h same spare (each
 each_fares _ (far_else x g r same withheld holds) = fares_far_else x g same withheld holds (each_fares x r)
 each_fares _ (tells x r held) = fares_tells x held (each_fares x r)
 each_fares _ (hears x r) = fares_hears x (each_fares x r)
+
+-- where a number was heard far is held
+pub held_far : (x : Ends) (p : ℕ) → Lives x → x.place ≡ Some p → is_held x.far.hold ≡ true
+held_far x p r e = ((each_fares x r).place p e).0
 
 is_known : (x : Ends) (n : ℕ) → Fares x → x.told ≡ Some n → (p : ℕ) × (count_told x.near.sender x.told ≡ Some p)
 is_known x n f e =

@@ -18,7 +18,7 @@ use Rattle.group_members.specs.OneLink.{puts}
 use Rattle.group_members.specs.Links.{change}
 use Rattle.group_members.specs.Commanding.{Refused, marked as marked_anew}
 use Rattle.group_members.specs.Doing.{admits_at, came, began, unbegun, leaves_out, asked_of, asked}
-use Rattle.group_members.specs.Failing.{changeover_begins_at}
+use Rattle.group_members.specs.Failing.{changeover_begins_at, handed, given_up}
 use Rattle.group_members.specs.Tables.{forgiven}
 use Rattle.group_members.specs.Ticking.{roomy}
 use Rattle.link_group.specs.Set.{LinkSet, change_by, sent, bound_at}
@@ -131,9 +131,9 @@ pub only_one : (i l : ℕ) (c e : LinkSet) → (l ≡ i → ⊥) → OfOne i c e
 unfolding sent bound_at after_failure after_retrieve after_abandon
 only_one i l _ _ other (takes c m link) = ap (λ (o : Option ℕ). slice_get (change_by c.links o (puts m)) l) link ∙ change_other (puts m) c.links i l other
 only_one i l _ _ other (takes_bound c m) = change_other (puts m) c.links i l other
-only_one i l _ _ other (is_failed c) = change_other _ c.links i l other
-only_one i l _ _ other (hands_out c) = change_other _ c.links i l other
-only_one i l _ _ other (gives_up c) = change_other _ c.links i l other
+only_one i l _ _ other (is_failed c) = change_other changeover_begins_at c.links i l other
+only_one i l _ _ other (hands_out c) = change_other handed c.links i l other
+only_one i l _ _ other (gives_up c) = change_other given_up c.links i l other
 only_one i l _ _ other (works c e by) =
     ap (λ (ks : List Link). slice_get ks l) (behind_links Anything i c e by)
     ∙ (change_other asked by.links i l other ∙ (ap (λ (ks : List Link). slice_get ks l) by.at.links ∙ set_other c.links i l by.at.after other))
@@ -154,7 +154,7 @@ asked_counts k e =
     ap (λ (b : Bool). counted_of (Some (asked_of (if◌then◌else◌ {A = Link} b (leaves_out (unbegun k)) (unbegun k))))) e
     ∙ ap counted_in (served_changing (came (unbegun k)) k.availability)
 
-there_counts : (ks js es : List Link) (l : ℕ) (k j : Link) → slice_get ks l ≡ Some k → js ≡ slice_set ks l j → es ≡ change js l asked → began j ≡ false → counted_of (slice_get es l) ≡ counted_of (Some j)
+pub there_counts : (ks js es : List Link) (l : ℕ) (k j : Link) → slice_get ks l ≡ Some k → js ≡ slice_set ks l j → es ≡ change js l asked → began j ≡ false → counted_of (slice_get es l) ≡ counted_of (Some j)
 there_counts ks js es l k j there set now none =
     let at : slice_get js l ≡ Some j = ap (λ (xs : List Link). slice_get xs l) set ∙ set_there ks l j k there in
     ap (λ (xs : List Link). counted_of (slice_get xs l)) now ∙ (ap counted_of (change_here asked js l (Some j) at) ∙ asked_counts j none)
