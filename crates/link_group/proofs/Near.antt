@@ -15,15 +15,16 @@ use Rattle.group_changeover.specs.Sharing.{selection_of, link_of}
 use Rattle.group_members.specs.declared.link.Link.{Link}
 use Rattle.group_members.specs.OneLink.{count_told, held, puts}
 use Rattle.group_members.specs.Links.{change}
-use Rattle.group_members.specs.Commanding.{behind_command, starts_anew}
+use Rattle.group_members.specs.Commanding.{behind_command, started, starts_anew}
 use Rattle.group_members.specs.Doing.{Listened, Spoken, Sent, Reported}
 use Rattle.group_members.specs.Speaking.{given as units_given}
 use Rattle.group_members.specs.Ticking.{roomy, passed}
 use Rattle.link_group.specs.Set.{LinkSet, change_by, sent, bound_at}
-use Rattle.link_group.specs.Changing.{after_message}
+use Rattle.link_group.specs.Changing.{after_failure, after_message, reply_to}
 use Rattle.link_group.specs.Diverting.{after_divert}
-use Rattle.link_group.specs.Lines.{ByLink, ByCommand}
-use Rattle.link_group.specs.Ticks.{after_ticks}
+use Rattle.link_group.specs.Lines.{ByLink, ByCommand, after_admission}
+use Rattle.link_group.specs.Placing.{rebalanced}
+use Rattle.link_group.specs.Ticks.{with_room, after_ticks}
 use Rattle.link_group.specs.Ends.{Ends, Lives, gets, given, place_behind, near_else, hears as hears_told}
 use Rattle.link_group.specs.Along.{Arrive}
 use Rattle.link_group.specs.Between.{end_of, end_at, Between, asked_end}
@@ -161,7 +162,7 @@ commanded_counts l c e command by clear none = λ p f.
     there_counts c.links by.links e.links l old by.at.after by.at.there by.at.links (commanded_links command l c e by) none in
     ap counted_of by.at.there
     ∙ (ap counted_in (sym (anew_changing (starts_anew command old) old.availability))
-    ∙ none_fewer n _ zero_is p (ap (λ (m : Availability). counted_in m.changing) (sym by.at.was.availability) ∙ (sym now ∙ f)))
+    ∙ none_fewer n (started command old).changing zero_is p (ap (λ (m : Availability). counted_in m.changing) (sym by.at.was.availability) ∙ (sym now ∙ f)))
 
 ticked_counts : (l n : ℕ) (c : LinkSet) (k : Link) → slice_get c.links l ≡ Some k → (end_of (passed n (roomy k))).began ≡ false
     → Fewer (counted_of (slice_get c.links l)) (counted_of (slice_get (after_ticks n c).links l))
@@ -173,7 +174,7 @@ ticked_counts l n c k there none = λ p f.
 -- ---- a message of changeover comes
 
 near_either : (l p : ℕ) (c d : LinkSet) (y : Ends) (m : Option Changeover) (rest : List Unit) → Between l c d y → Fewer y.place (counted_of (slice_get c.links l)) → Arrive [] y.back rest
-    → IsTold (number_of l (if_for c m)) y.told → HeardFar (slice_get c.links l) (slice_get (after_message c m).links l) y.near _
+    → IsTold (number_of l (if_for c m)) y.told → HeardFar (slice_get c.links l) (slice_get (after_message c m).links l) y.near (number_of l (reply_to c m))
     → counted_of (slice_get (after_message c m).links l) ≡ Some p → Counted (slice_get c.links l) (number_of l (if_for c m)) p → NearDid l (after_message c m) d y [] rest []
 near_either l p c d y m rest b counts a is v e (inl x) =
     near_plain l (after_message c m) d y v.end y.place rest a (record { life = near_else y v.end b.life v.stays.sender v.stays.spare; near = v.is; far = b.far }) (λ q f. counts p x ∙ (sym e ∙ f))
@@ -224,11 +225,11 @@ near_step l _ _ d y _ rest (refuses c e command refusal by) b counts a is = near
 near_step l _ _ d y _ rest (ticks c n k there none) b counts a is =
     near_plain l (after_ticks n c) d y (asked_end (end_of (passed n (roomy k)))) y.place rest a (lives_go_on.near_ticks l n c d y k b there none)
     (λ p f. counts p (ticked_counts l n c k there none p f))
-near_step l _ e d y _ rest (makes_room c) b counts a is = near_leaves l c e d y rest b counts a (roomy_leaves c l)
+near_step l _ _ d y _ rest (makes_room c) b counts a is = near_leaves l c (record c { links = with_room c.links }) d y rest b counts a (roomy_leaves c l)
 near_step l _ _ d y _ rest (lacks_room c e lacks) b counts a is = near_leaves l c e d y rest b counts a (lacks_leaves c e l lacks)
-near_step l _ e d y _ rest (rebalances c) b counts a is = near_leaves l c e d y rest b counts a (rebalanced_leaves c l)
-near_step l _ e d y _ rest (admits c i way) b counts a is = near_leaves l c e d y rest b counts a (admitted_leaves c i l way)
-near_step l _ e d y _ rest (fails c) b counts a is = near_leaves l c e d y rest b counts a (failed_leaves c l l)
+near_step l _ _ d y _ rest (rebalances c) b counts a is = near_leaves l c (rebalanced c) d y rest b counts a (rebalanced_leaves c l)
+near_step l _ _ d y _ rest (admits c i way) b counts a is = near_leaves l c (after_admission c i way) d y rest b counts a (admitted_leaves c i l way)
+near_step l _ _ d y _ rest (fails c) b counts a is = near_leaves l c (after_failure c l) d y rest b counts a (failed_leaves c l l)
 near_step l _ _ d y _ rest (hears c m) b counts a is = near_by l c d y m rest b counts a is (counted_of (slice_get (after_message c m).links l)) refl
 near_step l _ _ d y _ rest (by_other c e i other one) b counts a is =
     near_leaves l c e d y rest b counts a (leaves_as (slice_get c.links l) (slice_get c.links l) (slice_get e.links l) (sym (only_one i l c e other one)) (leaves_same (slice_get c.links l)))

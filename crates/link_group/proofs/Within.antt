@@ -152,7 +152,7 @@ ticked_end : (n l : ℕ) (c : LinkSet) (k : Link) → slice_get c.links l ≡ So
 ticked_end n l c k there none =
     ap (λ (o : Option Link). option_map end_of o) (ticked_there n l c k there) ∙ ap (λ (h : TransceiverState). Some h) (asked_plain (passed n (roomy k)) none)
 
-end_is : (c : LinkSet) (l : ℕ) (k : Link) (h : TransceiverState) → slice_get c.links l ≡ Some k → end_at c l ≡ Some h → h ≡ end_of k
+pub end_is : (c : LinkSet) (l : ℕ) (k : Link) (h : TransceiverState) → slice_get c.links l ≡ Some k → end_at c l ≡ Some h → h ≡ end_of k
 end_is c l k h there is = let both : Some h ≡ Some (end_of k) = sym is ∙ ap (λ (o : Option Link). option_map end_of o) there in cc
 
 near_ticks : (l n : ℕ) (c d : LinkSet) (x : Ends) (k : Link) → Between l c d x → slice_get c.links l ≡ Some k → (end_of (passed n (roomy k))).began ≡ false

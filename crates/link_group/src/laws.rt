@@ -2,6 +2,7 @@
 ghost use Rattle.link_group.specs.Along.{TerminalsFare};
 ghost use Rattle.link_group.specs.Between.{CallsFare, SetsFare};
 ghost use Rattle.link_group.specs.Ends.{EndsComplete, EndsHeed};
+ghost use Rattle.link_group.specs.Joined.{SetsComplete};
 ghost use Rattle.link_group.specs.Laws.{EachInOnePlace, UnsureAreCounted};
 ghost use Rattle.link_group.specs.Numbers.{NumberStands};
 ghost use Rattle.link_group.specs.Within.{LivesGoOn};
@@ -66,4 +67,12 @@ pub fn lives_go_on_so()
 /// come behind it.
 pub fn a_number_stands()
     ensures { NumberStands }
+{}
+
+/// Two sets that the lines of a link join, call by call, over one life of that link, from a beginning of both its directions on until they begin anew:
+/// what the far set accepts by it, and then what the near one hands out with the number that the far one told while it held the link, is what the link
+/// kept as that life began, and then what `send` and `divert` gave it, messages that are bound to it left out: each once, in order. Neither a clear nor
+/// a start of either end comes between. The lines may lose units and delay them, and never change their order.
+pub fn sets_complete_each_life()
+    ensures { SetsComplete }
 {}
