@@ -88,9 +88,9 @@ withheld_anew (Some b) w r ms kept sent first again turn last = record {
 
 fares_anew : (h g : TransceiverState) (forth back : List Unit) → AreStatuses forth → AreStatuses back → Fares (ends_anew h g forth back)
 unfolding renewed
-fares_anew h g forth back none_forth none_back = record {
-  sound = subst (λ (us : List Outgoing). Sound (record (exchange_of (ends_anew h g forth back)) { forth = us })) (sym (no_outgoings forth none_forth))
-      (subst (λ (bs : List Answer). Sound (record (exchange_of (ends_anew h g forth back)) { forth = []; back = bs ++ withheld_in (renewed_backward g.withheld) })) (sym (no_tellings back none_back))
+fares_anew h g forth back ahead behind = record {
+  sound = subst (λ (us : List Outgoing). Sound (record (exchange_of (ends_anew h g forth back)) { forth = us })) (sym (no_outgoings forth ahead))
+      (subst (λ (bs : List Answer). Sound (record (exchange_of (ends_anew h g forth back)) { forth = []; back = bs ++ withheld_in (renewed_backward g.withheld) })) (sym (no_tellings back behind))
       (withheld_anew g.withheld (renewed h).sender (renewed g).receiver (renewed h).sender.kept refl refl refl refl refl refl));
   spare = refl;
   told = λ n e. absurd (none_some n e);

@@ -33,12 +33,12 @@ use Rattle.link_group.proofs.Within.{Stays, stays_same, held_by_some, heard_stay
 -- ---- numbers of links
 
 equal_so : (a b : ℕ) → ((a == b) ≡ true) × (a ≡ b) ⊎ ((a == b) ≡ false) × (a ≡ b → ⊥) → a ≡ b → (a == b) ≡ true
-equal_so a b (inl yes) e = yes.0
-equal_so a b (inr no) e = absurd (no.1 e)
+equal_so a b (inl x) e = x.0
+equal_so a b (inr x) e = absurd (x.1 e)
 
 other_so : (a b : ℕ) → ((a == b) ≡ true) × (a ≡ b) ⊎ ((a == b) ≡ false) × (a ≡ b → ⊥) → (a ≡ b → ⊥) → (a == b) ≡ false
-other_so a b (inl yes) h = absurd (h yes.1)
-other_so a b (inr no) h = no.0
+other_so a b (inl x) h = absurd (h x.1)
+other_so a b (inr x) h = x.0
 
 number_here : (l : ℕ) (m : Changeover) → l ≡ m.label.sls → number_of l (Some m) ≡ number_in m.kind
 number_here l m e = ap (λ (b : Bool). if◌then◌else◌ {A = Option ℕ} b (number_in m.kind) None) (equal_so m.label.sls l (eqb_tells m.label.sls l) (sym e))
