@@ -1,4 +1,4 @@
--- A life of a link between two sets: what it comes to, and calls within it.
+-- A life of a link between two sets: messages come to the link, it fails, and its messages are handed out.
 use Rattle.std.proofs.Common.{◌≡◌, ℕ, ◌+◌, ◌==◌, zero, suc, true, List, [], ◌∷◌, ◌++◌, length, Option, Some, None, refl, sym, ap, ◌∙◌, subst, inl, inr, append_assoc}
 use Rattle.std.specs.Prelude.{slice_get, option_map}
 use Rattle.std.proofs.lemmas.List.{append-nil}
@@ -26,12 +26,17 @@ use Rattle.link_group.specs.Changing.{messages_for, after_failure, after_retriev
 use Rattle.link_group.specs.Diverting.{diverted, settled_by, after_hand, after_divert}
 use Rattle.link_group.specs.Laws.{hand_at}
 use Rattle.link_group.specs.Ends.{Ends, Lives, gets, given, near_else, far_else}
-use Rattle.link_group.specs.Joined.{counted_in, counted_of}
-use Rattle.link_group.specs.Between.{end_of, end_at, Between, told_of, SetsFare}
+use Rattle.link_group.specs.Joined.{end_of, end_at, counted_in, counted_of}
 use Rattle.link_group.proofs.Calling.{retrieval_here}
 use Rattle.link_group.proofs.Faring.{ends_complete}
 use Rattle.link_group.proofs.Getting.{change_here, change_other}
 use Rattle.link_group.proofs.Hands.{hands_retrieved}
+
+-- The two ends of a link of a near set and a far one are in a life of it.
+pub record Between (l : ℕ) (c d : LinkSet) (x : Ends) : Type 0 where
+  pub life : Lives x
+  pub near : end_at c l ≡ Some x.near
+  pub far : end_at d l ≡ Some x.far
 
 -- of messages that counted as accepted some may count no longer, and no others do
 abbrev pub Fewer : Option ℕ → Option ℕ → Type 0
@@ -57,7 +62,7 @@ puts_one m k = refl
 
 -- ---- messages come
 
-sends : (l : ℕ) (c d : LinkSet) (x : Ends) (m : Msu) → Between l c d x → link_of c.table (selection_of m) ≡ Some l → Between l (sent c m) d (given (m ∷ []) x)
+pub sends : (l : ℕ) (c d : LinkSet) (x : Ends) (m : Msu) → Between l c d x → link_of c.table (selection_of m) ≡ Some l → Between l (sent c m) d (given (m ∷ []) x)
 unfolding sent
 sends l c d x m b link = record {
   life = gets x (m ∷ []) b.life;
@@ -65,7 +70,7 @@ sends l c d x m b link = record {
   far = b.far;
 }
 
-binds : (l : ℕ) (c d : LinkSet) (x : Ends) (m : Msu) → Between l c d x → Between l (bound_at c l m) d (given (m ∷ []) x)
+pub binds : (l : ℕ) (c d : LinkSet) (x : Ends) (m : Msu) → Between l c d x → Between l (bound_at c l m) d (given (m ∷ []) x)
 unfolding bound_at
 binds l c d x m b = record { life = gets x (m ∷ []) b.life; near = changed_end (puts m) (with_more (m ∷ [])) c.links l x.near (puts_one m) b.near; far = b.far }
 
@@ -194,26 +199,13 @@ unfolding after_divert
 divert_grows c i j =
     by_test (λ (y : LinkSet). Grows (slice_get c.links j) (slice_get y.links j)) (is_out_at (slice_get c.links i)) (after_hand c i) c (λ e. taken_grows c i j) (λ e. grows_none (slice_get c.links j))
 
-diverts : (l i : ℕ) (c d : LinkSet) (x : Ends) → Between l c d x → (ms : List Msu) × Between l (after_divert c i) d (given ms x)
-diverts l i c d x b =
-    let g = divert_grows c i l in
-    (g.more, record { life = gets x g.more b.life; near = g.is ∙ ap (λ (o : Option TransceiverState). option_map (with_more g.more) o) b.near; far = b.far })
-
--- ---- it fails at one end
-
-near_fails : (l : ℕ) (c d : LinkSet) (x : Ends) → Between l c d x → Between l (after_failure c l) d (record x { near = record x.near { hold = hold.Kept } })
-unfolding after_failure
-near_fails l c d x b = record {
-  life = near_else x (record x.near { hold = hold.Kept }) b.life refl refl;
-  near = changed_end changeover_begins_at (λ h. record h { hold = hold.Kept }) c.links l x.near (λ k. refl) b.near;
-  far = b.far;
-}
+-- ---- it fails at the far end
 
 pub kept_holds : is_held hold.Kept ≡ true
 unfolding is_held
 kept_holds = refl
 
-far_fails : (l : ℕ) (c d : LinkSet) (x : Ends) → Between l c d x → Between l c (after_failure d l) (record x { far = record x.far { hold = hold.Kept } })
+pub far_fails : (l : ℕ) (c d : LinkSet) (x : Ends) → Between l c d x → Between l c (after_failure d l) (record x { far = record x.far { hold = hold.Kept } })
 unfolding after_failure
 far_fails l c d x b = record {
   life = far_else x (record x.far { hold = hold.Kept }) b.life refl refl (λ held. kept_holds);
@@ -227,18 +219,3 @@ pub given_out : (c : LinkSet) (l : ℕ) (k : Link) → slice_get c.links l ≡ S
 unfolding messages_for
 given_out c l k there =
     hands_retrieved c l l ∙ retrieval_here (hand_at c) l (messages_for c l) ∙ ap (λ (o : Option Link). messages_by accepted_of o) there
-
-completes : (l : ℕ) (c d : LinkSet) (x : Ends) (k : Link) (p : ℕ) → Between l c d x → slice_get c.links l ≡ Some k → told_of (slice_get c.links l) ≡ x.place → x.place ≡ Some p
-    → unbound k.points x.taken ≡ unbound k.points x.delivered ++ hand_at (after_retrieve c l) l
-completes l c d x k p b there number place =
-    let is : Some (end_of k) ≡ Some x.near = sym (ap (λ (o : Option Link). option_map end_of o) there) ∙ b.near in
-    let same : end_of k ≡ x.near = cc in
-    let told : accepted_of k ≡ Some p = sym (ap told_of there) ∙ number ∙ place in
-    let lacks : lacking (window k) (accepted_of k) ≡ lacking x.near.sender (Some p) =
-    ap (λ (o : Option ℕ). lacking (window k) o) told ∙ ap (λ (h : TransceiverState). lacking h.sender (Some p)) same in
-    let out : hand_at (after_retrieve c l) l ≡ unbound k.points (lacking x.near.sender (Some p)) = given_out c l k there ∙ ap (unbound k.points) lacks in
-    ap (unbound k.points) (ends_complete.whole x p b.life place)
-    ∙ (unbound-append k.points x.delivered (lacking x.near.sender (Some p)) ∙ ap (λ (ms : List Msu). unbound k.points x.delivered ++ ms) (sym out))
-
-pub sets_fare : SetsFare
-sets_fare = record { complete = completes; sends = sends; binds = binds; diverts = diverts; near_fails = near_fails; far_fails = far_fails }

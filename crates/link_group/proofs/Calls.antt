@@ -1,4 +1,4 @@
--- Calls by a link go on with its life, and those by another link leave it.
+-- Calls by a link go on with its life: a unit goes out, octets come in.
 use Rattle.std.proofs.Common.{◌≡◌, ℕ, ◌-◌, Bool, true, false, List, [], ◌++◌, length, take, Option, Some, None, refl, sym, ap, ◌∙◌, subst}
 use Rattle.std.specs.Prelude.{if◌then◌else◌, slice_get, option_map}
 use Rattle.std.specs.Option.{option_to_list}
@@ -17,9 +17,10 @@ use Rattle.link_group.specs.Set.{LinkSet}
 use Rattle.link_group.specs.Lines.{ByLink, seen}
 use Rattle.link_group.specs.Ends.{Ends, Lives, place_behind, near_else, far_else}
 use Rattle.link_group.specs.Along.{units_along, Arrive}
-use Rattle.link_group.specs.Between.{end_of, end_at, Between, asked_end, Anything, CallsFare}
+use Rattle.link_group.specs.Joined.{end_of, end_at}
 use Rattle.link_group.proofs.Along.{tidied_same, terminals_fare}
-use Rattle.link_group.proofs.Getting.{change_here, change_other, set_there, set_other}
+use Rattle.link_group.proofs.Between.{Between}
+use Rattle.link_group.proofs.Getting.{change_here, set_there}
 
 -- ---- the links behind a call
 
@@ -29,6 +30,10 @@ seen_links l c = refl
 
 pub behind_links : (did : Link → Link → Type 0) (i : ℕ) (c e : LinkSet) (by : ByLink did i c e) → e.links ≡ change by.links i asked
 behind_links did i c e by = ap (λ (y : LinkSet). y.links) by.set ∙ seen_links i (record c { links = by.links })
+
+-- What was asked behind a call was asked: that it came into service, and began anew.
+abbrev pub asked_end : TransceiverState → TransceiverState
+asked_end h = record h { began = false; came = false }
 
 -- where nothing began anew, nothing leaves
 pub asked_plain : (k : Link) → began k ≡ false → end_of (asked k) ≡ asked_end (end_of k)
@@ -46,16 +51,9 @@ pub end_before : (did : Link → Link → Type 0) (l : ℕ) (c e : LinkSet) (by 
 end_before did l c e by h is =
     let both : Some h ≡ Some (end_of by.at.before) = sym is ∙ ap (λ (o : Option Link). option_map end_of o) by.at.there in cc
 
-end_other : (did : Link → Link → Type 0) (l i : ℕ) (c e : LinkSet) → (l ≡ i → ⊥) → ByLink did i c e → end_at e l ≡ end_at c l
-end_other did l i c e other by =
-    ap (λ (ks : List Link). option_map end_of (slice_get ks l)) (behind_links did i c e by)
-    ∙ (ap (λ (o : Option Link). option_map end_of o) (change_other asked by.links i l other)
-    ∙ (ap (λ (ks : List Link). option_map end_of (slice_get ks l)) by.at.links
-    ∙ ap (λ (o : Option Link). option_map end_of o) (set_other c.links i l by.at.after other)))
-
 -- ---- a unit goes out
 
-near_gives : (l : ℕ) (c e d : LinkSet) (x : Ends) (unit : Option Unit) (by : ByLink (Sent unit) l c e) → Between l c d x → (end_of by.at.after).began ≡ false
+pub near_gives : (l : ℕ) (c e d : LinkSet) (x : Ends) (unit : Option Unit) (by : ByLink (Sent unit) l c e) → Between l c d x → (end_of by.at.after).began ≡ false
     → Between l e d (record x { near = asked_end (end_of by.at.after); forth = x.forth ++ option_to_list unit })
 near_gives l c e d x unit by b none =
     let t : Processes = tidied by.at.before.terminal.processes in
@@ -73,7 +71,7 @@ near_gives l c e d x unit by b none =
       far = b.far;
     }
 
-far_gives : (l : ℕ) (c d e : LinkSet) (x : Ends) (unit : Option Unit) (by : ByLink (Sent unit) l d e) → Between l c d x → (end_of by.at.after).began ≡ false
+pub far_gives : (l : ℕ) (c d e : LinkSet) (x : Ends) (unit : Option Unit) (by : ByLink (Sent unit) l d e) → Between l c d x → (end_of by.at.after).began ≡ false
     → Between l c e (record x { far = asked_end (end_of by.at.after); back = x.back ++ option_to_list unit })
 far_gives l c d e x unit by b none =
     let t : Processes = tidied by.at.before.terminal.processes in
@@ -93,7 +91,7 @@ far_gives l c d e x unit by b none =
 
 -- ---- octets come in
 
-near_hears : (l : ℕ) (c e d : LinkSet) (x : Ends) (octets : List ℕ) (taken : ℕ) (by : ByLink (Listened octets taken) l c e) (bits : List Bool) (all now : List LineEvent)
+pub near_hears : (l : ℕ) (c e d : LinkSet) (x : Ends) (octets : List ℕ) (taken : ℕ) (by : ByLink (Listened octets taken) l c e) (bits : List Bool) (all now : List LineEvent)
     (h : Hears bits all by.at.before.terminal.processes (take taken octets) now by.at.after.terminal.processes) (rest : List Unit) → Between l c d x → (end_of by.at.after).began ≡ false
     → Arrive (units_along h) x.back rest
     → Between l e d
@@ -104,7 +102,7 @@ near_hears l c e d x octets taken by bits all now h rest b none a =
     let heard : Lives y = terminals_fare.near_hears bits all now by.at.before.terminal.processes by.at.after.terminal.processes (take taken octets) h x rest is none a b.life in
     record { life = near_else y (asked_end (end_of by.at.after)) heard refl refl; near = end_behind (Listened octets taken) l c e by none; far = b.far }
 
-far_hears : (l : ℕ) (c d e : LinkSet) (x : Ends) (octets : List ℕ) (taken : ℕ) (by : ByLink (Listened octets taken) l d e) (bits : List Bool) (all now : List LineEvent)
+pub far_hears : (l : ℕ) (c d e : LinkSet) (x : Ends) (octets : List ℕ) (taken : ℕ) (by : ByLink (Listened octets taken) l d e) (bits : List Bool) (all now : List LineEvent)
     (h : Hears bits all by.at.before.terminal.processes (take taken octets) now by.at.after.terminal.processes) (rest : List Unit) → Between l c d x → (end_of by.at.after).began ≡ false
     → Arrive (units_along h) x.forth rest
     → Between l c e (record x { far = asked_end (end_of by.at.after); forth = rest; delivered = x.delivered ++ accepted_along h })
@@ -113,13 +111,3 @@ far_hears l c d e x octets taken by bits all now h rest b none a =
     let y : Ends = record x { far = end_of by.at.after; forth = rest; delivered = x.delivered ++ accepted_along h } in
     let heard : Lives y = terminals_fare.far_hears bits all now by.at.before.terminal.processes by.at.after.terminal.processes (take taken octets) h x rest is none a b.life in
     record { life = far_else y (asked_end (end_of by.at.after)) heard refl refl (λ held. held); near = b.near; far = end_behind (Listened octets taken) l d e by none }
-
-pub calls_fare : CallsFare
-calls_fare = record {
-  near_other = λ l i c e d x b other by. record { life = b.life; near = end_other Anything l i c e other by ∙ b.near; far = b.far };
-  far_other = λ l i c d e x b other by. record { life = b.life; near = b.near; far = end_other Anything l i d e other by ∙ b.far };
-  near_gives = near_gives;
-  far_gives = far_gives;
-  near_hears = near_hears;
-  far_hears = far_hears;
-}

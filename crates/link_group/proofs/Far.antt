@@ -32,17 +32,16 @@ use Rattle.link_group.specs.Placing.{rebalanced}
 use Rattle.link_group.specs.Ticks.{with_room, after_ticks}
 use Rattle.link_group.specs.Ends.{Ends, Lives, far_else, tells}
 use Rattle.link_group.specs.Along.{Arrive, none_arrives}
-use Rattle.link_group.specs.Between.{end_of, end_at, Between, asked_end}
-use Rattle.link_group.specs.Joined.{Deed, number_of, Does, sends, binds, diverts, listens, speaks, gives, reports, commands, refuses, ticks, makes_room, lacks_room, rebalances, admits, fails, hears, by_other, Empties, retrieves, abandons, clears, told_behind}
+use Rattle.link_group.specs.Joined.{end_of, end_at, Deed, number_of, Does, sends, binds, diverts, listens, speaks, gives, reports, commands, refuses, ticks, makes_room, lacks_room, rebalances, admits, fails, hears, by_other, Empties, retrieves, abandons, clears, told_behind}
 use Rattle.link_group.proofs.Along.{lose_forth, terminals_fare}
-use Rattle.link_group.proofs.Between.{with_more, changed_end, puts_one, Grows, divert_grows, kept_holds, sets_fare}
-use Rattle.link_group.proofs.Calls.{end_behind, end_before, calls_fare}
+use Rattle.link_group.proofs.Between.{with_more, changed_end, puts_one, Between, Grows, divert_grows, kept_holds, far_fails as life_far_fails}
+use Rattle.link_group.proofs.Calls.{asked_end, end_behind, end_before, far_gives, far_hears}
 use Rattle.link_group.proofs.Getting.{change_here}
 use Rattle.link_group.proofs.Heeding.{ends_heed}
 use Rattle.link_group.proofs.Leaving.{Leaves, leaves_same, leaves_as, admitted_leaves, rebalanced_leaves, roomy_leaves, lacks_leaves, refused_leaves, only_one}
 use Rattle.link_group.proofs.Messages.{order_number, HeardFar, far_heard}
 use Rattle.link_group.proofs.Shut.{shut_along}
-use Rattle.link_group.proofs.Within.{Stays, end_is, lives_go_on}
+use Rattle.link_group.proofs.Within.{Stays, end_is, far_speaks, far_reports, far_ticks, far_commands}
 
 -- ---- what a call comes to
 
@@ -113,9 +112,9 @@ far_diverts l i c d y rest b a =
 
 -- ---- octets come
 
-far_hears : (l : ℕ) (c d e : LinkSet) (y : Ends) (rest : List Unit) (accepted : List Msu) (g : TransceiverState) → Between l c d y → end_at e l ≡ Some (asked_end g)
+far_listens : (l : ℕ) (c d e : LinkSet) (y : Ends) (rest : List Unit) (accepted : List Msu) (g : TransceiverState) → Between l c d y → end_at e l ≡ Some (asked_end g)
     → Lives (record y { far = g; forth = rest; delivered = y.delivered ++ accepted }) → FarDid l c e y [] rest accepted None
-far_hears l c d e y rest accepted g b now life = record {
+far_listens l c d e y rest accepted g b now life = record {
   now = asked_end g;
   between = none_back l c e (record y { far = asked_end g; forth = rest; delivered = y.delivered ++ accepted }) (record {
     life = far_else (record y { far = g; forth = rest; delivered = y.delivered ++ accepted }) (asked_end g) life refl refl (λ held. held);
@@ -141,7 +140,7 @@ far_fails : (l : ℕ) (c d : LinkSet) (y : Ends) (rest : List Unit) → Between 
 far_fails l c d y rest b a =
     let at = there_of d l y.far (slice_get d.links l) refl b.far in
     far_tells l c (after_failure d l) y (record y.far { hold = hold.Kept }) rest (number_in (order_at d l).kind) a
-    (number_told l c (after_failure d l) (record y { far = record y.far { hold = hold.Kept } }) (number_in (order_at d l).kind) (sets_fare.far_fails l c d y b)
+    (number_told l c (after_failure d l) (record y { far = record y.far { hold = hold.Kept } }) (number_in (order_at d l).kind) (life_far_fails l c d y b)
     (λ n e. (order_number d l at.0 n at.1 e ∙ ap (λ (h : TransceiverState). h.receiver.last) at.2, kept_holds)))
 
 far_answers : (l : ℕ) (c d : LinkSet) (y : Ends) (m : Option Changeover) (rest : List Unit) → Between l c d y → Comes [] y rest
@@ -160,20 +159,20 @@ far_step l c _ _ y _ rest (binds d m) b a = far_takes l c d (bound_at d l m) y (
 far_step l c _ _ y _ rest (diverts d i) b a = far_diverts l i c d y rest b a
 far_step l c _ _ y _ rest (listens d e octets taken by bits all now h none) b (inl a) = record {
   now = asked_end (end_of by.at.after);
-  between = none_back l c e (record y { far = asked_end (end_of by.at.after); forth = rest; delivered = y.delivered ++ accepted_along h }) (calls_fare.far_hears l c d e y octets taken by bits all now h rest b none a);
+  between = none_back l c e (record y { far = asked_end (end_of by.at.after); forth = rest; delivered = y.delivered ++ accepted_along h }) (far_hears l c d e y octets taken by bits all now h rest b none a);
 }
 far_step l c _ _ y _ rest (listens d e octets taken by bits all now h none) b (inr x) =
     let is : y.far ≡ end_of by.at.before = end_before (Listened octets taken) l d e by y.far b.far in
     subst (λ (us : List Unit). FarDid l c e y [] us (accepted_along h) None) (sym x.2)
-    (far_hears l c d e y y.forth (accepted_along h) (end_of by.at.after) b (end_behind (Listened octets taken) l d e by none)
+    (far_listens l c d e y y.forth (accepted_along h) (end_of by.at.after) b (end_behind (Listened octets taken) l d e by none)
     (shut_along bits all now by.at.before.terminal.processes by.at.after.terminal.processes (take taken octets) h y x.0 x.1 is none b.life))
 far_step l c _ _ y _ rest (speaks d e units octets by none) b a =
-    far_out l c e y (asked_end (end_of by.at.after)) (units_given by.at.was.spoken.count by.at.before.terminal.processes) rest a (lives_go_on.far_speaks l c d e y units octets by b none)
-far_step l c _ _ y _ rest (gives d e unit by none) b a = far_out l c e y (asked_end (end_of by.at.after)) (option_to_list unit) rest a (calls_fare.far_gives l c d e y unit by b none)
-far_step l c _ _ y _ rest (reports d e report by none) b a = far_plain l c e y (asked_end (end_of by.at.after)) rest a (lives_go_on.far_reports l c d e y report by b none)
-far_step l c _ _ y _ rest (commands d e command by clear none) b a = far_plain l c e y (asked_end (end_of by.at.after)) rest a (lives_go_on.far_commands l c d e y command by b none)
+    far_out l c e y (asked_end (end_of by.at.after)) (units_given by.at.was.spoken.count by.at.before.terminal.processes) rest a (far_speaks l c d e y units octets by b none)
+far_step l c _ _ y _ rest (gives d e unit by none) b a = far_out l c e y (asked_end (end_of by.at.after)) (option_to_list unit) rest a (far_gives l c d e y unit by b none)
+far_step l c _ _ y _ rest (reports d e report by none) b a = far_plain l c e y (asked_end (end_of by.at.after)) rest a (far_reports l c d e y report by b none)
+far_step l c _ _ y _ rest (commands d e command by clear none) b a = far_plain l c e y (asked_end (end_of by.at.after)) rest a (far_commands l c d e y command by b none)
 far_step l c _ _ y _ rest (refuses d e command refusal by) b a = far_leaves l c d e y rest b a (refused_leaves command refusal l d e by)
-far_step l c _ _ y _ rest (ticks d n k there none) b a = far_plain l c (after_ticks n d) y (asked_end (end_of (passed n (roomy k)))) rest a (lives_go_on.far_ticks l n c d y k b there none)
+far_step l c _ _ y _ rest (ticks d n k there none) b a = far_plain l c (after_ticks n d) y (asked_end (end_of (passed n (roomy k)))) rest a (far_ticks l n c d y k b there none)
 far_step l c _ _ y _ rest (makes_room d) b a = far_leaves l c d (record d { links = with_room d.links }) y rest b a (roomy_leaves d l)
 far_step l c _ _ y _ rest (lacks_room d e lacks) b a = far_leaves l c d e y rest b a (lacks_leaves d e l lacks)
 far_step l c _ _ y _ rest (rebalances d) b a = far_leaves l c d (rebalanced d) y rest b a (rebalanced_leaves d l)
@@ -223,4 +222,4 @@ far_empty l c _ _ y (abandons d k there none) b =
       near = b.near;
       far = ap (λ (o : Option Link). option_map end_of o) (change_here given_up d.links l (Some k) there);
     })
-far_empty l c _ _ y (clears d e command by none) b = (asked_end (end_of by.at.after), lives_go_on.far_commands l c d e y command by b none)
+far_empty l c _ _ y (clears d e command by none) b = (asked_end (end_of by.at.after), far_commands l c d e y command by b none)

@@ -24,7 +24,7 @@ use Rattle.link_transceiver.proofs.Acknowledging.{keeps_unacknowledged}
 use Rattle.link_transceiver.proofs.Holding.{holds_back}
 use Rattle.link_transceiver.proofs.Withholding.{withholds as stays_withheld}
 use Rattle.group_members.specs.OneLink.{count_of, count_told}
-use Rattle.link_group.specs.Ends.{Ends, units_in, AreStatuses, ends_anew, given, near_sends, far_sends, arrived, place_behind, came_back, Lives, begins, gets, near_goes, far_goes, arrives, is_lost, comes_back, is_lost_back, withholds, acknowledges, near_else, far_else, tells, hears, EndsComplete}
+use Rattle.link_group.specs.Ends.{Ends, units_in, AreStatuses, ends_anew, given, near_sends, far_sends, arrived, place_behind, came_back, Lives, begins, gets, near_goes, far_goes, arrives, is_lost, comes_back, is_lost_back, far_is_anew, withholds, acknowledges, near_else, far_else, tells, hears, EndsComplete}
 use Rattle.link_group.proofs.Units.{no_outgoings, no_tellings, outgoing_of, outgoing_in, outgoings, outgoings-append, telling_of, telling_in, telling_by, tellings, tellings-append, Goes, says_none, fills_in, gives_one, going, SameIntake, Answers, tells_none, tells_one, answering, Comes, passes_by, is_judged, ComesIn, status_comes, unit_comes, coming_in, Obeys, ignores, is_obeyed, ComesBack, status_back, unit_back, coming_back, judged_spare}
 use Rattle.link_group.proofs.Sounding.{sound_given, sound_sent, sound_filled, sound_arrived, sound_lost, sound_came_back, sound_lost_back, sound_answered, sound_front, sound_again, sound_place, sound_few, sound_sizes, sound_whole, sound_in_order}
 
@@ -282,13 +282,17 @@ fares_came_back x u us e f =
           back_to (exchange_of x) b (tellings us ++ rest) w (back ∙ ap (λ (bs : List Answer). (bs ++ tellings us) ++ rest) one) obeys_it f.sound
     ]) f
 
+fares_back : (x : Ends) (us : List Unit) → Sound (record (exchange_of x) { back = tellings us ++ withheld_in x.far.withheld }) → Fares x → Fares (record x { back = us })
+fares_back x us sound f = record { sound = sound; spare = f.spare; told = f.told; place = f.place }
+
 fares_lost_back : (x : Ends) (u : Unit) (us : List Unit) → x.back ≡ u ∷ us → Fares x → Fares (record x { back = us })
-fares_lost_back x u us e f = record {
-  sound = lost_answer (exchange_of x) u us (withheld_in x.far.withheld) (ap (λ (vs : List Unit). tellings vs ++ withheld_in x.far.withheld) e) f.sound;
-  spare = f.spare;
-  told = f.told;
-  place = f.place;
-}
+fares_lost_back x u us e f =
+    fares_back x us (lost_answer (exchange_of x) u us (withheld_in x.far.withheld) (ap (λ (vs : List Unit). tellings vs ++ withheld_in x.far.withheld) e) f.sound) f
+
+fares_statuses : (x : Ends) (us : List Unit) → AreStatuses us → Fares x → Fares (record x { back = x.back ++ us })
+fares_statuses x us are f =
+    let same : tellings (x.back ++ us) ≡ tellings x.back = tellings-append x.back us ∙ (ap (λ (bs : List Answer). tellings x.back ++ bs) (no_tellings us are) ∙ append-nil (tellings x.back)) in
+    fares_back x (x.back ++ us) (subst (λ (bs : List Answer). Sound (record (exchange_of x) { back = bs ++ withheld_in x.far.withheld })) (sym same) f.sound) f
 
 -- ---- acknowledgement is withheld
 
@@ -369,6 +373,7 @@ each_fares _ (arrives x u us r e) = fares_arrived x u us e (each_fares x r)
 each_fares _ (is_lost x u us r e) = fares_lost x u us e (each_fares x r)
 each_fares _ (comes_back x u us r e) = fares_came_back x u us e (each_fares x r)
 each_fares _ (is_lost_back x u us r e) = fares_lost_back x u us e (each_fares x r)
+each_fares _ (far_is_anew x us r are) = fares_statuses x us are (each_fares x r)
 each_fares _ (withholds x r) = fares_withholds x (each_fares x r)
 each_fares _ (acknowledges x r) = fares_acknowledges x (each_fares x r)
 each_fares _ (near_else x h r same spare) = fares_near_else x h same spare (each_fares x r)

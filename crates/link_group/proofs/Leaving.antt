@@ -27,8 +27,7 @@ use Rattle.link_group.specs.Lines.{ByLink, Alone, after_admission}
 use Rattle.link_group.specs.Placing.{rebalanced}
 use Rattle.link_group.specs.Ticks.{with_room, NoRoom}
 use Rattle.link_group.specs.Ends.{place_behind}
-use Rattle.link_group.specs.Between.{end_of, Anything}
-use Rattle.link_group.specs.Joined.{OfOne, takes, takes_bound, is_failed, hands_out, gives_up, works, is_commanded, refuses_it, counted_in, counted_of}
+use Rattle.link_group.specs.Joined.{end_of, Anything, OfOne, takes, takes_bound, is_failed, hands_out, gives_up, works, is_commanded, refuses_it, counted_in, counted_of}
 use Rattle.link_group.proofs.Along.{tidied_same}
 use Rattle.link_group.proofs.Between.{Fewer, kept_holds}
 use Rattle.link_group.proofs.Calls.{behind_links}

@@ -23,8 +23,7 @@ use Rattle.group_members.specs.Links.{change}
 use Rattle.group_members.specs.Failing.{count_heard, marked, hears, replies, replies_at}
 use Rattle.link_group.specs.Set.{LinkSet}
 use Rattle.link_group.specs.Changing.{is_for, after_message, order_by, order_at, reply_by, reply_to}
-use Rattle.link_group.specs.Between.{end_of, end_at}
-use Rattle.link_group.specs.Joined.{number_of, if_for, counted_in, counted_of, IsTold}
+use Rattle.link_group.specs.Joined.{end_of, end_at, number_of, if_for, counted_in, counted_of, IsTold}
 use Rattle.link_group.proofs.Between.{Fewer}
 use Rattle.link_group.proofs.Getting.{change_here, change_other}
 use Rattle.link_group.proofs.Leaving.{begins_counts}

@@ -27,16 +27,15 @@ use Rattle.link_group.specs.Placing.{rebalanced}
 use Rattle.link_group.specs.Ticks.{with_room, after_ticks}
 use Rattle.link_group.specs.Ends.{Ends, Lives, gets, given, place_behind, near_else, hears as hears_told}
 use Rattle.link_group.specs.Along.{Arrive}
-use Rattle.link_group.specs.Between.{end_of, end_at, Between, asked_end}
-use Rattle.link_group.specs.Joined.{Deed, all_by, all_at, more_at, number_of, if_for, Does, sends, binds, diverts, listens, speaks, gives, reports, commands, refuses, ticks, makes_room, lacks_room, rebalances, admits, fails, hears, by_other, counted_in, counted_of, IsTold}
+use Rattle.link_group.specs.Joined.{end_of, end_at, Deed, all_by, all_at, more_at, number_of, if_for, Does, sends, binds, diverts, listens, speaks, gives, reports, commands, refuses, ticks, makes_room, lacks_room, rebalances, admits, fails, hears, by_other, counted_in, counted_of, IsTold}
 use Rattle.link_group.proofs.Along.{lose_back}
-use Rattle.link_group.proofs.Between.{Fewer, with_more, Grows, divert_grows, sets_fare}
-use Rattle.link_group.proofs.Calls.{end_before, calls_fare}
+use Rattle.link_group.proofs.Between.{Between, Fewer, with_more, Grows, divert_grows, sends as life_sends, binds as life_binds}
+use Rattle.link_group.proofs.Calls.{asked_end, end_before, near_gives, near_hears}
 use Rattle.link_group.proofs.Faring.{some_place}
 use Rattle.link_group.proofs.Getting.{change_here}
 use Rattle.link_group.proofs.Leaving.{Leaves, leaves_same, leaves_as, failed_leaves, admitted_leaves, rebalanced_leaves, roomy_leaves, lacks_leaves, refused_leaves, only_one, there_counts, asked_counts, behind_counts, same_counts, fewer_counts, waited_counts, anew_changing, none_fewer}
 use Rattle.link_group.proofs.Messages.{Counted, message_counted, told_heard, HeardFar, far_heard}
-use Rattle.link_group.proofs.Within.{Stays, ticked_there, commanded_links, lives_go_on}
+use Rattle.link_group.proofs.Within.{Stays, ticked_there, commanded_links, near_speaks, near_reports, near_ticks, near_commands}
 
 -- ---- what a call comes to
 
@@ -197,8 +196,8 @@ near_by l c d y m rest b counts a is (Some p) e = near_either l p c d y m rest b
 pub near_step : (l : ℕ) (c e d : LinkSet) (y : Ends) (deed : Deed) (rest : List Unit) → Does l c e deed → Between l c d y → Fewer y.place (counted_of (slice_get c.links l))
     → Arrive deed.came y.back rest → IsTold deed.heard y.told → NearDid l e d y deed.out rest deed.given
 near_step l _ _ d y _ rest (sends c m link) b counts a is =
-    near_given l (sent c m) d y (m ∷ []) rest a (sets_fare.sends l c d y m b link) (λ p f. counts p (sent_counts l c m link p f))
-near_step l _ _ d y _ rest (binds c m) b counts a is = near_given l (bound_at c l m) d y (m ∷ []) rest a (sets_fare.binds l c d y m b) (λ p f. counts p (bound_counts l c m p f))
+    near_given l (sent c m) d y (m ∷ []) rest a (life_sends l c d y m b link) (λ p f. counts p (sent_counts l c m link p f))
+near_step l _ _ d y _ rest (binds c m) b counts a is = near_given l (bound_at c l m) d y (m ∷ []) rest a (life_binds l c d y m b) (λ p f. counts p (bound_counts l c m p f))
 near_step l _ _ d y _ rest (diverts c i) b counts a is = near_diverts l i c d y rest b counts a
 near_step l _ _ d y _ rest (listens c e octets taken by bits all now h none) b counts a is =
     let place : Option ℕ = place_behind (length y.near.sender.kept - length (end_of by.at.after).sender.kept) y.place in
@@ -206,24 +205,24 @@ near_step l _ _ d y _ rest (listens c e octets taken by bits all now h none) b c
       now = asked_end (end_of by.at.after);
       place = place;
       between = none_given l e d (record y { near = asked_end (end_of by.at.after); forth = y.forth ++ []; back = rest; place = place })
-          (none_out l e d (record y { near = asked_end (end_of by.at.after); back = rest; place = place }) (calls_fare.near_hears l c e d y octets taken by bits all now h rest b none a));
+          (none_out l e d (record y { near = asked_end (end_of by.at.after); back = rest; place = place }) (near_hears l c e d y octets taken by bits all now h rest b none a));
       counts = listened_counts l c e y octets taken by none (end_before (Listened octets taken) l c e by y.near b.near) counts;
     }
 near_step l _ _ d y _ rest (speaks c e units octets by none) b counts a is =
-    near_out l e d y (asked_end (end_of by.at.after)) (units_given by.at.was.spoken.count by.at.before.terminal.processes) rest a (lives_go_on.near_speaks l c e d y units octets by b none)
+    near_out l e d y (asked_end (end_of by.at.after)) (units_given by.at.was.spoken.count by.at.before.terminal.processes) rest a (near_speaks l c e d y units octets by b none)
     (λ p f. counts p (same_counts (Spoken units octets) l c e by none by.at.was.availability p f))
 near_step l _ _ d y _ rest (gives c e unit by none) b counts a is =
-    near_out l e d y (asked_end (end_of by.at.after)) (option_to_list unit) rest a (calls_fare.near_gives l c e d y unit by b none)
+    near_out l e d y (asked_end (end_of by.at.after)) (option_to_list unit) rest a (near_gives l c e d y unit by b none)
     (λ p f. counts p (same_counts (Sent unit) l c e by none by.at.was.availability p f))
 near_step l _ _ d y _ rest (reports c e report by none) b counts a is =
-    near_plain l e d y (asked_end (end_of by.at.after)) y.place rest a (lives_go_on.near_reports l c e d y report by b none)
+    near_plain l e d y (asked_end (end_of by.at.after)) y.place rest a (near_reports l c e d y report by b none)
     (λ p f. counts p (same_counts (Reported report) l c e by none by.at.was.availability p f))
 near_step l _ _ d y _ rest (commands c e command by clear none) b counts a is =
-    near_plain l e d y (asked_end (end_of by.at.after)) y.place rest a (lives_go_on.near_commands l c e d y command by b clear none)
+    near_plain l e d y (asked_end (end_of by.at.after)) y.place rest a (near_commands l c e d y command by b clear none)
     (λ p f. counts p (commanded_counts l c e command by clear none p f))
 near_step l _ _ d y _ rest (refuses c e command refusal by) b counts a is = near_leaves l c e d y rest b counts a (refused_leaves command refusal l c e by)
 near_step l _ _ d y _ rest (ticks c n k there none) b counts a is =
-    near_plain l (after_ticks n c) d y (asked_end (end_of (passed n (roomy k)))) y.place rest a (lives_go_on.near_ticks l n c d y k b there none)
+    near_plain l (after_ticks n c) d y (asked_end (end_of (passed n (roomy k)))) y.place rest a (near_ticks l n c d y k b there none)
     (λ p f. counts p (ticked_counts l n c k there none p f))
 near_step l _ _ d y _ rest (makes_room c) b counts a is = near_leaves l c (record c { links = with_room c.links }) d y rest b counts a (roomy_leaves c l)
 near_step l _ _ d y _ rest (lacks_room c e lacks) b counts a is = near_leaves l c e d y rest b counts a (lacks_leaves c e l lacks)

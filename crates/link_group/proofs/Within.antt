@@ -40,10 +40,10 @@ use Rattle.link_group.specs.Changing.{is_for, after_message}
 use Rattle.link_group.specs.Lines.{ByLink, ByCommand, seen, all_seen, after_admission}
 use Rattle.link_group.specs.Ticks.{with_room, after_ticks}
 use Rattle.link_group.specs.Ends.{Ends, Lives, near_else, far_else, tells, hears}
-use Rattle.link_group.specs.Between.{end_of, end_at, Between, asked_end}
-use Rattle.link_group.specs.Within.{LivesGoOn}
+use Rattle.link_group.specs.Joined.{end_of, end_at}
 use Rattle.link_group.proofs.Along.{NearOn, near_same, near_joined, near_signal, tidied_same, terminals_fare}
-use Rattle.link_group.proofs.Calls.{seen_links, asked_plain, end_behind, end_before}
+use Rattle.link_group.proofs.Between.{Between}
+use Rattle.link_group.proofs.Calls.{asked_end, seen_links, asked_plain, end_behind, end_before}
 use Rattle.link_group.proofs.Getting.{change_here, change_other, set_there}
 use Rattle.link_group.proofs.Heeding.{ends_heed}
 use Rattle.link_group.proofs.Units.{gone_began}
@@ -79,7 +79,7 @@ far_along (suc n) t x is e r =
     let one : Lives y = terminals_fare.far_sends x (tidied t) (is ∙ sym (tidied_same t)) (left_began n went e) r in
     subst (λ (vs : List Unit). Lives (record x { far = (left n went).transceiver; back = vs })) (append_assoc x.back us (units_given n went)) (far_along n went y refl e one)
 
-near_speaks : (l : ℕ) (c e d : LinkSet) (x : Ends) (units : ℕ) (octets : List ℕ) (by : ByLink (Spoken units octets) l c e) → Between l c d x → (end_of by.at.after).began ≡ false
+pub near_speaks : (l : ℕ) (c e d : LinkSet) (x : Ends) (units : ℕ) (octets : List ℕ) (by : ByLink (Spoken units octets) l c e) → Between l c d x → (end_of by.at.after).began ≡ false
     → Between l e d (record x { near = asked_end (end_of by.at.after); forth = x.forth ++ units_given by.at.was.spoken.count by.at.before.terminal.processes })
 near_speaks l c e d x units octets by b none =
     let t : Processes = by.at.before.terminal.processes in
@@ -91,7 +91,7 @@ near_speaks l c e d x units octets by b none =
     let as_end : Lives (record x { near = h; forth = x.forth ++ units_given n t }) = subst (λ (g : TransceiverState). Lives (record x { near = g; forth = x.forth ++ units_given n t })) (sym now) went in
     record { life = near_else (record x { near = h; forth = x.forth ++ units_given n t }) (asked_end h) as_end refl refl; near = end_behind (Spoken units octets) l c e by none; far = b.far }
 
-far_speaks : (l : ℕ) (c d e : LinkSet) (x : Ends) (units : ℕ) (octets : List ℕ) (by : ByLink (Spoken units octets) l d e) → Between l c d x → (end_of by.at.after).began ≡ false
+pub far_speaks : (l : ℕ) (c d e : LinkSet) (x : Ends) (units : ℕ) (octets : List ℕ) (by : ByLink (Spoken units octets) l d e) → Between l c d x → (end_of by.at.after).began ≡ false
     → Between l c e (record x { far = asked_end (end_of by.at.after); back = x.back ++ units_given by.at.was.spoken.count by.at.before.terminal.processes })
 far_speaks l c d e x units octets by b none =
     let t : Processes = by.at.before.terminal.processes in
@@ -113,7 +113,7 @@ far_on x h r = far_else (record x { far = h }) (asked_end h) r refl refl (λ hel
 
 -- ---- reports
 
-near_reports : (l : ℕ) (c e d : LinkSet) (x : Ends) (report : Option Report) (by : ByLink (Reported report) l c e) → Between l c d x → (end_of by.at.after).began ≡ false
+pub near_reports : (l : ℕ) (c e d : LinkSet) (x : Ends) (report : Option Report) (by : ByLink (Reported report) l c e) → Between l c d x → (end_of by.at.after).began ≡ false
     → Between l e d (record x { near = asked_end (end_of by.at.after) })
 near_reports l c e d x report by b none =
     let is : x.near ≡ end_of by.at.before = end_before (Reported report) l c e by x.near b.near in
@@ -124,7 +124,7 @@ near_reports l c e d x report by b none =
       far = b.far;
     }
 
-far_reports : (l : ℕ) (c d e : LinkSet) (x : Ends) (report : Option Report) (by : ByLink (Reported report) l d e) → Between l c d x → (end_of by.at.after).began ≡ false
+pub far_reports : (l : ℕ) (c d e : LinkSet) (x : Ends) (report : Option Report) (by : ByLink (Reported report) l d e) → Between l c d x → (end_of by.at.after).began ≡ false
     → Between l c e (record x { far = asked_end (end_of by.at.after) })
 far_reports l c d e x report by b none =
     let is : x.far ≡ end_of by.at.before = end_before (Reported report) l d e by x.far b.far in
@@ -155,14 +155,14 @@ ticked_end n l c k there none =
 pub end_is : (c : LinkSet) (l : ℕ) (k : Link) (h : TransceiverState) → slice_get c.links l ≡ Some k → end_at c l ≡ Some h → h ≡ end_of k
 end_is c l k h there is = let both : Some h ≡ Some (end_of k) = sym is ∙ ap (λ (o : Option Link). option_map end_of o) there in cc
 
-near_ticks : (l n : ℕ) (c d : LinkSet) (x : Ends) (k : Link) → Between l c d x → slice_get c.links l ≡ Some k → (end_of (passed n (roomy k))).began ≡ false
+pub near_ticks : (l n : ℕ) (c d : LinkSet) (x : Ends) (k : Link) → Between l c d x → slice_get c.links l ≡ Some k → (end_of (passed n (roomy k))).began ≡ false
     → Between l (after_ticks n c) d (record x { near = asked_end (end_of (passed n (roomy k))) })
 near_ticks l n c d x k b there none =
     let t : Processes = tidied k.terminal.processes in
     let is : x.near ≡ t.transceiver = end_is c l k x.near there b.near ∙ sym (tidied_same k.terminal.processes) in
     record { life = near_on x (end_of (passed n (roomy k))) (terminals_fare.near_offered x t (Advance n) is none b.life); near = ticked_end n l c k there none; far = b.far }
 
-far_ticks : (l n : ℕ) (c d : LinkSet) (x : Ends) (k : Link) → Between l c d x → slice_get d.links l ≡ Some k → (end_of (passed n (roomy k))).began ≡ false
+pub far_ticks : (l n : ℕ) (c d : LinkSet) (x : Ends) (k : Link) → Between l c d x → slice_get d.links l ≡ Some k → (end_of (passed n (roomy k))).began ≡ false
     → Between l c (after_ticks n d) (record x { far = asked_end (end_of (passed n (roomy k))) })
 far_ticks l n c d x k b there none =
     let t : Processes = tidied k.terminal.processes in
@@ -188,7 +188,7 @@ unclear : (q : Processes) → q.transceiver.clearing ≡ false → clear_obeyed 
 unfolding clear_obeyed
 unclear q e = ap (λ (b : Bool). if◌then◌else◌ {A = Processes} b (buffers_emptied q) q) e
 
-near_commands : (l : ℕ) (c e d : LinkSet) (x : Ends) (command : Command) (by : ByCommand command l c e) → Between l c d x
+pub near_commands : (l : ℕ) (c e d : LinkSet) (x : Ends) (command : Command) (by : ByCommand command l c e) → Between l c d x
     → (behind_command command by.at.before.terminal).processes.transceiver.clearing ≡ false → (end_of by.at.after).began ≡ false
     → Between l e d (record x { near = asked_end (end_of by.at.after) })
 near_commands l c e d x command by b clear none =
@@ -241,7 +241,7 @@ far_obeyed x q is r =
     (λ clearing. subst (λ (u : Processes). u.transceiver.began ≡ false → Lives (record x { far = u.transceiver })) (sym (emptied_is q)) (λ e. far_emptied x q is e r))
     (λ clearing e. subst (λ (h : TransceiverState). Lives (record x { far = h })) is r)
 
-far_commands : (l : ℕ) (c d e : LinkSet) (x : Ends) (command : Command) (by : ByCommand command l d e) → Between l c d x → (end_of by.at.after).began ≡ false
+pub far_commands : (l : ℕ) (c d e : LinkSet) (x : Ends) (command : Command) (by : ByCommand command l d e) → Between l c d x → (end_of by.at.after).began ≡ false
     → Between l c e (record x { far = asked_end (end_of by.at.after) })
 far_commands l c d e x command by b none =
     let p : Processes = tidied by.at.before.terminal.processes in
@@ -256,22 +256,6 @@ far_commands l c d e x command by b none =
       near = b.near;
       far = commanded_end command l d e by none;
     }
-
--- ---- level 3 admits a link
-
-unchanged : (f : Link → Link) (o : Option Link) → ((k : Link) → end_of (f k) ≡ end_of k) → option_map end_of (option_map f o) ≡ option_map end_of o
-unchanged f None does = refl
-unchanged f (Some k) does = ap (λ (h : TransceiverState). Some h) (does k)
-
-same_end : (f : Link → Link) (ks : List Link) (i l : ℕ) → Same l i → ((k : Link) → end_of (f k) ≡ end_of k) → option_map end_of (slice_get (change ks i f) l) ≡ option_map end_of (slice_get ks l)
-same_end f ks i l (inl e) does =
-    ap (λ (o : Option Link). option_map end_of o) (subst (λ (j : ℕ). slice_get (change ks j f) l ≡ option_map f (slice_get ks l)) e (change_here f ks l (slice_get ks l) refl))
-    ∙ unchanged f (slice_get ks l) does
-same_end f ks i l (inr other) does = ap (λ (o : Option Link). option_map end_of o) (change_other f ks i l other)
-
-admitted_end : (c : LinkSet) (i l : ℕ) (way : Bool) → end_at (after_admission c i way) l ≡ end_at c l
-unfolding after_admission
-admitted_end c i l way = same_end (admits_at way) c.links i l (same l i) (λ k. refl)
 
 -- ---- level 3 says something of a link
 
@@ -299,63 +283,3 @@ heard_stays what k =
     by_test (λ (z : Link). Stays (end_of k) (end_of (with_availability (marked what k) z))) (is_held_by what k.availability) (with_hold (hold_by (marked what k).changing) k) k
     (λ e. record { sender = refl; spare = refl; receiver = refl; withheld = refl; holds = λ held. held_by_some (marked what k).changing })
     (λ e. stays_same (end_of k))
-
-stays_by : (what : Kind) (o : Option Link) (h g : TransceiverState) → option_map end_of o ≡ Some h → option_map end_of (option_map (hears_at what) o) ≡ Some g → Stays h g
-stays_by what None h g e f = absurd (none_some e)
-stays_by what (Some k) h g e f =
-    let was : end_of k ≡ h = cc in
-    let now : end_of (hears_at what k) ≡ g = cc in
-    subst (λ (z : TransceiverState). Stays h z) now (subst (λ (z : TransceiverState). Stays z (end_of (hears_at what k))) was (heard_stays what k))
-
-stays_equal : (o p : Option TransceiverState) (h g : TransceiverState) → p ≡ o → o ≡ Some h → p ≡ Some g → Stays h g
-stays_equal o p h g same was now =
-    let is : Some h ≡ Some g = sym was ∙ sym same ∙ now in
-    let one : h ≡ g = cc in
-    subst (λ (z : TransceiverState). Stays h z) one (stays_same h)
-
-changed_stays : (what : Kind) (ks : List Link) (i l : ℕ) (h g : TransceiverState) → Same l i → option_map end_of (slice_get ks l) ≡ Some h
-    → option_map end_of (slice_get (change ks i (hears_at what)) l) ≡ Some g → Stays h g
-changed_stays what ks i l h g (inl e) was now =
-    stays_by what (slice_get ks l) h g was
-    (ap (λ (o : Option Link). option_map end_of o) (sym (subst (λ (j : ℕ). slice_get (change ks j (hears_at what)) l ≡ option_map (hears_at what) (slice_get ks l)) e (change_here (hears_at what) ks l (slice_get ks l) refl))) ∙ now)
-changed_stays what ks i l h g (inr other) was now =
-    stays_equal (option_map end_of (slice_get ks l)) (option_map end_of (slice_get (change ks i (hears_at what)) l)) h g (ap (λ (o : Option Link). option_map end_of o) (change_other (hears_at what) ks i l other)) was now
-
-pub message_stays : (c : LinkSet) (o : Option Changeover) (l : ℕ) (h g : TransceiverState) → end_at c l ≡ Some h → end_at (after_message c o) l ≡ Some g → Stays h g
-message_stays c None l h g was now = stays_equal (end_at c l) (end_at c l) h g refl was now
-message_stays c (Some m) l h g was now =
-    let either : end_at (after_message c (Some m)) l ≡ Some g → Stays h g =
-    by_test (λ (y : LinkSet). end_at y l ≡ Some g → Stays h g) (is_for c m) (record c { links = change c.links m.label.sls (hears_at m.kind) }) c
-    (λ e is. changed_stays m.kind c.links m.label.sls l h g (same l m.label.sls) was is)
-    (λ e is. stays_equal (end_at c l) (end_at c l) h g refl was is) in
-    either now
-
-near_messages : (l : ℕ) (c d : LinkSet) (x : Ends) (m : Option Changeover) (h : TransceiverState) → Between l c d x → end_at (after_message c m) l ≡ Some h
-    → Between l (after_message c m) d (record x { near = h })
-near_messages l c d x m h b now =
-    let s : Stays x.near h = message_stays c m l x.near h b.near now in
-    record { life = near_else x h b.life s.sender s.spare; near = now; far = b.far }
-
-far_messages : (l : ℕ) (c d : LinkSet) (x : Ends) (m : Option Changeover) (h : TransceiverState) → Between l c d x → end_at (after_message d m) l ≡ Some h
-    → Between l c (after_message d m) (record x { far = h })
-far_messages l c d x m h b now =
-    let s : Stays x.far h = message_stays d m l x.far h b.far now in
-    record { life = far_else x h b.life s.receiver s.withheld s.holds; near = b.near; far = now }
-
-pub lives_go_on : LivesGoOn
-lives_go_on = record {
-  near_speaks = near_speaks;
-  far_speaks = far_speaks;
-  near_reports = near_reports;
-  far_reports = far_reports;
-  near_ticks = near_ticks;
-  far_ticks = far_ticks;
-  near_commands = near_commands;
-  far_commands = far_commands;
-  near_admits = λ l i c d x way b. record { life = b.life; near = admitted_end c i l way ∙ b.near; far = b.far };
-  far_admits = λ l i c d x way b. record { life = b.life; near = b.near; far = admitted_end d i l way ∙ b.far };
-  near_messages = near_messages;
-  far_messages = far_messages;
-  tells = λ l c d x b held. record { life = tells x b.life held; near = b.near; far = b.far };
-  hears = λ l c d x b. record { life = hears x b.life; near = b.near; far = b.far };
-}

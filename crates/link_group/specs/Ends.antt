@@ -126,6 +126,10 @@ pub data Lives : Ends → Type 0 where
   is_lost_back :
       (x : Ends) (u : Unit) (us : List Unit)
       → Lives x → x.back ≡ u ∷ us → Lives (record x { back = us })
+  -- far begins anew before near does: it stands as it stood, and statuses alone go out there
+  far_is_anew :
+      (x : Ends) (statuses : List Unit)
+      → Lives x → AreStatuses statuses → Lives (record x { back = x.back ++ statuses })
   -- far withholds acknowledgement, as it is now, or does so no longer
   withholds :
       (x : Ends) → Lives x → Lives (record x { far = effect (signal.Withhold true) x.far })

@@ -1,7 +1,7 @@
 -- Two sets that the lines of a link join, call by call, over one life of that link: from a
 -- beginning of both its directions on, until they begin anew.
-use Rattle.std.specs.Prelude.{◌≡◌, ℕ, ◌==◌, Bool, false, if◌then◌else◌, List, [], ◌∷◌, ◌++◌}
-use Rattle.std.specs.Prelude.{length, take, drop, Option, Some, None, slice_get}
+use Rattle.std.specs.Prelude.{◌≡◌, ℕ, ◌==◌, Bool, true, false, if◌then◌else◌, List, [], ◌∷◌, ◌++◌}
+use Rattle.std.specs.Prelude.{length, take, drop, Option, Some, None, slice_get, option_map}
 use Rattle.std.specs.Option.{option_to_list}
 use Rattle.actor_machine.specs.declared.reply.Refusal.{Refusal}
 use Rattle.bit_line.specs.declared.events.LineEvent.{LineEvent}
@@ -16,7 +16,7 @@ use Rattle.link_processes.specs.declared.commands.Command.{Command}
 use Rattle.group_changeover.specs.declared.availability.Changing.{Changing}
 use Rattle.group_changeover.specs.declared.changeover.Changeover.{Changeover}
 use Rattle.group_changeover.specs.Bound.{unbound}
-use Rattle.group_changeover.specs.Saying.{is_out, count_in, number_in}
+use Rattle.group_changeover.specs.Saying.{is_out, count_in, counts_in, number_in}
 use Rattle.group_changeover.specs.Sharing.{selection_of, link_of}
 use Rattle.group_members.specs.declared.link.Link.{Link}
 use Rattle.group_members.specs.OneLink.{held}
@@ -37,7 +37,15 @@ use Rattle.link_group.specs.Lines.{ByLink, ByCommand, Alone, after_admission}
 use Rattle.link_group.specs.Ticks.{with_room, after_ticks, NoRoom}
 use Rattle.link_group.specs.Ends.{AreStatuses}
 use Rattle.link_group.specs.Along.{units_along, Arrive}
-use Rattle.link_group.specs.Between.{end_of, end_at, Anything}
+
+-- ---- the end of a link
+
+abbrev pub end_of : Link → TransceiverState
+end_of k = k.terminal.processes.transceiver
+
+-- that of the link at a place, if it is there
+abbrev pub end_at : LinkSet → ℕ → Option TransceiverState
+end_at c l = option_map end_of (slice_get c.links l)
 
 -- ---- what a call comes to at one link
 
@@ -86,6 +94,10 @@ if_for c None = None
 if_for c (Some m) = if is_for c m then Some m else None
 
 -- ---- the calls of one set
+
+-- whatever a terminal did
+abbrev pub Anything : Link → Link → Type 0
+Anything old new = Prim.Unit {0}
 
 -- a call of one link
 pub data OfOne (i : ℕ) : LinkSet → LinkSet → Type 0 where
@@ -214,7 +226,8 @@ told_behind (Some n) told = Some n
 
 -- What two sets and the lines of a link come to, call by call. As its directions begin anew, of
 -- what went out before nothing but statuses is under way, and no number counts near. The lines may
--- lose units and delay them, and never change their order.
+-- lose units and delay them, and never change their order. Where far's directions begin anew before
+-- near's, its set stands as it stood before that, and nothing but statuses goes out there.
 pub data Fares (l : ℕ) : Joined → Type 0 where
   begins :
       (c d : LinkSet) (h g : TransceiverState) (forth back : List Unit)
@@ -252,6 +265,9 @@ pub data Fares (l : ℕ) : Joined → Type 0 where
   far_empties :
       (x : Joined) (e : LinkSet)
       → Fares l x → Empties l x.far e → Fares l (record x { far = e })
+  far_is_anew :
+      (x : Joined) (statuses : List Unit)
+      → Fares l x → AreStatuses statuses → Fares l (record x { back = x.back ++ statuses })
 
 -- What a set comes to whatever units come by the link, until its directions begin anew, and the
 -- messages that it accepts by it.
@@ -267,8 +283,8 @@ pub data Goes (l : ℕ) : LinkSet → LinkSet → List Msu → Type 0 where
 -- What far accepts by the link until its directions begin anew, followed by what near hands out
 -- with the number that far told, is what the link kept as that life began, followed by what `send`
 -- and `divert` gave it in it, messages that are bound to it left out: each once, in order. The
--- number is told while far is held, and may be heard at any time behind. What far accepted is a
--- beginning of that at each moment.
+-- number is told while far is held, and may be heard at any time behind; where no other counts then
+-- it counts. What far accepted is a beginning of that at each moment.
 pub record SetsComplete : Type 0 where
   pub complete :
       (l : ℕ) (x : Joined) (k : Link) (p : ℕ) (e : LinkSet) (later : List Msu)
@@ -276,6 +292,13 @@ pub record SetsComplete : Type 0 where
       → Goes l x.far e later
       → unbound k.points x.taken
       ≡ unbound k.points (x.delivered ++ later) ++ hand_at (after_retrieve x.near l) l
+  pub counts :
+      (l : ℕ) (x : Joined) (m : Changeover) (k : Link) (changing : Changing) (n : ℕ)
+      → Fares l x → x.told ≡ Some n → slice_get x.near.links l ≡ Some k
+      → k.availability.changing ≡ Some changing → counts_in changing ≡ true
+      → k.availability.anew ≡ false
+      → is_for x.near m ≡ true → m.label.sls ≡ l → number_in m.kind ≡ Some n
+      → (p : ℕ) × (counted_of (slice_get (after_message x.near (Some m)).links l) ≡ Some p)
   pub in_order :
       (l : ℕ) (x : Joined)
       → Fares l x → (missing : List Msu) × (x.taken ≡ x.delivered ++ missing)

@@ -1,5 +1,4 @@
 pub mod Along
-pub mod Between
 pub mod Changing
 pub mod Diverting
 pub mod Ends
@@ -7,14 +6,12 @@ pub mod Joined
 pub mod Laws
 pub mod Lines
 pub mod New
-pub mod Numbers
 pub mod Placing
 pub mod Reached
 pub mod Reading
 pub mod Set
 pub mod Stating
 pub mod Ticks
-pub mod Within
 pub use Rattle.group_changeover.specs.Printed
 pub use Rattle.group_changeover.specs.declared as group_changeover_types
 pub use Rattle.group_members.specs.Commanding

@@ -1,11 +1,8 @@
 //! Laws of link sets. The calls cost nothing.
 ghost use Rattle.link_group.specs.Along.{TerminalsFare};
-ghost use Rattle.link_group.specs.Between.{CallsFare, SetsFare};
 ghost use Rattle.link_group.specs.Ends.{EndsComplete, EndsHeed};
 ghost use Rattle.link_group.specs.Joined.{SetsComplete};
 ghost use Rattle.link_group.specs.Laws.{EachInOnePlace, UnsureAreCounted};
-ghost use Rattle.link_group.specs.Numbers.{NumberStands};
-ghost use Rattle.link_group.specs.Within.{LivesGoOn};
 
 use group_changeover::steps_keep_places;
 use link_processes::unacknowledged_messages_stay;
@@ -43,30 +40,6 @@ pub fn ends_heed_all_else()
 /// that goes out, and octets whose units are those under way, some of them lost.
 pub fn terminals_fare_so()
     ensures { TerminalsFare }
-{}
-
-/// In a life of a link between two sets: what the far set accepted by it, and then what the near one hands out with the number that the far one told
-/// once it was held, is what came to the link, each message once and in order, messages that are bound to it left out.
-pub fn sets_fare_so()
-    ensures { SetsFare }
-{}
-
-/// A call by another link leaves such a life as it is. One by the link itself goes on with it, as long as the link's directions don't begin anew in
-/// it: a unit that goes out, octets whose units are those under way.
-pub fn calls_fare_so()
-    ensures { CallsFare }
-{}
-
-/// So do units that go out one after another, a report, ticks, commands, behind which the buffers of the near end aren't emptied, and what level 3 says of
-/// any link: that it is admitted, and messages of changeover. The number that the far end tells is that of the message that it accepted last.
-pub fn lives_go_on_so()
-    ensures { LivesGoOn }
-{}
-
-/// The number that the far end told, heard in a changeover while one counts, is marked by how many messages it acknowledges; that stays right, whatever units
-/// come behind it.
-pub fn a_number_stands()
-    ensures { NumberStands }
 {}
 
 /// Two sets that the lines of a link join, call by call, over one life of that link, from a beginning of both its directions on until they begin anew:

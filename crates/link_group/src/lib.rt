@@ -21,9 +21,8 @@ pub use group_members::{
     LinkError, LinkStatus, Mode, Msu, RebalanceError, Report, RetrieveError, SendError, Terminal,
 };
 pub use laws::{
-    a_number_stands, calls_fare_so, each_message_stands_in_one_place, ends_heed_all_else,
-    lives_go_on_so, retrieval_completes_each_life, sets_complete_each_life, sets_fare_so, terminals_fare_so,
-    unsure_messages_are_counted,
+    each_message_stands_in_one_place, ends_heed_all_else, retrieval_completes_each_life,
+    sets_complete_each_life, terminals_fare_so, unsure_messages_are_counted,
 };
 pub use sending::Heard;
 pub use state::LinkState;
