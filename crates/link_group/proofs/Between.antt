@@ -5,7 +5,6 @@ use Rattle.std.proofs.lemmas.List.{append-nil}
 use Rattle.plain_laws.proofs.Options.{none_some}
 use Rattle.plain_laws.proofs.Truths.{by_test}
 use Rattle.resend_store.specs.declared.messages.Msu.{Msu}
-use Rattle.link_transceiver.specs.declared.signals.Hold.{Hold}
 use Rattle.link_transceiver.specs.declared.signals.Hold.TheVariants as hold
 use Rattle.link_transceiver.specs.TransceiverState.{TransceiverState, is_held}
 use Rattle.group_changeover.specs.Bound.{unbound}
@@ -15,7 +14,6 @@ use Rattle.group_changeover.specs.Availability.{retrieval_in}
 use Rattle.group_changeover.specs.Sharing.{selection_of, link_of, of, pick, counts_of}
 use Rattle.group_changeover.specs.declared.errors.DivertFault.{DivertFault}
 use Rattle.group_changeover.proofs.Equal.{Same, same}
-use Rattle.group_changeover.proofs.Unbound.{unbound-append}
 use Rattle.group_members.specs.declared.link.Link.{Link}
 use Rattle.group_members.specs.OneLink.{lacking, accepted_of, window, puts}
 use Rattle.group_members.specs.Links.{change}
@@ -25,10 +23,9 @@ use Rattle.link_group.specs.Set.{LinkSet, change_by, sent, bound_at}
 use Rattle.link_group.specs.Changing.{messages_for, after_failure, after_retrieve}
 use Rattle.link_group.specs.Diverting.{diverted, settled_by, after_hand, after_divert}
 use Rattle.link_group.specs.Laws.{hand_at}
-use Rattle.link_group.specs.Ends.{Ends, Lives, gets, given, near_else, far_else}
+use Rattle.link_group.specs.Ends.{Ends, Lives, gets, given, far_else}
 use Rattle.link_group.specs.Joined.{end_of, end_at, counted_in, counted_of}
 use Rattle.link_group.proofs.Calling.{retrieval_here}
-use Rattle.link_group.proofs.Faring.{ends_complete}
 use Rattle.link_group.proofs.Getting.{change_here, change_other}
 use Rattle.link_group.proofs.Hands.{hands_retrieved}
 

@@ -1,10 +1,9 @@
 -- A call of the far set goes on with the life of a link, and what its end tells is the number of the message that it accepted last.
-use Rattle.std.proofs.Common.{◌≡◌, ℕ, ◌+◌, Bool, true, false, nat_lt, take, List, [], ◌∷◌, ◌++◌, Option, Some, None, refl, sym, ap, ◌∙◌, subst, inl, inr}
+use Rattle.std.proofs.Common.{◌≡◌, ℕ, true, false, nat_lt, take, List, [], ◌∷◌, ◌++◌, Option, Some, None, refl, sym, ap, ◌∙◌, subst, inl, inr}
 use Rattle.std.specs.Prelude.{◌⊎◌, slice_get, option_map}
 use Rattle.std.specs.Option.{option_to_list}
 use Rattle.std.proofs.lemmas.List.{append-nil}
 use Rattle.resend_store.specs.declared.messages.Msu.{Msu}
-use Rattle.resend_store.specs.Intake.{Intake}
 use Rattle.resend_store.specs.Window.{emptied as without_kept}
 use Rattle.su_octets.specs.declared.units.Unit.{Unit}
 use Rattle.link_transceiver.specs.declared.offers.Offer.{Offer}
@@ -18,7 +17,6 @@ use Rattle.group_changeover.specs.Saying.{number_in}
 use Rattle.group_changeover.specs.Sharing.{selection_of, link_of}
 use Rattle.group_members.specs.declared.link.Link.{Link}
 use Rattle.group_members.specs.OneLink.{window, number_behind, accepted_of, hands_out as handed_by_number, puts}
-use Rattle.group_members.specs.Links.{change}
 use Rattle.group_members.specs.Doing.{Listened}
 use Rattle.group_members.specs.Failing.{handed, given_up}
 use Rattle.group_members.specs.TermLaws.{accepted_along}
@@ -39,9 +37,9 @@ use Rattle.link_group.proofs.Calls.{asked_end, end_behind, end_before, far_gives
 use Rattle.link_group.proofs.Getting.{change_here}
 use Rattle.link_group.proofs.Heeding.{ends_heed}
 use Rattle.link_group.proofs.Leaving.{Leaves, leaves_same, leaves_as, admitted_leaves, rebalanced_leaves, roomy_leaves, lacks_leaves, refused_leaves, only_one}
-use Rattle.link_group.proofs.Messages.{order_number, HeardFar, far_heard}
+use Rattle.link_group.proofs.Messages.{order_number, far_heard}
 use Rattle.link_group.proofs.Shut.{shut_along}
-use Rattle.link_group.proofs.Within.{Stays, end_is, far_speaks, far_reports, far_ticks, far_commands}
+use Rattle.link_group.proofs.Within.{end_is, far_speaks, far_reports, far_ticks, far_commands}
 
 -- ---- what a call comes to
 

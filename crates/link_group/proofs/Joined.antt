@@ -1,5 +1,5 @@
 -- What far accepts by a link, and then what near hands out with the number that far told, is what came to the link.
-use Rattle.std.proofs.Common.{◌≡◌, ℕ, Bool, true, false, List, [], ◌++◌, Option, Some, None, refl, sym, ap, ◌∙◌, subst, inl, inr, append_assoc, append-nil}
+use Rattle.std.proofs.Common.{◌≡◌, ℕ, Bool, true, false, List, [], ◌++◌, Option, Some, None, refl, sym, ap, ◌∙◌, inl, inr, append_assoc, append-nil}
 use Rattle.std.specs.Prelude.{if◌then◌else◌, slice_get, option_map}
 use Rattle.plain_laws.proofs.Options.{none_some}
 use Rattle.resend_store.specs.declared.messages.Msu.{Msu}
@@ -19,9 +19,9 @@ use Rattle.link_group.specs.Set.{LinkSet}
 use Rattle.link_group.specs.Changing.{is_for, after_message, after_retrieve}
 use Rattle.link_group.specs.Laws.{hand_at}
 use Rattle.link_group.specs.Ends.{Ends, AreStatuses, ends_anew, Lives, begins as lives_anew, far_is_anew as lives_far_anew, near_else, far_else}
-use Rattle.link_group.specs.Joined.{end_of, end_at, Deed, Joined, SendsAnew, AcceptsAnew, counted_in, counted_of, told_behind, Fares, begins, near_does, far_does, far_empties, far_is_anew, Goes, stays, does, empties, SetsComplete}
+use Rattle.link_group.specs.Joined.{end_of, end_at, Joined, SendsAnew, AcceptsAnew, counted_in, counted_of, told_behind, Fares, begins, near_does, far_does, far_empties, far_is_anew, Goes, stays, does, empties, SetsComplete}
 use Rattle.link_group.proofs.Between.{Between, Fewer, given_out}
-use Rattle.link_group.proofs.Far.{FarDid, Comes, far_step, far_empty}
+use Rattle.link_group.proofs.Far.{FarDid, far_step, far_empty}
 use Rattle.link_group.proofs.Faring.{ends_complete}
 use Rattle.link_group.proofs.Near.{NearDid, near_step}
 use Rattle.link_group.proofs.Telling.{message_counts}

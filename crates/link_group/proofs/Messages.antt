@@ -1,5 +1,5 @@
 -- A message of changeover: which number counts near behind it, and which far tells by its answer.
-use Rattle.std.proofs.Common.{◌≡◌, ℕ, ◌==◌, ◌&&◌, ◌||◌, Bool, true, false, not, List, Option, Some, None, is_some, refl, sym, ap, ◌∙◌, subst, inl, inr}
+use Rattle.std.proofs.Common.{◌≡◌, ℕ, ◌==◌, ◌&&◌, ◌||◌, Bool, true, false, not, List, Option, Some, None, refl, sym, ap, ◌∙◌, subst, inl, inr}
 use Rattle.std.specs.Prelude.{◌⊎◌, if◌then◌else◌, slice_get, option_map}
 use Rattle.std.proofs.lemmas.Bool.Decides.{eqb_tells}
 use Rattle.plain_laws.proofs.Options.{none_some}
@@ -16,7 +16,7 @@ use Rattle.group_changeover.specs.declared.changeover.Changeover.{Changeover}
 use Rattle.group_changeover.specs.declared.changeover.Kind.{Kind}
 use Rattle.group_changeover.specs.declared.changeover.Kind.TheVariants as kind
 use Rattle.group_changeover.specs.Availability.{changeover_begins, told_by, told_in}
-use Rattle.group_changeover.specs.Saying.{is_late, is_over, is_order, is_changing, count_in, begun_by_message, is_held_by, number_in, answer_by, answer_after, order_after, acknowledgement_after, reply_after}
+use Rattle.group_changeover.specs.Saying.{is_late, is_over, is_order, is_changing, count_in, begun_by_message, is_held_by, number_in, answer_by, answer_after, order_after}
 use Rattle.group_members.specs.declared.link.Link.{Link}
 use Rattle.group_members.specs.OneLink.{count_told, with_availability, with_hold, hold_by, accepted_at}
 use Rattle.group_members.specs.Links.{change}

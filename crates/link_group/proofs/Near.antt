@@ -1,6 +1,6 @@
 -- A call of the near set goes on with the life of a link, and what counts there is what the far end told.
 use Rattle.std.proofs.Common.{◌≡◌, ℕ, ◌-◌, Bool, false, List, [], ◌∷◌, ◌++◌, length, drop, Option, Some, None, refl, sym, ap, ◌∙◌, subst, inl, inr}
-use Rattle.std.specs.Prelude.{◌⊎◌, if◌then◌else◌, slice_get, option_map}
+use Rattle.std.specs.Prelude.{if◌then◌else◌, slice_get, option_map}
 use Rattle.std.specs.Option.{option_to_list}
 use Rattle.std.proofs.lemmas.List.{append-nil}
 use Rattle.plain_laws.proofs.Options.{none_some}
@@ -25,7 +25,7 @@ use Rattle.link_group.specs.Diverting.{after_divert}
 use Rattle.link_group.specs.Lines.{ByLink, ByCommand, after_admission}
 use Rattle.link_group.specs.Placing.{rebalanced}
 use Rattle.link_group.specs.Ticks.{with_room, after_ticks}
-use Rattle.link_group.specs.Ends.{Ends, Lives, gets, given, place_behind, near_else, hears as hears_told}
+use Rattle.link_group.specs.Ends.{Ends, gets, given, place_behind, near_else, hears as hears_told}
 use Rattle.link_group.specs.Along.{Arrive}
 use Rattle.link_group.specs.Joined.{end_of, end_at, Deed, all_by, all_at, more_at, number_of, if_for, Does, sends, binds, diverts, listens, speaks, gives, reports, commands, refuses, ticks, makes_room, lacks_room, rebalances, admits, fails, hears, by_other, counted_in, counted_of, IsTold}
 use Rattle.link_group.proofs.Along.{lose_back}
@@ -35,7 +35,7 @@ use Rattle.link_group.proofs.Faring.{some_place}
 use Rattle.link_group.proofs.Getting.{change_here}
 use Rattle.link_group.proofs.Leaving.{Leaves, leaves_same, leaves_as, failed_leaves, admitted_leaves, rebalanced_leaves, roomy_leaves, lacks_leaves, refused_leaves, only_one, there_counts, asked_counts, behind_counts, same_counts, fewer_counts, waited_counts, anew_changing, none_fewer}
 use Rattle.link_group.proofs.Messages.{Counted, message_counted, told_heard, HeardFar, far_heard}
-use Rattle.link_group.proofs.Within.{Stays, ticked_there, commanded_links, near_speaks, near_reports, near_ticks, near_commands}
+use Rattle.link_group.proofs.Within.{ticked_there, commanded_links, near_speaks, near_reports, near_ticks, near_commands}
 
 -- ---- what a call comes to
 

@@ -1,5 +1,5 @@
 -- An end whose number counts accepts nothing, whatever units come, until its directions begin anew.
-use Rattle.std.proofs.Common.{◌≡◌, ℕ, Bool, true, false, List, [], ◌∷◌, ◌++◌, Option, Some, sym, ap, ◌∙◌, subst, refl}
+use Rattle.std.proofs.Common.{◌≡◌, ℕ, Bool, true, false, List, [], ◌++◌, Some, sym, ap, ◌∙◌, subst, refl}
 use Rattle.std.proofs.lemmas.List.{append-nil}
 use Rattle.resend_store.specs.declared.messages.Msu.{Msu}
 use Rattle.bit_line.specs.declared.events.LineEvent.{LineEvent}

@@ -12,7 +12,7 @@ use Rattle.group_changeover.specs.Availability.{changeover_begins, begun_by, tol
 use Rattle.group_changeover.specs.Saying.{is_late, is_order, is_out, count_in, counts_in, begun_by_message, answer_by, answer_after}
 use Rattle.group_members.specs.declared.link.Link.{Link}
 use Rattle.group_members.specs.Links.{change}
-use Rattle.group_members.specs.Failing.{count_heard, marked, hears}
+use Rattle.group_members.specs.Failing.{count_heard, hears}
 use Rattle.link_group.specs.Set.{LinkSet}
 use Rattle.link_group.specs.Changing.{is_for, after_message}
 use Rattle.link_group.specs.Joined.{counted_in, counted_of}

@@ -1,10 +1,9 @@
 -- What else goes on with a life of a link between two sets.
-use Rattle.std.proofs.Common.{◌≡◌, ℕ, ◌+◌, ◌-◌, ◌^◌, min, length, zero, suc, Bool, true, false, List, [], ◌++◌, Option, Some, None, refl, sym, ap, ◌∙◌, subst, map, inl, inr, append_assoc}
+use Rattle.std.proofs.Common.{◌≡◌, ℕ, ◌+◌, ◌-◌, ◌^◌, min, length, zero, suc, Bool, true, false, List, ◌++◌, Option, Some, None, refl, sym, ap, ◌∙◌, subst, map, append_assoc}
 use Rattle.std.specs.Prelude.{if◌then◌else◌, slice_get, option_map}
 use Rattle.std.specs.Option.{option_to_list}
 use Rattle.std.proofs.lemmas.List.{append-nil}
 use Rattle.std.proofs.lemmas.Option.{slice_get-map}
-use Rattle.plain_laws.proofs.Options.{none_some}
 use Rattle.plain_laws.proofs.Truths.{by_test}
 use Rattle.su_octets.specs.declared.units.Unit.{Unit}
 use Rattle.link_transceiver.specs.declared.signals.Hold.{Hold}
@@ -21,30 +20,27 @@ use Rattle.link_processes.specs.declared.processes.Processes.{Processes}
 use Rattle.link_processes.specs.Machine.{with_transceiver, tidied, offered, sent, calm_measured, buffers_emptied, clear_obeyed}
 use Rattle.link_processes.specs.Offering.{command_event, offer_event}
 use Rattle.link_processes.proofs.Keeping.{offered_keeps, sent_keeps}
-use Rattle.group_changeover.proofs.Equal.{Same, same}
 use Rattle.group_changeover.specs.declared.availability.Changing.{Changing}
-use Rattle.group_changeover.specs.declared.changeover.Changeover.{Changeover}
 use Rattle.group_changeover.specs.declared.changeover.Kind.{Kind}
 use Rattle.group_changeover.specs.Saying.{is_held_by, is_out}
 use Rattle.group_members.specs.Term.{Term}
 use Rattle.group_members.specs.declared.link.Link.{Link}
-use Rattle.group_members.specs.OneLink.{count_told, with_availability, with_hold, hold_by}
+use Rattle.group_members.specs.OneLink.{with_availability, with_hold, hold_by}
 use Rattle.group_members.specs.Links.{change}
-use Rattle.group_members.specs.Commanding.{behind_command, Commanded, cleared_at}
-use Rattle.group_members.specs.Doing.{AtLink, Spoken, Reported, admits_at, asked}
+use Rattle.group_members.specs.Commanding.{behind_command, cleared_at}
+use Rattle.group_members.specs.Doing.{Spoken, Reported, asked}
 use Rattle.group_members.specs.Failing.{marked, hears as hears_at}
 use Rattle.group_members.specs.Speaking.{given as units_given, left}
 use Rattle.group_members.specs.Ticking.{roomy, passed}
 use Rattle.link_group.specs.Set.{LinkSet}
-use Rattle.link_group.specs.Changing.{is_for, after_message}
-use Rattle.link_group.specs.Lines.{ByLink, ByCommand, seen, all_seen, after_admission}
+use Rattle.link_group.specs.Lines.{ByLink, ByCommand, all_seen}
 use Rattle.link_group.specs.Ticks.{with_room, after_ticks}
-use Rattle.link_group.specs.Ends.{Ends, Lives, near_else, far_else, tells, hears}
+use Rattle.link_group.specs.Ends.{Ends, Lives, near_else, far_else}
 use Rattle.link_group.specs.Joined.{end_of, end_at}
 use Rattle.link_group.proofs.Along.{NearOn, near_same, near_joined, near_signal, tidied_same, terminals_fare}
 use Rattle.link_group.proofs.Between.{Between}
 use Rattle.link_group.proofs.Calls.{asked_end, seen_links, asked_plain, end_behind, end_before}
-use Rattle.link_group.proofs.Getting.{change_here, change_other, set_there}
+use Rattle.link_group.proofs.Getting.{change_here, set_there}
 use Rattle.link_group.proofs.Heeding.{ends_heed}
 use Rattle.link_group.proofs.Units.{gone_began}
 
