@@ -1,6 +1,6 @@
 -- One link of a set: its terminal, and what is marked there.
 use Rattle.std.specs.Prelude.{ℕ, ◌+◌, ◌%◌, ◌==◌, ◌&&◌, ◌||◌, nat_le, min, Bool, true, false, not}
-use Rattle.std.specs.Prelude.{if◌then◌else◌, List, [], length, take}
+use Rattle.std.specs.Prelude.{if◌then◌else◌, List, length, take}
 use Rattle.std.specs.Prelude.{drop, filter, Option, Some, None, is_some, Result, Ok, Err}
 use Rattle.resend_store.specs.declared.messages.Msu.{Msu}
 use Rattle.resend_store.specs.Limits.{MOST_WAITING, MOST_KEPT}

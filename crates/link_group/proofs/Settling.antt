@@ -10,7 +10,7 @@ use Rattle.group_members.specs.Links.{change}
 use Rattle.group_members.specs.Moving.{Diversion, Diverted, division, is_out_at, hand_by, without_hand, takers, hands_over, ends_on, ends_at, keeps_at}
 use Rattle.link_group.specs.declared.ending.DivertError.TheVariants as error
 use Rattle.link_group.specs.Set.{LinkSet}
-use Rattle.link_group.specs.Diverting.{diverted, settled_by, settled, emptied, left_by, left_fault, divert_fault_by, divert_fault}
+use Rattle.link_group.specs.Diverting.{diverted, settled_by, settled, emptied, left_by, left_fault, divert_fault_by, divert_fault, after_hand, after_divert}
 
 -- ---- of messages that were taken out
 
@@ -65,3 +65,12 @@ pub fault_left : (c : LinkSet) (l : ℕ) (mid : List Link) (ms : List Msu) → i
     → left_fault (diverted mid c.table l ms) ≡ divert_fault c l
 unfolding divert_fault
 fault_left c l mid ms out is messages = rw (is, messages) (sym (left_at c l (slice_get c.links l) out))
+
+-- ---- a set where nothing is handed out
+
+pub none_past : (c : LinkSet) (l : ℕ) → length c.links ≤ l → is_out_at (slice_get c.links l) ≡ false
+none_past c l past = ap is_out_at (slice_get_past c.links l past)
+
+pub stays : (c d : LinkSet) (l : ℕ) → is_out_at (slice_get c.links l) ≡ false → d ≡ c → d ≡ after_divert c l
+unfolding after_divert
+stays c d l none same = same ∙ sym (ap (λ (b : Bool). if b then after_hand c l else c) none)

@@ -1,5 +1,6 @@
 use Rattle.std.proofs.Common.{rules, refl, ap, ◌∙◌, arith}
 use Rattle.link_group.proofs.ByLinks.{written, few_written}
+use Rattle.link_group.specs.Ticks.{after_ticks}
 use Rattle.link_group.proofs.Live.{over, live_from, live_roomy, live_lacking, ticked_is, live_ticked}
 use Rattle.link_group.proofs.Room.{no_room, room_on}
 use Rattle.link_group.proofs.group.Group.tick.Goals as goal
@@ -43,3 +44,9 @@ invariant_of-self-2 c = (
       c.make_room_all.ensures.ok c.pass_all-due.ensures.links c.see_each.ensures.links c.see_each.ensures.table)
       (live_from c.self.inside.own c.self.inside.peer c.self.inside.unsure c.self.inside.table.links _ _ (search rules) c.self.invariant.3),
 )
+
+pub returns-clause-ok : goal.returns-clause-ok
+returns-clause-ok c =
+    ticked_is c.args.ticks c.self.inside.own c.self.inside.peer c.self.inside.unsure c.self.inside.table.links _ _ c.make_room_all.new.links c.as_mut_slice-2.result.now c.pass_all-due.new.links c.as_mut_slice-3.result.now c.see_each.new.links _
+    (c.as_mut_slice-2.ensures.value ∙ written c.self.inside.links.len c.make_room_all.new.links c.self.inside.links.items (search rules)) (c.as_mut_slice-3.ensures.value ∙ written c.self.inside.links.len c.pass_all-due.new.links _ (search rules)) (written c.self.inside.links.len c.see_each.new.links _ (search rules))
+    c.make_room_all.ensures.ok c.pass_all-due.ensures.links c.see_each.ensures.links c.see_each.ensures.table ∙ ap (after_ticks c.args.ticks) c.self.view_is
