@@ -1,6 +1,6 @@
 -- A call of the near set goes on with the life of a link, and what counts there is what the far end told.
 use Rattle.std.proofs.Common.{◌≡◌, ℕ, ◌-◌, Bool, false, List, [], ◌∷◌, ◌++◌, length, drop, Option, Some, None, refl, sym, ap, ◌∙◌, subst, inl, inr}
-use Rattle.std.specs.Prelude.{if◌then◌else◌, slice_get, option_map}
+use Rattle.std.specs.Prelude.{◌⊎◌, if◌then◌else◌, slice_get, option_map}
 use Rattle.std.specs.Option.{option_to_list}
 use Rattle.std.proofs.lemmas.List.{append-nil}
 use Rattle.plain_laws.proofs.Options.{none_some}
@@ -27,7 +27,7 @@ use Rattle.link_group.specs.Placing.{rebalanced}
 use Rattle.link_group.specs.Ticks.{with_room, after_ticks}
 use Rattle.link_group.specs.Ends.{Ends, gets, given, place_behind, near_else, hears as hears_told}
 use Rattle.link_group.specs.Along.{Arrive}
-use Rattle.link_group.specs.Joined.{end_of, end_at, Deed, all_by, all_at, more_at, number_of, if_for, Does, sends, binds, diverts, listens, speaks, gives, reports, commands, refuses, ticks, makes_room, lacks_room, rebalances, admits, fails, hears, by_other, counted_in, counted_of, IsTold}
+use Rattle.link_group.specs.Joined.{end_of, end_at, Deed, all_by, all_at, more_at, number_of, if_for, Does, sends, binds, diverts, listens, speaks, gives, reports, commands, refuses, ticks, makes_room, lacks_room, rebalances, admits, fails, hears, by_other, counted_in, counted_of, counted_at, IsTold}
 use Rattle.link_group.proofs.Along.{lose_back}
 use Rattle.link_group.proofs.Between.{Between, Fewer, with_more, Grows, divert_grows, sends as life_sends, binds as life_binds}
 use Rattle.link_group.proofs.Calls.{asked_end, end_before, near_gives, near_hears}
@@ -183,18 +183,22 @@ near_either l p c d y m rest b counts a is v e (inr g) =
     near_plain l (after_message c m) d y v.end place rest a
     (record { life = near_else (record y { place = place }) v.end (hears_told y b.life) v.stays.sender v.stays.spare; near = v.is; far = b.far }) (λ q f. so ∙ (sym e ∙ f))
 
-near_by : (l : ℕ) (c d : LinkSet) (y : Ends) (m : Option Changeover) (rest : List Unit) → Between l c d y → Fewer y.place (counted_of (slice_get c.links l)) → Arrive [] y.back rest
-    → IsTold (number_of l (if_for c m)) y.told → (o : Option ℕ) → counted_of (slice_get (after_message c m).links l) ≡ o → NearDid l (after_message c m) d y [] rest []
-near_by l c d y m rest b counts a is None e =
+near_by : (l : ℕ) (c d : LinkSet) (y : Ends) (m : Option Changeover) (rest : List Unit) → Between l c d y → Fewer y.place (counted_at c l) → Arrive [] y.back rest
+    → IsTold (number_of l (if_for c m)) y.told ⊎ (counted_at (after_message c m) l ≡ counted_at c l) → (o : Option ℕ) → counted_at (after_message c m) l ≡ o → NearDid l (after_message c m) d y [] rest []
+near_by l c d y m rest b counts a (inl is) (Some p) e = near_either l p c d y m rest b counts a is (far_heard c m l y.near b.near) e (message_counted c m l p e)
+near_by l c d y m rest b counts a (inl is) None e =
     let v = far_heard c m l y.near b.near in
     near_plain l (after_message c m) d y v.end y.place rest a (record { life = near_else y v.end b.life v.stays.sender v.stays.spare; near = v.is; far = b.far })
     (λ q f. absurd (none_some (sym e ∙ f)))
-near_by l c d y m rest b counts a is (Some p) e = near_either l p c d y m rest b counts a is (far_heard c m l y.near b.near) e (message_counted c m l p e)
+near_by l c d y m rest b counts a (inr same) o e =
+    let v = far_heard c m l y.near b.near in
+    near_plain l (after_message c m) d y v.end y.place rest a (record { life = near_else y v.end b.life v.stays.sender v.stays.spare; near = v.is; far = b.far })
+    (λ q f. counts q (sym same ∙ f))
 
 -- ---- each call
 
 pub near_step : (l : ℕ) (c e d : LinkSet) (y : Ends) (deed : Deed) (rest : List Unit) → Does l c e deed → Between l c d y → Fewer y.place (counted_of (slice_get c.links l))
-    → Arrive deed.came y.back rest → IsTold deed.heard y.told → NearDid l e d y deed.out rest deed.given
+    → Arrive deed.came y.back rest → IsTold deed.heard y.told ⊎ (counted_at e l ≡ counted_at c l) → NearDid l e d y deed.out rest deed.given
 near_step l _ _ d y _ rest (sends c m link) b counts a is =
     near_given l (sent c m) d y (m ∷ []) rest a (life_sends l c d y m b link) (λ p f. counts p (sent_counts l c m link p f))
 near_step l _ _ d y _ rest (binds c m) b counts a is = near_given l (bound_at c l m) d y (m ∷ []) rest a (life_binds l c d y m b) (λ p f. counts p (bound_counts l c m p f))
@@ -229,6 +233,6 @@ near_step l _ _ d y _ rest (lacks_room c e lacks) b counts a is = near_leaves l 
 near_step l _ _ d y _ rest (rebalances c) b counts a is = near_leaves l c (rebalanced c) d y rest b counts a (rebalanced_leaves c l)
 near_step l _ _ d y _ rest (admits c i way) b counts a is = near_leaves l c (after_admission c i way) d y rest b counts a (admitted_leaves c i l way)
 near_step l _ _ d y _ rest (fails c) b counts a is = near_leaves l c (after_failure c l) d y rest b counts a (failed_leaves c l l)
-near_step l _ _ d y _ rest (hears c m) b counts a is = near_by l c d y m rest b counts a is (counted_of (slice_get (after_message c m).links l)) refl
+near_step l _ _ d y _ rest (hears c m) b counts a is = near_by l c d y m rest b counts a is (counted_at (after_message c m) l) refl
 near_step l _ _ d y _ rest (by_other c e i other one) b counts a is =
     near_leaves l c e d y rest b counts a (leaves_as (slice_get c.links l) (slice_get c.links l) (slice_get e.links l) (sym (only_one i l c e other one)) (leaves_same (slice_get c.links l)))

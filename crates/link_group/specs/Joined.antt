@@ -1,7 +1,7 @@
 -- Two sets that the lines of a link join, call by call, over one life of that link: from a
 -- beginning of both its directions on, until they begin anew.
 use Rattle.std.specs.Prelude.{◌≡◌, ℕ, ◌==◌, Bool, true, false, if◌then◌else◌, List, [], ◌∷◌, ◌++◌}
-use Rattle.std.specs.Prelude.{length, take, drop, Option, Some, None, slice_get, option_map}
+use Rattle.std.specs.Prelude.{◌⊎◌, length, take, drop, Option, Some, None, slice_get, option_map}
 use Rattle.std.specs.Option.{option_to_list}
 use Rattle.actor_machine.specs.declared.reply.Refusal.{Refusal}
 use Rattle.bit_line.specs.declared.events.LineEvent.{LineEvent}
@@ -215,7 +215,11 @@ abbrev pub counted_of : Option Link → Option ℕ
 counted_of None = None
 counted_of (Some k) = counted_in k.availability.changing
 
--- A number that is heard near is the one that far told.
+-- such a count of the link at a place
+abbrev pub counted_at : LinkSet → ℕ → Option ℕ
+counted_at c l = counted_of (slice_get c.links l)
+
+-- A number that is heard is the one that far told.
 abbrev pub IsTold : Option ℕ → Option ℕ → Type 0
 IsTold None told = Prim.Unit {0}
 IsTold (Some n) told = told ≡ Some n
@@ -232,7 +236,7 @@ pub data Fares (l : ℕ) : Joined → Type 0 where
   begins :
       (c d : LinkSet) (h g : TransceiverState) (forth back : List Unit)
       → end_at c l ≡ Some h → end_at d l ≡ Some g → SendsAnew h → AcceptsAnew g
-      → AreStatuses forth → AreStatuses back → counted_of (slice_get c.links l) ≡ None
+      → AreStatuses forth → AreStatuses back → counted_at c l ≡ None
       → Fares l (record {
         near = c;
         far = d;
@@ -245,7 +249,8 @@ pub data Fares (l : ℕ) : Joined → Type 0 where
   near_does :
       (x : Joined) (e : LinkSet) (deed : Deed) (rest : List Unit)
       → Fares l x → Does l x.near e deed
-      → Arrive deed.came x.back rest → IsTold deed.heard x.told
+      → Arrive deed.came x.back rest
+      → IsTold deed.heard x.told ⊎ (counted_at e l ≡ counted_at x.near l)
       → Fares l (record x {
         near = e;
         forth = x.forth ++ deed.out;
@@ -298,7 +303,7 @@ pub record SetsComplete : Type 0 where
       → k.availability.changing ≡ Some changing → counts_in changing ≡ true
       → k.availability.anew ≡ false
       → is_for x.near m ≡ true → m.label.sls ≡ l → number_in m.kind ≡ Some n
-      → (p : ℕ) × (counted_of (slice_get (after_message x.near (Some m)).links l) ≡ Some p)
+      → (p : ℕ) × (counted_at (after_message x.near (Some m)) l ≡ Some p)
   pub in_order :
       (l : ℕ) (x : Joined)
       → Fares l x → (missing : List Msu) × (x.taken ≡ x.delivered ++ missing)
