@@ -229,9 +229,10 @@ told_behind None told = told
 told_behind (Some n) told = Some n
 
 -- What two sets and the lines of a link come to, call by call. As its directions begin anew, of
--- what went out before nothing but statuses is under way, and no number counts near. The lines may
--- lose units and delay them, and never change their order. Where far's directions begin anew before
--- near's, its set stands as it stood before that, and nothing but statuses goes out there.
+-- what went out before nothing but statuses is under way, and no number counts near; of those that
+-- are heard near none comes to count but the one that far told. The lines may lose units and delay
+-- them, and never change their order. Where far's directions begin anew before near's, its set
+-- stands as it stood before that, and nothing but statuses goes out there.
 pub data Fares (l : ℕ) : Joined → Type 0 where
   begins :
       (c d : LinkSet) (h g : TransceiverState) (forth back : List Unit)
