@@ -207,17 +207,21 @@ far_hands y k n is began r =
 pub far_empty : (l : ℕ) (c d e : LinkSet) (y : Ends) → Empties l d e → Between l c d y → (g : TransceiverState) × Between l c e (record y { far = g })
 unfolding after_retrieve after_abandon
 far_empty l c _ _ y (retrieves d k there none) b =
-    let is : y.far ≡ end_of k = end_is d l k y.far there b.far in
-    (end_of (handed k), record {
-      life = far_hands y k (accepted_of k) is none b.life;
-      near = b.near;
-      far = ap (λ (o : Option Link). option_map end_of o) (change_here handed d.links l (Some k) there);
-    })
+    let is : y.far ≡ end_of k = end_is d l k y.far there b.far in (
+      end_of (handed k),
+      record {
+        life = far_hands y k (accepted_of k) is none b.life;
+        near = b.near;
+        far = ap (λ (o : Option Link). option_map end_of o) (change_here handed d.links l (Some k) there);
+      },
+    )
 far_empty l c _ _ y (abandons d k there none) b =
-    let is : y.far ≡ end_of k = end_is d l k y.far there b.far in
-    (end_of (given_up k), record {
-      life = far_hands y k None is none b.life;
-      near = b.near;
-      far = ap (λ (o : Option Link). option_map end_of o) (change_here given_up d.links l (Some k) there);
-    })
+    let is : y.far ≡ end_of k = end_is d l k y.far there b.far in (
+      end_of (given_up k),
+      record {
+        life = far_hands y k None is none b.life;
+        near = b.near;
+        far = ap (λ (o : Option Link). option_map end_of o) (change_here given_up d.links l (Some k) there);
+      },
+    )
 far_empty l c _ _ y (clears d e command by none) b = (asked_end (end_of by.at.after), far_commands l c d e y command by b none)

@@ -164,9 +164,11 @@ number_counts l x m k changing n r told there goes_on first anew ours label numb
     let i : Inside l x = each_inside l x r in
     let known = ends_complete.known (ends_of x i.near i.far i.place) n i.between.life told in
     let both : Some (end_of k) ≡ Some i.near = sym (ap (λ (o : Option Link). option_map end_of o) there) ∙ i.between.near in
-    let was : end_of k ≡ i.near = cc in
-    (known.0, message_counts l x.near m k changing there goes_on first anew ours label
-    ∙ (ap (λ (h : TransceiverState). count_told h.sender (number_in m.kind)) was ∙ (ap (count_told i.near.sender) (number ∙ sym told) ∙ known.1)))
+    let was : end_of k ≡ i.near = cc in (
+      known.0,
+      message_counts l x.near m k changing there goes_on first anew ours label
+          ∙ (ap (λ (h : TransceiverState). count_told h.sender (number_in m.kind)) was ∙ (ap (count_told i.near.sender) (number ∙ sym told) ∙ known.1)),
+    )
 
 pub sets_complete : SetsComplete
 sets_complete = record { complete = whole; counts = number_counts; in_order = in_order }

@@ -126,7 +126,7 @@ pub data Does (l : ℕ) : LinkSet → LinkSet → Deed → Type 0 where
       (c e : LinkSet) (octets : List ℕ) (taken : ℕ) (by : ByLink (Listened octets taken) l c e)
       (bits : List Bool) (all now : List LineEvent)
       (h : Hears bits all by.at.before.terminal.processes (take taken octets)
-        now by.at.after.terminal.processes)
+      now by.at.after.terminal.processes)
       → (end_of by.at.after).began ≡ false
       → Does l c e (record nothing { came = units_along h; accepted = accepted_along h })
   speaks :
