@@ -11,7 +11,7 @@ use Rattle.link_transceiver.specs.Effects.{renewed, renewed_hold}
 use Rattle.group_changeover.specs.declared.availability.Changing.{Changing}
 use Rattle.group_changeover.specs.declared.changeover.Changeover.{Changeover}
 use Rattle.group_changeover.specs.Bound.{unbound}
-use Rattle.group_changeover.specs.Saying.{is_out, count_in, counts_in, number_in}
+use Rattle.group_changeover.specs.Saying.{is_out, count_in, number_in, begun_by_message}
 use Rattle.group_changeover.proofs.Unbound.{unbound-append}
 use Rattle.group_members.specs.declared.link.Link.{Link}
 use Rattle.group_members.specs.OneLink.{count_told, lacking, accepted_in, accepted_of, window}
@@ -19,7 +19,7 @@ use Rattle.link_group.specs.Set.{LinkSet}
 use Rattle.link_group.specs.Changing.{is_for, after_message, after_retrieve}
 use Rattle.link_group.specs.Laws.{hand_at}
 use Rattle.link_group.specs.Ends.{Ends, AreStatuses, ends_anew, Lives, begins as lives_anew, far_is_anew as lives_far_anew, near_else, far_else}
-use Rattle.link_group.specs.Joined.{end_of, end_at, Joined, SendsAnew, AcceptsAnew, counted_in, counted_of, told_behind, Fares, begins, near_does, far_does, far_empties, far_is_anew, Goes, stays, does, empties, SetsComplete}
+use Rattle.link_group.specs.Joined.{end_of, end_at, Joined, SendsAnew, AcceptsAnew, counted_in, counted_of, takes_number, told_behind, Fares, begins, near_does, far_does, far_empties, far_is_anew, Goes, stays, does, empties, SetsComplete}
 use Rattle.link_group.proofs.Between.{Between, Fewer, given_out}
 use Rattle.link_group.proofs.Far.{FarDid, far_step, far_empty}
 use Rattle.link_group.proofs.Faring.{ends_complete}
@@ -157,16 +157,16 @@ in_order l x r =
 
 -- ---- the number counts as it is heard
 
-number_counts : (l : ℕ) (x : Joined) (m : Changeover) (k : Link) (changing : Changing) (n : ℕ) → Fares l x → x.told ≡ Some n → slice_get x.near.links l ≡ Some k
-    → k.availability.changing ≡ Some changing → counts_in changing ≡ true → k.availability.anew ≡ false → is_for x.near m ≡ true → m.label.sls ≡ l → number_in m.kind ≡ Some n
+number_counts : (l : ℕ) (x : Joined) (m : Changeover) (k : Link) (n : ℕ) → Fares l x → x.told ≡ Some n → slice_get x.near.links l ≡ Some k
+    → takes_number (begun_by_message m.kind k.availability).changing ≡ true → k.availability.anew ≡ false → is_for x.near m ≡ true → m.label.sls ≡ l → number_in m.kind ≡ Some n
     → (p : ℕ) × (counted_of (slice_get (after_message x.near (Some m)).links l) ≡ Some p)
-number_counts l x m k changing n r told there goes_on first anew ours label number =
+number_counts l x m k n r told there counts anew ours label number =
     let i : Inside l x = each_inside l x r in
     let known = ends_complete.known (ends_of x i.near i.far i.place) n i.between.life told in
     let both : Some (end_of k) ≡ Some i.near = sym (ap (λ (o : Option Link). option_map end_of o) there) ∙ i.between.near in
     let was : end_of k ≡ i.near = cc in (
       known.0,
-      message_counts l x.near m k changing there goes_on first anew ours label
+      message_counts l x.near m k there counts anew ours label
           ∙ (ap (λ (h : TransceiverState). count_told h.sender (number_in m.kind)) was ∙ (ap (count_told i.near.sender) (number ∙ sym told) ∙ known.1)),
     )
 

@@ -16,7 +16,7 @@ use Rattle.link_processes.specs.declared.commands.Command.{Command}
 use Rattle.group_changeover.specs.declared.availability.Changing.{Changing}
 use Rattle.group_changeover.specs.declared.changeover.Changeover.{Changeover}
 use Rattle.group_changeover.specs.Bound.{unbound}
-use Rattle.group_changeover.specs.Saying.{is_out, count_in, counts_in, number_in}
+use Rattle.group_changeover.specs.Saying.{is_out, count_in, counts_in, number_in, begun_by_message}
 use Rattle.group_changeover.specs.Sharing.{selection_of, link_of}
 use Rattle.group_members.specs.declared.link.Link.{Link}
 use Rattle.group_members.specs.OneLink.{held}
@@ -209,6 +209,11 @@ abbrev pub counted_in : Option Changing → Option ℕ
 counted_in None = None
 counted_in (Some c) = if is_out c then None else count_in c.answer
 
+-- whether a number that is heard in a changeover comes to count
+abbrev pub takes_number : Option Changing → Bool
+takes_number None = false
+takes_number (Some c) = counts_in c
+
 -- Of how many messages that are kept it counts in a retrieval that they are accepted: none without
 -- a number, and while messages are handed out.
 abbrev pub counted_of : Option Link → Option ℕ
@@ -290,7 +295,8 @@ pub data Goes (l : ℕ) : LinkSet → LinkSet → List Msu → Type 0 where
 -- with the number that far told, is what the link kept as that life began, followed by what `send`
 -- and `divert` gave it in it, messages that are bound to it left out: each once, in order. The
 -- number is told while far is held, and may be heard at any time behind; where no other counts then
--- it counts. What far accepted is a beginning of that at each moment.
+-- in the changeover that goes on near, or begins by that message, it counts. What far accepted is a
+-- beginning of that at each moment.
 pub record SetsComplete : Type 0 where
   pub complete :
       (l : ℕ) (x : Joined) (k : Link) (p : ℕ) (e : LinkSet) (later : List Msu)
@@ -299,9 +305,9 @@ pub record SetsComplete : Type 0 where
       → unbound k.points x.taken
       ≡ unbound k.points (x.delivered ++ later) ++ hand_at (after_retrieve x.near l) l
   pub counts :
-      (l : ℕ) (x : Joined) (m : Changeover) (k : Link) (changing : Changing) (n : ℕ)
+      (l : ℕ) (x : Joined) (m : Changeover) (k : Link) (n : ℕ)
       → Fares l x → x.told ≡ Some n → slice_get x.near.links l ≡ Some k
-      → k.availability.changing ≡ Some changing → counts_in changing ≡ true
+      → takes_number (begun_by_message m.kind k.availability).changing ≡ true
       → k.availability.anew ≡ false
       → is_for x.near m ≡ true → m.label.sls ≡ l → number_in m.kind ≡ Some n
       → (p : ℕ) × (counted_at (after_message x.near (Some m)) l ≡ Some p)
