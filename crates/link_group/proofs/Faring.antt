@@ -1,5 +1,5 @@
 -- What far accepted, and then what is retrieved with the number that it told, is what came near.
-use Rattle.std.proofs.Common.{◌≡◌, ℕ, ◌+◌, ◌-◌, ◌≤◌, Bool, true, false, List, [], ◌∷◌, ◌++◌, length, drop, Option, Some, None, nat_le, is_some, refl, sym, ap, ◌∙◌, subst, arith}
+use Rattle.std.proofs.Common.{◌≡◌, ℕ, ◌+◌, ◌-◌, ◌≤◌, Bool, true, false, List, [], ◌∷◌, ◌++◌, length, Option, Some, None, nat_le, is_some, refl, sym, ap, ◌∙◌, subst, arith}
 use Rattle.std.specs.Prelude.{if◌then◌else◌, unwrap_or}
 use Rattle.std.proofs.lemmas.Bool.{le-leb}
 use Rattle.std.proofs.lemmas.List.{append-nil, length-append}
@@ -7,7 +7,7 @@ use Rattle.resend_store.specs.declared.messages.Msu.{Msu}
 use Rattle.resend_store.specs.declared.messages.Outgoing.{Outgoing}
 use Rattle.resend_store.specs.Window.{Window, next, count_by, after_back}
 use Rattle.resend_store.specs.Intake.{Intake, hear}
-use Rattle.resend_store.specs.Runs.{on_back, is_accepted, accepted, step}
+use Rattle.resend_store.specs.Runs.{on_back, accepted, step}
 use Rattle.resend_store.specs.Exchange.{Answer, Exchange}
 use Rattle.resend_store.proofs.Sent.{next_fine}
 use Rattle.resend_store.proofs.Delivery.{none_left, none_back, one_back, Sound}
@@ -23,9 +23,9 @@ use Rattle.link_transceiver.specs.Laws.{Loses, accepted_of, acknowledged_of}
 use Rattle.link_transceiver.proofs.Acknowledging.{keeps_unacknowledged}
 use Rattle.link_transceiver.proofs.Holding.{holds_back}
 use Rattle.link_transceiver.proofs.Withholding.{withholds as stays_withheld}
-use Rattle.group_members.specs.OneLink.{count_of, count_told}
+use Rattle.group_members.specs.OneLink.{count_told}
 use Rattle.link_group.specs.Ends.{Ends, units_in, ends_anew, given, near_sends, far_sends, arrived, place_behind, came_back, Lives, begins, gets, near_goes, far_goes, arrives, is_lost, comes_back, is_lost_back, withholds, acknowledges, near_else, far_else, tells, hears, EndsComplete}
-use Rattle.link_group.proofs.Units.{outgoing_of, outgoing_in, outgoings, outgoings-append, telling_of, telling_in, telling_by, tellings, tellings-append, Goes, says_none, fills_in, gives_one, going, SameIntake, Answers, tells_none, tells_one, answering, Comes, passes_by, is_judged, ComesIn, status_comes, unit_comes, coming_in, Obeys, ignores, is_obeyed, ComesBack, status_back, unit_back, coming_back, judged_spare}
+use Rattle.link_group.proofs.Units.{outgoing_of, outgoing_in, outgoings, outgoings-append, telling_of, telling_in, telling_by, tellings, tellings-append, says_none, fills_in, gives_one, going, SameIntake, tells_none, tells_one, answering, Comes, passes_by, is_judged, status_comes, unit_comes, coming_in, Obeys, ignores, is_obeyed, status_back, unit_back, coming_back, judged_spare}
 use Rattle.link_group.proofs.Sounding.{sound_given, sound_sent, sound_filled, sound_arrived, sound_lost, sound_came_back, sound_lost_back, sound_answered, sound_front, sound_again, sound_place, sound_few, sound_sizes, sound_whole, sound_in_order}
 
 -- ---- one direction, as the stores of both ends see it
@@ -244,7 +244,7 @@ back_to x b bs w e (is_obeyed same few) h =
 place_left : (was now p T D : ℕ) → now ≤ was → T ≤ D + now → p + T ≡ D + was → (p - (was - now)) + T ≡ D + now
 place_left was now p T D less reach e = omega (arith, less, reach, e)
 
-some_place : (n : ℕ) (o : Option ℕ) (p : ℕ) → place_behind n o ≡ Some p → (q : ℕ) × (o ≡ Some q) × (p ≡ q - n)
+pub some_place : (n : ℕ) (o : Option ℕ) (p : ℕ) → place_behind n o ≡ Some p → (q : ℕ) × (o ≡ Some q) × (p ≡ q - n)
 some_place n None p e = absurd (none_some p e)
 some_place n (Some q) p e = let same : q - n ≡ p = cc in (q, refl, sym same)
 
@@ -280,13 +280,12 @@ fares_came_back x u us e f =
           back_to (exchange_of x) b (tellings us ++ rest) w (back ∙ ap (λ (bs : List Answer). (bs ++ tellings us) ++ rest) one) obeys_it f.sound
     ]) f
 
+fares_back : (x : Ends) (us : List Unit) → Sound (record (exchange_of x) { back = tellings us ++ withheld_in x.far.withheld }) → Fares x → Fares (record x { back = us })
+fares_back x us sound f = record { sound = sound; spare = f.spare; told = f.told; place = f.place }
+
 fares_lost_back : (x : Ends) (u : Unit) (us : List Unit) → x.back ≡ u ∷ us → Fares x → Fares (record x { back = us })
-fares_lost_back x u us e f = record {
-  sound = lost_answer (exchange_of x) u us (withheld_in x.far.withheld) (ap (λ (vs : List Unit). tellings vs ++ withheld_in x.far.withheld) e) f.sound;
-  spare = f.spare;
-  told = f.told;
-  place = f.place;
-}
+fares_lost_back x u us e f =
+    fares_back x us (lost_answer (exchange_of x) u us (withheld_in x.far.withheld) (ap (λ (vs : List Unit). tellings vs ++ withheld_in x.far.withheld) e) f.sound) f
 
 -- ---- acknowledgement is withheld
 
@@ -373,6 +372,10 @@ each_fares _ (near_else x h r same spare) = fares_near_else x h same spare (each
 each_fares _ (far_else x g r same withheld holds) = fares_far_else x g same withheld holds (each_fares x r)
 each_fares _ (tells x r held) = fares_tells x held (each_fares x r)
 each_fares _ (hears x r) = fares_hears x (each_fares x r)
+
+-- where a number was heard far is held
+pub held_far : (x : Ends) (p : ℕ) → Lives x → x.place ≡ Some p → is_held x.far.hold ≡ true
+held_far x p r e = ((each_fares x r).place p e).0
 
 is_known : (x : Ends) (n : ℕ) → Fares x → x.told ≡ Some n → (p : ℕ) × (count_told x.near.sender x.told ≡ Some p)
 is_known x n f e =

@@ -1,9 +1,10 @@
 -- What units that go out and units that come make of what one direction of a link rests on.
 use Rattle.std.proofs.Common.{◌≡◌, ℕ, ◌≤◌, ◌&&◌, Bool, true, false, not, List, [], ◌∷◌, ◌++◌, Option, Some, None, Result, Ok, Err, nat_lt, nat_le, is_some, refl, sym, ap, ◌∙◌, subst, append_assoc}
-use Rattle.std.specs.Prelude.{if◌then◌else◌, unwrap_or}
+use Rattle.std.specs.Prelude.{if◌then◌else◌}
 use Rattle.std.specs.Option.{option_to_list}
 use Rattle.std.proofs.lemmas.Bool.{ltb-false}
 use Rattle.plain_laws.proofs.Truths.{by_test}
+use Rattle.arrayvec.specs.ArrayVec.{ArrayVec}
 use Rattle.resend_store.specs.declared.messages.Msu.{Msu}
 use Rattle.resend_store.specs.declared.messages.Outgoing.{Outgoing}
 use Rattle.resend_store.specs.declared.messages.Verdict.{Verdict}
@@ -21,12 +22,12 @@ use Rattle.link_transceiver.specs.declared.signals.LineKind.{LineKind}
 use Rattle.link_transceiver.specs.declared.signals.LineKind.TheVariants as kind
 use Rattle.link_transceiver.specs.Limits.{BUSY_CODE}
 use Rattle.link_transceiver.specs.TransceiverState.{TransceiverState, is_held}
-use Rattle.link_transceiver.specs.Effects.{backward_of}
 use Rattle.link_transceiver.specs.Judging.{Judged, judged, by_stores, through, left_aside, Stored, stored, refused, taken, heard, discarded, bsn_heeded, head_heeded, acknowledged, hears, accepts, hearing, is_abnormal}
 use Rattle.link_transceiver.specs.Going.{Gone, gone, gone_by, gives, backward_out, head_with, idle_head, filled, status_gone, fill_in_gone, sender_gone, spare_behind}
 use Rattle.link_transceiver.specs.Laws.{is_accept, accepted_of}
 use Rattle.link_transceiver.proofs.Aside.{none_accepted, known_aside}
 use Rattle.link_group.specs.Ends.{units_in}
+use Rattle.link_group.specs.Along.{heeded}
 
 -- ---- units as the stores see them
 
@@ -342,3 +343,31 @@ unfolding judged
 judged_began h (unit.Fisu head) = by_stores_began h head None
 judged_began h (unit.Msu head sio sif) = by_stores_began h head (Some (record { sio = sio; sif = sif }))
 judged_began h (unit.Lssu head status second) = refl
+
+-- ---- units that don't go through the stores
+
+pub data Heeds (h : TransceiverState) (u : Unit) : Type 0 where
+  left_so : heeded h u ≡ [] → (judged h u).transceiver ≡ h → accepted_of h u ≡ [] → Heeds h u
+  goes_through : heeded h u ≡ u ∷ [] → Heeds h u
+
+fill_in_heeds : (h : TransceiverState) (head : Head) (take : Bool) → h.take ≡ take → Heeds h (unit.Fisu head)
+unfolding judged by_stores
+fill_in_heeds h head true e = goes_through (ap (λ (b : Bool). if◌then◌else◌ {A = List Unit} b (unit.Fisu head ∷ []) []) e)
+fill_in_heeds h head false e =
+    left_so (ap (λ (b : Bool). if◌then◌else◌ {A = List Unit} b (unit.Fisu head ∷ []) []) e)
+    (ap (λ (b : Bool). (if◌then◌else◌ {A = Judged} b (through h (heard h head None)) (left_aside 8 h)).transceiver) e) refl
+
+message_heeds : (h : TransceiverState) (head : Head) (sio : ℕ) (sif : ArrayVec ℕ) (take : Bool) → h.take ≡ take → Heeds h (unit.Msu head sio sif)
+unfolding judged by_stores
+message_heeds h head sio sif true e = goes_through (ap (λ (b : Bool). if◌then◌else◌ {A = List Unit} b (unit.Msu head sio sif ∷ []) []) e)
+message_heeds h head sio sif false e =
+    let m : Msu = record { sio = sio; sif = sif } in
+    left_so (ap (λ (b : Bool). if◌then◌else◌ {A = List Unit} b (unit.Msu head sio sif ∷ []) []) e)
+    (ap (λ (b : Bool). (if◌then◌else◌ {A = Judged} b (through h (heard h head (Some m))) (left_aside 8 h)).transceiver) e)
+    (ap (λ (b : Bool). if_accepted h head b (not h.behind_odd) m) e)
+
+pub heeding : (h : TransceiverState) (u : Unit) → Heeds h u
+unfolding judged
+heeding h (unit.Fisu head) = fill_in_heeds h head h.take refl
+heeding h (unit.Msu head sio sif) = message_heeds h head sio sif h.take refl
+heeding h (unit.Lssu head status second) = left_so refl refl refl
