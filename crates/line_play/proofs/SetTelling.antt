@@ -1,5 +1,5 @@
 -- What a set on lines does and tells, one thing behind another.
-use Rattle.std.proofs.Common.{◌≡◌, ◌∙◌, ℕ, List, [], ◌∷◌, ◌++◌, codes, Option, None, Some, Result, Ok, Err, OnOk, IfOk, IsSome, IsNone, true≢false, sym, ap, subst}
+use Rattle.std.proofs.Common.{◌≡◌, ◌∙◌, ℕ, List, [], ◌∷◌, ◌++◌, codes, Option, None, Some, Result, Ok, Err, OnOk, IfOk, IfSome, IsSome, IsNone, true≢false, sym, ap, subst}
 use Rattle.std.proofs.lemmas.Result.{on_ok_weaker}
 use Rattle.script_lines.specs.Words.{words_of}
 use Rattle.line_filter.specs.Orders.{told}
@@ -11,7 +11,8 @@ use Rattle.set_tending.specs.Texts.{told_text}
 use Rattle.set_tending.specs.declared.told.Told.{Told}
 use Rattle.set_tending.proofs.Doing.{adds_heeded}
 use Rattle.script_links.specs.resend_store_types.messages.Msu.{Msu}
-use Rattle.line_play.specs.SetRuns.{Takes, Sends, Says, IsSent, Goes, sent_by, tends, ticks, tells, says, sends, Continues}
+use Rattle.line_play.specs.declared.set_orders.SetOrder.{SetOrder}
+use Rattle.line_play.specs.SetRuns.{Takes, Sends, Says, IsSent, Goes, sent_by, octets_sent, tends, ticks, tells, says, sends, Continues}
 
 pub goes_nowhere : (t : Tended) (a : Stand) → Continues t a t a
 goes_nowhere t a = λ first from h. h
@@ -97,3 +98,8 @@ pub never_none : {A E : Type 0} (r : Result (Option A) E) (P : Type 0) → IfOk 
 never_none (Ok None) P some = λ none. absurd (true≢false (sym some))
 never_none (Ok (Some x)) P some = λ none. absurd (true≢false none)
 never_none (Err e) P some = tt
+
+-- what orders send is said another way
+pub said_in : {E : Type 0} (r : Result (Option SetOrder) E) (x y : Option (List ℕ)) → x ≡ y → IfOk r (λ (o : Option SetOrder). IfSome o (λ (s : SetOrder). octets_sent s ≡ x))
+    → IfOk r (λ (o : Option SetOrder). IfSome o (λ (s : SetOrder). octets_sent s ≡ y))
+said_in r x y same said = subst (λ (z : Option (List ℕ)). IfOk r (λ (o : Option SetOrder). IfSome o (λ (s : SetOrder). octets_sent s ≡ z))) same said

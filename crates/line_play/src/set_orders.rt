@@ -1,5 +1,6 @@
 //! Orders to a set, as they are written.
-ghost use Rattle.std.specs.Prelude.{◌≡◌, IfOk, IfSome, None};
+ghost use Rattle.std.specs.Prelude.{◌≡◌, IfOk, IfSome, None, option_map, option_and_then};
+ghost use Rattle.script_lines.specs.Lines.{texts};
 ghost use Rattle.script_lines.specs.Words.{words_of};
 ghost use Rattle.script_links.specs.Octets.{octets_of};
 ghost use Rattle.line_play.specs.SetRuns.{octets_sent, sent_by};
@@ -121,16 +122,41 @@ pub(crate) fn is_set_report(alloc: Global, line: &str) -> Result<bool, AllocErro
     }
 }
 
+/// What stands behind `send`, where that is all.
+fn sent_word<'a>(words: &[&'a str]) -> Option<&'a str>
+    ensures { sent_by (texts words.now) ≡ option_and_then octets_of (option_map (λ w. w.now) result) }
+{
+    match words {
+        [first, word] => {
+            if *first == "send" {
+                Some(*word)
+            } else {
+                None
+            }
+        }
+        _ => None,
+    }
+}
+
+/// An order that sends nothing.
+fn other_in<'a>(alloc: Global, words: &[&'a str]) -> Result<Option<SetOrder<'a>>, AllocError>
+    ensures { IfOk result (λ o. IfSome o (λ s. octets_sent s ≡ None)) }
+{
+    match words {
+        [] => Ok(None),
+        [word] => Ok(word_in(word)),
+        [first, word] if *first == "on" => Ok(focus_in(word).map(SetOrder::On)),
+        [_, _, ..] => asked_in(alloc, words),
+    }
+}
+
 /// The order that a line says; none where it says none.
 pub fn set_order_in<'a>(alloc: Global, line: &'a str) -> Result<Option<SetOrder<'a>>, AllocError>
     ensures { IfOk result (λ o. IfSome o (λ s. octets_sent s ≡ sent_by (words_of line.now))) }
 {
     let words = words_in(alloc, line)?;
-    match words.as_slice() {
-        [] => Ok(None),
-        [word] => Ok(word_in(word)),
-        [first, word] if *first == "on" => Ok(focus_in(word).map(SetOrder::On)),
-        [first, word] if *first == "send" => send_in(alloc, word),
-        [_, _, ..] => asked_in(alloc, &words),
+    match sent_word(words.as_slice()) {
+        Some(word) => send_in(alloc, word),
+        None => other_in(alloc, words.as_slice()),
     }
 }
