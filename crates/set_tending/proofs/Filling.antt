@@ -1,5 +1,5 @@
 -- How many octets the messages of a link have.
-use Rattle.std.proofs.Common.{◌≡◌, ◌∙◌, ℕ, zero, suc, ◌+◌, ◌-◌, ◌^◌, ◌≤◌, ◌&&◌, ◌||◌, not, Bool, true, false, List, [], ◌∷◌, ◌++◌, length, take, get_or, min, nat_le, unwrap_or, Option, None, Some, slice_get, refl, sym, ap, arith}
+use Rattle.std.proofs.Common.{◌≡◌, ◌∙◌, ℕ, zero, suc, ◌+◌, ◌-◌, ◌^◌, ◌<◌, ◌≤◌, ◌&&◌, ◌||◌, not, Bool, true, false, List, [], ◌∷◌, ◌++◌, length, take, get_or, min, nat_le, unwrap_or, Option, None, Some, slice_get, refl, sym, ap, arith}
 use Rattle.std.proofs.lemmas.Bool.Decides.{nat_tests}
 use Rattle.std.proofs.lemmas.List.{take_more, take_all}
 use Rattle.std.proofs.lemmas.Option.{none-some, slice_get_within, get_or_from_slice_get}
@@ -58,7 +58,7 @@ capped_reaches : (n : ℕ) → nat_le MOST_OCTETS (min LAST n) ≡ nat_le MOST_O
 capped_reaches n = grind (arith, nat_tests)
 
 -- as many as it holds, and their octets
-pub full_by : (k : Option Link) (count octets : ℕ) → count ≡ unwrap_or (read_at held_count k) 0 → octets ≡ min LAST (octets_in (take count (held_by k)))
+full_by : (k : Option Link) (count octets : ℕ) → count ≡ unwrap_or (read_at held_count k) 0 → octets ≡ min LAST (octets_in (take count (held_by k)))
     → (nat_le MOST_HELD count || nat_le MOST_OCTETS octets) ≡ is_full_of k
 full_by k count octets is octets_is =
     let count_is : count ≡ length (held_by k) = is ∙ held_there k in
@@ -69,6 +69,20 @@ full_by k count octets is octets_is =
     ap (λ (n : ℕ). nat_le MOST_HELD n || nat_le MOST_OCTETS octets) count_is
     ∙ (ap (λ (n : ℕ). nat_le MOST_HELD (length (held_by k)) || nat_le MOST_OCTETS n) octets_at
     ∙ ap (λ (b : Bool). nat_le MOST_HELD (length (held_by k)) || b) (capped_reaches (octets_in (held_by k))))
+
+-- as many messages as it may hold
+pub full_of_many : (k : Option Link) (count : ℕ) → count ≡ unwrap_or (read_at held_count k) 0 → MOST_HELD ≤ count → true ≡ is_full_of k
+full_of_many k count is many =
+    let octets : ℕ = min LAST (octets_in (take count (held_by k))) in
+    let e : nat_le MOST_HELD count ≡ true = grind (arith, nat_tests) in
+    sym (ap (λ (b : Bool). b || nat_le MOST_OCTETS octets) e) ∙ full_by k count octets is refl
+
+-- fewer
+pub full_of_few : (k : Option Link) (count octets : ℕ) → count ≡ unwrap_or (read_at held_count k) 0 → octets ≡ min LAST (octets_in (take count (held_by k)))
+    → count < MOST_HELD → nat_le MOST_OCTETS octets ≡ is_full_of k
+full_of_few k count octets is octets_is few =
+    let e : nat_le MOST_HELD count ≡ false = grind (arith, nat_tests) in
+    sym (ap (λ (b : Bool). b || nat_le MOST_OCTETS octets) e) ∙ full_by k count octets is octets_is
 
 -- ---- whether a message finds room
 

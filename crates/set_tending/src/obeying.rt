@@ -46,7 +46,10 @@ impl Tender {
         ensures { result ≡ is_full_of (slice_get self.now.set.links link) }
     {
         let held = self.set.held(link).unwrap_or(0);
-        held >= MOST_HELD || self.octets_held(link, held) >= MOST_OCTETS
+        if held >= MOST_HELD {
+            return true;
+        }
+        self.octets_held(link, held) >= MOST_OCTETS
     }
 
     /// Whether the link of a selection isn't in changeover, and holds as much as it may.
