@@ -9,6 +9,6 @@ loop-link-preserved c = λ first h. adds_heeded_then first _ _ (c.loop-link.inva
 pub returns : goal.returns
 returns c =
     on_ok_weaker c.tell_shared.result
-    (λ (adds : Adds c.share.new.self c.tell_shared.new.self) first h.
+    (λ (adds : Adds c.share.new.self c.tell_shared.new.self). λ first h.
     adds_heeded_then first _ _ (adds_heeded_then first _ _ (adds_heeded_then first _ _ (c.loop-link.invariant first h) c.restart.ensures) c.in_ok-share.ensures) adds)
     c.tell_shared.ensures
