@@ -30,12 +30,16 @@ use Rattle.group_members.specs.Moving.{retrieval_by}
 use Rattle.link_group.specs.Set.{LinkSet, points_of, send_fault, send_fault_by, change_by, sent, bind_fault_at, bound_at}
 use Rattle.link_group.specs.Changing.{retrieve_fault_at, after_retrieve, messages_for, abandon_fault_at, after_abandon, unsent_at}
 use Rattle.link_group.specs.Laws.{held_by, held_at}
-use Rattle.link_group.specs.Reached.{Gone, acknowledged, unsure, messages_gone, with_retrieval_of, told_front, unacknowledged_at, first_of}
+use Rattle.link_group.specs.Reached.{Gone, acknowledged, unsure, messages_gone, told_front, unacknowledged_at, first_of}
 use Rattle.link_group.proofs.Getting.{change_here, change_other, held_changed}
 use Rattle.link_group.proofs.Fitting.{IsSmall, none_small, FitsAvailability, FitsLink, Fits, Alike, fits_there, fits_change, fits_changed, fits_held, back_small}
 use Rattle.link_group.proofs.Staying.{Stays, gone_marked, at_one, leaves, quiet}
 
 -- ---- retrievals
+
+-- what is retrieved from each link, with that of one changed
+abbrev pub with_retrieval_of : (ℕ → List Msu) → ℕ → List Msu → ℕ → List Msu
+with_retrieval_of retrievals l ms j = if j == l then ms else retrievals j
 
 equal_retrieval : (retrievals : ℕ → List Msu) (l j : ℕ) (ms : List Msu) → ((j == l) ≡ true) × (j ≡ l) ⊎ ((j == l) ≡ false) × (j ≢ l) → j ≡ l → with_retrieval_of retrievals l ms j ≡ ms
 equal_retrieval retrievals l j ms (inl x) e = ap (λ (b : Bool). if b then ms else retrievals j) x.0

@@ -1,3 +1,4 @@
+mod Along
 pub mod ByLinks
 mod Calling
 pub mod Commands
@@ -5,11 +6,17 @@ mod Counting
 mod Diverting
 mod Each
 mod EndingLaws
+mod Faring
 pub mod Fields
 mod Fitting
 mod Getting
-pub mod Keeping
+mod Hands
+mod Heeding
+mod Live
 mod PlacingLaws
 pub mod Room
+mod Settling
+mod Sounding
 mod Staying
+mod Units
 mod Working

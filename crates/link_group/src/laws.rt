@@ -1,4 +1,6 @@
 //! Laws of link sets. The calls cost nothing.
+ghost use Rattle.link_group.specs.Along.{TerminalsFare};
+ghost use Rattle.link_group.specs.Ends.{EndsComplete, EndsHeed};
 ghost use Rattle.link_group.specs.Laws.{EachInOnePlace, UnsureAreCounted};
 
 use group_changeover::steps_keep_places;
@@ -18,4 +20,23 @@ pub fn each_message_stands_in_one_place()
 /// value.
 pub fn unsure_messages_are_counted()
     ensures { UnsureAreCounted }
+{}
+
+/// Between the two ends of a link, over lines that may lose units and delay them and never change their order, from a beginning of both its directions
+/// on: what the far end accepted, and then what is retrieved with the number that it told once it was held, is what came near, each once and in
+/// order, whenever that number is heard, and whatever is acknowledged behind that. Neither end begins anew between, and near isn't cleared.
+pub fn retrieval_completes_each_life()
+    ensures { EndsComplete }
+{}
+
+/// What the actors of an end tell it, but for a new beginning of both directions, that a report is taken there, that level 3 holds it, and that the far
+/// end's own messages leave: all that belongs to such a life.
+pub fn ends_heed_all_else()
+    ensures { EndsHeed }
+{}
+
+/// Each step of the terminals at the two ends belongs to such a life, as long as the directions don't begin anew in it: an event of the actors, a unit
+/// that goes out, and octets whose units are those under way, some of them lost.
+pub fn terminals_fare_so()
+    ensures { TerminalsFare }
 {}
