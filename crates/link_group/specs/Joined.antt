@@ -16,7 +16,7 @@ use Rattle.link_processes.specs.declared.commands.Command.{Command}
 use Rattle.group_changeover.specs.declared.availability.Changing.{Changing}
 use Rattle.group_changeover.specs.declared.changeover.Changeover.{Changeover}
 use Rattle.group_changeover.specs.Bound.{unbound}
-use Rattle.group_changeover.specs.Saying.{is_out, count_in, counts_in, number_in}
+use Rattle.group_changeover.specs.Saying.{is_out, count_in, counts_in, number_in, begun_by_message}
 use Rattle.group_changeover.specs.Sharing.{selection_of, link_of}
 use Rattle.group_members.specs.declared.link.Link.{Link}
 use Rattle.group_members.specs.OneLink.{held}
@@ -35,7 +35,6 @@ use Rattle.link_group.specs.Placing.{rebalanced}
 use Rattle.link_group.specs.Laws.{hand_at}
 use Rattle.link_group.specs.Lines.{ByLink, ByCommand, Alone, after_admission}
 use Rattle.link_group.specs.Ticks.{with_room, after_ticks, NoRoom}
-use Rattle.link_group.specs.Ends.{AreStatuses}
 use Rattle.link_group.specs.Along.{units_along, Arrive}
 
 -- ---- the end of a link
@@ -52,7 +51,7 @@ end_at c l = option_map end_of (slice_get c.links l)
 pub record Deed : Type 0 where
   -- messages that came to it, to be sent
   pub given : List Msu
-  -- units that went out by it, and those that came in
+  -- units that went out by it, and those that came in and went through the stores
   pub out : List Unit
   pub came : List Unit
   -- messages that it accepted of these
@@ -185,7 +184,8 @@ pub record Joined : Type 0 where
   -- the set that sends by the link, and the one that accepts
   pub near : LinkSet
   pub far : LinkSet
-  -- units under way from the one to the other, and back, what arrives first at the front
+  -- units under way from the one to the other, and back, what arrives first at the front: those
+  -- that went out since its directions began anew
   pub forth : List Unit
   pub back : List Unit
   -- what the link kept near as its directions began anew, and what `send`, `send_by` and `divert`
@@ -209,6 +209,11 @@ abbrev pub counted_in : Option Changing → Option ℕ
 counted_in None = None
 counted_in (Some c) = if is_out c then None else count_in c.answer
 
+-- whether a number that is heard in a changeover comes to count
+abbrev pub takes_number : Option Changing → Bool
+takes_number None = false
+takes_number (Some c) = counts_in c
+
 -- Of how many messages that are kept it counts in a retrieval that they are accepted: none without
 -- a number, and while messages are handed out.
 abbrev pub counted_of : Option Link → Option ℕ
@@ -228,21 +233,20 @@ abbrev pub told_behind : Option ℕ → Option ℕ → Option ℕ
 told_behind None told = told
 told_behind (Some n) told = Some n
 
--- What two sets and the lines of a link come to, call by call. As its directions begin anew, of
--- what went out before nothing but statuses is under way, and no number counts near; of those that
--- are heard near none comes to count but the one that far told. The lines may lose units and delay
--- them, and never change their order. Where far's directions begin anew before near's, its set
--- stands as it stood before that, and nothing but statuses goes out there.
+-- What two sets and the lines of a link come to, call by call. The lines may lose units and delay
+-- them, and never change their order; nothing is asked of units that don't go through the stores:
+-- those that bear a status, and all while none are taken. As its directions begin anew no number
+-- counts near; of those that are heard near none comes to count but the one that far told.
 pub data Fares (l : ℕ) : Joined → Type 0 where
   begins :
-      (c d : LinkSet) (h g : TransceiverState) (forth back : List Unit)
+      (c d : LinkSet) (h g : TransceiverState)
       → end_at c l ≡ Some h → end_at d l ≡ Some g → SendsAnew h → AcceptsAnew g
-      → AreStatuses forth → AreStatuses back → counted_at c l ≡ None
+      → counted_at c l ≡ None
       → Fares l (record {
         near = c;
         far = d;
-        forth = forth;
-        back = back;
+        forth = [];
+        back = [];
         taken = h.sender.kept;
         delivered = [];
         told = None;
@@ -271,9 +275,6 @@ pub data Fares (l : ℕ) : Joined → Type 0 where
   far_empties :
       (x : Joined) (e : LinkSet)
       → Fares l x → Empties l x.far e → Fares l (record x { far = e })
-  far_is_anew :
-      (x : Joined) (statuses : List Unit)
-      → Fares l x → AreStatuses statuses → Fares l (record x { back = x.back ++ statuses })
 
 -- What a set comes to whatever units come by the link, until its directions begin anew, and the
 -- messages that it accepts by it.
@@ -290,7 +291,8 @@ pub data Goes (l : ℕ) : LinkSet → LinkSet → List Msu → Type 0 where
 -- with the number that far told, is what the link kept as that life began, followed by what `send`
 -- and `divert` gave it in it, messages that are bound to it left out: each once, in order. The
 -- number is told while far is held, and may be heard at any time behind; where no other counts then
--- it counts. What far accepted is a beginning of that at each moment.
+-- in the changeover that goes on near, or begins by that message, it counts. What far accepted is a
+-- beginning of that at each moment.
 pub record SetsComplete : Type 0 where
   pub complete :
       (l : ℕ) (x : Joined) (k : Link) (p : ℕ) (e : LinkSet) (later : List Msu)
@@ -299,9 +301,9 @@ pub record SetsComplete : Type 0 where
       → unbound k.points x.taken
       ≡ unbound k.points (x.delivered ++ later) ++ hand_at (after_retrieve x.near l) l
   pub counts :
-      (l : ℕ) (x : Joined) (m : Changeover) (k : Link) (changing : Changing) (n : ℕ)
+      (l : ℕ) (x : Joined) (m : Changeover) (k : Link) (n : ℕ)
       → Fares l x → x.told ≡ Some n → slice_get x.near.links l ≡ Some k
-      → k.availability.changing ≡ Some changing → counts_in changing ≡ true
+      → takes_number (begun_by_message m.kind k.availability).changing ≡ true
       → k.availability.anew ≡ false
       → is_for x.near m ≡ true → m.label.sls ≡ l → number_in m.kind ≡ Some n
       → (p : ℕ) × (counted_at (after_message x.near (Some m)) l ≡ Some p)
