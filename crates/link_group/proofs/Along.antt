@@ -1,6 +1,6 @@
 -- The steps of the terminals at both ends of a link belong to a life of it.
 use Rattle.std.proofs.Common.{◌≡◌, ℕ, ◌-◌, ◌≤◌, Bool, true, false, List, [], ◌∷◌, ◌++◌, length, Option, Some, None, refl, sym, ap, ◌∙◌, subst, inl, inr, arith, append_assoc}
-use Rattle.std.specs.Prelude.{◌⊎◌, if◌then◌else◌}
+use Rattle.std.specs.Prelude.{◌⊎◌}
 use Rattle.std.specs.Option.{option_to_list}
 use Rattle.std.proofs.lemmas.List.{append-nil, length-append}
 use Rattle.plain_laws.proofs.Truths.{by_test}
@@ -17,13 +17,12 @@ use Rattle.link_transceiver.specs.Going.{gone}
 use Rattle.link_transceiver.specs.Laws.{accepted_of, acknowledged_of}
 use Rattle.link_transceiver.proofs.Acknowledging.{keeps_unacknowledged}
 use Rattle.actor_machine.specs.Ledger.{rebased}
-use Rattle.actor_machine.specs.declared.event.Event.{Event}
 use Rattle.link_processes.specs.declared.processes.Processes.{Processes}
-use Rattle.link_processes.specs.Machine.{with_book, with_transceiver, is_low, tidied, offered, unit_taken, error_taken, octets_taken, counting_told, out_measured, sent_by, sent}
+use Rattle.link_processes.specs.Machine.{with_book, with_transceiver, is_low, tidied, unit_taken, error_taken, octets_taken, counting_told, out_measured, sent_by, sent}
 use Rattle.link_processes.proofs.Keeping.{offered_keeps, unit_keeps, error_keeps, octets_keep, counting_keeps, sent_keeps}
 use Rattle.group_members.specs.Hearing.{Reads, as_unit, as_error, AreTaken, nothing, unit, errored, sixteen, Hears, silent, octet}
 use Rattle.group_members.specs.TermLaws.{accepted_read, accepted_taken, accepted_along}
-use Rattle.link_group.specs.Ends.{Ends, units_in, arrived, came_back, place_behind, Lives, near_goes, far_goes, arrives, is_lost, comes_back, is_lost_back, is_beginning}
+use Rattle.link_group.specs.Ends.{Ends, units_in, place_behind, Lives, near_goes, far_goes, arrives, is_lost, comes_back, is_lost_back, is_beginning}
 use Rattle.link_group.specs.Along.{units_read, units_taken, units_along, Arrive, none_arrives, one_lost, one_arrives, TerminalsFare}
 use Rattle.link_group.proofs.Heeding.{began_stays, begins_or_stays, fresh_begins, ends_heed}
 use Rattle.link_group.proofs.Units.{judged_began}

@@ -1,5 +1,5 @@
 -- What far accepted, and then what is retrieved with the number that it told, is what came near.
-use Rattle.std.proofs.Common.{◌≡◌, ℕ, ◌+◌, ◌-◌, ◌≤◌, Bool, true, false, List, [], ◌∷◌, ◌++◌, length, drop, Option, Some, None, nat_le, is_some, refl, sym, ap, ◌∙◌, subst, arith}
+use Rattle.std.proofs.Common.{◌≡◌, ℕ, ◌+◌, ◌-◌, ◌≤◌, Bool, true, false, List, [], ◌∷◌, ◌++◌, length, Option, Some, None, nat_le, is_some, refl, sym, ap, ◌∙◌, subst, arith}
 use Rattle.std.specs.Prelude.{if◌then◌else◌, unwrap_or}
 use Rattle.std.proofs.lemmas.Bool.{le-leb}
 use Rattle.std.proofs.lemmas.List.{append-nil, length-append}
@@ -7,7 +7,7 @@ use Rattle.resend_store.specs.declared.messages.Msu.{Msu}
 use Rattle.resend_store.specs.declared.messages.Outgoing.{Outgoing}
 use Rattle.resend_store.specs.Window.{Window, next, count_by, after_back}
 use Rattle.resend_store.specs.Intake.{Intake, hear}
-use Rattle.resend_store.specs.Runs.{on_back, is_accepted, accepted, step}
+use Rattle.resend_store.specs.Runs.{on_back, accepted, step}
 use Rattle.resend_store.specs.Exchange.{Answer, Exchange}
 use Rattle.resend_store.proofs.Sent.{next_fine}
 use Rattle.resend_store.proofs.Delivery.{none_left, none_back, one_back, Sound}
@@ -23,9 +23,9 @@ use Rattle.link_transceiver.specs.Laws.{Loses, accepted_of, acknowledged_of}
 use Rattle.link_transceiver.proofs.Acknowledging.{keeps_unacknowledged}
 use Rattle.link_transceiver.proofs.Holding.{holds_back}
 use Rattle.link_transceiver.proofs.Withholding.{withholds as stays_withheld}
-use Rattle.group_members.specs.OneLink.{count_of, count_told}
+use Rattle.group_members.specs.OneLink.{count_told}
 use Rattle.link_group.specs.Ends.{Ends, units_in, ends_anew, given, near_sends, far_sends, arrived, place_behind, came_back, Lives, begins, gets, near_goes, far_goes, arrives, is_lost, comes_back, is_lost_back, withholds, acknowledges, near_else, far_else, tells, hears, EndsComplete}
-use Rattle.link_group.proofs.Units.{outgoing_of, outgoing_in, outgoings, outgoings-append, telling_of, telling_in, telling_by, tellings, tellings-append, Goes, says_none, fills_in, gives_one, going, SameIntake, Answers, tells_none, tells_one, answering, Comes, passes_by, is_judged, ComesIn, status_comes, unit_comes, coming_in, Obeys, ignores, is_obeyed, ComesBack, status_back, unit_back, coming_back, judged_spare}
+use Rattle.link_group.proofs.Units.{outgoing_of, outgoing_in, outgoings, outgoings-append, telling_of, telling_in, telling_by, tellings, tellings-append, says_none, fills_in, gives_one, going, SameIntake, tells_none, tells_one, answering, Comes, passes_by, is_judged, status_comes, unit_comes, coming_in, Obeys, ignores, is_obeyed, status_back, unit_back, coming_back, judged_spare}
 use Rattle.link_group.proofs.Sounding.{sound_given, sound_sent, sound_filled, sound_arrived, sound_lost, sound_came_back, sound_lost_back, sound_answered, sound_front, sound_again, sound_place, sound_few, sound_sizes, sound_whole, sound_in_order}
 
 -- ---- one direction, as the stores of both ends see it

@@ -1,5 +1,5 @@
 -- What a link handed out stays its own, whatever is done to a set, until it is diverted.
-use Rattle.std.proofs.Common.{◌≡◌, ℕ, ◌+◌, ◌-◌, ◌^◌, ◌==◌, zero, suc, Bool, true, List, [], ◌∷◌, ◌++◌, Option, Some, None, length, map, slice_set, refl, sym, ap, ◌∙◌, subst, inl, inr}
+use Rattle.std.proofs.Common.{◌≡◌, ℕ, ◌+◌, ◌-◌, ◌^◌, ◌==◌, zero, suc, Bool, true, List, [], Option, Some, None, length, map, slice_set, refl, sym, ap, ◌∙◌, subst, inl, inr}
 use Rattle.std.specs.Prelude.{min, slice_get, option_map}
 use Rattle.std.proofs.lemmas.Option.{slice_get-map}
 use Rattle.plain_laws.proofs.Truths.{by_test}

@@ -1,16 +1,14 @@
 -- What a diversion comes to, and why it went no further.
-use Rattle.std.proofs.Common.{◌≡◌, ℕ, ◌<◌, ◌≤◌, Bool, true, false, List, Option, Some, None, length, map, refl, sym, ap, ◌∙◌}
-use Rattle.std.specs.Prelude.{if◌then◌else◌, slice_get}
-use Rattle.std.proofs.lemmas.Option.{slice_get_past}
+use Rattle.std.proofs.Common.{◌≡◌, ℕ, List, Option, Some, None, length, map, ap, ◌∙◌}
+use Rattle.std.specs.Prelude.{slice_get}
 use Rattle.resend_store.specs.declared.messages.Msu.{Msu}
 use Rattle.group_changeover.specs.declared.errors.DivertFault.{DivertFault}
 use Rattle.group_changeover.specs.Sharing.{selections, link_of}
 use Rattle.group_members.specs.declared.link.Link.{Link}
 use Rattle.group_members.specs.Links.{change}
-use Rattle.group_members.specs.Moving.{Diversion, Diverted, division, is_out_at, hand_by, without_hand, takers, hands_over, ends_on, ends_at, keeps_at}
+use Rattle.group_members.specs.Moving.{Diversion, Diverted, division, takers, hands_over, ends_on, ends_at, keeps_at}
 use Rattle.link_group.specs.declared.ending.DivertError.TheVariants as error
-use Rattle.link_group.specs.Set.{LinkSet}
-use Rattle.link_group.specs.Diverting.{diverted, settled_by, settled, emptied, left_by, left_fault, divert_fault_by, divert_fault, after_hand, after_divert}
+use Rattle.link_group.specs.Diverting.{diverted, settled_by, settled, left_by, left_fault}
 
 -- ---- of messages that were taken out
 
@@ -39,38 +37,3 @@ settled_part ks links ts table l ms d f is fault links_are table_is =
     let same : settled_by (takers l ks) l d (Some f) ≡ settled ks ts l ms =
     ap (λ (x : Diversion). settled_by (takers l ks) l x (Some f)) is ∙ ap (settled_by (takers l ks) l (diverted ks ts l ms).at) fault in
     (links_are ∙ ap (λ (x : Diversion). x.links) same, table_is ∙ ap (λ (x : Diversion). x.table) same)
-
--- ---- of a set
-
--- K1 past the last link
-pub fault_past : (c : LinkSet) (l : ℕ) → length c.links ≤ l → Some error.NoLink ≡ divert_fault c l
-unfolding divert_fault
-fault_past c l past = sym (ap (divert_fault_by c l) (slice_get_past c.links l past))
-
-waits_by : (c : LinkSet) (l : ℕ) (o : Option Link) → (o ≡ None → ⊥) → is_out_at o ≡ false → divert_fault_by c l o ≡ Some error.Waiting
-waits_by c l None there e = absurd (there refl)
-waits_by c l (Some k) there e = ap (λ (b : Bool). if b then left_fault (diverted (emptied c l).links c.table l k.hand) else Some error.Waiting) e
-
--- K2 where nothing is handed out
-pub fault_waits : (c : LinkSet) (l : ℕ) → (slice_get c.links l ≡ None → ⊥) → is_out_at (slice_get c.links l) ≡ false → Some error.Waiting ≡ divert_fault c l
-unfolding divert_fault
-fault_waits c l there e = sym (waits_by c l (slice_get c.links l) there e)
-
-left_at : (c : LinkSet) (l : ℕ) (o : Option Link) → is_out_at o ≡ true → divert_fault_by c l o ≡ left_fault (diverted (emptied c l).links c.table l (hand_by o))
-left_at c l None e = let f : false ≡ true = e in cc
-left_at c l (Some k) e = ap (λ (b : Bool). if b then left_fault (diverted (emptied c l).links c.table l k.hand) else Some error.Waiting) e
-
--- else what the diversion says
-pub fault_left : (c : LinkSet) (l : ℕ) (mid : List Link) (ms : List Msu) → is_out_at (slice_get c.links l) ≡ true → mid ≡ change c.links l without_hand → ms ≡ hand_by (slice_get c.links l)
-    → left_fault (diverted mid c.table l ms) ≡ divert_fault c l
-unfolding divert_fault
-fault_left c l mid ms out is messages = rw (is, messages) (sym (left_at c l (slice_get c.links l) out))
-
--- ---- a set where nothing is handed out
-
-pub none_past : (c : LinkSet) (l : ℕ) → length c.links ≤ l → is_out_at (slice_get c.links l) ≡ false
-none_past c l past = ap is_out_at (slice_get_past c.links l past)
-
-pub stays : (c d : LinkSet) (l : ℕ) → is_out_at (slice_get c.links l) ≡ false → d ≡ c → d ≡ after_divert c l
-unfolding after_divert
-stays c d l none same = same ∙ sym (ap (λ (b : Bool). if b then after_hand c l else c) none)

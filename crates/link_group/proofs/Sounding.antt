@@ -1,13 +1,12 @@
 -- One direction of a link, a step at a time.
-use Rattle.std.proofs.Common.{◌≡◌, ℕ, ◌+◌, ◌-◌, ◌%◌, ◌<◌, ◌≤◌, zero, suc, max, min, List, [], ◌∷◌, ◌++◌, length, take, drop, Option, None, Some, refl, ap, sym, ◌∙◌, subst, arith, le_refl}
+use Rattle.std.proofs.Common.{◌≡◌, ℕ, ◌+◌, ◌-◌, ◌<◌, ◌≤◌, zero, suc, max, List, [], ◌∷◌, ◌++◌, length, take, drop, None, refl, ap, sym, ◌∙◌, subst, arith, le_refl}
 use Rattle.std.specs.Prelude.{slice_get}
-use Rattle.std.proofs.lemmas.List.{append-nil, drop-drop, drop-append-le, take-append-le, length-drop, length-take-le, length-append, take-append-drop}
+use Rattle.std.proofs.lemmas.List.{drop-drop, drop-append-le, take-append-le, length-drop, length-take-le, length-append, take-append-drop}
 use Rattle.resend_store.specs.declared.messages.Msu.{Msu}
 use Rattle.resend_store.specs.declared.messages.Outgoing.{Outgoing}
-use Rattle.resend_store.specs.Window.{Window, count_by}
+use Rattle.resend_store.specs.Window.{count_by}
 use Rattle.resend_store.specs.Runs.{on_back, step}
 use Rattle.resend_store.specs.Exchange.{Answer, Exchange, answers, sends, arrives, is_lost, comes_back, is_lost_back, hears, first_arrives, first_is_lost, first_comes_back, first_is_lost_back, exchange_step}
-use Rattle.resend_store.proofs.Sent.{Fine}
 use Rattle.resend_store.proofs.Delivery.{Flight, none_left, idle, loaded, Backs, none_back, one_back, backs_le, Sound, sound_run, count_exact}
 
 -- ---- units under way

@@ -1,6 +1,6 @@
 -- What units that go out and units that come make of what one direction of a link rests on.
 use Rattle.std.proofs.Common.{◌≡◌, ℕ, ◌≤◌, ◌&&◌, Bool, true, false, not, List, [], ◌∷◌, ◌++◌, Option, Some, None, Result, Ok, Err, nat_lt, nat_le, is_some, refl, sym, ap, ◌∙◌, subst, append_assoc}
-use Rattle.std.specs.Prelude.{if◌then◌else◌, unwrap_or}
+use Rattle.std.specs.Prelude.{if◌then◌else◌}
 use Rattle.std.specs.Option.{option_to_list}
 use Rattle.std.proofs.lemmas.Bool.{ltb-false}
 use Rattle.plain_laws.proofs.Truths.{by_test}
@@ -21,7 +21,6 @@ use Rattle.link_transceiver.specs.declared.signals.LineKind.{LineKind}
 use Rattle.link_transceiver.specs.declared.signals.LineKind.TheVariants as kind
 use Rattle.link_transceiver.specs.Limits.{BUSY_CODE}
 use Rattle.link_transceiver.specs.TransceiverState.{TransceiverState, is_held}
-use Rattle.link_transceiver.specs.Effects.{backward_of}
 use Rattle.link_transceiver.specs.Judging.{Judged, judged, by_stores, through, left_aside, Stored, stored, refused, taken, heard, discarded, bsn_heeded, head_heeded, acknowledged, hears, accepts, hearing, is_abnormal}
 use Rattle.link_transceiver.specs.Going.{Gone, gone, gone_by, gives, backward_out, head_with, idle_head, filled, status_gone, fill_in_gone, sender_gone, spare_behind}
 use Rattle.link_transceiver.specs.Laws.{is_accept, accepted_of}

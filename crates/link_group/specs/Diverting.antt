@@ -1,5 +1,5 @@
 -- Diversion (Q.704): what a link handed out goes to the other links.
-use Rattle.std.specs.Prelude.{ℕ, if◌then◌else◌, List, [], length, map, Option, Some, None, slice_get}
+use Rattle.std.specs.Prelude.{ℕ, if◌then◌else◌, List, length, map, Option, Some, None, slice_get}
 use Rattle.resend_store.specs.declared.messages.Msu.{Msu}
 use Rattle.group_changeover.specs.Sharing.{selections, link_of}
 use Rattle.group_changeover.specs.declared.errors.DivertFault.{DivertFault}

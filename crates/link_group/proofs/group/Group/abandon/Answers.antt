@@ -1,4 +1,4 @@
-use Rattle.std.proofs.Common.{rules, sym, arith, ◌∙◌}
+use Rattle.std.proofs.Common.{rules, sym, arith}
 use Rattle.link_group.proofs.ByLinks.{written, few_written}
 use Rattle.link_group.proofs.Live.{live_from, live_abandoned, live_kept}
 use Rattle.link_group.proofs.group.Group.abandon.Goals as goal

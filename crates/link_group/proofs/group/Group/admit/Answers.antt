@@ -1,4 +1,4 @@
-use Rattle.std.proofs.Common.{rules, arith, ◌∙◌}
+use Rattle.std.proofs.Common.{rules, arith}
 use Rattle.link_group.proofs.ByLinks.{written, few_written}
 use Rattle.link_group.proofs.Live.{over, live_from, admitted_is, live_admitted}
 use Rattle.link_group.proofs.group.Group.admit.Goals as goal

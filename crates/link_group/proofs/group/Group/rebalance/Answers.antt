@@ -1,4 +1,4 @@
-use Rattle.std.proofs.Common.{rules, arith, ◌∙◌}
+use Rattle.std.proofs.Common.{rules, arith}
 use Rattle.link_group.proofs.ByLinks.{written, few_written}
 use Rattle.link_group.proofs.Live.{live_from, live_rebalanced}
 use Rattle.link_group.proofs.group.Group.rebalance.Goals as goal
