@@ -51,13 +51,13 @@ near_by s h (inr other) = λ e. (sym (began_stays s h other) ∙ e, λ x is r. s
 pub near_signal : (s : EnvSignal) (h : TransceiverState) → NearOn h (effect s h)
 near_signal s h = near_by s h (begins_or_stays s)
 
-abbrev FarOn : TransceiverState → TransceiverState → Type 0
+abbrev pub FarOn : TransceiverState → TransceiverState → Type 0
 FarOn h g = g.began ≡ false → (h.began ≡ false) × ((x : Ends) → x.far ≡ h → Lives x → Lives (record x { far = g }))
 
-far_same : (h : TransceiverState) → FarOn h h
+pub far_same : (h : TransceiverState) → FarOn h h
 far_same h = λ e. (e, λ x is r. subst (λ (k : TransceiverState). Lives (record x { far = k })) is r)
 
-far_joined : (a b c : TransceiverState) → FarOn a b → FarOn b c → FarOn a c
+pub far_joined : (a b c : TransceiverState) → FarOn a b → FarOn b c → FarOn a c
 far_joined a b c p q = λ e.
     let last = q e in
     let first = p last.0 in
@@ -67,7 +67,7 @@ far_by : (s : EnvSignal) (h : TransceiverState) → (s ≡ signal.Fresh) ⊎ (is
 far_by s h (inl is) = λ e. absurd (fresh_absurd s h is e)
 far_by s h (inr other) = λ e. (sym (began_stays s h other) ∙ e, λ x is r. subst (λ (k : TransceiverState). Lives (record x { far = effect s k })) is (ends_heed.far_told x s other r))
 
-far_signal : (s : EnvSignal) (h : TransceiverState) → FarOn h (effect s h)
+pub far_signal : (s : EnvSignal) (h : TransceiverState) → FarOn h (effect s h)
 far_signal s h = far_by s h (begins_or_stays s)
 
 -- what is kept to send stays by each signal
@@ -91,18 +91,18 @@ tidied_same t = by_test (λ (u : Processes). u.transceiver ≡ t.transceiver) (i
 
 -- ---- no beginning behind is none before
 
-read_began : (octets : List ℕ) (t u : Processes) → Reads octets t u → u.transceiver.began ≡ false → t.transceiver.began ≡ false
+pub read_began : (octets : List ℕ) (t u : Processes) → Reads octets t u → u.transceiver.began ≡ false → t.transceiver.began ≡ false
 read_began _ _ _ (as_unit octets x t frame) e = sym (judged_began t.transceiver x) ∙ (unit_keeps NearOn near_same near_joined near_signal x t e).0
 read_began _ _ _ (as_error octets t none) e = (error_keeps NearOn near_same near_joined near_signal t e).0
 
-taken_began : (events : List LineEvent) (t v : Processes) → AreTaken events t v → v.transceiver.began ≡ false → t.transceiver.began ≡ false
+pub taken_began : (events : List LineEvent) (t v : Processes) → AreTaken events t v → v.transceiver.began ≡ false → t.transceiver.began ≡ false
 taken_began _ _ _ (nothing t) e = e
 taken_began _ _ _ (unit octets left t u v read taken) e =
     (counting_keeps NearOn near_same near_joined near_signal false t (read_began octets (counting_told false t) u read (taken_began left u v taken e))).0
 taken_began _ _ _ (errored left t v taken) e = (error_keeps NearOn near_same near_joined near_signal t (taken_began left (error_taken t) v taken e)).0
 taken_began _ _ _ (sixteen left t v taken) e = (octets_keep NearOn near_same near_joined near_signal t (taken_began left (octets_taken t) v taken e)).0
 
-along_began : (bits : List Bool) (all now : List LineEvent) (t v : Processes) (octets : List ℕ) → Hears bits all t octets now v → v.transceiver.began ≡ false → t.transceiver.began ≡ false
+pub along_began : (bits : List Bool) (all now : List LineEvent) (t v : Processes) (octets : List ℕ) → Hears bits all t octets now v → v.transceiver.began ≡ false → t.transceiver.began ≡ false
 along_began _ _ _ _ _ _ (silent bits all t) e = e
 along_began _ _ _ _ _ _ (octet bits all given t u v first octets now on room are taken counts hears) e =
     ap (λ (h : TransceiverState). h.began) (sym (tidied_same t))
@@ -124,11 +124,11 @@ arrive_split_by (v ∷ vs) more _ ws _ (one_arrives {u = w} {us = rest} {vs = le
 arrive_split : (vs more us ws : List Unit) → Arrive (vs ++ more) us ws → (mid : List Unit) × Arrive vs us mid × Arrive more mid ws
 arrive_split vs more us ws a = arrive_split_by vs more us ws (vs ++ more) a refl
 
-lose_back : (x : Ends) (us ws : List Unit) → x.back ≡ us → Arrive [] us ws → Lives x → Lives (record x { back = ws })
+pub lose_back : (x : Ends) (us ws : List Unit) → x.back ≡ us → Arrive [] us ws → Lives x → Lives (record x { back = ws })
 lose_back x us ws e (none_arrives same) r = subst (λ (bs : List Unit). Lives (record x { back = bs })) (e ∙ same) r
 lose_back x us ws e (one_lost {u = u} {us = rest} a) r = lose_back (record x { back = rest }) rest ws refl a (is_lost_back x u rest r e)
 
-lose_forth : (x : Ends) (us ws : List Unit) → x.forth ≡ us → Arrive [] us ws → Lives x → Lives (record x { forth = ws })
+pub lose_forth : (x : Ends) (us ws : List Unit) → x.forth ≡ us → Arrive [] us ws → Lives x → Lives (record x { forth = ws })
 lose_forth x us ws e (none_arrives same) r = subst (λ (fs : List Unit). Lives (record x { forth = fs })) (e ∙ same) r
 lose_forth x us ws e (one_lost {u = u} {us = rest} a) r = lose_forth (record x { forth = rest }) rest ws refl a (is_lost x u rest r e)
 
@@ -264,13 +264,13 @@ near_along _ _ _ _ _ _ (octet bits all given t u v first octets now on room are 
 
 -- ---- far, along octets
 
-abbrev far_at : Ends → TransceiverState → List Unit → List Msu → Ends
+abbrev pub far_at : Ends → TransceiverState → List Unit → List Msu → Ends
 far_at x v rest ms = record x { far = v; forth = rest; delivered = x.delivered ++ ms }
 
-far_further : (x : Ends) (u v : TransceiverState) (mid rest : List Unit) (ms ns : List Msu) → Lives (far_at (far_at x u mid ms) v rest ns) → Lives (far_at x v rest (ms ++ ns))
+pub far_further : (x : Ends) (u v : TransceiverState) (mid rest : List Unit) (ms ns : List Msu) → Lives (far_at (far_at x u mid ms) v rest ns) → Lives (far_at x v rest (ms ++ ns))
 far_further x u v mid rest ms ns r = subst (λ (xs : List Msu). Lives (record x { far = v; forth = rest; delivered = xs })) (append_assoc x.delivered ms ns) r
 
-far_signals : (x : Ends) (h g : TransceiverState) → x.far ≡ h → FarOn h g → g.began ≡ false → Lives x → Lives (far_at x g x.forth [])
+pub far_signals : (x : Ends) (h g : TransceiverState) → x.far ≡ h → FarOn h g → g.began ≡ false → Lives x → Lives (far_at x g x.forth [])
 far_signals x h g is on e r = subst (λ (xs : List Msu). Lives (record x { far = g; delivered = xs })) (sym (append-nil x.delivered)) ((on e).1 x is r)
 
 far_waits : (x : Ends) (h : TransceiverState) (rest : List Unit) → x.far ≡ h → Arrive [] x.forth rest → Lives x → Lives (far_at x h rest [])

@@ -25,7 +25,7 @@ use Rattle.link_transceiver.specs.Judging.{Judged, judged, by_stores, through, l
 use Rattle.link_transceiver.specs.Going.{Gone, gone, gone_by, gives, backward_out, head_with, idle_head, filled, status_gone, fill_in_gone, sender_gone, spare_behind}
 use Rattle.link_transceiver.specs.Laws.{is_accept, accepted_of}
 use Rattle.link_transceiver.proofs.Aside.{none_accepted, known_aside}
-use Rattle.link_group.specs.Ends.{units_in}
+use Rattle.link_group.specs.Ends.{units_in, AreStatuses}
 
 -- ---- units as the stores see them
 
@@ -62,6 +62,19 @@ pub tellings-append : (us vs : List Unit) → tellings (us ++ vs) ≡ tellings u
 tellings-append [] vs = refl
 tellings-append (u ∷ us) vs =
     ap (λ (xs : List Answer). telling_in u ++ xs) (tellings-append us vs) ∙ sym (append_assoc (telling_in u) (tellings us) (tellings vs))
+
+-- statuses are nothing to the stores
+pub no_outgoings : (us : List Unit) → AreStatuses us → outgoings us ≡ []
+no_outgoings [] a = refl
+no_outgoings (unit.Lssu head status second ∷ us) a = no_outgoings us a
+no_outgoings (unit.Fisu head ∷ us) a = absurd a
+no_outgoings (unit.Msu head sio sif ∷ us) a = absurd a
+
+pub no_tellings : (us : List Unit) → AreStatuses us → tellings us ≡ []
+no_tellings [] a = refl
+no_tellings (unit.Lssu head status second ∷ us) a = no_tellings us a
+no_tellings (unit.Fisu head ∷ us) a = absurd a
+no_tellings (unit.Msu head sio sif ∷ us) a = absurd a
 
 -- ---- units that go out: what is kept to send
 

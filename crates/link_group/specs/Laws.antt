@@ -32,6 +32,8 @@ places_of c accepted gone = record {
 }
 
 -- Each message that was accepted stands in one place, or has left, in order for each selection.
+-- What left as octets were heard is what their units acknowledged, as that link's terminal says of
+-- them; what left otherwise is what the far side told of, or unsure.
 abbrev pub EachInOnePlace : Type 0
 EachInOnePlace =
     (c : LinkSet) (accepted : List Msu) (gone : List Gone)
@@ -47,8 +49,8 @@ UnsureAreCounted =
     (c : LinkSet) (accepted : List Msu) (gone : List Gone)
     → Reached c accepted gone → c.unsure ≡ min (2 ^ 64 - 1) (unsure_in gone)
 
--- Both of one set: what `send` took, what of that has left, and that the rest stands in its one
--- place, with how many are unsure.
+-- Both of one set: there is a list of calls that leads to it, with what `send` took in it and what
+-- of that has left, and the rest stands in its one place; and how many are unsure.
 pub record Accounted (c : LinkSet) : Type 0 where
   pub accepted : List Msu
   pub gone : List Gone

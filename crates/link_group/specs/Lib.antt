@@ -2,6 +2,7 @@ pub mod Along
 pub mod Changing
 pub mod Diverting
 pub mod Ends
+pub mod Joined
 pub mod Laws
 pub mod Lines
 pub mod New

@@ -60,10 +60,11 @@ pub(crate) fn sif_of(own: u16, peer: u16, link: usize, kind: Kind) -> Sif
 }
 
 impl Group {
-    /// What holds of every set, whatever calls made it what it is. Each message that [`Group::send`] took has left, acknowledged or unsure, or stands in
-    /// one place: with the link of its selection, or among those that this link handed out, in the order in which `send` took them; nothing of a
-    /// selection stands elsewhere, and a link that handed out messages holds none. `unsure` is how many of those that have left are unsure, up
-    /// to its greatest value. The call costs nothing.
+    /// What holds of every set. There is a list of calls that leads to it from a new one. Each message that [`Group::send`] took in these has left,
+    /// acknowledged or unsure, or stands in one place: with the link of its selection, or among those that this link handed out, in the order in
+    /// which `send` took them; nothing of a selection stands elsewhere, and a link that handed out messages holds none. `unsure` is how many of
+    /// those that have left are unsure, up to its greatest value. [`each_message_stands_in_one_place`] says so of every such list, so of the calls
+    /// that were made, each by its own contract. The call costs nothing.
     pub fn law(&self)
         ensures { ∥ Accounted self.now ∥₁ }
     {

@@ -1,6 +1,7 @@
 //! Laws of link sets. The calls cost nothing.
 ghost use Rattle.link_group.specs.Along.{TerminalsFare};
 ghost use Rattle.link_group.specs.Ends.{EndsComplete, EndsHeed};
+ghost use Rattle.link_group.specs.Joined.{SetsComplete};
 ghost use Rattle.link_group.specs.Laws.{EachInOnePlace, UnsureAreCounted};
 
 use group_changeover::steps_keep_places;
@@ -39,4 +40,12 @@ pub fn ends_heed_all_else()
 /// that goes out, and octets whose units are those under way, some of them lost.
 pub fn terminals_fare_so()
     ensures { TerminalsFare }
+{}
+
+/// Two sets that the lines of a link join, call by call, over one life of that link, from a beginning of both its directions on: what the far set
+/// accepts by it until they begin anew, and then what the near one hands out with the number that the far one told while it held the link, is what
+/// the link kept as that life began, and then what `send` and `divert` gave it, messages that are bound to it left out: each once, in order. The near
+/// end neither begins anew nor is cleared before its messages are handed out. The lines may lose units and delay them, and never change their order.
+pub fn sets_complete_each_life()
+    ensures { SetsComplete }
 {}

@@ -22,7 +22,7 @@ pub use group_members::{
 };
 pub use laws::{
     each_message_stands_in_one_place, ends_heed_all_else, retrieval_completes_each_life,
-    terminals_fare_so, unsure_messages_are_counted,
+    sets_complete_each_life, terminals_fare_so, unsure_messages_are_counted,
 };
 pub use sending::Heard;
 pub use state::LinkState;

@@ -60,7 +60,8 @@ impl Group {
         hand_of(self.links.as_slice(), link)
     }
 
-    /// How many of these there are of each selection.
+    /// How many of these there are of each selection, as they were counted when the link handed them out, and anew when a diversion left some
+    /// ([`Group::retrieve`], [`Group::abandon`], [`Group::divert`]).
     pub fn hand_counts(&self, link: usize) -> Option<Counts>
         ensures { result ≡ retrieval_of (slice_get self.now.links link) }
     {
