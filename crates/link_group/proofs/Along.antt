@@ -1,31 +1,28 @@
 -- The steps of the terminals at both ends of a link belong to a life of it.
 use Rattle.std.proofs.Common.{◌≡◌, ℕ, ◌-◌, ◌≤◌, Bool, true, false, List, [], ◌∷◌, ◌++◌, length, Option, Some, None, refl, sym, ap, ◌∙◌, subst, inl, inr, arith, append_assoc}
 use Rattle.std.specs.Prelude.{◌⊎◌}
-use Rattle.std.specs.Option.{option_to_list}
 use Rattle.std.proofs.lemmas.List.{append-nil, length-append}
 use Rattle.plain_laws.proofs.Truths.{by_test}
 use Rattle.resend_store.specs.declared.messages.Msu.{Msu}
 use Rattle.bit_line.specs.declared.events.LineEvent.{LineEvent}
 use Rattle.su_octets.specs.declared.units.Unit.{Unit}
-use Rattle.link_transceiver.specs.declared.offers.UnitOut.{UnitOut}
 use Rattle.link_transceiver.specs.declared.signals.EnvSignal.{EnvSignal}
 use Rattle.link_transceiver.specs.declared.signals.EnvSignal.TheVariants as signal
 use Rattle.link_transceiver.specs.TransceiverState.{TransceiverState}
 use Rattle.link_transceiver.specs.Effects.{effect}
 use Rattle.link_transceiver.specs.Judging.{judged}
-use Rattle.link_transceiver.specs.Going.{gone}
 use Rattle.link_transceiver.specs.Laws.{accepted_of, acknowledged_of}
 use Rattle.link_transceiver.proofs.Acknowledging.{keeps_unacknowledged}
 use Rattle.actor_machine.specs.Ledger.{rebased}
 use Rattle.link_processes.specs.declared.processes.Processes.{Processes}
-use Rattle.link_processes.specs.Machine.{with_book, with_transceiver, is_low, tidied, unit_taken, error_taken, octets_taken, counting_told, out_measured, sent_by, sent}
-use Rattle.link_processes.proofs.Keeping.{offered_keeps, unit_keeps, error_keeps, octets_keep, counting_keeps, sent_keeps}
+use Rattle.link_processes.specs.Machine.{with_book, is_low, tidied, unit_taken, error_taken, octets_taken, counting_told}
+use Rattle.link_processes.proofs.Keeping.{unit_keeps, error_keeps, octets_keep, counting_keeps}
 use Rattle.group_members.specs.Hearing.{Reads, as_unit, as_error, AreTaken, nothing, unit, errored, sixteen, Hears, silent, octet}
 use Rattle.group_members.specs.TermLaws.{accepted_read, accepted_taken, accepted_along}
-use Rattle.link_group.specs.Ends.{Ends, units_in, place_behind, Lives, near_goes, far_goes, arrives, is_lost, comes_back, is_lost_back, is_beginning}
-use Rattle.link_group.specs.Along.{units_read, units_taken, units_along, Arrive, none_arrives, one_lost, one_arrives, TerminalsFare}
+use Rattle.link_group.specs.Ends.{Ends, place_behind, Lives, arrives, is_lost, comes_back, is_lost_back, is_beginning}
+use Rattle.link_group.specs.Along.{heeded, units_read, units_taken, units_along, Arrive, none_arrives, one_lost, one_arrives}
 use Rattle.link_group.proofs.Heeding.{began_stays, begins_or_stays, fresh_begins, ends_heed}
-use Rattle.link_group.proofs.Units.{judged_began}
+use Rattle.link_group.proofs.Units.{judged_began, Heeds, left_so, goes_through, heeding}
 
 -- ---- an end goes on by signals, none of which is a beginning
 
@@ -134,12 +131,12 @@ lose_forth x us ws e (one_lost {u = u} {us = rest} a) r = lose_forth (record x {
 
 -- ---- near, along octets
 
-abbrev near_at : Ends → TransceiverState → List Unit → Ends
+abbrev pub near_at : Ends → TransceiverState → List Unit → Ends
 near_at x v rest = record x { near = v; back = rest; place = place_behind (length x.near.sender.kept - length v.sender.kept) x.place }
 
-record NearTo (x : Ends) (v : TransceiverState) (rest : List Unit) : Type 0 where
-  less : length v.sender.kept ≤ length x.near.sender.kept
-  lives : Lives (near_at x v rest)
+pub record NearTo (x : Ends) (v : TransceiverState) (rest : List Unit) : Type 0 where
+  pub less : length v.sender.kept ≤ length x.near.sender.kept
+  pub lives : Lives (near_at x v rest)
 
 behind_none : (n m : ℕ) (o : Option ℕ) → n ≡ m → place_behind (n - m) o ≡ o
 behind_none n m None e = refl
@@ -209,9 +206,22 @@ near_unit x u t _ _ ws one e (one_arrives {u = w} {us = rest} {vs = left} same a
     let none : left ≡ [] = cc in
     near_judged_unit x u t rest ws (e ∙ ap (λ (v : Unit). v ∷ rest) (sym same ∙ first)) (subst (λ (xs : List Unit). Arrive xs rest ws) none a) is began r
 
+near_aside : (x : Ends) (u : Unit) (t : Processes) (ws : List Unit) → x.near ≡ t.transceiver → (judged t.transceiver u).transceiver ≡ t.transceiver → Arrive [] x.back ws
+    → (unit_taken u t).transceiver.began ≡ false → Lives x → NearTo x (unit_taken u t).transceiver ws
+near_aside x u t ws is same a began r =
+    let v : TransceiverState = (unit_taken u t).transceiver in
+    let one : NearTo x v x.back =
+    near_signals x (judged t.transceiver u).transceiver v (is ∙ sym same) (unit_keeps NearOn near_same near_joined near_signal u t) (unit_keeps SameKept kept_same kept_joined kept_signal u t) began r in
+    near_further x v v x.back ws one (near_waits (near_at x v x.back) v ws refl a one.lives)
+
+near_heeded : (x : Ends) (u : Unit) (t : Processes) (ws : List Unit) → x.near ≡ t.transceiver → (unit_taken u t).transceiver.began ≡ false → Arrive (heeded t.transceiver u) x.back ws → Lives x
+    → Heeds t.transceiver u → NearTo x (unit_taken u t).transceiver ws
+near_heeded x u t ws is began a r (left_so none same nothing_more) = near_aside x u t ws is same (subst (λ (vs : List Unit). Arrive vs x.back ws) none a) began r
+near_heeded x u t ws is began a r (goes_through one) = near_unit x u t (heeded t.transceiver u) x.back ws one refl a is began r
+
 near_read : (octets : List ℕ) (t u : Processes) (read : Reads octets t u) (x : Ends) (ws : List Unit) → x.near ≡ t.transceiver → u.transceiver.began ≡ false
     → Arrive (units_read read) x.back ws → Lives x → NearTo x u.transceiver ws
-near_read _ _ _ (as_unit octets v t frame) x ws is began a r = near_unit x v t (v ∷ []) x.back ws refl refl a is began r
+near_read _ _ _ (as_unit octets v t frame) x ws is began a r = near_heeded x v t ws is began a r (heeding t.transceiver v)
 near_read _ _ _ (as_error octets t none) x ws is began a r =
     let one : NearTo x (error_taken t).transceiver x.back =
     near_signals x t.transceiver (error_taken t).transceiver is (error_keeps NearOn near_same near_joined near_signal t) (error_keeps SameKept kept_same kept_joined kept_signal t) began r in
@@ -246,7 +256,7 @@ near_taken _ _ _ (sixteen left t v taken) x ws is began a r =
     near_further x (octets_taken t).transceiver v.transceiver x.back ws one
     (near_taken left (octets_taken t) v taken (near_at x (octets_taken t).transceiver x.back) ws refl began a one.lives)
 
-near_along : (bits : List Bool) (all now : List LineEvent) (t v : Processes) (octets : List ℕ) (h : Hears bits all t octets now v) (x : Ends) (ws : List Unit) → x.near ≡ t.transceiver
+pub near_along : (bits : List Bool) (all now : List LineEvent) (t v : Processes) (octets : List ℕ) (h : Hears bits all t octets now v) (x : Ends) (ws : List Unit) → x.near ≡ t.transceiver
     → v.transceiver.began ≡ false → Arrive (units_along h) x.back ws → Lives x → NearTo x v.transceiver ws
 near_along _ _ _ _ _ _ (silent bits all t) x ws is began a r = near_waits x t.transceiver ws is a r
 near_along _ _ _ _ _ _ (octet bits all given t u v first octets now on room are taken counts hears) x ws is began a r =
@@ -297,9 +307,21 @@ far_unit x u t _ _ ws one e (one_arrives {u = w} {us = rest} {vs = left} same a)
     let none : left ≡ [] = cc in
     far_judged_unit x u t rest ws (e ∙ ap (λ (v : Unit). v ∷ rest) (sym same ∙ first)) (subst (λ (xs : List Unit). Arrive xs rest ws) none a) is began r
 
+far_aside : (x : Ends) (u : Unit) (t : Processes) (ws : List Unit) → x.far ≡ t.transceiver → (judged t.transceiver u).transceiver ≡ t.transceiver → accepted_of t.transceiver u ≡ []
+    → Arrive [] x.forth ws → (unit_taken u t).transceiver.began ≡ false → Lives x → Lives (far_at x (unit_taken u t).transceiver ws (accepted_of t.transceiver u))
+far_aside x u t ws is same none a began r =
+    let v : TransceiverState = (unit_taken u t).transceiver in
+    let one : Lives (far_at x v x.forth []) = far_signals x (judged t.transceiver u).transceiver v (is ∙ sym same) (unit_keeps FarOn far_same far_joined far_signal u t) began r in
+    subst (λ (ms : List Msu). Lives (far_at x v ws ms)) (sym none) (far_further x v v x.forth ws [] [] (far_waits (far_at x v x.forth []) v ws refl a one))
+
+far_heeded : (x : Ends) (u : Unit) (t : Processes) (ws : List Unit) → x.far ≡ t.transceiver → (unit_taken u t).transceiver.began ≡ false → Arrive (heeded t.transceiver u) x.forth ws → Lives x
+    → Heeds t.transceiver u → Lives (far_at x (unit_taken u t).transceiver ws (accepted_of t.transceiver u))
+far_heeded x u t ws is began a r (left_so none same accepts) = far_aside x u t ws is same accepts (subst (λ (vs : List Unit). Arrive vs x.forth ws) none a) began r
+far_heeded x u t ws is began a r (goes_through one) = far_unit x u t (heeded t.transceiver u) x.forth ws one refl a is began r
+
 far_read : (octets : List ℕ) (t u : Processes) (read : Reads octets t u) (x : Ends) (ws : List Unit) → x.far ≡ t.transceiver → u.transceiver.began ≡ false
     → Arrive (units_read read) x.forth ws → Lives x → Lives (far_at x u.transceiver ws (accepted_read read))
-far_read _ _ _ (as_unit octets v t frame) x ws is began a r = far_unit x v t (v ∷ []) x.forth ws refl refl a is began r
+far_read _ _ _ (as_unit octets v t frame) x ws is began a r = far_heeded x v t ws is began a r (heeding t.transceiver v)
 far_read _ _ _ (as_error octets t none) x ws is began a r =
     far_further x (error_taken t).transceiver (error_taken t).transceiver x.forth ws [] []
     (far_waits (far_at x (error_taken t).transceiver x.forth []) (error_taken t).transceiver ws refl a
@@ -329,7 +351,7 @@ far_taken _ _ _ (sixteen left t v taken) x ws is began a r =
     far_signals x t.transceiver (octets_taken t).transceiver is (octets_keep FarOn far_same far_joined far_signal t) (taken_began left (octets_taken t) v taken began) r in
     far_further x (octets_taken t).transceiver v.transceiver x.forth ws [] (accepted_taken taken) (far_taken left (octets_taken t) v taken y ws refl began a one)
 
-far_along : (bits : List Bool) (all now : List LineEvent) (t v : Processes) (octets : List ℕ) (h : Hears bits all t octets now v) (x : Ends) (ws : List Unit) → x.far ≡ t.transceiver
+pub far_along : (bits : List Bool) (all now : List LineEvent) (t v : Processes) (octets : List ℕ) (h : Hears bits all t octets now v) (x : Ends) (ws : List Unit) → x.far ≡ t.transceiver
     → v.transceiver.began ≡ false → Arrive (units_along h) x.forth ws → Lives x → Lives (far_at x v.transceiver ws (accepted_along h))
 far_along _ _ _ _ _ _ (silent bits all t) x ws is began a r = far_waits x t.transceiver ws is a r
 far_along _ _ _ _ _ _ (octet bits all given t u v first octets now on room are taken counts hears) x ws is began a r =
@@ -343,41 +365,3 @@ far_along _ _ _ _ _ _ (octet bits all given t u v first octets now on room are t
     let two : Lives z = far_signals y u.transceiver w.transceiver refl (counting_keeps FarOn far_same far_joined far_signal on u) behind one in
     far_further x u.transceiver v.transceiver s.0 ws (accepted_taken taken) (accepted_along hears)
     (far_further y w.transceiver v.transceiver s.0 ws [] (accepted_along hears) (far_along _ _ now w v octets hears z ws refl began s.2 two))
-
--- ---- units that go out
-
-unit_of : (t : Processes) (o : Option UnitOut) → units_in o ≡ option_to_list (sent_by t o).unit
-unit_of t None = refl
-unit_of t (Some out) = refl
-
-sent_unit : (t : Processes) → units_in (gone t.transceiver).out ≡ option_to_list (sent t).unit
-unfolding sent
-sent_unit t = unit_of (with_transceiver (out_measured t) (gone t.transceiver).transceiver) (gone t.transceiver).out
-
-near_sent : (x : Ends) (t : Processes) → x.near ≡ t.transceiver → (sent t).processes.transceiver.began ≡ false → Lives x
-    → Lives (record x { near = (sent t).processes.transceiver; forth = x.forth ++ option_to_list (sent t).unit })
-near_sent x t is began r =
-    let h : TransceiverState = (sent t).processes.transceiver in
-    let went : Lives (record x { near = h; forth = x.forth ++ units_in (gone x.near).out }) =
-    (sent_keeps NearOn near_same near_joined near_signal t began).1 (record x { near = (gone x.near).transceiver; forth = x.forth ++ units_in (gone x.near).out })
-    (ap (λ (k : TransceiverState). (gone k).transceiver) is) (near_goes x r) in
-    subst (λ (us : List Unit). Lives (record x { near = h; forth = x.forth ++ us })) (ap (λ (k : TransceiverState). units_in (gone k).out) is ∙ sent_unit t) went
-
-far_sent : (x : Ends) (t : Processes) → x.far ≡ t.transceiver → (sent t).processes.transceiver.began ≡ false → Lives x
-    → Lives (record x { far = (sent t).processes.transceiver; back = x.back ++ option_to_list (sent t).unit })
-far_sent x t is began r =
-    let h : TransceiverState = (sent t).processes.transceiver in
-    let went : Lives (record x { far = h; back = x.back ++ units_in (gone x.far).out }) =
-    (sent_keeps FarOn far_same far_joined far_signal t began).1 (record x { far = (gone x.far).transceiver; back = x.back ++ units_in (gone x.far).out })
-    (ap (λ (k : TransceiverState). (gone k).transceiver) is) (far_goes x r) in
-    subst (λ (us : List Unit). Lives (record x { far = h; back = x.back ++ us })) (ap (λ (k : TransceiverState). units_in (gone k).out) is ∙ sent_unit t) went
-
-pub terminals_fare : TerminalsFare
-terminals_fare = record {
-  near_offered = λ x t e is began r. (offered_keeps NearOn near_same near_joined near_signal e t began).1 x is r;
-  far_offered = λ x t e is began r. (offered_keeps FarOn far_same far_joined far_signal e t began).1 x is r;
-  near_sends = near_sent;
-  far_sends = far_sent;
-  near_hears = λ bits all now t v octets h x ws is began a r. (near_along bits all now t v octets h x ws is began a r).lives;
-  far_hears = far_along;
-}

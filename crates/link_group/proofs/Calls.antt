@@ -18,7 +18,8 @@ use Rattle.link_group.specs.Lines.{ByLink, seen}
 use Rattle.link_group.specs.Ends.{Ends, Lives, place_behind, near_else, far_else}
 use Rattle.link_group.specs.Along.{units_along, Arrive}
 use Rattle.link_group.specs.Joined.{end_of, end_at}
-use Rattle.link_group.proofs.Along.{tidied_same, terminals_fare}
+use Rattle.link_group.proofs.Along.{tidied_same}
+use Rattle.link_group.proofs.Terminals.{terminals_fare}
 use Rattle.link_group.proofs.Between.{Between}
 use Rattle.link_group.proofs.Getting.{change_here, set_there}
 

@@ -31,7 +31,8 @@ use Rattle.link_group.specs.Ticks.{with_room, after_ticks}
 use Rattle.link_group.specs.Ends.{Ends, Lives, far_else, tells}
 use Rattle.link_group.specs.Along.{Arrive, none_arrives}
 use Rattle.link_group.specs.Joined.{end_of, end_at, Deed, number_of, Does, sends, binds, diverts, listens, speaks, gives, reports, commands, refuses, ticks, makes_room, lacks_room, rebalances, admits, fails, hears, by_other, Empties, retrieves, abandons, clears, told_behind}
-use Rattle.link_group.proofs.Along.{lose_forth, terminals_fare}
+use Rattle.link_group.proofs.Along.{lose_forth}
+use Rattle.link_group.proofs.Terminals.{terminals_fare}
 use Rattle.link_group.proofs.Between.{with_more, changed_end, puts_one, Between, Grows, divert_grows, kept_holds, far_fails as life_far_fails}
 use Rattle.link_group.proofs.Calls.{asked_end, end_behind, end_before, far_gives, far_hears}
 use Rattle.link_group.proofs.Getting.{change_here}

@@ -24,8 +24,8 @@ use Rattle.link_transceiver.proofs.Acknowledging.{keeps_unacknowledged}
 use Rattle.link_transceiver.proofs.Holding.{holds_back}
 use Rattle.link_transceiver.proofs.Withholding.{withholds as stays_withheld}
 use Rattle.group_members.specs.OneLink.{count_told}
-use Rattle.link_group.specs.Ends.{Ends, units_in, AreStatuses, ends_anew, given, near_sends, far_sends, arrived, place_behind, came_back, Lives, begins, gets, near_goes, far_goes, arrives, is_lost, comes_back, is_lost_back, far_is_anew, withholds, acknowledges, near_else, far_else, tells, hears, EndsComplete}
-use Rattle.link_group.proofs.Units.{no_outgoings, no_tellings, outgoing_of, outgoing_in, outgoings, outgoings-append, telling_of, telling_in, telling_by, tellings, tellings-append, says_none, fills_in, gives_one, going, SameIntake, tells_none, tells_one, answering, Comes, passes_by, is_judged, status_comes, unit_comes, coming_in, Obeys, ignores, is_obeyed, status_back, unit_back, coming_back, judged_spare}
+use Rattle.link_group.specs.Ends.{Ends, units_in, ends_anew, given, near_sends, far_sends, arrived, place_behind, came_back, Lives, begins, gets, near_goes, far_goes, arrives, is_lost, comes_back, is_lost_back, withholds, acknowledges, near_else, far_else, tells, hears, EndsComplete}
+use Rattle.link_group.proofs.Units.{outgoing_of, outgoing_in, outgoings, outgoings-append, telling_of, telling_in, telling_by, tellings, tellings-append, says_none, fills_in, gives_one, going, SameIntake, tells_none, tells_one, answering, Comes, passes_by, is_judged, status_comes, unit_comes, coming_in, Obeys, ignores, is_obeyed, status_back, unit_back, coming_back, judged_spare}
 use Rattle.link_group.proofs.Sounding.{sound_given, sound_sent, sound_filled, sound_arrived, sound_lost, sound_came_back, sound_lost_back, sound_answered, sound_front, sound_again, sound_place, sound_few, sound_sizes, sound_whole, sound_in_order}
 
 -- ---- one direction, as the stores of both ends see it
@@ -86,12 +86,10 @@ withheld_anew (Some b) w r ms kept sent first again turn last = record {
   back = one_back 0 (omega arith) refl (none_back (omega arith));
 }
 
-fares_anew : (h g : TransceiverState) (forth back : List Unit) → AreStatuses forth → AreStatuses back → Fares (ends_anew h g forth back)
+fares_anew : (h g : TransceiverState) → Fares (ends_anew h g)
 unfolding renewed
-fares_anew h g forth back ahead behind = record {
-  sound = subst (λ (us : List Outgoing). Sound (record (exchange_of (ends_anew h g forth back)) { forth = us })) (sym (no_outgoings forth ahead))
-      (subst (λ (bs : List Answer). Sound (record (exchange_of (ends_anew h g forth back)) { forth = []; back = bs ++ withheld_in (renewed_backward g.withheld) })) (sym (no_tellings back behind))
-      (withheld_anew g.withheld (renewed h).sender (renewed g).receiver (renewed h).sender.kept refl refl refl refl refl refl));
+fares_anew h g = record {
+  sound = withheld_anew g.withheld (renewed h).sender (renewed g).receiver (renewed h).sender.kept refl refl refl refl refl refl;
   spare = refl;
   told = λ n e. absurd (none_some n e);
   place = λ p e. absurd (none_some p e);
@@ -289,11 +287,6 @@ fares_lost_back : (x : Ends) (u : Unit) (us : List Unit) → x.back ≡ u ∷ us
 fares_lost_back x u us e f =
     fares_back x us (lost_answer (exchange_of x) u us (withheld_in x.far.withheld) (ap (λ (vs : List Unit). tellings vs ++ withheld_in x.far.withheld) e) f.sound) f
 
-fares_statuses : (x : Ends) (us : List Unit) → AreStatuses us → Fares x → Fares (record x { back = x.back ++ us })
-fares_statuses x us are f =
-    let same : tellings (x.back ++ us) ≡ tellings x.back = tellings-append x.back us ∙ (ap (λ (bs : List Answer). tellings x.back ++ bs) (no_tellings us are) ∙ append-nil (tellings x.back)) in
-    fares_back x (x.back ++ us) (subst (λ (bs : List Answer). Sound (record (exchange_of x) { back = bs ++ withheld_in x.far.withheld })) (sym same) f.sound) f
-
 -- ---- acknowledgement is withheld
 
 fares_withholds : (x : Ends) → Fares x → Fares (record x { far = effect (signal.Withhold true) x.far })
@@ -365,7 +358,7 @@ fares_hears x f = record {
 -- ---- every list of deeds
 
 each_fares : (x : Ends) → Lives x → Fares x
-each_fares _ (begins h g forth back f b) = fares_anew h g forth back f b
+each_fares _ (begins h g) = fares_anew h g
 each_fares _ (gets x ms r) = fares_given x ms (each_fares x r)
 each_fares _ (near_goes x r) = fares_near_sends x (each_fares x r)
 each_fares _ (far_goes x r) = fares_far_sends x (each_fares x r)
@@ -373,7 +366,6 @@ each_fares _ (arrives x u us r e) = fares_arrived x u us e (each_fares x r)
 each_fares _ (is_lost x u us r e) = fares_lost x u us e (each_fares x r)
 each_fares _ (comes_back x u us r e) = fares_came_back x u us e (each_fares x r)
 each_fares _ (is_lost_back x u us r e) = fares_lost_back x u us e (each_fares x r)
-each_fares _ (far_is_anew x us r are) = fares_statuses x us are (each_fares x r)
 each_fares _ (withholds x r) = fares_withholds x (each_fares x r)
 each_fares _ (acknowledges x r) = fares_acknowledges x (each_fares x r)
 each_fares _ (near_else x h r same spare) = fares_near_else x h same spare (each_fares x r)

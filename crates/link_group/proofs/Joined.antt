@@ -3,7 +3,6 @@ use Rattle.std.proofs.Common.{◌≡◌, ℕ, Bool, true, false, List, [], ◌++
 use Rattle.std.specs.Prelude.{if◌then◌else◌, slice_get, option_map}
 use Rattle.plain_laws.proofs.Options.{none_some}
 use Rattle.resend_store.specs.declared.messages.Msu.{Msu}
-use Rattle.su_octets.specs.declared.units.Unit.{Unit}
 use Rattle.link_transceiver.specs.declared.signals.Hold.{Hold}
 use Rattle.link_transceiver.specs.declared.signals.Hold.TheVariants as hold
 use Rattle.link_transceiver.specs.TransceiverState.{TransceiverState, is_held}
@@ -18,8 +17,8 @@ use Rattle.group_members.specs.OneLink.{count_told, lacking, accepted_in, accept
 use Rattle.link_group.specs.Set.{LinkSet}
 use Rattle.link_group.specs.Changing.{is_for, after_message, after_retrieve}
 use Rattle.link_group.specs.Laws.{hand_at}
-use Rattle.link_group.specs.Ends.{Ends, AreStatuses, ends_anew, Lives, begins as lives_anew, far_is_anew as lives_far_anew, near_else, far_else}
-use Rattle.link_group.specs.Joined.{end_of, end_at, Joined, SendsAnew, AcceptsAnew, counted_in, counted_of, takes_number, told_behind, Fares, begins, near_does, far_does, far_empties, far_is_anew, Goes, stays, does, empties, SetsComplete}
+use Rattle.link_group.specs.Ends.{Ends, ends_anew, Lives, begins as lives_anew, near_else, far_else}
+use Rattle.link_group.specs.Joined.{end_of, end_at, Joined, SendsAnew, AcceptsAnew, counted_in, counted_of, takes_number, told_behind, Fares, begins, near_does, far_does, far_empties, Goes, stays, does, empties, SetsComplete}
 use Rattle.link_group.proofs.Between.{Between, Fewer, given_out}
 use Rattle.link_group.proofs.Far.{FarDid, far_step, far_empty}
 use Rattle.link_group.proofs.Faring.{ends_complete}
@@ -46,21 +45,20 @@ held_anew hold.Free e = e
 held_anew hold.UntilAnew e = refl
 held_anew hold.Kept e = e
 
-anew_life : (h g : TransceiverState) (forth back : List Unit) → SendsAnew h → AcceptsAnew g → AreStatuses forth → AreStatuses back
-    → Lives (record { near = h; far = g; forth = forth; back = back; taken = h.sender.kept; delivered = []; told = None; place = None })
+anew_life : (h g : TransceiverState) → SendsAnew h → AcceptsAnew g → Lives (record { near = h; far = g; forth = []; back = []; taken = h.sender.kept; delivered = []; told = None; place = None })
 unfolding renewed
-anew_life h g forth back sends accepts none_forth none_back =
-    let x : Ends = ends_anew h g forth back in
-    far_else (record x { near = h }) g (near_else x h (lives_anew h g forth back none_forth none_back) sends.sender sends.spare) accepts.receiver accepts.withheld (held_anew g.hold)
+anew_life h g sends accepts =
+    let x : Ends = ends_anew h g in
+    far_else (record x { near = h }) g (near_else x h (lives_anew h g) sends.sender sends.spare) accepts.receiver accepts.withheld (held_anew g.hold)
 
 -- ---- each call goes on with it
 
 each_inside : (l : ℕ) (x : Joined) → Fares l x → Inside l x
-each_inside l _ (begins c d h g forth back near far sends accepts none_forth none_back none) = record {
+each_inside l _ (begins c d h g near far sends accepts none) = record {
   near = h;
   far = g;
   place = None;
-  between = record { life = anew_life h g forth back sends accepts none_forth none_back; near = near; far = far };
+  between = record { life = anew_life h g sends accepts; near = near; far = far };
   counts = λ p e. absurd (none_some (sym none ∙ e));
 }
 each_inside l _ (near_does x e deed rest r call a is) =
@@ -76,15 +74,6 @@ each_inside l _ (far_empties x e r call) =
     let i : Inside l x = each_inside l x r in
     let did = far_empty l x.near x.far e (ends_of x i.near i.far i.place) call i.between in
     record { near = i.near; far = did.0; place = i.place; between = did.1; counts = i.counts }
-each_inside l _ (far_is_anew x statuses r are) =
-    let i : Inside l x = each_inside l x r in
-    record {
-      near = i.near;
-      far = i.far;
-      place = i.place;
-      between = record { life = lives_far_anew (ends_of x i.near i.far i.place) statuses i.between.life are; near = i.between.near; far = i.between.far };
-      counts = i.counts;
-    }
 
 -- ---- far goes on behind the number
 

@@ -27,6 +27,7 @@ mod Shut
 mod Sounding
 mod Staying
 mod Telling
+mod Terminals
 mod Units
 mod Within
 mod Working

@@ -4,6 +4,7 @@ use Rattle.std.specs.Prelude.{if◌then◌else◌}
 use Rattle.std.specs.Option.{option_to_list}
 use Rattle.std.proofs.lemmas.Bool.{ltb-false}
 use Rattle.plain_laws.proofs.Truths.{by_test}
+use Rattle.arrayvec.specs.ArrayVec.{ArrayVec}
 use Rattle.resend_store.specs.declared.messages.Msu.{Msu}
 use Rattle.resend_store.specs.declared.messages.Outgoing.{Outgoing}
 use Rattle.resend_store.specs.declared.messages.Verdict.{Verdict}
@@ -25,7 +26,8 @@ use Rattle.link_transceiver.specs.Judging.{Judged, judged, by_stores, through, l
 use Rattle.link_transceiver.specs.Going.{Gone, gone, gone_by, gives, backward_out, head_with, idle_head, filled, status_gone, fill_in_gone, sender_gone, spare_behind}
 use Rattle.link_transceiver.specs.Laws.{is_accept, accepted_of}
 use Rattle.link_transceiver.proofs.Aside.{none_accepted, known_aside}
-use Rattle.link_group.specs.Ends.{units_in, AreStatuses}
+use Rattle.link_group.specs.Ends.{units_in}
+use Rattle.link_group.specs.Along.{heeded}
 
 -- ---- units as the stores see them
 
@@ -62,19 +64,6 @@ pub tellings-append : (us vs : List Unit) → tellings (us ++ vs) ≡ tellings u
 tellings-append [] vs = refl
 tellings-append (u ∷ us) vs =
     ap (λ (xs : List Answer). telling_in u ++ xs) (tellings-append us vs) ∙ sym (append_assoc (telling_in u) (tellings us) (tellings vs))
-
--- statuses are nothing to the stores
-pub no_outgoings : (us : List Unit) → AreStatuses us → outgoings us ≡ []
-no_outgoings [] a = refl
-no_outgoings (unit.Lssu head status second ∷ us) a = no_outgoings us a
-no_outgoings (unit.Fisu head ∷ us) a = absurd a
-no_outgoings (unit.Msu head sio sif ∷ us) a = absurd a
-
-pub no_tellings : (us : List Unit) → AreStatuses us → tellings us ≡ []
-no_tellings [] a = refl
-no_tellings (unit.Lssu head status second ∷ us) a = no_tellings us a
-no_tellings (unit.Fisu head ∷ us) a = absurd a
-no_tellings (unit.Msu head sio sif ∷ us) a = absurd a
 
 -- ---- units that go out: what is kept to send
 
@@ -354,3 +343,31 @@ unfolding judged
 judged_began h (unit.Fisu head) = by_stores_began h head None
 judged_began h (unit.Msu head sio sif) = by_stores_began h head (Some (record { sio = sio; sif = sif }))
 judged_began h (unit.Lssu head status second) = refl
+
+-- ---- units that don't go through the stores
+
+pub data Heeds (h : TransceiverState) (u : Unit) : Type 0 where
+  left_so : heeded h u ≡ [] → (judged h u).transceiver ≡ h → accepted_of h u ≡ [] → Heeds h u
+  goes_through : heeded h u ≡ u ∷ [] → Heeds h u
+
+fill_in_heeds : (h : TransceiverState) (head : Head) (take : Bool) → h.take ≡ take → Heeds h (unit.Fisu head)
+unfolding judged by_stores
+fill_in_heeds h head true e = goes_through (ap (λ (b : Bool). if◌then◌else◌ {A = List Unit} b (unit.Fisu head ∷ []) []) e)
+fill_in_heeds h head false e =
+    left_so (ap (λ (b : Bool). if◌then◌else◌ {A = List Unit} b (unit.Fisu head ∷ []) []) e)
+    (ap (λ (b : Bool). (if◌then◌else◌ {A = Judged} b (through h (heard h head None)) (left_aside 8 h)).transceiver) e) refl
+
+message_heeds : (h : TransceiverState) (head : Head) (sio : ℕ) (sif : ArrayVec ℕ) (take : Bool) → h.take ≡ take → Heeds h (unit.Msu head sio sif)
+unfolding judged by_stores
+message_heeds h head sio sif true e = goes_through (ap (λ (b : Bool). if◌then◌else◌ {A = List Unit} b (unit.Msu head sio sif ∷ []) []) e)
+message_heeds h head sio sif false e =
+    let m : Msu = record { sio = sio; sif = sif } in
+    left_so (ap (λ (b : Bool). if◌then◌else◌ {A = List Unit} b (unit.Msu head sio sif ∷ []) []) e)
+    (ap (λ (b : Bool). (if◌then◌else◌ {A = Judged} b (through h (heard h head (Some m))) (left_aside 8 h)).transceiver) e)
+    (ap (λ (b : Bool). if_accepted h head b (not h.behind_odd) m) e)
+
+pub heeding : (h : TransceiverState) (u : Unit) → Heeds h u
+unfolding judged
+heeding h (unit.Fisu head) = fill_in_heeds h head h.take refl
+heeding h (unit.Msu head sio sif) = message_heeds h head sio sif h.take refl
+heeding h (unit.Lssu head status second) = left_so refl refl refl

@@ -37,7 +37,8 @@ use Rattle.link_group.specs.Lines.{ByLink, ByCommand, all_seen}
 use Rattle.link_group.specs.Ticks.{with_room, after_ticks}
 use Rattle.link_group.specs.Ends.{Ends, Lives, near_else, far_else}
 use Rattle.link_group.specs.Joined.{end_of, end_at}
-use Rattle.link_group.proofs.Along.{NearOn, near_same, near_joined, near_signal, tidied_same, terminals_fare}
+use Rattle.link_group.proofs.Along.{NearOn, near_same, near_joined, near_signal, tidied_same}
+use Rattle.link_group.proofs.Terminals.{terminals_fare}
 use Rattle.link_group.proofs.Between.{Between}
 use Rattle.link_group.proofs.Calls.{asked_end, seen_links, asked_plain, end_behind, end_before}
 use Rattle.link_group.proofs.Getting.{change_here, set_there}

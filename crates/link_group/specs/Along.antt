@@ -1,8 +1,11 @@
 -- What the terminals at the two ends of a link do, step by step, in one life of it.
-use Rattle.std.specs.Prelude.{◌≡◌, ℕ, ◌-◌, Bool, false, List, [], ◌∷◌, ◌++◌, length}
+use Rattle.std.specs.Prelude.{◌≡◌, ℕ, ◌-◌, Bool, false, if◌then◌else◌, List, [], ◌∷◌, ◌++◌}
+use Rattle.std.specs.Prelude.{length}
 use Rattle.std.specs.Option.{option_to_list}
 use Rattle.bit_line.specs.declared.events.LineEvent.{LineEvent}
 use Rattle.su_octets.specs.declared.units.Unit.{Unit}
+use Rattle.su_octets.specs.declared.units.Unit.TheVariants as units
+use Rattle.link_transceiver.specs.TransceiverState.{TransceiverState}
 use Rattle.actor_machine.specs.declared.event.Event.{Event}
 use Rattle.link_processes.specs.declared.processes.Processes.{Processes}
 use Rattle.link_processes.specs.Machine.{offered, sent}
@@ -11,9 +14,16 @@ use Rattle.group_members.specs.Hearing.{sixteen, Hears, silent, octet}
 use Rattle.group_members.specs.TermLaws.{accepted_along}
 use Rattle.link_group.specs.Ends.{Ends, place_behind, Lives}
 
--- the units that are read along the octets of a line, in order
+-- A unit, where it goes through the stores of an end: none does that bears a status, and none while
+-- units aren't taken.
+abbrev pub heeded : TransceiverState → Unit → List Unit
+heeded h (units.Lssu head status second) = []
+heeded h (units.Fisu head) = if h.take then units.Fisu head ∷ [] else []
+heeded h (units.Msu head sio sif) = if h.take then units.Msu head sio sif ∷ [] else []
+
+-- the units that are read along the octets of a line and go through the stores, in order
 abbrev pub units_read : {octets : List ℕ} {t u : Processes} → Reads octets t u → List Unit
-units_read (as_unit octets x t frame) = x ∷ []
+units_read (as_unit octets x t frame) = heeded t.transceiver x
 units_read (as_error octets t none) = []
 
 abbrev pub units_taken :
@@ -39,8 +49,8 @@ pub data Arrive : List Unit → List Unit → List Unit → Type 0 where
       → Arrive (u ∷ vs) (v ∷ us) ws
 
 -- Each step of the terminals at the two ends belongs to a life of the link, as long as the
--- directions don't begin anew in it: an event of the actors, a unit that goes out, and octets whose
--- units are those under way.
+-- directions don't begin anew in it: an event of the actors, a unit that goes out, and octets, of
+-- whose units those that go through the stores are under way.
 pub record TerminalsFare : Type 0 where
   pub near_offered :
       (x : Ends) (t : Processes) (e : Event) → x.near ≡ t.transceiver

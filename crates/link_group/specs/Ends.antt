@@ -5,7 +5,6 @@ use Rattle.std.specs.Prelude.{◌++◌, length}
 use Rattle.resend_store.specs.declared.messages.Msu.{Msu}
 use Rattle.resend_store.specs.Window.{emptied}
 use Rattle.su_octets.specs.declared.units.Unit.{Unit}
-use Rattle.su_octets.specs.declared.units.Unit.TheVariants as unit
 use Rattle.link_transceiver.specs.declared.offers.UnitOut.{UnitOut}
 use Rattle.link_transceiver.specs.declared.signals.EnvSignal.{EnvSignal}
 use Rattle.link_transceiver.specs.declared.signals.EnvSignal.TheVariants as signal
@@ -38,20 +37,13 @@ abbrev pub units_in : Option UnitOut → List Unit
 units_in None = []
 units_in (Some out) = out.unit ∷ []
 
--- units that bear a status alone
-abbrev pub AreStatuses : List Unit → Type 0
-AreStatuses [] = Prim.Unit {0}
-AreStatuses (unit.Lssu head status second ∷ us) = AreStatuses us
-AreStatuses (unit.Fisu head ∷ us) = ⊥
-AreStatuses (unit.Msu head sio sif ∷ us) = ⊥
-
--- Both begin anew, and these are under way.
-abbrev pub ends_anew : TransceiverState → TransceiverState → List Unit → List Unit → Ends
-ends_anew h g forth back = record {
+-- Both begin anew, and nothing of before is under way.
+abbrev pub ends_anew : TransceiverState → TransceiverState → Ends
+ends_anew h g = record {
   near = renewed h;
   far = renewed g;
-  forth = forth;
-  back = back;
+  forth = [];
+  back = [];
   taken = (renewed h).sender.kept;
   delivered = [];
   told = None;
@@ -101,16 +93,13 @@ came_back u us x =
       place = place_behind (length x.near.sender.kept - length h.sender.kept) x.place;
     }
 
--- What the two ends come to over a list of deeds. As both begin anew, of what went out before
--- nothing but statuses is under way. A line may lose units and delay them, and never changes their
--- order. Whatever else is done near, as long as it leaves what is kept to send: its
+-- What the two ends come to over a list of deeds. A line may lose units and delay them, and never
+-- changes their order. Whatever else is done near, as long as it leaves what is kept to send: its
 -- actors may tell it anything but to begin anew, and level 3 may hold it. Whatever else is done at
 -- far, as long as it leaves what is known of the messages that come: its own messages may come, go
 -- and be cleared. Once level 3 holds far it does so until the directions begin anew.
 pub data Lives : Ends → Type 0 where
-  begins :
-      (h g : TransceiverState) (forth back : List Unit) → AreStatuses forth → AreStatuses back
-      → Lives (ends_anew h g forth back)
+  begins : (h g : TransceiverState) → Lives (ends_anew h g)
   gets : (x : Ends) (ms : List Msu) → Lives x → Lives (given ms x)
   near_goes : (x : Ends) → Lives x → Lives (near_sends x)
   far_goes : (x : Ends) → Lives x → Lives (far_sends x)
@@ -126,10 +115,6 @@ pub data Lives : Ends → Type 0 where
   is_lost_back :
       (x : Ends) (u : Unit) (us : List Unit)
       → Lives x → x.back ≡ u ∷ us → Lives (record x { back = us })
-  -- far begins anew before near does: it stands as it stood, and statuses alone go out there
-  far_is_anew :
-      (x : Ends) (statuses : List Unit)
-      → Lives x → AreStatuses statuses → Lives (record x { back = x.back ++ statuses })
   -- far withholds acknowledgement, as it is now, or does so no longer
   withholds :
       (x : Ends) → Lives x → Lives (record x { far = effect (signal.Withhold true) x.far })

@@ -35,7 +35,6 @@ use Rattle.link_group.specs.Placing.{rebalanced}
 use Rattle.link_group.specs.Laws.{hand_at}
 use Rattle.link_group.specs.Lines.{ByLink, ByCommand, Alone, after_admission}
 use Rattle.link_group.specs.Ticks.{with_room, after_ticks, NoRoom}
-use Rattle.link_group.specs.Ends.{AreStatuses}
 use Rattle.link_group.specs.Along.{units_along, Arrive}
 
 -- ---- the end of a link
@@ -52,7 +51,7 @@ end_at c l = option_map end_of (slice_get c.links l)
 pub record Deed : Type 0 where
   -- messages that came to it, to be sent
   pub given : List Msu
-  -- units that went out by it, and those that came in
+  -- units that went out by it, and those that came in and went through the stores
   pub out : List Unit
   pub came : List Unit
   -- messages that it accepted of these
@@ -185,7 +184,8 @@ pub record Joined : Type 0 where
   -- the set that sends by the link, and the one that accepts
   pub near : LinkSet
   pub far : LinkSet
-  -- units under way from the one to the other, and back, what arrives first at the front
+  -- units under way from the one to the other, and back, what arrives first at the front: those
+  -- that went out since its directions began anew
   pub forth : List Unit
   pub back : List Unit
   -- what the link kept near as its directions began anew, and what `send`, `send_by` and `divert`
@@ -233,21 +233,20 @@ abbrev pub told_behind : Option ℕ → Option ℕ → Option ℕ
 told_behind None told = told
 told_behind (Some n) told = Some n
 
--- What two sets and the lines of a link come to, call by call. As its directions begin anew, of
--- what went out before nothing but statuses is under way, and no number counts near; of those that
--- are heard near none comes to count but the one that far told. The lines may lose units and delay
--- them, and never change their order. Where far's directions begin anew before near's, its set
--- stands as it stood before that, and nothing but statuses goes out there.
+-- What two sets and the lines of a link come to, call by call. The lines may lose units and delay
+-- them, and never change their order; nothing is asked of units that don't go through the stores:
+-- those that bear a status, and all while none are taken. As its directions begin anew no number
+-- counts near; of those that are heard near none comes to count but the one that far told.
 pub data Fares (l : ℕ) : Joined → Type 0 where
   begins :
-      (c d : LinkSet) (h g : TransceiverState) (forth back : List Unit)
+      (c d : LinkSet) (h g : TransceiverState)
       → end_at c l ≡ Some h → end_at d l ≡ Some g → SendsAnew h → AcceptsAnew g
-      → AreStatuses forth → AreStatuses back → counted_at c l ≡ None
+      → counted_at c l ≡ None
       → Fares l (record {
         near = c;
         far = d;
-        forth = forth;
-        back = back;
+        forth = [];
+        back = [];
         taken = h.sender.kept;
         delivered = [];
         told = None;
@@ -276,9 +275,6 @@ pub data Fares (l : ℕ) : Joined → Type 0 where
   far_empties :
       (x : Joined) (e : LinkSet)
       → Fares l x → Empties l x.far e → Fares l (record x { far = e })
-  far_is_anew :
-      (x : Joined) (statuses : List Unit)
-      → Fares l x → AreStatuses statuses → Fares l (record x { back = x.back ++ statuses })
 
 -- What a set comes to whatever units come by the link, until its directions begin anew, and the
 -- messages that it accepts by it.

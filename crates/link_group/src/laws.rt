@@ -37,7 +37,7 @@ pub fn ends_heed_all_else()
 {}
 
 /// Each step of the terminals at the two ends belongs to such a life, as long as the directions don't begin anew in it: an event of the actors, a unit
-/// that goes out, and octets whose units are those under way, some of them lost.
+/// that goes out, and octets, of whose units those that go through the stores are under way, some of them lost.
 pub fn terminals_fare_so()
     ensures { TerminalsFare }
 {}
@@ -45,7 +45,8 @@ pub fn terminals_fare_so()
 /// Two sets that the lines of a link join, call by call, over one life of that link, from a beginning of both its directions on: what the far set
 /// accepts by it until they begin anew, and then what the near one hands out with the number that the far one told while it held the link, is what
 /// the link kept as that life began, and then what `send` and `divert` gave it, messages that are bound to it left out: each once, in order. The near
-/// end neither begins anew nor is cleared before its messages are handed out. The lines may lose units and delay them, and never change their order.
+/// end neither begins anew nor is cleared before its messages are handed out. The lines may lose units and delay them, and never change their order;
+/// nothing is asked of units that don't go through the stores: those that bear a status, and all while none are taken.
 pub fn sets_complete_each_life()
     ensures { SetsComplete }
 {}
