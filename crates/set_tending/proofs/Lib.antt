@@ -3,6 +3,6 @@ mod Calling
 pub mod Doing
 mod Fields
 mod Filling
-mod Heeding
+mod Passing
 mod Printing
 mod Speaking

@@ -5,7 +5,7 @@ use Rattle.set_tending.specs.Rounds.{Adds}
 use Rattle.set_tending.specs.Tended.{Tended}
 use Rattle.set_tending.specs.declared.came.Came.TheVariants.{Changeover, Declaration, Test, Answer}
 use Rattle.set_tending.proofs.Doing.{adds_nothing, adds_same, adds_then, acts_quiet}
-use Rattle.set_tending.proofs.Heeding.{unheard, of_a_link}
+use Rattle.set_tending.proofs.Passing.{unheard, of_a_link}
 use Rattle.set_tending.proofs.tender.Tender.heed_message.Goals as goal
 
 pub returns-then-about-link : goal.returns-then-about-link
