@@ -28,4 +28,4 @@ pub use link_group::{
 };
 pub use tender::{Plan, TendError, Tender};
 pub use told::{SharedOut, Told};
-pub use wire::{Passed, Wire};
+pub use wire::{Passed, Wire, miss_line};
