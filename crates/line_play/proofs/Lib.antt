@@ -1,4 +1,6 @@
 mod Measures
 mod NoSets
+mod SetObeying
+mod SetRounds
 mod SetTelling
 mod Turning

@@ -1,10 +1,13 @@
 pub mod Commands
+pub mod Gifts
 pub mod InTurn
 pub mod Lines
 pub mod LinkActs
 pub mod Measured
 pub mod Opening
-pub mod SetRuns
+pub mod SetDesks
+pub mod SetObeying
+pub mod SetRounds
 pub mod Told
 pub use Rattle.line_filter.specs.Filters
 pub use Rattle.line_filter.specs.declared as line_filter_types

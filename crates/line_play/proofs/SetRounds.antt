@@ -1,0 +1,251 @@
+-- A round of a set on lines, part by part.
+use Rattle.std.proofs.Common.{◌≡◌, ◌∙◌, ◌⊎◌, inl, inr, ℕ, ◌+◌, ◌≤◌, Bool, true, false, List, [], ◌∷◌, ◌++◌, append-nil, append_assoc, length, map, replicate, slice_get, slice_set, codes, string_bytes, decimal, Option, None, Some, Result, Ok, Err, OnOk, IfOk, IfSome, refl, sym, ap, subst, arith}
+use Rattle.std.proofs.lemmas.Result.{on_ok_weaker}
+use Rattle.std.proofs.lemmas.List.{replicate_more}
+use Rattle.script_lines.specs.Words.{words_of}
+use Rattle.line_filter.specs.Desks.{Told as TellsSuch}
+use Rattle.line_filter.specs.Orders.{Timed, NextIs, NoneIsDue, QUIT, told}
+use Rattle.line_filter.specs.Reporting.{Stand, TellsLines}
+use Rattle.line_filter.proofs.Reporting.{tells_none, tells_trans}
+use Rattle.set_tending.specs.Rounds.{AddsHeeded, Ticks}
+use Rattle.set_tending.specs.Tended.{Tended}
+use Rattle.set_tending.specs.Wires.{Hears, Passes, SILENT}
+use Rattle.set_tending.specs.declared.wire.Passed.{Passed}
+use Rattle.set_tending.specs.declared.wire.Passed.TheVariants.{Same, Silent, Back}
+use Rattle.set_tending.specs.declared.wire.Wire.{Wire}
+use Rattle.line_play.specs.Gifts.{Gift, Grows}
+use Rattle.line_play.specs.SetObeying.{Obeys, SendsNone, sent_by}
+use Rattle.line_play.specs.SetRounds.{Made, line_told, passed_told, given, silence_for, Carries, passes, misses, ends, fails, opens, CarriesAt, CarriesAll, no_link, one_link, TellsAll, ObeysWaiting, rests, obeys, TakesOrder, at_once, behind, report, Attends, waited, came, AttendsAll, none_due, full, quits, MOST_WAITING, SetPlace, IsRound}
+
+-- ---- what is given
+
+pub grows_none : (g : Option (List Gift)) → Grows g g []
+grows_none None = tt
+grows_none (Some gifts) = sym (append-nil gifts)
+
+pub grows_then : (f g h : Option (List Gift)) (xs ys : List Gift) → Grows f g xs → Grows g h ys → Grows f h (xs ++ ys)
+grows_then None g h xs ys p q = tt
+grows_then (Some f) None h xs ys p q = absurd p
+grows_then (Some f) (Some g) None xs ys p q = absurd q
+grows_then (Some f) (Some g) (Some h) xs ys p q = q ∙ ap (λ (l : List Gift). l ++ ys) p ∙ append_assoc f xs ys
+
+pub grows_more : (f g h : Option (List Gift)) (n : ℕ) (x : Gift) → Grows f g (replicate n x) → Grows g h (x ∷ []) → Grows f h (replicate (n + 1) x)
+grows_more f g h n x before more = subst (λ (xs : List Gift). Grows f h xs) (replicate_more n x) (grows_then f g h (replicate n x) (x ∷ []) before more)
+
+-- nothing is given by a call
+grows_same : (f g h : Option (List Gift)) (xs : List Gift) → Grows f g [] → Grows g h xs → Grows f h xs
+grows_same f g h xs none_given more = grows_then f g h [] xs none_given more
+
+-- octets that are given are some
+pub given_some : (link : ℕ) (octets : List ℕ) (f g : Option (List Gift)) → (octets ≡ [] → ⊥) → Grows f g (record { link = link; octets = octets } ∷ [])
+    → Grows f g (given link octets)
+given_some link [] f g some gives = absurd (some refl)
+given_some link (octet ∷ octets) f g some gives = gives
+
+pub given_none : (link : ℕ) (octets : List ℕ) (f : Option (List Gift)) → octets ≡ [] → Grows f f (given link octets)
+given_none link octets f none_there = subst (λ (xs : List ℕ). Grows f f (given link xs)) (sym none_there) (grows_none f)
+
+-- ---- a line
+
+abbrev Carried : ℕ → ℕ → Tended → Wire → Tended → Wire → List ℕ → List Gift → Type 0
+Carried link ahead t w u x bytes gifts = Carries link ahead t w bytes gifts u x
+
+-- what came passed, and nothing is told
+pub passed_same : (link ahead : ℕ) (t u : Tended) (w x : Wire) (came out : List ℕ) (passed : Passed) (a : Stand) (f g : Option (List Gift))
+    → passed ≡ Same → Passes link ahead came t w [] passed u x out → Grows f g (given link out)
+    → Made (λ bytes gifts. Carries link ahead t w bytes gifts u x) a a f g
+passed_same link ahead t u w x came out passed a f g is made gives = record {
+  bytes = [];
+  gifts = given link out;
+  are = passes came out Same (subst (λ (p : Passed). Passes link ahead came t w [] p u x out) is made);
+  tells = tells_none a;
+  gives = gives;
+}
+
+-- and something is
+pub passed_told_so : {A E : Type 0} (r : Result A E) (link ahead : ℕ) (t u : Tended) (w x : Wire) (came out : List ℕ) (passed as : Passed) (a b : Stand)
+    (f g : Option (List Gift)) → passed ≡ as → Passes link ahead came t w [] passed u x out → Grows f g (given link out)
+    → OnOk r (TellsLines a b (passed_told u.ticks link as)) → OnOk r (Made (λ bytes gifts. Carries link ahead t w bytes gifts u x) a b f g)
+passed_told_so r link ahead t u w x came out passed as a b f g is made gives line =
+    on_ok_weaker r
+    (λ (l : TellsLines a b (passed_told u.ticks link as)). record {
+      bytes = passed_told u.ticks link as;
+      gifts = given link out;
+      are = passes came out as (subst (λ (p : Passed). Passes link ahead came t w [] p u x out) is made);
+      tells = l;
+      gives = gives;
+    })
+    line
+
+-- behind the line's answer, by which nothing is given
+pub behind_take : {A E : Type 0} (r : Result A E) (R : List ℕ → List Gift → Type 0) (a b : Stand) (f g h : Option (List Gift)) → Grows f g []
+    → OnOk r (Made R a b g h) → OnOk r (Made R a b f h)
+behind_take r R a b f g h none_given made =
+    on_ok_weaker r (λ (m : Made R a b g h). record { bytes = m.bytes; gifts = m.gifts; are = m.are; tells = m.tells; gives = grows_same f g h m.gifts none_given m.gives })
+    made
+
+pub missed : {A E : Type 0} (r : Result A E) (link ahead : ℕ) (t u : Tended) (w : Wire) (a : Stand) (f g : Option (List Gift)) → Grows f g []
+    → OnOk r (Hears link t SILENT u) → OnOk r (Made (λ bytes gifts. Carries link ahead t w bytes gifts u w) a a f g)
+missed r link ahead t u w a f g gives hears =
+    on_ok_weaker r (λ (h : Hears link t SILENT u). record { bytes = []; gifts = []; are = misses h; tells = tells_none a; gives = gives }) hears
+
+pub line_ended : {A E : Type 0} (r : Result A E) (link ahead : ℕ) (t : Tended) (w : Wire) (a b : Stand) (f g : Option (List Gift)) → Grows f g []
+    → OnOk r (TellsLines a b (line_told t.ticks link (codes "ended"))) → OnOk r (Made (λ bytes gifts. Carries link ahead t w bytes gifts t w) a b f g)
+line_ended r link ahead t w a b f g gives line =
+    on_ok_weaker r
+    (λ (l : TellsLines a b (line_told t.ticks link (codes "ended"))). record { bytes = line_told t.ticks link (codes "ended"); gifts = []; are = ends; tells = l; gives = gives })
+    line
+
+pub line_failed : {A E : Type 0} (r : Result A E) (link ahead : ℕ) (t : Tended) (w : Wire) (a b : Stand) (f g : Option (List Gift)) → Grows f g []
+    → OnOk r (TellsLines a b (line_told t.ticks link (codes "failed"))) → OnOk r (Made (λ bytes gifts. Carries link ahead t w bytes gifts t w) a b f g)
+line_failed r link ahead t w a b f g gives line =
+    on_ok_weaker r
+    (λ (l : TellsLines a b (line_told t.ticks link (codes "failed"))). record { bytes = line_told t.ticks link (codes "failed"); gifts = []; are = fails; tells = l; gives = gives })
+    line
+
+pub line_opened : {A E : Type 0} (r : Result A E) (link ahead : ℕ) (t : Tended) (w : Wire) (a b : Stand) (f g h : Option (List Gift)) → Grows f g []
+    → Grows g h (replicate ahead (silence_for link)) → OnOk r (TellsLines a b (line_told t.ticks link (codes "open")))
+    → OnOk r (Made (λ bytes gifts. Carries link ahead t w bytes gifts t w) a b f h)
+line_opened r link ahead t w a b f g h none_given gives line =
+    on_ok_weaker r
+    (λ (l : TellsLines a b (line_told t.ticks link (codes "open"))). record {
+      bytes = line_told t.ticks link (codes "open");
+      gifts = replicate ahead (silence_for link);
+      are = opens;
+      tells = l;
+      gives = grows_same f g h (replicate ahead (silence_for link)) none_given gives;
+    })
+    line
+
+-- ---- all lines
+
+pub carried_at : {A E : Type 0} (r : Result A E) (link ahead : ℕ) (t u : Tended) (ws xs : List Wire) (w x : Wire) (a b : Stand) (f g : Option (List Gift))
+    → slice_get ws link ≡ Some w → xs ≡ slice_set ws link x → OnOk r (Made (λ bytes gifts. Carries link ahead t w bytes gifts u x) a b f g)
+    → OnOk r (Made (λ bytes gifts. CarriesAt link ahead t ws bytes gifts u xs) a b f g)
+carried_at r link ahead t u ws xs w x a b f g there lines made =
+    on_ok_weaker r
+    (λ (m : Made (λ bytes gifts. Carries link ahead t w bytes gifts u x) a b f g). record {
+      bytes = m.bytes;
+      gifts = m.gifts;
+      are = record { before = w; after = x; there = there; carries = m.are; lines = lines };
+      tells = m.tells;
+      gives = m.gives;
+    })
+    made
+
+pub carried_none : (ahead : ℕ) (t : Tended) (ws : List Wire) (a : Stand) (f : Option (List Gift))
+    → Made (λ bytes gifts. CarriesAll ahead t ws 0 bytes gifts t ws) a a f f
+carried_none ahead t ws a f = record { bytes = []; gifts = []; are = no_link; tells = tells_none a; gives = grows_none f }
+
+pub carried_more : (ahead link : ℕ) (t u v : Tended) (ws xs ys : List Wire) (a b c : Stand) (f g h : Option (List Gift))
+    → Made (λ bytes gifts. CarriesAll ahead t ws link bytes gifts u xs) a b f g → Made (λ bytes gifts. CarriesAt link ahead u xs bytes gifts v ys) b c g h
+    → Made (λ bytes gifts. CarriesAll ahead t ws (link + 1) bytes gifts v ys) a c f h
+carried_more ahead link t u v ws xs ys a b c f g h before more = record {
+  bytes = before.bytes ++ more.bytes;
+  gifts = before.gifts ++ more.gifts;
+  are = one_link more.bytes more.gifts before.are more.are;
+  tells = tells_trans a b c before.bytes more.bytes before.tells more.tells;
+  gives = grows_then f g h before.gifts more.gifts before.gives more.gives;
+}
+
+-- ---- orders
+
+pub waits_none : (t : Tended) (waiting : List (List ℕ)) (a : Stand) → TellsSuch (λ bytes. ObeysWaiting t waiting bytes t waiting) a a
+waits_none t waiting a = record { bytes = []; are = rests; tells = tells_none a }
+
+pub waits_more : (t u w : Tended) (waiting now left : List (List ℕ)) (order : List ℕ) (a b c : Stand)
+    → TellsSuch (λ bytes. ObeysWaiting t waiting bytes u now) a b → now ≡ order ∷ left → TellsSuch (λ bytes. Obeys order u bytes w) b c
+    → TellsSuch (λ bytes. ObeysWaiting t waiting bytes w left) a c
+waits_more t u w waiting now left order a b c before first more = record {
+  bytes = before.bytes ++ more.bytes;
+  are = obeys order more.bytes left before.are first more.are;
+  tells = tells_trans a b c before.bytes more.bytes before.tells more.tells;
+}
+
+-- as many wait as did
+pub waits_same : (t u : Tended) (waiting now left : List (List ℕ)) (a b : Stand) → TellsSuch (λ bytes. ObeysWaiting t waiting bytes u now) a b
+    → left ≡ now → TellsSuch (λ bytes. ObeysWaiting t waiting bytes u left) a b
+waits_same t u waiting now left a b before same = subst (λ (l : List (List ℕ)). TellsSuch (λ bytes. ObeysWaiting t waiting bytes u l) a b) (sym same) before
+
+pub taken_at_once : {A E : Type 0} (r : Result A E) (order : List ℕ) (t u : Tended) (waiting : List (List ℕ)) (a b : Stand)
+    → (waiting ≡ []) ⊎ (sent_by (words_of order) ≡ None) → OnOk r (TellsSuch (λ bytes. Obeys order t bytes u) a b)
+    → OnOk r (TellsSuch (λ bytes. TakesOrder order t waiting bytes u waiting) a b)
+taken_at_once r order t u waiting a b may made =
+    on_ok_weaker r (λ (m : TellsSuch (λ bytes. Obeys order t bytes u) a b). record { bytes = m.bytes; are = at_once may m.are; tells = m.tells }) made
+
+pub taken_behind : (order : List ℕ) (t : Tended) (waiting later : List (List ℕ)) (a : Stand) → later ≡ waiting ++ order ∷ []
+    → TellsSuch (λ bytes. TakesOrder order t waiting bytes t later) a a
+taken_behind order t waiting later a is =
+    subst (λ (l : List (List ℕ)). TellsSuch (λ bytes. TakesOrder order t waiting bytes t l) a a) (sym is) (record { bytes = []; are = behind; tells = tells_none a })
+
+pub taken_report : (order : List ℕ) (t : Tended) (waiting : List (List ℕ)) (a : Stand) → SendsNone order
+    → TellsSuch (λ bytes. TakesOrder order t waiting bytes t waiting) a a
+taken_report order t waiting a none_there = record { bytes = []; are = report none_there; tells = tells_none a }
+
+pub attends_first : (t u : Tended) (waiting now : List (List ℕ)) (left : Option (List Timed)) (a b : Stand)
+    → TellsSuch (λ bytes. ObeysWaiting t waiting bytes u now) a b → TellsSuch (λ bytes. Attends t waiting left bytes u now left) a b
+attends_first t u waiting now left a b before = record { bytes = before.bytes; are = waited before.are; tells = before.tells }
+
+pub attends_more : (t u w : Tended) (waiting now later : List (List ℕ)) (left fewer last : Option (List Timed)) (order : List ℕ) (ms : ℕ) (a b c : Stand)
+    → TellsSuch (λ bytes. Attends t waiting left bytes u now fewer) a b → ms ≡ u.ticks → NextIs ms fewer order last → (order ≡ QUIT → ⊥)
+    → TellsSuch (λ bytes. TakesOrder order u now bytes w later) b c → TellsSuch (λ bytes. Attends t waiting left bytes w later last) a c
+attends_more t u w waiting now later left fewer last order ms a b c before ms_is next no_end more = record {
+  bytes = before.bytes ++ more.bytes;
+  are = came order more.bytes w later last before.are (subst (λ (n : ℕ). NextIs n fewer order last) ms_is next) no_end more.are;
+  tells = tells_trans a b c before.bytes more.bytes before.tells more.tells;
+}
+
+pub attends_over : (t u : Tended) (waiting now : List (List ℕ)) (left fewer last : Option (List Timed)) (ms : ℕ) (a b : Stand)
+    → TellsSuch (λ bytes. Attends t waiting left bytes u now fewer) a b → ms ≡ u.ticks → NoneIsDue ms fewer last
+    → TellsSuch (λ bytes. AttendsAll t waiting left bytes true u now last) a b
+attends_over t u waiting now left fewer last ms a b before ms_is none_there =
+    record { bytes = before.bytes; are = none_due last before.are (subst (λ (n : ℕ). NoneIsDue n fewer last) ms_is none_there); tells = before.tells }
+
+pub attends_full : (t u : Tended) (waiting now : List (List ℕ)) (left fewer : Option (List Timed)) (a b : Stand)
+    → TellsSuch (λ bytes. Attends t waiting left bytes u now fewer) a b → MOST_WAITING ≤ length now
+    → TellsSuch (λ bytes. AttendsAll t waiting left bytes true u now fewer) a b
+attends_full t u waiting now left fewer a b before many = record { bytes = before.bytes; are = full before.are many; tells = before.tells }
+
+pub attends_quit : (t u : Tended) (waiting now : List (List ℕ)) (left fewer last : Option (List Timed)) (ms : ℕ) (a b c : Stand)
+    → TellsSuch (λ bytes. Attends t waiting left bytes u now fewer) a b → ms ≡ u.ticks → NextIs ms fewer QUIT last
+    → TellsLines b c (told u.ticks (codes "ok quit")) → TellsSuch (λ bytes. AttendsAll t waiting left bytes false u now last) a c
+attends_quit t u waiting now left fewer last ms a b c before ms_is next line = record {
+  bytes = before.bytes ++ told u.ticks (codes "ok quit");
+  are = quits last before.are (subst (λ (n : ℕ). NextIs n fewer QUIT last) ms_is next);
+  tells = tells_trans a b c before.bytes (told u.ticks (codes "ok quit")) before.tells line;
+}
+
+-- ---- a round
+
+pub is_round : (ahead : ℕ) (p q : SetPlace) (goes_on : Bool) (carried ticked tended calm obeyed : Tended) (a b c d e : Stand) (f g h : Option (List Gift))
+    → Grows f g [] → Made (λ bytes gifts. CarriesAll ahead p.set p.wires (length p.wires) bytes gifts carried q.wires) a b g h → Ticks carried ticked
+    → AddsHeeded ticked tended → TellsSuch (λ bytes. TellsAll tended bytes calm) b c
+    → TellsSuch (λ bytes. AttendsAll calm p.waiting p.left bytes goes_on obeyed q.waiting q.left) c d
+    → TellsSuch (λ bytes. TellsAll obeyed bytes q.set) d e → Made (λ bytes gifts. IsRound ahead p bytes gifts goes_on q) a e f h
+is_round ahead p q goes_on carried ticked tended calm obeyed a b c d e f g h none_given first ticks tends second third fourth = record {
+  bytes = ((first.bytes ++ second.bytes) ++ third.bytes) ++ fourth.bytes;
+  gifts = first.gifts;
+  are = record {
+    carried = carried;
+    first = first.bytes;
+    carries = first.are;
+    ticked = ticked;
+    ticks = ticks;
+    tended = tended;
+    tends = tends;
+    calm = calm;
+    second = second.bytes;
+    tells = second.are;
+    obeyed = obeyed;
+    third = third.bytes;
+    attends = third.are;
+    fourth = fourth.bytes;
+    tells_more = fourth.are;
+    are = refl;
+  };
+  tells =
+      tells_trans a d e ((first.bytes ++ second.bytes) ++ third.bytes) fourth.bytes
+      (tells_trans a c d (first.bytes ++ second.bytes) third.bytes (tells_trans a b c first.bytes second.bytes first.tells second.tells) third.tells)
+      fourth.tells;
+  gives = grows_same f g h first.gifts none_given first.gives;
+}

@@ -1,0 +1,143 @@
+//! Orders to a set as they come: obeyed at once, or once those before them were.
+ghost use Rattle.std.specs.Prelude.{◌≡◌, ◌↔◌, [], IfOk, OnOk, IsTrue, None, string_bytes};
+ghost use Rattle.script_lines.specs.Words.{words_of};
+ghost use Rattle.line_filter.specs.Desks.{Told as TellsSuch};
+ghost use Rattle.line_filter.specs.Orders.{QUIT};
+ghost use Rattle.line_play.specs.SetObeying.{SendsNone, sent_by};
+ghost use Rattle.line_play.specs.SetRounds.{waiting_in, ObeysWaiting, TakesOrder, AttendsAll};
+
+use crate::set_orders::{SetOrder, is_set_report, set_order_in};
+use crate::set_queue::Queue;
+use crate::set_state::SetState;
+use line_filter::{Orders, Reports};
+use script_links::Order;
+use std::alloc::{AllocError, Global};
+use std::io::{self, ErrorKind};
+
+/// Whether a line sends a message.
+fn is_send(alloc: Global, text: &str) -> Result<bool, AllocError>
+    ensures { IfOk result (λ sends. (IsTrue sends → ⊥) → SendsNone text.now) }
+{
+    match set_order_in(alloc, text)? {
+        Some(SetOrder::Send(_)) => Ok(true),
+        Some(_) => Ok(false),
+        None => Ok(false),
+    }
+}
+
+/// Whether a line may overtake orders that wait: it stops links, or says which links orders speak of.
+fn overtakes(alloc: Global, text: &str) -> Result<bool, AllocError>
+    ensures { IfOk result (λ first. IsTrue first → sent_by (words_of text.now) ≡ None) }
+{
+    match set_order_in(alloc, text)? {
+        Some(SetOrder::Link(Order::Stop)) => Ok(true),
+        Some(SetOrder::On(_)) => Ok(true),
+        _ => Ok(false),
+    }
+}
+
+/// Whether an order ends the run.
+fn is_quit(order: &str) -> bool
+    ensures { IsTrue result ↔ (order.now ≡ QUIT) }
+{
+    order == "quit"
+}
+
+/// Whether none of the orders that wait is to be obeyed now.
+fn rests(alloc: Global, state: &SetState, queue: &Queue) -> Result<bool, AllocError> {
+    match queue.first() {
+        Some(first) => Ok(state.tender.sends_wait() && is_send(alloc, &first.text)?),
+        None => Ok(true),
+    }
+}
+
+/// Obeys the orders that wait, as far as they don't have to wait any more.
+fn obey_waiting<P: Reports>(
+    alloc: Global,
+    state: &mut SetState,
+    queue: &mut Queue,
+    reports: &mut P,
+) -> io::Result<()>
+    ensures { OnOk result (TellsSuch (λ bytes. ObeysWaiting state.old.tender (waiting_in queue.old) bytes state.new.tender (waiting_in queue.new))
+        (P.stand reports.old) (P.stand reports.new)) }
+{
+    for _order in 0..u64::MAX {
+        if rests(alloc, state, queue)? {
+            return Ok(());
+        }
+        match queue.take() {
+            Some(first) => state.obey(alloc, first.focus, first.text.as_str(), reports)?,
+            None => return Ok(()),
+        }
+    }
+    Ok(())
+}
+
+/// Whether an order has to wait: behind others, or since messages to send wait.
+fn has_to_wait(state: &SetState, queue: &Queue, sends: bool) -> bool
+    ensures { (IsTrue result → ⊥) → waiting_in queue.now ≡ [] }
+{
+    if queue.is_empty() {
+        state.tender.sends_wait() && sends
+    } else {
+        true
+    }
+}
+
+/// Takes an order: it is obeyed, or waits behind others, but for one that overtakes them. A report says none.
+fn take_order<P: Reports>(
+    alloc: Global,
+    state: &mut SetState,
+    queue: &mut Queue,
+    text: String,
+    reports: &mut P,
+) -> io::Result<()>
+    ensures { OnOk result (TellsSuch (λ bytes. TakesOrder (string_bytes text) state.old.tender (waiting_in queue.old) bytes state.new.tender (waiting_in queue.new))
+        (P.stand reports.old) (P.stand reports.new)) }
+{
+    let sends = is_send(alloc, text.as_str())?;
+    if !sends && is_set_report(alloc, text.as_str())? {
+        return Ok(());
+    }
+    let focus = state.focus;
+    if !has_to_wait(state, queue, sends) {
+        return state.obey(alloc, focus, text.as_str(), reports);
+    }
+    if overtakes(alloc, text.as_str())? {
+        return state.obey(alloc, focus, text.as_str(), reports);
+    }
+    if queue.put(focus, text) {
+        Ok(())
+    } else {
+        Err(io::Error::from(AllocError))
+    }
+}
+
+/// Obeys the orders that are due. Whether the run goes on.
+pub(crate) fn attend<O: Orders, P: Reports>(
+    alloc: Global,
+    state: &mut SetState,
+    queue: &mut Queue,
+    orders: &mut O,
+    reports: &mut P,
+) -> io::Result<bool>
+    ensures { IfOk result (λ goes_on. TellsSuch
+        (λ bytes. AttendsAll state.old.tender (waiting_in queue.old) (O.left orders.old) bytes goes_on state.new.tender (waiting_in queue.new) (O.left orders.new))
+        (P.stand reports.old) (P.stand reports.new)) }
+{
+    obey_waiting(alloc, state, queue, reports)?;
+    for _order in 0..u64::MAX {
+        if queue.is_full() {
+            return Ok(true);
+        }
+        let Some(order) = orders.next(alloc, state.tender.now())? else {
+            return Ok(true);
+        };
+        if is_quit(order.as_str()) {
+            state.say(alloc, "ok quit", reports)?;
+            return Ok(false);
+        }
+        take_order(alloc, state, queue, order, reports)?;
+    }
+    Err(io::Error::from(ErrorKind::Other))
+}
