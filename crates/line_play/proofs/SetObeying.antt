@@ -17,7 +17,8 @@ use Rattle.set_tending.specs.Sending.{tended_send_fault}
 use Rattle.set_tending.specs.Tended.{Tended}
 use Rattle.set_tending.proofs.Doing.{adds_nothing, adds_same}
 use Rattle.line_play.specs.declared.set_orders.SetOrder.{SetOrder}
-use Rattle.line_play.specs.SetObeying.{sent_by, octets_sent, AreNoMessage, SendsNone, Sends, IsSent, IsTurnedDown, no_message, full, Shows, IsAnswer, IsRefused, bad, untaken, other, Obeys, sends, does, refuses}
+use Rattle.line_play.specs.declared.set_orders.SetOrder.TheVariants as order
+use Rattle.line_play.specs.SetObeying.{sent_by, octets_sent, AreNoMessage, SendsNone, Sends, IsSent, IsUntaken, no_label, fault, IsTurnedDown, no_message, full, Shows, IsAnswer, IsRefused, bad, untaken, other, Obeys, sends, does, refuses}
 
 -- ---- what is no message
 
@@ -41,10 +42,24 @@ pub bad_octets : {A E : Type 0} (r : Result (Option A) E) (octets : List ℕ) (t
 bad_octets (Ok o) octets t none_there = λ some. no_message none_there refl
 bad_octets (Err e) octets t none_there = tt
 
-pub untaken_octets : {A E : Type 0} (r : Result (Option A) E) (octets : List ℕ) (t u : Tended) (m : Msu) (why : SendError) → IsMessageOf octets m
-    → tended_send_fault t.set m ≡ Some why → u ≡ t → IfOk r (λ (o : Option A). IsSome o → IsTurnedDown octets t u)
-untaken_octets (Ok o) octets t u m why is fault same = λ some. full m why is fault same
-untaken_octets (Err e) octets t u m why is fault same = tt
+pub untaken_octets : {A E : Type 0} (r : Result (Option A) E) (octets : List ℕ) (t u : Tended) (m : Msu) → IsMessageOf octets m
+    → IfOk r (λ (o : Option A). IsSome o → IsUntaken m t u) → IfOk r (λ (o : Option A). IsSome o → IsTurnedDown octets t u)
+untaken_octets (Ok o) octets t u m is untaken = λ some. full m is (untaken some)
+untaken_octets (Err e) octets t u m is untaken = tt
+
+pub sent_octets : {A E : Type 0} (r : Result (Option A) E) (octets : List ℕ) (t u : Tended) (m : Msu) → IsMessageOf octets m
+    → IfOk r (λ (o : Option A). IsNone o → Acts (m ∷ []) [] t u) → IfOk r (λ (o : Option A). IsNone o → IsSent octets t u)
+sent_octets (Ok o) octets t u m is acts = λ none. record { message = m; is = is; acts = acts none }
+sent_octets (Err e) octets t u m is acts = tt
+
+pub without_label : {A E : Type 0} (r : Result (Option A) E) (m : Msu) (t : Tended) → label_in m.sif.items ≡ None → IfOk r (λ (o : Option A). IsSome o → IsUntaken m t t)
+without_label (Ok o) m t none_there = λ some. no_label none_there refl
+without_label (Err e) m t none_there = tt
+
+pub with_fault : {A E : Type 0} (r : Result (Option A) E) (m : Msu) (t u : Tended) (why : SendError) → tended_send_fault t.set m ≡ Some why → u ≡ t
+    → IfOk r (λ (o : Option A). IsSome o → IsUntaken m t u)
+with_fault (Ok o) m t u why is same = λ some. fault why is same
+with_fault (Err e) m t u why is same = tt
 
 -- what is refused isn't sent
 pub never_none : {A E : Type 0} (r : Result (Option A) E) (P : Type 0) → IfOk r (λ (o : Option A). IsSome o) → IfOk r (λ (o : Option A). IsNone o → P)
@@ -73,11 +88,35 @@ sends_none order none_there = subst (λ (o : Option (List ℕ)). IfSome o AreNoM
 sends_bad : (order octets : List ℕ) → sent_by (words_of order) ≡ Some octets → AreNoMessage octets → SendsNone order
 sends_bad order octets said none_there = subst (λ (o : Option (List ℕ)). IfSome o AreNoMessage) (sym said) none_there
 
+-- an order that isn't `send` sends nothing
+pub quiet : (s : SetOrder) → ((octets : _) → s ≡ order.Send octets → ⊥) → octets_sent s ≡ None
+quiet (order.On focus) not = refl
+quiet (order.Link obeyed) not = refl
+quiet (order.State process) not = refl
+quiet (order.Value process variable) not = refl
+quiet (order.Measure measure) not = refl
+quiet order.Aborted not = refl
+quiet order.Measures not = refl
+quiet order.Reset not = refl
+quiet (order.Send octets) not = absurd (not octets refl)
+quiet order.Table not = refl
+quiet order.Held not = refl
+quiet order.Unsure not = refl
+quiet order.Rebalance not = refl
+
+pub quiet_order : (s : SetOrder) (o : Option SetOrder) (order : List ℕ) → o ≡ Some s → IfSome o (λ (x : SetOrder). octets_sent x ≡ sent_by (words_of order))
+    → octets_sent s ≡ None → sent_by (words_of order) ≡ None
+quiet_order s o order is said none_there = sym (subst (λ (x : Option SetOrder). IfSome x (λ (y : SetOrder). octets_sent y ≡ sent_by (words_of order))) is said) ∙ none_there
+
 -- ---- an order is obeyed
+
+not_taken : (order octets : List ℕ) (t u : Tended) (m : Msu) → sent_by (words_of order) ≡ Some octets → IsMessageOf octets m → IsUntaken m t u → IsRefused order t u
+not_taken order octets t u m said is (no_label none_there same) = bad (sends_bad order octets said (unlabelled octets m is none_there)) same
+not_taken order octets t u m said is (fault why why_is same) = untaken m why (record { octets = octets; said = said; is = is }) why_is same
 
 turned_down : (order octets : List ℕ) (t u : Tended) → sent_by (words_of order) ≡ Some octets → IsTurnedDown octets t u → IsRefused order t u
 turned_down order octets t u said (no_message none_there same) = bad (sends_bad order octets said none_there) same
-turned_down order octets t u said (full m why is fault same) = untaken m why (record { octets = octets; said = said; is = is }) fault same
+turned_down order octets t u said (full m is down) = not_taken order octets t u m said is down
 
 refused : {A E : Type 0} (r : Result A E) (order why : List ℕ) (t u : Tended) (a b : Stand) → IsRefused order t u
     → OnOk r (TellsLines a b (told u.ticks (codes "refused " ++ why))) → OnOk r (TellsSuch (λ bytes. Obeys order t bytes u) a b)

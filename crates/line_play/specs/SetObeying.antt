@@ -8,6 +8,7 @@ use Rattle.script_links.specs.Octets.{octets_of}
 use Rattle.script_links.specs.resend_store_types.messages.Msu.{Msu}
 use Rattle.script_terminal.specs.TermAnswers.{IsMessageOf}
 use Rattle.line_filter.specs.Orders.{told}
+use Rattle.set_tending.specs.Labels.{label_in}
 use Rattle.set_tending.specs.Rounds.{Acts, Adds}
 use Rattle.set_tending.specs.Sending.{tended_send_fault}
 use Rattle.set_tending.specs.Telling.{message_in}
@@ -61,11 +62,16 @@ pub record IsSent (octets : List ℕ) (old new : Tended) : Type 0 where
   pub is : IsMessageOf octets message
   pub acts : Acts (message ∷ []) [] old new
 
--- nothing changes: they are no message, or it isn't taken
+-- a message isn't taken, and nothing changes: it has no label, or there is a fault
+pub data IsUntaken (m : Msu) (old new : Tended) : Type 0 where
+  no_label : label_in m.sif.items ≡ None → new ≡ old → IsUntaken m old new
+  fault : (why : SendError) → tended_send_fault old.set m ≡ Some why → new ≡ old
+      → IsUntaken m old new
+
+-- nothing changes: these octets are no message, or it isn't taken
 pub data IsTurnedDown (octets : List ℕ) (old new : Tended) : Type 0 where
   no_message : AreNoMessage octets → new ≡ old → IsTurnedDown octets old new
-  full : (m : Msu) (why : SendError) → IsMessageOf octets m
-      → tended_send_fault old.set m ≡ Some why → new ≡ old → IsTurnedDown octets old new
+  full : (m : Msu) → IsMessageOf octets m → IsUntaken m old new → IsTurnedDown octets old new
 
 -- ---- what orders ask for
 

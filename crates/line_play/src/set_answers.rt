@@ -1,18 +1,18 @@
 //! What orders to a set lead to.
-ghost use Rattle.std.specs.Prelude.{◌≡◌, ◌++◌, IfOk, IsSome, IsNone, OnOk, None, Some, codes};
+ghost use Rattle.std.specs.Prelude.{◌≡◌, ◌++◌, ◌∷◌, [], IfOk, IsSome, IsNone, OnOk, None, Some, codes};
 ghost use Rattle.script_lines.specs.Words.{words_of};
 ghost use Rattle.line_filter.specs.Desks.{Told as TellsSuch};
 ghost use Rattle.line_filter.specs.Orders.{told};
 ghost use Rattle.line_filter.specs.Reporting.{TellsLines};
-ghost use Rattle.set_tending.specs.Rounds.{Adds};
-ghost use Rattle.line_play.specs.SetObeying.{IsAnswer, Obeys, IsSent, IsTurnedDown, octets_sent, sent_by};
+ghost use Rattle.set_tending.specs.Rounds.{Acts, Adds};
+ghost use Rattle.line_play.specs.SetObeying.{IsAnswer, Obeys, IsSent, IsUntaken, IsTurnedDown, octets_sent, sent_by};
 
 use crate::set_orders::{Focus, SetOrder, set_order_in};
 use crate::set_state::SetState;
 use crate::texts::{refusal_in, text_of};
 use line_filter::Reports;
 use script_terminal::{command_of, message, state_line, value_line};
-use set_tending::{CommandError, Tender, label_of};
+use set_tending::{CommandError, Msu, Tender, label_of};
 use std::alloc::{AllocError, Global};
 use std::io;
 
@@ -58,6 +58,24 @@ fn obey_links(
     Ok(first)
 }
 
+/// Sends a message. Why not, if it isn't taken.
+fn send_message(
+    alloc: Global,
+    tender: &mut Tender,
+    msu: Msu,
+) -> Result<Option<Refused>, AllocError>
+    ensures sent { IfOk result (λ r. IsNone r → Acts (msu ∷ []) [] tender.old tender.new) }
+    ensures refused { IfOk result (λ r. IsSome r → IsUntaken msu tender.old tender.new) }
+{
+    match label_of(&msu) {
+        Some(label) => match tender.send(label, msu) {
+            Ok(()) => Ok(None),
+            Err(error) => refusal(alloc, &error),
+        },
+        None => refusal(alloc, &"X1 BadLine"),
+    }
+}
+
 /// `send HEX`. Why not, if its message isn't taken.
 fn obey_send(
     alloc: Global,
@@ -67,15 +85,9 @@ fn obey_send(
     ensures sent { IfOk result (λ r. IsNone r → IsSent octets.now tender.old tender.new) }
     ensures refused { IfOk result (λ r. IsSome r → IsTurnedDown octets.now tender.old tender.new) }
 {
-    let Some(msu) = message(octets) else {
-        return refusal(alloc, &"X1 BadLine");
-    };
-    let Some(label) = label_of(&msu) else {
-        return refusal(alloc, &"X1 BadLine");
-    };
-    match tender.send(label, msu) {
-        Ok(()) => Ok(None),
-        Err(error) => refusal(alloc, &error),
+    match message(octets) {
+        Some(msu) => send_message(alloc, tender, msu),
+        None => refusal(alloc, &"X1 BadLine"),
     }
 }
 

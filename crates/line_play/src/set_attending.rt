@@ -3,7 +3,7 @@ ghost use Rattle.std.specs.Prelude.{◌≡◌, ◌↔◌, [], IfOk, OnOk, IsTrue
 ghost use Rattle.script_lines.specs.Words.{words_of};
 ghost use Rattle.line_filter.specs.Desks.{Told as TellsSuch};
 ghost use Rattle.line_filter.specs.Orders.{QUIT};
-ghost use Rattle.line_play.specs.SetObeying.{SendsNone, sent_by};
+ghost use Rattle.line_play.specs.SetObeying.{SendsNone, octets_sent, sent_by};
 ghost use Rattle.line_play.specs.SetRounds.{waiting_in, ObeysWaiting, TakesOrder, AttendsAll};
 
 use crate::set_orders::{SetOrder, is_set_report, set_order_in};
@@ -14,25 +14,44 @@ use script_links::Order;
 use std::alloc::{AllocError, Global};
 use std::io::{self, ErrorKind};
 
+/// Whether an order sends a message.
+fn sends(order: &SetOrder<'_>) -> bool
+    ensures { (IsTrue result → ⊥) → octets_sent order.now ≡ None }
+{
+    match order {
+        SetOrder::Send(_) => true,
+        _ => false,
+    }
+}
+
 /// Whether a line sends a message.
 fn is_send(alloc: Global, text: &str) -> Result<bool, AllocError>
     ensures { IfOk result (λ sends. (IsTrue sends → ⊥) → SendsNone text.now) }
 {
     match set_order_in(alloc, text)? {
-        Some(SetOrder::Send(_)) => Ok(true),
-        Some(_) => Ok(false),
+        Some(order) => Ok(sends(&order)),
         None => Ok(false),
     }
 }
 
-/// Whether a line may overtake orders that wait: it stops links, or says which links orders speak of.
-fn overtakes(alloc: Global, text: &str) -> Result<bool, AllocError>
+/// Whether an order may overtake others that wait: it stops links, or says which links orders speak of.
+fn overtakes(order: &SetOrder<'_>) -> bool
+    ensures { IsTrue result → octets_sent order.now ≡ None }
+{
+    match order {
+        SetOrder::Link(order) => *order == Order::Stop,
+        SetOrder::On(_) => true,
+        _ => false,
+    }
+}
+
+/// Whether a line may overtake orders that wait.
+fn may_overtake(alloc: Global, text: &str) -> Result<bool, AllocError>
     ensures { IfOk result (λ first. IsTrue first → sent_by (words_of text.now) ≡ None) }
 {
     match set_order_in(alloc, text)? {
-        Some(SetOrder::Link(Order::Stop)) => Ok(true),
-        Some(SetOrder::On(_)) => Ok(true),
-        _ => Ok(false),
+        Some(order) => Ok(overtakes(&order)),
+        None => Ok(false),
     }
 }
 
@@ -103,7 +122,7 @@ fn take_order<P: Reports>(
     if !has_to_wait(state, queue, sends) {
         return state.obey(alloc, focus, text.as_str(), reports);
     }
-    if overtakes(alloc, text.as_str())? {
+    if may_overtake(alloc, text.as_str())? {
         return state.obey(alloc, focus, text.as_str(), reports);
     }
     if queue.put(focus, text) {
@@ -130,14 +149,16 @@ pub(crate) fn attend<O: Orders, P: Reports>(
         if queue.is_full() {
             return Ok(true);
         }
-        let Some(order) = orders.next(alloc, state.tender.now())? else {
-            return Ok(true);
-        };
-        if is_quit(order.as_str()) {
-            state.say(alloc, "ok quit", reports)?;
-            return Ok(false);
+        match orders.next(alloc, state.tender.now())? {
+            Some(order) => {
+                if is_quit(order.as_str()) {
+                    state.say(alloc, "ok quit", reports)?;
+                    return Ok(false);
+                }
+                take_order(alloc, state, queue, order, reports)?;
+            }
+            None => return Ok(true),
         }
-        take_order(alloc, state, queue, order, reports)?;
     }
     Err(io::Error::from(ErrorKind::Other))
 }
