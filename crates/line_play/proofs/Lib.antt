@@ -1,5 +1,6 @@
 mod Measures
 mod NoSets
+mod SetLaws
 mod SetObeying
 mod SetRounds
 mod SetTelling

@@ -6,6 +6,7 @@ pub mod LinkActs
 pub mod Measured
 pub mod Opening
 pub mod SetDesks
+pub mod SetLaws
 pub mod SetObeying
 pub mod SetRounds
 pub mod Told

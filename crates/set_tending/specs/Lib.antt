@@ -2,6 +2,7 @@ pub mod Calling
 pub mod Came
 pub mod Cares
 pub mod Ends
+pub mod Lives
 pub mod Rounds
 pub mod Sending
 pub mod Telling

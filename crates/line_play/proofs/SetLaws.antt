@@ -1,0 +1,122 @@
+-- What follows for all that a set on lines did.
+use Rattle.std.proofs.Common.{◌≡◌, ◌∙◌, ℕ, Bool, true, List, [], ◌∷◌, ◌++◌, append-nil, append_assoc, length, Option, refl, sym, ap, subst}
+use Rattle.script_links.specs.resend_store_types.messages.Msu.{Msu}
+use Rattle.line_filter.specs.Orders.{Timed}
+use Rattle.set_tending.specs.Lives.{Lived}
+use Rattle.set_tending.specs.Telling.{message_in}
+use Rattle.set_tending.specs.Tended.{Tended}
+use Rattle.set_tending.specs.Wires.{Passes, some, none}
+use Rattle.set_tending.specs.declared.wire.Wire.{Wire}
+use Rattle.set_tending.specs.declared.wire.Passed.{Passed}
+use Rattle.set_tending.proofs.Doing.{adds_nothing}
+use Rattle.set_tending.proofs.Lives.{lived_none, lived_adds, lived_sends, lived_ticks, lived_heeds, lived_hears, lived_speaks, lived_tells}
+use Rattle.line_play.specs.Gifts.{Gift}
+use Rattle.line_play.specs.SetObeying.{IsRefused, bad, untaken, other, Obeys, sends, does, refuses}
+use Rattle.line_play.specs.SetRounds.{Carries, passes, misses, ends, fails, opens, CarriesAll, no_link, one_link, Tells, nothing, one, ObeysWaiting, rests, obeys, TakesOrder, at_once, behind, report, Attends, waited, came, AttendsAll, none_due, full, quits, SetPlace, IsRound, Rounds, begins, round}
+use Rattle.line_play.specs.SetLaws.{sent_in, sent_waiting, sent_taking, sent_attending, sent_by_all, sent_along, told_in, told_along}
+
+-- what was sent, one part behind another
+sent_more : (t u : Tended) (sent xs ys told : List Msu) → Lived t ((sent ++ xs) ++ ys) told u → Lived t (sent ++ (xs ++ ys)) told u
+sent_more t u sent xs ys told l = subst (λ (zs : List Msu). Lived t zs told u) (append_assoc sent xs ys) l
+
+sent_none : (t u : Tended) (sent told : List Msu) → Lived t sent told u → Lived t (sent ++ []) told u
+sent_none t u sent told l = subst (λ (zs : List Msu). Lived t zs told u) (sym (append-nil sent)) l
+
+told_more : (t u : Tended) (sent told xs ys : List Msu) → Lived t sent ((told ++ xs) ++ ys) u → Lived t sent (told ++ (xs ++ ys)) u
+told_more t u sent told xs ys l = subst (λ (zs : List Msu). Lived t sent zs u) (append_assoc told xs ys) l
+
+told_none : (t u : Tended) (sent told : List Msu) → Lived t sent told u → Lived t sent (told ++ []) u
+told_none t u sent told l = subst (λ (zs : List Msu). Lived t sent zs u) (sym (append-nil told)) l
+
+lived_same : (t u w : Tended) (sent told : List Msu) → Lived t sent told u → w ≡ u → Lived t sent told w
+lived_same t u w sent told l same = subst (λ (x : Tended). Lived t sent told x) (sym same) l
+
+-- ---- orders
+
+lived_refused : (t u w : Tended) (sent told : List Msu) (order : List ℕ) → Lived t sent told u → IsRefused order u w → Lived t sent told w
+lived_refused t u w sent told order l (bad none_there same) = lived_same t u w sent told l same
+lived_refused t u w sent told order l (untaken m why said is same) = lived_same t u w sent told l same
+lived_refused t u w sent told order l (other none_there adds) = lived_adds t u w sent told l adds
+
+lived_obeys : (t s w : Tended) (sent told : List Msu) (order bytes : List ℕ) → Lived t sent told s → (made : Obeys order s bytes w) → Lived t (sent ++ sent_in made) told w
+lived_obeys t s _ sent told order _ l (sends {u} m said acts) = lived_sends t s u sent told (m ∷ []) l acts
+lived_obeys t s _ sent told order _ l (does {bytes} {u} none_there adds answer) = sent_none t u sent told (lived_adds t s u sent told l adds)
+lived_obeys t s _ sent told order _ l (refuses {u} why is) = sent_none t u sent told (lived_refused t s u sent told order l is)
+
+lived_waiting : (t s v : Tended) (sent told : List Msu) (waiting last : List (List ℕ)) (bytes : List ℕ) → Lived t sent told s
+    → (made : ObeysWaiting s waiting bytes v last) → Lived t (sent ++ sent_waiting made) told v
+lived_waiting t s _ sent told waiting _ _ l rests = sent_none t s sent told l
+lived_waiting t s _ sent told waiting _ _ l (obeys {bytes} {u} {w} {now} order more left before first made) =
+    sent_more t w sent (sent_waiting before) (sent_in made) told
+    (lived_obeys t u w (sent ++ sent_waiting before) told order more (lived_waiting t s u sent told waiting now bytes l before) made)
+
+lived_taking : (t s v : Tended) (sent told : List Msu) (order : List ℕ) (waiting now : List (List ℕ)) (bytes : List ℕ) → Lived t sent told s
+    → (made : TakesOrder order s waiting bytes v now) → Lived t (sent ++ sent_taking made) told v
+lived_taking t s _ sent told order waiting _ _ l (at_once {bytes} {u} may made) = lived_obeys t s u sent told order bytes l made
+lived_taking t s _ sent told order waiting _ _ l behind = sent_none t s sent told l
+lived_taking t s _ sent told order waiting _ _ l (report none_there) = sent_none t s sent told l
+
+lived_attending : (t s v : Tended) (sent told : List Msu) (waiting last : List (List ℕ)) (left still : Option (List Timed)) (bytes : List ℕ) → Lived t sent told s
+    → (made : Attends s waiting left bytes v last still) → Lived t (sent ++ sent_attending made) told v
+lived_attending t s _ sent told waiting _ left _ _ l (waited {bytes} {u} {now} before) = lived_waiting t s u sent told waiting now bytes l before
+lived_attending t s _ sent told waiting _ left _ _ l (came {bytes} {u} {now} {fewer} order more w later last before next no_end taken) =
+    sent_more t w sent (sent_attending before) (sent_taking taken) told
+    (lived_taking t u w (sent ++ sent_attending before) told order now later more (lived_attending t s u sent told waiting now left fewer bytes l before) taken)
+
+lived_all : (t s v : Tended) (sent told : List Msu) (waiting last : List (List ℕ)) (left still : Option (List Timed)) (bytes : List ℕ) (goes_on : Bool) → Lived t sent told s
+    → (made : AttendsAll s waiting left bytes goes_on v last still) → Lived t (sent ++ sent_by_all made) told v
+lived_all t s _ sent told waiting _ left _ _ _ l (none_due {bytes} {u} {now} {fewer} last before none_there) = lived_attending t s u sent told waiting now left fewer bytes l before
+lived_all t s _ sent told waiting _ left _ _ _ l (full {bytes} {u} {now} {fewer} before many) = lived_attending t s u sent told waiting now left fewer bytes l before
+lived_all t s _ sent told waiting _ left _ _ _ l (quits {bytes} {u} {now} {fewer} last before next) = lived_attending t s u sent told waiting now left fewer bytes l before
+
+-- ---- what is told
+
+lived_telling : (t s v : Tended) (sent told : List Msu) (bytes : List ℕ) → Lived t sent told s → (made : Tells s bytes v) → Lived t sent (told ++ told_in made) v
+lived_telling t s _ sent told _ l nothing = told_none t s sent told l
+lived_telling t s _ sent told _ l (one {bytes} {u} {w} x before takes) =
+    told_more t w sent told (told_in before) (message_in x)
+    (lived_tells t u w sent (told ++ told_in before) (message_in x) (lived_telling t s u sent told bytes l before) takes.messages takes.same)
+
+-- ---- lines
+
+lived_passes : (t s v : Tended) (sent told : List Msu) (link ahead : ℕ) (octets out after : List ℕ) (passed : Passed) (w x : Wire) → Lived t sent told s
+    → Passes link ahead octets s w out passed v x after → Lived t sent told v
+lived_passes t s v sent told link ahead octets out after passed w x l (some heard more hears speaks quiet is) =
+    lived_speaks t heard v sent told link (length octets) w.voice x.voice out after (lived_hears t s heard sent told link octets l hears) speaks
+lived_passes t s v sent told link ahead octets out after passed w x l (none empty voice waits) = lived_hears t s v sent told link _ l waits.hears
+
+lived_carries : (t s v : Tended) (sent told : List Msu) (link ahead : ℕ) (w y : Wire) (bytes : List ℕ) (gifts : List Gift) → Lived t sent told s
+    → Carries link ahead s w bytes gifts v y → Lived t sent told v
+lived_carries t s _ sent told link ahead w _ _ _ l (passes {u} {x} octets out passed is) = lived_passes t s u sent told link ahead octets [] out passed w x l is
+lived_carries t s _ sent told link ahead w _ _ _ l (misses {u} hears) = lived_hears t s u sent told link _ l hears
+lived_carries t s _ sent told link ahead w _ _ _ l ends = l
+lived_carries t s _ sent told link ahead w _ _ _ l fails = l
+lived_carries t s _ sent told link ahead w _ _ _ l opens = l
+
+lived_lines : (t s v : Tended) (sent told : List Msu) (ahead count : ℕ) (ws ys : List Wire) (bytes : List ℕ) (gifts : List Gift) → Lived t sent told s
+    → CarriesAll ahead s ws count bytes gifts v ys → Lived t sent told v
+lived_lines t s _ sent told ahead _ ws _ _ _ l no_link = l
+lived_lines t s _ sent told ahead _ ws _ _ _ l (one_link {link} {bytes} {gifts} {u} {v} {xs} {ys} more others before last) =
+    lived_carries t u v sent told link ahead last.before last.after more others (lived_lines t s u sent told ahead link ws xs bytes gifts l before) last.carries
+
+-- ---- rounds
+
+lived_round : (t : Tended) (p q : SetPlace) (sent told : List Msu) (ahead : ℕ) (bytes : List ℕ) (gifts : List Gift) (goes_on : Bool) → Lived t sent told p.set
+    → (is : IsRound ahead p bytes gifts goes_on q) → Lived t (sent ++ sent_by_all is.attends) ((told ++ told_in is.tells.tells) ++ told_in is.tells_more.tells) q.set
+lived_round t p q sent told ahead bytes gifts goes_on l is =
+    lived_telling t is.obeyed q.set (sent ++ sent_by_all is.attends) (told ++ told_in is.tells.tells) is.fourth
+    (lived_all t is.calm is.obeyed sent (told ++ told_in is.tells.tells) p.waiting q.waiting p.left q.left is.third goes_on
+    (lived_telling t is.tended is.calm sent told is.second
+    (lived_heeds t is.ticked is.tended sent told
+    (lived_ticks t is.carried is.ticked sent told (lived_lines t p.set is.carried sent told ahead (length p.wires) p.wires q.wires is.first gifts l is.carries) is.ticks)
+    is.tends)
+    is.tells.tells)
+    is.attends)
+    is.tells_more.tells
+
+-- a run is a life of its set, of which `send` took what was told as ok
+pub lived_along : (ahead : ℕ) (p r : SetPlace) (bytes : List ℕ) (gifts : List Gift) (goes_on : Bool) → (run : Rounds ahead p bytes gifts goes_on r)
+    → Lived p.set (sent_along run) (told_along run) r.set
+lived_along ahead p _ _ _ _ begins = lived_none p.set
+lived_along ahead p _ _ _ _ (round {bytes} {gifts} {q} {r} more others goes_on before is) =
+    lived_round p.set q r (sent_along before) (told_along before) ahead more others goes_on (lived_along ahead p q bytes gifts true before) is
