@@ -2,6 +2,7 @@ mod Measures
 mod NoSets
 mod SetLaws
 mod SetObeying
+mod SetOpening
 mod SetRounds
 mod SetTelling
 mod Turning

@@ -8,6 +8,7 @@ pub mod Opening
 pub mod SetDesks
 pub mod SetLaws
 pub mod SetObeying
+pub mod SetOpening
 pub mod SetRounds
 pub mod Told
 pub use Rattle.line_filter.specs.Filters

@@ -12,4 +12,5 @@ pub mod Wires
 pub use Rattle.group_changeover.specs.Labels
 pub use Rattle.group_changeover.specs.declared as group_changeover_types
 pub use Rattle.link_group.specs.Diverting
+pub use Rattle.link_group.specs.New
 pub use Rattle.link_group.specs.declared as link_group_types
