@@ -108,6 +108,24 @@ pub quiet_order : (s : SetOrder) (o : Option SetOrder) (order : List ℕ) → o 
     → octets_sent s ≡ None → sent_by (words_of order) ≡ None
 quiet_order s o order is said none_there = sym (subst (λ (x : Option SetOrder). IfSome x (λ (y : SetOrder). octets_sent y ≡ sent_by (words_of order))) is said) ∙ none_there
 
+pub says_none : {E : Type 0} (r : Result Bool E) (order : List ℕ) → SendsNone order → IfOk r (λ (b : Bool). b ≡ true → SendsNone order)
+says_none (Ok b) order none_there = λ shown. none_there
+says_none (Err e) order none_there = tt
+
+pub waits_so : {E : Type 0} (r : Result Bool E) (P : Type 0) → P → IfOk r (λ (b : Bool). b ≡ false → P)
+waits_so (Ok b) P h = λ denied. h
+waits_so (Err e) P h = tt
+
+-- octets that a word says
+pub sent_as : (r : Option SetOrder) (x y : Option (List ℕ)) → x ≡ y → IfSome r (λ (s : SetOrder). octets_sent s ≡ x) → IfSome r (λ (s : SetOrder). octets_sent s ≡ y)
+sent_as r x y same said = subst (λ (z : Option (List ℕ)). IfSome r (λ (s : SetOrder). octets_sent s ≡ z)) same said
+
+pub unsent_as : (r : Option SetOrder) (octets : List ℕ) (y : Option (List ℕ)) → Some octets ≡ y → (IsNone r → AreNoMessage octets) → IsNone r → IfSome y AreNoMessage
+unsent_as r octets y same none_there none = subst (λ (z : Option (List ℕ)). IfSome z AreNoMessage) same (none_there none)
+
+pub nothing_as : (y : Option (List ℕ)) → None ≡ y → IfSome y AreNoMessage
+nothing_as y same = subst (λ (z : Option (List ℕ)). IfSome z AreNoMessage) same tt
+
 -- ---- an order is obeyed
 
 not_taken : (order octets : List ℕ) (t u : Tended) (m : Msu) → sent_by (words_of order) ≡ Some octets → IsMessageOf octets m → IsUntaken m t u → IsRefused order t u

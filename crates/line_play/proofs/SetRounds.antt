@@ -1,5 +1,7 @@
 -- A round of a set on lines, part by part.
-use Rattle.std.proofs.Common.{◌≡◌, ◌∙◌, ◌⊎◌, inl, inr, ℕ, ◌+◌, ◌≤◌, Bool, true, false, List, [], ◌∷◌, ◌++◌, append-nil, append_assoc, length, map, replicate, slice_get, slice_set, codes, string_bytes, decimal, Option, None, Some, Result, Ok, Err, OnOk, IfOk, IfSome, refl, sym, ap, subst, arith}
+use Rattle.std.proofs.Common.{◌≡◌, ◌∙◌, ◌⊎◌, inl, inr, ℕ, ◌+◌, ◌≤◌, ◌<◌, ◌==◌, true≢false, Bool, true, false, List, [], ◌∷◌, ◌++◌, append-nil, append_assoc, length, map, replicate, get_or, slice_get, slice_set, codes, string_bytes, decimal, Option, None, Some, Result, Ok, Err, OnOk, IfOk, IfSome, refl, sym, ap, subst, arith}
+use Rattle.std.proofs.lemmas.Bool.Decides.{nat_tests}
+use Rattle.std.proofs.lemmas.Option.{slice_get-get_or}
 use Rattle.std.proofs.lemmas.Result.{on_ok_weaker}
 use Rattle.std.proofs.lemmas.List.{replicate_more}
 use Rattle.script_lines.specs.Words.{words_of}
@@ -42,13 +44,28 @@ pub given_some : (link : ℕ) (octets : List ℕ) (f g : Option (List Gift)) →
 given_some link [] f g some gives = absurd (some refl)
 given_some link (octet ∷ octets) f g some gives = gives
 
+none_in : (octets : List ℕ) → length octets ≡ 0 → octets ≡ []
+none_in [] none_there = refl
+none_in (octet ∷ octets) none_there = absurd (omega (arith, none_there))
+
+pub is_none : (octets : List ℕ) (b : Bool) → b ≡ (length octets == 0) → b ≡ true → octets ≡ []
+is_none octets b is shown = none_in octets (grind (arith, nat_tests))
+
+pub is_some_there : (octets : List ℕ) (b : Bool) → b ≡ (length octets == 0) → b ≡ false → octets ≡ [] → ⊥
+is_some_there octets b is denied none_there =
+    let e : length octets ≡ 0 = ap length none_there in
+    let z : b ≡ true = grind (arith, nat_tests) in
+    absurd (true≢false (sym z ∙ denied))
+
 pub given_none : (link : ℕ) (octets : List ℕ) (f : Option (List Gift)) → octets ≡ [] → Grows f f (given link octets)
 given_none link octets f none_there = subst (λ (xs : List ℕ). Grows f f (given link xs)) (sym none_there) (grows_none f)
 
 -- ---- a line
 
-abbrev Carried : ℕ → ℕ → Tended → Wire → Tended → Wire → List ℕ → List Gift → Type 0
-Carried link ahead t w u x bytes gifts = Carries link ahead t w bytes gifts u x
+-- what goes out stands behind nothing
+pub from_none : (link ahead : ℕ) (came : List ℕ) (t : Tended) (w : Wire) (out : List ℕ) (passed : Passed) (u : Tended) (x : Wire) (after : List ℕ) → out ≡ []
+    → Passes link ahead came t w out passed u x after → Passes link ahead came t w [] passed u x after
+from_none link ahead came t w out passed u x after none_there made = subst (λ (xs : List ℕ). Passes link ahead came t w xs passed u x after) none_there made
 
 -- what came passed, and nothing is told
 pub passed_same : (link ahead : ℕ) (t u : Tended) (w x : Wire) (came out : List ℕ) (passed : Passed) (a : Stand) (f g : Option (List Gift))
@@ -119,19 +136,23 @@ line_opened r link ahead t w a b f g h none_given gives line =
 
 -- ---- all lines
 
-pub carried_at : {A E : Type 0} (r : Result A E) (link ahead : ℕ) (t u : Tended) (ws xs : List Wire) (w x : Wire) (a b : Stand) (f g : Option (List Gift))
-    → slice_get ws link ≡ Some w → xs ≡ slice_set ws link x → OnOk r (Made (λ bytes gifts. Carries link ahead t w bytes gifts u x) a b f g)
-    → OnOk r (Made (λ bytes gifts. CarriesAt link ahead t ws bytes gifts u xs) a b f g)
-carried_at r link ahead t u ws xs w x a b f g there lines made =
+pub carried_at : {A E : Type 0} (r : Result A E) (link ahead : ℕ) (t u : Tended) (ws : List Wire) (d x : Wire) (a b : Stand) (f g : Option (List Gift))
+    → link < length ws → OnOk r (Made (λ bytes gifts. Carries link ahead t (get_or ws link d) bytes gifts u x) a b f g)
+    → OnOk r (Made (λ bytes gifts. CarriesAt link ahead t ws bytes gifts u (slice_set ws link x)) a b f g)
+carried_at r link ahead t u ws d x a b f g within made =
     on_ok_weaker r
-    (λ (m : Made (λ bytes gifts. Carries link ahead t w bytes gifts u x) a b f g). record {
+    (λ (m : Made (λ bytes gifts. Carries link ahead t (get_or ws link d) bytes gifts u x) a b f g). record {
       bytes = m.bytes;
       gifts = m.gifts;
-      are = record { before = w; after = x; there = there; carries = m.are; lines = lines };
+      are = record { before = get_or ws link d; after = x; there = slice_get-get_or ws link d within; carries = m.are; lines = refl };
       tells = m.tells;
       gives = m.gives;
     })
     made
+
+pub carried_count : (ahead n m : ℕ) (t u : Tended) (ws xs : List Wire) (a b : Stand) (f g : Option (List Gift)) → n ≡ m
+    → Made (λ bytes gifts. CarriesAll ahead t ws n bytes gifts u xs) a b f g → Made (λ bytes gifts. CarriesAll ahead t ws m bytes gifts u xs) a b f g
+carried_count ahead n m t u ws xs a b f g is made = subst (λ (k : ℕ). Made (λ bytes gifts. CarriesAll ahead t ws k bytes gifts u xs) a b f g) is made
 
 pub carried_none : (ahead : ℕ) (t : Tended) (ws : List Wire) (a : Stand) (f : Option (List Gift))
     → Made (λ bytes gifts. CarriesAll ahead t ws 0 bytes gifts t ws) a a f f
@@ -167,20 +188,28 @@ pub waits_same : (t u : Tended) (waiting now left : List (List ℕ)) (a b : Stan
     → left ≡ now → TellsSuch (λ bytes. ObeysWaiting t waiting bytes u left) a b
 waits_same t u waiting now left a b before same = subst (λ (l : List (List ℕ)). TellsSuch (λ bytes. ObeysWaiting t waiting bytes u l) a b) (sym same) before
 
-pub taken_at_once : {A E : Type 0} (r : Result A E) (order : List ℕ) (t u : Tended) (waiting : List (List ℕ)) (a b : Stand)
-    → (waiting ≡ []) ⊎ (sent_by (words_of order) ≡ None) → OnOk r (TellsSuch (λ bytes. Obeys order t bytes u) a b)
+-- an order by its text
+taken_as : {A E : Type 0} (r : Result A E) (order said : List ℕ) (t u : Tended) (waiting later : List (List ℕ)) (a b : Stand) → said ≡ order
+    → OnOk r (TellsSuch (λ bytes. TakesOrder said t waiting bytes u later) a b) → OnOk r (TellsSuch (λ bytes. TakesOrder order t waiting bytes u later) a b)
+taken_as r order said t u waiting later a b is made =
+    subst (λ (o : List ℕ). OnOk r (TellsSuch (λ bytes. TakesOrder o t waiting bytes u later) a b)) is made
+
+pub taken_at_once : {A E : Type 0} (r : Result A E) (order said : List ℕ) (t u : Tended) (waiting : List (List ℕ)) (a b : Stand) → said ≡ order
+    → (waiting ≡ []) ⊎ (sent_by (words_of said) ≡ None) → OnOk r (TellsSuch (λ bytes. Obeys said t bytes u) a b)
     → OnOk r (TellsSuch (λ bytes. TakesOrder order t waiting bytes u waiting) a b)
-taken_at_once r order t u waiting a b may made =
-    on_ok_weaker r (λ (m : TellsSuch (λ bytes. Obeys order t bytes u) a b). record { bytes = m.bytes; are = at_once may m.are; tells = m.tells }) made
+taken_at_once r order said t u waiting a b is may made =
+    taken_as r order said t u waiting waiting a b is
+    (on_ok_weaker r (λ (m : TellsSuch (λ bytes. Obeys said t bytes u) a b). record { bytes = m.bytes; are = at_once may m.are; tells = m.tells }) made)
 
 pub taken_behind : (order : List ℕ) (t : Tended) (waiting later : List (List ℕ)) (a : Stand) → later ≡ waiting ++ order ∷ []
     → TellsSuch (λ bytes. TakesOrder order t waiting bytes t later) a a
 taken_behind order t waiting later a is =
     subst (λ (l : List (List ℕ)). TellsSuch (λ bytes. TakesOrder order t waiting bytes t l) a a) (sym is) (record { bytes = []; are = behind; tells = tells_none a })
 
-pub taken_report : (order : List ℕ) (t : Tended) (waiting : List (List ℕ)) (a : Stand) → SendsNone order
+pub taken_report : (order said : List ℕ) (t : Tended) (waiting : List (List ℕ)) (a : Stand) → said ≡ order → SendsNone said
     → TellsSuch (λ bytes. TakesOrder order t waiting bytes t waiting) a a
-taken_report order t waiting a none_there = record { bytes = []; are = report none_there; tells = tells_none a }
+taken_report order said t waiting a is none_there =
+    subst (λ (o : List ℕ). TellsSuch (λ bytes. TakesOrder o t waiting bytes t waiting) a a) is (record { bytes = []; are = report none_there; tells = tells_none a })
 
 pub attends_first : (t u : Tended) (waiting now : List (List ℕ)) (left : Option (List Timed)) (a b : Stand)
     → TellsSuch (λ bytes. ObeysWaiting t waiting bytes u now) a b → TellsSuch (λ bytes. Attends t waiting left bytes u now left) a b

@@ -17,6 +17,11 @@ pub told_as : {A E : Type 0} (r : Result A E) (a b : Stand) (now later : ℕ) (t
 told_as r a b now later text bytes now_is text_is line =
     subst (λ (n : ℕ). OnOk r (TellsLines a b (told n bytes))) now_is (subst (λ (xs : List ℕ). OnOk r (TellsLines a b (told now xs))) text_is line)
 
+-- what holds holds however a call ends
+pub ok_so : {A E : Type 0} (r : Result A E) (P : Type 0) → P → OnOk r P
+ok_so (Ok v) P h = h
+ok_so (Err e) P h = tt
+
 -- ---- what orders ask for
 
 pub shows_none : (now : ℕ) (a : Stand) → TellsSuch (Shows now) a a

@@ -168,15 +168,7 @@ impl SetState {
                 Ok(None)
             }
             SetOrder::Rebalance => self.rebalance(alloc),
-            SetOrder::State(_)
-            | SetOrder::Value(_, _)
-            | SetOrder::Measure(_)
-            | SetOrder::Aborted
-            | SetOrder::Measures
-            | SetOrder::Table
-            | SetOrder::Held
-            | SetOrder::Unsure
-            | SetOrder::Send(_) => Ok(None),
+            _ => Ok(None),
         }
     }
 

@@ -1,5 +1,5 @@
 //! Orders to a set as they come: obeyed at once, or once those before them were.
-ghost use Rattle.std.specs.Prelude.{◌≡◌, ◌↔◌, [], IfOk, OnOk, IsTrue, None, string_bytes};
+ghost use Rattle.std.specs.Prelude.{◌≡◌, ◌↔◌, [], true, false, IfOk, OnOk, IsTrue, None, string_bytes};
 ghost use Rattle.script_lines.specs.Words.{words_of};
 ghost use Rattle.line_filter.specs.Desks.{Told as TellsSuch};
 ghost use Rattle.line_filter.specs.Orders.{QUIT};
@@ -16,7 +16,7 @@ use std::io::{self, ErrorKind};
 
 /// Whether an order sends a message.
 fn sends(order: &SetOrder<'_>) -> bool
-    ensures { (IsTrue result → ⊥) → octets_sent order.now ≡ None }
+    ensures { result ≡ false → octets_sent order.now ≡ None }
 {
     match order {
         SetOrder::Send(_) => true,
@@ -26,7 +26,7 @@ fn sends(order: &SetOrder<'_>) -> bool
 
 /// Whether a line sends a message.
 fn is_send(alloc: Global, text: &str) -> Result<bool, AllocError>
-    ensures { IfOk result (λ sends. (IsTrue sends → ⊥) → SendsNone text.now) }
+    ensures { IfOk result (λ sends. sends ≡ false → SendsNone text.now) }
 {
     match set_order_in(alloc, text)? {
         Some(order) => Ok(sends(&order)),
@@ -36,7 +36,7 @@ fn is_send(alloc: Global, text: &str) -> Result<bool, AllocError>
 
 /// Whether an order may overtake others that wait: it stops links, or says which links orders speak of.
 fn overtakes(order: &SetOrder<'_>) -> bool
-    ensures { IsTrue result → octets_sent order.now ≡ None }
+    ensures { result ≡ true → octets_sent order.now ≡ None }
 {
     match order {
         SetOrder::Link(order) => *order == Order::Stop,
@@ -47,12 +47,22 @@ fn overtakes(order: &SetOrder<'_>) -> bool
 
 /// Whether a line may overtake orders that wait.
 fn may_overtake(alloc: Global, text: &str) -> Result<bool, AllocError>
-    ensures { IfOk result (λ first. IsTrue first → sent_by (words_of text.now) ≡ None) }
+    ensures { IfOk result (λ first. first ≡ true → sent_by (words_of text.now) ≡ None) }
 {
     match set_order_in(alloc, text)? {
         Some(order) => Ok(overtakes(&order)),
         None => Ok(false),
     }
+}
+
+/// Whether a line says nothing to a set: it is a report, and no order that sends a message.
+fn says_nothing(alloc: Global, text: &str) -> Result<bool, AllocError>
+    ensures { IfOk result (λ nothing. nothing ≡ true → SendsNone text.now) }
+{
+    if is_send(alloc, text)? {
+        return Ok(false);
+    }
+    is_set_report(alloc, text)
 }
 
 /// Whether an order ends the run.
@@ -93,14 +103,21 @@ fn obey_waiting<P: Reports>(
 }
 
 /// Whether an order has to wait: behind others, or since messages to send wait.
-fn has_to_wait(state: &SetState, queue: &Queue, sends: bool) -> bool
-    ensures { (IsTrue result → ⊥) → waiting_in queue.now ≡ [] }
+fn has_to_wait(
+    alloc: Global,
+    state: &SetState,
+    queue: &Queue,
+    text: &str,
+) -> Result<bool, AllocError>
+    ensures { IfOk result (λ waits. waits ≡ false → waiting_in queue.now ≡ []) }
 {
-    if queue.is_empty() {
-        state.tender.sends_wait() && sends
-    } else {
-        true
+    if !queue.is_empty() {
+        return Ok(true);
     }
+    if !state.tender.sends_wait() {
+        return Ok(false);
+    }
+    is_send(alloc, text)
 }
 
 /// Takes an order: it is obeyed, or waits behind others, but for one that overtakes them. A report says none.
@@ -114,16 +131,16 @@ fn take_order<P: Reports>(
     ensures { OnOk result (TellsSuch (λ bytes. TakesOrder (string_bytes text) state.old.tender (waiting_in queue.old) bytes state.new.tender (waiting_in queue.new))
         (P.stand reports.old) (P.stand reports.new)) }
 {
-    let sends = is_send(alloc, text.as_str())?;
-    if !sends && is_set_report(alloc, text.as_str())? {
+    let line = text.as_str();
+    if says_nothing(alloc, line)? {
         return Ok(());
     }
     let focus = state.focus;
-    if !has_to_wait(state, queue, sends) {
-        return state.obey(alloc, focus, text.as_str(), reports);
+    if !has_to_wait(alloc, state, queue, line)? {
+        return state.obey(alloc, focus, line, reports);
     }
-    if may_overtake(alloc, text.as_str())? {
-        return state.obey(alloc, focus, text.as_str(), reports);
+    if may_overtake(alloc, line)? {
+        return state.obey(alloc, focus, line, reports);
     }
     if queue.put(focus, text) {
         Ok(())

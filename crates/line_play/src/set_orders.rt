@@ -10,6 +10,12 @@ use script_links::{Order, TermCommand, count, octets_in, order_in, term_command_
 use script_terminal::Measure;
 use std::alloc::{AllocError, Global};
 
+/// A message has so many octets at least: its service information octet and a label.
+const LEAST: usize = 5;
+
+/// So many it has at most.
+const MOST: usize = 273;
+
 /// Which links orders speak of.
 #[derive(Clone, Copy, Debug, PartialEq, Eq)]
 pub enum Focus {
@@ -80,7 +86,10 @@ fn sent<'a>(octets: Vec<u8>) -> Option<SetOrder<'a>>
     ensures some { IfSome result (λ s. octets_sent s ≡ Some octets.items) }
     ensures none { IsNone result → AreNoMessage octets.items }
 {
-    if octets.len() < 5 || 273 < octets.len() {
+    if octets.len() < LEAST {
+        return None;
+    }
+    if octets.len() > MOST {
         return None;
     }
     Some(SetOrder::Send(octets))

@@ -136,10 +136,11 @@ fn carry_at<L: Lines, P: Reports>(
     ensures { OnOk result (Made (λ bytes gifts. CarriesAt line.link line.ahead state.old.tender wires.old bytes gifts state.new.tender wires.new)
         (P.stand reports.old) (P.stand reports.new) (L.given lines.old) (L.given lines.new)) }
 {
+    let link = line.link;
     carry(
         alloc,
         state,
-        &mut wires[line.link],
+        &mut wires[link],
         lines,
         line,
         part,

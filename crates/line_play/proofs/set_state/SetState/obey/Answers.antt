@@ -5,5 +5,5 @@ use Rattle.line_play.proofs.set_state.SetState.obey.Goals as goal
 
 pub returns-in-None : goal.returns-in-None
 returns-in-None g c =
-    let none_there = moved _ _ c.in-None.is (λ o. IsNone o → SendsNone c.args.text.now) c.in_ok-set_order_in.ensures.none refl in
+    let none_there = moved _ _ c.in-None.is (λ o. IsNone o → SendsNone c.args.text.now) c.in_ok-order.ensures.none refl in
     refused_bad c.refuse.result c.args.text.now _ c.args.self.now.tender _ _ none_there c.refuse.ensures
