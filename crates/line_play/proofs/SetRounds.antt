@@ -1,9 +1,9 @@
 -- A round of a set on lines, part by part.
-use Rattle.std.proofs.Common.{◌≡◌, ◌∙◌, ◌⊎◌, inl, inr, ℕ, ◌+◌, ◌≤◌, ◌<◌, ◌==◌, true≢false, Bool, true, false, List, [], ◌∷◌, ◌++◌, append-nil, append_assoc, length, map, replicate, get_or, slice_get, slice_set, codes, string_bytes, decimal, Option, None, Some, Result, Ok, Err, OnOk, IfOk, IfSome, refl, sym, ap, subst, arith}
+use Rattle.std.proofs.Common.{◌≡◌, ◌∙◌, ◌⊎◌, inl, inr, ℕ, ◌+◌, ◌≤◌, ◌<◌, ◌==◌, true≢false, Bool, true, false, List, [], ◌∷◌, ◌++◌, append-nil, append_assoc, length, map, replicate, take, drop, get_or, slice_get, slice_set, codes, string_bytes, decimal, Option, None, Some, Result, Ok, Err, OnOk, IfOk, IfSome, refl, sym, ap, subst, arith}
 use Rattle.std.proofs.lemmas.Bool.Decides.{nat_tests}
 use Rattle.std.proofs.lemmas.Option.{slice_get-get_or}
 use Rattle.std.proofs.lemmas.Result.{on_ok_weaker}
-use Rattle.std.proofs.lemmas.List.{replicate_more}
+use Rattle.std.proofs.lemmas.List.{replicate_more, take_all, take-append-le}
 use Rattle.script_lines.specs.Words.{words_of}
 use Rattle.line_filter.specs.Desks.{Told as TellsSuch}
 use Rattle.line_filter.specs.Orders.{Timed, NextIs, NoneIsDue, QUIT, told}
@@ -168,6 +168,20 @@ carried_more ahead link t u v ws xs ys a b c f g h before more = record {
   tells = tells_trans a b c before.bytes more.bytes before.tells more.tells;
   gives = grows_then f g h before.gifts more.gifts before.gives more.gives;
 }
+
+-- what stands in a vector once a slice of all of it was written
+front_of : (xs ys : List Wire) → take (length xs) (xs ++ ys) ≡ xs
+front_of xs ys = take-append-le (length xs) xs ys (omega arith) ∙ take_all (length xs) xs (omega arith)
+
+pub written : (n : ℕ) (xs items : List Wire) → length xs ≡ n → take n (xs ++ drop (length xs) items) ≡ xs
+written n xs items e = subst (λ (k : ℕ). take k (xs ++ drop (length xs) items) ≡ xs) e (front_of xs (drop (length xs) items))
+
+pub carried_lines : {A E : Type 0} (r : Result A E) (ahead : ℕ) (t u : Tended) (ws vs xs ys : List Wire) (a b : Stand) (f g : Option (List Gift)) → vs ≡ ws → ys ≡ xs
+    → OnOk r (Made (λ bytes gifts. CarriesAll ahead t vs (length vs) bytes gifts u xs) a b f g)
+    → OnOk r (Made (λ bytes gifts. CarriesAll ahead t ws (length ws) bytes gifts u ys) a b f g)
+carried_lines r ahead t u ws vs xs ys a b f g before after made =
+    subst (λ (zs : List Wire). OnOk r (Made (λ bytes gifts. CarriesAll ahead t ws (length ws) bytes gifts u zs) a b f g)) (sym after)
+    (subst (λ (zs : List Wire). OnOk r (Made (λ bytes gifts. CarriesAll ahead t zs (length zs) bytes gifts u xs) a b f g)) before made)
 
 -- ---- orders
 

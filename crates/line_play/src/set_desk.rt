@@ -8,7 +8,7 @@ use crate::set_lines::Lines;
 use crate::set_measures::Since;
 use crate::set_orders::Focus;
 use crate::set_queue::Queue;
-use crate::set_round::{carry_all, tend, tick};
+use crate::set_round::{carry_lines, tend, tick};
 use crate::set_state::{SetState, tell_all};
 use line_filter::{Orders, Reports};
 use set_tending::{Tender, Wire};
@@ -137,10 +137,10 @@ impl<O: Orders, P: Reports> SetDesk<O, P> {
         ensures ahead { self.new.ahead ≡ self.old.ahead }
     {
         lines.begin(self.state.tender.now());
-        carry_all(
+        carry_lines(
             alloc,
             &mut self.state,
-            self.wires.as_mut_slice(),
+            &mut self.wires,
             lines,
             self.ahead,
             part,

@@ -150,7 +150,7 @@ fn carry_at<L: Lines, P: Reports>(
 }
 
 /// A round of all lines.
-pub(crate) fn carry_all<L: Lines, P: Reports>(
+fn carry_all<L: Lines, P: Reports>(
     alloc: Global,
     state: &mut SetState,
     wires: &mut [Wire],
@@ -168,6 +168,32 @@ pub(crate) fn carry_all<L: Lines, P: Reports>(
         carry_at(alloc, state, wires, lines, line, part, out, reports)?;
     }
     Ok(())
+}
+
+/// The same of all lines of a set.
+pub(crate) fn carry_lines<L: Lines, P: Reports>(
+    alloc: Global,
+    state: &mut SetState,
+    wires: &mut Vec<Wire>,
+    lines: &mut L,
+    ahead: usize,
+    part: &mut [u8],
+    out: &mut Vec<u8>,
+    reports: &mut P,
+) -> io::Result<()>
+    ensures { OnOk result (Made (λ bytes gifts. CarriesAll ahead state.old.tender wires.old.items (length wires.old.items) bytes gifts state.new.tender wires.new.items)
+        (P.stand reports.old) (P.stand reports.new) (L.given lines.old) (L.given lines.new)) }
+{
+    carry_all(
+        alloc,
+        state,
+        wires.as_mut_slice(),
+        lines,
+        ahead,
+        part,
+        out,
+        reports,
+    )
 }
 
 /// A tick passes.
