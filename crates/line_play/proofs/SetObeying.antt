@@ -185,3 +185,6 @@ answered r now order a b c agreed asked =
 -- what holds of a value holds of what it is
 pub moved : {A : Type 0} (x y : A) → x ≡ y → (P : A → Type 0) → P x → P y
 moved x y e P h = subst P e h
+
+pub not_both : (b : Bool) → b ≡ false → b ≡ true → ⊥
+not_both b denied shown = absurd (true≢false (sym shown ∙ denied))

@@ -188,12 +188,12 @@ carried_lines r ahead t u ws vs xs ys a b f g before after made =
 pub waits_none : (t : Tended) (waiting : List (List ℕ)) (a : Stand) → TellsSuch (λ bytes. ObeysWaiting t waiting bytes t waiting) a a
 waits_none t waiting a = record { bytes = []; are = rests; tells = tells_none a }
 
-pub waits_more : (t u w : Tended) (waiting now left : List (List ℕ)) (order : List ℕ) (a b c : Stand)
-    → TellsSuch (λ bytes. ObeysWaiting t waiting bytes u now) a b → now ≡ order ∷ left → TellsSuch (λ bytes. Obeys order u bytes w) b c
+pub waits_more : (t u w : Tended) (waiting now left : List (List ℕ)) (order said : List ℕ) (a b c : Stand)
+    → TellsSuch (λ bytes. ObeysWaiting t waiting bytes u now) a b → now ≡ order ∷ left → said ≡ order → TellsSuch (λ bytes. Obeys said u bytes w) b c
     → TellsSuch (λ bytes. ObeysWaiting t waiting bytes w left) a c
-waits_more t u w waiting now left order a b c before first more = record {
+waits_more t u w waiting now left order said a b c before first is more = record {
   bytes = before.bytes ++ more.bytes;
-  are = obeys order more.bytes left before.are first more.are;
+  are = obeys order more.bytes left before.are first (subst (λ (o : List ℕ). Obeys o u more.bytes w) is more.are);
   tells = tells_trans a b c before.bytes more.bytes before.tells more.tells;
 }
 

@@ -46,7 +46,8 @@ fn hear_part<'a>(
         return Err(TendError::NoMemory);
     }
     tender.heed_link(link)?;
-    Ok(&octets[taken..])
+    let left = &octets[taken..];
+    Ok(left)
 }
 
 /// Has a link hear octets, all of them.

@@ -1,6 +1,6 @@
 use Rattle.std.proofs.Common.{IsNone, IfSome, refl, sym, ◌∙◌, string_bytes}
 use Rattle.line_filter.specs.Orders.{NextIs, NoneIsDue}
-use Rattle.line_play.proofs.SetObeying.{moved}
+use Rattle.line_play.proofs.SetObeying.{moved, not_both}
 use Rattle.line_play.proofs.SetRounds.{attends_first, attends_more, attends_over, attends_full, attends_quit}
 use Rattle.line_play.proofs.set_attending.attend.Goals as goal
 
@@ -26,4 +26,4 @@ pub loop-order-preserved : goal.loop-order-preserved
 loop-order-preserved g c =
     let next = moved _ _ c.in-Some.is (λ o. IfSome o (λ text. NextIs c.now.result (g.O.Orders.left c.loop-order.orders) (string_bytes text) (g.O.Orders.left c.next.new.self))) c.in_ok-order.ensures.order in
     attends_more _ _ _ _ _ _ _ _ _ _ c.now.result _ _ _ c.loop-order.invariant c.now.ensures next
-    (λ is. c.if-is_quit.false (c.is_quit.ensures.1 (c.as_str.ensures.value ∙ is))) c.in_ok-take_order-in-Some.ensures
+    (λ is. not_both c.is_quit.result c.if-is_quit.false (c.is_quit.ensures.1 (c.as_str.ensures.value ∙ is))) c.in_ok-take_order-in-Some.ensures
