@@ -1,6 +1,6 @@
 mod Measures
 mod NoSets
-mod SetDesks
+pub mod SetDesks
 mod SetLaws
 mod SetObeying
 mod SetOpening

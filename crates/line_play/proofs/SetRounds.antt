@@ -38,6 +38,9 @@ grows_more f g h n x before more = subst (λ (xs : List Gift). Grows f h xs) (re
 grows_same : (f g h : Option (List Gift)) (xs : List Gift) → Grows f g [] → Grows g h xs → Grows f h xs
 grows_same f g h xs none_given more = grows_then f g h [] xs none_given more
 
+pub grows_last : (f g h : Option (List Gift)) (xs : List Gift) → Grows f g xs → Grows g h [] → Grows f h xs
+grows_last f g h xs more none_given = subst (λ (ys : List Gift). Grows f h ys) (append-nil xs) (grows_then f g h xs [] more none_given)
+
 -- octets that are given are some
 pub given_some : (link : ℕ) (octets : List ℕ) (f g : Option (List Gift)) → (octets ≡ [] → ⊥) → Grows f g (record { link = link; octets = octets } ∷ [])
     → Grows f g (given link octets)

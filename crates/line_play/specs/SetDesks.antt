@@ -1,10 +1,12 @@
 -- A set on lines, with its orders and reports.
-use Rattle.std.specs.Prelude.{◌≡◌, ℕ, List, [], length, All, Option}
+use Rattle.std.specs.Prelude.{◌≡◌, ℕ, Bool, List, [], length, All, Option}
 use Rattle.line_filter.specs.Orders.{Timed}
 use Rattle.set_tending.specs.Tended.{Tended}
 use Rattle.set_tending.specs.Wires.{IsNewWire}
 use Rattle.set_tending.specs.declared.wire.Wire.{Wire}
-use Rattle.line_play.specs.SetRounds.{SetPlace, waiting_in}
+use Rattle.line_filter.specs.Reporting.{Stand}
+use Rattle.line_play.specs.Gifts.{Gift}
+use Rattle.line_play.specs.SetRounds.{Made, SetPlace, Rounds, waiting_in}
 use Rattle.line_play.specs.declared.set_desk.SetDesk.{SetDesk}
 
 -- a line for each link, on which nothing came or went
@@ -29,3 +31,23 @@ pub record IsNewSetDesk {O P : Type 0} (tender : Tended) (ahead : ℕ) (orders :
   pub none_wait : waiting_in desk.queue ≡ []
   pub orders_are : desk.orders ≡ orders
   pub reports_are : desk.reports ≡ reports
+
+-- rounds were made, one behind another, and the last one ended the run or didn't
+pub record Ran (ahead : ℕ) (p : SetPlace) (bytes : List ℕ) (gifts : List Gift) (q : SetPlace) :
+    Type 0 where
+  pub goes_on : Bool
+  pub rounds : Rounds ahead p bytes gifts goes_on q
+
+-- A set ran from its first round on: nothing had come or gone, and no order waited. What was told,
+-- and what lines were given, is that of its rounds.
+pub record RanFrom (ahead : ℕ) (tender : Tended) : Type 0 where
+  pub first : SetPlace
+  pub set : first.set ≡ tender
+  pub wires : AreNewWires tender.plan.links first.wires
+  pub none_wait : first.waiting ≡ []
+  pub before : Stand
+  pub after : Stand
+  pub given_before : Option (List Gift)
+  pub given : Option (List Gift)
+  pub last : SetPlace
+  pub made : Made (λ bytes gifts. Ran ahead first bytes gifts last) before after given_before given
