@@ -10,7 +10,7 @@ use Rattle.set_tending.specs.declared.wire.Wire.{Wire}
 use Rattle.set_tending.specs.declared.wire.Passed.{Passed}
 use Rattle.set_tending.proofs.Doing.{adds_nothing}
 use Rattle.set_tending.proofs.Lives.{lived_none, lived_adds, lived_sends, lived_ticks, lived_heeds, lived_hears, lived_speaks, lived_tells}
-use Rattle.line_play.specs.Gifts.{Gift}
+use Rattle.line_play.specs.LineTraffic.{Traffic}
 use Rattle.line_play.specs.SetObeying.{IsRefused, bad, untaken, other, Obeys, sends, does, refuses}
 use Rattle.line_play.specs.SetRounds.{Carries, passes, misses, ends, fails, opens, CarriesAll, no_link, one_link, Tells, nothing, one, ObeysWaiting, rests, obeys, TakesOrder, at_once, behind, report, Attends, waited, came, AttendsAll, none_due, full, quits, SetPlace, IsRound, Rounds, begins, round}
 use Rattle.line_play.specs.SetLaws.{sent_in, sent_waiting, sent_taking, sent_attending, sent_by_all, sent_along, told_in, told_along}
@@ -85,38 +85,39 @@ lived_passes t s v sent told link ahead octets out after passed w x l (some hear
     lived_speaks t heard v sent told link (length octets) w.voice x.voice out after (lived_hears t s heard sent told link octets l hears) speaks
 lived_passes t s v sent told link ahead octets out after passed w x l (none empty voice waits) = lived_hears t s v sent told link _ l waits.hears
 
-lived_carries : (t s v : Tended) (sent told : List Msu) (link ahead : ℕ) (w y : Wire) (bytes : List ℕ) (gifts : List Gift) → Lived t sent told s
-    → Carries link ahead s w bytes gifts v y → Lived t sent told v
-lived_carries t s _ sent told link ahead w _ _ _ l (passes {u} {x} octets out passed is) = lived_passes t s u sent told link ahead octets [] out passed w x l is
+lived_carries : (t s v : Tended) (sent told : List Msu) (link ahead : ℕ) (w y : Wire) (bytes : List ℕ) (traffic : List Traffic) → Lived t sent told s
+    → Carries link ahead s w bytes traffic v y → Lived t sent told v
+lived_carries t s _ sent told link ahead w _ _ _ l (passes {bytes} {traffic} {u} {x} octets is) =
+    lived_passes t s u sent told link ahead octets [] is.out is.passed w x l is.passes
 lived_carries t s _ sent told link ahead w _ _ _ l (misses {u} hears) = lived_hears t s u sent told link _ l hears
 lived_carries t s _ sent told link ahead w _ _ _ l ends = l
 lived_carries t s _ sent told link ahead w _ _ _ l fails = l
 lived_carries t s _ sent told link ahead w _ _ _ l opens = l
 
-lived_lines : (t s v : Tended) (sent told : List Msu) (ahead count : ℕ) (ws ys : List Wire) (bytes : List ℕ) (gifts : List Gift) → Lived t sent told s
-    → CarriesAll ahead s ws count bytes gifts v ys → Lived t sent told v
+lived_lines : (t s v : Tended) (sent told : List Msu) (ahead count : ℕ) (ws ys : List Wire) (bytes : List ℕ) (traffic : List Traffic) → Lived t sent told s
+    → CarriesAll ahead s ws count bytes traffic v ys → Lived t sent told v
 lived_lines t s _ sent told ahead _ ws _ _ _ l no_link = l
-lived_lines t s _ sent told ahead _ ws _ _ _ l (one_link {link} {bytes} {gifts} {u} {v} {xs} {ys} more others before last) =
-    lived_carries t u v sent told link ahead last.before last.after more others (lived_lines t s u sent told ahead link ws xs bytes gifts l before) last.carries
+lived_lines t s _ sent told ahead _ ws _ _ _ l (one_link {link} {bytes} {traffic} {u} {v} {xs} {ys} more others before last) =
+    lived_carries t u v sent told link ahead last.before last.after more others (lived_lines t s u sent told ahead link ws xs bytes traffic l before) last.carries
 
 -- ---- rounds
 
-lived_round : (t : Tended) (p q : SetPlace) (sent told : List Msu) (ahead : ℕ) (bytes : List ℕ) (gifts : List Gift) (goes_on : Bool) → Lived t sent told p.set
-    → (is : IsRound ahead p bytes gifts goes_on q) → Lived t (sent ++ sent_by_all is.attends) ((told ++ told_in is.tells.tells) ++ told_in is.tells_more.tells) q.set
-lived_round t p q sent told ahead bytes gifts goes_on l is =
+lived_round : (t : Tended) (p q : SetPlace) (sent told : List Msu) (ahead : ℕ) (bytes : List ℕ) (traffic : List Traffic) (goes_on : Bool) → Lived t sent told p.set
+    → (is : IsRound ahead p bytes traffic goes_on q) → Lived t (sent ++ sent_by_all is.attends) ((told ++ told_in is.tells.tells) ++ told_in is.tells_more.tells) q.set
+lived_round t p q sent told ahead bytes traffic goes_on l is =
     lived_telling t is.obeyed q.set (sent ++ sent_by_all is.attends) (told ++ told_in is.tells.tells) is.fourth
     (lived_all t is.calm is.obeyed sent (told ++ told_in is.tells.tells) p.waiting q.waiting p.left q.left is.third goes_on
     (lived_telling t is.tended is.calm sent told is.second
     (lived_heeds t is.ticked is.tended sent told
-    (lived_ticks t is.carried is.ticked sent told (lived_lines t p.set is.carried sent told ahead (length p.wires) p.wires q.wires is.first gifts l is.carries) is.ticks)
+    (lived_ticks t is.carried is.ticked sent told (lived_lines t p.set is.carried sent told ahead (length p.wires) p.wires q.wires is.first traffic l is.carries) is.ticks)
     is.tends)
     is.tells.tells)
     is.attends)
     is.tells_more.tells
 
 -- a run is a life of its set, of which `send` took what was told as ok
-pub lived_along : (ahead : ℕ) (p r : SetPlace) (bytes : List ℕ) (gifts : List Gift) (goes_on : Bool) → (run : Rounds ahead p bytes gifts goes_on r)
+pub lived_along : (ahead : ℕ) (p r : SetPlace) (bytes : List ℕ) (traffic : List Traffic) (goes_on : Bool) → (run : Rounds ahead p bytes traffic goes_on r)
     → Lived p.set (sent_along run) (told_along run) r.set
 lived_along ahead p _ _ _ _ begins = lived_none p.set
-lived_along ahead p _ _ _ _ (round {bytes} {gifts} {q} {r} more others goes_on before is) =
-    lived_round p.set q r (sent_along before) (told_along before) ahead more others goes_on (lived_along ahead p q bytes gifts true before) is
+lived_along ahead p _ _ _ _ (round {bytes} {traffic} {q} {r} more others goes_on before is) =
+    lived_round p.set q r (sent_along before) (told_along before) ahead more others goes_on (lived_along ahead p q bytes traffic true before) is

@@ -1,5 +1,5 @@
 pub mod Commands
-pub mod Gifts
+pub mod LineTraffic
 pub mod InTurn
 pub mod Lines
 pub mod LinkActs

@@ -5,7 +5,7 @@ use Rattle.set_tending.specs.Tended.{Tended}
 use Rattle.set_tending.specs.Wires.{IsNewWire}
 use Rattle.set_tending.specs.declared.wire.Wire.{Wire}
 use Rattle.line_filter.specs.Reporting.{Stand}
-use Rattle.line_play.specs.Gifts.{Gift}
+use Rattle.line_play.specs.LineTraffic.{Traffic}
 use Rattle.line_play.specs.SetRounds.{Made, SetPlace, Rounds, waiting_in}
 use Rattle.line_play.specs.declared.set_desk.SetDesk.{SetDesk}
 
@@ -33,10 +33,10 @@ pub record IsNewSetDesk {O P : Type 0} (tender : Tended) (ahead : ℕ) (orders :
   pub reports_are : desk.reports ≡ reports
 
 -- rounds were made, one behind another, and the last one ended the run or didn't
-pub record Ran (ahead : ℕ) (p : SetPlace) (bytes : List ℕ) (gifts : List Gift) (q : SetPlace) :
+pub record Ran (ahead : ℕ) (p : SetPlace) (bytes : List ℕ) (traffic : List Traffic) (q : SetPlace) :
     Type 0 where
   pub goes_on : Bool
-  pub rounds : Rounds ahead p bytes gifts goes_on q
+  pub rounds : Rounds ahead p bytes traffic goes_on q
 
 -- A set ran from its first round on: nothing had come or gone, and no order waited. What was told,
 -- and what lines were given, is that of its rounds.
@@ -47,7 +47,7 @@ pub record RanFrom (ahead : ℕ) (tender : Tended) : Type 0 where
   pub none_wait : first.waiting ≡ []
   pub before : Stand
   pub after : Stand
-  pub given_before : Option (List Gift)
-  pub given : Option (List Gift)
+  pub given_before : Option (List Traffic)
+  pub given : Option (List Traffic)
   pub last : SetPlace
-  pub made : Made (λ bytes gifts. Ran ahead first bytes gifts last) before after given_before given
+  pub made : Made (λ bytes traffic. Ran ahead first bytes traffic last) before after given_before given

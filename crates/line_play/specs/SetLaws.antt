@@ -4,7 +4,7 @@ use Rattle.script_links.specs.resend_store_types.messages.Msu.{Msu}
 use Rattle.line_filter.specs.Orders.{Timed}
 use Rattle.set_tending.specs.Telling.{message_in}
 use Rattle.set_tending.specs.Tended.{Tended}
-use Rattle.line_play.specs.Gifts.{Gift}
+use Rattle.line_play.specs.LineTraffic.{Traffic}
 use Rattle.line_play.specs.SetObeying.{Obeys, sends, does, refuses}
 use Rattle.line_play.specs.SetRounds.{Tells, nothing, one, ObeysWaiting, rests, obeys}
 use Rattle.line_play.specs.SetRounds.{TakesOrder, at_once, behind, report, Attends, waited, came}
@@ -47,8 +47,8 @@ sent_by_all (full before many) = sent_attending before
 sent_by_all (quits last before next) = sent_attending before
 
 abbrev pub sent_along :
-    {ahead : ℕ} {p q : SetPlace} {bytes : List ℕ} {gifts : List Gift} {goes_on : Bool}
-    → Rounds ahead p bytes gifts goes_on q → List Msu
+    {ahead : ℕ} {p q : SetPlace} {bytes : List ℕ} {traffic : List Traffic} {goes_on : Bool}
+    → Rounds ahead p bytes traffic goes_on q → List Msu
 sent_along begins = []
 sent_along (round more others goes_on before is) = sent_along before ++ sent_by_all is.attends
 
@@ -59,8 +59,8 @@ told_in nothing = []
 told_in (one x before takes) = told_in before ++ message_in x
 
 abbrev pub told_along :
-    {ahead : ℕ} {p q : SetPlace} {bytes : List ℕ} {gifts : List Gift} {goes_on : Bool}
-    → Rounds ahead p bytes gifts goes_on q → List Msu
+    {ahead : ℕ} {p q : SetPlace} {bytes : List ℕ} {traffic : List Traffic} {goes_on : Bool}
+    → Rounds ahead p bytes traffic goes_on q → List Msu
 told_along begins = []
 told_along (round more others goes_on before is) =
     (told_along before ++ told_in is.tells.tells) ++ told_in is.tells_more.tells

@@ -10,23 +10,23 @@ use Rattle.set_tending.specs.Rounds.{AddsHeeded, Ticks}
 use Rattle.set_tending.specs.Telling.{message_in}
 use Rattle.set_tending.specs.Tended.{Tended}
 use Rattle.set_tending.specs.Texts.{told_text}
-use Rattle.set_tending.specs.Wires.{Hears, Passes, SILENCE, SILENT}
+use Rattle.set_tending.specs.Wires.{Hears, Passes, SILENT}
 use Rattle.set_tending.specs.declared.told.Told.{Told}
 use Rattle.set_tending.specs.declared.wire.Passed.{Passed}
 use Rattle.set_tending.specs.declared.wire.Passed.TheVariants.{Same, Silent, Back}
 use Rattle.set_tending.specs.declared.wire.Wire.{Wire}
 use Rattle.line_play.specs.declared.set_queue.Queue.{Queue}
 use Rattle.line_play.specs.SetObeying.{Obeys, SendsNone, sent_by}
-use Rattle.line_play.specs.Gifts.{Gift, Grows}
+use Rattle.line_play.specs.LineTraffic.{Traffic, Grows, some_of, given, silence_for}
 
--- Bytes were told, and octets given to lines, of which R speaks.
-pub record Made (R : List ℕ → List Gift → Type 0) (old new : Stand)
-    (before after : Option (List Gift)) : Type 0 where
+-- Bytes were told, octets came of lines and were given to them, of all of which R speaks.
+pub record Made (R : List ℕ → List Traffic → Type 0) (old new : Stand)
+    (before after : Option (List Traffic)) : Type 0 where
   pub bytes : List ℕ
-  pub gifts : List Gift
-  pub are : R bytes gifts
+  pub traffic : List Traffic
+  pub are : R bytes traffic
   pub tells : TellsLines old new bytes
-  pub gives : Grows before after gifts
+  pub gives : Grows before after traffic
 
 -- ---- a line
 
@@ -39,21 +39,22 @@ passed_told now link Same = []
 passed_told now link Silent = line_told now link (codes "silent")
 passed_told now link Back = line_told now link (codes "back")
 
-abbrev pub given : ℕ → List ℕ → List Gift
-given link [] = []
-given link (octet ∷ octets) = record { link = link; octets = octet ∷ octets } ∷ []
-
--- an octet of 1s
-abbrev pub silence_for : ℕ → Gift
-silence_for link = record { link = link; octets = SILENCE ∷ [] }
+-- octets that came of a line are heard, and what goes out goes on
+pub record PassesOn (link ahead : ℕ) (came : List ℕ) (t : Tended) (w : Wire)
+    (bytes : List ℕ) (traffic : List Traffic) (u : Tended) (x : Wire) : Type 0 where
+  pub out : List ℕ
+  pub passed : Passed
+  pub passes : Passes link ahead came t w [] passed u x out
+  pub tells : bytes ≡ passed_told u.ticks link passed
+  pub gives : traffic ≡ given link out
 
 -- A round of a line. It is open: what came is heard, and what goes out goes on. Or it isn't: 1s are
 -- heard. Or it ended, failed, or was opened, which is told; as many octets of 1s go ahead then.
 pub data Carries (link ahead : ℕ) (t : Tended) (w : Wire) :
-    List ℕ → List Gift → Tended → Wire → Type 0 where
-  passes : {u : Tended} {x : Wire} (came out : List ℕ) (passed : Passed)
-      → Passes link ahead came t w [] passed u x out
-      → Carries link ahead t w (passed_told u.ticks link passed) (given link out) u x
+    List ℕ → List Traffic → Tended → Wire → Type 0 where
+  passes : {bytes : List ℕ} {traffic : List Traffic} {u : Tended} {x : Wire} (came : List ℕ)
+      → PassesOn link ahead came t w bytes traffic u x
+      → Carries link ahead t w bytes (some_of true link came ++ traffic) u x
   misses : {u : Tended} → Hears link t SILENT u → Carries link ahead t w [] [] u w
   ends : Carries link ahead t w (line_told t.ticks link (codes "ended")) [] t w
   fails : Carries link ahead t w (line_told t.ticks link (codes "failed")) [] t w
@@ -62,22 +63,22 @@ pub data Carries (link ahead : ℕ) (t : Tended) (w : Wire) :
 
 -- the line at a place
 pub record CarriesAt (link ahead : ℕ) (t : Tended) (ws : List Wire)
-    (bytes : List ℕ) (gifts : List Gift) (u : Tended) (xs : List Wire) : Type 0 where
+    (bytes : List ℕ) (traffic : List Traffic) (u : Tended) (xs : List Wire) : Type 0 where
   pub before : Wire
   pub after : Wire
   pub there : slice_get ws link ≡ Some before
-  pub carries : Carries link ahead t before bytes gifts u after
+  pub carries : Carries link ahead t before bytes traffic u after
   pub lines : xs ≡ slice_set ws link after
 
 -- so many lines, from the first on
 pub data CarriesAll (ahead : ℕ) (t : Tended) (ws : List Wire) :
-    ℕ → List ℕ → List Gift → Tended → List Wire → Type 0 where
+    ℕ → List ℕ → List Traffic → Tended → List Wire → Type 0 where
   no_link : CarriesAll ahead t ws 0 [] [] t ws
-  one_link : {link : ℕ} {bytes : List ℕ} {gifts : List Gift} {u v : Tended} {xs ys : List Wire}
-      (more : List ℕ) (others : List Gift)
-      → CarriesAll ahead t ws link bytes gifts u xs
+  one_link : {link : ℕ} {bytes : List ℕ} {traffic : List Traffic} {u v : Tended} {xs ys : List Wire}
+      (more : List ℕ) (others : List Traffic)
+      → CarriesAll ahead t ws link bytes traffic u xs
       → CarriesAt link ahead u xs more others v ys
-      → CarriesAll ahead t ws (link + 1) (bytes ++ more) (gifts ++ others) v ys
+      → CarriesAll ahead t ws (link + 1) (bytes ++ more) (traffic ++ others) v ys
 
 -- ---- what the set tells
 
@@ -166,11 +167,11 @@ pub record SetPlace : Type 0 where
 -- Of each line what came is heard and what goes out goes on; a tick passes; what is to be done for
 -- the links is done; all that there is to tell is told; orders are obeyed; and what there is to tell
 -- behind that is told too.
-pub record IsRound (ahead : ℕ) (p : SetPlace) (bytes : List ℕ) (gifts : List Gift) (goes_on : Bool)
+pub record IsRound (ahead : ℕ) (p : SetPlace) (bytes : List ℕ) (traffic : List Traffic) (goes_on : Bool)
     (q : SetPlace) : Type 0 where
   pub carried : Tended
   pub first : List ℕ
-  pub carries : CarriesAll ahead p.set p.wires (length p.wires) first gifts carried q.wires
+  pub carries : CarriesAll ahead p.set p.wires (length p.wires) first traffic carried q.wires
   pub ticked : Tended
   pub ticks : Ticks carried ticked
   pub tended : Tended
@@ -186,9 +187,9 @@ pub record IsRound (ahead : ℕ) (p : SetPlace) (bytes : List ℕ) (gifts : List
   pub are : bytes ≡ ((first ++ second) ++ third) ++ fourth
 
 -- rounds, one behind another, up to one that ends the run
-pub data Rounds (ahead : ℕ) (p : SetPlace) : List ℕ → List Gift → Bool → SetPlace → Type 0 where
+pub data Rounds (ahead : ℕ) (p : SetPlace) : List ℕ → List Traffic → Bool → SetPlace → Type 0 where
   begins : Rounds ahead p [] [] true p
-  round : {bytes : List ℕ} {gifts : List Gift} {q r : SetPlace}
-      (more : List ℕ) (others : List Gift) (goes_on : Bool)
-      → Rounds ahead p bytes gifts true q → IsRound ahead q more others goes_on r
-      → Rounds ahead p (bytes ++ more) (gifts ++ others) goes_on r
+  round : {bytes : List ℕ} {traffic : List Traffic} {q r : SetPlace}
+      (more : List ℕ) (others : List Traffic) (goes_on : Bool)
+      → Rounds ahead p bytes traffic true q → IsRound ahead q more others goes_on r
+      → Rounds ahead p (bytes ++ more) (traffic ++ others) goes_on r

@@ -132,8 +132,8 @@ impl<O: Orders, P: Reports> SetDesk<O, P> {
         part: &mut [u8],
         out: &mut Vec<u8>,
     ) -> io::Result<bool>
-        ensures made { IfOk result (λ goes_on. Made (λ bytes gifts. IsRound self.old.ahead (place_of O.left self.old) bytes gifts goes_on (place_of O.left self.new))
-            (P.stand self.old.reports) (P.stand self.new.reports) (L.given lines.old) (L.given lines.new)) }
+        ensures made { IfOk result (λ goes_on. Made (λ bytes traffic. IsRound self.old.ahead (place_of O.left self.old) bytes traffic goes_on (place_of O.left self.new))
+            (P.stand self.old.reports) (P.stand self.new.reports) (L.traffic lines.old) (L.traffic lines.new)) }
         ensures ahead { self.new.ahead ≡ self.old.ahead }
     {
         lines.begin(self.state.tender.now());

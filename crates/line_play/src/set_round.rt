@@ -2,8 +2,8 @@
 ghost use Rattle.std.specs.Prelude.{◌≡◌, ◌<◌, [], length, replicate, IfOk, OnOk};
 ghost use Rattle.set_tending.specs.Rounds.{AddsHeeded, Ticks};
 ghost use Rattle.set_tending.specs.Wires.{Hears, Passes, SILENT};
-ghost use Rattle.line_play.specs.Gifts.{Grows};
-ghost use Rattle.line_play.specs.SetRounds.{Made, Carries, CarriesAt, CarriesAll, given, silence_for};
+ghost use Rattle.line_play.specs.LineTraffic.{Grows, given, front_of, silence_for};
+ghost use Rattle.line_play.specs.SetRounds.{Made, PassesOn, Carries, CarriesAt, CarriesAll};
 
 use crate::set_lines::{Came, Lines};
 use crate::set_state::{SetState, failed};
@@ -38,7 +38,7 @@ fn hear(
 
 /// What goes out on a line goes on, if something does.
 fn give_out<L: Lines>(lines: &mut L, link: usize, out: &[u8])
-    ensures { Grows (L.given lines.old) (L.given lines.new) (given link out.now) }
+    ensures { Grows (L.traffic lines.old) (L.traffic lines.new) (given link out.now) }
 {
     if out.is_empty() {
         return;
@@ -57,8 +57,8 @@ fn pass<L: Lines, P: Reports>(
     out: &mut Vec<u8>,
     reports: &mut P,
 ) -> io::Result<()>
-    ensures { OnOk result (Made (λ bytes gifts. Carries line.link line.ahead state.old.tender wire.old bytes gifts state.new.tender wire.new)
-        (P.stand reports.old) (P.stand reports.new) (L.given lines.old) (L.given lines.new)) }
+    ensures { OnOk result (Made (λ bytes traffic. PassesOn line.link line.ahead came.now state.old.tender wire.old bytes traffic state.new.tender wire.new)
+        (P.stand reports.old) (P.stand reports.new) (L.traffic lines.old) (L.traffic lines.new)) }
 {
     let link = line.link;
     let passed = hear(&mut state.tender, wire, line, came, out)?;
@@ -84,11 +84,22 @@ fn miss(tender: &mut Tender, link: usize) -> io::Result<()>
 
 /// As many octets of 1s go out as at a line's beginning.
 fn go_ahead<L: Lines>(lines: &mut L, line: SetLine)
-    ensures { Grows (L.given lines.old) (L.given lines.new) (replicate line.ahead (silence_for line.link)) }
+    ensures { Grows (L.traffic lines.old) (L.traffic lines.new) (replicate line.ahead (silence_for line.link)) }
 {
     for _octet in 0..line.ahead {
         lines.give(line.link, &[255]);
     }
+}
+
+/// So many octets at the front of some; none where there are fewer.
+fn front(octets: &[u8], count: usize) -> &[u8]
+    ensures { result.now ≡ front_of count octets.now }
+{
+    if count > octets.len() {
+        return &[];
+    }
+    let front = &octets[..count];
+    front
 }
 
 /// A round of a line.
@@ -102,13 +113,13 @@ fn carry<L: Lines, P: Reports>(
     out: &mut Vec<u8>,
     reports: &mut P,
 ) -> io::Result<()>
-    ensures { OnOk result (Made (λ bytes gifts. Carries line.link line.ahead state.old.tender wire.old bytes gifts state.new.tender wire.new)
-        (P.stand reports.old) (P.stand reports.new) (L.given lines.old) (L.given lines.new)) }
+    ensures { OnOk result (Made (λ bytes traffic. Carries line.link line.ahead state.old.tender wire.old bytes traffic state.new.tender wire.new)
+        (P.stand reports.old) (P.stand reports.new) (L.traffic lines.old) (L.traffic lines.new)) }
 {
     let link = line.link;
     match lines.take(link, part) {
         Came::Octets(count) => {
-            let came = part.get(..count).unwrap_or(&[]);
+            let came = front(part, count);
             pass(alloc, state, wire, lines, line, came, out, reports)
         }
         Came::Closed => miss(&mut state.tender, link),
@@ -133,8 +144,8 @@ fn carry_at<L: Lines, P: Reports>(
     reports: &mut P,
 ) -> io::Result<()>
     requires { line.link < length wires.old }
-    ensures { OnOk result (Made (λ bytes gifts. CarriesAt line.link line.ahead state.old.tender wires.old bytes gifts state.new.tender wires.new)
-        (P.stand reports.old) (P.stand reports.new) (L.given lines.old) (L.given lines.new)) }
+    ensures { OnOk result (Made (λ bytes traffic. CarriesAt line.link line.ahead state.old.tender wires.old bytes traffic state.new.tender wires.new)
+        (P.stand reports.old) (P.stand reports.new) (L.traffic lines.old) (L.traffic lines.new)) }
 {
     let link = line.link;
     carry(
@@ -160,8 +171,8 @@ fn carry_all<L: Lines, P: Reports>(
     out: &mut Vec<u8>,
     reports: &mut P,
 ) -> io::Result<()>
-    ensures { OnOk result (Made (λ bytes gifts. CarriesAll ahead state.old.tender wires.old (length wires.old) bytes gifts state.new.tender wires.new)
-        (P.stand reports.old) (P.stand reports.new) (L.given lines.old) (L.given lines.new)) }
+    ensures { OnOk result (Made (λ bytes traffic. CarriesAll ahead state.old.tender wires.old (length wires.old) bytes traffic state.new.tender wires.new)
+        (P.stand reports.old) (P.stand reports.new) (L.traffic lines.old) (L.traffic lines.new)) }
 {
     for link in 0..wires.len() {
         let line = SetLine { link, ahead };
@@ -181,8 +192,8 @@ pub(crate) fn carry_lines<L: Lines, P: Reports>(
     out: &mut Vec<u8>,
     reports: &mut P,
 ) -> io::Result<()>
-    ensures { OnOk result (Made (λ bytes gifts. CarriesAll ahead state.old.tender wires.old.items (length wires.old.items) bytes gifts state.new.tender wires.new.items)
-        (P.stand reports.old) (P.stand reports.new) (L.given lines.old) (L.given lines.new)) }
+    ensures { OnOk result (Made (λ bytes traffic. CarriesAll ahead state.old.tender wires.old.items (length wires.old.items) bytes traffic state.new.tender wires.new.items)
+        (P.stand reports.old) (P.stand reports.new) (L.traffic lines.old) (L.traffic lines.new)) }
 {
     carry_all(
         alloc,

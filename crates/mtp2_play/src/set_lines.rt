@@ -180,7 +180,7 @@ impl<'a, H> SetLines<'a, H> {
 }
 
 impl<H: Files<File = File> + Threads> Lines for SetLines<'_, H> {
-    ghost given = { λ _. None };
+    ghost traffic = { λ _. None };
 
     fn begin(&mut self, now: u64) {
         if let Some(tap) = &mut self.tap {

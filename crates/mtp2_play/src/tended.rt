@@ -47,8 +47,8 @@ fn go_round<H: Clock + AllocGlobal, L: Lines, O: Orders, P: Reports>(
     desk: &mut SetDesk<O, P>,
     lines: &mut L,
 ) -> io::Result<()>
-    ensures { OnOk result (Made (λ bytes gifts. Ran desk.old.ahead (place_of O.left desk.old) bytes gifts (place_of O.left desk.new))
-        (P.stand desk.old.reports) (P.stand desk.new.reports) (L.given lines.old) (L.given lines.new)) }
+    ensures { OnOk result (Made (λ bytes traffic. Ran desk.old.ahead (place_of O.left desk.old) bytes traffic (place_of O.left desk.new))
+        (P.stand desk.old.reports) (P.stand desk.new.reports) (L.traffic lines.old) (L.traffic lines.new)) }
 {
     let begin = Instant::now(host)?;
     let mut part = [0; PART];

@@ -1,21 +1,20 @@
 use Rattle.std.proofs.Common.{ℕ, List, refl, subst}
 use Rattle.set_tending.specs.declared.wire.Passed.TheVariants.{Silent, Back}
-use Rattle.line_play.specs.Gifts.{Grows}
-use Rattle.line_play.specs.SetRounds.{given}
+use Rattle.line_play.specs.LineTraffic.{Grows, given}
 use Rattle.line_play.proofs.SetTelling.{told_as}
 use Rattle.line_play.proofs.SetRounds.{passed_same, passed_told_so}
 use Rattle.line_play.proofs.set_round.pass.Goals as goal
 
 pub returns-in-Same : goal.returns-in-Same
 returns-in-Same g c =
-    passed_same c.args.line.link c.args.line.ahead _ _ _ _ _ _ c.in_ok-passed.passed _ _ _ c.in-Same.is c.in_ok-passed.ensures (subst (λ (xs : List ℕ). Grows (g.L.Lines.given c.args.lines.now) (g.L.Lines.given c.give_out.new.lines) (given c.args.line.link xs)) c.as_slice.ensures.value c.give_out.ensures)
+    passed_same c.args.line.link c.args.line.ahead _ _ _ _ _ _ c.in_ok-passed.passed _ _ _ c.in-Same.is c.in_ok-passed.ensures (subst (λ (xs : List ℕ). Grows (g.L.Lines.traffic c.args.lines.now) (g.L.Lines.traffic c.give_out.new.lines) (given c.args.line.link xs)) c.as_slice.ensures.value c.give_out.ensures)
 
 pub returns-in-Silent : goal.returns-in-Silent
 returns-in-Silent g c =
-    passed_told_so c.say_text.result c.args.line.link c.args.line.ahead _ _ _ _ _ _ c.in_ok-passed.passed Silent _ _ _ _ c.in-Silent.is c.in_ok-passed.ensures (subst (λ (xs : List ℕ). Grows (g.L.Lines.given c.args.lines.now) (g.L.Lines.given c.give_out.new.lines) (given c.args.line.link xs)) c.as_slice.ensures.value c.give_out.ensures)
+    passed_told_so c.say_text.result c.args.line.link c.args.line.ahead _ _ _ _ _ _ c.in_ok-passed.passed Silent _ _ _ _ c.in-Silent.is c.in_ok-passed.ensures (subst (λ (xs : List ℕ). Grows (g.L.Lines.traffic c.args.lines.now) (g.L.Lines.traffic c.give_out.new.lines) (given c.args.line.link xs)) c.as_slice.ensures.value c.give_out.ensures)
     (told_as c.say_text.result _ _ _ _ _ _ refl c.in_ok-format.ensures.ok c.say_text.ensures)
 
 pub returns-in-Back : goal.returns-in-Back
 returns-in-Back g c =
-    passed_told_so c.say_text-2.result c.args.line.link c.args.line.ahead _ _ _ _ _ _ c.in_ok-passed.passed Back _ _ _ _ c.in-Back.is c.in_ok-passed.ensures (subst (λ (xs : List ℕ). Grows (g.L.Lines.given c.args.lines.now) (g.L.Lines.given c.give_out.new.lines) (given c.args.line.link xs)) c.as_slice.ensures.value c.give_out.ensures)
+    passed_told_so c.say_text-2.result c.args.line.link c.args.line.ahead _ _ _ _ _ _ c.in_ok-passed.passed Back _ _ _ _ c.in-Back.is c.in_ok-passed.ensures (subst (λ (xs : List ℕ). Grows (g.L.Lines.traffic c.args.lines.now) (g.L.Lines.traffic c.give_out.new.lines) (given c.args.line.link xs)) c.as_slice.ensures.value c.give_out.ensures)
     (told_as c.say_text-2.result _ _ _ _ _ _ refl c.in_ok-format-2.ensures.ok c.say_text-2.ensures)
