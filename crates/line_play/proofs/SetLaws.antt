@@ -88,7 +88,7 @@ lived_passes t s v sent told link ahead octets out after passed w x l (none empt
 lived_carries : (t s v : Tended) (sent told : List Msu) (link ahead : ℕ) (w y : Wire) (bytes : List ℕ) (traffic : List Traffic) → Lived t sent told s
     → Carries link ahead s w bytes traffic v y → Lived t sent told v
 lived_carries t s _ sent told link ahead w _ _ _ l (passes {bytes} {traffic} {u} {x} octets is) =
-    lived_passes t s u sent told link ahead octets [] is.out is.passed w x l is.passes
+    lived_passes t s u sent told link ahead octets [] is.out is.passed w x l is.is_passed
 lived_carries t s _ sent told link ahead w _ _ _ l (misses {u} hears) = lived_hears t s u sent told link _ l hears
 lived_carries t s _ sent told link ahead w _ _ _ l ends = l
 lived_carries t s _ sent told link ahead w _ _ _ l fails = l

@@ -89,7 +89,7 @@ pub passed_same : (link ahead : ℕ) (t u : Tended) (w x : Wire) (came out : Lis
 passed_same link ahead t u w x came out passed a f g is made gives = record {
   bytes = [];
   traffic = given link out;
-  are = record { out = out; passed = Same; passes = subst (λ (p : Passed). Passes link ahead came t w [] p u x out) is made; tells = refl; gives = refl };
+  are = record { out = out; passed = Same; is_passed = subst (λ (p : Passed). Passes link ahead came t w [] p u x out) is made; tells = refl; gives = refl };
   tells = tells_none a;
   gives = gives;
 }
@@ -103,7 +103,7 @@ passed_told_so r link ahead t u w x came out passed as_told a b f g is made give
     (λ (l : TellsLines a b (passed_told u.ticks link as_told)). record {
       bytes = passed_told u.ticks link as_told;
       traffic = given link out;
-      are = record { out = out; passed = as_told; passes = subst (λ (p : Passed). Passes link ahead came t w [] p u x out) is made; tells = refl; gives = refl };
+      are = record { out = out; passed = as_told; is_passed = subst (λ (p : Passed). Passes link ahead came t w [] p u x out) is made; tells = refl; gives = refl };
       tells = l;
       gives = gives;
     })

@@ -44,7 +44,7 @@ pub record PassesOn (link ahead : ℕ) (came : List ℕ) (t : Tended) (w : Wire)
     (bytes : List ℕ) (traffic : List Traffic) (u : Tended) (x : Wire) : Type 0 where
   pub out : List ℕ
   pub passed : Passed
-  pub passes : Passes link ahead came t w [] passed u x out
+  pub is_passed : Passes link ahead came t w [] passed u x out
   pub tells : bytes ≡ passed_told u.ticks link passed
   pub gives : traffic ≡ given link out
 

@@ -98,8 +98,8 @@ fn front(octets: &[u8], count: usize) -> &[u8]
     if count > octets.len() {
         return &[];
     }
-    let front = &octets[..count];
-    front
+    let first = &octets[..count];
+    first
 }
 
 /// A round of a line.
