@@ -31,7 +31,7 @@ fn refused_for(alloc: Global, error: Option<CommandError>) -> Result<Option<Refu
     match error {
         Some(CommandError::Refused(why)) => {
             let name = why.name();
-            refusal(alloc, &format_args!("{name}"))
+            refusal(alloc, &name)
         }
         Some(error) => refusal(alloc, &error),
         None => Ok(None),

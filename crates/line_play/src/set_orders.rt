@@ -77,7 +77,10 @@ fn word_in<'a>(word: &str) -> Option<SetOrder<'a>>
         "held" => Some(SetOrder::Held),
         "unsure" => Some(SetOrder::Unsure),
         "rebalance" => Some(SetOrder::Rebalance),
-        _ => order_in(word).map(SetOrder::Link),
+        _ => match order_in(word) {
+            Some(order) => Some(SetOrder::Link(order)),
+            None => None,
+        },
     }
 }
 
@@ -164,7 +167,10 @@ fn other_in<'a>(alloc: Global, words: &[&'a str]) -> Result<Option<SetOrder<'a>>
     match words {
         [] => Ok(None),
         [word] => Ok(word_in(word)),
-        [first, word] if *first == "on" => Ok(focus_in(word).map(SetOrder::On)),
+        [first, word] if *first == "on" => match focus_in(word) {
+            Some(focus) => Ok(Some(SetOrder::On(focus))),
+            None => Ok(None),
+        },
         [_, _, ..] => asked_in(alloc, words),
     }
 }
