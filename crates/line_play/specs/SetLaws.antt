@@ -14,53 +14,55 @@ use Rattle.line_play.specs.SetRounds.{Rounds, begins, round}
 -- ---- the messages of orders that were told as ok, in their order
 
 abbrev pub sent_in :
-    {order : List ℕ} {t u : Tended} {bytes : List ℕ} → Obeys order t bytes u → List Msu
+    {order : List ℕ} {t : Tended} {bytes : List ℕ} {u : Tended} → Obeys order t bytes u → List Msu
 sent_in (sends m said acts) = m ∷ []
 sent_in (does none_there adds answer) = []
 sent_in (refuses why is) = []
 
 abbrev pub sent_waiting :
-    {t u : Tended} {waiting now : List (List ℕ)} {bytes : List ℕ}
+    {t : Tended} {waiting : List (List ℕ)} {bytes : List ℕ} {u : Tended} {now : List (List ℕ)}
     → ObeysWaiting t waiting bytes u now → List Msu
 sent_waiting rests = []
 sent_waiting (obeys order more left before first made) = sent_waiting before ++ sent_in made
 
 abbrev pub sent_taking :
-    {order : List ℕ} {t u : Tended} {waiting now : List (List ℕ)} {bytes : List ℕ}
-    → TakesOrder order t waiting bytes u now → List Msu
+    {order : List ℕ} {t : Tended} {waiting : List (List ℕ)} {bytes : List ℕ} {u : Tended}
+    {now : List (List ℕ)} → TakesOrder order t waiting bytes u now → List Msu
 sent_taking (at_once may made) = sent_in made
 sent_taking behind = []
 sent_taking (report none_there) = []
 
 abbrev pub sent_attending :
-    {t u : Tended} {waiting now : List (List ℕ)} {left last : Option (List Timed)} {bytes : List ℕ}
+    {t : Tended} {waiting : List (List ℕ)} {left : Option (List Timed)} {bytes : List ℕ}
+    {u : Tended} {now : List (List ℕ)} {last : Option (List Timed)}
     → Attends t waiting left bytes u now last → List Msu
 sent_attending (waited before) = sent_waiting before
 sent_attending (came order more w later last before next no_end taken) =
     sent_attending before ++ sent_taking taken
 
 abbrev pub sent_by_all :
-    {t u : Tended} {waiting now : List (List ℕ)} {left last : Option (List Timed)} {bytes : List ℕ}
-    {goes_on : Bool} → AttendsAll t waiting left bytes goes_on u now last → List Msu
+    {t : Tended} {waiting : List (List ℕ)} {left : Option (List Timed)} {bytes : List ℕ}
+    {goes_on : Bool} {u : Tended} {now : List (List ℕ)} {last : Option (List Timed)}
+    → AttendsAll t waiting left bytes goes_on u now last → List Msu
 sent_by_all (none_due last before none_there) = sent_attending before
 sent_by_all (full before many) = sent_attending before
 sent_by_all (quits last before next) = sent_attending before
 
 abbrev pub sent_along :
-    {ahead : ℕ} {p q : SetPlace} {bytes : List ℕ} {traffic : List Traffic} {goes_on : Bool}
-    → Rounds ahead p bytes traffic goes_on q → List Msu
+    {ahead : ℕ} {p : SetPlace} {bytes : List ℕ} {traffic : List Traffic} {goes_on : Bool}
+    {q : SetPlace} → Rounds ahead p bytes traffic goes_on q → List Msu
 sent_along begins = []
 sent_along (round more others goes_on before is) = sent_along before ++ sent_by_all is.attends
 
 -- ---- the messages that were told, in their order
 
-abbrev pub told_in : {t u : Tended} {bytes : List ℕ} → Tells t bytes u → List Msu
+abbrev pub told_in : {t : Tended} {bytes : List ℕ} {u : Tended} → Tells t bytes u → List Msu
 told_in nothing = []
 told_in (one x before takes) = told_in before ++ message_in x
 
 abbrev pub told_along :
-    {ahead : ℕ} {p q : SetPlace} {bytes : List ℕ} {traffic : List Traffic} {goes_on : Bool}
-    → Rounds ahead p bytes traffic goes_on q → List Msu
+    {ahead : ℕ} {p : SetPlace} {bytes : List ℕ} {traffic : List Traffic} {goes_on : Bool}
+    {q : SetPlace} → Rounds ahead p bytes traffic goes_on q → List Msu
 told_along begins = []
 told_along (round more others goes_on before is) =
     (told_along before ++ told_in is.tells.tells) ++ told_in is.tells_more.tells

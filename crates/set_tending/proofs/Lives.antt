@@ -130,10 +130,10 @@ lived_heeds t u w sent told before adds =
 
 -- ---- lines
 
-pub lived_hears : (t s w : Tended) (sent told : List Msu) (link : ℕ) (octets : List ℕ) → Lived t sent told s → Hears link s octets w → Lived t sent told w
-lived_hears t s _ sent told link _ before no_part = before
-lived_hears t s _ sent told link _ before (one_part {octets} {u} {w} rest left earlier part) =
-    lived_heeds t part.middle w sent told (lived_adds t u part.middle sent told (lived_hears t s u sent told link octets before earlier) part.adds) part.heeds
+pub lived_hears : (t s : Tended) (sent told : List Msu) (link : ℕ) (octets : List ℕ) (w : Tended) → Lived t sent told s → Hears link s octets w → Lived t sent told w
+lived_hears t s sent told link _ _ before no_part = before
+lived_hears t s sent told link _ _ before (one_part {octets} {u} {w} rest left earlier part) =
+    lived_heeds t part.middle w sent told (lived_adds t u part.middle sent told (lived_hears t s sent told link octets u before earlier) part.adds) part.heeds
 
 lived_gives : (t u w : Tended) (sent told : List Msu) (link : ℕ) (v x : Voice) (gives : ℕ) → Lived t sent told u → GivesNext link u v gives w x
     → Lived t sent told w
@@ -143,11 +143,11 @@ lived_gives t u w sent told link v x gives before (fresh unit ready asks stuffs)
 lived_gives t u w sent told link v x gives before (silent ready asks none_there fills) =
     lived_none_taken t u w sent told before (by_gives u.set w.set link _ asks.sent) asks.same
 
-pub lived_speaks : (first s w : Tended) (sent told : List Msu) (link count : ℕ) (v x : Voice) (out after : List ℕ) → Lived first sent told s
+pub lived_speaks : (first : Tended) (sent told : List Msu) (link count : ℕ) (s w : Tended) (v x : Voice) (out after : List ℕ) → Lived first sent told s
     → Speaks link count s v out w x after → Lived first sent told w
-lived_speaks first _ _ sent told link _ _ _ _ _ before (no_octet s v out) = before
-lived_speaks first _ _ sent told link _ _ _ _ _ before (octet {count} {t} {u} {w} {v} {x} {y} {out} {after} gives earlier next) =
-    lived_gives first u w sent told link x y gives (lived_speaks first t u sent told link count v x out after before earlier) next
+lived_speaks first sent told link _ _ _ _ _ _ _ before (no_octet s v out) = before
+lived_speaks first sent told link _ _ _ _ _ _ _ before (octet {count} {t} {u} {w} {v} {x} {y} {out} {after} gives earlier next) =
+    lived_gives first u w sent told link x y gives (lived_speaks first sent told link count t u v x out after before earlier) next
 
 -- ---- what is told
 
