@@ -1,5 +1,5 @@
 -- Orders that wait.
-use Rattle.std.proofs.Common.{◌≡◌, ◌∙◌, ℕ, ◌≤◌, ◌==◌, nat_le, Bool, true, List, [], ◌∷◌, ◌++◌, length, map, string_bytes, Option, None, Some, IfSome, IsNone, IsTrue, Result, is_ok, if◌then◌else◌, option_to_list, refl, sym, ap, arith}
+use Rattle.std.proofs.Common.{◌≡◌, ◌∙◌, ℕ, ◌≤◌, ◌==◌, nat_le, Bool, true, false, List, [], ◌∷◌, ◌++◌, length, map, string_bytes, Option, None, Some, IfSome, IsNone, IsTrue, Result, is_ok, if◌then◌else◌, option_to_list, refl, sym, ap, arith}
 use Rattle.std.proofs.lemmas.Bool.Decides.{nat_tests}
 use Rattle.std.proofs.lemmas.List.{map-append, length-map}
 use Rattle.line_play.specs.declared.set_queue.Waiting.{Waiting}

@@ -1,9 +1,10 @@
+use Rattle.std.proofs.Common.{refl}
 use Rattle.set_tending.proofs.Doing.{heeded_one, adds_heeded_then}
 use Rattle.set_tending.proofs.tender.Tender.heed_link.Goals as goal
 
 pub loop-report-preserved : goal.loop-report-preserved
 loop-report-preserved c = λ first h.
-    heeded_one first _ _ _ _ (c.loop-report.invariant first h) c.in-Some.ensures.some c.in_ok-heed.ensures
+    heeded_one first _ _ _ _ (c.loop-report.invariant first h) c.in-Some.ensures.some c.in_ok-heed-in-Some.ensures
 
 pub returns-in-None : goal.returns-in-None
-returns-in-None c = λ first h. adds_heeded_then first _ _ (c.loop-report.invariant first h) (c.in-None.ensures.none _)
+returns-in-None c = λ first h. adds_heeded_then first _ _ (c.loop-report.invariant first h) (c.in-None.ensures.none refl)

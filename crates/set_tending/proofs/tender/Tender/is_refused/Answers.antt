@@ -6,7 +6,7 @@ use Rattle.set_tending.proofs.Filling.{no_room_bound, no_room_full}
 use Rattle.set_tending.proofs.tender.Tender.is_refused.Goals as goal
 
 pub returns-then-is_bound : goal.returns-then-is_bound
-returns-then-is_bound c = rw (← c.self.view_is) (no_room_bound _ c.args.msu.now (sym c.is_bound.ensures ∙ c.if-is_bound.true))
+returns-then-is_bound c = rw (← c.self.view_is) (no_room_bound c.self.inside.set c.args.msu.now (sym c.is_bound.ensures ∙ c.if-is_bound.true))
 
 pub returns : goal.returns
 returns c =

@@ -6,4 +6,4 @@ pub returns : goal.returns
 returns c =
     let read = c.read_changeover-message in
     rw (← c.self.view_is)
-    (adds_is _ _ _ (c.changeover_message-hearing.ensures.set read.result (is_read c.args.sif.now read.result read.ensures.exact)) (by_hears _ _ read.result))
+    (adds_is _ _ _ (c.changeover_message-hearing.ensures.set read.result (is_read c.args.sif.now read.result read.ensures.exact)) (by_hears _ read.result))

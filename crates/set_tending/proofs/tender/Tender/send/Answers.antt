@@ -1,6 +1,10 @@
 use Rattle.std.proofs.Common.{sym}
 use Rattle.set_tending.proofs.Acting.{acts_send}
 use Rattle.set_tending.proofs.tender.Tender.send.Goals as goal
+use Rattle.set_tending.proofs.tender.Tender.send.Goals.{in-Ok, in-Err}
 
-pub returns-in-Ok-clause-ok : goal.returns-in-Ok-clause-ok
-returns-in-Ok-clause-ok c = rw (← c.self.view_is) (acts_send _ _ c.args.msu (sym c.in-Ok.ensures.fault) c.in-Ok.ensures.within c.in-Ok.ensures.ok)
+pub returns-clause-ok : goal.returns-clause-ok
+returns-clause-ok c = elim c.match-send.branch [
+  | in-Ok w ↦ rw (w.result-is, ← c.self.view_is) (acts_send _ _ c.args.msu (sym w.in-Ok.ensures.fault) c.send.ensures.within w.in-Ok.ensures.ok)
+  | in-Err w ↦ rw w.result-is tt
+]
