@@ -1,5 +1,5 @@
 -- A set on lines as a run begins.
-use Rattle.std.proofs.Common.{◌≡◌, ◌∙◌, ℕ, ◌+◌, Bool, true, List, [], ◌∷◌, ◌++◌, All, length, Option, Result, Ok, Err, OnOk, is_ok, refl, sym, ap, subst, arith, length-append}
+use Rattle.std.proofs.Common.{◌≡◌, ◌∙◌, ℕ, ◌+◌, Bool, true, true≢false, List, [], ◌∷◌, ◌++◌, All, length, Option, Result, Ok, Err, OnOk, is_ok, refl, sym, ap, subst, arith, length-append}
 use Rattle.std.proofs.lemmas.List.Elements.{All-nil, All-cons, All-append}
 use Rattle.set_tending.specs.Wires.{IsNewWire}
 use Rattle.set_tending.specs.declared.wire.Wire.{Wire}
@@ -60,7 +60,7 @@ has_run ahead p q goes_on a b f g made =
 
 from_ok : {A E : Type 0} (r : Result A E) (P : Type 0) → is_ok r ≡ true → OnOk r P → P
 from_ok (Ok v) P is h = h
-from_ok (Err e) P is h = absurd (let k : ◌≡◌ {A = Bool} (is_ok {A = A} {E = E} (Err e)) true = is in cc)
+from_ok (Err e) P is h = absurd (true≢false (sym is))
 
 -- a new set on lines ran
 pub ran_from : {A E O P : Type 0} (r : Result A E) (left : O → Option (List Timed)) (tender : Tended) (ahead : ℕ) (orders : O) (reports : P) (old : SetDesk O P) (last : SetPlace)

@@ -12,7 +12,7 @@ use Rattle.set_tending.proofs.Doing.{adds_nothing}
 use Rattle.set_tending.proofs.Lives.{lived_none, lived_adds, lived_sends, lived_ticks, lived_heeds, lived_hears, lived_speaks, lived_tells}
 use Rattle.line_play.specs.LineTraffic.{Traffic}
 use Rattle.line_play.specs.SetObeying.{IsRefused, bad, untaken, other, Obeys, sends, does, refuses}
-use Rattle.line_play.specs.SetRounds.{Carries, passes, misses, ends, fails, opens, CarriesAll, no_link, one_link, Tells, nothing, one, ObeysWaiting, rests, obeys, TakesOrder, at_once, behind, report, Attends, waited, came, AttendsAll, none_due, full, quits, SetPlace, IsRound, Rounds, begins, round}
+use Rattle.line_play.specs.SetRounds.{Carries, passes, misses, ends, fails, opens, CarriesAll, no_link, one_link, Tells, nothing, one, ObeysWaiting, rests, obeys, TakesOrder, at_once, behind, report, Attends, waited, comes, AttendsAll, none_due, full, quits, SetPlace, IsRound, Rounds, begins, round}
 use Rattle.line_play.specs.SetLaws.{sent_in, sent_waiting, sent_taking, sent_attending, sent_by_all, sent_along, told_in, told_along}
 
 -- what was sent, one part behind another
@@ -59,7 +59,7 @@ lived_taking t s sent told order waiting _ _ _ l (report none_there) = sent_none
 lived_attending : (t s : Tended) (sent told : List Msu) (waiting : List (List ℕ)) (left : Option (List Timed)) (bytes : List ℕ) (v : Tended) (last : List (List ℕ))
     (still : Option (List Timed)) → Lived t sent told s → (made : Attends s waiting left bytes v last still) → Lived t (sent ++ sent_attending made) told v
 lived_attending t s sent told waiting left _ _ _ _ l (waited {bytes} {u} {now} before) = lived_waiting t s sent told waiting bytes u now l before
-lived_attending t s sent told waiting left _ _ _ _ l (came {bytes} {u} {now} {fewer} order more w later last before next no_end taken) =
+lived_attending t s sent told waiting left _ _ _ _ l (comes {bytes} {u} {now} {fewer} order more w later last before next no_end taken) =
     sent_more t w sent (sent_attending before) (sent_taking taken) told
     (lived_taking t u (sent ++ sent_attending before) told order now more w later (lived_attending t s sent told waiting left bytes u now fewer l before) taken)
 

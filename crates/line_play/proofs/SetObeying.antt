@@ -44,8 +44,8 @@ bad_octets (Err e) octets t none_there = tt
 
 pub untaken_octets : {A E : Type 0} (r : Result (Option A) E) (octets : List ℕ) (t u : Tended) (m : Msu) → IsMessageOf octets m
     → IfOk r (λ (o : Option A). IsSome o → IsUntaken m t u) → IfOk r (λ (o : Option A). IsSome o → IsTurnedDown octets t u)
-untaken_octets (Ok o) octets t u m is untaken = λ some. full m is (untaken some)
-untaken_octets (Err e) octets t u m is untaken = tt
+untaken_octets (Ok o) octets t u m is down = λ some. full m is (down some)
+untaken_octets (Err e) octets t u m is down = tt
 
 pub sent_octets : {A E : Type 0} (r : Result (Option A) E) (octets : List ℕ) (t u : Tended) (m : Msu) → IsMessageOf octets m
     → IfOk r (λ (o : Option A). IsNone o → Acts (m ∷ []) [] t u) → IfOk r (λ (o : Option A). IsNone o → IsSent octets t u)

@@ -18,7 +18,7 @@ use Rattle.set_tending.specs.declared.wire.Wire.{Wire}
 use Rattle.line_play.specs.LineTraffic.{Traffic, Grows, some_of, given, front_of, octets_in, arrived, silence_for}
 use Rattle.line_play.specs.declared.set_lines.Came.{Came}
 use Rattle.line_play.specs.SetObeying.{Obeys, SendsNone, sent_by}
-use Rattle.line_play.specs.SetRounds.{Made, line_told, passed_told, PassesOn, Carries, passes, misses, ends, fails, opens, CarriesAt, CarriesAll, no_link, one_link, TellsAll, ObeysWaiting, rests, obeys, TakesOrder, at_once, behind, report, Attends, waited, came, AttendsAll, none_due, full, quits, MOST_WAITING, SetPlace, IsRound}
+use Rattle.line_play.specs.SetRounds.{Made, line_told, passed_told, PassesOn, Carries, passes, misses, ends, fails, opens, CarriesAt, CarriesAll, no_link, one_link, TellsAll, ObeysWaiting, rests, obeys, TakesOrder, at_once, behind, report, Attends, waited, comes, AttendsAll, none_due, full, quits, MOST_WAITING, SetPlace, IsRound}
 
 -- ---- what is given
 
@@ -199,11 +199,11 @@ carried_more ahead link t u v ws xs ys a b c f g h before more = record {
 }
 
 -- what stands in a vector once a slice of all of it was written
-front_of : (xs ys : List Wire) → take (length xs) (xs ++ ys) ≡ xs
-front_of xs ys = take-append-le (length xs) xs ys (omega arith) ∙ take_all (length xs) xs (omega arith)
+front_whole : (xs ys : List Wire) → take (length xs) (xs ++ ys) ≡ xs
+front_whole xs ys = take-append-le (length xs) xs ys (omega arith) ∙ take_all (length xs) xs (omega arith)
 
 pub written : (n : ℕ) (xs items : List Wire) → length xs ≡ n → take n (xs ++ drop (length xs) items) ≡ xs
-written n xs items e = subst (λ (k : ℕ). take k (xs ++ drop (length xs) items) ≡ xs) e (front_of xs (drop (length xs) items))
+written n xs items e = subst (λ (k : ℕ). take k (xs ++ drop (length xs) items) ≡ xs) e (front_whole xs (drop (length xs) items))
 
 pub carried_lines : {A E : Type 0} (r : Result A E) (ahead : ℕ) (t u : Tended) (ws vs xs ys : List Wire) (a b : Stand) (f g : Option (List Traffic)) → vs ≡ ws → ys ≡ xs
     → OnOk r (Made (λ bytes traffic. CarriesAll ahead t vs (length vs) bytes traffic u xs) a b f g)
@@ -263,7 +263,7 @@ pub attends_more : (t u w : Tended) (waiting now later : List (List ℕ)) (left 
     → TellsSuch (λ bytes. TakesOrder order u now bytes w later) b c → TellsSuch (λ bytes. Attends t waiting left bytes w later last) a c
 attends_more t u w waiting now later left fewer last order ms a b c before ms_is next no_end more = record {
   bytes = before.bytes ++ more.bytes;
-  are = came order more.bytes w later last before.are (subst (λ (n : ℕ). NextIs n fewer order last) ms_is next) no_end more.are;
+  are = comes order more.bytes w later last before.are (subst (λ (n : ℕ). NextIs n fewer order last) ms_is next) no_end more.are;
   tells = tells_trans a b c before.bytes more.bytes before.tells more.tells;
 }
 

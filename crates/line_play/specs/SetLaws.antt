@@ -7,7 +7,7 @@ use Rattle.set_tending.specs.Tended.{Tended}
 use Rattle.line_play.specs.LineTraffic.{Traffic}
 use Rattle.line_play.specs.SetObeying.{Obeys, sends, does, refuses}
 use Rattle.line_play.specs.SetRounds.{Tells, nothing, one, ObeysWaiting, rests, obeys}
-use Rattle.line_play.specs.SetRounds.{TakesOrder, at_once, behind, report, Attends, waited, came}
+use Rattle.line_play.specs.SetRounds.{TakesOrder, at_once, behind, report, Attends, waited, comes}
 use Rattle.line_play.specs.SetRounds.{AttendsAll, none_due, full, quits, SetPlace, IsRound}
 use Rattle.line_play.specs.SetRounds.{Rounds, begins, round}
 
@@ -37,7 +37,7 @@ abbrev pub sent_attending :
     {u : Tended} {now : List (List ℕ)} {last : Option (List Timed)}
     → Attends t waiting left bytes u now last → List Msu
 sent_attending (waited before) = sent_waiting before
-sent_attending (came order more w later last before next no_end taken) =
+sent_attending (comes order more w later last before next no_end taken) =
     sent_attending before ++ sent_taking taken
 
 abbrev pub sent_by_all :

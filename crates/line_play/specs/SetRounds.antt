@@ -132,7 +132,7 @@ pub data Attends (t : Tended) (waiting : List (List ℕ)) (left : Option (List T
     List ℕ → Tended → List (List ℕ) → Option (List Timed) → Type 0 where
   waited : {bytes : List ℕ} {u : Tended} {now : List (List ℕ)}
       → ObeysWaiting t waiting bytes u now → Attends t waiting left bytes u now left
-  came : {bytes : List ℕ} {u : Tended} {now : List (List ℕ)} {fewer : Option (List Timed)}
+  comes : {bytes : List ℕ} {u : Tended} {now : List (List ℕ)} {fewer : Option (List Timed)}
       (order more : List ℕ) (w : Tended) (later : List (List ℕ)) (last : Option (List Timed))
       → Attends t waiting left bytes u now fewer → NextIs u.ticks fewer order last
       → (order ≡ QUIT → ⊥) → TakesOrder order u now more w later

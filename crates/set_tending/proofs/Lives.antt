@@ -74,7 +74,7 @@ lived_none_taken t u w sent told before step same =
     subst (λ (xs : List Msu). Lived t xs told w) (append-nil sent) (lived_calls t u w sent told [] before step same)
 
 same_but_set : (u w : Tended) → w.plan ≡ u.plan → w.ticks ≡ u.ticks → w.messages ≡ u.messages → w ≡ record u { set = w.set }
-same_but_set u w plan_is ticks_are messages_are = cc
+same_but_set u w plan_is ticks_are messages_are = λ i. record { set = w.set; plan = plan_is i; ticks = ticks_are i; messages = messages_are i }
 
 pub lived_adds : (t u w : Tended) (sent told : List Msu) → Lived t sent told u → Adds u w → Lived t sent told w
 lived_adds t u w sent told before adds =
@@ -120,7 +120,7 @@ heeds_on t s _ sent handed told _ before (one {hs} {u} {v} {w} h earlier out beh
 
 heeded_is : (u w : Tended) (hs : List Handed) → w.plan ≡ u.plan → w.ticks ≡ u.ticks → w.messages ≡ u.messages ++ user_messages u.plan hs
     → w ≡ with_more u w.set hs
-heeded_is u w hs plan_is ticks_are messages_are = cc
+heeded_is u w hs plan_is ticks_are messages_are = λ i. record { set = w.set; plan = plan_is i; ticks = ticks_are i; messages = messages_are i }
 
 pub lived_heeds : (t u w : Tended) (sent told : List Msu) → Lived t sent told u → AddsHeeded u w → Lived t sent told w
 lived_heeds t u w sent told before adds =

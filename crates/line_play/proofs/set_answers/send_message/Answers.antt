@@ -12,7 +12,7 @@ pub returns-in-Err-clause-refused : goal.returns-in-Err-clause-refused
 returns-in-Err-clause-refused c = with_fault c.refusal.result c.args.msu _ _ c.in-Err.error (sym c.in-Err.ensures.fault) c.in-Err.ensures.err
 
 pub returns-in-None-clause-sent : goal.returns-in-None-clause-sent
-returns-in-None-clause-sent c = never_none c.refusal-2.result _ c.refusal-2.ensures
+returns-in-None-clause-sent c = never_none c.refusal-in-None.result _ c.refusal-in-None.ensures
 
 pub returns-in-None-clause-refused : goal.returns-in-None-clause-refused
-returns-in-None-clause-refused c = without_label c.refusal-2.result c.args.msu _ (sym c.label_of.ensures.value ∙ c.in-None.is)
+returns-in-None-clause-refused c = without_label c.refusal-in-None.result c.args.msu _ (sym c.label_of.ensures.value ∙ c.in-None.is)

@@ -10,8 +10,8 @@ returns-in-Some-clause-some c = said_some c.send_in.result _ _ (sym c.in-Some.en
 pub returns-in-Some-clause-none : goal.returns-in-Some-clause-none
 returns-in-Some-clause-none c = said_none c.send_in.result _ _ (sym c.in-Some.ensures ∙ ap sent_by (ap texts c.as_slice.ensures.value ∙ c.in_ok-words.ensures)) c.send_in.ensures.none
 
-pub returns-in-None-clause-some : goal.returns-in-None-clause-some
-returns-in-None-clause-some c = said_some c.other_in.result _ _ (sym c.in-None.ensures ∙ ap sent_by (ap texts c.as_slice.ensures.value ∙ c.in_ok-words.ensures)) c.other_in.ensures
+pub returns-clause-some : goal.returns-clause-some
+returns-clause-some c = said_some c.other_in.result _ _ (sym c.in-None.ensures ∙ ap sent_by (ap texts c.as_slice.ensures.value ∙ c.in_ok-words.ensures)) c.other_in.ensures
 
-pub returns-in-None-clause-none : goal.returns-in-None-clause-none
-returns-in-None-clause-none c = silent c.other_in.result _ (sym c.in-None.ensures ∙ ap sent_by (ap texts c.as_slice.ensures.value ∙ c.in_ok-words.ensures))
+pub returns-clause-none : goal.returns-clause-none
+returns-clause-none c = silent c.other_in.result _ (sym c.in-None.ensures ∙ ap sent_by (ap texts c.as_slice.ensures.value ∙ c.in_ok-words.ensures))

@@ -12,4 +12,4 @@ loop-link-preserved g c =
     (g.L.Lines.traffic c.args.lines.now) (g.L.Lines.traffic c.loop-link.lines) (g.L.Lines.traffic c.carry_at.new.lines) c.loop-link.invariant c.in_ok-carry_at.ensures
 
 pub returns : goal.returns
-returns g c = carried_count c.args.ahead c.loop-link.link _ _ _ _ _ _ _ _ _ (omega (arith, c.len.ensures)) c.loop-link.invariant
+returns g c = carried_count c.args.ahead c.loop-link.link _ _ _ _ _ _ _ _ _ (omega arith) c.loop-link.invariant

@@ -9,12 +9,12 @@ pub returns-in-Same : goal.returns-in-Same
 returns-in-Same g c =
     passed_same c.args.line.link c.args.line.ahead _ _ _ _ _ _ c.in_ok-passed.passed _ _ _ c.in-Same.is c.in_ok-passed.ensures (subst (λ (xs : List ℕ). Grows (g.L.Lines.traffic c.args.lines.now) (g.L.Lines.traffic c.give_out.new.lines) (given c.args.line.link xs)) c.as_slice.ensures.value c.give_out.ensures)
 
-pub returns-in-Silent : goal.returns-in-Silent
-returns-in-Silent g c =
+pub returns-in_ok-format-in-Silent : goal.returns-in_ok-format-in-Silent
+returns-in_ok-format-in-Silent g c =
     passed_told_so c.say_text.result c.args.line.link c.args.line.ahead _ _ _ _ _ _ c.in_ok-passed.passed Silent _ _ _ _ c.in-Silent.is c.in_ok-passed.ensures (subst (λ (xs : List ℕ). Grows (g.L.Lines.traffic c.args.lines.now) (g.L.Lines.traffic c.give_out.new.lines) (given c.args.line.link xs)) c.as_slice.ensures.value c.give_out.ensures)
-    (told_as c.say_text.result _ _ _ _ _ _ refl c.in_ok-format.ensures.ok c.say_text.ensures)
+    (told_as c.say_text.result _ _ _ _ _ _ refl c.in_ok-format-in-Silent.ensures.ok c.say_text.ensures)
 
-pub returns-in-Back : goal.returns-in-Back
-returns-in-Back g c =
-    passed_told_so c.say_text-2.result c.args.line.link c.args.line.ahead _ _ _ _ _ _ c.in_ok-passed.passed Back _ _ _ _ c.in-Back.is c.in_ok-passed.ensures (subst (λ (xs : List ℕ). Grows (g.L.Lines.traffic c.args.lines.now) (g.L.Lines.traffic c.give_out.new.lines) (given c.args.line.link xs)) c.as_slice.ensures.value c.give_out.ensures)
-    (told_as c.say_text-2.result _ _ _ _ _ _ refl c.in_ok-format-2.ensures.ok c.say_text-2.ensures)
+pub returns-in_ok-format-in-Back : goal.returns-in_ok-format-in-Back
+returns-in_ok-format-in-Back g c =
+    passed_told_so c.say_text-in-Back.result c.args.line.link c.args.line.ahead _ _ _ _ _ _ c.in_ok-passed.passed Back _ _ _ _ c.in-Back.is c.in_ok-passed.ensures (subst (λ (xs : List ℕ). Grows (g.L.Lines.traffic c.args.lines.now) (g.L.Lines.traffic c.give_out.new.lines) (given c.args.line.link xs)) c.as_slice.ensures.value c.give_out.ensures)
+    (told_as c.say_text-in-Back.result _ _ _ _ _ _ refl c.in_ok-format-in-Back.ensures.ok c.say_text-in-Back.ensures)
