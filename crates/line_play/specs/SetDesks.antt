@@ -50,4 +50,5 @@ pub record RanFrom (ahead : ℕ) (tender : Tended) : Type 0 where
   pub given_before : Option (List Traffic)
   pub given : Option (List Traffic)
   pub last : SetPlace
-  pub made : Made (λ bytes traffic. Ran ahead first bytes traffic last) before after given_before given
+  pub made :
+      Made (λ bytes traffic. Ran ahead first bytes traffic last) before after given_before given

@@ -42,7 +42,8 @@ octets_sent order.Held = None
 octets_sent order.Unsure = None
 octets_sent order.Rebalance = None
 
--- A message has 5 to 273 octets: one of service information, a label of four, and what stands behind.
+-- A message has 5 to 273 octets: one of service information, a label of four, and what stands
+-- behind.
 abbrev pub AreNoMessage : List ℕ → Type 0
 AreNoMessage octets = (length octets < 5) ⊎ (273 < length octets)
 

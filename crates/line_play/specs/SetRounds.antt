@@ -167,8 +167,8 @@ pub record SetPlace : Type 0 where
 -- Of each line what came is heard and what goes out goes on; a tick passes; what is to be done for
 -- the links is done; all that there is to tell is told; orders are obeyed; and what there is to tell
 -- behind that is told too.
-pub record IsRound (ahead : ℕ) (p : SetPlace) (bytes : List ℕ) (traffic : List Traffic) (goes_on : Bool)
-    (q : SetPlace) : Type 0 where
+pub record IsRound (ahead : ℕ) (p : SetPlace) (bytes : List ℕ) (traffic : List Traffic)
+    (goes_on : Bool) (q : SetPlace) : Type 0 where
   pub carried : Tended
   pub first : List ℕ
   pub carries : CarriesAll ahead p.set p.wires (length p.wires) first traffic carried q.wires
@@ -187,7 +187,8 @@ pub record IsRound (ahead : ℕ) (p : SetPlace) (bytes : List ℕ) (traffic : Li
   pub are : bytes ≡ ((first ++ second) ++ third) ++ fourth
 
 -- rounds, one behind another, up to one that ends the run
-pub data Rounds (ahead : ℕ) (p : SetPlace) : List ℕ → List Traffic → Bool → SetPlace → Type 0 where
+pub data Rounds (ahead : ℕ) (p : SetPlace) :
+    List ℕ → List Traffic → Bool → SetPlace → Type 0 where
   begins : Rounds ahead p [] [] true p
   round : {bytes : List ℕ} {traffic : List Traffic} {q r : SetPlace}
       (more : List ℕ) (others : List Traffic) (goes_on : Bool)

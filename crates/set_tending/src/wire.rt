@@ -45,6 +45,9 @@ fn hear_part<'a>(
     if taken == 0 {
         return Err(TendError::NoMemory);
     }
+    if taken > octets.len() {
+        return Err(TendError::NoMemory);
+    }
     tender.heed_link(link)?;
     let left = &octets[taken..];
     Ok(left)
