@@ -165,8 +165,8 @@ pub record SetPlace : Type 0 where
   pub left : Option (List Timed)
 
 -- Of each line what came is heard and what goes out goes on; a tick passes; what is to be done for
--- the links is done; all that there is to tell is told; orders are obeyed; and what there is to tell
--- behind that is told too.
+-- the links is done; all that there is to tell is told; orders are obeyed; and what there is to
+-- tell behind that is told too.
 pub record IsRound (ahead : ℕ) (p : SetPlace) (bytes : List ℕ) (traffic : List Traffic)
     (goes_on : Bool) (q : SetPlace) : Type 0 where
   pub carried : Tended
