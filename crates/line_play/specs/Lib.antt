@@ -1,13 +1,19 @@
 pub mod Commands
+pub mod LineTraffic
 pub mod InTurn
 pub mod Lines
 pub mod LinkActs
 pub mod Measured
 pub mod Opening
-pub mod SetRuns
+pub mod SetDesks
+pub mod SetLaws
+pub mod SetObeying
+pub mod SetOpening
+pub mod SetRounds
 pub mod Told
 pub use Rattle.line_filter.specs.Filters
 pub use Rattle.line_filter.specs.declared as line_filter_types
 pub use Rattle.script_terminal.specs.Term
 pub use Rattle.script_check.specs.Checked
+pub use Rattle.set_tending.specs.Tended
 pub use Rattle.script_links.specs.Orders

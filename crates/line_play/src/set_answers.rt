@@ -1,15 +1,18 @@
 //! What orders to a set lead to.
-ghost use Rattle.std.specs.Prelude.{◌≡◌, IfOk, IfSome, IsSome, IsNone, OnOk, None, Some};
+ghost use Rattle.std.specs.Prelude.{◌≡◌, ◌++◌, ◌∷◌, [], IfOk, IsSome, IsNone, OnOk, None, Some, codes};
 ghost use Rattle.script_lines.specs.Words.{words_of};
-ghost use Rattle.set_tending.specs.Rounds.{Adds};
-ghost use Rattle.line_play.specs.SetRuns.{Continues, IsSent, octets_sent, sent_by};
+ghost use Rattle.line_filter.specs.Desks.{Told as TellsSuch};
+ghost use Rattle.line_filter.specs.Orders.{told};
+ghost use Rattle.line_filter.specs.Reporting.{TellsLines};
+ghost use Rattle.set_tending.specs.Rounds.{Acts, Adds};
+ghost use Rattle.line_play.specs.SetObeying.{IsAnswer, Obeys, IsSent, IsUntaken, IsTurnedDown, octets_sent, sent_by};
 
-use crate::set_desk::SetDesk;
 use crate::set_orders::{Focus, SetOrder, set_order_in};
+use crate::set_state::SetState;
 use crate::texts::{refusal_in, text_of};
 use line_filter::Reports;
 use script_terminal::{command_of, message, state_line, value_line};
-use set_tending::{CommandError, label_of};
+use set_tending::{CommandError, Msu, Tender, label_of};
 use std::alloc::{AllocError, Global};
 use std::io;
 
@@ -23,54 +26,72 @@ fn refusal<D: std::fmt::Display>(alloc: Global, why: &D) -> Result<Option<Refuse
     Ok(Some(format!(in alloc; "{why}")?))
 }
 
-impl<O, P: Reports> SetDesk<O, P> {
-    /// An order to links. The first refusal, if there is one.
-    fn obey_links(
-        &mut self,
-        alloc: Global,
-        focus: Focus,
-        order: script_links::Order,
-    ) -> Result<Option<Refused>, AllocError>
-        ensures adds { OnOk result (Adds self.old.tender self.new.tender) }
-        ensures reports { self.new.reports ≡ self.old.reports }
-    {
-        let (from, to) = self.links(focus);
-        let mut first: Option<CommandError> = None;
-        for link in from..to {
-            match self.tender.obey(link, command_of(order)) {
-                Ok(()) => {}
-                Err(CommandError::NoMemory) => return Err(AllocError),
-                Err(error) => first = first.or(Some(error)),
-            }
+/// What a command was refused for; none, where it was obeyed.
+fn refused_for(alloc: Global, error: Option<CommandError>) -> Result<Option<Refused>, AllocError> {
+    match error {
+        Some(CommandError::Refused(why)) => {
+            let name = why.name();
+            refusal(alloc, &name)
         }
-        match first {
-            Some(CommandError::Refused(why)) => {
-                let name = why.name();
-                refusal(alloc, &format_args!("{name}"))
-            }
-            Some(error) => refusal(alloc, &error),
-            None => Ok(None),
+        Some(error) => refusal(alloc, &error),
+        None => Ok(None),
+    }
+}
+
+/// An order to links, from one to before another. The first refusal, if there is one.
+fn obey_links(
+    tender: &mut Tender,
+    from: usize,
+    to: usize,
+    order: script_links::Order,
+) -> Result<Option<CommandError>, AllocError>
+    ensures { OnOk result (Adds tender.old tender.new) }
+{
+    let mut first: Option<CommandError> = None;
+    for link in from..to {
+        match tender.obey(link, command_of(order)) {
+            Ok(()) => {}
+            Err(CommandError::NoMemory) => return Err(AllocError),
+            Err(error) => first = first.or(Some(error)),
         }
     }
+    Ok(first)
+}
 
-    /// `send HEX`.
-    fn obey_send(&mut self, alloc: Global, octets: &[u8]) -> Result<Option<Refused>, AllocError>
-        ensures sent { IfOk result (λ r. IsNone r → IsSent octets.now self.old.tender self.new.tender) }
-        ensures refused { IfOk result (λ r. IfSome r (λ why. self.new.tender ≡ self.old.tender)) }
-        ensures reports { self.new.reports ≡ self.old.reports }
-    {
-        let Some(msu) = message(octets) else {
-            return refusal(alloc, &"X1 BadLine");
-        };
-        let Some(label) = label_of(&msu) else {
-            return refusal(alloc, &"X1 BadLine");
-        };
-        match self.tender.send(label, msu) {
+/// Sends a message. Why not, if it isn't taken.
+fn send_message(
+    alloc: Global,
+    tender: &mut Tender,
+    msu: Msu,
+) -> Result<Option<Refused>, AllocError>
+    ensures sent { IfOk result (λ r. IsNone r → Acts (msu ∷ []) [] tender.old tender.new) }
+    ensures refused { IfOk result (λ r. IsSome r → IsUntaken msu tender.old tender.new) }
+{
+    match label_of(&msu) {
+        Some(label) => match tender.send(label, msu) {
             Ok(()) => Ok(None),
             Err(error) => refusal(alloc, &error),
-        }
+        },
+        None => refusal(alloc, &"X1 BadLine"),
     }
+}
 
+/// `send HEX`. Why not, if its message isn't taken.
+fn obey_send(
+    alloc: Global,
+    tender: &mut Tender,
+    octets: &[u8],
+) -> Result<Option<Refused>, AllocError>
+    ensures sent { IfOk result (λ r. IsNone r → IsSent octets.now tender.old tender.new) }
+    ensures refused { IfOk result (λ r. IsSome r → IsTurnedDown octets.now tender.old tender.new) }
+{
+    match message(octets) {
+        Some(msu) => send_message(alloc, tender, msu),
+        None => refusal(alloc, &"X1 BadLine"),
+    }
+}
+
+impl SetState {
     /// Why a question about an actor isn't answered, by the line that a script prints for it. All links have the same actors.
     fn why_unanswered(
         &self,
@@ -93,6 +114,43 @@ impl<O, P: Reports> SetDesk<O, P> {
         }
     }
 
+    /// An order to links. Why not, if one of them refuses it.
+    fn order_links(
+        &mut self,
+        alloc: Global,
+        focus: Focus,
+        order: script_links::Order,
+    ) -> Result<Option<Refused>, AllocError>
+        ensures { OnOk result (Adds self.old.tender self.new.tender) }
+    {
+        let (from, to) = self.links(focus);
+        let first = obey_links(&mut self.tender, from, to, order)?;
+        refused_for(alloc, first)
+    }
+
+    /// `on L` and `on all`: orders speak of these links from now on.
+    fn look_at(&mut self, alloc: Global, focus: Focus) -> Result<Option<Refused>, AllocError>
+        ensures { self.new.tender ≡ self.old.tender }
+    {
+        if let Focus::Link(link) = focus {
+            if link >= self.tender.len() {
+                return refusal(alloc, &"K1 NoLink");
+            }
+        }
+        self.focus = focus;
+        Ok(None)
+    }
+
+    /// `rebalance`.
+    fn rebalance(&mut self, alloc: Global) -> Result<Option<Refused>, AllocError>
+        ensures { Adds self.old.tender self.new.tender }
+    {
+        match self.tender.rebalance() {
+            Ok(()) => Ok(None),
+            Err(error) => refusal(alloc, &error),
+        }
+    }
+
     /// Does what an order says that sends no message and is answered by `ok` alone. Why not, if it doesn't.
     fn obey_plain(
         &mut self,
@@ -100,111 +158,118 @@ impl<O, P: Reports> SetDesk<O, P> {
         focus: Focus,
         order: &SetOrder<'_>,
     ) -> Result<Option<Refused>, AllocError>
-        ensures adds { OnOk result (Adds self.old.tender self.new.tender) }
-        ensures reports { self.new.reports ≡ self.old.reports }
+        ensures { OnOk result (Adds self.old.tender self.new.tender) }
     {
         match order {
-            SetOrder::On(Focus::Link(link)) if *link >= self.tender.len() => {
-                refusal(alloc, &"K1 NoLink")
-            }
-            SetOrder::On(focus) => {
-                self.focus = *focus;
-                Ok(None)
-            }
-            SetOrder::Link(order) => self.obey_links(alloc, focus, *order),
+            SetOrder::On(focus) => self.look_at(alloc, *focus),
+            SetOrder::Link(order) => self.order_links(alloc, focus, *order),
             SetOrder::Reset => {
                 self.reset_all(focus);
                 Ok(None)
             }
-            SetOrder::Rebalance => match self.tender.rebalance() {
-                Ok(()) => Ok(None),
-                Err(error) => refusal(alloc, &error),
-            },
-            SetOrder::State(_)
-            | SetOrder::Value(_, _)
-            | SetOrder::Measure(_)
-            | SetOrder::Aborted
-            | SetOrder::Measures
-            | SetOrder::Table
-            | SetOrder::Held
-            | SetOrder::Unsure
-            | SetOrder::Send(_) => Ok(None),
+            SetOrder::Rebalance => self.rebalance(alloc),
+            _ => Ok(None),
         }
     }
 
     /// Tells why an order isn't obeyed.
-    fn refuse(&mut self, alloc: Global, why: &str) -> io::Result<()>
-        ensures { OnOk result (Continues self.old.tender (P.stand self.old.reports) self.new.tender (P.stand self.new.reports)) }
+    fn refuse<P: Reports>(&self, alloc: Global, why: &str, reports: &mut P) -> io::Result<()>
+        ensures { OnOk result (TellsLines (P.stand reports.old) (P.stand reports.new) (told self.now.tender.ticks (codes "refused " ++ why.now))) }
     {
-        self.tell_text(alloc, format!(in alloc; "refused {why}")?)
+        self.say_text(alloc, format!(in alloc; "refused {why}")?, reports)
     }
 
-    /// Tells that an order which sends no message was obeyed.
-    pub(crate) fn agree(&mut self, alloc: Global, text: &str) -> io::Result<()>
-        requires { sent_by (words_of text.now) ≡ None }
-        ensures { OnOk result (Continues self.old.tender (P.stand self.old.reports) self.new.tender (P.stand self.new.reports)) }
+    /// Tells that an order was obeyed.
+    fn agree<P: Reports>(&self, alloc: Global, text: &str, reports: &mut P) -> io::Result<()>
+        ensures { OnOk result (TellsLines (P.stand reports.old) (P.stand reports.new) (told self.now.tender.ticks (codes "ok " ++ text.now))) }
     {
-        self.tell_text(alloc, format!(in alloc; "ok {text}")?)
+        self.say_text(alloc, format!(in alloc; "ok {text}")?, reports)
     }
 
     /// Has a message sent, as an order says, and tells that.
-    fn obey_sending(&mut self, alloc: Global, text: &str, octets: &[u8]) -> io::Result<()>
+    fn obey_sending<P: Reports>(
+        &mut self,
+        alloc: Global,
+        text: &str,
+        octets: &[u8],
+        reports: &mut P,
+    ) -> io::Result<()>
         requires { sent_by (words_of text.now) ≡ Some octets.now }
-        ensures { OnOk result (Continues self.old.tender (P.stand self.old.reports) self.new.tender (P.stand self.new.reports)) }
+        ensures { OnOk result (TellsSuch (λ bytes. Obeys text.now self.old.tender bytes self.new.tender) (P.stand reports.old) (P.stand reports.new)) }
     {
-        match self.obey_send(alloc, octets)? {
-            Some(why) => self.refuse(alloc, why.as_str()),
-            None => self.tell_text(alloc, format!(in alloc; "ok {text}")?),
+        match obey_send(alloc, &mut self.tender, octets)? {
+            Some(why) => self.refuse(alloc, why.as_str(), reports),
+            None => self.agree(alloc, text, reports),
         }
     }
 
+    /// Tells that an order was obeyed, and what it asked for.
+    fn answer<P: Reports>(
+        &self,
+        alloc: Global,
+        focus: Focus,
+        text: &str,
+        order: &SetOrder<'_>,
+        reports: &mut P,
+    ) -> io::Result<()>
+        ensures { OnOk result (TellsSuch (IsAnswer self.now.tender.ticks text.now) (P.stand reports.old) (P.stand reports.new)) }
+    {
+        self.agree(alloc, text, reports)?;
+        self.tell_asked(alloc, focus, order, reports)
+    }
+
     /// Does what an order says that sends no message, and tells it.
-    fn obey_other(
+    fn obey_other<P: Reports>(
         &mut self,
         alloc: Global,
         focus: Focus,
         text: &str,
         order: &SetOrder<'_>,
+        reports: &mut P,
     ) -> io::Result<()>
         requires { sent_by (words_of text.now) ≡ None }
-        ensures { OnOk result (Continues self.old.tender (P.stand self.old.reports) self.new.tender (P.stand self.new.reports)) }
+        ensures { OnOk result (TellsSuch (λ bytes. Obeys text.now self.old.tender bytes self.new.tender) (P.stand reports.old) (P.stand reports.new)) }
     {
         if let Some(why) = self.why_unanswered(alloc, focus, order)? {
-            return self.refuse(alloc, why.as_str());
+            return self.refuse(alloc, why.as_str(), reports);
         }
         match self.obey_plain(alloc, focus, order)? {
-            Some(why) => self.refuse(alloc, why.as_str()),
-            None => {
-                self.agree(alloc, text)?;
-                self.tell_asked(alloc, focus, order)
-            }
+            Some(why) => self.refuse(alloc, why.as_str(), reports),
+            None => self.answer(alloc, focus, text, order, reports),
         }
     }
 
     /// Does what an order says, and tells it.
-    fn obey_order(
+    fn obey_order<P: Reports>(
         &mut self,
         alloc: Global,
         focus: Focus,
         text: &str,
         order: &SetOrder<'_>,
+        reports: &mut P,
     ) -> io::Result<()>
         requires { octets_sent order.now ≡ sent_by (words_of text.now) }
-        ensures { OnOk result (Continues self.old.tender (P.stand self.old.reports) self.new.tender (P.stand self.new.reports)) }
+        ensures { OnOk result (TellsSuch (λ bytes. Obeys text.now self.old.tender bytes self.new.tender) (P.stand reports.old) (P.stand reports.new)) }
     {
         match order {
-            SetOrder::Send(octets) => self.obey_sending(alloc, text, octets),
-            _ => self.obey_other(alloc, focus, text, order),
+            SetOrder::Send(octets) => self.obey_sending(alloc, text, octets, reports),
+            _ => self.obey_other(alloc, focus, text, order, reports),
         }
     }
 
     /// Does what a line says, and tells it.
-    pub(crate) fn obey(&mut self, alloc: Global, focus: Focus, text: &str) -> io::Result<()>
-        ensures { OnOk result (Continues self.old.tender (P.stand self.old.reports) self.new.tender (P.stand self.new.reports)) }
+    pub(crate) fn obey<P: Reports>(
+        &mut self,
+        alloc: Global,
+        focus: Focus,
+        text: &str,
+        reports: &mut P,
+    ) -> io::Result<()>
+        ensures { OnOk result (TellsSuch (λ bytes. Obeys text.now self.old.tender bytes self.new.tender) (P.stand reports.old) (P.stand reports.new)) }
     {
         match set_order_in(alloc, text)? {
-            Some(order) => self.obey_order(alloc, focus, text, &order),
-            None => self.refuse(alloc, "X1 BadLine"),
+            Some(order) => self.obey_order(alloc, focus, text, &order, reports),
+            None => self.refuse(alloc, "X1 BadLine", reports),
         }
     }
 }

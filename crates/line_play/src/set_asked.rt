@@ -1,17 +1,18 @@
 //! What is told of a set's links where an order asks.
 ghost use Rattle.std.specs.Prelude.{◌≡◌, OnOk};
-ghost use Rattle.line_play.specs.SetRuns.{Continues};
+ghost use Rattle.line_filter.specs.Desks.{Told as TellsSuch};
+ghost use Rattle.line_play.specs.SetObeying.{Shows};
 
-use crate::set_desk::SetDesk;
 use crate::set_measures::Since;
 use crate::set_orders::{Focus, SetOrder};
+use crate::set_state::SetState;
 use crate::texts::text_of;
 use line_filter::Reports;
 use script_terminal::{Measure, all_measures, state_line, value_line};
 use std::alloc::Global;
 use std::io;
 
-impl<O, P> SetDesk<O, P> {
+impl SetState {
     /// The links that an order speaks of, from one to before another.
     pub(crate) fn links(&self, focus: Focus) -> (usize, usize) {
         match focus {
@@ -38,8 +39,7 @@ impl<O, P> SetDesk<O, P> {
 
     /// `measure reset`, for a link.
     fn reset(&mut self, link: usize)
-        ensures tender { self.new.tender ≡ self.old.tender }
-        ensures reports { self.new.reports ≡ self.old.reports }
+        ensures { self.new.tender ≡ self.old.tender }
     {
         let Some(terminal) = self.tender.set().terminal(link) else {
             return;
@@ -53,152 +53,197 @@ impl<O, P> SetDesk<O, P> {
 
     /// `measure reset`.
     pub(crate) fn reset_all(&mut self, focus: Focus)
-        ensures tender { self.new.tender ≡ self.old.tender }
-        ensures reports { self.new.reports ≡ self.old.reports }
+        ensures { self.new.tender ≡ self.old.tender }
     {
         let (from, to) = self.links(focus);
         for link in from..to {
             self.reset(link);
         }
     }
-}
 
-impl<O, P: Reports> SetDesk<O, P> {
     /// `state P`, for a link.
-    fn tell_state(&mut self, alloc: Global, link: usize, process: &str) -> io::Result<()>
-        ensures { OnOk result (Continues self.old.tender (P.stand self.old.reports) self.new.tender (P.stand self.new.reports)) }
+    fn tell_state<P: Reports>(
+        &self,
+        alloc: Global,
+        link: usize,
+        process: &str,
+        reports: &mut P,
+    ) -> io::Result<()>
+        ensures { OnOk result (TellsSuch (Shows self.now.tender.ticks) (P.stand reports.old) (P.stand reports.new)) }
     {
         let line = match self.tender.set().book(link) {
             Some(book) => state_line(alloc, book, process)?,
             None => return Ok(()),
         };
         let text = text_of(alloc, &line)?;
-        self.tell_text(alloc, format!(in alloc; "{link} state {process} {text}")?)
+        self.say_text(
+            alloc,
+            format!(in alloc; "{link} state {process} {text}")?,
+            reports,
+        )
     }
 
     /// `value P x`, for a link.
-    fn tell_value(
-        &mut self,
+    fn tell_value<P: Reports>(
+        &self,
         alloc: Global,
         link: usize,
         process: &str,
         variable: &str,
+        reports: &mut P,
     ) -> io::Result<()>
-        ensures { OnOk result (Continues self.old.tender (P.stand self.old.reports) self.new.tender (P.stand self.new.reports)) }
+        ensures { OnOk result (TellsSuch (Shows self.now.tender.ticks) (P.stand reports.old) (P.stand reports.new)) }
     {
         let line = match self.tender.set().book(link) {
             Some(book) => value_line(alloc, book, process, variable)?,
             None => return Ok(()),
         };
         let text = text_of(alloc, &line)?;
-        self.tell_text(alloc, format!(in alloc; "{link} value {process} {variable} {text}")?)
+        self.say_text(
+            alloc,
+            format!(in alloc; "{link} value {process} {variable} {text}")?,
+            reports,
+        )
     }
 
     /// `measure NAME`, for a link.
-    fn tell_measure(&mut self, alloc: Global, link: usize, measure: Measure) -> io::Result<()>
-        ensures { OnOk result (Continues self.old.tender (P.stand self.old.reports) self.new.tender (P.stand self.new.reports)) }
+    fn tell_measure<P: Reports>(
+        &self,
+        alloc: Global,
+        link: usize,
+        measure: Measure,
+        reports: &mut P,
+    ) -> io::Result<()>
+        ensures { OnOk result (TellsSuch (Shows self.now.tender.ticks) (P.stand reports.old) (P.stand reports.new)) }
     {
         let count = self.counted(link, measure);
         let name = measure.word();
-        self.tell_text(alloc, format!(in alloc; "{link} measure {name} {count}")?)
+        self.say_text(
+            alloc,
+            format!(in alloc; "{link} measure {name} {count}")?,
+            reports,
+        )
     }
 
     /// `measure aborted_periods`, for a link.
-    fn tell_aborted(&mut self, alloc: Global, link: usize) -> io::Result<()>
-        ensures { OnOk result (Continues self.old.tender (P.stand self.old.reports) self.new.tender (P.stand self.new.reports)) }
+    fn tell_aborted<P: Reports>(
+        &self,
+        alloc: Global,
+        link: usize,
+        reports: &mut P,
+    ) -> io::Result<()>
+        ensures { OnOk result (TellsSuch (Shows self.now.tender.ticks) (P.stand reports.old) (P.stand reports.new)) }
     {
         let count = self.aborted(link);
-        self.tell_text(alloc, format!(in alloc; "{link} measure aborted_periods {count}")?)
+        self.say_text(
+            alloc,
+            format!(in alloc; "{link} measure aborted_periods {count}")?,
+            reports,
+        )
     }
 
     /// `measure`, for a link: what was counted, in the order of the names.
-    fn tell_measures(&mut self, alloc: Global, link: usize) -> io::Result<()>
-        ensures { OnOk result (Continues self.old.tender (P.stand self.old.reports) self.new.tender (P.stand self.new.reports)) }
+    fn tell_measures<P: Reports>(
+        &self,
+        alloc: Global,
+        link: usize,
+        reports: &mut P,
+    ) -> io::Result<()>
+        ensures { OnOk result (TellsSuch (Shows self.now.tender.ticks) (P.stand reports.old) (P.stand reports.new)) }
     {
         let all = all_measures();
         for measure in &all {
-            self.tell_measure(alloc, link, *measure)?;
+            self.tell_measure(alloc, link, *measure, reports)?;
         }
-        self.tell_aborted(alloc, link)
+        self.tell_aborted(alloc, link, reports)
     }
 
     /// `held`, for a link.
-    fn tell_held(&mut self, alloc: Global, link: usize) -> io::Result<()>
-        ensures { OnOk result (Continues self.old.tender (P.stand self.old.reports) self.new.tender (P.stand self.new.reports)) }
+    fn tell_held<P: Reports>(&self, alloc: Global, link: usize, reports: &mut P) -> io::Result<()>
+        ensures { OnOk result (TellsSuch (Shows self.now.tender.ticks) (P.stand reports.old) (P.stand reports.new)) }
     {
         let held = self.tender.set().held(link).unwrap_or(0);
         let sent = self.tender.set().sent(link).unwrap_or(0);
-        self.tell_text(alloc, format!(in alloc; "{link} held {held} sent {sent}")?)
+        self.say_text(
+            alloc,
+            format!(in alloc; "{link} held {held} sent {sent}")?,
+            reports,
+        )
     }
 
     /// `table`.
-    fn tell_table(&mut self, alloc: Global) -> io::Result<()>
-        ensures { OnOk result (Continues self.old.tender (P.stand self.old.reports) self.new.tender (P.stand self.new.reports)) }
+    fn tell_table<P: Reports>(&self, alloc: Global, reports: &mut P) -> io::Result<()>
+        ensures { OnOk result (TellsSuch (Shows self.now.tender.ticks) (P.stand reports.old) (P.stand reports.new)) }
     {
         let shared = self.tender.shared_out();
-        self.tell_text(alloc, format!(in alloc; "{shared}")?)
+        self.say_text(alloc, format!(in alloc; "{shared}")?, reports)
     }
 
     /// Tells what an order asked of a link, where it asked for something.
-    fn tell_one_asked(
-        &mut self,
+    fn tell_one_asked<P: Reports>(
+        &self,
         alloc: Global,
         link: usize,
         order: &SetOrder<'_>,
+        reports: &mut P,
     ) -> io::Result<()>
-        ensures { OnOk result (Continues self.old.tender (P.stand self.old.reports) self.new.tender (P.stand self.new.reports)) }
+        ensures { OnOk result (TellsSuch (Shows self.now.tender.ticks) (P.stand reports.old) (P.stand reports.new)) }
     {
         match order {
-            SetOrder::State(process) => self.tell_state(alloc, link, process),
-            SetOrder::Value(process, variable) => self.tell_value(alloc, link, process, variable),
-            SetOrder::Measure(measure) => self.tell_measure(alloc, link, *measure),
-            SetOrder::Aborted => self.tell_aborted(alloc, link),
-            SetOrder::Measures => self.tell_measures(alloc, link),
-            SetOrder::Held => self.tell_held(alloc, link),
+            SetOrder::State(process) => self.tell_state(alloc, link, process, reports),
+            SetOrder::Value(process, variable) => {
+                self.tell_value(alloc, link, process, variable, reports)
+            }
+            SetOrder::Measure(measure) => self.tell_measure(alloc, link, *measure, reports),
+            SetOrder::Aborted => self.tell_aborted(alloc, link, reports),
+            SetOrder::Measures => self.tell_measures(alloc, link, reports),
+            SetOrder::Held => self.tell_held(alloc, link, reports),
             _ => Ok(()),
         }
     }
 
     /// Tells what an order asked of links, from one to before another.
-    fn tell_of_links(
-        &mut self,
+    fn tell_of_links<P: Reports>(
+        &self,
         alloc: Global,
         from: usize,
         to: usize,
         order: &SetOrder<'_>,
+        reports: &mut P,
     ) -> io::Result<()>
-        ensures { OnOk result (Continues self.old.tender (P.stand self.old.reports) self.new.tender (P.stand self.new.reports)) }
+        ensures { OnOk result (TellsSuch (Shows self.now.tender.ticks) (P.stand reports.old) (P.stand reports.new)) }
     {
         for link in from..to {
-            self.tell_one_asked(alloc, link, order)?;
+            self.tell_one_asked(alloc, link, order, reports)?;
         }
         Ok(())
     }
 
     /// `unsure`.
-    fn tell_unsure(&mut self, alloc: Global) -> io::Result<()>
-        ensures { OnOk result (Continues self.old.tender (P.stand self.old.reports) self.new.tender (P.stand self.new.reports)) }
+    fn tell_unsure<P: Reports>(&self, alloc: Global, reports: &mut P) -> io::Result<()>
+        ensures { OnOk result (TellsSuch (Shows self.now.tender.ticks) (P.stand reports.old) (P.stand reports.new)) }
     {
         let unsure = self.tender.set().unsure();
-        self.tell_text(alloc, format!(in alloc; "unsure {unsure}")?)
+        self.say_text(alloc, format!(in alloc; "unsure {unsure}")?, reports)
     }
 
     /// Tells what an order that was obeyed asked for: of links, of each of which it speaks, or of the set.
-    pub(crate) fn tell_asked(
-        &mut self,
+    pub(crate) fn tell_asked<P: Reports>(
+        &self,
         alloc: Global,
         focus: Focus,
         order: &SetOrder<'_>,
+        reports: &mut P,
     ) -> io::Result<()>
-        ensures { OnOk result (Continues self.old.tender (P.stand self.old.reports) self.new.tender (P.stand self.new.reports)) }
+        ensures { OnOk result (TellsSuch (Shows self.now.tender.ticks) (P.stand reports.old) (P.stand reports.new)) }
     {
         match order {
-            SetOrder::Table => self.tell_table(alloc),
-            SetOrder::Unsure => self.tell_unsure(alloc),
-            SetOrder::Held => self.tell_of_links(alloc, 0, self.tender.len(), order),
+            SetOrder::Table => self.tell_table(alloc, reports),
+            SetOrder::Unsure => self.tell_unsure(alloc, reports),
+            SetOrder::Held => self.tell_of_links(alloc, 0, self.tender.len(), order, reports),
             _ => {
                 let (from, to) = self.links(focus);
-                self.tell_of_links(alloc, from, to, order)
+                self.tell_of_links(alloc, from, to, order, reports)
             }
         }
     }

@@ -1,49 +1,41 @@
 //! A set on its lines, with its orders and reports.
-ghost use Rattle.std.specs.Prelude.{◌≡◌, IfOk, OnOk, string_bytes};
-ghost use Rattle.line_filter.specs.Orders.{told};
-ghost use Rattle.line_filter.specs.Reporting.{TellsLines};
-ghost use Rattle.set_tending.specs.Texts.{told_text};
-ghost use Rattle.line_play.specs.SetRuns.{Continues};
+ghost use Rattle.std.specs.Prelude.{◌≡◌, length, IfOk};
+ghost use Rattle.line_play.specs.SetRounds.{Made, IsRound};
+ghost use Rattle.line_play.specs.SetDesks.{AreNewWires, IsNewSetDesk, place_of};
 
+use crate::set_attending::attend;
+use crate::set_lines::Lines;
 use crate::set_measures::Since;
 use crate::set_orders::Focus;
 use crate::set_queue::Queue;
-use line_filter::{Reports, tell};
-use set_tending::{TendError, Tender, Told, Wire};
+use crate::set_round::{carry_lines, tend, tick};
+use crate::set_state::{SetState, tell_all};
+use line_filter::{Orders, Reports};
+use set_tending::{Tender, Wire};
 use std::alloc::{AllocError, Global};
-use std::io::{self, ErrorKind};
+use std::io;
 
 /// A set on its lines.
 #[derive(Drop)]
 pub struct SetDesk<O, P> {
-    /// The set.
-    pub tender: Tender,
+    /// The set, and what is counted of its links.
+    pub state: SetState,
     /// What goes out on its lines.
     pub(crate) wires: Vec<Wire>,
-    /// What its links had measured as their counts began anew.
-    pub(crate) since: Vec<Since>,
     /// How many octets of 1s go out on a line at its beginning, and each 1,000 rounds of silence.
     pub(crate) ahead: usize,
     /// What gives orders.
     pub orders: O,
-    /// Which links the next order speaks of.
-    pub(crate) focus: Focus,
     /// Orders that wait.
     pub(crate) queue: Queue,
     /// Where things are told.
     pub reports: P,
 }
 
-/// A failure to tend, as one of the run.
-pub(crate) fn failed(error: TendError) -> io::Error {
-    match error {
-        TendError::NoMemory => io::Error::from(ErrorKind::OutOfMemory),
-        TendError::NoTick => io::Error::from(ErrorKind::Other),
-    }
-}
-
 /// A voice for each line.
-fn wires(alloc: Global, links: usize) -> Result<Vec<Wire>, AllocError> {
+fn wires(alloc: Global, links: usize) -> Result<Vec<Wire>, AllocError>
+    ensures { IfOk result (λ wires. AreNewWires links wires.items) }
+{
     let mut wires = Vec::with_capacity(alloc, links)?;
     for _link in 0..links {
         wires.push(Wire::new())?;
@@ -61,7 +53,9 @@ fn counts(alloc: Global, links: usize) -> Result<Vec<Since>, AllocError> {
 }
 
 /// What is kept of each line, and of each link's counts.
-fn parts(alloc: Global, links: usize) -> Result<(Vec<Wire>, Vec<Since>), AllocError> {
+fn parts(alloc: Global, links: usize) -> Result<(Vec<Wire>, Vec<Since>), AllocError>
+    ensures { IfOk result (λ parts. AreNewWires links parts.0.items) }
+{
     let wires = wires(alloc, links)?;
     let since = counts(alloc, links)?;
     Ok((wires, since))
@@ -83,17 +77,18 @@ impl<O, P> SetDesk<O, P> {
     where
         O: Drop,
         P: Drop,
-        ensures new { IfOk result (λ desk. desk.tender ≡ tender) }
-        ensures reports { IfOk result (λ desk. desk.reports ≡ reports) }
+        ensures { IfOk result (IsNewSetDesk tender ahead orders reports) }
     {
         let (wires, since) = parts(alloc, tender.len())?;
         Ok(SetDesk {
-            tender,
+            state: SetState {
+                tender,
+                since,
+                focus: Focus::Link(0),
+            },
             wires,
-            since,
             ahead,
             orders,
-            focus: Focus::Link(0),
             queue: Queue::new(alloc),
             reports,
         })
@@ -101,20 +96,21 @@ impl<O, P> SetDesk<O, P> {
 
     /// The millisecond: how many rounds there were.
     pub fn millisecond(&self) -> u64
-        ensures { result ≡ self.now.tender.ticks }
+        ensures { result ≡ self.now.state.tender.ticks }
     {
-        self.tender.now()
+        self.state.tender.now()
     }
 
     /// Ends the set. What orders came from, and where reports went.
-    pub fn end(self) -> (O, P) {
+    pub fn end(self) -> (O, P)
+        ensures orders { result.0 ≡ self.orders }
+        ensures reports { result.1 ≡ self.reports }
+    {
         let SetDesk {
-            tender: _tender,
+            state: _state,
             wires: _wires,
-            since: _since,
             ahead: _,
             orders,
-            focus: _,
             queue: _queue,
             reports,
         } = self;
@@ -122,52 +118,46 @@ impl<O, P> SetDesk<O, P> {
     }
 }
 
-/// Tells what the set told.
-fn tell_told<P: Reports>(alloc: Global, now: u64, item: &Told, reports: &mut P) -> io::Result<()>
-    ensures { OnOk result (TellsLines (P.stand reports.old) (P.stand reports.new) (told now (told_text item.now))) }
-{
-    let text = format!(in alloc; "{item}")?;
-    tell(alloc, now, text.as_str(), reports)
-}
-
-/// Tells all that a set has to tell.
-pub(crate) fn tell_all<P: Reports>(
-    alloc: Global,
-    tender: &mut Tender,
-    reports: &mut P,
-) -> io::Result<()>
-    ensures { OnOk result (Continues tender.old (P.stand reports.old) tender.new (P.stand reports.new)) }
-{
-    for _told in 0..u64::MAX {
-        match tender.take_told() {
-            Some(item) => tell_told(alloc, tender.now(), &item, reports)?,
-            None => return Ok(()),
-        }
-    }
-    Err(io::Error::from(ErrorKind::Other))
-}
-
-impl<O, P: Reports> SetDesk<O, P> {
-    /// Tells a line, the millisecond first.
-    pub(crate) fn tell(&mut self, alloc: Global, text: &str) -> io::Result<()>
-        ensures tells { OnOk result (TellsLines (P.stand self.old.reports) (P.stand self.new.reports) (told self.old.tender.ticks text.now)) }
-        ensures tender { self.new.tender ≡ self.old.tender }
+impl<O: Orders, P: Reports> SetDesk<O, P> {
+    /// A round: of each line what came is heard, and an octet goes out for each of its octets; a tick passes; what is to be done for the links is done; what
+    /// there is to tell is told; and orders that are due are obeyed. Whether the run goes on: it doesn't behind `quit`.
+    ///
+    /// # Errors
+    ///
+    /// Where memory, orders or reports fail, or no tick passes.
+    pub fn round<L: Lines>(
+        &mut self,
+        alloc: Global,
+        lines: &mut L,
+        part: &mut [u8],
+        out: &mut Vec<u8>,
+    ) -> io::Result<bool>
+        ensures made { IfOk result (λ goes_on. Made (λ bytes traffic. IsRound self.old.ahead (place_of O.left self.old) bytes traffic goes_on (place_of O.left self.new))
+            (P.stand self.old.reports) (P.stand self.new.reports) (L.traffic lines.old) (L.traffic lines.new)) }
+        ensures ahead { self.new.ahead ≡ self.old.ahead }
     {
-        tell(alloc, self.tender.now(), text, &mut self.reports)
-    }
-
-    /// The same.
-    pub(crate) fn tell_text(&mut self, alloc: Global, text: String) -> io::Result<()>
-        ensures tells { OnOk result (TellsLines (P.stand self.old.reports) (P.stand self.new.reports) (told self.old.tender.ticks (string_bytes text))) }
-        ensures tender { self.new.tender ≡ self.old.tender }
-    {
-        self.tell(alloc, text.as_str())
-    }
-
-    /// Tells all that the set has to tell.
-    pub(crate) fn tell_all(&mut self, alloc: Global) -> io::Result<()>
-        ensures { OnOk result (Continues self.old.tender (P.stand self.old.reports) self.new.tender (P.stand self.new.reports)) }
-    {
-        tell_all(alloc, &mut self.tender, &mut self.reports)
+        lines.begin(self.state.tender.now());
+        carry_lines(
+            alloc,
+            &mut self.state,
+            &mut self.wires,
+            lines,
+            self.ahead,
+            part,
+            out,
+            &mut self.reports,
+        )?;
+        tick(&mut self.state.tender)?;
+        tend(&mut self.state.tender)?;
+        tell_all(alloc, &mut self.state.tender, &mut self.reports)?;
+        let goes_on = attend(
+            alloc,
+            &mut self.state,
+            &mut self.queue,
+            &mut self.orders,
+            &mut self.reports,
+        )?;
+        tell_all(alloc, &mut self.state.tender, &mut self.reports)?;
+        Ok(goes_on)
     }
 }

@@ -1,4 +1,6 @@
 //! What gives octets of lines and takes them.
+ghost use Rattle.std.specs.Prelude.{List, [], ◌∷◌, false, Option};
+ghost use Rattle.line_play.specs.LineTraffic.{Traffic, Grows, arrived};
 
 use std::io;
 
@@ -19,15 +21,22 @@ pub enum Came {
 
 /// The lines of a set.
 pub trait Lines {
+    // the octets that came of lines and were given to them, in their order, where that is known
+    ghost traffic: { Self → Option (List Traffic) };
+
     /// A round begins, at this millisecond.
-    fn begin(&mut self, now: u64);
+    fn begin(&mut self, now: u64)
+        ensures { Grows (traffic self.old) (traffic self.new) [] };
 
     /// What came of a line: octets, the oldest first, into a part of some octets.
-    fn take(&mut self, link: usize, part: &mut [u8]) -> Came;
+    fn take(&mut self, link: usize, part: &mut [u8]) -> Came
+        ensures { Grows (traffic self.old) (traffic self.new) (arrived link part.new result) };
 
     /// Octets go out on a line. They are lost where it isn't open.
-    fn give(&mut self, link: usize, octets: &[u8]);
+    fn give(&mut self, link: usize, octets: &[u8])
+        ensures { Grows (traffic self.old) (traffic self.new) (record { link = link; came = false; octets = octets.now } ∷ []) };
 
     /// Whether a run ends, since no line could be opened for long: with the line that failed, where one did.
-    fn are_over(&mut self) -> io::Result<bool>;
+    fn are_over(&mut self) -> io::Result<bool>
+        ensures { Grows (traffic self.old) (traffic self.new) [] };
 }

@@ -1,8 +1,13 @@
 //! A set over the processes that a command line names.
-ghost use Rattle.std.specs.Prelude.{◌≡◌, ◌⊎◌, IfErr};
+ghost use Rattle.std.specs.Prelude.{◌≡◌, ◌⊎◌, ◌++◌, ◌∷◌, [], All, IfOk, IfErr, OnOk};
 ghost use Rattle.script_check.specs.Checked.{given, IsGiven};
-ghost use Rattle.script_terminal.specs.Opening.{IsRefusedOver};
+ghost use Rattle.script_terminal.specs.Opening.{IsOverWithin};
+ghost use Rattle.script_terminal.specs.Term.{Term};
+ghost use Rattle.script_terminal.specs.TermRuns.{LacksName};
+ghost use Rattle.set_tending.specs.New.{new_set};
+ghost use Rattle.set_tending.specs.Tended.{IsNewTended};
 ghost use Rattle.line_play.specs.Opening.{IsNoSet};
+ghost use Rattle.line_play.specs.SetOpening.{IsEmpty, LacksOne, AreNewTerminals, IsNewTenderOf, IsNewTenderOver};
 
 use crate::opening::refuse_name;
 use plain_text::FAILED;
@@ -28,17 +33,38 @@ pub struct SetPlan {
     pub tests: bool,
 }
 
+/// One terminal more over a set of processes.
+fn push_terminal(
+    alloc: Global,
+    plan: SetPlan,
+    set: &Verified,
+    terminals: &mut Vec<Terminal>,
+) -> Result<(), OpenError>
+    ensures ok { OnOk result ((t : Term) × IsOverWithin set.now plan.limits plan.mode t × (terminals.new.items ≡ terminals.old.items ++ t ∷ [])) }
+    ensures err { IfErr result (LacksOne set.now) }
+{
+    if terminals.reserve(1).is_err() {
+        return Err(OpenError::NoMemory);
+    }
+    match Terminal::of_set_within(alloc, plan.limits, plan.mode, set) {
+        Ok(terminal) => {
+            terminals.push_reserved(terminal);
+            Ok(())
+        }
+        Err(error) => Err(error),
+    }
+}
+
 /// New terminals, as many as a plan says.
 fn open_terminals(alloc: Global, plan: SetPlan, set: &Verified) -> Result<Vec<Terminal>, OpenError>
-    ensures { IfErr result (IsRefusedOver set.now) }
+    ensures ok { IfOk result (λ v. AreNewTerminals set.now plan.limits plan.mode plan.links v.items) }
+    ensures err { IfErr result (LacksOne set.now) }
 {
-    let Ok(mut terminals) = Vec::with_capacity(alloc, plan.links) else {
-        return Err(OpenError::NoMemory);
-    };
-    for _link in 0..plan.links {
-        let terminal = Terminal::of_set_within(alloc, plan.limits, plan.mode, set)?;
-        if terminals.push(terminal).is_err() {
-            return Err(OpenError::NoMemory);
+    let mut terminals = Vec::new(alloc);
+    for _made in 0..plan.links {
+        match push_terminal(alloc, plan, set, &mut terminals) {
+            Ok(()) => {}
+            Err(error) => return Err(error),
         }
     }
     Ok(terminals)
@@ -46,16 +72,37 @@ fn open_terminals(alloc: Global, plan: SetPlan, set: &Verified) -> Result<Vec<Te
 
 /// The set of these terminals, tended from now on.
 fn tend(alloc: Global, plan: SetPlan, terminals: Vec<Terminal>) -> Result<Tender, u8>
-    ensures { IfErr result (λ status. status ≡ 4) }
+    requires { All IsEmpty terminals.items }
+    ensures ok { IfOk result (IsNewTended plan.ends plan.tests (new_set plan.ends.own plan.ends.peer terminals.items)) }
+    ensures err { IfErr result (λ status. status ≡ 4) }
 {
     let Ends { own, peer, .. } = plan.ends;
-    let few = 1 <= terminals.len() && terminals.len() <= 16;
-    if !few || own >= 16_384 || peer >= 16_384 {
+    if terminals.len() < 1 || 16 < terminals.len() {
+        return Err(FAILED);
+    }
+    if own >= 16_384 || peer >= 16_384 {
         return Err(FAILED);
     }
     match Group::new(alloc, own, peer, terminals) {
         Ok(group) => Ok(Tender::new(alloc, plan.ends, plan.tests, group)),
         Err(_terminals) => Err(FAILED),
+    }
+}
+
+/// The same over a set of processes. Where that lacks a name, a line of it is written.
+fn open_over<E: Write>(
+    alloc: Global,
+    plan: SetPlan,
+    set: &Verified,
+    errors: &mut E,
+) -> Result<Tender, u8>
+    ensures ok { IfOk result (IsNewTenderOf plan set.now) }
+    ensures refused { IfErr result (λ status. status ≡ 2 → LacksName set.now (E.contents errors.old) (E.contents errors.new)) }
+    ensures status { IfErr result (λ status. (status ≡ 2) ⊎ (status ≡ 4)) }
+{
+    match open_terminals(alloc, plan, set) {
+        Ok(terminals) => tend(alloc, plan, terminals),
+        Err(error) => Err(refuse_name(alloc, errors, error)),
     }
 }
 
@@ -71,14 +118,12 @@ pub fn open_tender<S: Read + Drop, E: Write>(
     set: SetWord<S>,
     errors: &mut E,
 ) -> Result<Tender, u8>
+    ensures ok { IfOk result (λ t. IsGiven (given S.remaining set) (IsNewTenderOver plan t)) }
     ensures refused { IfErr result (λ status. status ≡ 2 → IsGiven (given S.remaining set) (IsNoSet (E.contents errors.old) (E.contents errors.new))) }
     ensures status { IfErr result (λ status. (status ≡ 2) ⊎ (status ≡ 4)) }
 {
     match load_set(alloc, set) {
-        Ok(set) => match open_terminals(alloc, plan, &set) {
-            Ok(terminals) => tend(alloc, plan, terminals),
-            Err(error) => Err(refuse_name(alloc, errors, error)),
-        },
+        Ok(set) => open_over(alloc, plan, &set, errors),
         Err(fault) => Err(write_refusal(alloc, errors, &fault)),
     }
 }

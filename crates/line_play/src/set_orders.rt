@@ -1,14 +1,20 @@
 //! Orders to a set, as they are written.
-ghost use Rattle.std.specs.Prelude.{◌≡◌, IfOk, IfSome, None, option_map, option_and_then};
+ghost use Rattle.std.specs.Prelude.{◌≡◌, IfOk, IfSome, IsNone, None, Some, option_map, option_and_then};
 ghost use Rattle.script_lines.specs.Lines.{texts};
 ghost use Rattle.script_lines.specs.Words.{words_of};
 ghost use Rattle.script_links.specs.Octets.{octets_of};
-ghost use Rattle.line_play.specs.SetRuns.{octets_sent, sent_by};
+ghost use Rattle.line_play.specs.SetObeying.{octets_sent, sent_by, AreNoMessage, SendsNone};
 
 use script_lines::words_in;
 use script_links::{Order, TermCommand, count, octets_in, order_in, term_command_in};
 use script_terminal::Measure;
 use std::alloc::{AllocError, Global};
+
+/// A message has so many octets at least: its service information octet and a label.
+const LEAST: usize = 5;
+
+/// So many it has at most.
+const MOST: usize = 273;
 
 /// Which links orders speak of.
 #[derive(Clone, Copy, Debug, PartialEq, Eq)]
@@ -71,19 +77,35 @@ fn word_in<'a>(word: &str) -> Option<SetOrder<'a>>
         "held" => Some(SetOrder::Held),
         "unsure" => Some(SetOrder::Unsure),
         "rebalance" => Some(SetOrder::Rebalance),
-        _ => order_in(word).map(SetOrder::Link),
+        _ => match order_in(word) {
+            Some(order) => Some(SetOrder::Link(order)),
+            None => None,
+        },
     }
+}
+
+/// An order to send these octets, where they are a message.
+fn sent<'a>(octets: Vec<u8>) -> Option<SetOrder<'a>>
+    ensures some { IfSome result (λ s. octets_sent s ≡ Some octets.items) }
+    ensures none { IsNone result → AreNoMessage octets.items }
+{
+    if octets.len() < LEAST {
+        return None;
+    }
+    if octets.len() > MOST {
+        return None;
+    }
+    Some(SetOrder::Send(octets))
 }
 
 /// `send HEX`.
 fn send_in<'a>(alloc: Global, word: &str) -> Result<Option<SetOrder<'a>>, AllocError>
-    ensures { IfOk result (λ o. IfSome o (λ s. octets_sent s ≡ octets_of word.now)) }
+    ensures some { IfOk result (λ o. IfSome o (λ s. octets_sent s ≡ octets_of word.now)) }
+    ensures none { IfOk result (λ o. IsNone o → IfSome (octets_of word.now) AreNoMessage) }
 {
     match octets_in(alloc, word)? {
-        Some(octets) if 5 <= octets.len() && octets.len() <= 273 => {
-            Ok(Some(SetOrder::Send(octets)))
-        }
-        _ => Ok(None),
+        Some(octets) => Ok(sent(octets)),
+        None => Ok(None),
     }
 }
 
@@ -145,14 +167,18 @@ fn other_in<'a>(alloc: Global, words: &[&'a str]) -> Result<Option<SetOrder<'a>>
     match words {
         [] => Ok(None),
         [word] => Ok(word_in(word)),
-        [first, word] if *first == "on" => Ok(focus_in(word).map(SetOrder::On)),
+        [first, word] if *first == "on" => match focus_in(word) {
+            Some(focus) => Ok(Some(SetOrder::On(focus))),
+            None => Ok(None),
+        },
         [_, _, ..] => asked_in(alloc, words),
     }
 }
 
 /// The order that a line says; none where it says none.
 pub fn set_order_in<'a>(alloc: Global, line: &'a str) -> Result<Option<SetOrder<'a>>, AllocError>
-    ensures { IfOk result (λ o. IfSome o (λ s. octets_sent s ≡ sent_by (words_of line.now))) }
+    ensures some { IfOk result (λ o. IfSome o (λ s. octets_sent s ≡ sent_by (words_of line.now))) }
+    ensures none { IfOk result (λ o. IsNone o → SendsNone line.now) }
 {
     let words = words_in(alloc, line)?;
     match sent_word(words.as_slice()) {

@@ -1,4 +1,6 @@
 //! Orders that wait.
+ghost use Rattle.std.specs.Prelude.{◌≡◌, ◌≤◌, ◌++◌, ◌∷◌, [], length, IfSome, IsNone, IsTrue, string_bytes};
+ghost use Rattle.line_play.specs.SetRounds.{MOST_WAITING as MOST, waiting_in};
 
 use crate::set_orders::Focus;
 use std::alloc::Global;
@@ -22,19 +24,25 @@ pub struct Queue {
 
 impl Queue {
     /// None waits.
-    pub fn new(alloc: Global) -> Queue {
+    pub fn new(alloc: Global) -> Queue
+        ensures { waiting_in result ≡ [] }
+    {
         Queue {
             waiting: VecDeque::new(alloc),
         }
     }
 
     /// Whether none waits.
-    pub fn is_empty(&self) -> bool {
+    pub fn is_empty(&self) -> bool
+        ensures { IsTrue result → waiting_in self.now ≡ [] }
+    {
         self.waiting.is_empty()
     }
 
     /// Whether no more may wait.
-    pub fn is_full(&self) -> bool {
+    pub fn is_full(&self) -> bool
+        ensures { IsTrue result → MOST ≤ length (waiting_in self.now) }
+    {
         self.waiting.len() >= MOST_WAITING
     }
 
@@ -44,12 +52,17 @@ impl Queue {
     }
 
     /// Takes the first.
-    pub fn take(&mut self) -> Option<Waiting> {
+    pub fn take(&mut self) -> Option<Waiting>
+        ensures some { IfSome result (λ first. waiting_in self.old ≡ string_bytes first.text ∷ waiting_in self.new) }
+        ensures none { IsNone result → waiting_in self.new ≡ waiting_in self.old }
+    {
         self.waiting.pop_front()
     }
 
     /// One more waits. Whether there was memory.
-    pub fn put(&mut self, focus: Focus, text: String) -> bool {
+    pub fn put(&mut self, focus: Focus, text: String) -> bool
+        ensures { IsTrue result → waiting_in self.new ≡ waiting_in self.old ++ string_bytes text ∷ [] }
+    {
         self.waiting.push_back(Waiting { focus, text }).is_ok()
     }
 }

@@ -1,252 +1,228 @@
 //! A round of a set on its lines.
-ghost use Rattle.std.specs.Prelude.{◌≡◌, OnOk};
+ghost use Rattle.std.specs.Prelude.{◌≡◌, ◌<◌, [], length, replicate, IfOk, OnOk};
 ghost use Rattle.set_tending.specs.Rounds.{AddsHeeded, Ticks};
-ghost use Rattle.line_play.specs.SetRuns.{Continues};
+ghost use Rattle.set_tending.specs.Wires.{Hears, Passes, SILENT};
+ghost use Rattle.line_play.specs.LineTraffic.{Grows, given, front_of, silence_for};
+ghost use Rattle.line_play.specs.SetRounds.{Made, PassesOn, Carries, CarriesAt, CarriesAll};
 
-use crate::set_desk::{SetDesk, failed};
 use crate::set_lines::{Came, Lines};
-use crate::set_orders::{SetOrder, is_set_report, set_order_in};
-use line_filter::{Orders, Reports};
-use script_links::Order;
-use set_tending::Passed;
-use std::alloc::{AllocError, Global};
+use crate::set_state::{SetState, failed};
+use line_filter::Reports;
+use set_tending::{Passed, Tender, Wire, miss_line};
+use std::alloc::Global;
 use std::io;
 
-/// How many octets of a line are taken in a round.
-pub const PART: usize = 4_096;
+/// A line of a set: its link, and how many octets of 1s go out at its beginning, and each 1,000 rounds of silence.
+#[derive(Clone, Copy)]
+pub(crate) struct SetLine {
+    pub link: usize,
+    pub ahead: usize,
+}
 
-/// Whether a line sends a message.
-fn is_send(alloc: Global, text: &str) -> Result<bool, AllocError> {
-    match set_order_in(alloc, text)? {
-        Some(SetOrder::Send(_)) => Ok(true),
-        _ => Ok(false),
+/// Octets that came on a line go through it. What goes out is put in place of what stood there.
+fn hear(
+    tender: &mut Tender,
+    wire: &mut Wire,
+    line: SetLine,
+    came: &[u8],
+    out: &mut Vec<u8>,
+) -> io::Result<Passed>
+    ensures { IfOk result (λ passed. Passes line.link line.ahead came.now tender.old wire.old [] passed tender.new wire.new out.new.items) }
+{
+    out.clear();
+    match wire.pass(tender, line.link, line.ahead, came, out) {
+        Ok(passed) => Ok(passed),
+        Err(error) => Err(failed(error)),
     }
 }
 
-/// Whether a line stops links.
-fn is_stop(alloc: Global, text: &str) -> Result<bool, AllocError> {
-    match set_order_in(alloc, text)? {
-        Some(SetOrder::Link(Order::Stop)) => Ok(true),
-        _ => Ok(false),
+/// What goes out on a line goes on, if something does.
+fn give_out<L: Lines>(lines: &mut L, link: usize, out: &[u8])
+    ensures { Grows (L.traffic lines.old) (L.traffic lines.new) (given link out.now) }
+{
+    if out.is_empty() {
+        return;
+    }
+    lines.give(link, out);
+}
+
+/// Octets that came on a line go through it, and what goes out goes on.
+fn pass<L: Lines, P: Reports>(
+    alloc: Global,
+    state: &mut SetState,
+    wire: &mut Wire,
+    lines: &mut L,
+    line: SetLine,
+    came: &[u8],
+    out: &mut Vec<u8>,
+    reports: &mut P,
+) -> io::Result<()>
+    ensures { OnOk result (Made (λ bytes traffic. PassesOn line.link line.ahead came.now state.old.tender wire.old bytes traffic state.new.tender wire.new)
+        (P.stand reports.old) (P.stand reports.new) (L.traffic lines.old) (L.traffic lines.new)) }
+{
+    let link = line.link;
+    let passed = hear(&mut state.tender, wire, line, came, out)?;
+    give_out(lines, link, out.as_slice());
+    match passed {
+        Passed::Same => Ok(()),
+        Passed::Silent => {
+            state.say_text(alloc, format!(in alloc; "{link} line silent")?, reports)
+        }
+        Passed::Back => state.say_text(alloc, format!(in alloc; "{link} line back")?, reports),
     }
 }
 
-impl<O: Orders, P: Reports> SetDesk<O, P> {
-    /// Octets that came on a line go through it. What goes out is put in place of what stood there.
-    fn hear(&mut self, link: usize, came: &[u8], out: &mut Vec<u8>) -> io::Result<Passed>
-        ensures adds { OnOk result (AddsHeeded self.old.tender self.new.tender) }
-        ensures reports { self.new.reports ≡ self.old.reports }
-    {
-        out.clear();
-        let Some(wire) = self.wires.get_mut(link) else {
-            return Ok(Passed::Same);
-        };
-        match wire.pass(&mut self.tender, link, self.ahead, came, out) {
-            Ok(passed) => Ok(passed),
-            Err(error) => Err(failed(error)),
+/// A round of a line that isn't open.
+fn miss(tender: &mut Tender, link: usize) -> io::Result<()>
+    ensures { OnOk result (Hears link tender.old SILENT tender.new) }
+{
+    match miss_line(tender, link) {
+        Ok(()) => Ok(()),
+        Err(error) => Err(failed(error)),
+    }
+}
+
+/// As many octets of 1s go out as at a line's beginning.
+fn go_ahead<L: Lines>(lines: &mut L, line: SetLine)
+    ensures { Grows (L.traffic lines.old) (L.traffic lines.new) (replicate line.ahead (silence_for line.link)) }
+{
+    for _octet in 0..line.ahead {
+        lines.give(line.link, &[255]);
+    }
+}
+
+/// So many octets at the front of some; none where there are fewer.
+fn front(octets: &[u8], count: usize) -> &[u8]
+    ensures { result.now ≡ front_of count octets.now }
+{
+    if count > octets.len() {
+        return &[];
+    }
+    let first = &octets[..count];
+    first
+}
+
+/// A round of a line.
+fn carry<L: Lines, P: Reports>(
+    alloc: Global,
+    state: &mut SetState,
+    wire: &mut Wire,
+    lines: &mut L,
+    line: SetLine,
+    part: &mut [u8],
+    out: &mut Vec<u8>,
+    reports: &mut P,
+) -> io::Result<()>
+    ensures { OnOk result (Made (λ bytes traffic. Carries line.link line.ahead state.old.tender wire.old bytes traffic state.new.tender wire.new)
+        (P.stand reports.old) (P.stand reports.new) (L.traffic lines.old) (L.traffic lines.new)) }
+{
+    let link = line.link;
+    match lines.take(link, part) {
+        Came::Octets(count) => {
+            let came = front(part, count);
+            pass(alloc, state, wire, lines, line, came, out, reports)
+        }
+        Came::Closed => miss(&mut state.tender, link),
+        Came::Ended => state.say_text(alloc, format!(in alloc; "{link} line ended")?, reports),
+        Came::Failed => state.say_text(alloc, format!(in alloc; "{link} line failed")?, reports),
+        Came::Opened => {
+            go_ahead(lines, line);
+            state.say_text(alloc, format!(in alloc; "{link} line open")?, reports)
         }
     }
+}
 
-    /// Octets that came on a line go through it, and what goes out goes on.
-    fn pass<L: Lines>(
-        &mut self,
-        alloc: Global,
-        lines: &mut L,
-        link: usize,
-        came: &[u8],
-        out: &mut Vec<u8>,
-    ) -> io::Result<()>
-        ensures { OnOk result (Continues self.old.tender (P.stand self.old.reports) self.new.tender (P.stand self.new.reports)) }
-    {
-        let passed = self.hear(link, came, out)?;
-        if !out.is_empty() {
-            lines.give(link, out.as_slice());
-        }
-        match passed {
-            Passed::Same => Ok(()),
-            Passed::Silent => self.tell_text(alloc, format!(in alloc; "{link} line silent")?),
-            Passed::Back => self.tell_text(alloc, format!(in alloc; "{link} line back")?),
-        }
+/// A round of the line at a place.
+fn carry_at<L: Lines, P: Reports>(
+    alloc: Global,
+    state: &mut SetState,
+    wires: &mut [Wire],
+    lines: &mut L,
+    line: SetLine,
+    part: &mut [u8],
+    out: &mut Vec<u8>,
+    reports: &mut P,
+) -> io::Result<()>
+    requires { line.link < length wires.old }
+    ensures { OnOk result (Made (λ bytes traffic. CarriesAt line.link line.ahead state.old.tender wires.old bytes traffic state.new.tender wires.new)
+        (P.stand reports.old) (P.stand reports.new) (L.traffic lines.old) (L.traffic lines.new)) }
+{
+    let link = line.link;
+    carry(
+        alloc,
+        state,
+        &mut wires[link],
+        lines,
+        line,
+        part,
+        out,
+        reports,
+    )
+}
+
+/// A round of all lines.
+fn carry_all<L: Lines, P: Reports>(
+    alloc: Global,
+    state: &mut SetState,
+    wires: &mut [Wire],
+    lines: &mut L,
+    ahead: usize,
+    part: &mut [u8],
+    out: &mut Vec<u8>,
+    reports: &mut P,
+) -> io::Result<()>
+    ensures { OnOk result (Made (λ bytes traffic. CarriesAll ahead state.old.tender wires.old (length wires.old) bytes traffic state.new.tender wires.new)
+        (P.stand reports.old) (P.stand reports.new) (L.traffic lines.old) (L.traffic lines.new)) }
+{
+    for link in 0..wires.len() {
+        let line = SetLine { link, ahead };
+        carry_at(alloc, state, wires, lines, line, part, out, reports)?;
     }
+    Ok(())
+}
 
-    /// A round of a line that isn't open.
-    fn miss(&mut self, link: usize) -> io::Result<()>
-        ensures adds { OnOk result (AddsHeeded self.old.tender self.new.tender) }
-        ensures reports { self.new.reports ≡ self.old.reports }
-    {
-        let Some(wire) = self.wires.get_mut(link) else {
-            return Ok(());
-        };
-        match wire.miss(&mut self.tender, link) {
-            Ok(()) => Ok(()),
-            Err(error) => Err(failed(error)),
-        }
+/// The same of all lines of a set.
+pub(crate) fn carry_lines<L: Lines, P: Reports>(
+    alloc: Global,
+    state: &mut SetState,
+    wires: &mut Vec<Wire>,
+    lines: &mut L,
+    ahead: usize,
+    part: &mut [u8],
+    out: &mut Vec<u8>,
+    reports: &mut P,
+) -> io::Result<()>
+    ensures { OnOk result (Made (λ bytes traffic. CarriesAll ahead state.old.tender wires.old.items (length wires.old.items) bytes traffic state.new.tender wires.new.items)
+        (P.stand reports.old) (P.stand reports.new) (L.traffic lines.old) (L.traffic lines.new)) }
+{
+    carry_all(
+        alloc,
+        state,
+        wires.as_mut_slice(),
+        lines,
+        ahead,
+        part,
+        out,
+        reports,
+    )
+}
+
+/// A tick passes.
+pub(crate) fn tick(tender: &mut Tender) -> io::Result<()>
+    ensures { OnOk result (Ticks tender.old tender.new) }
+{
+    match tender.tick() {
+        Ok(()) => Ok(()),
+        Err(error) => Err(failed(error)),
     }
+}
 
-    /// As many octets of 1s go out as at a line's beginning.
-    fn go_ahead<L: Lines>(&mut self, lines: &mut L, link: usize) {
-        for _octet in 0..self.ahead {
-            lines.give(link, &[255]);
-        }
-    }
-
-    /// A round of a line.
-    fn carry<L: Lines>(
-        &mut self,
-        alloc: Global,
-        lines: &mut L,
-        link: usize,
-        part: &mut [u8],
-        out: &mut Vec<u8>,
-    ) -> io::Result<()>
-        ensures { OnOk result (Continues self.old.tender (P.stand self.old.reports) self.new.tender (P.stand self.new.reports)) }
-    {
-        match lines.take(link, part) {
-            Came::Octets(count) => {
-                let came = part.get(..count).unwrap_or(&[]);
-                self.pass(alloc, lines, link, came, out)
-            }
-            Came::Closed => self.miss(link),
-            Came::Ended => self.tell_text(alloc, format!(in alloc; "{link} line ended")?),
-            Came::Failed => self.tell_text(alloc, format!(in alloc; "{link} line failed")?),
-            Came::Opened => {
-                self.go_ahead(lines, link);
-                self.tell_text(alloc, format!(in alloc; "{link} line open")?)
-            }
-        }
-    }
-
-    /// Whether none of the orders that wait is to be obeyed now.
-    fn rests(&self, alloc: Global) -> Result<bool, AllocError> {
-        match self.queue.first() {
-            Some(first) => Ok(self.tender.sends_wait() && is_send(alloc, &first.text)?),
-            None => Ok(true),
-        }
-    }
-
-    /// Obeys the first of them.
-    fn obey_first(&mut self, alloc: Global) -> io::Result<()>
-        ensures { OnOk result (Continues self.old.tender (P.stand self.old.reports) self.new.tender (P.stand self.new.reports)) }
-    {
-        match self.queue.take() {
-            Some(first) => self.obey(alloc, first.focus, &first.text),
-            None => Ok(()),
-        }
-    }
-
-    /// Obeys the orders that wait, as far as they don't have to wait any more.
-    fn obey_waiting(&mut self, alloc: Global) -> io::Result<()>
-        ensures { OnOk result (Continues self.old.tender (P.stand self.old.reports) self.new.tender (P.stand self.new.reports)) }
-    {
-        for _order in 0..u64::MAX {
-            if self.rests(alloc)? {
-                return Ok(());
-            }
-            self.obey_first(alloc)?;
-        }
-        Ok(())
-    }
-
-    /// Takes an order: it is obeyed, or waits behind others, but for one that stops links. A report says none.
-    fn take_order(&mut self, alloc: Global, text: String) -> io::Result<()>
-        ensures { OnOk result (Continues self.old.tender (P.stand self.old.reports) self.new.tender (P.stand self.new.reports)) }
-    {
-        if is_set_report(alloc, &text)? {
-            return Ok(());
-        }
-        let focus = self.focus;
-        let waits = !self.queue.is_empty() || (self.tender.sends_wait() && is_send(alloc, &text)?);
-        if !waits || is_stop(alloc, &text)? {
-            return self.obey(alloc, focus, &text);
-        }
-        if let Some(SetOrder::On(_)) = set_order_in(alloc, &text)? {
-            return self.obey(alloc, focus, &text);
-        }
-        if self.queue.put(focus, text) {
-            Ok(())
-        } else {
-            Err(io::Error::from(AllocError))
-        }
-    }
-
-    /// Takes an order that is due. Whether the run goes on.
-    fn take_due(&mut self, alloc: Global, text: String) -> io::Result<bool>
-        ensures { OnOk result (Continues self.old.tender (P.stand self.old.reports) self.new.tender (P.stand self.new.reports)) }
-    {
-        if text.as_str() == "quit" {
-            self.agree(alloc, "quit")?;
-            return Ok(false);
-        }
-        self.take_order(alloc, text)?;
-        Ok(true)
-    }
-
-    /// Obeys the orders that are due. Whether the run goes on.
-    fn obey_due(&mut self, alloc: Global) -> io::Result<bool>
-        ensures { OnOk result (Continues self.old.tender (P.stand self.old.reports) self.new.tender (P.stand self.new.reports)) }
-    {
-        self.obey_waiting(alloc)?;
-        for _order in 0..u64::MAX {
-            if self.queue.is_full() {
-                return Ok(true);
-            }
-            let now = self.tender.now();
-            let Some(text) = self.orders.next(alloc, now)? else {
-                return Ok(true);
-            };
-            if !self.take_due(alloc, text)? {
-                return Ok(false);
-            }
-        }
-        Ok(true)
-    }
-
-    /// A tick passes.
-    fn tick(&mut self) -> io::Result<()>
-        ensures ticks { OnOk result (Ticks self.old.tender self.new.tender) }
-        ensures reports { self.new.reports ≡ self.old.reports }
-    {
-        match self.tender.tick() {
-            Ok(()) => Ok(()),
-            Err(error) => Err(failed(error)),
-        }
-    }
-
-    /// What is to be done for the links is done.
-    fn tend(&mut self) -> io::Result<()>
-        ensures adds { OnOk result (AddsHeeded self.old.tender self.new.tender) }
-        ensures reports { self.new.reports ≡ self.old.reports }
-    {
-        match self.tender.tend() {
-            Ok(()) => Ok(()),
-            Err(error) => Err(failed(error)),
-        }
-    }
-
-    /// A round: of each line what came is heard, and an octet goes out for each of its octets; a tick passes; what there is to tell is told; what is to be
-    /// done for the links is done; and orders that are due are obeyed. Whether the run goes on: it doesn't behind `quit`.
-    ///
-    /// # Errors
-    ///
-    /// Where memory, orders or reports fail, or no tick passes.
-    pub fn round<L: Lines>(
-        &mut self,
-        alloc: Global,
-        lines: &mut L,
-        part: &mut [u8],
-        out: &mut Vec<u8>,
-    ) -> io::Result<bool>
-        ensures { OnOk result (Continues self.old.tender (P.stand self.old.reports) self.new.tender (P.stand self.new.reports)) }
-    {
-        lines.begin(self.tender.now());
-        for link in 0..self.tender.len() {
-            self.carry(alloc, lines, link, part, out)?;
-        }
-        self.tick()?;
-        self.tend()?;
-        self.tell_all(alloc)?;
-        let goes_on = self.obey_due(alloc)?;
-        self.tell_all(alloc)?;
-        Ok(goes_on)
+/// What is to be done for the links is done.
+pub(crate) fn tend(tender: &mut Tender) -> io::Result<()>
+    ensures { OnOk result (AddsHeeded tender.old tender.new) }
+{
+    match tender.tend() {
+        Ok(()) => Ok(()),
+        Err(error) => Err(failed(error)),
     }
 }

@@ -50,7 +50,7 @@ failed (Line set end) status old new are = record {
   untouched = not_refused;
   ends = inr (inr refl);
 }
-failed (Tend set lines end) status old new are = (record { refused = not_refused; ends = inr (inr refl) }, are.1)
+failed (Tend set lines end) status old new are = (record { ran = not_done; refused = not_refused; ends = inr (inr refl) }, are.1)
 failed (Frame octets) status old new are = record { held = not_done; refused = not_refused; ends = inr (inr refl) }
 failed (Draw set process states) status old new are = inr (inr refl)
 failed (Print set) status old new are = record { held = not_done; ends = inr refl }
@@ -73,7 +73,7 @@ not_begun (Line set end) there = record {
   untouched = not_refused;
   ends = inr (inr refl);
 }
-not_begun (Tend set lines end) there = (record { refused = not_refused; ends = inr (inr refl) }, refl)
+not_begun (Tend set lines end) there = (record { ran = not_done; refused = not_refused; ends = inr (inr refl) }, refl)
 not_begun (Frame octets) there = record { held = not_done; refused = not_refused; ends = inr (inr refl) }
 not_begun (Draw set process states) there = inr (inr refl)
 not_begun (Print set) there = record { held = not_done; ends = inr refl }

@@ -9,6 +9,11 @@ use Rattle.script_play.proofs.Watching.{was_played, was_played_in_part}
 use Rattle.pool_soak.specs.Findings.{IsSoaked, IsSoakedInVain, IsTurnedDown}
 use Rattle.line_filter.specs.Filters.{Line}
 use Rattle.line_play.specs.Opening.{IsNoSet}
+use Rattle.line_play.specs.SetDesks.{RanFrom}
+use Rattle.line_play.specs.SetOpening.{IsNewTenderOver}
+use Rattle.line_play.specs.Tended.{Tended}
+use Rattle.line_play.specs.declared.set_opening.SetPlan.{SetPlan}
+use Rattle.mtp2_play.specs.SetRuns.{RanOver}
 use Rattle.mtp2_play.specs.Spoken.{SpokeOver, BegunOver}
 use Rattle.mtp2_words.specs.resend_store_types.messages.RoundLimits.{RoundLimits}
 use Rattle.mtp2_words.specs.declared.ends.LineEnd.{LineEnd}
@@ -63,45 +68,63 @@ spoken_over_own remaining (File path) own usual end status old new is s = search
 
 -- ---- `set`
 
-pub set_run : (known : Option (List ℕ)) (status : ℕ) → IsSetRun known status → IsSetRun None status
-set_run known status s = record { refused = λ h. some_bytes known (IsNoSet None None) (s.refused h); ends = s.ends }
+pub set_run : (known : Option (List ℕ)) (plan : SetPlan) (ahead status : ℕ) → IsSetRun known plan ahead status → IsSetRun None plan ahead status
+set_run known plan ahead status s = record {
+  ran = λ h. some_bytes known (RanOver plan ahead) (s.ran h);
+  refused = λ h. some_bytes known (IsNoSet None None) (s.refused h);
+  ends = s.ends;
+}
 
 -- the set of the program's own that is named is over its text
-pub set_over_own : {R : Type 0} (remaining : R → Option (List ℕ)) (set : Named) (own : SetWord R) (status : ℕ) → own_set_of set ≡ Some own
-    → IsSetRun (given remaining own) status → IsSetRun (own_text_of set) status
-set_over_own remaining Standard standard_set status is s = s
-set_over_own remaining Standard q703_set status is s = search (rules, is)
-set_over_own remaining Standard monitors_set status is s = search (rules, is)
-set_over_own remaining Standard (Text text) status is s = search (rules, is)
-set_over_own remaining Q703 standard_set status is s = search (rules, is)
-set_over_own remaining Q703 q703_set status is s = s
-set_over_own remaining Q703 monitors_set status is s = search (rules, is)
-set_over_own remaining Q703 (Text text) status is s = search (rules, is)
-set_over_own remaining Monitors standard_set status is s = search (rules, is)
-set_over_own remaining Monitors q703_set status is s = search (rules, is)
-set_over_own remaining Monitors monitors_set status is s = s
-set_over_own remaining Monitors (Text text) status is s = search (rules, is)
-set_over_own remaining Stdin own status is s = search (rules, is)
-set_over_own remaining (File path) own status is s = search (rules, is)
+pub set_over_own : {R : Type 0} (remaining : R → Option (List ℕ)) (set : Named) (own : SetWord R) (plan : SetPlan) (ahead status : ℕ) → own_set_of set ≡ Some own
+    → IsSetRun (given remaining own) plan ahead status → IsSetRun (own_text_of set) plan ahead status
+set_over_own remaining Standard standard_set plan ahead status is s = s
+set_over_own remaining Standard q703_set plan ahead status is s = search (rules, is)
+set_over_own remaining Standard monitors_set plan ahead status is s = search (rules, is)
+set_over_own remaining Standard (Text text) plan ahead status is s = search (rules, is)
+set_over_own remaining Q703 standard_set plan ahead status is s = search (rules, is)
+set_over_own remaining Q703 q703_set plan ahead status is s = s
+set_over_own remaining Q703 monitors_set plan ahead status is s = search (rules, is)
+set_over_own remaining Q703 (Text text) plan ahead status is s = search (rules, is)
+set_over_own remaining Monitors standard_set plan ahead status is s = search (rules, is)
+set_over_own remaining Monitors q703_set plan ahead status is s = search (rules, is)
+set_over_own remaining Monitors monitors_set plan ahead status is s = s
+set_over_own remaining Monitors (Text text) plan ahead status is s = search (rules, is)
+set_over_own remaining Stdin own plan ahead status is s = search (rules, is)
+set_over_own remaining (File path) own plan ahead status is s = search (rules, is)
 
 not_two : (status : ℕ) → (status ≡ 0) ⊎ (status ≡ 4) → status ≡ 2 → ⊥
 not_two status (inl done) two = omega (arith, done, two)
 not_two status (inr four) two = omega (arith, four, two)
+
+not_zero : (status : ℕ) → (status ≡ 2) ⊎ (status ≡ 4) → status ≡ 0 → ⊥
+not_zero status (inl two) done = omega (arith, two, done)
+not_zero status (inr four) done = omega (arith, four, done)
 
 over_or_failed : (status : ℕ) → (status ≡ 0) ⊎ (status ≡ 4) → IsDone status
 over_or_failed status (inl done) = inl done
 over_or_failed status (inr four) = inr (inr four)
 
 -- it ran, or couldn't begin to
-pub set_over : (known : Option (List ℕ)) (status : ℕ) → (status ≡ 0) ⊎ (status ≡ 4) → IsSetRun known status
-set_over known status ends = record { refused = λ two. absurd (not_two status ends two); ends = over_or_failed status ends }
+pub set_over : (known : Option (List ℕ)) (plan : SetPlan) (ahead status : ℕ) (tender : Tended) → IsGiven known (IsNewTenderOver plan tender)
+    → (status ≡ 0 → RanFrom ahead tender) → (status ≡ 0) ⊎ (status ≡ 4) → IsSetRun known plan ahead status
+set_over known plan ahead status tender new ran ends = record {
+  ran = λ done. record { bytes = new.bytes; are_known = new.are_known; holds = record { tender = tender; new = new.holds; ran = ran done } };
+  refused = λ two. absurd (not_two status ends two);
+  ends = over_or_failed status ends;
+}
 
-pub set_turned_down : (known : Option (List ℕ)) (status : ℕ) → (status ≡ 2 → IsGiven known (IsNoSet None None)) → (status ≡ 2) ⊎ (status ≡ 4)
-    → IsSetRun known status
-set_turned_down known status why ends = record { refused = why; ends = inr ends }
+pub set_turned_down : (known : Option (List ℕ)) (plan : SetPlan) (ahead status : ℕ) → (status ≡ 2 → IsGiven known (IsNoSet None None)) → (status ≡ 2) ⊎ (status ≡ 4)
+    → IsSetRun known plan ahead status
+set_turned_down known plan ahead status why ends = record { ran = λ done. absurd (not_zero status ends done); refused = why; ends = inr ends }
 
-pub set_failed : (known : Option (List ℕ)) (status : ℕ) → status ≡ 4 → IsSetRun known status
-set_failed known status four = set_over known status (inr four)
+pub set_failed : (known : Option (List ℕ)) (plan : SetPlan) (ahead status : ℕ) → status ≡ 4 → IsSetRun known plan ahead status
+set_failed known plan ahead status four = set_turned_down known plan ahead status (λ two. absurd (omega (arith, four, two))) (inr four)
+
+-- the status of a run, behind which a capture was ended
+pub ran_as : (status result : ℕ) (P : Type 0) → (status ≡ 0 → P) → (result ≡ status) ⊎ (result ≡ 4) → result ≡ 0 → P
+ran_as status result P ran (inl same) done = ran (omega (arith, same, done))
+ran_as status result P ran (inr four) done = absurd (omega (arith, four, done))
 
 pub ends_as : (status result : ℕ) → (status ≡ 0) ⊎ (status ≡ 4) → (result ≡ status) ⊎ (result ≡ 4) → (result ≡ 0) ⊎ (result ≡ 4)
 ends_as status result (inl done) (inl same) = inl (omega (arith, done, same))

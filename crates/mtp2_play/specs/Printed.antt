@@ -1,6 +1,6 @@
 -- What each command prints, by the exit status that it gives. Of a text that isn't the program's
 -- own it is said of some bytes, since none are known of a file or of standard input.
-use Rattle.std.specs.Prelude.{◌≡◌, ◌≢◌, ◌⊎◌, ◌≤◌, ℕ, Bool, List, [], ◌∷◌, Option, None}
+use Rattle.std.specs.Prelude.{◌≡◌, ◌≢◌, ◌⊎◌, ◌≤◌, ℕ, Bool, List, [], ◌∷◌, length, Option, None}
 use Rattle.std.specs.Prelude.{IsSomeAnd}
 use Rattle.std.specs.Io.KnownBytes.{Appends}
 use Rattle.clap.specs.declared.error.kind.ErrorKind.{ErrorKind}
@@ -13,6 +13,8 @@ use Rattle.pool_soak.specs.Findings.{IsSoaked, IsSoakedInVain, IsTurnedDown}
 use Rattle.mtp2_frame.specs.Printed.{PrintsUnit, PrintsFault}
 use Rattle.line_filter.specs.Filters.{Line as Octets}
 use Rattle.line_play.specs.Opening.{IsNoSet}
+use Rattle.line_play.specs.declared.set_opening.SetPlan.{SetPlan}
+use Rattle.mtp2_play.specs.SetRuns.{RanOver, plan_of}
 use Rattle.mtp2_play.specs.Spoken.{SpokeOver, BegunOver, IsUntouched}
 use Rattle.mtp2_words.specs.resend_store_types.messages.RoundLimits.{RoundLimits}
 use Rattle.mtp2_words.specs.declared.ends.LineEnd.{LineEnd}
@@ -98,8 +100,11 @@ pub record IsSpoken (known : Option (List ℕ)) (usual : RoundLimits) (end : Lin
   pub untouched : status ≡ 2 → IsUntouched old new
   pub ends : IsDone status
 
--- How `set` ends: it is refused for its text, or for a name that it lacks.
-pub record IsSetRun (known : Option (List ℕ)) (status : ℕ) : Type 0 where
+-- What `set` makes of its lines, over the set of these bytes: where it is done a new set of links
+-- over the set of processes ran there, round by round. It is refused for its text, or for a name
+-- that it lacks.
+pub record IsSetRun (known : Option (List ℕ)) (plan : SetPlan) (ahead status : ℕ) : Type 0 where
+  pub ran : status ≡ 0 → IsGiven known (RanOver plan ahead)
   pub refused : status ≡ 2 → IsGiven known (IsNoSet None None)
   pub ends : IsDone status
 
@@ -119,7 +124,8 @@ IsAnswered (Soak script workers) status old new = IsServed workers status old.wr
 IsAnswered (Line set end) status old new =
     IsSpoken (own_text_of set) (usual_limits_of set) end status old new
 IsAnswered (Tend set lines end) status old new =
-    IsSetRun (own_text_of set) status × IsUntouched old new
+    IsSetRun (own_text_of set) (plan_of set (length lines.items) end) end.ahead status
+    × IsUntouched old new
 IsAnswered (Frame octets) status old new = IsFramed octets.now status old.written new.written
 IsAnswered (Draw set process states) status old new = IsDone status
 IsAnswered (Print set) status old new = IsPrinted set status old.written new.written

@@ -1,4 +1,5 @@
 //! The lines of a set, which threads read and write.
+ghost use Rattle.std.specs.Prelude.{None};
 
 use crate::set_tap::SetTap;
 use line_filter::Bits;
@@ -179,6 +180,8 @@ impl<'a, H> SetLines<'a, H> {
 }
 
 impl<H: Files<File = File> + Threads> Lines for SetLines<'_, H> {
+    ghost traffic = { λ _. None };
+
     fn begin(&mut self, now: u64) {
         if let Some(tap) = &mut self.tap {
             tap.begin(now);

@@ -1,6 +1,9 @@
 //! The command `set`.
-ghost use Rattle.std.specs.Prelude.{◌≡◌, ◌⊎◌, IfErr};
+ghost use Rattle.std.specs.Prelude.{◌≡◌, ◌⊎◌, length, IfErr, IsOk, OnOk};
 ghost use Rattle.script_check.specs.Checked.{given};
+ghost use Rattle.line_play.specs.SetDesks.{Ran, RanFrom, place_of};
+ghost use Rattle.line_play.specs.SetRounds.{Made};
+ghost use Rattle.mtp2_play.specs.SetRuns.{plan_of};
 ghost use Rattle.mtp2_play.specs.Sets.{own_text_of};
 ghost use Rattle.mtp2_play.specs.Printed.{IsSetRun};
 
@@ -43,7 +46,10 @@ fn go_round<H: Clock + AllocGlobal, L: Lines, O: Orders, P: Reports>(
     host: &H,
     desk: &mut SetDesk<O, P>,
     lines: &mut L,
-) -> io::Result<()> {
+) -> io::Result<()>
+    ensures { OnOk result (Made (λ bytes traffic. Ran desk.old.ahead (place_of O.left desk.old) bytes traffic (place_of O.left desk.new))
+        (P.stand desk.old.reports) (P.stand desk.new.reports) (L.traffic lines.old) (L.traffic lines.new)) }
+{
     let begin = Instant::now(host)?;
     let mut part = [0; PART];
     let mut out = Vec::new(host.alloc());
@@ -51,7 +57,10 @@ fn go_round<H: Clock + AllocGlobal, L: Lines, O: Orders, P: Reports>(
         let is_late = wait(host, begin, round)?;
         let room = if is_late { LATE_PART } else { PART };
         let goes_on = desk.round(host.alloc(), lines, &mut part[..room], &mut out)?;
-        if !goes_on || lines.are_over()? {
+        if !goes_on {
+            return Ok(());
+        }
+        if lines.are_over()? {
             return Ok(());
         }
     }
@@ -96,11 +105,18 @@ fn end_tap<H: Files + Eprint + Clock + AllocGlobal>(
     }
 }
 
-/// The exit status of a run, by whether it went well.
-fn status_of(went_well: bool) -> u8
-    ensures { (result ≡ 0) ⊎ (result ≡ 4) }
+/// The exit status of a run, by how it and its reports ended.
+fn status_of(ran: io::Result<()>, ended: io::Result<()>) -> u8
+    ensures ran { result ≡ 0 → IsOk ran }
+    ensures status { (result ≡ 0) ⊎ (result ≡ 4) }
 {
-    if went_well { HELD } else { FAILED }
+    match ran {
+        Ok(()) => match ended {
+            Ok(()) => HELD,
+            Err(_) => FAILED,
+        },
+        Err(_) => FAILED,
+    }
 }
 
 /// Runs a set on its lines. Gives the exit status.
@@ -113,7 +129,8 @@ fn serve<H: Files<File = File> + Threads + Eprint + Clock + AllocGlobal>(
     orders: LineOrders<OrderStream>,
     reports: ReportStream<Errors<'_, H>>,
 ) -> u8
-    ensures { (result ≡ 0) ⊎ (result ≡ 4) }
+    ensures ran { result ≡ 0 → RanFrom end.now.ahead tender }
+    ensures status { (result ≡ 0) ⊎ (result ≡ 4) }
 {
     let tap = match tap_of(host, teller, lines.len(), end.capture) {
         Ok(tap) => tap,
@@ -129,7 +146,7 @@ fn serve<H: Files<File = File> + Threads + Eprint + Clock + AllocGlobal>(
     let now = desk.millisecond();
     let (_orders, mut reports) = desk.end();
     let ended = reports.end(host, now);
-    let status = status_of(ran.is_ok() && ended.is_ok());
+    let status = status_of(ran, ended);
     end_tap(host, teller, end.capture, open_lines.tap.take(), status)
 }
 
@@ -141,7 +158,8 @@ fn begin<H: Files<File = File> + Threads + Eprint + Clock + AllocGlobal>(
     end: &SetEnd<'_>,
     tender: Tender,
 ) -> u8
-    ensures { (result ≡ 0) ⊎ (result ≡ 4) }
+    ensures ran { result ≡ 0 → RanFrom end.now.ahead tender }
+    ensures status { (result ≡ 0) ⊎ (result ≡ 4) }
 {
     let orders = match open_orders(host, host.alloc(), end.orders) {
         Ok(orders) => orders,
@@ -164,7 +182,7 @@ fn run_on<H: Files<File = File> + Threads + Eprint + Clock + AllocGlobal, S: Rea
     end: &SetEnd<'_>,
     set: SetWord<S>,
 ) -> u8
-    ensures { IsSetRun (given S.remaining set) result }
+    ensures { IsSetRun (given S.remaining set) (plan_of named.now (length lines.now) end.now) end.now.ahead result }
 {
     let plan = SetPlan {
         mode: end.mode,
@@ -192,7 +210,7 @@ pub fn run_set<H: Files<File = File> + Threads + Eprint + Clock + AllocGlobal>(
     lines: &[&str],
     end: &SetEnd<'_>,
 ) -> u8
-    ensures { IsSetRun (own_text_of named.now) result }
+    ensures { IsSetRun (own_text_of named.now) (plan_of named.now (length lines.now) end.now) end.now.ahead result }
 {
     match named {
         Named::File(path) => match fs::open(host, path) {

@@ -92,7 +92,7 @@ adds_heeded_then s t u h adds = heeded_then s t u h (adds_of t u adds)
 pub adds_heeded : (t u : Tended) → Adds t u → AddsHeeded t u
 adds_heeded t u adds = λ first h. adds_heeded_then first t u h adds
 
-user_more : (p : Plan) (hs : List Handed) (h : Handed) → user_messages p (hs ++ h ∷ []) ≡ user_messages p hs ++ user_message p h.report
+pub user_more : (p : Plan) (hs : List Handed) (h : Handed) → user_messages p (hs ++ h ∷ []) ≡ user_messages p hs ++ user_message p h.report
 user_more p hs h =
     flat_map-append (λ (x : Handed). user_message p x.report) hs (h ∷ [])
     ∙ ap (λ (ms : List Msu). user_messages p hs ++ ms) (append-nil (user_message p h.report))

@@ -1,12 +1,11 @@
--- Octets that go out on the line of a link, and a round of it.
-use Rattle.std.proofs.Common.{◌≡◌, ◌∙◌, ℕ, ◌+◌, ◌%◌, ◌<◌, ◌≤◌, ◌==◌, ◌&&◌, nat_le, Bool, true, false, if◌then◌else◌, List, [], ◌∷◌, ◌++◌, append-nil, length, replicate, Result, Ok, Err, IfOk, OnOk, refl, sym, ap, subst, arith}
+-- Octets that come in and go out on the line of a link, and a round of it.
+use Rattle.std.proofs.Common.{◌≡◌, ◌∙◌, ℕ, ◌+◌, ◌%◌, ◌<◌, ◌≤◌, ◌==◌, ◌&&◌, nat_le, Bool, true, false, if◌then◌else◌, List, [], ◌∷◌, ◌++◌, append-nil, append_assoc, take-append-drop, length, take, drop, replicate, Result, Ok, Err, IfOk, OnOk, refl, sym, ap, subst, arith}
 use Rattle.std.proofs.lemmas.Bool.Decides.{nat_tests}
 use Rattle.line_filter.specs.Speaking.{Voice}
-use Rattle.set_tending.specs.Rounds.{AddsHeeded}
 use Rattle.set_tending.specs.Tended.{Tended}
-use Rattle.set_tending.specs.Wires.{Speaks, nothing, octet, GivesNext, PATIENCE, SILENCE, rounds_on, ahead_at, Waits, Passes, some, none}
+use Rattle.set_tending.specs.Wires.{Speaks, nothing, octet, GivesNext, HearsPart, Hears, no_part, one_part, PATIENCE, SILENCE, SILENT, rounds_on, ahead_at, heard_at, passed_by, passed_on, Waits, Passes, some, none}
 use Rattle.set_tending.specs.declared.wire.Passed.{Passed}
-use Rattle.set_tending.specs.declared.wire.Passed.TheVariants.{Same, Silent}
+use Rattle.set_tending.specs.declared.wire.Passed.TheVariants.{Same, Silent, Back}
 use Rattle.set_tending.specs.declared.wire.Wire.{Wire}
 
 pub speaks_nothing : (link : ℕ) (t : Tended) (v : Voice) (out : List ℕ) → Speaks link 0 t v out t v out
@@ -40,47 +39,91 @@ each_thousand ahead q high whole =
     ap (λ (b : Bool). if b && (q % PATIENCE == 0) then replicate ahead SILENCE else []) e
     ∙ ap (λ (b : Bool). if b then replicate ahead SILENCE else []) f
 
-passed_same : (q : ℕ) → (q ≡ PATIENCE → ⊥) → Same ≡ (if q == PATIENCE then Silent else Same)
+passed_same : (q : ℕ) → (q ≡ PATIENCE → ⊥) → Same ≡ passed_by q
 passed_same q not =
     let e : (q == PATIENCE) ≡ false = grind (arith, nat_tests) in
     sym (ap (λ (b : Bool). if b then Silent else Same) e)
 
-passed_silent : (q : ℕ) → q ≡ PATIENCE → Silent ≡ (if q == PATIENCE then Silent else Same)
+passed_silent : (q : ℕ) → q ≡ PATIENCE → Silent ≡ passed_by q
 passed_silent q is =
     let e : (q == PATIENCE) ≡ true = grind (arith, nat_tests) in
     sym (ap (λ (b : Bool). if b then Silent else Same) e)
 
+-- ---- what is heard
+
+-- so much of some octets was heard, and the rest wasn't yet
+pub record HeardSoFar (link : ℕ) (t : Tended) (octets rest : List ℕ) (u : Tended) : Type 0 where
+  pub heard : List ℕ
+  pub hears : Hears link t heard u
+  pub parts : octets ≡ heard ++ rest
+
+pub heard_none : (link : ℕ) (t : Tended) (octets : List ℕ) → HeardSoFar link t octets octets t
+heard_none link t octets = record { heard = []; hears = no_part; parts = refl }
+
+pub heard_more : (link : ℕ) (t u w : Tended) (octets rest left : List ℕ) → HeardSoFar link t octets rest u → HearsPart link u rest left w
+    → HeardSoFar link t octets left w
+heard_more link t u w octets rest left before part = record {
+  heard = before.heard ++ take part.taken rest;
+  hears = one_part rest left before.hears part;
+  parts =
+      before.parts
+      ∙ (ap (λ (xs : List ℕ). before.heard ++ xs) (sym (take-append-drop part.taken rest) ∙ ap (λ (xs : List ℕ). take part.taken rest ++ xs) (sym part.left_is))
+      ∙ sym (append_assoc before.heard (take part.taken rest) left));
+}
+
+pub heard_all : (link : ℕ) (t u : Tended) (octets rest : List ℕ) → HeardSoFar link t octets rest u → rest ≡ [] → Hears link t octets u
+heard_all link t u octets rest before none_left =
+    let whole : before.heard ≡ octets = sym (before.parts ∙ (ap (λ (xs : List ℕ). before.heard ++ xs) none_left ∙ append-nil before.heard)) in
+    subst (λ (xs : List ℕ). Hears link t xs u) whole before.hears
+
+hears_nothing : (link q : ℕ) (t : Tended) → q < PATIENCE → Hears link t (heard_at q) t
+hears_nothing link q t low =
+    let e : nat_le PATIENCE q ≡ false = grind (arith, nat_tests) in
+    subst (λ (xs : List ℕ). Hears link t xs t) (sym (ap (λ (b : Bool). if b then SILENT else []) e)) no_part
+
+hears_silence : (link q : ℕ) (t u : Tended) → PATIENCE ≤ q → Hears link t SILENT u → Hears link t (heard_at q) u
+hears_silence link q t u high hears =
+    let e : nat_le PATIENCE q ≡ true = grind (arith, nat_tests) in
+    subst (λ (xs : List ℕ). Hears link t xs u) (sym (ap (λ (b : Bool). if b then SILENT else []) e)) hears
+
+-- ---- a round in which nothing came
+
 -- it isn't taken for silent yet
-pub waits_on : (ahead quiet next : ℕ) (out : List ℕ) → next ≡ rounds_on quiet → next < PATIENCE → Waits ahead quiet out out next Same
-waits_on ahead quiet next out next_is low = record {
+pub waits_on : (link ahead quiet next : ℕ) (t : Tended) (out : List ℕ) → next ≡ rounds_on quiet → next < PATIENCE
+    → Waits link ahead quiet t out Same t out next
+waits_on link ahead quiet next t out next_is low = record {
   next_is = next_is;
+  hears = hears_nothing link next t low;
   out_is = sym (ap (λ (xs : List ℕ). out ++ xs) (none_low ahead next low) ∙ append-nil out);
   passed_is = passed_same next (λ is. omega arith);
 }
 
 -- it is silent, between two times at which octets go out
-pub waits_between : (ahead quiet next : ℕ) (out : List ℕ) → next ≡ rounds_on quiet → PATIENCE ≤ next → (next % PATIENCE ≡ 0 → ⊥)
-    → Waits ahead quiet out out next Same
-waits_between ahead quiet next out next_is high between = record {
+pub waits_between : (link ahead quiet next : ℕ) (t u : Tended) (out : List ℕ) → next ≡ rounds_on quiet → PATIENCE ≤ next → (next % PATIENCE ≡ 0 → ⊥)
+    → Hears link t SILENT u → Waits link ahead quiet t out Same u out next
+waits_between link ahead quiet next t u out next_is high between hears = record {
   next_is = next_is;
+  hears = hears_silence link next t u high hears;
   out_is = sym (ap (λ (xs : List ℕ). out ++ xs) (none_between ahead next high between) ∙ append-nil out);
   passed_is = passed_same next (λ is. between (ap (λ (n : ℕ). n % PATIENCE) is));
 }
 
 -- it falls silent
-pub waits_first : (ahead quiet next : ℕ) (out after : List ℕ) → next ≡ rounds_on quiet → next ≡ PATIENCE → after ≡ out ++ replicate ahead SILENCE
-    → Waits ahead quiet out after next Silent
-waits_first ahead quiet next out after next_is first after_is = record {
+pub waits_first : (link ahead quiet next : ℕ) (t u : Tended) (out after : List ℕ) → next ≡ rounds_on quiet → next ≡ PATIENCE
+    → after ≡ out ++ replicate ahead SILENCE → Hears link t SILENT u → Waits link ahead quiet t out Silent u after next
+waits_first link ahead quiet next t u out after next_is first after_is hears = record {
   next_is = next_is;
+  hears = hears_silence link next t u (omega (arith, first)) hears;
   out_is = after_is ∙ sym (ap (λ (xs : List ℕ). out ++ xs) (each_thousand ahead next (omega (arith, first)) (ap (λ (n : ℕ). n % PATIENCE) first)));
   passed_is = passed_silent next first;
 }
 
 -- it is silent, and octets go out anew
-pub waits_anew : (ahead quiet next : ℕ) (out after : List ℕ) → next ≡ rounds_on quiet → PATIENCE ≤ next → next % PATIENCE ≡ 0 → (next ≡ PATIENCE → ⊥)
-    → after ≡ out ++ replicate ahead SILENCE → Waits ahead quiet out after next Same
-waits_anew ahead quiet next out after next_is high whole later after_is = record {
+pub waits_anew : (link ahead quiet next : ℕ) (t u : Tended) (out after : List ℕ) → next ≡ rounds_on quiet → PATIENCE ≤ next → next % PATIENCE ≡ 0
+    → (next ≡ PATIENCE → ⊥) → after ≡ out ++ replicate ahead SILENCE → Hears link t SILENT u → Waits link ahead quiet t out Same u after next
+waits_anew link ahead quiet next t u out after next_is high whole later after_is hears = record {
   next_is = next_is;
+  hears = hears_silence link next t u high hears;
   out_is = after_is ∙ sym (ap (λ (xs : List ℕ). out ++ xs) (each_thousand ahead next high whole));
   passed_is = passed_same next later;
 }
@@ -88,13 +131,35 @@ waits_anew ahead quiet next out after next_is high whole later after_is = record
 -- ---- a round
 
 pub passes_none : {E : Type 0} (r : Result Passed E) (link ahead : ℕ) (came : List ℕ) (old : Tended) (w : Wire) (out : List ℕ) (new : Tended) (x : Wire)
-    (after : List ℕ) → came ≡ [] → OnOk r (AddsHeeded old new) → x.voice ≡ w.voice → IfOk r (λ (passed : Passed). Waits ahead w.quiet out after x.quiet passed)
-    → OnOk r (Passes link ahead came old w out new x after)
-passes_none (Ok passed) link ahead came old w out new x after empty adds voice waits = none empty adds voice waits.next_is waits.out_is
-passes_none (Err e) link ahead came old w out new x after empty adds voice waits = tt
+    (after : List ℕ) → came ≡ [] → x.voice ≡ w.voice → IfOk r (λ (passed : Passed). Waits link ahead w.quiet old out passed new after x.quiet)
+    → IfOk r (λ (passed : Passed). Passes link ahead came old w out passed new x after)
+passes_none (Ok passed) link ahead came old w out new x after empty voice waits = none empty voice waits
+passes_none (Err e) link ahead came old w out new x after empty voice waits = tt
 
-pub passes_some : (link ahead count : ℕ) (came : List ℕ) (old heard : Tended) (w : Wire) (out : List ℕ) (new : Tended) (x : Wire) (after : List ℕ)
-    → 0 < length came → count ≡ length came → AddsHeeded old heard → Speaks link count heard w.voice out new x.voice after → x.quiet ≡ 0
-    → Passes link ahead came old w out new x after
-passes_some link ahead count came old heard w out new x after more count_is adds speaks quiet =
-    some heard more adds (subst (λ (n : ℕ). Speaks link n heard w.voice out new x.voice after) count_is speaks) quiet
+passed_back : (quiet : ℕ) → PATIENCE ≤ quiet → Back ≡ passed_on quiet
+passed_back quiet high =
+    let e : nat_le PATIENCE quiet ≡ true = grind (arith, nat_tests) in
+    sym (ap (λ (b : Bool). if b then Back else Same) e)
+
+passed_still : (quiet : ℕ) → quiet < PATIENCE → Same ≡ passed_on quiet
+passed_still quiet low =
+    let e : nat_le PATIENCE quiet ≡ false = grind (arith, nat_tests) in
+    sym (ap (λ (b : Bool). if b then Back else Same) e)
+
+pub passes_some : (link ahead count : ℕ) (came : List ℕ) (old heard : Tended) (w : Wire) (out : List ℕ) (passed : Passed) (new : Tended) (x : Wire)
+    (after : List ℕ) → 0 < length came → count ≡ length came → Hears link old came heard → Speaks link count heard w.voice out new x.voice after
+    → x.quiet ≡ 0 → passed ≡ passed_on w.quiet → Passes link ahead came old w out passed new x after
+passes_some link ahead count came old heard w out passed new x after more count_is hears speaks quiet passed_is =
+    some heard more hears (subst (λ (n : ℕ). Speaks link n heard w.voice out new x.voice after) count_is speaks) quiet passed_is
+
+pub passes_back : (link ahead count : ℕ) (came : List ℕ) (old heard : Tended) (w : Wire) (out : List ℕ) (new : Tended) (x : Wire) (after : List ℕ)
+    → 0 < length came → count ≡ length came → Hears link old came heard → Speaks link count heard w.voice out new x.voice after → x.quiet ≡ 0
+    → PATIENCE ≤ w.quiet → Passes link ahead came old w out Back new x after
+passes_back link ahead count came old heard w out new x after more count_is hears speaks quiet high =
+    passes_some link ahead count came old heard w out Back new x after more count_is hears speaks quiet (passed_back w.quiet high)
+
+pub passes_still : (link ahead count : ℕ) (came : List ℕ) (old heard : Tended) (w : Wire) (out : List ℕ) (new : Tended) (x : Wire) (after : List ℕ)
+    → 0 < length came → count ≡ length came → Hears link old came heard → Speaks link count heard w.voice out new x.voice after → x.quiet ≡ 0
+    → w.quiet < PATIENCE → Passes link ahead came old w out Same new x after
+passes_still link ahead count came old heard w out new x after more count_is hears speaks quiet low =
+    passes_some link ahead count came old heard w out Same new x after more count_is hears speaks quiet (passed_still w.quiet low)

@@ -2,11 +2,15 @@ pub mod Calling
 pub mod Came
 pub mod Cares
 pub mod Ends
+pub mod Lives
 pub mod Rounds
 pub mod Sending
 pub mod Telling
 pub mod Tended
 pub mod Texts
 pub mod Wires
+pub use Rattle.group_changeover.specs.Labels
+pub use Rattle.group_changeover.specs.declared as group_changeover_types
 pub use Rattle.link_group.specs.Diverting
+pub use Rattle.link_group.specs.New
 pub use Rattle.link_group.specs.declared as link_group_types

@@ -1,13 +1,13 @@
--- What goes out on the line of a link of a set.
+-- What comes in and what goes out on the line of a link of a set.
 use Rattle.std.specs.Prelude.{◌≡◌, ℕ, ◌+◌, ◌-◌, ◌^◌, ◌%◌, ◌<◌, ◌==◌, ◌&&◌, nat_le, min, zero, suc}
-use Rattle.std.specs.Prelude.{if◌then◌else◌, List, [], ◌∷◌, ◌++◌, length, replicate}
+use Rattle.std.specs.Prelude.{if◌then◌else◌, List, [], ◌∷◌, ◌++◌, length, replicate, take, drop}
 use Rattle.std.specs.Prelude.{Option}
 use Rattle.su_octets.specs.declared.units.Unit as units
 use Rattle.line_filter.specs.Acts.{Act, asked, heard, passed, reported, obeyed}
-use Rattle.line_filter.specs.Speaking.{Voice, Gives}
-use Rattle.link_group.specs.Doing.{Sent}
+use Rattle.line_filter.specs.Speaking.{Voice, Gives, IsSilent}
+use Rattle.link_group.specs.Doing.{Listened, Sent}
 use Rattle.link_group.specs.Lines.{ByLink}
-use Rattle.set_tending.specs.Rounds.{AddsHeeded}
+use Rattle.set_tending.specs.Rounds.{Adds, AddsHeeded}
 use Rattle.set_tending.specs.Tended.{Tended}
 use Rattle.set_tending.specs.declared.wire.Passed.{Passed}
 use Rattle.set_tending.specs.declared.wire.Passed.TheVariants.{Same, Silent, Back}
@@ -37,6 +37,26 @@ pub data Speaks (link : ℕ) : ℕ → Tended → Voice → List ℕ → Tended 
       → Speaks link count t v out u x after → GivesNext link u x gives w y
       → Speaks link (count + 1) t v out w y (after ++ gives ∷ [])
 
+-- ---- what comes in
+
+-- A link hears the first of some octets, and what it tells is heeded.
+pub record HearsPart (link : ℕ) (old : Tended) (octets left : List ℕ) (new : Tended) : Type 0 where
+  pub taken : ℕ
+  pub middle : Tended
+  pub listens : ByLink (Listened octets taken) link old.set middle.set
+  pub adds : Adds old middle
+  pub heeds : AddsHeeded middle new
+  pub left_is : left ≡ drop taken octets
+
+-- It hears octets, all of them, part by part.
+pub data Hears (link : ℕ) (t : Tended) : List ℕ → Tended → Type 0 where
+  no_part : Hears link t [] t
+  one_part : {octets : List ℕ} {u w : Tended} (rest left : List ℕ)
+      → Hears link t octets u → (part : HearsPart link u rest left w)
+      → Hears link t (octets ++ take part.taken rest) w
+
+-- ---- a round
+
 -- for so many rounds a line on which nothing comes isn't taken for silent
 abbrev pub PATIENCE : ℕ
 PATIENCE = 1000
@@ -53,17 +73,41 @@ abbrev pub ahead_at : ℕ → ℕ → List ℕ
 ahead_at ahead quiet =
     if nat_le PATIENCE quiet && (quiet % PATIENCE == 0) then replicate ahead SILENCE else []
 
--- nothing came in a round: the line falls silent in the 1,000th
-pub record Waits (ahead quiet : ℕ) (out after : List ℕ) (next : ℕ) (passed : Passed) : Type 0 where
+-- what is heard of a line that is silent, or isn't there
+abbrev pub SILENT : List ℕ
+SILENT = replicate 8 SILENCE
+
+-- what is heard in a round in which nothing came
+abbrev pub heard_at : ℕ → List ℕ
+heard_at quiet = if nat_le PATIENCE quiet then SILENT else []
+
+-- a line falls silent in the 1,000th round in which nothing came
+abbrev pub passed_by : ℕ → Passed
+passed_by quiet = if quiet == PATIENCE then Silent else Same
+
+-- as octets come, a line that was silent isn't any more
+abbrev pub passed_on : ℕ → Passed
+passed_on quiet = if nat_le PATIENCE quiet then Back else Same
+
+-- nothing came in a round
+pub record Waits (link ahead quiet : ℕ) (old : Tended) (out : List ℕ) (passed : Passed)
+    (new : Tended) (after : List ℕ) (next : ℕ) : Type 0 where
   pub next_is : next ≡ rounds_on quiet
+  pub hears : Hears link old (heard_at next) new
   pub out_is : after ≡ out ++ ahead_at ahead next
-  pub passed_is : passed ≡ (if next == PATIENCE then Silent else Same)
+  pub passed_is : passed ≡ passed_by next
 
 -- A round of a line: octets came, which the link heard, and one goes out for each; or none came.
 pub data Passes (link ahead : ℕ) (came : List ℕ) (old : Tended) (w : Wire) (out : List ℕ)
-    (new : Tended) (x : Wire) (after : List ℕ) : Type 0 where
-  some : (heard : Tended) → 0 < length came → AddsHeeded old heard
+    (passed : Passed) (new : Tended) (x : Wire) (after : List ℕ) : Type 0 where
+  some : (heard : Tended) → 0 < length came → Hears link old came heard
       → Speaks link (length came) heard w.voice out new x.voice after → x.quiet ≡ 0
-      → Passes link ahead came old w out new x after
-  none : came ≡ [] → AddsHeeded old new → x.voice ≡ w.voice → x.quiet ≡ rounds_on w.quiet
-      → after ≡ out ++ ahead_at ahead x.quiet → Passes link ahead came old w out new x after
+      → passed ≡ passed_on w.quiet
+      → Passes link ahead came old w out passed new x after
+  none : came ≡ [] → x.voice ≡ w.voice → Waits link ahead w.quiet old out passed new after x.quiet
+      → Passes link ahead came old w out passed new x after
+
+-- a line on which nothing came or went
+pub record IsNewWire (w : Wire) : Type 0 where
+  pub silent : IsSilent w.voice
+  pub quiet : w.quiet ≡ 0

@@ -14,6 +14,7 @@ impl Tender {
     pub fn line_in(&mut self, link: usize, octets: &[u8]) -> usize
         ensures adds { Adds self.old self.new }
         ensures heard { link < length self.old.set.links → ByLink (Listened octets.now result) link self.old.set self.new.set }
+        ensures taken { 0 < result → ByLink (Listened octets.now result) link self.old.set self.new.set }
     {
         match self.set.line_in(link, octets) {
             Ok(taken) => taken,

@@ -1,7 +1,7 @@
 //! One line of a set.
 ghost use Rattle.std.specs.Prelude.{◌≡◌, [], IfOk, OnOk};
-ghost use Rattle.set_tending.specs.Rounds.{Adds, AddsHeeded};
-ghost use Rattle.set_tending.specs.Wires.{GivesNext, Speaks, Waits, Passes};
+ghost use Rattle.set_tending.specs.Rounds.{Adds};
+ghost use Rattle.set_tending.specs.Wires.{GivesNext, Speaks, HearsPart, Hears, SILENT as HEARD, Waits, Passes, IsNewWire};
 
 use line_filter::Voice;
 use crate::tender::{TendError, Tender};
@@ -33,28 +33,49 @@ pub struct Wire {
     quiet: u64,
 }
 
+/// Has a link hear the first of some octets, as many as find room, and heeds what it tells. What is left of them.
+fn hear_part<'a>(
+    tender: &mut Tender,
+    link: usize,
+    octets: &'a [u8],
+) -> Result<&'a [u8], TendError>
+    ensures { IfOk result (λ left. HearsPart link tender.old octets.now left.now tender.new) }
+{
+    let taken = tender.line_in(link, octets);
+    if taken == 0 {
+        return Err(TendError::NoMemory);
+    }
+    if taken > octets.len() {
+        return Err(TendError::NoMemory);
+    }
+    tender.heed_link(link)?;
+    let left = &octets[taken..];
+    Ok(left)
+}
+
 /// Has a link hear octets, all of them.
 fn hear(tender: &mut Tender, link: usize, octets: &[u8]) -> Result<(), TendError>
-    ensures { OnOk result (AddsHeeded tender.old tender.new) }
+    ensures { OnOk result (Hears link tender.old octets.now tender.new) }
 {
     let mut rest = octets;
     for _part in 0..octets.len() {
         if rest.is_empty() {
             return Ok(());
         }
-        let taken = tender.line_in(link, rest);
-        if taken == 0 {
-            return Err(TendError::NoMemory);
-        }
-        tender.heed_link(link)?;
-        rest = rest.get(taken..).unwrap_or(&[]);
+        rest = hear_part(tender, link, rest)?;
     }
-    Ok(())
+    if rest.is_empty() {
+        Ok(())
+    } else {
+        Err(TendError::NoMemory)
+    }
 }
 
 impl Wire {
     /// Nothing came, nothing went out.
-    pub fn new() -> Wire {
+    pub fn new() -> Wire
+        ensures { IsNewWire result }
+    {
         Wire {
             voice: Voice::new(),
             quiet: 0,
@@ -121,8 +142,7 @@ impl Wire {
         ahead: usize,
         out: &mut Vec<u8>,
     ) -> Result<Passed, TendError>
-        ensures waits { IfOk result (Waits ahead self.old.quiet out.old.items out.new.items self.new.quiet) }
-        ensures heeds { OnOk result (AddsHeeded tender.old tender.new) }
+        ensures waits { IfOk result (λ passed. Waits link ahead self.old.quiet tender.old out.old.items passed tender.new out.new.items self.new.quiet) }
         ensures voice { self.new.voice ≡ self.old.voice }
     {
         self.quiet = self.quiet.saturating_add(1);
@@ -158,8 +178,7 @@ impl Wire {
         came: &[u8],
         out: &mut Vec<u8>,
     ) -> Result<Passed, TendError>
-        ensures passes { OnOk result (Passes link ahead came.now tender.old self.old out.old.items tender.new self.new out.new.items) }
-        ensures heeds { OnOk result (AddsHeeded tender.old tender.new) }
+        ensures { IfOk result (λ passed. Passes link ahead came.now tender.old self.old out.old.items passed tender.new self.new out.new.items) }
     {
         if came.is_empty() {
             return self.wait(tender, link, ahead, out);
@@ -175,14 +194,15 @@ impl Wire {
         }
     }
 
-    /// A round of a line that isn't open: 1s are heard.
-    ///
-    /// # Errors
-    ///
-    /// Where there is no memory.
-    pub fn miss(&mut self, tender: &mut Tender, link: usize) -> Result<(), TendError>
-        ensures { OnOk result (AddsHeeded tender.old tender.new) }
-    {
-        hear(tender, link, &SILENT)
-    }
+}
+
+/// A round of a line that isn't open: 1s are heard.
+///
+/// # Errors
+///
+/// Where there is no memory.
+pub fn miss_line(tender: &mut Tender, link: usize) -> Result<(), TendError>
+    ensures { OnOk result (Hears link tender.old HEARD tender.new) }
+{
+    hear(tender, link, &SILENT)
 }

@@ -1,5 +1,11 @@
-use Rattle.mtp2_play.proofs.Known.{ends_as}
+use Rattle.line_play.proofs.SetDesks.{ran_from}
+use Rattle.mtp2_play.proofs.Known.{ends_as, ran_as}
 use Rattle.mtp2_play.proofs.tended.serve.Goals as goal
 
-pub returns : goal.returns
-returns g c = ends_as c.status_of-status.result _ c.status_of-status.ensures c.end_tap.ensures
+pub returns-clause-ran : goal.returns-clause-ran
+returns-clause-ran g c = λ done.
+    ran_as c.status_of-status.result _ _
+    (λ zero. ran_from c.go_round-ran.result _ _ _ _ _ _ _ _ _ _ _ c.in-Ok-new.ensures c.go_round-ran.ensures (c.status_of-status.ensures.ran zero)) c.end_tap.ensures done
+
+pub returns-clause-status : goal.returns-clause-status
+returns-clause-status g c = ends_as c.status_of-status.result _ c.status_of-status.ensures.status c.end_tap.ensures

@@ -1,0 +1,82 @@
+-- A set on lines as a run begins.
+use Rattle.std.proofs.Common.{◌≡◌, ◌∙◌, ℕ, ◌+◌, Bool, true, true≢false, List, [], ◌∷◌, ◌++◌, All, length, Option, Result, Ok, Err, OnOk, is_ok, refl, sym, ap, subst, arith, length-append}
+use Rattle.std.proofs.lemmas.List.Elements.{All-nil, All-cons, All-append}
+use Rattle.set_tending.specs.Wires.{IsNewWire}
+use Rattle.set_tending.specs.declared.wire.Wire.{Wire}
+use Rattle.line_filter.proofs.Reporting.{tells_none, tells_trans}
+use Rattle.line_filter.specs.Orders.{Timed}
+use Rattle.line_filter.specs.Reporting.{Stand}
+use Rattle.set_tending.specs.Tended.{Tended}
+use Rattle.line_play.proofs.SetRounds.{grows_none, grows_then, grows_last}
+use Rattle.line_play.specs.LineTraffic.{Traffic, Grows}
+use Rattle.line_play.specs.SetDesks.{AreNewWires, place_of, IsNewSetDesk, Ran, RanFrom}
+use Rattle.line_play.specs.SetRounds.{Made, SetPlace, IsRound, Rounds, begins, round}
+use Rattle.line_play.specs.declared.set_desk.SetDesk.{SetDesk}
+
+pub no_wires : (ws : List Wire) → ws ≡ [] → AreNewWires 0 ws
+no_wires ws none_there = subst (λ (xs : List Wire). AreNewWires 0 xs) (sym none_there) (record { count = refl; new = All-nil IsNewWire })
+
+pub one_wire : (n : ℕ) (old new : List Wire) (w : Wire) → IsNewWire w → new ≡ old ++ w ∷ [] → AreNewWires n old → AreNewWires (n + 1) new
+one_wire n old new w is more so_far =
+    let count : length (old ++ w ∷ []) ≡ n + 1 = omega (arith, length-append old (w ∷ []), so_far.count) in
+    subst (λ (xs : List Wire). AreNewWires (n + 1) xs) (sym more)
+    (record { count = count; new = All-append IsNewWire old (w ∷ []) so_far.new (All-cons IsNewWire w [] is (All-nil IsNewWire)) })
+
+pub all_wires : (n m : ℕ) (ws : List Wire) → n ≡ m → AreNewWires n ws → AreNewWires m ws
+all_wires n m ws all so_far = record { count = so_far.count ∙ all; new = so_far.new }
+
+-- ---- rounds
+
+pub rounds_none : (ahead : ℕ) (p : SetPlace) (a : Stand) (f : Option (List Traffic)) → Made (λ bytes traffic. Rounds ahead p bytes traffic true p) a a f f
+rounds_none ahead p a f = record { bytes = []; traffic = []; are = begins; tells = tells_none a; gives = grows_none f }
+
+-- one round more, by what was ahead then
+pub rounds_more : (ahead now : ℕ) (p q r : SetPlace) (goes_on : Bool) (a b c : Stand) (f g h : Option (List Traffic)) → now ≡ ahead
+    → Made (λ bytes traffic. Rounds ahead p bytes traffic true q) a b f g → Made (λ bytes traffic. IsRound now q bytes traffic goes_on r) b c g h
+    → Made (λ bytes traffic. Rounds ahead p bytes traffic goes_on r) a c f h
+rounds_more ahead now p q r goes_on a b c f g h same before more = record {
+  bytes = before.bytes ++ more.bytes;
+  traffic = before.traffic ++ more.traffic;
+  are = round more.bytes more.traffic goes_on before.are (subst (λ (n : ℕ). IsRound n q more.bytes more.traffic goes_on r) same more.are);
+  tells = tells_trans a b c before.bytes more.bytes before.tells more.tells;
+  gives = grows_then f g h before.traffic more.traffic before.gives more.gives;
+}
+
+-- the run goes on, and lines were asked whether they are over
+pub rounds_on : (ahead : ℕ) (p q : SetPlace) (goes_on : Bool) (a b : Stand) (f g h : Option (List Traffic)) → goes_on ≡ true
+    → Made (λ bytes traffic. Rounds ahead p bytes traffic goes_on q) a b f g → Grows g h [] → Made (λ bytes traffic. Rounds ahead p bytes traffic true q) a b f h
+rounds_on ahead p q goes_on a b f g h is made none_given = record {
+  bytes = made.bytes;
+  traffic = made.traffic;
+  are = subst (λ (x : Bool). Rounds ahead p made.bytes made.traffic x q) is made.are;
+  tells = made.tells;
+  gives = grows_last f g h made.traffic made.gives none_given;
+}
+
+pub has_run : (ahead : ℕ) (p q : SetPlace) (goes_on : Bool) (a b : Stand) (f g : Option (List Traffic)) → Made (λ bytes traffic. Rounds ahead p bytes traffic goes_on q) a b f g
+    → Made (λ bytes traffic. Ran ahead p bytes traffic q) a b f g
+has_run ahead p q goes_on a b f g made =
+    record { bytes = made.bytes; traffic = made.traffic; are = record { goes_on = goes_on; rounds = made.are }; tells = made.tells; gives = made.gives }
+
+from_ok : {A E : Type 0} (r : Result A E) (P : Type 0) → is_ok r ≡ true → OnOk r P → P
+from_ok (Ok v) P is h = h
+from_ok (Err e) P is h = absurd (true≢false (sym is))
+
+-- a new set on lines ran
+pub ran_from : {A E O P : Type 0} (r : Result A E) (left : O → Option (List Timed)) (tender : Tended) (ahead : ℕ) (orders : O) (reports : P) (old : SetDesk O P) (last : SetPlace)
+    (a b : Stand) (f g : Option (List Traffic)) → IsNewSetDesk tender ahead orders reports old
+    → OnOk r (Made (λ bytes traffic. Ran old.ahead (place_of left old) bytes traffic last) a b f g) → is_ok r ≡ true → RanFrom ahead tender
+ran_from r left tender ahead orders reports old last a b f g new made is =
+    let so = from_ok r (Made (λ bytes traffic. Ran old.ahead (place_of left old) bytes traffic last) a b f g) is made in
+    record {
+      first = place_of left old;
+      set = new.set;
+      wires = new.wires;
+      none_wait = new.none_wait;
+      before = a;
+      after = b;
+      given_before = f;
+      given = g;
+      last = last;
+      made = subst (λ (n : ℕ). Made (λ bytes traffic. Ran n (place_of left old) bytes traffic last) a b f g) new.ahead_is so;
+    }

@@ -1,0 +1,323 @@
+-- A round of a set on lines, part by part.
+use Rattle.std.proofs.Common.{◌≡◌, ◌∙◌, ◌⊎◌, inl, inr, ℕ, ◌+◌, ◌≤◌, ◌<◌, ◌==◌, nat_le, if◌then◌else◌, true≢false, Bool, true, false, List, [], ◌∷◌, ◌++◌, append-nil, append_assoc, length, map, replicate, take, drop, get_or, slice_get, slice_set, codes, string_bytes, decimal, Option, None, Some, Result, Ok, Err, OnOk, IfOk, IfSome, refl, sym, ap, subst, arith}
+use Rattle.std.proofs.lemmas.Bool.Decides.{nat_tests}
+use Rattle.std.proofs.lemmas.Option.{slice_get-get_or}
+use Rattle.std.proofs.lemmas.Result.{on_ok_weaker}
+use Rattle.std.proofs.lemmas.List.{replicate_more, take_all, take-append-le}
+use Rattle.script_lines.specs.Words.{words_of}
+use Rattle.line_filter.specs.Desks.{Told as TellsSuch}
+use Rattle.line_filter.specs.Orders.{Timed, NextIs, NoneIsDue, QUIT, told}
+use Rattle.line_filter.specs.Reporting.{Stand, TellsLines}
+use Rattle.line_filter.proofs.Reporting.{tells_none, tells_trans}
+use Rattle.set_tending.specs.Rounds.{AddsHeeded, Ticks}
+use Rattle.set_tending.specs.Tended.{Tended}
+use Rattle.set_tending.specs.Wires.{Hears, Passes, SILENT}
+use Rattle.set_tending.specs.declared.wire.Passed.{Passed}
+use Rattle.set_tending.specs.declared.wire.Passed.TheVariants.{Same, Silent, Back}
+use Rattle.set_tending.specs.declared.wire.Wire.{Wire}
+use Rattle.line_play.specs.LineTraffic.{Traffic, Grows, some_of, given, front_of, octets_in, arrived, silence_for}
+use Rattle.line_play.specs.declared.set_lines.Came.{Came}
+use Rattle.line_play.specs.SetObeying.{Obeys, SendsNone, sent_by}
+use Rattle.line_play.specs.SetRounds.{Made, line_told, passed_told, PassesOn, Carries, passes, misses, ends, fails, opens, CarriesAt, CarriesAll, no_link, one_link, TellsAll, ObeysWaiting, rests, obeys, TakesOrder, at_once, behind, report, Attends, waited, comes, AttendsAll, none_due, full, quits, MOST_WAITING, SetPlace, IsRound}
+
+-- ---- what is given
+
+pub grows_none : (g : Option (List Traffic)) → Grows g g []
+grows_none None = tt
+grows_none (Some traffic) = sym (append-nil traffic)
+
+pub grows_then : (f g h : Option (List Traffic)) (xs ys : List Traffic) → Grows f g xs → Grows g h ys → Grows f h (xs ++ ys)
+grows_then None g h xs ys p q = tt
+grows_then (Some f) None h xs ys p q = absurd p
+grows_then (Some f) (Some g) None xs ys p q = absurd q
+grows_then (Some f) (Some g) (Some h) xs ys p q = q ∙ ap (λ (l : List Traffic). l ++ ys) p ∙ append_assoc f xs ys
+
+pub grows_more : (f g h : Option (List Traffic)) (n : ℕ) (x : Traffic) → Grows f g (replicate n x) → Grows g h (x ∷ []) → Grows f h (replicate (n + 1) x)
+grows_more f g h n x before more = subst (λ (xs : List Traffic). Grows f h xs) (replicate_more n x) (grows_then f g h (replicate n x) (x ∷ []) before more)
+
+-- nothing is given by a call
+grows_same : (f g h : Option (List Traffic)) (xs : List Traffic) → Grows f g [] → Grows g h xs → Grows f h xs
+grows_same f g h xs none_given more = grows_then f g h [] xs none_given more
+
+pub grows_last : (f g h : Option (List Traffic)) (xs : List Traffic) → Grows f g xs → Grows g h [] → Grows f h xs
+grows_last f g h xs more none_given = subst (λ (ys : List Traffic). Grows f h ys) (append-nil xs) (grows_then f g h xs [] more none_given)
+
+-- octets that are given are some
+pub given_some : (link : ℕ) (octets : List ℕ) (f g : Option (List Traffic)) → (octets ≡ [] → ⊥)
+    → Grows f g (record { link = link; came = false; octets = octets } ∷ []) → Grows f g (given link octets)
+given_some link [] f g some gives = absurd (some refl)
+given_some link (octet ∷ octets) f g some gives = gives
+
+none_in : (octets : List ℕ) → length octets ≡ 0 → octets ≡ []
+none_in [] none_there = refl
+none_in (octet ∷ octets) none_there = absurd (omega (arith, none_there))
+
+pub is_none : (octets : List ℕ) (b : Bool) → b ≡ (length octets == 0) → b ≡ true → octets ≡ []
+is_none octets b is shown = none_in octets (grind (arith, nat_tests))
+
+pub is_some_there : (octets : List ℕ) (b : Bool) → b ≡ (length octets == 0) → b ≡ false → octets ≡ [] → ⊥
+is_some_there octets b is denied none_there =
+    let e : length octets ≡ 0 = ap length none_there in
+    let z : b ≡ true = grind (arith, nat_tests) in
+    absurd (true≢false (sym z ∙ denied))
+
+pub given_none : (link : ℕ) (octets : List ℕ) (f : Option (List Traffic)) → octets ≡ [] → Grows f f (given link octets)
+given_none link octets f none_there = subst (λ (xs : List ℕ). Grows f f (given link xs)) (sym none_there) (grows_none f)
+
+-- the octets at the front, or none where there are too few
+pub front_there : (count : ℕ) (octets part : List ℕ) → count ≤ length octets → part ≡ take count octets → part ≡ front_of count octets
+front_there count octets part many is =
+    let e : nat_le count (length octets) ≡ true = grind (arith, nat_tests) in
+    is ∙ sym (ap (λ (b : Bool). if b then take count octets else []) e)
+
+pub front_short : (count : ℕ) (octets : List ℕ) → length octets < count → [] ≡ front_of count octets
+front_short count octets few =
+    let e : nat_le count (length octets) ≡ false = grind (arith, nat_tests) in
+    sym (ap (λ (b : Bool). if b then take count octets else []) e)
+
+-- ---- a line
+
+-- what goes out stands behind nothing
+pub from_none : (link ahead : ℕ) (came : List ℕ) (t : Tended) (w : Wire) (out : List ℕ) (passed : Passed) (u : Tended) (x : Wire) (after : List ℕ) → out ≡ []
+    → Passes link ahead came t w out passed u x after → Passes link ahead came t w [] passed u x after
+from_none link ahead came t w out passed u x after none_there made = subst (λ (xs : List ℕ). Passes link ahead came t w xs passed u x after) none_there made
+
+-- what came passed, and nothing is told
+pub passed_same : (link ahead : ℕ) (t u : Tended) (w x : Wire) (came out : List ℕ) (passed : Passed) (a : Stand) (f g : Option (List Traffic))
+    → passed ≡ Same → Passes link ahead came t w [] passed u x out → Grows f g (given link out)
+    → Made (λ bytes traffic. PassesOn link ahead came t w bytes traffic u x) a a f g
+passed_same link ahead t u w x came out passed a f g is made gives = record {
+  bytes = [];
+  traffic = given link out;
+  are = record { out = out; passed = Same; is_passed = subst (λ (p : Passed). Passes link ahead came t w [] p u x out) is made; tells = refl; gives = refl };
+  tells = tells_none a;
+  gives = gives;
+}
+
+-- and something is
+pub passed_told_so : {A E : Type 0} (r : Result A E) (link ahead : ℕ) (t u : Tended) (w x : Wire) (came out : List ℕ) (passed as_told : Passed) (a b : Stand)
+    (f g : Option (List Traffic)) → passed ≡ as_told → Passes link ahead came t w [] passed u x out → Grows f g (given link out)
+    → OnOk r (TellsLines a b (passed_told u.ticks link as_told)) → OnOk r (Made (λ bytes traffic. PassesOn link ahead came t w bytes traffic u x) a b f g)
+passed_told_so r link ahead t u w x came out passed as_told a b f g is made gives line =
+    on_ok_weaker r
+    (λ (l : TellsLines a b (passed_told u.ticks link as_told)). record {
+      bytes = passed_told u.ticks link as_told;
+      traffic = given link out;
+      are = record { out = out; passed = as_told; is_passed = subst (λ (p : Passed). Passes link ahead came t w [] p u x out) is made; tells = refl; gives = refl };
+      tells = l;
+      gives = gives;
+    })
+    line
+
+-- behind what came of the line
+pub passed_on : {A E : Type 0} (r : Result A E) (link ahead : ℕ) (t u : Tended) (w x : Wire) (part came : List ℕ) (said : Came) (a b : Stand)
+    (f g h : Option (List Traffic)) → Grows f g (arrived link part said) → octets_in part said ≡ came
+    → OnOk r (Made (λ bytes traffic. PassesOn link ahead came t w bytes traffic u x) a b g h)
+    → OnOk r (Made (λ bytes traffic. Carries link ahead t w bytes traffic u x) a b f h)
+passed_on r link ahead t u w x part came said a b f g h arrives is made =
+    let so : Grows f g (some_of true link came) = subst (λ (xs : List ℕ). Grows f g (some_of true link xs)) is arrives in
+    on_ok_weaker r
+    (λ (m : Made (λ bytes traffic. PassesOn link ahead came t w bytes traffic u x) a b g h). record {
+      bytes = m.bytes;
+      traffic = some_of true link came ++ m.traffic;
+      are = passes came m.are;
+      tells = m.tells;
+      gives = grows_then f g h (some_of true link came) m.traffic so m.gives;
+    })
+    made
+
+-- a line that isn't open gives nothing
+pub none_arrived : (link : ℕ) (part : List ℕ) (said : Came) (f g : Option (List Traffic)) → octets_in part said ≡ [] → Grows f g (arrived link part said) → Grows f g []
+none_arrived link part said f g is arrives = subst (λ (xs : List ℕ). Grows f g (some_of true link xs)) is arrives
+
+pub missed : {A E : Type 0} (r : Result A E) (link ahead : ℕ) (t u : Tended) (w : Wire) (a : Stand) (f g : Option (List Traffic)) → Grows f g []
+    → OnOk r (Hears link t SILENT u) → OnOk r (Made (λ bytes traffic. Carries link ahead t w bytes traffic u w) a a f g)
+missed r link ahead t u w a f g gives hears =
+    on_ok_weaker r (λ (h : Hears link t SILENT u). record { bytes = []; traffic = []; are = misses h; tells = tells_none a; gives = gives }) hears
+
+pub line_ended : {A E : Type 0} (r : Result A E) (link ahead : ℕ) (t : Tended) (w : Wire) (a b : Stand) (f g : Option (List Traffic)) → Grows f g []
+    → OnOk r (TellsLines a b (line_told t.ticks link (codes "ended"))) → OnOk r (Made (λ bytes traffic. Carries link ahead t w bytes traffic t w) a b f g)
+line_ended r link ahead t w a b f g gives line =
+    on_ok_weaker r
+    (λ (l : TellsLines a b (line_told t.ticks link (codes "ended"))). record { bytes = line_told t.ticks link (codes "ended"); traffic = []; are = ends; tells = l; gives = gives })
+    line
+
+pub line_failed : {A E : Type 0} (r : Result A E) (link ahead : ℕ) (t : Tended) (w : Wire) (a b : Stand) (f g : Option (List Traffic)) → Grows f g []
+    → OnOk r (TellsLines a b (line_told t.ticks link (codes "failed"))) → OnOk r (Made (λ bytes traffic. Carries link ahead t w bytes traffic t w) a b f g)
+line_failed r link ahead t w a b f g gives line =
+    on_ok_weaker r
+    (λ (l : TellsLines a b (line_told t.ticks link (codes "failed"))). record { bytes = line_told t.ticks link (codes "failed"); traffic = []; are = fails; tells = l; gives = gives })
+    line
+
+pub line_opened : {A E : Type 0} (r : Result A E) (link ahead : ℕ) (t : Tended) (w : Wire) (a b : Stand) (f g h : Option (List Traffic)) → Grows f g []
+    → Grows g h (replicate ahead (silence_for link)) → OnOk r (TellsLines a b (line_told t.ticks link (codes "open")))
+    → OnOk r (Made (λ bytes traffic. Carries link ahead t w bytes traffic t w) a b f h)
+line_opened r link ahead t w a b f g h none_given gives line =
+    on_ok_weaker r
+    (λ (l : TellsLines a b (line_told t.ticks link (codes "open"))). record {
+      bytes = line_told t.ticks link (codes "open");
+      traffic = replicate ahead (silence_for link);
+      are = opens;
+      tells = l;
+      gives = grows_same f g h (replicate ahead (silence_for link)) none_given gives;
+    })
+    line
+
+-- ---- all lines
+
+pub carried_at : {A E : Type 0} (r : Result A E) (link ahead : ℕ) (t u : Tended) (ws : List Wire) (d x : Wire) (a b : Stand) (f g : Option (List Traffic))
+    → link < length ws → OnOk r (Made (λ bytes traffic. Carries link ahead t (get_or ws link d) bytes traffic u x) a b f g)
+    → OnOk r (Made (λ bytes traffic. CarriesAt link ahead t ws bytes traffic u (slice_set ws link x)) a b f g)
+carried_at r link ahead t u ws d x a b f g within made =
+    on_ok_weaker r
+    (λ (m : Made (λ bytes traffic. Carries link ahead t (get_or ws link d) bytes traffic u x) a b f g). record {
+      bytes = m.bytes;
+      traffic = m.traffic;
+      are = record { before = get_or ws link d; after = x; there = slice_get-get_or ws link d within; carries = m.are; lines = refl };
+      tells = m.tells;
+      gives = m.gives;
+    })
+    made
+
+pub carried_count : (ahead n m : ℕ) (t u : Tended) (ws xs : List Wire) (a b : Stand) (f g : Option (List Traffic)) → n ≡ m
+    → Made (λ bytes traffic. CarriesAll ahead t ws n bytes traffic u xs) a b f g → Made (λ bytes traffic. CarriesAll ahead t ws m bytes traffic u xs) a b f g
+carried_count ahead n m t u ws xs a b f g is made = subst (λ (k : ℕ). Made (λ bytes traffic. CarriesAll ahead t ws k bytes traffic u xs) a b f g) is made
+
+pub carried_none : (ahead : ℕ) (t : Tended) (ws : List Wire) (a : Stand) (f : Option (List Traffic))
+    → Made (λ bytes traffic. CarriesAll ahead t ws 0 bytes traffic t ws) a a f f
+carried_none ahead t ws a f = record { bytes = []; traffic = []; are = no_link; tells = tells_none a; gives = grows_none f }
+
+pub carried_more : (ahead link : ℕ) (t u v : Tended) (ws xs ys : List Wire) (a b c : Stand) (f g h : Option (List Traffic))
+    → Made (λ bytes traffic. CarriesAll ahead t ws link bytes traffic u xs) a b f g → Made (λ bytes traffic. CarriesAt link ahead u xs bytes traffic v ys) b c g h
+    → Made (λ bytes traffic. CarriesAll ahead t ws (link + 1) bytes traffic v ys) a c f h
+carried_more ahead link t u v ws xs ys a b c f g h before more = record {
+  bytes = before.bytes ++ more.bytes;
+  traffic = before.traffic ++ more.traffic;
+  are = one_link more.bytes more.traffic before.are more.are;
+  tells = tells_trans a b c before.bytes more.bytes before.tells more.tells;
+  gives = grows_then f g h before.traffic more.traffic before.gives more.gives;
+}
+
+-- what stands in a vector once a slice of all of it was written
+front_whole : (xs ys : List Wire) → take (length xs) (xs ++ ys) ≡ xs
+front_whole xs ys = take-append-le (length xs) xs ys (omega arith) ∙ take_all (length xs) xs (omega arith)
+
+pub written : (n : ℕ) (xs items : List Wire) → length xs ≡ n → take n (xs ++ drop (length xs) items) ≡ xs
+written n xs items e = subst (λ (k : ℕ). take k (xs ++ drop (length xs) items) ≡ xs) e (front_whole xs (drop (length xs) items))
+
+pub carried_lines : {A E : Type 0} (r : Result A E) (ahead : ℕ) (t u : Tended) (ws vs xs ys : List Wire) (a b : Stand) (f g : Option (List Traffic)) → vs ≡ ws → ys ≡ xs
+    → OnOk r (Made (λ bytes traffic. CarriesAll ahead t vs (length vs) bytes traffic u xs) a b f g)
+    → OnOk r (Made (λ bytes traffic. CarriesAll ahead t ws (length ws) bytes traffic u ys) a b f g)
+carried_lines r ahead t u ws vs xs ys a b f g before after made =
+    subst (λ (zs : List Wire). OnOk r (Made (λ bytes traffic. CarriesAll ahead t ws (length ws) bytes traffic u zs) a b f g)) (sym after)
+    (subst (λ (zs : List Wire). OnOk r (Made (λ bytes traffic. CarriesAll ahead t zs (length zs) bytes traffic u xs) a b f g)) before made)
+
+-- ---- orders
+
+pub waits_none : (t : Tended) (waiting : List (List ℕ)) (a : Stand) → TellsSuch (λ bytes. ObeysWaiting t waiting bytes t waiting) a a
+waits_none t waiting a = record { bytes = []; are = rests; tells = tells_none a }
+
+pub waits_more : (t u w : Tended) (waiting now left : List (List ℕ)) (order said : List ℕ) (a b c : Stand)
+    → TellsSuch (λ bytes. ObeysWaiting t waiting bytes u now) a b → now ≡ order ∷ left → said ≡ order → TellsSuch (λ bytes. Obeys said u bytes w) b c
+    → TellsSuch (λ bytes. ObeysWaiting t waiting bytes w left) a c
+waits_more t u w waiting now left order said a b c before first is more = record {
+  bytes = before.bytes ++ more.bytes;
+  are = obeys order more.bytes left before.are first (subst (λ (o : List ℕ). Obeys o u more.bytes w) is more.are);
+  tells = tells_trans a b c before.bytes more.bytes before.tells more.tells;
+}
+
+-- as many wait as did
+pub waits_same : (t u : Tended) (waiting now left : List (List ℕ)) (a b : Stand) → TellsSuch (λ bytes. ObeysWaiting t waiting bytes u now) a b
+    → left ≡ now → TellsSuch (λ bytes. ObeysWaiting t waiting bytes u left) a b
+waits_same t u waiting now left a b before same = subst (λ (l : List (List ℕ)). TellsSuch (λ bytes. ObeysWaiting t waiting bytes u l) a b) (sym same) before
+
+-- an order by its text
+taken_as : {A E : Type 0} (r : Result A E) (order said : List ℕ) (t u : Tended) (waiting later : List (List ℕ)) (a b : Stand) → said ≡ order
+    → OnOk r (TellsSuch (λ bytes. TakesOrder said t waiting bytes u later) a b) → OnOk r (TellsSuch (λ bytes. TakesOrder order t waiting bytes u later) a b)
+taken_as r order said t u waiting later a b is made =
+    subst (λ (o : List ℕ). OnOk r (TellsSuch (λ bytes. TakesOrder o t waiting bytes u later) a b)) is made
+
+pub taken_at_once : {A E : Type 0} (r : Result A E) (order said : List ℕ) (t u : Tended) (waiting : List (List ℕ)) (a b : Stand) → said ≡ order
+    → (waiting ≡ []) ⊎ (sent_by (words_of said) ≡ None) → OnOk r (TellsSuch (λ bytes. Obeys said t bytes u) a b)
+    → OnOk r (TellsSuch (λ bytes. TakesOrder order t waiting bytes u waiting) a b)
+taken_at_once r order said t u waiting a b is may made =
+    taken_as r order said t u waiting waiting a b is
+    (on_ok_weaker r (λ (m : TellsSuch (λ bytes. Obeys said t bytes u) a b). record { bytes = m.bytes; are = at_once may m.are; tells = m.tells }) made)
+
+pub taken_behind : (order : List ℕ) (t : Tended) (waiting later : List (List ℕ)) (a : Stand) → later ≡ waiting ++ order ∷ []
+    → TellsSuch (λ bytes. TakesOrder order t waiting bytes t later) a a
+taken_behind order t waiting later a is =
+    subst (λ (l : List (List ℕ)). TellsSuch (λ bytes. TakesOrder order t waiting bytes t l) a a) (sym is) (record { bytes = []; are = behind; tells = tells_none a })
+
+pub taken_report : (order said : List ℕ) (t : Tended) (waiting : List (List ℕ)) (a : Stand) → said ≡ order → SendsNone said
+    → TellsSuch (λ bytes. TakesOrder order t waiting bytes t waiting) a a
+taken_report order said t waiting a is none_there =
+    subst (λ (o : List ℕ). TellsSuch (λ bytes. TakesOrder o t waiting bytes t waiting) a a) is (record { bytes = []; are = report none_there; tells = tells_none a })
+
+pub attends_first : (t u : Tended) (waiting now : List (List ℕ)) (left : Option (List Timed)) (a b : Stand)
+    → TellsSuch (λ bytes. ObeysWaiting t waiting bytes u now) a b → TellsSuch (λ bytes. Attends t waiting left bytes u now left) a b
+attends_first t u waiting now left a b before = record { bytes = before.bytes; are = waited before.are; tells = before.tells }
+
+pub attends_more : (t u w : Tended) (waiting now later : List (List ℕ)) (left fewer last : Option (List Timed)) (order : List ℕ) (ms : ℕ) (a b c : Stand)
+    → TellsSuch (λ bytes. Attends t waiting left bytes u now fewer) a b → ms ≡ u.ticks → NextIs ms fewer order last → (order ≡ QUIT → ⊥)
+    → TellsSuch (λ bytes. TakesOrder order u now bytes w later) b c → TellsSuch (λ bytes. Attends t waiting left bytes w later last) a c
+attends_more t u w waiting now later left fewer last order ms a b c before ms_is next no_end more = record {
+  bytes = before.bytes ++ more.bytes;
+  are = comes order more.bytes w later last before.are (subst (λ (n : ℕ). NextIs n fewer order last) ms_is next) no_end more.are;
+  tells = tells_trans a b c before.bytes more.bytes before.tells more.tells;
+}
+
+pub attends_over : (t u : Tended) (waiting now : List (List ℕ)) (left fewer last : Option (List Timed)) (ms : ℕ) (a b : Stand)
+    → TellsSuch (λ bytes. Attends t waiting left bytes u now fewer) a b → ms ≡ u.ticks → NoneIsDue ms fewer last
+    → TellsSuch (λ bytes. AttendsAll t waiting left bytes true u now last) a b
+attends_over t u waiting now left fewer last ms a b before ms_is none_there =
+    record { bytes = before.bytes; are = none_due last before.are (subst (λ (n : ℕ). NoneIsDue n fewer last) ms_is none_there); tells = before.tells }
+
+pub attends_full : (t u : Tended) (waiting now : List (List ℕ)) (left fewer : Option (List Timed)) (a b : Stand)
+    → TellsSuch (λ bytes. Attends t waiting left bytes u now fewer) a b → MOST_WAITING ≤ length now
+    → TellsSuch (λ bytes. AttendsAll t waiting left bytes true u now fewer) a b
+attends_full t u waiting now left fewer a b before many = record { bytes = before.bytes; are = full before.are many; tells = before.tells }
+
+pub attends_quit : (t u : Tended) (waiting now : List (List ℕ)) (left fewer last : Option (List Timed)) (ms : ℕ) (a b c : Stand)
+    → TellsSuch (λ bytes. Attends t waiting left bytes u now fewer) a b → ms ≡ u.ticks → NextIs ms fewer QUIT last
+    → TellsLines b c (told u.ticks (codes "ok quit")) → TellsSuch (λ bytes. AttendsAll t waiting left bytes false u now last) a c
+attends_quit t u waiting now left fewer last ms a b c before ms_is next line = record {
+  bytes = before.bytes ++ told u.ticks (codes "ok quit");
+  are = quits last before.are (subst (λ (n : ℕ). NextIs n fewer QUIT last) ms_is next);
+  tells = tells_trans a b c before.bytes (told u.ticks (codes "ok quit")) before.tells line;
+}
+
+-- ---- a round
+
+pub is_round : (ahead : ℕ) (p q : SetPlace) (goes_on : Bool) (carried ticked tended calm obeyed : Tended) (a b c d e : Stand) (f g h : Option (List Traffic))
+    → Grows f g [] → Made (λ bytes traffic. CarriesAll ahead p.set p.wires (length p.wires) bytes traffic carried q.wires) a b g h → Ticks carried ticked
+    → AddsHeeded ticked tended → TellsSuch (λ bytes. TellsAll tended bytes calm) b c
+    → TellsSuch (λ bytes. AttendsAll calm p.waiting p.left bytes goes_on obeyed q.waiting q.left) c d
+    → TellsSuch (λ bytes. TellsAll obeyed bytes q.set) d e → Made (λ bytes traffic. IsRound ahead p bytes traffic goes_on q) a e f h
+is_round ahead p q goes_on carried ticked tended calm obeyed a b c d e f g h none_given first ticks tends second third fourth = record {
+  bytes = ((first.bytes ++ second.bytes) ++ third.bytes) ++ fourth.bytes;
+  traffic = first.traffic;
+  are = record {
+    carried = carried;
+    first = first.bytes;
+    carries = first.are;
+    ticked = ticked;
+    ticks = ticks;
+    tended = tended;
+    tends = tends;
+    calm = calm;
+    second = second.bytes;
+    tells = second.are;
+    obeyed = obeyed;
+    third = third.bytes;
+    attends = third.are;
+    fourth = fourth.bytes;
+    tells_more = fourth.are;
+    are = refl;
+  };
+  tells =
+      tells_trans a d e ((first.bytes ++ second.bytes) ++ third.bytes) fourth.bytes
+      (tells_trans a c d (first.bytes ++ second.bytes) third.bytes (tells_trans a b c first.bytes second.bytes first.tells second.tells) third.tells)
+      fourth.tells;
+  gives = grows_same f g h first.traffic none_given first.gives;
+}

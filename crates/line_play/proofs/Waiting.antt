@@ -1,0 +1,35 @@
+-- Orders that wait.
+use Rattle.std.proofs.Common.{◌≡◌, ◌∙◌, ℕ, ◌≤◌, ◌==◌, nat_le, Bool, true, false, List, [], ◌∷◌, ◌++◌, length, map, string_bytes, Option, None, Some, IfSome, IsNone, IsTrue, Result, is_ok, if◌then◌else◌, option_to_list, refl, sym, ap, arith}
+use Rattle.std.proofs.lemmas.Bool.Decides.{nat_tests}
+use Rattle.std.proofs.lemmas.List.{map-append, length-map}
+use Rattle.line_play.specs.declared.set_queue.Waiting.{Waiting}
+
+abbrev texts : List Waiting → List (List ℕ)
+texts ws = map (λ (w : Waiting). string_bytes w.text) ws
+
+none_in : (ws : List Waiting) → length ws ≡ 0 → texts ws ≡ []
+none_in [] none_there = refl
+none_in (w ∷ ws) none_there = absurd (omega (arith, none_there))
+
+pub none_waits : (ws : List Waiting) (count : ℕ) (b : Bool) → count ≡ length ws → b ≡ (count == 0) → IsTrue b → texts ws ≡ []
+none_waits ws count b count_is is shown =
+    let z : count ≡ 0 = grind (arith, nat_tests) in
+    none_in ws (sym count_is ∙ z)
+
+pub many_wait : (ws : List Waiting) (count most : ℕ) → count ≡ length ws → most ≤ count → most ≤ length (texts ws)
+many_wait ws count most count_is many = omega (arith, count_is, many, length-map ws (λ (w : Waiting). string_bytes w.text))
+
+pub first_taken : (r : Option Waiting) (old new : List Waiting) → old ≡ option_to_list r ++ new → IfSome r (λ (w : Waiting). texts old ≡ string_bytes w.text ∷ texts new)
+first_taken None old new is = tt
+first_taken (Some w) old new is = ap texts is
+
+pub none_taken : (r : Option Waiting) (old new : List Waiting) → old ≡ option_to_list r ++ new → IsNone r → texts new ≡ texts old
+none_taken None old new is none = sym (ap texts is)
+none_taken (Some w) old new is none = absurd (let e : true ≡ false = none in cc)
+
+pub put_behind : {A E : Type 0} (r : Result A E) (old new : List Waiting) (w : Waiting) (b : Bool) → new ≡ (if is_ok r then old ++ w ∷ [] else old) → b ≡ is_ok r
+    → IsTrue b → texts new ≡ texts old ++ string_bytes w.text ∷ []
+put_behind r old new w b is b_is shown =
+    let done : is_ok r ≡ true = sym b_is ∙ shown in
+    let more : new ≡ old ++ w ∷ [] = is ∙ ap (λ (x : Bool). if x then old ++ w ∷ [] else old) done in
+    ap texts more ∙ map-append (λ (x : Waiting). string_bytes x.text) old (w ∷ [])

@@ -1,0 +1,18 @@
+use Rattle.std.proofs.Common.{sym, ◌∙◌}
+use Rattle.line_play.proofs.SetObeying.{never_none, without_label, with_fault}
+use Rattle.line_play.proofs.set_answers.send_message.Goals as goal
+
+pub returns-in-Ok-clause-sent : goal.returns-in-Ok-clause-sent
+returns-in-Ok-clause-sent c = λ none. c.in-Ok.ensures.ok
+
+pub returns-in-Err-clause-sent : goal.returns-in-Err-clause-sent
+returns-in-Err-clause-sent c = never_none c.refusal.result _ c.refusal.ensures
+
+pub returns-in-Err-clause-refused : goal.returns-in-Err-clause-refused
+returns-in-Err-clause-refused c = with_fault c.refusal.result c.args.msu _ _ c.in-Err.error (sym c.in-Err.ensures.fault) c.in-Err.ensures.err
+
+pub returns-in-None-clause-sent : goal.returns-in-None-clause-sent
+returns-in-None-clause-sent c = never_none c.refusal-in-None.result _ c.refusal-in-None.ensures
+
+pub returns-in-None-clause-refused : goal.returns-in-None-clause-refused
+returns-in-None-clause-refused c = without_label c.refusal-in-None.result c.args.msu _ (sym c.label_of.ensures.value ∙ c.in-None.is)

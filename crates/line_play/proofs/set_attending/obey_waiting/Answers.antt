@@ -1,0 +1,14 @@
+use Rattle.std.proofs.Common.{refl}
+use Rattle.line_play.proofs.SetRounds.{waits_none, waits_more, waits_same}
+use Rattle.line_play.proofs.set_attending.obey_waiting.Goals as goal
+
+pub loop-order-init : goal.loop-order-init
+loop-order-init g c = waits_none _ _ _
+
+pub loop-order-preserved : goal.loop-order-preserved
+loop-order-preserved g c =
+    waits_more c.args.state.now.tender c.loop-order.state.tender c.obey.new.self.tender _ _ _ _ _ (g.P.Reports.stand c.args.reports.now) (g.P.Reports.stand c.loop-order.reports) (g.P.Reports.stand c.obey.new.reports)
+    c.loop-order.invariant c.in-Some.ensures.some c.as_str.ensures.value c.in_ok-obey-in-Some.ensures
+
+pub returns-in-None : goal.returns-in-None
+returns-in-None g c = waits_same _ _ _ _ _ _ _ c.loop-order.invariant (c.in-None.ensures.none refl)

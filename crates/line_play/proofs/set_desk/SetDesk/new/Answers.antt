@@ -1,0 +1,13 @@
+use Rattle.std.proofs.Common.{refl, sym, ap, ◌∙◌}
+use Rattle.line_play.proofs.SetDesks.{all_wires}
+use Rattle.line_play.proofs.set_desk.SetDesk.new.Goals as goal
+
+pub returns : goal.returns
+returns g c = record {
+  set = refl;
+  wires = all_wires _ _ _ c.len.ensures c.in_ok-wires.ensures;
+  ahead_is = refl;
+  none_wait = c.new.ensures;
+  orders_are = refl;
+  reports_are = refl;
+}

@@ -1,9 +1,0 @@
-use Rattle.std.proofs.Common.{◌++◌, codes, decimal}
-use Rattle.line_play.specs.SetRuns.{measure}
-use Rattle.line_play.proofs.SetTelling.{says_one}
-use Rattle.line_play.proofs.set_desk.SetDesk.tell_aborted.Goals as goal
-
-pub returns : goal.returns
-returns g c =
-    says_one c.tell_text.result c.args.self.now.tender c.tell_text.new.self.tender (g.P.Reports.stand c.args.self.now.reports) (g.P.Reports.stand c.tell_text.new.self.reports) _ c.tell_text.ensures.tender
-    (measure c.args.link (codes "aborted_periods " ++ decimal c.aborted-count.result) c.in_ok-format.ensures.ok) c.tell_text.ensures.tells

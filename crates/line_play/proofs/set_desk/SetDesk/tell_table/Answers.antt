@@ -1,8 +1,0 @@
-use Rattle.line_play.specs.SetRuns.{shared}
-use Rattle.line_play.proofs.SetTelling.{says_one}
-use Rattle.line_play.proofs.set_desk.SetDesk.tell_table.Goals as goal
-
-pub returns : goal.returns
-returns g c =
-    says_one c.tell_text.result c.args.self.now.tender c.tell_text.new.self.tender (g.P.Reports.stand c.args.self.now.reports) (g.P.Reports.stand c.tell_text.new.self.reports) _ c.tell_text.ensures.tender
-    (shared c.shared_out-shared.result c.in_ok-format.ensures.ok c.shared_out-shared.ensures) c.tell_text.ensures.tells

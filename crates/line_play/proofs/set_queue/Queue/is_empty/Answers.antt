@@ -1,0 +1,5 @@
+use Rattle.line_play.proofs.Waiting.{none_waits}
+use Rattle.line_play.proofs.set_queue.Queue.is_empty.Goals as goal
+
+pub returns : goal.returns
+returns c = none_waits _ _ c.is_empty.result c.args.self.now.waiting.ok.0 c.is_empty.ensures

@@ -1,0 +1,54 @@
+-- A set on lines, with its orders and reports.
+use Rattle.std.specs.Prelude.{◌≡◌, ℕ, Bool, List, [], length, All, Option}
+use Rattle.line_filter.specs.Orders.{Timed}
+use Rattle.set_tending.specs.Tended.{Tended}
+use Rattle.set_tending.specs.Wires.{IsNewWire}
+use Rattle.set_tending.specs.declared.wire.Wire.{Wire}
+use Rattle.line_filter.specs.Reporting.{Stand}
+use Rattle.line_play.specs.LineTraffic.{Traffic}
+use Rattle.line_play.specs.SetRounds.{Made, SetPlace, Rounds, waiting_in}
+use Rattle.line_play.specs.declared.set_desk.SetDesk.{SetDesk}
+
+-- a line for each link, on which nothing came or went
+pub record AreNewWires (links : ℕ) (ws : List Wire) : Type 0 where
+  pub count : length ws ≡ links
+  pub new : All IsNewWire ws
+
+abbrev pub place_of : {O P : Type 0} → (O → Option (List Timed)) → SetDesk O P → SetPlace
+place_of left d = record {
+  set = d.state.tender;
+  wires = d.wires.items;
+  waiting = waiting_in d.queue;
+  left = left d.orders;
+}
+
+-- nothing came or went, and no order waits
+pub record IsNewSetDesk {O P : Type 0} (tender : Tended) (ahead : ℕ) (orders : O) (reports : P)
+    (desk : SetDesk O P) : Type 0 where
+  pub set : desk.state.tender ≡ tender
+  pub wires : AreNewWires tender.plan.links desk.wires.items
+  pub ahead_is : desk.ahead ≡ ahead
+  pub none_wait : waiting_in desk.queue ≡ []
+  pub orders_are : desk.orders ≡ orders
+  pub reports_are : desk.reports ≡ reports
+
+-- rounds were made, one behind another, and the last one ended the run or didn't
+pub record Ran (ahead : ℕ) (p : SetPlace) (bytes : List ℕ) (traffic : List Traffic) (q : SetPlace) :
+    Type 0 where
+  pub goes_on : Bool
+  pub rounds : Rounds ahead p bytes traffic goes_on q
+
+-- A set ran from its first round on: nothing had come or gone, and no order waited. What was told,
+-- and what lines were given, is that of its rounds.
+pub record RanFrom (ahead : ℕ) (tender : Tended) : Type 0 where
+  pub first : SetPlace
+  pub set : first.set ≡ tender
+  pub wires : AreNewWires tender.plan.links first.wires
+  pub none_wait : first.waiting ≡ []
+  pub before : Stand
+  pub after : Stand
+  pub given_before : Option (List Traffic)
+  pub given : Option (List Traffic)
+  pub last : SetPlace
+  pub made :
+      Made (λ bytes traffic. Ran ahead first bytes traffic last) before after given_before given

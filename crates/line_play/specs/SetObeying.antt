@@ -1,0 +1,124 @@
+-- Orders to a set on lines: what they say, and what comes of them.
+use Rattle.std.specs.Prelude.{◌≡◌, ◌⊎◌, ℕ, ◌<◌, if◌then◌else◌, List, [], ◌∷◌, ◌++◌, length, codes}
+use Rattle.std.specs.Prelude.{Option, None, Some, IfSome}
+use Rattle.std.specs.Fmt.{decimal}
+use Rattle.std.specs.Str.{bytes_eq}
+use Rattle.script_lines.specs.Words.{words_of}
+use Rattle.script_links.specs.Octets.{octets_of}
+use Rattle.script_links.specs.resend_store_types.messages.Msu.{Msu}
+use Rattle.script_terminal.specs.TermAnswers.{IsMessageOf}
+use Rattle.line_filter.specs.Orders.{told}
+use Rattle.set_tending.specs.Labels.{label_in}
+use Rattle.set_tending.specs.Rounds.{Acts, Adds}
+use Rattle.set_tending.specs.Sending.{tended_send_fault}
+use Rattle.set_tending.specs.Telling.{message_in}
+use Rattle.set_tending.specs.Tended.{Tended}
+use Rattle.set_tending.specs.Texts.{told_text}
+use Rattle.set_tending.specs.group_changeover_types.errors.SendError.{SendError}
+use Rattle.set_tending.specs.declared.told.Told.{Told}
+use Rattle.line_play.specs.declared.set_orders.SetOrder.{SetOrder}
+use Rattle.line_play.specs.declared.set_orders.SetOrder.TheVariants as order
+
+-- the octets of `send HEX`
+abbrev pub sent_by : List (List ℕ) → Option (List ℕ)
+sent_by [] = None
+sent_by (first ∷ []) = None
+sent_by (first ∷ word ∷ []) = if bytes_eq first (codes "send") then octets_of word else None
+sent_by (first ∷ word ∷ next ∷ more) = None
+
+-- what an order sends
+abbrev pub octets_sent : SetOrder → Option (List ℕ)
+octets_sent (order.On focus) = None
+octets_sent (order.Link obeyed) = None
+octets_sent (order.State process) = None
+octets_sent (order.Value process variable) = None
+octets_sent (order.Measure measure) = None
+octets_sent order.Aborted = None
+octets_sent order.Measures = None
+octets_sent order.Reset = None
+octets_sent (order.Send octets) = Some octets.items
+octets_sent order.Table = None
+octets_sent order.Held = None
+octets_sent order.Unsure = None
+octets_sent order.Rebalance = None
+
+-- A message has 5 to 273 octets: one of service information, a label of four, and what stands
+-- behind.
+abbrev pub AreNoMessage : List ℕ → Type 0
+AreNoMessage octets = (length octets < 5) ⊎ (273 < length octets)
+
+-- an order sends nothing, or what is no message
+abbrev pub SendsNone : List ℕ → Type 0
+SendsNone order = IfSome (sent_by (words_of order)) AreNoMessage
+
+-- an order sends this message
+pub record Sends (order : List ℕ) (m : Msu) : Type 0 where
+  pub octets : List ℕ
+  pub said : sent_by (words_of order) ≡ Some octets
+  pub is : IsMessageOf octets m
+
+-- the message of these octets is taken
+pub record IsSent (octets : List ℕ) (old new : Tended) : Type 0 where
+  pub message : Msu
+  pub is : IsMessageOf octets message
+  pub acts : Acts (message ∷ []) [] old new
+
+-- a message isn't taken, and nothing changes: it has no label, or there is a fault
+pub data IsUntaken (m : Msu) (old new : Tended) : Type 0 where
+  no_label : label_in m.sif.items ≡ None → new ≡ old → IsUntaken m old new
+  fault : (why : SendError) → tended_send_fault old.set m ≡ Some why → new ≡ old
+      → IsUntaken m old new
+
+-- nothing changes: these octets are no message, or it isn't taken
+pub data IsTurnedDown (octets : List ℕ) (old new : Tended) : Type 0 where
+  no_message : AreNoMessage octets → new ≡ old → IsTurnedDown octets old new
+  full : (m : Msu) → IsMessageOf octets m → IsUntaken m old new → IsTurnedDown octets old new
+
+-- ---- what orders ask for
+
+-- A line that an order asked for: of a link its state, a variable, a measurement, what it holds; of
+-- the set how many messages are unsure, and what isn't a message for level 3.
+pub data IsShown (text : List ℕ) : Type 0 where
+  state : (link : ℕ) (what : List ℕ) → text ≡ decimal link ++ (codes " state " ++ what)
+      → IsShown text
+  value : (link : ℕ) (what : List ℕ) → text ≡ decimal link ++ (codes " value " ++ what)
+      → IsShown text
+  measure : (link : ℕ) (what : List ℕ) → text ≡ decimal link ++ (codes " measure " ++ what)
+      → IsShown text
+  held : (link : ℕ) (what : List ℕ) → text ≡ decimal link ++ (codes " held " ++ what)
+      → IsShown text
+  unsure : (count : ℕ) → text ≡ codes "unsure " ++ decimal count → IsShown text
+  shared : (x : Told) → text ≡ told_text x → message_in x ≡ [] → IsShown text
+
+-- such lines, with a millisecond
+pub data Shows (now : ℕ) : List ℕ → Type 0 where
+  no_line : Shows now []
+  one_line : {bytes : List ℕ} (text : List ℕ) → Shows now bytes → IsShown text
+      → Shows now (bytes ++ told now text)
+
+-- an order is told as obeyed, and behind it what it asked for
+pub record IsAnswer (now : ℕ) (order bytes : List ℕ) : Type 0 where
+  pub more : List ℕ
+  pub shows : Shows now more
+  pub are : bytes ≡ told now (codes "ok " ++ order) ++ more
+
+-- ---- an order is obeyed
+
+-- Why an order may be refused, and what it has done then: nothing, where it sends what is no
+-- message, or its message isn't taken.
+pub data IsRefused (order : List ℕ) (t u : Tended) : Type 0 where
+  bad : SendsNone order → u ≡ t → IsRefused order t u
+  untaken : (m : Msu) (why : SendError) → Sends order m → tended_send_fault t.set m ≡ Some why
+      → u ≡ t → IsRefused order t u
+  other : sent_by (words_of order) ≡ None → Adds t u → IsRefused order t u
+
+-- An order is obeyed, and that is told: `send` took its message; or what else it says is done by
+-- calls of the set that take none, and what it asked for is told behind that; or it is refused.
+pub data Obeys (order : List ℕ) (t : Tended) : List ℕ → Tended → Type 0 where
+  sends : {u : Tended} (m : Msu) → Sends order m → Acts (m ∷ []) [] t u
+      → Obeys order t (told u.ticks (codes "ok " ++ order)) u
+  does : {bytes : List ℕ} {u : Tended} → sent_by (words_of order) ≡ None → Adds t u
+      → IsAnswer u.ticks order bytes
+      → Obeys order t bytes u
+  refuses : {u : Tended} (why : List ℕ) → IsRefused order t u
+      → Obeys order t (told u.ticks (codes "refused " ++ why)) u

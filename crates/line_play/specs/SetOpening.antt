@@ -1,0 +1,44 @@
+-- A set that tends itself over the set of a text.
+use Rattle.std.specs.Prelude.{◌≡◌, ℕ, List, [], All, length}
+use Rattle.turn_code.specs.declared.draft.Draft.{Draft}
+use Rattle.script_links.specs.resend_store_types.messages.Mode.{Mode}
+use Rattle.script_links.specs.resend_store_types.messages.RoundLimits.{RoundLimits}
+use Rattle.script_terminal.specs.Kept.{window_of}
+use Rattle.script_terminal.specs.Opening.{IsOverWithin}
+use Rattle.script_terminal.specs.Term.{Term}
+use Rattle.script_terminal.specs.Wanted.{wanted, IsFirstLacking}
+use Rattle.script_terminal.specs.link_term_types.opening.OpenError.{OpenError}
+use Rattle.script_terminal.specs.link_term_types.opening.OpenError.TheVariants.{NoName, NoMemory}
+use Rattle.script_check.specs.Checked.{IsSetOf}
+use Rattle.set_tending.specs.New.{new_set}
+use Rattle.set_tending.specs.Tended.{Tended, IsNewTended}
+use Rattle.line_play.specs.declared.set_opening.SetPlan.{SetPlan}
+
+-- a terminal holds no message
+abbrev pub IsEmpty : Term → Type 0
+IsEmpty t = (window_of t).kept ≡ []
+
+-- the name is the first that the set of processes lacks of those that a terminal wants; want of
+-- memory says nothing
+abbrev pub LacksOne : Draft → OpenError → Type 0
+LacksOne d (NoName name) = IsFirstLacking d name wanted
+LacksOne d NoMemory = Unit {0}
+
+-- so many new terminals over a set of processes, with this error correction and these limits
+pub record AreNewTerminals (d : Draft) (limits : RoundLimits) (mode : Mode) (count : ℕ)
+    (ts : List Term) : Type 0 where
+  pub number : length ts ≡ count
+  pub are_new : All (IsOverWithin d limits mode) ts
+
+-- a set of such terminals, as a plan says, of which nothing was told, and no tick has passed
+pub record IsNewTenderOf (plan : SetPlan) (d : Draft) (t : Tended) : Type 0 where
+  pub terminals : List Term
+  pub new : AreNewTerminals d plan.limits plan.mode plan.links terminals
+  pub tended :
+      IsNewTended plan.ends plan.tests (new_set plan.ends.own plan.ends.peer terminals) t
+
+-- the bytes are a text whose set has all that a terminal wants, and the set of links is over it
+pub record IsNewTenderOver (plan : SetPlan) (t : Tended) (bytes : List ℕ) : Type 0 where
+  pub draft : Draft
+  pub is_set : IsSetOf bytes draft
+  pub over : IsNewTenderOf plan draft t

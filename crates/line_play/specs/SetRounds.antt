@@ -1,0 +1,196 @@
+-- A round of a set on lines: what comes, what goes out, what is obeyed and what is told.
+use Rattle.std.specs.Prelude.{◌≡◌, ◌⊎◌, ℕ, ◌+◌, ◌≤◌, Bool, true, false, List, [], ◌∷◌, ◌++◌, length}
+use Rattle.std.specs.Prelude.{replicate, slice_get, slice_set, map, codes, string_bytes}
+use Rattle.std.specs.Prelude.{Option, None, Some}
+use Rattle.std.specs.Fmt.{decimal}
+use Rattle.script_lines.specs.Words.{words_of}
+use Rattle.line_filter.specs.Orders.{Timed, NextIs, NoneIsDue, QUIT, told}
+use Rattle.line_filter.specs.Reporting.{Stand, TellsLines}
+use Rattle.set_tending.specs.Rounds.{AddsHeeded, Ticks}
+use Rattle.set_tending.specs.Telling.{message_in}
+use Rattle.set_tending.specs.Tended.{Tended}
+use Rattle.set_tending.specs.Texts.{told_text}
+use Rattle.set_tending.specs.Wires.{Hears, Passes, SILENT}
+use Rattle.set_tending.specs.declared.told.Told.{Told}
+use Rattle.set_tending.specs.declared.wire.Passed.{Passed}
+use Rattle.set_tending.specs.declared.wire.Passed.TheVariants.{Same, Silent, Back}
+use Rattle.set_tending.specs.declared.wire.Wire.{Wire}
+use Rattle.line_play.specs.declared.set_queue.Queue.{Queue}
+use Rattle.line_play.specs.SetObeying.{Obeys, SendsNone, sent_by}
+use Rattle.line_play.specs.LineTraffic.{Traffic, Grows, some_of, given, silence_for}
+
+-- Bytes were told, octets came of lines and were given to them, of all of which R speaks.
+pub record Made (R : List ℕ → List Traffic → Type 0) (old new : Stand)
+    (before after : Option (List Traffic)) : Type 0 where
+  pub bytes : List ℕ
+  pub traffic : List Traffic
+  pub are : R bytes traffic
+  pub tells : TellsLines old new bytes
+  pub gives : Grows before after traffic
+
+-- ---- a line
+
+-- what is told of a line
+abbrev pub line_told : ℕ → ℕ → List ℕ → List ℕ
+line_told now link what = told now (decimal link ++ (codes " line " ++ what))
+
+abbrev pub passed_told : ℕ → ℕ → Passed → List ℕ
+passed_told now link Same = []
+passed_told now link Silent = line_told now link (codes "silent")
+passed_told now link Back = line_told now link (codes "back")
+
+-- octets that came of a line are heard, and what goes out goes on
+pub record PassesOn (link ahead : ℕ) (came : List ℕ) (t : Tended) (w : Wire)
+    (bytes : List ℕ) (traffic : List Traffic) (u : Tended) (x : Wire) : Type 0 where
+  pub out : List ℕ
+  pub passed : Passed
+  pub is_passed : Passes link ahead came t w [] passed u x out
+  pub tells : bytes ≡ passed_told u.ticks link passed
+  pub gives : traffic ≡ given link out
+
+-- A round of a line. It is open: what came is heard, and what goes out goes on. Or it isn't: 1s are
+-- heard. Or it ended, failed, or was opened, which is told; as many octets of 1s go ahead then.
+pub data Carries (link ahead : ℕ) (t : Tended) (w : Wire) :
+    List ℕ → List Traffic → Tended → Wire → Type 0 where
+  passes : {bytes : List ℕ} {traffic : List Traffic} {u : Tended} {x : Wire} (came : List ℕ)
+      → PassesOn link ahead came t w bytes traffic u x
+      → Carries link ahead t w bytes (some_of true link came ++ traffic) u x
+  misses : {u : Tended} → Hears link t SILENT u → Carries link ahead t w [] [] u w
+  ends : Carries link ahead t w (line_told t.ticks link (codes "ended")) [] t w
+  fails : Carries link ahead t w (line_told t.ticks link (codes "failed")) [] t w
+  opens : Carries link ahead t w (line_told t.ticks link (codes "open"))
+      (replicate ahead (silence_for link)) t w
+
+-- the line at a place
+pub record CarriesAt (link ahead : ℕ) (t : Tended) (ws : List Wire)
+    (bytes : List ℕ) (traffic : List Traffic) (u : Tended) (xs : List Wire) : Type 0 where
+  pub before : Wire
+  pub after : Wire
+  pub there : slice_get ws link ≡ Some before
+  pub carries : Carries link ahead t before bytes traffic u after
+  pub lines : xs ≡ slice_set ws link after
+
+-- so many lines, from the first on
+pub data CarriesAll (ahead : ℕ) (t : Tended) (ws : List Wire) :
+    ℕ → List ℕ → List Traffic → Tended → List Wire → Type 0 where
+  no_link : CarriesAll ahead t ws 0 [] [] t ws
+  one_link : {link : ℕ} {bytes : List ℕ} {traffic : List Traffic} {u v : Tended} {xs ys : List Wire}
+      (more : List ℕ) (others : List Traffic)
+      → CarriesAll ahead t ws link bytes traffic u xs
+      → CarriesAt link ahead u xs more others v ys
+      → CarriesAll ahead t ws (link + 1) (bytes ++ more) (traffic ++ others) v ys
+
+-- ---- what the set tells
+
+-- what is told next is taken
+pub record Takes (t : Tended) (x : Told) (u : Tended) : Type 0 where
+  pub messages : t.messages ≡ message_in x ++ u.messages
+  pub same : u ≡ record t { messages = u.messages }
+
+-- one thing after another
+pub data Tells (t : Tended) : List ℕ → Tended → Type 0 where
+  nothing : Tells t [] t
+  one : {bytes : List ℕ} {u w : Tended} (x : Told) → Tells t bytes u → Takes u x w
+      → Tells t (bytes ++ told w.ticks (told_text x)) w
+
+-- all of it: no message is left to be told
+pub record TellsAll (t : Tended) (bytes : List ℕ) (u : Tended) : Type 0 where
+  pub tells : Tells t bytes u
+  pub none_left : u.messages ≡ []
+
+-- ---- orders
+
+-- so many orders wait at most
+abbrev pub MOST_WAITING : ℕ
+MOST_WAITING = 1024
+
+-- the orders that wait
+abbrev pub waiting_in : Queue → List (List ℕ)
+waiting_in q = map (λ w. string_bytes w.text) q.waiting.items
+
+-- orders that wait are obeyed, from the first on
+pub data ObeysWaiting (t : Tended) (waiting : List (List ℕ)) :
+    List ℕ → Tended → List (List ℕ) → Type 0 where
+  rests : ObeysWaiting t waiting [] t waiting
+  obeys : {bytes : List ℕ} {u w : Tended} {now : List (List ℕ)}
+      (order more : List ℕ) (left : List (List ℕ))
+      → ObeysWaiting t waiting bytes u now → now ≡ order ∷ left → Obeys order u more w
+      → ObeysWaiting t waiting (bytes ++ more) w left
+
+-- An order comes. It is obeyed at once, where none waits, or it sends nothing; or it waits behind
+-- the others; or it says nothing, and sends no message.
+pub data TakesOrder (order : List ℕ) (t : Tended) (waiting : List (List ℕ)) :
+    List ℕ → Tended → List (List ℕ) → Type 0 where
+  at_once : {bytes : List ℕ} {u : Tended}
+      → (waiting ≡ []) ⊎ (sent_by (words_of order) ≡ None) → Obeys order t bytes u
+      → TakesOrder order t waiting bytes u waiting
+  behind : TakesOrder order t waiting [] t (waiting ++ order ∷ [])
+  report : SendsNone order → TakesOrder order t waiting [] t waiting
+
+-- Orders that wait are obeyed, then those that are due come in their order.
+pub data Attends (t : Tended) (waiting : List (List ℕ)) (left : Option (List Timed)) :
+    List ℕ → Tended → List (List ℕ) → Option (List Timed) → Type 0 where
+  waited : {bytes : List ℕ} {u : Tended} {now : List (List ℕ)}
+      → ObeysWaiting t waiting bytes u now → Attends t waiting left bytes u now left
+  comes : {bytes : List ℕ} {u : Tended} {now : List (List ℕ)} {fewer : Option (List Timed)}
+      (order more : List ℕ) (w : Tended) (later : List (List ℕ)) (last : Option (List Timed))
+      → Attends t waiting left bytes u now fewer → NextIs u.ticks fewer order last
+      → (order ≡ QUIT → ⊥) → TakesOrder order u now more w later
+      → Attends t waiting left (bytes ++ more) w later last
+
+-- The run goes on where none is due any more, or no more may wait. It ends with `quit`.
+pub data AttendsAll (t : Tended) (waiting : List (List ℕ)) (left : Option (List Timed)) :
+    List ℕ → Bool → Tended → List (List ℕ) → Option (List Timed) → Type 0 where
+  none_due : {bytes : List ℕ} {u : Tended} {now : List (List ℕ)} {fewer : Option (List Timed)}
+      (last : Option (List Timed))
+      → Attends t waiting left bytes u now fewer → NoneIsDue u.ticks fewer last
+      → AttendsAll t waiting left bytes true u now last
+  full : {bytes : List ℕ} {u : Tended} {now : List (List ℕ)} {fewer : Option (List Timed)}
+      → Attends t waiting left bytes u now fewer → MOST_WAITING ≤ length now
+      → AttendsAll t waiting left bytes true u now fewer
+  quits : {bytes : List ℕ} {u : Tended} {now : List (List ℕ)} {fewer : Option (List Timed)}
+      (last : Option (List Timed))
+      → Attends t waiting left bytes u now fewer → NextIs u.ticks fewer QUIT last
+      → AttendsAll t waiting left (bytes ++ told u.ticks (codes "ok quit")) false u now last
+
+-- ---- a round
+
+pub record SetPlace : Type 0 where
+  pub set : Tended
+  -- what goes out on each line, and for how long it has been quiet
+  pub wires : List Wire
+  -- the orders that wait
+  pub waiting : List (List ℕ)
+  -- those that are to come, where that is known
+  pub left : Option (List Timed)
+
+-- Of each line what came is heard and what goes out goes on; a tick passes; what is to be done for
+-- the links is done; all that there is to tell is told; orders are obeyed; and what there is to
+-- tell behind that is told too.
+pub record IsRound (ahead : ℕ) (p : SetPlace) (bytes : List ℕ) (traffic : List Traffic)
+    (goes_on : Bool) (q : SetPlace) : Type 0 where
+  pub carried : Tended
+  pub first : List ℕ
+  pub carries : CarriesAll ahead p.set p.wires (length p.wires) first traffic carried q.wires
+  pub ticked : Tended
+  pub ticks : Ticks carried ticked
+  pub tended : Tended
+  pub tends : AddsHeeded ticked tended
+  pub calm : Tended
+  pub second : List ℕ
+  pub tells : TellsAll tended second calm
+  pub obeyed : Tended
+  pub third : List ℕ
+  pub attends : AttendsAll calm p.waiting p.left third goes_on obeyed q.waiting q.left
+  pub fourth : List ℕ
+  pub tells_more : TellsAll obeyed fourth q.set
+  pub are : bytes ≡ ((first ++ second) ++ third) ++ fourth
+
+-- rounds, one behind another, up to one that ends the run
+pub data Rounds (ahead : ℕ) (p : SetPlace) :
+    List ℕ → List Traffic → Bool → SetPlace → Type 0 where
+  begins : Rounds ahead p [] [] true p
+  round : {bytes : List ℕ} {traffic : List Traffic} {q r : SetPlace}
+      (more : List ℕ) (others : List Traffic) (goes_on : Bool)
+      → Rounds ahead p bytes traffic true q → IsRound ahead q more others goes_on r
+      → Rounds ahead p (bytes ++ more) (traffic ++ others) goes_on r

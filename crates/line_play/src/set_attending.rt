@@ -1,0 +1,181 @@
+//! Orders to a set as they come: obeyed at once, or once those before them were.
+ghost use Rattle.std.specs.Prelude.{◌≡◌, ◌↔◌, [], true, false, IfOk, OnOk, IsTrue, None, string_bytes};
+ghost use Rattle.script_lines.specs.Words.{words_of};
+ghost use Rattle.line_filter.specs.Desks.{Told as TellsSuch};
+ghost use Rattle.line_filter.specs.Orders.{QUIT};
+ghost use Rattle.line_play.specs.SetObeying.{SendsNone, octets_sent, sent_by};
+ghost use Rattle.line_play.specs.SetRounds.{waiting_in, ObeysWaiting, TakesOrder, AttendsAll};
+
+use crate::set_orders::{SetOrder, is_set_report, set_order_in};
+use crate::set_queue::Queue;
+use crate::set_state::SetState;
+use line_filter::{Orders, Reports};
+use script_links::Order;
+use std::alloc::{AllocError, Global};
+use std::io::{self, ErrorKind};
+
+/// Whether an order sends a message.
+fn sends(order: &SetOrder<'_>) -> bool
+    ensures { result ≡ false → octets_sent order.now ≡ None }
+{
+    match order {
+        SetOrder::Send(_) => true,
+        _ => false,
+    }
+}
+
+/// Whether a line sends a message.
+fn is_send(alloc: Global, text: &str) -> Result<bool, AllocError>
+    ensures { IfOk result (λ sends. sends ≡ false → SendsNone text.now) }
+{
+    match set_order_in(alloc, text)? {
+        Some(order) => Ok(sends(&order)),
+        None => Ok(false),
+    }
+}
+
+/// Whether an order may overtake others that wait: it stops links, or says which links orders speak of.
+fn overtakes(order: &SetOrder<'_>) -> bool
+    ensures { result ≡ true → octets_sent order.now ≡ None }
+{
+    match order {
+        SetOrder::Link(order) => *order == Order::Stop,
+        SetOrder::On(_) => true,
+        _ => false,
+    }
+}
+
+/// Whether a line may overtake orders that wait.
+fn may_overtake(alloc: Global, text: &str) -> Result<bool, AllocError>
+    ensures { IfOk result (λ first. first ≡ true → sent_by (words_of text.now) ≡ None) }
+{
+    match set_order_in(alloc, text)? {
+        Some(order) => Ok(overtakes(&order)),
+        None => Ok(false),
+    }
+}
+
+/// Whether a line says nothing to a set: it is a report, and no order that sends a message.
+fn says_nothing(alloc: Global, text: &str) -> Result<bool, AllocError>
+    ensures { IfOk result (λ nothing. nothing ≡ true → SendsNone text.now) }
+{
+    if is_send(alloc, text)? {
+        return Ok(false);
+    }
+    is_set_report(alloc, text)
+}
+
+/// Whether an order ends the run.
+fn is_quit(order: &str) -> bool
+    ensures { IsTrue result ↔ (order.now ≡ QUIT) }
+{
+    order == "quit"
+}
+
+/// Whether none of the orders that wait is to be obeyed now.
+fn rests(alloc: Global, state: &SetState, queue: &Queue) -> Result<bool, AllocError> {
+    match queue.first() {
+        Some(first) => Ok(state.tender.sends_wait() && is_send(alloc, &first.text)?),
+        None => Ok(true),
+    }
+}
+
+/// Obeys the orders that wait, as far as they don't have to wait any more.
+fn obey_waiting<P: Reports>(
+    alloc: Global,
+    state: &mut SetState,
+    queue: &mut Queue,
+    reports: &mut P,
+) -> io::Result<()>
+    ensures { OnOk result (TellsSuch (λ bytes. ObeysWaiting state.old.tender (waiting_in queue.old) bytes state.new.tender (waiting_in queue.new))
+        (P.stand reports.old) (P.stand reports.new)) }
+{
+    for _order in 0..u64::MAX {
+        if rests(alloc, state, queue)? {
+            return Ok(());
+        }
+        match queue.take() {
+            Some(first) => state.obey(alloc, first.focus, first.text.as_str(), reports)?,
+            None => return Ok(()),
+        }
+    }
+    Ok(())
+}
+
+/// Whether an order has to wait: behind others, or since messages to send wait.
+fn has_to_wait(
+    alloc: Global,
+    state: &SetState,
+    queue: &Queue,
+    text: &str,
+) -> Result<bool, AllocError>
+    ensures { IfOk result (λ waits. waits ≡ false → waiting_in queue.now ≡ []) }
+{
+    if !queue.is_empty() {
+        return Ok(true);
+    }
+    if !state.tender.sends_wait() {
+        return Ok(false);
+    }
+    is_send(alloc, text)
+}
+
+/// Takes an order: it is obeyed, or waits behind others, but for one that overtakes them. A report says none.
+fn take_order<P: Reports>(
+    alloc: Global,
+    state: &mut SetState,
+    queue: &mut Queue,
+    text: String,
+    reports: &mut P,
+) -> io::Result<()>
+    ensures { OnOk result (TellsSuch (λ bytes. TakesOrder (string_bytes text) state.old.tender (waiting_in queue.old) bytes state.new.tender (waiting_in queue.new))
+        (P.stand reports.old) (P.stand reports.new)) }
+{
+    let line = text.as_str();
+    if says_nothing(alloc, line)? {
+        return Ok(());
+    }
+    let focus = state.focus;
+    if !has_to_wait(alloc, state, queue, line)? {
+        return state.obey(alloc, focus, line, reports);
+    }
+    if may_overtake(alloc, line)? {
+        return state.obey(alloc, focus, line, reports);
+    }
+    if queue.put(focus, text) {
+        Ok(())
+    } else {
+        Err(io::Error::from(AllocError))
+    }
+}
+
+/// Obeys the orders that are due. Whether the run goes on.
+pub(crate) fn attend<O: Orders, P: Reports>(
+    alloc: Global,
+    state: &mut SetState,
+    queue: &mut Queue,
+    orders: &mut O,
+    reports: &mut P,
+) -> io::Result<bool>
+    ensures { IfOk result (λ goes_on. TellsSuch
+        (λ bytes. AttendsAll state.old.tender (waiting_in queue.old) (O.left orders.old) bytes goes_on state.new.tender (waiting_in queue.new) (O.left orders.new))
+        (P.stand reports.old) (P.stand reports.new)) }
+{
+    obey_waiting(alloc, state, queue, reports)?;
+    for _order in 0..u64::MAX {
+        if queue.is_full() {
+            return Ok(true);
+        }
+        match orders.next(alloc, state.tender.now())? {
+            Some(order) => {
+                if is_quit(order.as_str()) {
+                    state.say(alloc, "ok quit", reports)?;
+                    return Ok(false);
+                }
+                take_order(alloc, state, queue, order, reports)?;
+            }
+            None => return Ok(true),
+        }
+    }
+    Err(io::Error::from(ErrorKind::Other))
+}

@@ -1,0 +1,84 @@
+//! A set, with what is counted of its links.
+ghost use Rattle.std.specs.Prelude.{OnOk, string_bytes};
+ghost use Rattle.line_filter.specs.Desks.{Told as TellsSuch};
+ghost use Rattle.line_filter.specs.Orders.{told};
+ghost use Rattle.line_filter.specs.Reporting.{TellsLines};
+ghost use Rattle.set_tending.specs.Texts.{told_text};
+ghost use Rattle.line_play.specs.SetRounds.{TellsAll};
+
+use crate::set_measures::Since;
+use crate::set_orders::Focus;
+use line_filter::{Reports, tell};
+use set_tending::{TendError, Tender, Told};
+use std::alloc::Global;
+use std::io::{self, ErrorKind};
+
+/// A set, with what is counted of its links.
+#[derive(Drop)]
+pub struct SetState {
+    /// The set.
+    pub tender: Tender,
+    /// What its links had measured as their counts began anew.
+    pub(crate) since: Vec<Since>,
+    /// Which links the next order speaks of.
+    pub(crate) focus: Focus,
+}
+
+/// A failure to tend, as one of the run.
+pub(crate) fn failed(error: TendError) -> io::Error {
+    match error {
+        TendError::NoMemory => io::Error::from(ErrorKind::OutOfMemory),
+        TendError::NoTick => io::Error::from(ErrorKind::Other),
+    }
+}
+
+impl SetState {
+    /// Tells a line, the millisecond first.
+    pub(crate) fn say<P: Reports>(
+        &self,
+        alloc: Global,
+        text: &str,
+        reports: &mut P,
+    ) -> io::Result<()>
+        ensures { OnOk result (TellsLines (P.stand reports.old) (P.stand reports.new) (told self.now.tender.ticks text.now)) }
+    {
+        tell(alloc, self.tender.now(), text, reports)
+    }
+
+    /// The same.
+    pub(crate) fn say_text<P: Reports>(
+        &self,
+        alloc: Global,
+        text: String,
+        reports: &mut P,
+    ) -> io::Result<()>
+        ensures { OnOk result (TellsLines (P.stand reports.old) (P.stand reports.new) (told self.now.tender.ticks (string_bytes text))) }
+    {
+        self.say(alloc, text.as_str(), reports)
+    }
+}
+
+/// Tells what the set told.
+fn tell_told<P: Reports>(alloc: Global, now: u64, item: &Told, reports: &mut P) -> io::Result<()>
+    ensures { OnOk result (TellsLines (P.stand reports.old) (P.stand reports.new) (told now (told_text item.now))) }
+{
+    let text = format!(in alloc; "{item}")?;
+    tell(alloc, now, text.as_str(), reports)
+}
+
+/// Tells all that a set has to tell.
+pub(crate) fn tell_all<P: Reports>(
+    alloc: Global,
+    tender: &mut Tender,
+    reports: &mut P,
+) -> io::Result<()>
+    ensures { OnOk result (TellsSuch (λ bytes. TellsAll tender.old bytes tender.new) (P.stand reports.old) (P.stand reports.new)) }
+{
+    for _told in 0..u64::MAX {
+        match tender.take_told() {
+            Some(item) => tell_told(alloc, tender.now(), &item, reports)?,
+            None => return Ok(()),
+        }
+    }
+    Err(io::Error::from(ErrorKind::Other))
+}

@@ -1,0 +1,25 @@
+-- What a set of links on lines did.
+use Rattle.std.specs.Prelude.{ℕ, List}
+use Rattle.line_play.specs.SetDesks.{RanFrom}
+use Rattle.line_play.specs.SetOpening.{IsNewTenderOver}
+use Rattle.line_play.specs.declared.set_opening.SetPlan.{SetPlan}
+use Rattle.line_play.specs.Tended.{Tended}
+use Rattle.mtp2_words.specs.Limits.{usual_limits_of}
+use Rattle.mtp2_words.specs.declared.set_ends.SetEnd.{SetEnd}
+use Rattle.mtp2_words.specs.declared.words.Named.{Named}
+
+-- what words of `set` say a set is opened with
+abbrev pub plan_of : Named → ℕ → SetEnd → SetPlan
+plan_of set links end = record {
+  mode = end.mode;
+  limits = usual_limits_of set;
+  ends = record { own = end.own; peer = end.peer; network = end.network };
+  links = links;
+  tests = end.tests;
+}
+
+-- a new set of links, as a plan says, over the set of these bytes ran
+pub record RanOver (plan : SetPlan) (ahead : ℕ) (bytes : List ℕ) : Type 0 where
+  pub tender : Tended
+  pub new : IsNewTenderOver plan tender bytes
+  pub ran : RanFrom ahead tender

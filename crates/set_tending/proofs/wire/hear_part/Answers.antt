@@ -1,0 +1,12 @@
+use Rattle.std.proofs.Common.{refl, arith}
+use Rattle.set_tending.proofs.wire.hear_part.Goals as goal
+
+pub returns : goal.returns
+returns c = record {
+  taken = c.line_in-taken.result;
+  middle = c.line_in-taken.new.self;
+  listens = c.line_in-taken.ensures.taken (omega arith);
+  adds = c.line_in-taken.ensures.adds;
+  heeds = c.in_ok-heed_link.ensures;
+  left_is = refl;
+}
