@@ -4,6 +4,8 @@ pub mod Told
 pub mod Traced
 pub mod TracedKinds
 pub mod Following
+pub mod Watched
+pub mod WatchedKinds
 pub use Rattle.script_group.specs.GroupRuns
 pub use Rattle.script_group.specs.Lines
 pub use Rattle.script_group.specs.Played

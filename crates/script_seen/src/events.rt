@@ -104,7 +104,7 @@ pub(crate) fn due_text(
 }
 
 /// What an input or a SAVE would name an item by.
-fn trigger_of(item: &Item) -> Trigger
+pub fn trigger_of(item: &Item) -> Trigger
     ensures { result ≡ trigger_of item.now }
 {
     match item {
@@ -140,7 +140,7 @@ fn is_saved(set: &Verified, process: ProcessNumber, state: StateNumber, item: &I
 }
 
 /// The first item of a port that a state doesn't save.
-fn first_item<'a>(
+pub(crate) fn first_item<'a>(
     set: &Verified,
     process: ProcessNumber,
     state: StateNumber,

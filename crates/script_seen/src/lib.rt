@@ -1,4 +1,4 @@
-//! What of a script's run is seen beside its replies: its lines, each in front of what it prints.
+//! What of a script's run is seen beside its replies: its lines, each in front of what it prints, and what happens by them.
 #![tactic(auto)]
 
 mod books;
@@ -12,13 +12,25 @@ mod traced_books;
 mod traced_terminals;
 mod tracing;
 mod turns;
+mod watched_books;
+mod watched_terminals;
+mod watching;
 
+pub use actor_machine::ActorName;
 pub use books::show_book;
+pub use events::trigger_of;
 pub use groups::show_group;
+pub use input_port::Item;
+pub use pushing::{push_number, push_state, push_trigger};
 pub use script_group::{
-    FAILED, OpenError, play_book, play_group, play_terminal, refuse, refuse_set, write_line,
+    FAILED, HELD, MISSED, OpenError, play_book, play_group, play_terminal, refuse, refuse_set,
+    write_line,
 };
 pub use script_links::{AnyScript, PlayScript, RoundLimits, play_fault, play_script_in};
 pub use terminals::show_terminal;
 pub use traced_books::trace_book;
 pub use traced_terminals::trace_terminal;
+pub use turns::Ended;
+pub use watched_books::watch_book;
+pub use watched_terminals::watch_terminal;
+pub use watching::Watcher;

@@ -25,7 +25,7 @@ fn bytes_of<'a>(name: Option<&'a Name>) -> &'a [u8]
 }
 
 /// A number in decimal.
-pub(crate) fn push_number(alloc: Global, line: &mut Vec<u8>, number: u64) -> Result<(), AllocError>
+pub fn push_number(alloc: Global, line: &mut Vec<u8>, number: u64) -> Result<(), AllocError>
     ensures { OnOk result (line.new.items ≡ line.old.items ++ decimal number) }
 {
     let text = format!(in alloc; "{number}")?;
@@ -56,7 +56,7 @@ pub(crate) fn push_timer(
 }
 
 /// The name of a signal, or of a timer of a process.
-pub(crate) fn push_trigger(
+pub fn push_trigger(
     line: &mut Vec<u8>,
     set: &Verified,
     process: ProcessNumber,
@@ -227,7 +227,7 @@ pub(crate) fn push_place(
 }
 
 /// The name of a state.
-pub(crate) fn push_state(
+pub fn push_state(
     line: &mut Vec<u8>,
     set: &Verified,
     process: ProcessNumber,
