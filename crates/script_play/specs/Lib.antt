@@ -1,2 +1,4 @@
 pub mod Played
+pub mod Seen
+pub mod Thrown
 pub mod Traced

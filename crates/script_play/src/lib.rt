@@ -2,7 +2,10 @@
 #![tactic(auto)]
 
 mod playing;
+mod thrown;
 mod tracing;
+mod watching;
 
 pub use playing::play;
 pub use tracing::play_traced;
+pub use watching::play_thrown;

@@ -7,4 +7,4 @@ mod ShownRuns
 mod TracedRuns
 mod Noticing
 mod Watchings
-mod WatchedRuns
+pub mod WatchedRuns

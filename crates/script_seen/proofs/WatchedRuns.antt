@@ -17,7 +17,7 @@ use Rattle.script_seen.specs.WatchedKinds.{IsMoved, BookWatching, IsBookWatched,
 use Rattle.script_seen.specs.declared.tracing.Tracer.{Tracer}
 use Rattle.script_seen.proofs.Showings.{one_more, parts_at, all_taken}
 use Rattle.script_seen.proofs.TracedRuns.{book_run_begins, term_run_begins}
-use Rattle.script_seen.proofs.Watchings.{watching_begins, watching_more, is_watched}
+use Rattle.script_seen.proofs.Watchings.{watching_begins, watching_more, is_watched, watched_as, in_part_as}
 
 -- the set of a book that has just been opened
 pub opened_set : (d : Draft) (port env journal : ℕ) → (opened_book d port env journal).set ≡ d
@@ -84,6 +84,15 @@ book_watched_part b items i x P u within is missed s = record {
   watched = book_watched_all b (map plain_said (take i items)) P u s;
 }
 
+-- what a watcher is, as something else that it is then
+pub book_watched_as : (b : Ledger) (commands : List PlainSaid) (P Q : List Notice → Type 0) → ((ns : List Notice) → P ns → Q ns)
+    → IsBookWatched b commands P → IsBookWatched b commands Q
+book_watched_as b commands P Q f w = watched_as b.set (state_of b) (BookBehind b) commands P Q f w
+
+pub book_part_as : (b : Ledger) (commands : List PlainSaid) (P Q : List Notice → Type 0) → ((ns : List Notice) → P ns → Q ns)
+    → IsBookWatchedInPart b commands P → IsBookWatchedInPart b commands Q
+book_part_as b commands P Q f w = in_part_as b.set (state_of b) (BookBehind b) (BookMisses b) commands P Q f w
+
 -- ---- terminals
 
 pub record TermGoing (keeps : Bool) (t : Term) (commands : List PlainTermSaid) (last first now : Option (List ℕ)) (term : Term) (latest : Option (List ℕ))
@@ -142,3 +151,12 @@ term_watched_part keeps t items i x P to within is missed s = record {
   missed = missed;
   watched = term_watched_all keeps t (map plain_term_said (take i items)) P to s;
 }
+
+pub term_watched_as : (keeps : Bool) (t : Term) (commands : List PlainTermSaid) (P Q : List Notice → Type 0) → ((ns : List Notice) → P ns → Q ns)
+    → IsTermWatched keeps t commands P → IsTermWatched keeps t commands Q
+term_watched_as keeps t commands P Q f w = watched_as (book_in t).set (state_of (book_in t)) (TermBehind keeps t) commands P Q f w
+
+pub term_part_as : (keeps : Bool) (t : Term) (commands : List PlainTermSaid) (P Q : List Notice → Type 0) → ((ns : List Notice) → P ns → Q ns)
+    → IsTermWatchedInPart keeps t commands P → IsTermWatchedInPart keeps t commands Q
+term_part_as keeps t commands P Q f w =
+    in_part_as (book_in t).set (state_of (book_in t)) (TermBehind keeps t) (TermMisses keeps t) commands P Q f w

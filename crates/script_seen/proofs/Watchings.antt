@@ -5,7 +5,7 @@ use Rattle.actor_machine.specs.Core.{Core}
 use Rattle.actor_machine.specs.Ledger.{Ledger, runs, replay, next, state_of}
 use Rattle.script_seen.specs.Following.{Agree}
 use Rattle.script_seen.specs.Traced.{since, are_in_step, IsAt}
-use Rattle.script_seen.specs.Watched.{Notice, noticed_in, begins, more, IsWatching, IsWatched}
+use Rattle.script_seen.specs.Watched.{Notice, noticed_in, begins, more, IsWatching, IsWatched, IsWatchedInPart}
 use Rattle.script_seen.specs.WatchedKinds.{IsMoved}
 use Rattle.script_seen.specs.declared.tracing.Tracer.{Tracer}
 
@@ -63,3 +63,19 @@ watching_more d first B commands said K L b t u s behind within moved in_step to
 pub is_watched : {S : Type 0} (d : Draft) (first : Core) (B : List S → Ledger → Type 0) (commands : List S) (P : List Notice → Type 0) (t : Tracer)
     → IsWatching d first B commands P t → IsWatched d first B commands P
 is_watched d first B commands P t s = record { place = s.place; now = s.now; notices = s.notices; are = s.are; holds = s.holds }
+
+-- what a watcher is, as something else that it is then
+pub watched_as : {S : Type 0} (d : Draft) (first : Core) (B : List S → Ledger → Type 0) (commands : List S) (P Q : List Notice → Type 0)
+    → ((ns : List Notice) → P ns → Q ns) → IsWatched d first B commands P → IsWatched d first B commands Q
+watched_as d first B commands P Q f w = record { place = w.place; now = w.now; notices = w.notices; are = w.are; holds = f w.notices w.holds }
+
+pub in_part_as : {S : Type 0} (d : Draft) (first : Core) (B : List S → Ledger → Type 0) (M : List S → S → Type 0) (commands : List S) (P Q : List Notice → Type 0)
+    → ((ns : List Notice) → P ns → Q ns) → IsWatchedInPart d first B M commands P → IsWatchedInPart d first B M commands Q
+in_part_as d first B M commands P Q f w = record {
+  before = w.before;
+  said = w.said;
+  after = w.after;
+  stands = w.stands;
+  missed = w.missed;
+  watched = watched_as d first B w.before P Q f w.watched;
+}

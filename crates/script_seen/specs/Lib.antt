@@ -6,6 +6,7 @@ pub mod TracedKinds
 pub mod Following
 pub mod Watched
 pub mod WatchedKinds
+pub use Rattle.actor_machine.specs.Looking
 pub use Rattle.script_group.specs.GroupRuns
 pub use Rattle.script_group.specs.Lines
 pub use Rattle.script_group.specs.Played

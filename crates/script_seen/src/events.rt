@@ -114,7 +114,7 @@ pub fn trigger_of(item: &Item) -> Trigger
 }
 
 /// Whether they are the same signal or the same timer.
-fn same_trigger(left: Trigger, right: Trigger) -> bool
+pub fn same_trigger(left: Trigger, right: Trigger) -> bool
     ensures { result ≡ same_trigger left right }
 {
     match left {

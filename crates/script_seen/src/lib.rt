@@ -18,10 +18,10 @@ mod watching;
 
 pub use actor_machine::ActorName;
 pub use books::show_book;
-pub use events::trigger_of;
+pub use events::{same_trigger, trigger_of};
 pub use groups::show_group;
 pub use input_port::Item;
-pub use pushing::{push_number, push_state, push_trigger};
+pub use pushing::{push_number, push_process, push_state, push_trigger};
 pub use script_group::{
     FAILED, HELD, MISSED, OpenError, play_book, play_group, play_terminal, refuse, refuse_set,
     write_line,

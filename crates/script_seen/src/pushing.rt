@@ -115,6 +115,17 @@ pub(crate) fn shown(alloc: Global, value: Option<Value>) -> Result<Vec<u8>, Allo
     }
 }
 
+/// The name of a process.
+pub fn push_process(
+    line: &mut Vec<u8>,
+    set: &Verified,
+    process: ProcessNumber,
+) -> Result<(), AllocError>
+    ensures { OnOk result (line.new.items ≡ line.old.items ++ process_text set.now process.0) }
+{
+    Ok(line.extend_from_slice(bytes_of(set.process_name(process)))?)
+}
+
 /// An actor: its process, and its number where there is more than one instance.
 pub(crate) fn push_actor(
     alloc: Global,
