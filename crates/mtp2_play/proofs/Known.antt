@@ -4,14 +4,16 @@ use Rattle.script_check.specs.Checked.{given, IsGiven, PrintsCosts, PrintsRefusa
 use Rattle.script_check.specs.declared.sets.SetWord.{SetWord}
 use Rattle.script_check.specs.declared.sets.SetWord.TheVariants.{Standard as standard_set, Q703 as q703_set, Monitors as monitors_set, Text}
 use Rattle.script_play.specs.Played.{IsOnSet, IsPlayed, IsPlayedInPart, IsNotRun, IsRefused, set_refused, script_refused}
-use Rattle.script_play.specs.Traced.{IsPlayTraced, IsPlayTracedInPart}
+use Rattle.script_play.specs.Traced.{IsPlayTraced, IsPlayTracedInPart, IsWatched, IsWatchedInPart}
+use Rattle.script_play.proofs.Watching.{was_played, was_played_in_part}
 use Rattle.pool_soak.specs.Findings.{IsSoaked, IsSoakedInVain, IsTurnedDown}
 use Rattle.line_filter.specs.Filters.{Line}
 use Rattle.line_play.specs.Opening.{IsNoSet}
 use Rattle.mtp2_play.specs.Spoken.{SpokeOver, BegunOver}
 use Rattle.mtp2_words.specs.resend_store_types.messages.RoundLimits.{RoundLimits}
 use Rattle.mtp2_words.specs.declared.ends.LineEnd.{LineEnd}
-use Rattle.mtp2_play.specs.Printed.{IsSpoken}
+use Rattle.mtp2_play.specs.Printed.{IsSpoken, IsPlayedOn, IsWatchedOn}
+use Rattle.mtp2_words.specs.Limits.{usual_limits_of}
 use Rattle.mtp2_play.specs.Sets.{own_set_of, own_text_of}
 use Rattle.mtp2_words.specs.declared.words.Named.{Named}
 use Rattle.mtp2_words.specs.declared.words.Named.TheVariants.{Standard, Q703, Monitors, Stdin, File}
@@ -84,28 +86,18 @@ in_part usual wanted echo set script old new same s =
     let Q : RoundLimits → Type 0 = λ l. IsOnSet set None (IsPlayedInPart l echo old new) in
     subst Q same (record { draft = s.draft; is_set = s.is_set; of_script = some_bytes script (IsPlayedInPart usual echo old new s.draft) s.of_script })
 
--- what goes to a trace
-pub traced : (usual wanted : RoundLimits) (every : Bool) (set script old new : Option (List ℕ)) → usual ≡ wanted
-    → IsOnSet set script (IsPlayTraced usual every old new) → IsOnSet set None (IsPlayTraced wanted every old new)
-traced usual wanted every set script old new same s =
-    let Q : RoundLimits → Type 0 = λ l. IsOnSet set None (IsPlayTraced l every old new) in
-    subst Q same (record { draft = s.draft; is_set = s.is_set; of_script = some_bytes script (IsPlayTraced usual every old new s.draft) s.of_script })
+-- with a trace
+pub traced : (usual wanted : RoundLimits) (every : Bool) (set script old new begun now : Option (List ℕ)) → usual ≡ wanted
+    → IsOnSet set script (IsPlayTraced usual every old new begun now) → IsOnSet set None (IsPlayTraced wanted every old new begun now)
+traced usual wanted every set script old new begun now same s =
+    let Q : RoundLimits → Type 0 = λ l. IsOnSet set None (IsPlayTraced l every old new begun now) in
+    subst Q same (record { draft = s.draft; is_set = s.is_set; of_script = some_bytes script (IsPlayTraced usual every old new begun now s.draft) s.of_script })
 
-pub traced_in_part : (usual wanted : RoundLimits) (every : Bool) (set script old new : Option (List ℕ)) → usual ≡ wanted
-    → IsOnSet set script (IsPlayTracedInPart usual every old new) → IsOnSet set None (IsPlayTracedInPart wanted every old new)
-traced_in_part usual wanted every set script old new same s =
-    let Q : RoundLimits → Type 0 = λ l. IsOnSet set None (IsPlayTracedInPart l every old new) in
-    subst Q same (record { draft = s.draft; is_set = s.is_set; of_script = some_bytes script (IsPlayTracedInPart usual every old new s.draft) s.of_script })
-
--- it goes without the lines of commands
-pub without_lines : (usual : RoundLimits) (echo : Bool) (set old new : Option (List ℕ)) → echo ≡ false → IsOnSet set None (IsPlayed usual false old new)
-    → IsOnSet set None (IsPlayed usual echo old new)
-without_lines usual echo set old new without s = let E : Bool → Type 0 = λ e. IsOnSet set None (IsPlayed usual e old new) in subst E (sym without) s
-
-pub without_lines_in_part : (usual : RoundLimits) (echo : Bool) (set old new : Option (List ℕ)) → echo ≡ false
-    → IsOnSet set None (IsPlayedInPart usual false old new) → IsOnSet set None (IsPlayedInPart usual echo old new)
-without_lines_in_part usual echo set old new without s =
-    let E : Bool → Type 0 = λ e. IsOnSet set None (IsPlayedInPart usual e old new) in subst E (sym without) s
+pub traced_in_part : (usual wanted : RoundLimits) (every : Bool) (set script old new begun now : Option (List ℕ)) → usual ≡ wanted
+    → IsOnSet set script (IsPlayTracedInPart usual every old new begun now) → IsOnSet set None (IsPlayTracedInPart wanted every old new begun now)
+traced_in_part usual wanted every set script old new begun now same s =
+    let Q : RoundLimits → Type 0 = λ l. IsOnSet set None (IsPlayTracedInPart l every old new begun now) in
+    subst Q same (record { draft = s.draft; is_set = s.is_set; of_script = some_bytes script (IsPlayTracedInPart usual every old new begun now s.draft) s.of_script })
 
 not_run_in : (set script old new : Option (List ℕ)) → IsOnSet set script (IsNotRun old new) → IsOnSet set None (IsNotRun old new)
 not_run_in set script old new s = record { draft = s.draft; is_set = s.is_set; of_script = some_bytes script (IsNotRun old new s.draft) s.of_script }
@@ -116,11 +108,13 @@ not_run set script old new (script_refused s) = script_refused (not_run_in set s
 
 -- ---- and its set
 
-pub played_on_some : (usual : RoundLimits) (echo : Bool) (set old new : Option (List ℕ)) → IsOnSet set None (IsPlayed usual echo old new) → IsOnSet None None (IsPlayed usual echo old new)
-played_on_some usual echo set old new s = record { draft = s.draft; is_set = some_bytes set _ s.is_set; of_script = s.of_script }
+pub watched_on_some : (usual : RoundLimits) (echo every : Bool) (set old new : Option (List ℕ)) (begun now : Option (Option (List ℕ)))
+    → IsOnSet set None (IsWatched usual echo every old new begun now) → IsOnSet None None (IsWatched usual echo every old new begun now)
+watched_on_some usual echo every set old new begun now s = record { draft = s.draft; is_set = some_bytes set _ s.is_set; of_script = s.of_script }
 
-pub in_part_on_some : (usual : RoundLimits) (echo : Bool) (set old new : Option (List ℕ)) → IsOnSet set None (IsPlayedInPart usual echo old new) → IsOnSet None None (IsPlayedInPart usual echo old new)
-in_part_on_some usual echo set old new s = record { draft = s.draft; is_set = some_bytes set _ s.is_set; of_script = s.of_script }
+pub in_part_on_some : (usual : RoundLimits) (echo every : Bool) (set old new : Option (List ℕ)) (begun now : Option (Option (List ℕ)))
+    → IsOnSet set None (IsWatchedInPart usual echo every old new begun now) → IsOnSet None None (IsWatchedInPart usual echo every old new begun now)
+in_part_on_some usual echo every set old new begun now s = record { draft = s.draft; is_set = some_bytes set _ s.is_set; of_script = s.of_script }
 
 not_run_on : (set old new : Option (List ℕ)) → IsOnSet set None (IsNotRun old new) → IsOnSet None None (IsNotRun old new)
 not_run_on set old new s = record { draft = s.draft; is_set = some_bytes set _ s.is_set; of_script = s.of_script }
@@ -128,3 +122,13 @@ not_run_on set old new s = record { draft = s.draft; is_set = some_bytes set _ s
 pub not_run_on_some : (set old new : Option (List ℕ)) → IsRefused set None old new → IsRefused None None old new
 not_run_on_some set old new (set_refused g) = set_refused (some_bytes set (PrintsRefusal old new) g)
 not_run_on_some set old new (script_refused s) = script_refused (not_run_on set old new s)
+
+-- ---- without its trace
+
+pub was_played_on : (set : Named) (echo every : Bool) (status : ℕ) (old new : Option (List ℕ)) (begun now : Option (Option (List ℕ)))
+    → IsWatchedOn set echo every status old new begun now → IsPlayedOn set echo status old new
+was_played_on set echo every status old new begun now w = record {
+  held = λ zero. was_played (usual_limits_of set) echo every (own_text_of set) None old new begun now (w.held zero);
+  missed = λ one. was_played_in_part (usual_limits_of set) echo every (own_text_of set) None old new begun now (w.missed one);
+  refused = w.refused;
+}

@@ -1,10 +1,10 @@
 //! The command `play` from its files to the exit status.
-ghost use Rattle.std.specs.Prelude.{◌≡◌, ◌⊎◌, None, false};
+ghost use Rattle.std.specs.Prelude.{◌≡◌, ◌⊎◌, None, option_map};
 ghost use Rattle.script_check.specs.Checked.{given};
-ghost use Rattle.script_play.specs.Played.{IsOnSet, IsPlayed, IsPlayedInPart, IsRefused};
-ghost use Rattle.script_play.specs.Traced.{IsPlayTraced, IsPlayTracedInPart};
+ghost use Rattle.script_play.specs.Played.{IsOnSet, IsRefused};
+ghost use Rattle.script_play.specs.Traced.{IsPlayTraced, IsPlayTracedInPart, IsWatched, IsWatchedInPart};
 ghost use Rattle.mtp2_words.specs.Limits.{usual_limits_of};
-ghost use Rattle.mtp2_play.specs.Printed.{IsPlayedOn};
+ghost use Rattle.mtp2_play.specs.Printed.{IsPlayedOn, IsWatchedOn};
 
 use crate::sets::{STDIN, own_set, set_word};
 use mtp2_words::{Named, Seeing, Source};
@@ -26,7 +26,7 @@ struct Watch<F> {
 }
 
 /// Runs a script that comes from a reader on a set, with a trace.
-#[tactic(auto, using(crate::proofs::Known::played, crate::proofs::Known::in_part, crate::proofs::Known::traced, crate::proofs::Known::traced_in_part, crate::proofs::Known::not_run))]
+#[tactic(auto, using(crate::proofs::Known::traced, crate::proofs::Known::traced_in_part, crate::proofs::Known::not_run))]
 fn trace_on<H: Eprint, S: Read + Drop, T: Read + Drop, F: Write, W: Write>(
     alloc: Global,
     teller: &Teller<'_, H>,
@@ -38,10 +38,12 @@ fn trace_on<H: Eprint, S: Read + Drop, T: Read + Drop, F: Write, W: Write>(
     trace: &mut F,
     writer: &mut W,
 ) -> u8
-    ensures held { result ≡ 0 → IsOnSet (given S.remaining set) None (IsPlayed (usual_limits_of named.now) false (W.contents writer.old) (W.contents writer.new)) }
-    ensures missed { result ≡ 1 → IsOnSet (given S.remaining set) None (IsPlayedInPart (usual_limits_of named.now) false (W.contents writer.old) (W.contents writer.new)) }
-    ensures traced { result ≡ 0 → IsOnSet (given S.remaining set) None (IsPlayTraced (usual_limits_of named.now) every (F.contents trace.old) (F.contents trace.new)) }
-    ensures in_part { result ≡ 1 → IsOnSet (given S.remaining set) None (IsPlayTracedInPart (usual_limits_of named.now) every (F.contents trace.old) (F.contents trace.new)) }
+    ensures held { result ≡ 0
+        → IsOnSet (given S.remaining set) None
+        (IsPlayTraced (usual_limits_of named.now) every (W.contents writer.old) (W.contents writer.new) (F.contents trace.old) (F.contents trace.new)) }
+    ensures missed { result ≡ 1
+        → IsOnSet (given S.remaining set) None
+        (IsPlayTracedInPart (usual_limits_of named.now) every (W.contents writer.old) (W.contents writer.new) (F.contents trace.old) (F.contents trace.new)) }
     ensures refused { result ≡ 2 → IsRefused (given S.remaining set) None (W.contents writer.old) (W.contents writer.new) }
     ensures status { (result ≡ 0) ⊎ (result ≡ 1) ⊎ (result ≡ 2) ⊎ (result ≡ 4) }
 {
@@ -60,7 +62,7 @@ fn trace_on<H: Eprint, S: Read + Drop, T: Read + Drop, F: Write, W: Write>(
 }
 
 /// Runs a script that comes from a reader on a set, and sees it: where the lines of its commands are shown no trace is made.
-#[tactic(auto, using(crate::proofs::Known::played, crate::proofs::Known::in_part, crate::proofs::Known::not_run, crate::proofs::Known::without_lines, crate::proofs::Known::without_lines_in_part))]
+#[tactic(auto, using(crate::proofs::Known::not_run))]
 fn play_on<H: Eprint, S: Read + Drop, T: Read + Drop, F: Write, W: Write>(
     alloc: Global,
     teller: &Teller<'_, H>,
@@ -71,8 +73,14 @@ fn play_on<H: Eprint, S: Read + Drop, T: Read + Drop, F: Write, W: Write>(
     watch: &mut Watch<F>,
     writer: &mut W,
 ) -> u8
-    ensures held { result ≡ 0 → IsOnSet (given S.remaining set) None (IsPlayed (usual_limits_of named.now) watch.old.echo (W.contents writer.old) (W.contents writer.new)) }
-    ensures missed { result ≡ 1 → IsOnSet (given S.remaining set) None (IsPlayedInPart (usual_limits_of named.now) watch.old.echo (W.contents writer.old) (W.contents writer.new)) }
+    ensures held { result ≡ 0
+        → IsOnSet (given S.remaining set) None
+        (IsWatched (usual_limits_of named.now) watch.old.echo watch.old.every (W.contents writer.old) (W.contents writer.new)
+        (option_map F.contents watch.old.trace) (option_map F.contents watch.new.trace)) }
+    ensures missed { result ≡ 1
+        → IsOnSet (given S.remaining set) None
+        (IsWatchedInPart (usual_limits_of named.now) watch.old.echo watch.old.every (W.contents writer.old) (W.contents writer.new)
+        (option_map F.contents watch.old.trace) (option_map F.contents watch.new.trace)) }
     ensures refused { result ≡ 2 → IsRefused (given S.remaining set) None (W.contents writer.old) (W.contents writer.new) }
     ensures status { (result ≡ 0) ⊎ (result ≡ 1) ⊎ (result ≡ 2) ⊎ (result ≡ 4) }
 {
@@ -119,8 +127,14 @@ fn play_source<R: Runtime + AllocGlobal, H: Eprint, S: Read + Drop, F: Write, W:
     watch: &mut Watch<F>,
     writer: &mut W,
 ) -> u8
-    ensures held { result ≡ 0 → IsOnSet (given S.remaining set) None (IsPlayed (usual_limits_of named.now) watch.old.echo (W.contents writer.old) (W.contents writer.new)) }
-    ensures missed { result ≡ 1 → IsOnSet (given S.remaining set) None (IsPlayedInPart (usual_limits_of named.now) watch.old.echo (W.contents writer.old) (W.contents writer.new)) }
+    ensures held { result ≡ 0
+        → IsOnSet (given S.remaining set) None
+        (IsWatched (usual_limits_of named.now) watch.old.echo watch.old.every (W.contents writer.old) (W.contents writer.new)
+        (option_map F.contents watch.old.trace) (option_map F.contents watch.new.trace)) }
+    ensures missed { result ≡ 1
+        → IsOnSet (given S.remaining set) None
+        (IsWatchedInPart (usual_limits_of named.now) watch.old.echo watch.old.every (W.contents writer.old) (W.contents writer.new)
+        (option_map F.contents watch.old.trace) (option_map F.contents watch.new.trace)) }
     ensures refused { result ≡ 2 → IsRefused (given S.remaining set) None (W.contents writer.old) (W.contents writer.new) }
     ensures status { (result ≡ 0) ⊎ (result ≡ 1) ⊎ (result ≡ 2) ⊎ (result ≡ 4) }
 {
@@ -154,7 +168,8 @@ fn play_own<R: Runtime + AllocGlobal, H: Eprint, F: Write, W: Write>(
     watch: &mut Watch<F>,
     writer: &mut W,
 ) -> u8
-    ensures printed { IsPlayedOn set.entry watch.old.echo result (W.contents writer.old) (W.contents writer.new) }
+    ensures printed { IsWatchedOn set.entry watch.old.echo watch.old.every result (W.contents writer.old) (W.contents writer.new)
+        (option_map F.contents watch.old.trace) (option_map F.contents watch.new.trace) }
     ensures status { (result ≡ 0) ⊎ (result ≡ 1) ⊎ (result ≡ 2) ⊎ (result ≡ 4) }
 {
     match own_set(&set) {
@@ -164,7 +179,7 @@ fn play_own<R: Runtime + AllocGlobal, H: Eprint, F: Write, W: Write>(
 }
 
 /// Runs a script on a set whose text comes from a reader.
-#[tactic(auto, using(crate::proofs::Known::played_on_some, crate::proofs::Known::in_part_on_some, crate::proofs::Known::not_run_on_some))]
+#[tactic(auto, using(crate::proofs::Known::watched_on_some, crate::proofs::Known::in_part_on_some, crate::proofs::Known::not_run_on_some))]
 fn play_text<R: Runtime + AllocGlobal, H: Eprint, S: Read + Drop, F: Write, W: Write>(
     rt: &R,
     teller: &Teller<'_, H>,
@@ -175,8 +190,14 @@ fn play_text<R: Runtime + AllocGlobal, H: Eprint, S: Read + Drop, F: Write, W: W
     watch: &mut Watch<F>,
     writer: &mut W,
 ) -> u8
-    ensures held { result ≡ 0 → IsOnSet None None (IsPlayed (usual_limits_of named.now) watch.old.echo (W.contents writer.old) (W.contents writer.new)) }
-    ensures missed { result ≡ 1 → IsOnSet None None (IsPlayedInPart (usual_limits_of named.now) watch.old.echo (W.contents writer.old) (W.contents writer.new)) }
+    ensures held { result ≡ 0
+        → IsOnSet None None
+        (IsWatched (usual_limits_of named.now) watch.old.echo watch.old.every (W.contents writer.old) (W.contents writer.new)
+        (option_map F.contents watch.old.trace) (option_map F.contents watch.new.trace)) }
+    ensures missed { result ≡ 1
+        → IsOnSet None None
+        (IsWatchedInPart (usual_limits_of named.now) watch.old.echo watch.old.every (W.contents writer.old) (W.contents writer.new)
+        (option_map F.contents watch.old.trace) (option_map F.contents watch.new.trace)) }
     ensures refused { result ≡ 2 → IsRefused None None (W.contents writer.old) (W.contents writer.new) }
     ensures status { (result ≡ 0) ⊎ (result ≡ 1) ⊎ (result ≡ 2) ⊎ (result ≡ 4) }
 {
@@ -202,7 +223,8 @@ fn run_watched<R: Runtime + AllocGlobal, H: Eprint, F: Write, W: Write>(
     watch: &mut Watch<F>,
     writer: &mut W,
 ) -> u8
-    ensures printed { IsPlayedOn set.entry watch.old.echo result (W.contents writer.old) (W.contents writer.new) }
+    ensures printed { IsWatchedOn set.entry watch.old.echo watch.old.every result (W.contents writer.old) (W.contents writer.new)
+        (option_map F.contents watch.old.trace) (option_map F.contents watch.new.trace) }
     ensures status { (result ≡ 0) ⊎ (result ≡ 1) ⊎ (result ≡ 2) ⊎ (result ≡ 4) }
 {
     match set {
@@ -233,6 +255,7 @@ fn run_watched<R: Runtime + AllocGlobal, H: Eprint, F: Write, W: Write>(
 }
 
 /// The same with what is to be seen of the run.
+#[tactic(auto, using(crate::proofs::Known::was_played_on))]
 pub(crate) fn run_play<R: Runtime + AllocGlobal, H: Eprint, W: Write>(
     rt: &R,
     teller: &Teller<'_, H>,

@@ -1,11 +1,11 @@
 //! The command `play` with a trace.
-ghost use Rattle.std.specs.Prelude.{◌≡◌, ◌⊎◌, List, ℕ, IfSome, false};
+ghost use Rattle.std.specs.Prelude.{◌≡◌, ◌⊎◌, List, ℕ, IfSome};
 ghost use Rattle.plain_text.specs.Reading.{Keeps};
 ghost use Rattle.script_check.specs.Checked.{given, IsAccepted};
 ghost use Rattle.script_seen.specs.TermScripts.{plain_any_script, IsInRange};
 ghost use Rattle.script_seen.specs.GroupScripts.{plain_play_script, IsFit};
 ghost use Rattle.script_lines.specs.Lines.{lines_of};
-ghost use Rattle.script_play.specs.Played.{IsOtherObeyed, IsObeyed, IsPlayed, IsOtherMissed, IsMissedIn, IsPlayedInPart, HasNoOther, HasNoTerminal, IsNotRun, IsOnSet, IsRefused};
+ghost use Rattle.script_play.specs.Played.{IsOtherObeyed, IsObeyed, IsOtherMissed, IsMissedIn, HasNoOther, HasNoTerminal, IsNotRun, IsOnSet, IsRefused};
 ghost use Rattle.script_play.specs.Traced.{IsOtherTraced, AreTraced, IsPlayTraced, IsOtherTracedInPart, AreTracedInPart, IsPlayTracedInPart};
 
 use crate::playing::{explain, explain_length, refuse_script};
@@ -108,13 +108,10 @@ fn trace_text<W: Write, T: Write, E: Write>(
     writer: &mut W,
     errors: &mut E,
 ) -> u8
-    ensures held { result ≡ 0 → (bytes : List ℕ) → Keeps bytes read.now → IsPlayed usual false (W.contents writer.old) (W.contents writer.new) set.now bytes }
+    ensures held { result ≡ 0 → (bytes : List ℕ) → Keeps bytes read.now
+        → IsPlayTraced usual every (W.contents writer.old) (W.contents writer.new) (T.contents trace.old) (T.contents trace.new) set.now bytes }
     ensures missed { result ≡ 1 → (bytes : List ℕ) → Keeps bytes read.now
-        → IsPlayedInPart usual false (W.contents writer.old) (W.contents writer.new) set.now bytes }
-    ensures traced { result ≡ 0 → (bytes : List ℕ) → Keeps bytes read.now
-        → IsPlayTraced usual every (T.contents trace.old) (T.contents trace.new) set.now bytes }
-    ensures in_part { result ≡ 1 → (bytes : List ℕ) → Keeps bytes read.now
-        → IsPlayTracedInPart usual every (T.contents trace.old) (T.contents trace.new) set.now bytes }
+        → IsPlayTracedInPart usual every (W.contents writer.old) (W.contents writer.new) (T.contents trace.old) (T.contents trace.new) set.now bytes }
     ensures refused { result ≡ 2 → (bytes : List ℕ) → Keeps bytes read.now → IsNotRun (W.contents writer.old) (W.contents writer.new) set.now bytes }
     ensures status { (result ≡ 0) ⊎ (result ≡ 1) ⊎ (result ≡ 2) ⊎ (result ≡ 4) }
 {
@@ -144,8 +141,8 @@ fn trace_text<W: Write, T: Write, E: Write>(
 /// `state`, `value`, `measure NAME` and `expect`, and behind it a line for each event that happened by it, as the journal of its actors has them.
 /// Where `every` says so, signals that are thrown away have a line too, and turns that keep their state and have no effect.
 ///
-/// Gives the exit status, as `play` does: 4 where a write to `trace` fails too, where more happens by one command of a terminal than its journal
-/// holds, and for a script of a link set, which has no trace.
+/// Gives the exit status, as `play` does: 4 where a write to `trace` fails too, where a terminal's journal begins anew within a command, and for a
+/// script of a link set, which has no trace.
 pub fn play_traced<S: Read + Drop, R: Read + Drop, W: Write, T: Write, E: Write>(
     alloc: Global,
     set: SetWord<S>,
@@ -159,13 +156,11 @@ pub fn play_traced<S: Read + Drop, R: Read + Drop, W: Write, T: Write, E: Write>
 ) -> u8
     ensures accepted { (result ≡ 0) ⊎ (result ≡ 1) → IfSome (given S.remaining set) IsAccepted }
     ensures held { result ≡ 0
-        → IsOnSet (given S.remaining set) (R.remaining script) (IsPlayed usual false (W.contents writer.old) (W.contents writer.new)) }
+        → IsOnSet (given S.remaining set) (R.remaining script)
+        (IsPlayTraced usual every (W.contents writer.old) (W.contents writer.new) (T.contents trace.old) (T.contents trace.new)) }
     ensures missed { result ≡ 1
-        → IsOnSet (given S.remaining set) (R.remaining script) (IsPlayedInPart usual false (W.contents writer.old) (W.contents writer.new)) }
-    ensures traced { result ≡ 0
-        → IsOnSet (given S.remaining set) (R.remaining script) (IsPlayTraced usual every (T.contents trace.old) (T.contents trace.new)) }
-    ensures in_part { result ≡ 1
-        → IsOnSet (given S.remaining set) (R.remaining script) (IsPlayTracedInPart usual every (T.contents trace.old) (T.contents trace.new)) }
+        → IsOnSet (given S.remaining set) (R.remaining script)
+        (IsPlayTracedInPart usual every (W.contents writer.old) (W.contents writer.new) (T.contents trace.old) (T.contents trace.new)) }
     ensures refused { result ≡ 2
         → IsRefused (given S.remaining set) (R.remaining script) (W.contents writer.old) (W.contents writer.new) }
     ensures status { (result ≡ 0) ⊎ (result ≡ 1) ⊎ (result ≡ 2) ⊎ (result ≡ 4) }

@@ -1,5 +1,5 @@
 -- What is traced of commands, one command more.
-use Rattle.std.proofs.Common.{◌≡◌, ◌∙◌, ℕ, ◌+◌, ◌≤◌, Bool, true, List, [], ◌∷◌, ◌++◌, length, Option, refl, sym, ap, subst}
+use Rattle.std.proofs.Common.{◌≡◌, ◌∙◌, ℕ, ◌+◌, ◌≤◌, Bool, true, List, [], ◌∷◌, ◌++◌, length, Option, Result, OnOk, false, refl, sym, ap, subst}
 use Rattle.std.specs.Io.KnownBytes.{Appends}
 use Rattle.std.proofs.KnownBytes.{Appends-nil, Appends-trans}
 use Rattle.turn_code.specs.declared.draft.Draft.{Draft}
@@ -7,6 +7,7 @@ use Rattle.tick_wheel.specs.Timers.{Timers}
 use Rattle.actor_machine.specs.Core.{Core}
 use Rattle.actor_machine.specs.Ledger.{Ledger, runs, replay, next, state_of}
 use Rattle.script_lines.specs.Lines.{PlainLine}
+use Rattle.script_seen.specs.Shown.{IsLine}
 use Rattle.script_seen.specs.Traced.{since, told_text, are_in_step, IsFront, Traces, begins, more, IsAt, IsTracing, IsTraced}
 use Rattle.script_seen.specs.Following.{Agree, IsFollowed}
 use Rattle.script_seen.specs.declared.tracing.Tracer.{Tracer}
@@ -40,6 +41,18 @@ pub record HasFrontOf (asks : Bool) (lines : List PlainLine) (number : ℕ) (old
 pub has_front_of : (asks : Bool) (lines : List PlainLine) (number : ℕ) (old new : Option (List ℕ))
     → ((front : List ℕ) × IsFront asks lines number front × Appends old new front) → HasFrontOf asks lines number old new
 has_front_of asks lines number old new f = record { front = f.0; is_front = f.1; grew = f.2 }
+
+-- there is none where a command only asks, and its line else
+pub no_front : (asks : Bool) (lines : List PlainLine) (number : ℕ) (old : Option (List ℕ)) → asks ≡ true
+    → ((front : List ℕ) × IsFront asks lines number front × Appends old old front)
+no_front asks lines number old is =
+    let P : Bool → Type 0 = λ a. (front : List ℕ) × IsFront a lines number front × Appends old old front in subst P (sym is) ([], refl, Appends-nil old)
+
+pub own_front : {A E : Type 0} (asks : Bool) (lines : List PlainLine) (number : ℕ) (r : Result A E) (old new : Option (List ℕ)) → asks ≡ false
+    → OnOk r ((front : List ℕ) × IsLine lines number front × Appends old new front)
+    → OnOk r ((front : List ℕ) × IsFront asks lines number front × Appends old new front)
+own_front asks lines number r old new is h =
+    let P : Bool → Type 0 = λ a. OnOk r ((front : List ℕ) × IsFront a lines number front × Appends old new front) in subst P (sym is) h
 
 pub tracing_more : {S : Type 0} (lines : List PlainLine) (line : S → ℕ) (asks : S → Bool) (d : Draft) (first : Core) (B : List S → Ledger → Type 0)
     (commands : List S) (said : S) (begun old mid new : Option (List ℕ)) (b : Ledger) (t u : Tracer)

@@ -7,7 +7,7 @@ ghost use Rattle.actor_machine.specs.Ledger.{Ledger};
 ghost use Rattle.script_group.specs.Played.{first_book, last_of, IsRun, IsWritten, IsMissed, IsMissedBy};
 ghost use Rattle.std.specs.Io.KnownBytes.{Appends};
 ghost use Rattle.script_seen.specs.Traced.{IsFront};
-ghost use Rattle.script_seen.specs.TracedKinds.{only_asks, IsAtStart, BookTracing, IsBookTraced, IsBookTracedInPart};
+ghost use Rattle.script_seen.specs.TracedKinds.{is_state, only_asks, IsAtStart, BookTracing, IsBookTraced, IsBookTracedInPart};
 
 use crate::fronts::{first_of, show_line};
 use crate::tracing::{Tracer, new_tracer};
@@ -18,12 +18,22 @@ use std::alloc::{AllocError, Global};
 use std::io::{self, Write};
 use turn_check::Verified;
 
+/// Whether a call only asks.
+fn is_state(call: Call) -> bool
+    ensures { result ≡ is_state call }
+{
+    match call {
+        Call::Begin | Call::Finish | Call::Skip => false,
+        Call::State => true,
+    }
+}
+
 /// Whether a command asks, and nothing happens by it.
 fn only_asks(command: &Command<'_>) -> bool
     ensures { result ≡ only_asks (plain_command command.now) }
 {
     match command {
-        Command::Call(call, _) => *call == Call::State,
+        Command::Call(call, _) => is_state(*call),
         Command::Value(_, _) | Command::Expect(_) => true,
         Command::Offer(_)
         | Command::Flood(_, _)

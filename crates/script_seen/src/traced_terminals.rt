@@ -224,8 +224,8 @@ fn trace_new<W: Write, T: Write>(
 /// Runs a terminal's script on a terminal over a set, as `play_terminal` does, and traces it as `trace_book` does: its processes' events.
 ///
 /// Gives the exit status: 0 where each command ran and all was written, 1 after `failed line N` where an expectation failed, 2 after
-/// `refused X2 NoName NAME` alone where the set lacks a name that a terminal speaks to or hears, 4 where memory or a write fails, or where more
-/// happens by one command than a terminal's journal holds.
+/// `refused X2 NoName NAME` alone where the set lacks a name that a terminal speaks to or hears, 4 where memory or a write fails, or where
+/// the terminal's journal begins anew within a command: it does as soon as more than half of its places are taken.
 pub fn trace_terminal<W: Write, T: Write>(
     alloc: Global,
     set: &Verified,

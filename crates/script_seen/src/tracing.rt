@@ -223,7 +223,8 @@ impl Tracer {
     {
         self.catch_up(book)?;
         let journal = book.journal();
-        let done = self.again.journal().len();
+        let mine = self.again.journal();
+        let done = mine.len();
         if journal.len() < done {
             return Err(lost());
         }

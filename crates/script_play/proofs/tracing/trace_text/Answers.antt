@@ -21,11 +21,15 @@ returns-in-Ok-play_script_in-clause-held g c zero bytes keeps =
     let is_text : IsTrue c.args.read.now.is_text = search rules in
     let same : c.in-Ok.text.now ≡ bytes =
     c.in-Ok.ensures.cases.0 ∙ (c.deref-2.ensures.value ∙ all_kept bytes c.args.read.now keeps (sym c.is_too_long.ensures ∙ c.if-is_too_long.false)) in
+    let R : List ℕ → Type 0 =
+    λ bs. AreTraced c.args.usual c.args.every (lines_of bs) c.args.set.now (plain_play_script c.in-Ok-play_script_in.script) (g.T.Write.contents c.args.trace.now)
+    (g.T.Write.contents c.trace_script.new.trace) in
     record {
       utf8 = keeps.utf8.0 is_text;
       script = plain_play_script c.in-Ok-play_script_in.script;
       reads = ap play_script_of (sym same) ∙ c.in-Ok-play_script_in.ensures.script;
       run = c.trace_script.ensures.held zero;
+      traced = subst R same (c.trace_script.ensures.traced zero);
     }
 
 pub returns-in-Err-play_script_in-clause-held : goal.returns-in-Err-play_script_in-clause-held
@@ -45,11 +49,15 @@ returns-in-Ok-play_script_in-clause-missed g c one bytes keeps =
     let is_text : IsTrue c.args.read.now.is_text = search rules in
     let same : c.in-Ok.text.now ≡ bytes =
     c.in-Ok.ensures.cases.0 ∙ (c.deref-2.ensures.value ∙ all_kept bytes c.args.read.now keeps (sym c.is_too_long.ensures ∙ c.if-is_too_long.false)) in
+    let R : List ℕ → Type 0 =
+    λ bs. AreTracedInPart c.args.usual c.args.every (lines_of bs) c.args.set.now (plain_play_script c.in-Ok-play_script_in.script) (g.T.Write.contents c.args.trace.now)
+    (g.T.Write.contents c.trace_script.new.trace) in
     record {
       utf8 = keeps.utf8.0 is_text;
       script = plain_play_script c.in-Ok-play_script_in.script;
       reads = ap play_script_of (sym same) ∙ c.in-Ok-play_script_in.ensures.script;
       missed = c.trace_script.ensures.missed one;
+      traced = subst R same (c.trace_script.ensures.in_part one);
     }
 
 pub returns-in-Err-play_script_in-clause-missed : goal.returns-in-Err-play_script_in-clause-missed
@@ -104,57 +112,3 @@ returns-in-Err-clause-refused g c two bytes keeps =
     let same : c.deref-2.result.now ≡ bytes =
     c.deref-2.ensures.value ∙ all_kept bytes c.args.read.now keeps (sym c.is_too_long.ensures ∙ c.if-is_too_long.false) in
     absurd (c.in-Err.ensures.cases.0 (subst IsUtf8 (sym same) (keeps.utf8.0 is_text)))
-
-pub returns-then-not-read-clause-traced : goal.returns-then-not-read-clause-traced
-returns-then-not-read-clause-traced g c zero bytes keeps = absurd (not_held _ c.refuse.ensures.status zero)
-
-pub returns-then-is_too_long-clause-traced : goal.returns-then-is_too_long-clause-traced
-returns-then-is_too_long-clause-traced g c zero bytes keeps = absurd (not_held _ c.refuse_script.ensures.status zero)
-
-pub returns-in-Ok-play_script_in-clause-traced : goal.returns-in-Ok-play_script_in-clause-traced
-returns-in-Ok-play_script_in-clause-traced g c zero bytes keeps =
-    let is_text : IsTrue c.args.read.now.is_text = search rules in
-    let same : c.in-Ok.text.now ≡ bytes =
-    c.in-Ok.ensures.cases.0 ∙ (c.deref-2.ensures.value ∙ all_kept bytes c.args.read.now keeps (sym c.is_too_long.ensures ∙ c.if-is_too_long.false)) in
-    let R : List ℕ → Type 0 =
-    λ bs. AreTraced c.args.usual c.args.every (lines_of bs) c.args.set.now (plain_play_script c.in-Ok-play_script_in.script) (g.T.Write.contents c.args.trace.now)
-    (g.T.Write.contents c.trace_script.new.trace) in
-    record {
-      utf8 = keeps.utf8.0 is_text;
-      script = plain_play_script c.in-Ok-play_script_in.script;
-      reads = ap play_script_of (sym same) ∙ c.in-Ok-play_script_in.ensures.script;
-      traced = subst R same (c.trace_script.ensures.traced zero);
-    }
-
-pub returns-in-Err-play_script_in-clause-traced : goal.returns-in-Err-play_script_in-clause-traced
-returns-in-Err-play_script_in-clause-traced g c zero bytes keeps = absurd (not_held _ c.refuse_script-in-Err-play_script_in.ensures.status zero)
-
-pub returns-in-Err-clause-traced : goal.returns-in-Err-clause-traced
-returns-in-Err-clause-traced g c zero bytes keeps = absurd (not_held _ c.refuse-in-Err.ensures.status zero)
-
-pub returns-then-not-read-clause-in_part : goal.returns-then-not-read-clause-in_part
-returns-then-not-read-clause-in_part g c one bytes keeps = absurd (not_missed _ c.refuse.ensures.status one)
-
-pub returns-then-is_too_long-clause-in_part : goal.returns-then-is_too_long-clause-in_part
-returns-then-is_too_long-clause-in_part g c one bytes keeps = absurd (not_missed _ c.refuse_script.ensures.status one)
-
-pub returns-in-Ok-play_script_in-clause-in_part : goal.returns-in-Ok-play_script_in-clause-in_part
-returns-in-Ok-play_script_in-clause-in_part g c one bytes keeps =
-    let is_text : IsTrue c.args.read.now.is_text = search rules in
-    let same : c.in-Ok.text.now ≡ bytes =
-    c.in-Ok.ensures.cases.0 ∙ (c.deref-2.ensures.value ∙ all_kept bytes c.args.read.now keeps (sym c.is_too_long.ensures ∙ c.if-is_too_long.false)) in
-    let R : List ℕ → Type 0 =
-    λ bs. AreTracedInPart c.args.usual c.args.every (lines_of bs) c.args.set.now (plain_play_script c.in-Ok-play_script_in.script) (g.T.Write.contents c.args.trace.now)
-    (g.T.Write.contents c.trace_script.new.trace) in
-    record {
-      utf8 = keeps.utf8.0 is_text;
-      script = plain_play_script c.in-Ok-play_script_in.script;
-      reads = ap play_script_of (sym same) ∙ c.in-Ok-play_script_in.ensures.script;
-      traced = subst R same (c.trace_script.ensures.in_part one);
-    }
-
-pub returns-in-Err-play_script_in-clause-in_part : goal.returns-in-Err-play_script_in-clause-in_part
-returns-in-Err-play_script_in-clause-in_part g c one bytes keeps = absurd (not_missed _ c.refuse_script-in-Err-play_script_in.ensures.status one)
-
-pub returns-in-Err-clause-in_part : goal.returns-in-Err-clause-in_part
-returns-in-Err-clause-in_part g c one bytes keeps = absurd (not_missed _ c.refuse-in-Err.ensures.status one)
