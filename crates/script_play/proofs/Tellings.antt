@@ -10,8 +10,7 @@ use Rattle.script_seen.specs.GroupScripts.{PlainPlayScript, other, group}
 use Rattle.script_seen.specs.Played.{first_book}
 use Rattle.script_seen.specs.Watched.{Notice}
 use Rattle.script_seen.proofs.WatchedRuns.{book_watched_as, book_part_as, term_watched_as, term_part_as}
-use Rattle.script_play.specs.Played.{IsPlayed, IsPlayedInPart}
-use Rattle.script_play.specs.Seen.{IsOtherTold, IsOtherToldInPart, AreTold, AreToldInPart, IsPlayWatched, IsPlayWatchedInPart, IsToldTo}
+use Rattle.script_play.specs.Seen.{IsOtherTold, IsOtherToldInPart, AreTold, AreToldInPart, IsPlayTold, IsPlayToldInPart, IsToldTo}
 
 other_told_as : (usual : RoundLimits) (d : Draft) (s : PlainAnyScript) (P Q : List Notice → Type 0) → ((ns : List Notice) → P ns → Q ns)
     → IsOtherTold usual d s P → IsOtherTold usual d s Q
@@ -42,13 +41,15 @@ part_as usual d (other s) P Q f w = other_part_as usual d s P Q f w
 part_as usual d (group s) P Q f w = absurd w
 
 -- what a watcher is, as something else that it is then
-pub play_watched_as : (usual : RoundLimits) (d : Draft) (bytes : List ℕ) (P Q : List Notice → Type 0) → ((ns : List Notice) → P ns → Q ns)
-    → IsPlayWatched usual P d bytes → IsPlayWatched usual Q d bytes
-play_watched_as usual d bytes P Q f w = record { utf8 = w.utf8; script = w.script; reads = w.reads; told = told_as usual d w.script P Q f w.told }
+pub play_told_as : (usual : RoundLimits) (old new : Option (List ℕ)) (d : Draft) (bytes : List ℕ) (P Q : List Notice → Type 0)
+    → ((ns : List Notice) → P ns → Q ns) → IsPlayTold usual old new P d bytes → IsPlayTold usual old new Q d bytes
+play_told_as usual old new d bytes P Q f w =
+    record { utf8 = w.utf8; script = w.script; reads = w.reads; run = w.run; told = told_as usual d w.script P Q f w.told }
 
-pub play_part_as : (usual : RoundLimits) (d : Draft) (bytes : List ℕ) (P Q : List Notice → Type 0) → ((ns : List Notice) → P ns → Q ns)
-    → IsPlayWatchedInPart usual P d bytes → IsPlayWatchedInPart usual Q d bytes
-play_part_as usual d bytes P Q f w = record { utf8 = w.utf8; script = w.script; reads = w.reads; told = part_as usual d w.script P Q f w.told }
+pub play_part_as : (usual : RoundLimits) (old new : Option (List ℕ)) (d : Draft) (bytes : List ℕ) (P Q : List Notice → Type 0)
+    → ((ns : List Notice) → P ns → Q ns) → IsPlayToldInPart usual old new P d bytes → IsPlayToldInPart usual old new Q d bytes
+play_part_as usual old new d bytes P Q f w =
+    record { utf8 = w.utf8; script = w.script; reads = w.reads; missed = w.missed; told = part_as usual d w.script P Q f w.told }
 
 -- a text that is what a watcher makes of it, and was written
 pub told_to : {E X : Type 0} (r : Result (Vec ℕ) E) (old new : Option (List ℕ)) (C : X → Type 0) (text : X → List ℕ) → IsToldTo r old new

@@ -1,5 +1,6 @@
 -- What the status of `play` says of what is told at the end of a run.
-use Rattle.std.specs.Prelude.{◌≡◌, ℕ, false, List, Option, Result, Ok, Err, IsUtf8}
+use Rattle.std.specs.Prelude.{◌≡◌, ℕ, Bool, true, false, List, Option, Some, None, Result, Ok}
+use Rattle.std.specs.Prelude.{Err, IsUtf8}
 use Rattle.std.specs.Global.{Vec}
 use Rattle.std.specs.Io.KnownBytes.{Appends}
 use Rattle.turn_code.specs.declared.draft.Draft.{Draft}
@@ -11,7 +12,11 @@ use Rattle.script_seen.specs.TermRuns.{IsOfNew}
 use Rattle.script_seen.specs.Watched.{Notice}
 use Rattle.script_seen.specs.WatchedKinds.{IsBookWatched, IsBookWatchedInPart, IsTermWatched}
 use Rattle.script_seen.specs.WatchedKinds.{IsTermWatchedInPart}
-use Rattle.script_play.specs.Played.{IsPlayed, IsPlayedInPart}
+use Rattle.script_play.specs.Played.{IsObeyed, IsMissedIn, IsPlayed, IsPlayedInPart}
+use Rattle.script_play.specs.Thrown.{thrown_of}
+use Rattle.script_play.specs.Traced.{IsPlayTraced, IsPlayTracedInPart}
+use Rattle.script_play.specs.declared.seeing.Wanted.{Wanted}
+use Rattle.script_play.specs.declared.seeing.Wanted.TheVariants.{Trace, Thrown}
 
 -- P holds of what is noticed of all commands of a script: of a book of the set, or of a new
 -- terminal over it, with the usual limits where the script chooses none
@@ -38,20 +43,23 @@ abbrev pub AreToldInPart :
 AreToldInPart usual d (other s) P = IsOtherToldInPart usual d s P
 AreToldInPart usual d (group s) P = ⊥
 
--- the bytes are a script, and P holds of what is noticed of it
-pub record IsPlayWatched (usual : RoundLimits) (P : List Notice → Type 0) (d : Draft)
-    (bytes : List ℕ) : Type 0 where
+-- the bytes are a script, all of whose commands were obeyed, and P holds of what is noticed of it
+pub record IsPlayTold (usual : RoundLimits) (old new : Option (List ℕ))
+    (P : List Notice → Type 0) (d : Draft) (bytes : List ℕ) : Type 0 where
   pub utf8 : IsUtf8 bytes
   pub script : PlainPlayScript
   pub reads : play_script_of bytes ≡ Ok script
+  pub run : IsObeyed usual d script old new
   pub told : AreTold usual d script P
 
--- so up to an expectation that failed
-pub record IsPlayWatchedInPart (usual : RoundLimits) (P : List Notice → Type 0) (d : Draft)
-    (bytes : List ℕ) : Type 0 where
+-- the bytes are a script, an expectation of which failed; P holds of what is noticed of the
+-- commands in front of that
+pub record IsPlayToldInPart (usual : RoundLimits) (old new : Option (List ℕ))
+    (P : List Notice → Type 0) (d : Draft) (bytes : List ℕ) : Type 0 where
   pub utf8 : IsUtf8 bytes
   pub script : PlainPlayScript
   pub reads : play_script_of bytes ≡ Ok script
+  pub missed : IsMissedIn usual d script old new
   pub told : AreToldInPart usual d script P
 
 -- what is told was written
@@ -66,14 +74,45 @@ abbrev pub Grew :
     → Type 0
 Grew tells d old new ns = Appends old new (tells d ns)
 
--- the bytes are a script; it was run, and this is told of it at the end
-pub record IsPlayedAndTold (usual : RoundLimits) (tells : Draft → List Notice → List ℕ)
-    (old new from to : Option (List ℕ)) (d : Draft) (bytes : List ℕ) : Type 0 where
-  pub played : IsPlayed usual false old new d bytes
-  pub told : IsPlayWatched usual (Grew tells d from to) d bytes
+-- ---- what is wanted of a run
 
--- so up to an expectation that failed
-pub record IsPlayedAndToldInPart (usual : RoundLimits) (tells : Draft → List Notice → List ℕ)
-    (old new from to : Option (List ℕ)) (d : Draft) (bytes : List ℕ) : Type 0 where
-  pub missed : IsPlayedInPart usual false old new d bytes
-  pub told : IsPlayWatchedInPart usual (Grew tells d from to) d bytes
+-- the bytes are a script that was run, and what is wanted of that was written
+abbrev pub IsPlaySeen :
+    RoundLimits → Wanted → Option (List ℕ) → Option (List ℕ) → Option (List ℕ) → Option (List ℕ)
+    → Draft → List ℕ → Type 0
+IsPlaySeen usual (Trace every) old new from to d bytes =
+    IsPlayTraced usual every old new from to d bytes
+IsPlaySeen usual Thrown old new from to d bytes =
+    IsPlayTold usual old new (Grew thrown_of d from to) d bytes
+
+abbrev pub IsPlaySeenInPart :
+    RoundLimits → Wanted → Option (List ℕ) → Option (List ℕ) → Option (List ℕ) → Option (List ℕ)
+    → Draft → List ℕ → Type 0
+IsPlaySeenInPart usual (Trace every) old new from to d bytes =
+    IsPlayTracedInPart usual every old new from to d bytes
+IsPlaySeenInPart usual Thrown old new from to d bytes =
+    IsPlayToldInPart usual old new (Grew thrown_of d from to) d bytes
+
+-- ---- with lines, with something in a file, or with neither
+
+-- A script was played as it is to be seen: with the lines of its commands, where that is asked for;
+-- else with what is wanted of it in a file, where there is one, which had this and now has that.
+abbrev pub IsWatched :
+    RoundLimits → Bool → Wanted → Option (List ℕ) → Option (List ℕ) → Option (Option (List ℕ))
+    → Option (Option (List ℕ)) → Draft → List ℕ → Type 0
+IsWatched usual true wanted old new begun now d bytes = IsPlayed usual true old new d bytes
+IsWatched usual false wanted old new None now d bytes = IsPlayed usual false old new d bytes
+IsWatched usual false wanted old new (Some begun) None d bytes = ⊥
+IsWatched usual false wanted old new (Some begun) (Some now) d bytes =
+    IsPlaySeen usual wanted old new begun now d bytes
+
+abbrev pub IsWatchedInPart :
+    RoundLimits → Bool → Wanted → Option (List ℕ) → Option (List ℕ) → Option (Option (List ℕ))
+    → Option (Option (List ℕ)) → Draft → List ℕ → Type 0
+IsWatchedInPart usual true wanted old new begun now d bytes =
+    IsPlayedInPart usual true old new d bytes
+IsWatchedInPart usual false wanted old new None now d bytes =
+    IsPlayedInPart usual false old new d bytes
+IsWatchedInPart usual false wanted old new (Some begun) None d bytes = ⊥
+IsWatchedInPart usual false wanted old new (Some begun) (Some now) d bytes =
+    IsPlaySeenInPart usual wanted old new begun now d bytes

@@ -1,5 +1,5 @@
 -- What the status of `play` says of a trace.
-use Rattle.std.specs.Prelude.{◌≡◌, ℕ, Bool, true, false, List, Option, Some, None, Ok, IsUtf8}
+use Rattle.std.specs.Prelude.{◌≡◌, ℕ, Bool, List, Option, Ok, IsUtf8}
 use Rattle.turn_code.specs.declared.draft.Draft.{Draft}
 use Rattle.script_seen.specs.resend_store_types.messages.RoundLimits.{RoundLimits}
 use Rattle.script_seen.specs.TermScripts.{PlainAnyScript, book, terminal, asks_told}
@@ -9,7 +9,7 @@ use Rattle.script_seen.specs.Played.{first_book}
 use Rattle.script_seen.specs.TermRuns.{IsOfNew}
 use Rattle.script_seen.specs.TracedKinds.{IsBookTraced, IsBookTracedInPart, IsTermTraced}
 use Rattle.script_seen.specs.TracedKinds.{IsTermTracedInPart}
-use Rattle.script_play.specs.Played.{IsObeyed, IsMissedIn, IsPlayed, IsPlayedInPart}
+use Rattle.script_play.specs.Played.{IsObeyed, IsMissedIn}
 
 -- all commands of a script are traced: of a book of the set, or of a new terminal over it, with the
 -- usual limits where the script chooses none
@@ -63,27 +63,3 @@ pub record IsPlayTracedInPart (usual : RoundLimits) (every : Bool)
   pub reads : play_script_of bytes ≡ Ok script
   pub missed : IsMissedIn usual d script old new
   pub traced : AreTracedInPart usual every (lines_of bytes) d script begun now
-
--- ---- with lines, with a trace, or with neither
-
--- A script was played as it is to be seen: with the lines of its commands, where that is asked for;
--- else with a trace, where there is a file for it, which had this and now has that.
-abbrev pub IsWatched :
-    RoundLimits → Bool → Bool → Option (List ℕ) → Option (List ℕ) → Option (Option (List ℕ))
-    → Option (Option (List ℕ)) → Draft → List ℕ → Type 0
-IsWatched usual true every old new begun now d bytes = IsPlayed usual true old new d bytes
-IsWatched usual false every old new None now d bytes = IsPlayed usual false old new d bytes
-IsWatched usual false every old new (Some begun) None d bytes = ⊥
-IsWatched usual false every old new (Some begun) (Some now) d bytes =
-    IsPlayTraced usual every old new begun now d bytes
-
-abbrev pub IsWatchedInPart :
-    RoundLimits → Bool → Bool → Option (List ℕ) → Option (List ℕ) → Option (Option (List ℕ))
-    → Option (Option (List ℕ)) → Draft → List ℕ → Type 0
-IsWatchedInPart usual true every old new begun now d bytes =
-    IsPlayedInPart usual true old new d bytes
-IsWatchedInPart usual false every old new None now d bytes =
-    IsPlayedInPart usual false old new d bytes
-IsWatchedInPart usual false every old new (Some begun) None d bytes = ⊥
-IsWatchedInPart usual false every old new (Some begun) (Some now) d bytes =
-    IsPlayTracedInPart usual every old new begun now d bytes

@@ -2,10 +2,10 @@
 #![tactic(auto)]
 
 mod playing;
+mod seeing;
 mod thrown;
 mod tracing;
 mod watching;
 
 pub use playing::play;
-pub use tracing::play_traced;
-pub use watching::play_thrown;
+pub use seeing::{Wanted, play_seen};

@@ -1,11 +1,11 @@
 //! The command `play` with what is told of its run at the end: which signals were thrown away.
-ghost use Rattle.std.specs.Prelude.{◌≡◌, ◌⊎◌, ℕ, [], List, IfSome, false};
+ghost use Rattle.std.specs.Prelude.{◌≡◌, ◌⊎◌, ℕ, [], List, IfSome};
 ghost use Rattle.plain_text.specs.Reading.{Keeps};
 ghost use Rattle.script_check.specs.Checked.{given, IsAccepted};
 ghost use Rattle.script_seen.specs.TermScripts.{plain_any_script, IsInRange};
 ghost use Rattle.script_seen.specs.GroupScripts.{plain_play_script, IsFit};
-ghost use Rattle.script_play.specs.Played.{IsOtherObeyed, IsObeyed, IsPlayed, IsOtherMissed, IsMissedIn, IsPlayedInPart, HasNoOther, HasNoTerminal, IsNotRun, IsOnSet, IsRefused};
-ghost use Rattle.script_play.specs.Seen.{IsOtherTold, AreTold, IsOtherToldInPart, AreToldInPart, IsPlayWatched, IsPlayWatchedInPart, IsToldTo, IsPlayedAndTold, IsPlayedAndToldInPart};
+ghost use Rattle.script_play.specs.Played.{IsOtherObeyed, IsObeyed, IsOtherMissed, IsMissedIn, HasNoOther, HasNoTerminal, IsNotRun, IsOnSet, IsRefused};
+ghost use Rattle.script_play.specs.Seen.{IsOtherTold, AreTold, IsOtherToldInPart, AreToldInPart, IsPlayTold, IsPlayToldInPart, IsToldTo, Grew};
 ghost use Rattle.script_play.specs.Thrown.{thrown_of};
 
 use crate::playing::{explain, explain_length, refuse_script};
@@ -94,13 +94,10 @@ fn watch_text<N: Watcher, W: Write, E: Write>(
     writer: &mut W,
     errors: &mut E,
 ) -> u8
-    ensures held { result ≡ 0 → (bytes : List ℕ) → Keeps bytes read.now → IsPlayed usual false (W.contents writer.old) (W.contents writer.new) set.now bytes }
-    ensures missed { result ≡ 1 → (bytes : List ℕ) → Keeps bytes read.now
-        → IsPlayedInPart usual false (W.contents writer.old) (W.contents writer.new) set.now bytes }
-    ensures watched { result ≡ 0 → N.knows set.now [] watcher.old → (bytes : List ℕ) → Keeps bytes read.now
-        → IsPlayWatched usual (λ ns. N.knows set.now ns watcher.new) set.now bytes }
-    ensures in_part { result ≡ 1 → N.knows set.now [] watcher.old → (bytes : List ℕ) → Keeps bytes read.now
-        → IsPlayWatchedInPart usual (λ ns. N.knows set.now ns watcher.new) set.now bytes }
+    ensures held { result ≡ 0 → N.knows set.now [] watcher.old → (bytes : List ℕ) → Keeps bytes read.now
+        → IsPlayTold usual (W.contents writer.old) (W.contents writer.new) (λ ns. N.knows set.now ns watcher.new) set.now bytes }
+    ensures missed { result ≡ 1 → N.knows set.now [] watcher.old → (bytes : List ℕ) → Keeps bytes read.now
+        → IsPlayToldInPart usual (W.contents writer.old) (W.contents writer.new) (λ ns. N.knows set.now ns watcher.new) set.now bytes }
     ensures refused { result ≡ 2 → (bytes : List ℕ) → Keeps bytes read.now → IsNotRun (W.contents writer.old) (W.contents writer.new) set.now bytes }
     ensures status { (result ≡ 0) ⊎ (result ≡ 1) ⊎ (result ≡ 2) ⊎ (result ≡ 4) }
 {
@@ -152,9 +149,9 @@ fn tell_thrown<T: Write, W: Write, E: Write>(
     errors: &mut E,
 ) -> u8
     ensures held { result ≡ 0 → (bytes : List ℕ) → Keeps bytes read.now
-        → IsPlayedAndTold usual thrown_of (W.contents writer.old) (W.contents writer.new) (T.contents out.old) (T.contents out.new) set.now bytes }
+        → IsPlayTold usual (W.contents writer.old) (W.contents writer.new) (Grew thrown_of set.now (T.contents out.old) (T.contents out.new)) set.now bytes }
     ensures missed { result ≡ 1 → (bytes : List ℕ) → Keeps bytes read.now
-        → IsPlayedAndToldInPart usual thrown_of (W.contents writer.old) (W.contents writer.new) (T.contents out.old) (T.contents out.new) set.now bytes }
+        → IsPlayToldInPart usual (W.contents writer.old) (W.contents writer.new) (Grew thrown_of set.now (T.contents out.old) (T.contents out.new)) set.now bytes }
     ensures refused { result ≡ 2 → (bytes : List ℕ) → Keeps bytes read.now → IsNotRun (W.contents writer.old) (W.contents writer.new) set.now bytes }
     ensures status { (result ≡ 0) ⊎ (result ≡ 1) ⊎ (result ≡ 2) ⊎ (result ≡ 4) }
 {
@@ -169,7 +166,7 @@ fn tell_thrown<T: Write, W: Write, E: Write>(
 ///
 /// Gives the exit status, as `play` does: 4 where the write to `out` fails too, where a terminal's journal begins anew within a command, as it does
 /// behind 32,768 events, and for a script of a link set.
-pub fn play_thrown<S: Read + Drop, R: Read + Drop, T: Write, W: Write, E: Write>(
+pub(crate) fn play_thrown<S: Read + Drop, R: Read + Drop, T: Write, W: Write, E: Write>(
     alloc: Global,
     set: SetWord<S>,
     usual: RoundLimits,
@@ -181,9 +178,9 @@ pub fn play_thrown<S: Read + Drop, R: Read + Drop, T: Write, W: Write, E: Write>
 ) -> u8
     ensures accepted { (result ≡ 0) ⊎ (result ≡ 1) → IfSome (given S.remaining set) IsAccepted }
     ensures held { result ≡ 0 → IsOnSet (given S.remaining set) (R.remaining script)
-        (IsPlayedAndTold usual thrown_of (W.contents writer.old) (W.contents writer.new) (T.contents out.old) (T.contents out.new)) }
+        (λ d. IsPlayTold usual (W.contents writer.old) (W.contents writer.new) (Grew thrown_of d (T.contents out.old) (T.contents out.new)) d) }
     ensures missed { result ≡ 1 → IsOnSet (given S.remaining set) (R.remaining script)
-        (IsPlayedAndToldInPart usual thrown_of (W.contents writer.old) (W.contents writer.new) (T.contents out.old) (T.contents out.new)) }
+        (λ d. IsPlayToldInPart usual (W.contents writer.old) (W.contents writer.new) (Grew thrown_of d (T.contents out.old) (T.contents out.new)) d) }
     ensures refused { result ≡ 2
         → IsRefused (given S.remaining set) (R.remaining script) (W.contents writer.old) (W.contents writer.new) }
     ensures status { (result ≡ 0) ⊎ (result ≡ 1) ⊎ (result ≡ 2) ⊎ (result ≡ 4) }

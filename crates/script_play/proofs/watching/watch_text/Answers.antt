@@ -9,13 +9,13 @@ use Rattle.script_play.proofs.watching.watch_text.Goals as goal
 use Rattle.script_check.proofs.Long.{all_kept}
 
 pub returns-then-not-read-clause-held : goal.returns-then-not-read-clause-held
-returns-then-not-read-clause-held g c zero bytes keeps = absurd (not_held _ c.refuse.ensures.status zero)
+returns-then-not-read-clause-held g c zero none bytes keeps = absurd (not_held _ c.refuse.ensures.status zero)
 
 pub returns-then-is_too_long-clause-held : goal.returns-then-is_too_long-clause-held
-returns-then-is_too_long-clause-held g c zero bytes keeps = absurd (not_held _ c.refuse_script.ensures.status zero)
+returns-then-is_too_long-clause-held g c zero none bytes keeps = absurd (not_held _ c.refuse_script.ensures.status zero)
 
 pub returns-in-Ok-play_script_in-clause-held : goal.returns-in-Ok-play_script_in-clause-held
-returns-in-Ok-play_script_in-clause-held g c zero bytes keeps =
+returns-in-Ok-play_script_in-clause-held g c zero none bytes keeps =
     let is_text : IsTrue c.args.read.now.is_text = search rules in
     let same : c.in-Ok.text.now ≡ bytes =
     c.in-Ok.ensures.cases.0 ∙ (c.deref-2.ensures.value ∙ all_kept bytes c.args.read.now keeps (sym c.is_too_long.ensures ∙ c.if-is_too_long.false)) in
@@ -24,22 +24,23 @@ returns-in-Ok-play_script_in-clause-held g c zero bytes keeps =
       script = plain_play_script c.in-Ok-play_script_in.script;
       reads = ap play_script_of (sym same) ∙ c.in-Ok-play_script_in.ensures.script;
       run = c.watch_script.ensures.held zero;
+      told = c.watch_script.ensures.watched zero none;
     }
 
 pub returns-in-Err-play_script_in-clause-held : goal.returns-in-Err-play_script_in-clause-held
-returns-in-Err-play_script_in-clause-held g c zero bytes keeps = absurd (not_held _ c.refuse_script-in-Err-play_script_in.ensures.status zero)
+returns-in-Err-play_script_in-clause-held g c zero none bytes keeps = absurd (not_held _ c.refuse_script-in-Err-play_script_in.ensures.status zero)
 
 pub returns-in-Err-clause-held : goal.returns-in-Err-clause-held
-returns-in-Err-clause-held g c zero bytes keeps = absurd (not_held _ c.refuse-in-Err.ensures.status zero)
+returns-in-Err-clause-held g c zero none bytes keeps = absurd (not_held _ c.refuse-in-Err.ensures.status zero)
 
 pub returns-then-not-read-clause-missed : goal.returns-then-not-read-clause-missed
-returns-then-not-read-clause-missed g c one bytes keeps = absurd (not_missed _ c.refuse.ensures.status one)
+returns-then-not-read-clause-missed g c one none bytes keeps = absurd (not_missed _ c.refuse.ensures.status one)
 
 pub returns-then-is_too_long-clause-missed : goal.returns-then-is_too_long-clause-missed
-returns-then-is_too_long-clause-missed g c one bytes keeps = absurd (not_missed _ c.refuse_script.ensures.status one)
+returns-then-is_too_long-clause-missed g c one none bytes keeps = absurd (not_missed _ c.refuse_script.ensures.status one)
 
 pub returns-in-Ok-play_script_in-clause-missed : goal.returns-in-Ok-play_script_in-clause-missed
-returns-in-Ok-play_script_in-clause-missed g c one bytes keeps =
+returns-in-Ok-play_script_in-clause-missed g c one none bytes keeps =
     let is_text : IsTrue c.args.read.now.is_text = search rules in
     let same : c.in-Ok.text.now ≡ bytes =
     c.in-Ok.ensures.cases.0 ∙ (c.deref-2.ensures.value ∙ all_kept bytes c.args.read.now keeps (sym c.is_too_long.ensures ∙ c.if-is_too_long.false)) in
@@ -48,13 +49,14 @@ returns-in-Ok-play_script_in-clause-missed g c one bytes keeps =
       script = plain_play_script c.in-Ok-play_script_in.script;
       reads = ap play_script_of (sym same) ∙ c.in-Ok-play_script_in.ensures.script;
       missed = c.watch_script.ensures.missed one;
+      told = c.watch_script.ensures.in_part one none;
     }
 
 pub returns-in-Err-play_script_in-clause-missed : goal.returns-in-Err-play_script_in-clause-missed
-returns-in-Err-play_script_in-clause-missed g c one bytes keeps = absurd (not_missed _ c.refuse_script-in-Err-play_script_in.ensures.status one)
+returns-in-Err-play_script_in-clause-missed g c one none bytes keeps = absurd (not_missed _ c.refuse_script-in-Err-play_script_in.ensures.status one)
 
 pub returns-in-Err-clause-missed : goal.returns-in-Err-clause-missed
-returns-in-Err-clause-missed g c one bytes keeps = absurd (not_missed _ c.refuse-in-Err.ensures.status one)
+returns-in-Err-clause-missed g c one none bytes keeps = absurd (not_missed _ c.refuse-in-Err.ensures.status one)
 
 pub returns-then-not-read-clause-refused : goal.returns-then-not-read-clause-refused
 returns-then-not-read-clause-refused g c two bytes keeps =
@@ -102,51 +104,3 @@ returns-in-Err-clause-refused g c two bytes keeps =
     let same : c.deref-2.result.now ≡ bytes =
     c.deref-2.ensures.value ∙ all_kept bytes c.args.read.now keeps (sym c.is_too_long.ensures ∙ c.if-is_too_long.false) in
     absurd (c.in-Err.ensures.cases.0 (subst IsUtf8 (sym same) (keeps.utf8.0 is_text)))
-
-pub returns-then-not-read-clause-watched : goal.returns-then-not-read-clause-watched
-returns-then-not-read-clause-watched g c zero none bytes keeps = absurd (not_held _ c.refuse.ensures.status zero)
-
-pub returns-then-is_too_long-clause-watched : goal.returns-then-is_too_long-clause-watched
-returns-then-is_too_long-clause-watched g c zero none bytes keeps = absurd (not_held _ c.refuse_script.ensures.status zero)
-
-pub returns-in-Ok-play_script_in-clause-watched : goal.returns-in-Ok-play_script_in-clause-watched
-returns-in-Ok-play_script_in-clause-watched g c zero none bytes keeps =
-    let is_text : IsTrue c.args.read.now.is_text = search rules in
-    let same : c.in-Ok.text.now ≡ bytes =
-    c.in-Ok.ensures.cases.0 ∙ (c.deref-2.ensures.value ∙ all_kept bytes c.args.read.now keeps (sym c.is_too_long.ensures ∙ c.if-is_too_long.false)) in
-    record {
-      utf8 = keeps.utf8.0 is_text;
-      script = plain_play_script c.in-Ok-play_script_in.script;
-      reads = ap play_script_of (sym same) ∙ c.in-Ok-play_script_in.ensures.script;
-      told = c.watch_script.ensures.watched zero none;
-    }
-
-pub returns-in-Err-play_script_in-clause-watched : goal.returns-in-Err-play_script_in-clause-watched
-returns-in-Err-play_script_in-clause-watched g c zero none bytes keeps = absurd (not_held _ c.refuse_script-in-Err-play_script_in.ensures.status zero)
-
-pub returns-in-Err-clause-watched : goal.returns-in-Err-clause-watched
-returns-in-Err-clause-watched g c zero none bytes keeps = absurd (not_held _ c.refuse-in-Err.ensures.status zero)
-
-pub returns-then-not-read-clause-in_part : goal.returns-then-not-read-clause-in_part
-returns-then-not-read-clause-in_part g c one none bytes keeps = absurd (not_missed _ c.refuse.ensures.status one)
-
-pub returns-then-is_too_long-clause-in_part : goal.returns-then-is_too_long-clause-in_part
-returns-then-is_too_long-clause-in_part g c one none bytes keeps = absurd (not_missed _ c.refuse_script.ensures.status one)
-
-pub returns-in-Ok-play_script_in-clause-in_part : goal.returns-in-Ok-play_script_in-clause-in_part
-returns-in-Ok-play_script_in-clause-in_part g c one none bytes keeps =
-    let is_text : IsTrue c.args.read.now.is_text = search rules in
-    let same : c.in-Ok.text.now ≡ bytes =
-    c.in-Ok.ensures.cases.0 ∙ (c.deref-2.ensures.value ∙ all_kept bytes c.args.read.now keeps (sym c.is_too_long.ensures ∙ c.if-is_too_long.false)) in
-    record {
-      utf8 = keeps.utf8.0 is_text;
-      script = plain_play_script c.in-Ok-play_script_in.script;
-      reads = ap play_script_of (sym same) ∙ c.in-Ok-play_script_in.ensures.script;
-      told = c.watch_script.ensures.in_part one none;
-    }
-
-pub returns-in-Err-play_script_in-clause-in_part : goal.returns-in-Err-play_script_in-clause-in_part
-returns-in-Err-play_script_in-clause-in_part g c one none bytes keeps = absurd (not_missed _ c.refuse_script-in-Err-play_script_in.ensures.status one)
-
-pub returns-in-Err-clause-in_part : goal.returns-in-Err-clause-in_part
-returns-in-Err-clause-in_part g c one none bytes keeps = absurd (not_missed _ c.refuse-in-Err.ensures.status one)
