@@ -8,7 +8,8 @@ use Rattle.clap.specs.declared.error.kind.ErrorKind.TheVariants.{DisplayHelp, Di
 use Rattle.plain_limits.specs.Limits.{LEAST_WORKERS, MOST_WORKERS}
 use Rattle.script_check.specs.Checked.{IsGiven, PrintsCosts, PrintsRefusal}
 use Rattle.script_play.specs.Played.{IsOnSet, IsPlayed, IsPlayedInPart, IsRefused}
-use Rattle.script_play.specs.Traced.{IsWatched, IsWatchedInPart}
+use Rattle.script_play.specs.Seen.{IsWatched, IsWatchedInPart}
+use Rattle.script_play.specs.declared.seeing.Wanted.{Wanted}
 use Rattle.pool_soak.specs.Findings.{IsSoaked, IsSoakedInVain, IsTurnedDown}
 use Rattle.mtp2_frame.specs.Printed.{PrintsUnit, PrintsFault}
 use Rattle.line_filter.specs.Filters.{Line as Octets}
@@ -58,17 +59,18 @@ pub record IsPlayedOn (set : Named) (echo : Bool) (status : ℕ) (old new : Opti
       IsOnSet (own_text_of set) None (IsPlayedInPart (usual_limits_of set) echo old new)
   pub refused : status ≡ 2 → IsRefused (own_text_of set) None old new
 
--- what it prints, and what it has written to the file of a trace, where there is one
-pub record IsWatchedOn (set : Named) (echo every : Bool) (status : ℕ) (old new : Option (List ℕ))
-    (begun now : Option (Option (List ℕ))) : Type 0 where
+-- what it prints, and what it has written to the file of what is wanted of the run, where there is
+-- one
+pub record IsWatchedOn (set : Named) (echo : Bool) (wanted : Wanted) (status : ℕ)
+    (old new : Option (List ℕ)) (begun now : Option (Option (List ℕ))) : Type 0 where
   pub held :
       status ≡ 0 →
       IsOnSet (own_text_of set) None
-      (IsWatched (usual_limits_of set) echo every old new begun now)
+      (IsWatched (usual_limits_of set) echo wanted old new begun now)
   pub missed :
       status ≡ 1 →
       IsOnSet (own_text_of set) None
-      (IsWatchedInPart (usual_limits_of set) echo every old new begun now)
+      (IsWatchedInPart (usual_limits_of set) echo wanted old new begun now)
   pub refused : status ≡ 2 → IsRefused (own_text_of set) None old new
 
 -- what `soak` prints of a script: its two lines, where so many workers can work, or why it is

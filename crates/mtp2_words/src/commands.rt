@@ -138,12 +138,18 @@ fn with_seeing_options<'a>(alloc: Global, command: Command<'a>) -> Result<Comman
         "PATH",
         "A file or a FIFO for a trace: a line for each command, each signal of the environment, each timer that runs out and each turn",
     );
+    let thrown = option_word(
+        alloc,
+        "thrown",
+        "PATH",
+        "A file or a FIFO for which signals were thrown away in which states, and how often",
+    );
     let every = flag_word(
         alloc,
         "every",
         "Has signals that are thrown away traced too, and turns that change nothing",
     );
-    command.arg(echo)?.arg(trace)?.arg(every)
+    command.arg(echo)?.arg(trace)?.arg(thrown)?.arg(every)
 }
 
 /// The command `play`.

@@ -1,35 +1,78 @@
 //! What of a run is to be seen beside its replies.
-ghost use Rattle.std.specs.Prelude.{◌≡◌, IsTrue, ◌↔◌};
-ghost use Rattle.mtp2_words.specs.Asked.{given_by, AreSeen, AreBothSeen};
+ghost use Rattle.std.specs.Prelude.{◌≡◌, ◌≤◌, IfSome, IsNone, count_by};
+ghost use Rattle.mtp2_words.specs.Seeing.{IsSight, asked_of, IsSeenBy};
 
-use crate::flags::is_given;
-use clap::ArgMatches;
+/// What of a run goes to a file, and to which one.
+#[derive(Clone, Copy, PartialEq, Eq, Debug)]
+pub enum Sight<'a> {
+    /// A trace of what happens.
+    Trace(&'a str),
+    /// Which signals and timers were thrown away.
+    Thrown(&'a str),
+}
 
 /// What of a script's run is to be seen beside its replies.
 #[derive(Clone, Copy, PartialEq, Eq, Debug)]
 pub struct Seeing<'a> {
     /// Whether each command's line of the script stands in front of what it prints.
     pub echo: bool,
-    /// Where a trace of what happens goes; none is made, where nothing is said.
-    pub trace: Option<&'a str>,
+    /// What goes to a file; nothing, where nothing is said.
+    pub sight: Option<Sight<'a>>,
     /// Whether what has no effect is traced too.
     pub every: bool,
 }
 
-/// What of a run is to be seen, by the matches of `play`.
-pub(crate) fn seen_of<'a>(given: &ArgMatches<'a>) -> Seeing<'a>
-    ensures { AreSeen (given_by given.now) result }
+/// The words that say it.
+#[derive(Clone, Copy)]
+pub struct SeeingWords<'a> {
+    /// Whether the lines of commands are asked for.
+    pub echo: bool,
+    /// A file or a FIFO for a trace.
+    pub trace: Option<&'a str>,
+    /// A file or a FIFO for what was thrown away.
+    pub thrown: Option<&'a str>,
+    /// Whether what has no effect is asked for.
+    pub every: bool,
+}
+
+/// How many of these are so.
+fn count_so(flags: &[bool]) -> usize
+    ensures { result ≡ count_by (λ b. b) flags.now }
 {
-    Seeing {
-        echo: is_given(given.get_str("echo")),
-        trace: given.get_str("trace"),
-        every: is_given(given.get_str("every")),
+    flags.iter().filter(|flag| **flag).count()
+}
+
+/// How many things are asked for of which one is had at a time.
+fn asked(words: &SeeingWords<'_>) -> usize
+    ensures { result ≡ asked_of words.now }
+{
+    count_so(&[words.echo, words.trace.is_some(), words.thrown.is_some()])
+}
+
+/// What goes to a file, where at most one thing is to.
+fn sight_of<'a>(words: &SeeingWords<'a>) -> Option<Sight<'a>>
+    ensures { IsSight words.now result }
+{
+    match words.trace {
+        Some(path) => Some(Sight::Trace(path)),
+        None => match words.thrown {
+            Some(path) => Some(Sight::Thrown(path)),
+            None => None,
+        },
     }
 }
 
-/// Whether the lines of commands and a trace are asked for, which isn't had together.
-pub(crate) fn are_both_seen(seen: &Seeing<'_>) -> bool
-    ensures { IsTrue result ↔ AreBothSeen seen.now }
+/// What of a run is to be seen, by words; none where more is asked for than is had at a time.
+pub fn seeing<'a>(words: &SeeingWords<'a>) -> Option<Seeing<'a>>
+    ensures some { IfSome result (IsSeenBy words.now) }
+    ensures none { IsNone result → 2 ≤ asked_of words.now }
 {
-    seen.echo && seen.trace.is_some()
+    if 1 < asked(words) {
+        return None;
+    }
+    Some(Seeing {
+        echo: words.echo,
+        sight: sight_of(words),
+        every: words.every,
+    })
 }

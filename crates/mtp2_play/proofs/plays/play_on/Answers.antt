@@ -1,5 +1,5 @@
 use Rattle.std.proofs.Common.{refl}
-use Rattle.script_play.proofs.Watching.{lined, lined_in_part, plain, plain_in_part, traced, traced_in_part}
+use Rattle.script_play.proofs.Watching.{lined, lined_in_part, plain, plain_in_part, seen, seen_in_part}
 use Rattle.mtp2_play.proofs.Known as Known
 use Rattle.mtp2_play.proofs.plays.play_on.Goals as goal
 
@@ -9,7 +9,7 @@ returns-then-echo-clause-held g c zero =
     (Known.played _ _ _ _ _ _ _ c.usual_limits-usual.ensures (c.play.ensures.held zero))
 
 pub returns-in-Some-clause-held : goal.returns-in-Some-clause-held
-returns-in-Some-clause-held g c zero = traced _ _ _ _ _ _ _ _ _ _ _ c.if-echo.false refl refl (c.trace_on.ensures.held zero)
+returns-in-Some-clause-held g c zero = seen _ _ _ _ _ _ _ _ _ _ _ c.if-echo.false refl refl (c.see_on.ensures.held zero)
 
 pub returns-in-None-clause-held : goal.returns-in-None-clause-held
 returns-in-None-clause-held g c zero =
@@ -22,7 +22,7 @@ returns-then-echo-clause-missed g c one =
     (Known.in_part _ _ _ _ _ _ _ c.usual_limits-usual.ensures (c.play.ensures.missed one))
 
 pub returns-in-Some-clause-missed : goal.returns-in-Some-clause-missed
-returns-in-Some-clause-missed g c one = traced_in_part _ _ _ _ _ _ _ _ _ _ _ c.if-echo.false refl refl (c.trace_on.ensures.missed one)
+returns-in-Some-clause-missed g c one = seen_in_part _ _ _ _ _ _ _ _ _ _ _ c.if-echo.false refl refl (c.see_on.ensures.missed one)
 
 pub returns-in-None-clause-missed : goal.returns-in-None-clause-missed
 returns-in-None-clause-missed g c one =

@@ -12,5 +12,7 @@ returns c = λ local.
     c.flag_word-echo.ensures.rule c.flag_word-echo.ensures.local c.in_ok-arg.ensures in
     let trace = with_word _ (option_word (codes "trace")) _ c.option_word-trace.result c.in_ok-arg-2.field-0 echo
     c.option_word-trace.ensures.rule c.option_word-trace.ensures.local c.in_ok-arg-2.ensures in
-    IfOk-weaker c.arg-3.result _ _ (λ r a. with_word _ (flag_word (codes "every")) _ c.flag_word-every.result r trace
-    c.flag_word-every.ensures.rule c.flag_word-every.ensures.local a) c.arg-3.ensures
+    let thrown = with_word _ (option_word (codes "thrown")) _ c.option_word-thrown.result c.in_ok-arg-3.field-0 trace
+    c.option_word-thrown.ensures.rule c.option_word-thrown.ensures.local c.in_ok-arg-3.ensures in
+    IfOk-weaker c.arg-4.result _ _ (λ r a. with_word _ (flag_word (codes "every")) _ c.flag_word-every.result r thrown
+    c.flag_word-every.ensures.rule c.flag_word-every.ensures.local a) c.arg-4.ensures
