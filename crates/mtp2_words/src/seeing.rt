@@ -63,7 +63,7 @@ fn sight_of<'a>(words: &SeeingWords<'a>) -> Option<Sight<'a>>
 }
 
 /// What of a run is to be seen, by words; none where more is asked for than is had at a time.
-pub fn seeing<'a>(words: &SeeingWords<'a>) -> Option<Seeing<'a>>
+pub fn seen_by<'a>(words: &SeeingWords<'a>) -> Option<Seeing<'a>>
     ensures some { IfSome result (IsSeenBy words.now) }
     ensures none { IsNone result → 2 ≤ asked_of words.now }
 {
