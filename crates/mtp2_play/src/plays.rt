@@ -238,6 +238,7 @@ fn path_of<'a>(sight: Sight<'a>) -> &'a str {
     match sight {
         Sight::Trace(path) => path,
         Sight::Thrown(path) => path,
+        Sight::Capture(path) => path,
     }
 }
 
@@ -245,6 +246,7 @@ fn path_of<'a>(sight: Sight<'a>) -> &'a str {
 fn wanted_of(seen: &Seeing<'_>) -> Wanted {
     match seen.sight {
         Some(Sight::Thrown(_)) => Wanted::Thrown,
+        Some(Sight::Capture(_)) => Wanted::Capture(seen.every),
         _ => Wanted::Trace(seen.every),
     }
 }

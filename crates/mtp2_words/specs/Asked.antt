@@ -43,6 +43,7 @@ pub record AreSeenUnder (given : Given) (words : SeeingWords) : Type 0 where
   pub echo : says_true (given (codes "echo")) ≡ words.echo
   pub trace : given (codes "trace") ≡ option_map (λ w. w.now) words.trace
   pub thrown : given (codes "thrown") ≡ option_map (λ w. w.now) words.thrown
+  pub capture : given (codes "capture") ≡ option_map (λ w. w.now) words.capture
   pub every : says_true (given (codes "every")) ≡ words.every
 
 -- what of a run is to be seen, by the options that are there

@@ -144,12 +144,23 @@ fn with_seeing_options<'a>(alloc: Global, command: Command<'a>) -> Result<Comman
         "PATH",
         "A file or a FIFO for which signals were thrown away in which states, and how often",
     );
+    let capture = option_word(
+        alloc,
+        "capture",
+        "PATH",
+        "A file or a FIFO for the units that go out and come in, in pcap's format; those that say nothing new are left out",
+    );
     let every = flag_word(
         alloc,
         "every",
-        "Has signals that are thrown away traced too, and turns that change nothing",
+        "Has signals that are thrown away traced too, and turns that change nothing; and every unit captured",
     );
-    command.arg(echo)?.arg(trace)?.arg(thrown)?.arg(every)
+    command
+        .arg(echo)?
+        .arg(trace)?
+        .arg(thrown)?
+        .arg(capture)?
+        .arg(every)
 }
 
 /// The command `play`.

@@ -9,6 +9,8 @@ pub enum Sight<'a> {
     Trace(&'a str),
     /// Which signals and timers were thrown away.
     Thrown(&'a str),
+    /// The units that go out and come in.
+    Capture(&'a str),
 }
 
 /// What of a script's run is to be seen beside its replies.
@@ -18,7 +20,7 @@ pub struct Seeing<'a> {
     pub echo: bool,
     /// What goes to a file; nothing, where nothing is said.
     pub sight: Option<Sight<'a>>,
-    /// Whether what has no effect is traced too.
+    /// Whether what has no effect is traced too, and every unit captured.
     pub every: bool,
 }
 
@@ -31,7 +33,9 @@ pub struct SeeingWords<'a> {
     pub trace: Option<&'a str>,
     /// A file or a FIFO for what was thrown away.
     pub thrown: Option<&'a str>,
-    /// Whether what has no effect is asked for.
+    /// A file or a FIFO for a capture.
+    pub capture: Option<&'a str>,
+    /// Whether what has no effect is asked for, and every unit.
     pub every: bool,
 }
 
@@ -46,7 +50,12 @@ fn count_so(flags: &[bool]) -> usize
 fn asked(words: &SeeingWords<'_>) -> usize
     ensures { result ≡ asked_of words.now }
 {
-    count_so(&[words.echo, words.trace.is_some(), words.thrown.is_some()])
+    count_so(&[
+        words.echo,
+        words.trace.is_some(),
+        words.thrown.is_some(),
+        words.capture.is_some(),
+    ])
 }
 
 /// What goes to a file, where at most one thing is to.
@@ -57,7 +66,10 @@ fn sight_of<'a>(words: &SeeingWords<'a>) -> Option<Sight<'a>>
         Some(path) => Some(Sight::Trace(path)),
         None => match words.thrown {
             Some(path) => Some(Sight::Thrown(path)),
-            None => None,
+            None => match words.capture {
+                Some(path) => Some(Sight::Capture(path)),
+                None => None,
+            },
         },
     }
 }

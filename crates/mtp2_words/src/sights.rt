@@ -15,6 +15,7 @@ pub(crate) fn seen_of<'a>(given: &ArgMatches<'a>) -> Option<Seeing<'a>>
         echo: is_given(given.get_str("echo")),
         trace: given.get_str("trace"),
         thrown: given.get_str("thrown"),
+        capture: given.get_str("capture"),
         every: is_given(given.get_str("every")),
     })
 }

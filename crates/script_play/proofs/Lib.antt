@@ -3,3 +3,6 @@ mod Texts
 mod Throwing
 mod Tellings
 pub mod Watching
+mod Capturings
+mod OutGoing
+mod TermCaptures

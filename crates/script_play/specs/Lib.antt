@@ -1,3 +1,4 @@
+pub mod Captured
 pub mod Played
 pub mod Seen
 pub mod Thrown

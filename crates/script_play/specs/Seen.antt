@@ -1,4 +1,4 @@
--- What the status of `play` says of what is told at the end of a run.
+-- What the status of `play` says of what is told at the end of a run, and of a capture.
 use Rattle.std.specs.Prelude.{◌≡◌, ℕ, Bool, true, false, List, Option, Some, None, Result, Ok}
 use Rattle.std.specs.Prelude.{Err, IsUtf8}
 use Rattle.std.specs.Global.{Vec}
@@ -12,11 +12,12 @@ use Rattle.script_seen.specs.TermRuns.{IsOfNew}
 use Rattle.script_seen.specs.Watched.{Notice}
 use Rattle.script_seen.specs.WatchedKinds.{IsBookWatched, IsBookWatchedInPart, IsTermWatched}
 use Rattle.script_seen.specs.WatchedKinds.{IsTermWatchedInPart}
+use Rattle.script_play.specs.Captured.{IsCaptured, IsCapturedInPart}
 use Rattle.script_play.specs.Played.{IsObeyed, IsMissedIn, IsPlayed, IsPlayedInPart}
 use Rattle.script_play.specs.Thrown.{thrown_of}
 use Rattle.script_play.specs.Traced.{IsPlayTraced, IsPlayTracedInPart}
 use Rattle.script_play.specs.declared.seeing.Wanted.{Wanted}
-use Rattle.script_play.specs.declared.seeing.Wanted.TheVariants.{Trace, Thrown}
+use Rattle.script_play.specs.declared.seeing.Wanted.TheVariants.{Trace, Capture, Thrown}
 
 -- P holds of what is noticed of all commands of a script: of a book of the set, or of a new
 -- terminal over it, with the usual limits where the script chooses none
@@ -74,6 +75,53 @@ abbrev pub Grew :
     → Type 0
 Grew tells d old new ns = Appends old new (tells d ns)
 
+-- ---- captures
+
+-- a terminal's script is captured; a book's has no units
+abbrev pub IsOtherCaptured :
+    RoundLimits → Bool → Draft → PlainAnyScript → Option (List ℕ) → Option (List ℕ) → Type 0
+IsOtherCaptured usual every d (book s) old new = ⊥
+IsOtherCaptured usual every d (terminal s) old new =
+    IsOfNew d usual s.head
+    (λ t. IsCaptured every (asks_told s.commands) t s.commands old new)
+
+-- a script of a link set isn't captured
+abbrev pub AreCaptured :
+    RoundLimits → Bool → Draft → PlainPlayScript → Option (List ℕ) → Option (List ℕ) → Type 0
+AreCaptured usual every d (other s) old new = IsOtherCaptured usual every d s old new
+AreCaptured usual every d (group s) old new = ⊥
+
+-- up to an expectation that failed
+abbrev pub IsOtherCapturedInPart :
+    RoundLimits → Bool → Draft → PlainAnyScript → Option (List ℕ) → Option (List ℕ) → Type 0
+IsOtherCapturedInPart usual every d (book s) old new = ⊥
+IsOtherCapturedInPart usual every d (terminal s) old new =
+    IsOfNew d usual s.head
+    (λ t. IsCapturedInPart every (asks_told s.commands) t s.commands old new)
+
+abbrev pub AreCapturedInPart :
+    RoundLimits → Bool → Draft → PlainPlayScript → Option (List ℕ) → Option (List ℕ) → Type 0
+AreCapturedInPart usual every d (other s) old new = IsOtherCapturedInPart usual every d s old new
+AreCapturedInPart usual every d (group s) old new = ⊥
+
+-- the bytes are a script, all of whose commands were obeyed, and whose link is captured
+pub record IsPlayCaptured (usual : RoundLimits) (every : Bool) (old new from to : Option (List ℕ))
+    (d : Draft) (bytes : List ℕ) : Type 0 where
+  pub utf8 : IsUtf8 bytes
+  pub script : PlainPlayScript
+  pub reads : play_script_of bytes ≡ Ok script
+  pub run : IsObeyed usual d script old new
+  pub captured : AreCaptured usual every d script from to
+
+-- so up to an expectation that failed
+pub record IsPlayCapturedInPart (usual : RoundLimits) (every : Bool)
+    (old new from to : Option (List ℕ)) (d : Draft) (bytes : List ℕ) : Type 0 where
+  pub utf8 : IsUtf8 bytes
+  pub script : PlainPlayScript
+  pub reads : play_script_of bytes ≡ Ok script
+  pub missed : IsMissedIn usual d script old new
+  pub captured : AreCapturedInPart usual every d script from to
+
 -- ---- what is wanted of a run
 
 -- the bytes are a script that was run, and what is wanted of that was written
@@ -82,6 +130,8 @@ abbrev pub IsPlaySeen :
     → Draft → List ℕ → Type 0
 IsPlaySeen usual (Trace every) old new from to d bytes =
     IsPlayTraced usual every old new from to d bytes
+IsPlaySeen usual (Capture every) old new from to d bytes =
+    IsPlayCaptured usual every old new from to d bytes
 IsPlaySeen usual Thrown old new from to d bytes =
     IsPlayTold usual old new (Grew thrown_of d from to) d bytes
 
@@ -90,6 +140,8 @@ abbrev pub IsPlaySeenInPart :
     → Draft → List ℕ → Type 0
 IsPlaySeenInPart usual (Trace every) old new from to d bytes =
     IsPlayTracedInPart usual every old new from to d bytes
+IsPlaySeenInPart usual (Capture every) old new from to d bytes =
+    IsPlayCapturedInPart usual every old new from to d bytes
 IsPlaySeenInPart usual Thrown old new from to d bytes =
     IsPlayToldInPart usual old new (Grew thrown_of d from to) d bytes
 

@@ -1,6 +1,9 @@
 //! The command `play`: a script, run on a set of processes, or on a terminal.
 #![tactic(auto)]
 
+mod captured_plays;
+mod captured_terminals;
+mod capturing;
 mod playing;
 mod seeing;
 mod thrown;

@@ -4,6 +4,7 @@ ghost use Rattle.script_check.specs.Checked.{given, IsAccepted};
 ghost use Rattle.script_play.specs.Played.{IsOnSet, IsRefused};
 ghost use Rattle.script_play.specs.Seen.{IsPlaySeen, IsPlaySeenInPart};
 
+use crate::captured_plays::play_captured;
 use crate::tracing::play_traced;
 use crate::watching::play_thrown;
 use script_check::SetWord;
@@ -16,15 +17,17 @@ use std::io::{Read, Write};
 pub enum Wanted {
     /// A trace of what happens; whether what has no effect is traced too.
     Trace(bool),
+    /// A capture of the units that go out and come in; whether every unit is captured.
+    Capture(bool),
     /// Which signals and timers were thrown away in which states, and how often.
     Thrown,
 }
 
-/// Runs a script as `play` does without the lines of its commands, and writes what is wanted of the run to `out`: a trace as it runs, or at its end, or at
-/// an expectation that fails, what was thrown away.
+/// Runs a script as `play` does without the lines of its commands, and writes what is wanted of the run to `out`: a trace or a capture as it runs, or at
+/// its end, or at an expectation that fails, what was thrown away.
 ///
 /// Gives the exit status, as `play` does: 4 where a write to `out` fails too, where a terminal's journal begins anew within a command, as it does
-/// behind 32,768 events, and for a script of a link set.
+/// behind 32,768 events, but for a capture; and for a script of a link set; and with a capture for a script of a book.
 pub fn play_seen<S: Read + Drop, R: Read + Drop, T: Write, W: Write, E: Write>(
     alloc: Global,
     set: SetWord<S>,
@@ -50,6 +53,9 @@ pub fn play_seen<S: Read + Drop, R: Read + Drop, T: Write, W: Write, E: Write>(
     match wanted {
         Wanted::Trace(every) => {
             play_traced(alloc, set, usual, name, script, every, out, writer, errors)
+        }
+        Wanted::Capture(every) => {
+            play_captured(alloc, set, usual, name, script, every, out, writer, errors)
         }
         Wanted::Thrown => play_thrown(alloc, set, usual, name, script, out, writer, errors),
     }

@@ -10,7 +10,10 @@ pub use Rattle.actor_machine.specs.Looking
 pub use Rattle.script_group.specs.GroupRuns
 pub use Rattle.script_group.specs.Lines
 pub use Rattle.script_group.specs.Played
+pub use Rattle.script_group.specs.Term
+pub use Rattle.script_group.specs.TermAnswers
 pub use Rattle.script_group.specs.TermRuns
+pub use Rattle.script_group.specs.UnitLines
 pub use Rattle.script_links.specs.GroupScripts
 pub use Rattle.script_links.specs.TermScripts
 pub use Rattle.script_links.specs.resend_store_types

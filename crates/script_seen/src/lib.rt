@@ -23,10 +23,13 @@ pub use groups::show_group;
 pub use input_port::Item;
 pub use pushing::{push_number, push_process, push_state, push_trigger};
 pub use script_group::{
-    FAILED, HELD, MISSED, OpenError, play_book, play_group, play_terminal, refuse, refuse_set,
-    write_line,
+    FAILED, HELD, MISSED, OpenError, TermPlayer, Terminal, Unit, asks_told, encode, line_of_unit,
+    new_player, play_book, play_group, play_terminal, refuse, refuse_set, text_line, write_line,
 };
-pub use script_links::{AnyScript, PlayScript, RoundLimits, play_fault, play_script_in};
+pub use script_links::{
+    AnyScript, PlayScript, RoundLimits, TermCommand, TermSaid, TermScript, play_fault,
+    play_script_in,
+};
 pub use terminals::show_terminal;
 pub use traced_books::trace_book;
 pub use traced_terminals::trace_terminal;

@@ -14,5 +14,7 @@ returns c = λ local.
     c.option_word-trace.ensures.rule c.option_word-trace.ensures.local c.in_ok-arg-2.ensures in
     let thrown = with_word _ (option_word (codes "thrown")) _ c.option_word-thrown.result c.in_ok-arg-3.field-0 trace
     c.option_word-thrown.ensures.rule c.option_word-thrown.ensures.local c.in_ok-arg-3.ensures in
-    IfOk-weaker c.arg-4.result _ _ (λ r a. with_word _ (flag_word (codes "every")) _ c.flag_word-every.result r thrown
-    c.flag_word-every.ensures.rule c.flag_word-every.ensures.local a) c.arg-4.ensures
+    let capture = with_word _ (option_word (codes "capture")) _ c.option_word-capture.result c.in_ok-arg-4.field-0 thrown
+    c.option_word-capture.ensures.rule c.option_word-capture.ensures.local c.in_ok-arg-4.ensures in
+    IfOk-weaker c.arg-5.result _ _ (λ r a. with_word _ (flag_word (codes "every")) _ c.flag_word-every.result r capture
+    c.flag_word-every.ensures.rule c.flag_word-every.ensures.local a) c.arg-5.ensures

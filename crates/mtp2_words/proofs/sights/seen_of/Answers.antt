@@ -10,6 +10,7 @@ words c = record {
   echo = c.is_given.result;
   trace = c.get_str-2.result;
   thrown = c.get_str-3.result;
+  capture = c.get_str-4.result;
   every = c.is_given-2.result;
 }
 
@@ -18,7 +19,8 @@ under_ids c = record {
   echo = ap says_true (sym c.get_str.ensures) ∙ sym c.is_given.ensures;
   trace = sym c.get_str-2.ensures;
   thrown = sym c.get_str-3.ensures;
-  every = ap says_true (sym c.get_str-4.ensures) ∙ sym c.is_given-2.ensures;
+  capture = sym c.get_str-4.ensures;
+  every = ap says_true (sym c.get_str-5.ensures) ∙ sym c.is_given-2.ensures;
 }
 
 pub returns-clause-some : goal.returns-clause-some
