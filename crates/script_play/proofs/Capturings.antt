@@ -14,6 +14,11 @@ use Rattle.line_streams.specs.declared.seen.Seen.{Seen}
 use Rattle.script_play.specs.Captured.{repeated, Hears, nothing, one, IsHeard, IsCapturing}
 use Rattle.script_play.specs.declared.capturing.LinkSeen.{LinkSeen}
 
+-- nothing came yet
+pub none_came : (link : ℕ) (every : Bool) (l : LinkSeen) → l.repeats.every ≡ every → Stands [] l.heard → StandsFor link [] l.repeats → IsHeard link every [] [] l
+unfolding bits_of
+none_came link every l every_is hears recalls = record { every_is = every_is; hears = hears; recalls = recalls }
+
 -- ---- a unit
 
 kept_is : (every keeps : Bool) (s : Seen) (ss : List Seen) → keeps ≡ is_kept every (kept every ss) s → kept every (s ∷ ss) ≡ with_kept keeps s (kept every ss)
