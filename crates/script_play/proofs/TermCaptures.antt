@@ -64,7 +64,7 @@ no_out c n noted is =
     let P : PlainTermCommand → Type 0 = λ x. is_noted x ≡ true in
     let contrary : false ≡ true = subst P is noted in cc
 
-no_expectation : (c : PlainTermCommand) (text : List ℕ) → is_noted c ≡ true → c ≡ expected text → ⊥
+pub no_expectation : (c : PlainTermCommand) (text : List ℕ) → is_noted c ≡ true → c ≡ expected text → ⊥
 no_expectation c text noted is =
     let P : PlainTermCommand → Type 0 = λ x. is_noted x ≡ true in
     let contrary : false ≡ true = subst P is noted in cc

@@ -3,7 +3,7 @@ use Rattle.actor_machine.specs.Ledger.{Ledger, state_of}
 use Rattle.script_links.specs.TermCommands.{plain_term_command}
 use Rattle.script_links.specs.TermScripts.{plain_term_said}
 use Rattle.script_play.specs.Captured.{TICK, time_of}
-use Rattle.script_play.proofs.TermCaptures.{gone_out, out_captured, come_captured, met_captured}
+use Rattle.script_play.proofs.TermCaptures.{gone_out, out_captured, come_captured, met_captured, no_expectation}
 use Rattle.script_play.proofs.captured_terminals.capture_next.Goals as goal
 
 pub returns-in_ok-give_out-in-Out-clause-goes : goal.returns-in_ok-give_out-in-Out-clause-goes
@@ -29,3 +29,8 @@ returns-in_ok-note-in_default-clause-captured g c on every t before begun so_far
     let noted = c.in_ok-note-in_default.ensures in
     come_captured every c.args.keeps t before (plain_term_said c.args.said.now) noted.heard.0 begun _ _ _ _ _ _ _ _ c.in_ok-at.at _ _ noted.noted time noted.heard.1
     (c.obey-in_default.ensures.obeyed on) (λ came ss now. noted.heard.2 every came ss begun now) so_far
+
+pub returns-in_ok-note-in_default-clause-uncaptured : goal.returns-in_ok-note-in_default-clause-uncaptured
+returns-in_ok-note-in_default-clause-uncaptured g c off =
+    let missed = c.obey-in_default.ensures.missed off in
+    absurd (no_expectation (plain_term_command c.args.said.now.command) missed.text c.in_ok-note-in_default.ensures.noted missed.expects)
