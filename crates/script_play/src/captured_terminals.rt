@@ -1,7 +1,6 @@
 //! Terminals' scripts as they run, with a capture.
-ghost use Rattle.std.specs.Prelude.{◌≡◌, ◌⊎◌, ◌++◌, ◌∷◌, [], ℕ, Bool, List, Option, None, map, IfOk, OnOk, IfSome, option_map, true, false};
+ghost use Rattle.std.specs.Prelude.{◌≡◌, ◌⊎◌, ◌++◌, ◌∷◌, [], ℕ, Bool, List, Option, None, map, IfOk, OnOk, true, false};
 ghost use Rattle.std.specs.Io.KnownBytes.{Appends};
-ghost use Rattle.su_octets.specs.Whole.{IsWhole};
 ghost use Rattle.line_streams.specs.Records.{HEADER};
 ghost use Rattle.line_streams.specs.declared.seen.Seen.{Seen as OneSeen};
 ghost use Rattle.script_links.specs.TermCommands.{plain_term_command};
@@ -40,7 +39,6 @@ fn next_out<W: Write>(
     writer: &mut W,
 ) -> io::Result<Option<Unit>>
     ensures unit { IfOk result (λ unit. unit ≡ (next_of player.old.terminal).unit) }
-    ensures whole { IfOk result (λ unit. IfSome unit IsWhole) }
     ensures goes { OnOk result (player.new.terminal ≡ behind_next player.old.terminal) }
     ensures printed { OnOk result (HasPrinted (W.contents writer.old) (W.contents writer.new) (last_of player.old) (last_of player.new)
         (unit_line (next_of player.old.terminal).unit ∷ [])) }

@@ -2,7 +2,6 @@
 ghost use Rattle.std.specs.Prelude.{◌≡◌, ◌*◌, ◌∷◌, ◌++◌, [], ℕ, Bool, false, List, Option, Some, OnOk, IfOk};
 ghost use Rattle.std.specs.Io.KnownBytes.{Appends};
 ghost use Rattle.su_octets.specs.Frame.{Frame};
-ghost use Rattle.su_octets.specs.Whole.{IsWhole};
 ghost use Rattle.line_streams.specs.Capturing.{IsUnit, without_check};
 ghost use Rattle.line_streams.specs.Records.{HEADER};
 ghost use Rattle.line_streams.specs.declared.seen.Seen.{Seen as OneSeen};
@@ -157,7 +156,6 @@ impl LinkSeen {
         unit: &Unit,
         out: &mut T,
     ) -> io::Result<()>
-        requires { IsWhole unit.now }
         ensures { OnOk result ((every : Bool) (came : List ℕ) (ss : List OneSeen) (begun : Option (List ℕ))
             → IsCapturing link every came ss begun (T.contents out.old) self.old
             → (last : List OneSeen) × IsGone link at unit.now ss last
@@ -174,11 +172,13 @@ impl LinkSeen {
     }
 }
 
-/// The octets of a unit without its check octets.
+/// The octets of a unit without its check octets. A unit that isn't whole would be told as want of memory, but none comes here.
 fn octets_of(unit: &Unit) -> Result<ArrayVec<u8, 278>, AllocError>
-    requires { IsWhole unit.now }
     ensures { IfOk result (λ v. (frame : List ℕ) × Frame frame unit.now × (v.items ≡ without_check frame)) }
 {
+    if !unit.whole() {
+        return Err(AllocError);
+    }
     let mut framed: ArrayVec<u8, 278> = ArrayVec::new();
     encode(unit, &mut framed);
     let mut octets = ArrayVec::new();
