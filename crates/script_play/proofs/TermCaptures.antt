@@ -59,6 +59,10 @@ out_captured every keeps first before said n begun old new from to now next last
       capturing = s.2;
     }
 
+-- what comes in by a command, by another name
+pub comes_as : (c d : PlainTermCommand) (come : List ℕ) → c ≡ d → IsComing d come → IsComing c come
+comes_as c d come same coming = let P : PlainTermCommand → Type 0 = λ k. IsComing k come in subst P (sym same) coming
+
 no_out : (c : PlainTermCommand) (n : ℕ) → is_noted c ≡ true → c ≡ out n → ⊥
 no_out c n noted is =
     let P : PlainTermCommand → Type 0 = λ x. is_noted x ≡ true in
