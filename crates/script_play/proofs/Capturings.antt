@@ -67,14 +67,15 @@ unrecorded_more every s ss begun old same before =
     subst P (sym same) before
 
 -- it says something new, and is recorded
-pub saw_news : (every keeps : Bool) (s : Seen) (came : List ℕ) (ss : List Seen) (begun old new : Option (List ℕ)) (l m : LinkSeen) → keeps ≡ true → m.heard ≡ l.heard
+pub saw_news : (every keeps : Bool) (s : Seen) (came : List ℕ) (ss : List Seen) (begun old new : Option (List ℕ)) (l m : LinkSeen) (text : List ℕ) → keeps ≡ true → m.heard ≡ l.heard
     → m.repeats.every ≡ l.repeats.every → ((h : List Seen) → StandsFor s.link h l.repeats → keeps ≡ is_kept l.repeats.every h s)
-    → ((h : List Seen) → StandsFor s.link h l.repeats → StandsFor s.link (with_kept keeps s h) m.repeats) → Appends old new (record_of s)
-    → IsCapturing s.link every came ss begun old l → IsCapturing s.link every came (s ∷ ss) begun new m
-saw_news every keeps s came ss begun old new l m recorded same every_is keeps_is stands grew c =
+    → ((h : List Seen) → StandsFor s.link h l.repeats → StandsFor s.link (with_kept keeps s h) m.repeats) → text ≡ record_of s
+    → Appends old new text → IsCapturing s.link every came ss begun old l → IsCapturing s.link every came (s ∷ ss) begun new m
+saw_news every keeps s came ss begun old new l m text recorded same every_is keeps_is stands is_record grew c =
+    let A : List ℕ → Type 0 = λ bs. Appends old new bs in
     let is = decided every keeps s came ss begun old l c keeps_is in
     let more : kept every (s ∷ ss) ≡ s ∷ kept every ss = kept_is every keeps s ss is ∙ ap (λ (k : Bool). with_kept k s (kept every ss)) recorded in
-    record { heard = noted every keeps s came ss l m same every_is stands is c.heard; written = recorded_more every s ss begun old new more c.written grew }
+    record { heard = noted every keeps s came ss l m same every_is stands is c.heard; written = recorded_more every s ss begun old new more c.written (subst A is_record grew) }
 
 -- it says nothing new
 pub saw_repeat : (every keeps : Bool) (s : Seen) (came : List ℕ) (ss : List Seen) (begun old : Option (List ℕ)) (l m : LinkSeen) → keeps ≡ false → m.heard ≡ l.heard
@@ -142,11 +143,11 @@ more_heard link at every came xs ys ss begun mid new l m so_far step =
       capturing = subst P (append_assoc came xs ys) s.2;
     }
 
-pub one_more_heard : (link at : ℕ) (every : Bool) (came octets : List ℕ) (i x : ℕ) (ss : List Seen) (begun new : Option (List ℕ)) (l : LinkSeen) → i < length octets
-    → x ≡ get_or octets i x → HeardSoFar link at every came (take i octets ++ x ∷ []) ss begun new l → HeardSoFar link at every came (take (i + 1) octets) ss begun new l
-one_more_heard link at every came octets i x ss begun new l within is so_far =
+pub one_more_heard : (link at : ℕ) (every : Bool) (came octets : List ℕ) (i : ℕ) (ss : List Seen) (begun new : Option (List ℕ)) (l : LinkSeen) → i < length octets
+    → HeardSoFar link at every came (take i octets ++ get_or octets i 0 ∷ []) ss begun new l → HeardSoFar link at every came (take (i + 1) octets) ss begun new l
+one_more_heard link at every came octets i ss begun new l within so_far =
     let P : List ℕ → Type 0 = λ xs. HeardSoFar link at every came xs ss begun new l in
-    subst P (ap (λ y. take i octets ++ y ∷ []) is ∙ sym (take_more octets i x within)) so_far
+    subst P (sym (take_more octets i 0 within)) so_far
 
 -- the same octets once more
 repeated_more : (n : ℕ) (octets : List ℕ) → repeated n octets ++ octets ≡ repeated (suc n) octets

@@ -161,11 +161,12 @@ impl LinkSeen {
             → (last : List OneSeen) × IsGone link at unit.now ss last
             × IsCapturing link every came last begun (T.contents out.new) self.new) }
     {
+        let octets = octets_of(unit)?;
         let seen = Seen {
             went: true,
             link,
             at,
-            octets: octets_of(unit)?,
+            octets,
         };
         self.see(&seen, out)?;
         Ok(())
