@@ -1,5 +1,6 @@
 mod Refusals
 mod Texts
 mod Throwing
+mod Charting
 mod Tellings
 pub mod Watching

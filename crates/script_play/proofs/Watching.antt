@@ -5,7 +5,7 @@ use Rattle.script_seen.specs.resend_store_types.messages.RoundLimits.{RoundLimit
 use Rattle.script_play.specs.Played.{IsOnSet, IsPlayed, IsPlayedInPart}
 use Rattle.script_play.specs.Seen.{IsPlaySeen, IsPlaySeenInPart, IsWatched, IsWatchedInPart}
 use Rattle.script_play.specs.declared.seeing.Wanted.{Wanted}
-use Rattle.script_play.specs.declared.seeing.Wanted.TheVariants.{Trace, Thrown}
+use Rattle.script_play.specs.declared.seeing.Wanted.TheVariants.{Trace, AtEnd}
 
 lined_in : (usual : RoundLimits) (echo : Bool) (wanted : Wanted) (old new : Option (List ℕ)) (begun now : Option (Option (List ℕ))) (d : Draft) (bytes : List ℕ)
     → echo ≡ true → IsPlayed usual echo old new d bytes → IsWatched usual echo wanted old new begun now d bytes
@@ -31,7 +31,7 @@ seen_in usual echo wanted old new b n begun now d bytes is was has p =
 was_seen : (usual : RoundLimits) (wanted : Wanted) (old new begun now : Option (List ℕ)) (d : Draft) (bytes : List ℕ)
     → IsPlaySeen usual wanted old new begun now d bytes → IsPlayed usual false old new d bytes
 was_seen usual (Trace every) old new begun now d bytes p = record { utf8 = p.utf8; script = p.script; reads = p.reads; run = p.run }
-was_seen usual Thrown old new begun now d bytes p = record { utf8 = p.utf8; script = p.script; reads = p.reads; run = p.run }
+was_seen usual (AtEnd told) old new begun now d bytes p = record { utf8 = p.utf8; script = p.script; reads = p.reads; run = p.run }
 
 was_played_in : (usual : RoundLimits) (echo : Bool) (wanted : Wanted) (old new : Option (List ℕ)) (begun now : Option (Option (List ℕ))) (d : Draft) (bytes : List ℕ)
     → IsWatched usual echo wanted old new begun now d bytes → IsPlayed usual echo old new d bytes
@@ -115,7 +115,7 @@ seen_in_part_in usual echo wanted old new b n begun now d bytes is was has p =
 was_seen_in_part : (usual : RoundLimits) (wanted : Wanted) (old new begun now : Option (List ℕ)) (d : Draft) (bytes : List ℕ)
     → IsPlaySeenInPart usual wanted old new begun now d bytes → IsPlayedInPart usual false old new d bytes
 was_seen_in_part usual (Trace every) old new begun now d bytes p = record { utf8 = p.utf8; script = p.script; reads = p.reads; missed = p.missed }
-was_seen_in_part usual Thrown old new begun now d bytes p = record { utf8 = p.utf8; script = p.script; reads = p.reads; missed = p.missed }
+was_seen_in_part usual (AtEnd told) old new begun now d bytes p = record { utf8 = p.utf8; script = p.script; reads = p.reads; missed = p.missed }
 
 was_played_in_part_in : (usual : RoundLimits) (echo : Bool) (wanted : Wanted) (old new : Option (List ℕ)) (begun now : Option (Option (List ℕ))) (d : Draft) (bytes : List ℕ)
     → IsWatchedInPart usual echo wanted old new begun now d bytes → IsPlayedInPart usual echo old new d bytes

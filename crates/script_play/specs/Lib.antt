@@ -1,3 +1,4 @@
+pub mod Charted
 pub mod Played
 pub mod Seen
 pub mod Thrown

@@ -1,11 +1,16 @@
 //! The command `play`: a script, run on a set of processes, or on a terminal.
 #![tactic(auto)]
 
+mod chart_rows;
+mod charts;
+mod columns;
 mod playing;
 mod seeing;
 mod thrown;
 mod tracing;
 mod watching;
 
+pub use charts::Cut;
 pub use playing::play;
 pub use seeing::{Wanted, play_seen};
+pub use watching::Told;

@@ -5,7 +5,7 @@ ghost use Rattle.script_play.specs.Played.{IsOnSet, IsRefused};
 ghost use Rattle.script_play.specs.Seen.{IsPlaySeen, IsPlaySeenInPart};
 
 use crate::tracing::play_traced;
-use crate::watching::play_thrown;
+use crate::watching::{Told, play_told};
 use script_check::SetWord;
 use script_seen::RoundLimits;
 use std::alloc::Global;
@@ -16,12 +16,12 @@ use std::io::{Read, Write};
 pub enum Wanted {
     /// A trace of what happens; whether what has no effect is traced too.
     Trace(bool),
-    /// Which signals and timers were thrown away in which states, and how often.
-    Thrown,
+    /// What is told at its end.
+    AtEnd(Told),
 }
 
 /// Runs a script as `play` does without the lines of its commands, and writes what is wanted of the run to `out`: a trace as it runs, or at its end, or at
-/// an expectation that fails, what was thrown away.
+/// an expectation that fails, a chart of its turns or what was thrown away.
 ///
 /// Gives the exit status, as `play` does: 4 where a write to `out` fails too, where a terminal's journal begins anew within a command, as it does
 /// behind 32,768 events, and for a script of a link set.
@@ -51,6 +51,8 @@ pub fn play_seen<S: Read + Drop, R: Read + Drop, T: Write, W: Write, E: Write>(
         Wanted::Trace(every) => {
             play_traced(alloc, set, usual, name, script, every, out, writer, errors)
         }
-        Wanted::Thrown => play_thrown(alloc, set, usual, name, script, out, writer, errors),
+        Wanted::AtEnd(told) => {
+            play_told(alloc, set, usual, name, script, told, out, writer, errors)
+        }
     }
 }

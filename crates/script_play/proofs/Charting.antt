@@ -1,0 +1,277 @@
+-- A chart, one turn more.
+use Rattle.std.proofs.Common.{◌≡◌, ◌∙◌, ℕ, zero, suc, ◌+◌, Bool, true, false, List, [], ◌∷◌, ◌++◌, length, map, take, drop, append-nil, append_assoc, get_or, ◌<◌, eqb-true, Option, Some, None, arith, refl, sym, ap, subst}
+use Rattle.std.specs.Prelude.{◌||◌, ◌==◌, filter, is_empty, if◌then◌else◌, codes}
+use Rattle.std.specs.List.{list_any, flat_map}
+use Rattle.std.proofs.lemmas.Bool.{false≢true}
+use Rattle.std.proofs.lemmas.List.{length-append, length-map, length-take-le, map-append, take_more}
+use Rattle.std.proofs.lemmas.List.Elements.{filter-append}
+use Rattle.std.proofs.lemmas.Grind.{flat_map-append}
+use Rattle.turn_code.specs.Outcome.{Outcome}
+use Rattle.turn_code.specs.declared.draft.Draft.{Draft}
+use Rattle.turn_code.specs.declared.effect.Effect.{Effect}
+use Rattle.turn_code.specs.declared.draft.DraftProcess.{DraftProcess}
+use Rattle.script_lines.specs.Replies.{sender_text}
+use Rattle.script_seen.specs.Names.{same_actor, named, instances_from, names_from, counts_of, actors_of}
+use Rattle.script_seen.specs.Turn.{Turn, outcome_of}
+use Rattle.script_seen.specs.Watched.{Notice, TurnEnd, IsEnd, Throw, ends, throws, turns_in}
+use Rattle.script_seen.specs.actor_machine_types.name.ActorName.{ActorName}
+use Rattle.script_seen.specs.actor_machine_types.reply.Report.{Report}
+use Rattle.script_seen.specs.declared.turns.Ended.{Ended}
+use Rattle.script_play.specs.Charted.{time_text, row_text, rows_text, is_in, has_outside, is_drawn, last_clock, end_of, takes_part, head_of, heads, behind_each, stacked, below_each, note_of, beside, Charts, IsDrawn, TakesPart, HasMore, HasColumns}
+use Rattle.script_play.specs.declared.charts.Chart.{Chart}
+use Rattle.script_play.specs.declared.columns.Columns.{Columns}
+
+-- ---- truth values
+
+or_none : (a : Bool) → (a || false) ≡ a
+or_none true = refl
+or_none false = refl
+
+or_more : (a b c : Bool) → (a || (b || c)) ≡ ((a || b) || c)
+or_more true b c = refl
+or_more false b c = refl
+
+any_more : {A : Type 0} (p : A → Bool) (xs : List A) (x : A) → list_any p (xs ++ x ∷ []) ≡ (list_any p xs || p x)
+any_more p [] x = or_none (p x)
+any_more p (y ∷ ys) x = ap (λ (b : Bool). p y || b) (any_more p ys x) ∙ or_more (p y) (list_any p ys) (p x)
+
+-- ---- rows
+
+clock_more : (last : Option ℕ) (ts : List TurnEnd) (t : TurnEnd) → last_clock last (ts ++ t ∷ []) ≡ Some t.clock
+clock_more last [] t = refl
+clock_more last (s ∷ ts) t = clock_more (Some s.clock) ts t
+
+rows_more : (d : Draft) (last : Option ℕ) (ts : List TurnEnd) (t : TurnEnd)
+    → rows_text d last (ts ++ t ∷ []) ≡ rows_text d last ts ++ (time_text (last_clock last ts) t.clock ++ row_text d t)
+rows_more d last [] t = append-nil (time_text last t.clock ++ row_text d t)
+rows_more d last (s ∷ ts) t =
+    ap (λ (r : List ℕ). (time_text last s.clock ++ row_text d s) ++ r) (rows_more d (Some s.clock) ts t)
+    ∙ sym (append_assoc (time_text last s.clock ++ row_text d s) (rows_text d (Some s.clock) ts) (time_text (last_clock (Some s.clock) ts) t.clock ++ row_text d t))
+
+-- what is handed to a watcher is the turn that ended
+end_is : (e : Ended) (t : TurnEnd) → IsEnd e t → end_of e t.outcome ≡ t
+end_is e t i =
+    let made : ℕ → ActorName → Turn → Report → TurnEnd = λ c m w r. record { clock = c; me = m; turn = w; outcome = t.outcome; report = r } in
+    ap (λ c. made c e.me e.done e.report) i.clock
+    ∙ (ap (λ m. made t.clock m e.done e.report) i.me
+    ∙ (ap (λ w. made t.clock t.me w e.report) i.turn ∙ ap (λ r. made t.clock t.me t.turn r) i.report))
+
+-- a turn more is drawn
+drawn_more : (d : Draft) (ts : List TurnEnd) (t : TurnEnd) (c m n : Chart) → TakesPart (λ x. is_in d x t) (has_outside t) c m
+    → n.rows.items ≡ m.rows.items ++ (time_text m.clock t.clock ++ row_text d t) → n ≡ record m { rows = n.rows; clock = Some t.clock } → IsDrawn d ts c
+    → IsDrawn d (ts ++ t ∷ []) n
+drawn_more d ts t c m n part rows same k =
+    let actors : n.actors ≡ m.actors = ap (λ (x : Chart). x.actors) same in
+    let clock : m.clock ≡ last_clock None ts = part.clock ∙ k.clock in
+    record {
+      rows = rows
+          ∙ (ap (λ r. r.items ++ (time_text m.clock t.clock ++ row_text d t)) part.rows
+          ∙ (ap (λ (r : List ℕ). r ++ (time_text m.clock t.clock ++ row_text d t)) k.rows
+          ∙ (ap (λ (o : Option ℕ). rows_text d None ts ++ (time_text o t.clock ++ row_text d t)) clock ∙ sym (rows_more d None ts t))));
+      clock = ap (λ (x : Chart). x.clock) same ∙ sym (clock_more None ts t);
+      outside = ap (λ (x : Chart). x.environment) same
+          ∙ (part.environment ∙ (ap (λ (b : Bool). b || has_outside t) k.outside ∙ sym (any_more has_outside ts t)));
+      actors = λ x.
+          ap (λ a. takes_part a.items x) actors
+          ∙ (part.actors x ∙ (ap (λ (b : Bool). b || is_in d x t) (k.actors x) ∙ sym (any_more (is_in d x) ts t)));
+    }
+
+drawn_all : (d : Draft) (all : List TurnEnd) (t : TurnEnd) (c n : Chart) (b : Bool) → is_drawn c.cut t ≡ b → IsDrawn d (filter (is_drawn c.cut) all ++ (if b then t ∷ [] else [])) n
+    → n.cut ≡ c.cut → Charts d (all ++ t ∷ []) n
+drawn_all d all t c n b is k same =
+    let L : Bool → Type 0 = λ x. IsDrawn d (filter (is_drawn c.cut) all ++ (if x then t ∷ [] else [])) n in
+    let P : List TurnEnd → Type 0 = λ ts. IsDrawn d ts n in
+    let Q : _ → Type 0 = λ cut. IsDrawn d (filter (is_drawn cut) (all ++ t ∷ [])) n in
+    subst Q (sym same) (subst P (sym (filter-append (is_drawn c.cut) all (t ∷ []))) (subst L (sym is) k))
+
+-- it isn't one of those that are to be drawn
+pub not_drawn : (d : Draft) (e : Ended) (c : Chart) → ((o : Outcome) → outcome_of e.done ≡ Some o → false ≡ is_drawn c.cut (end_of e o)) → (ts : List TurnEnd) (t : TurnEnd)
+    → IsEnd e t → Charts d ts c → Charts d (ts ++ t ∷ []) c
+not_drawn d e c is ts t i k =
+    let D : TurnEnd → Type 0 = λ x. is_drawn c.cut x ≡ false in
+    let P : List TurnEnd → Type 0 = λ l. IsDrawn d l c in
+    drawn_all d ts t c c false (subst D (end_is e t i) (sym (is t.outcome i.outcome))) (subst P (sym (append-nil (filter (is_drawn c.cut) ts))) k) refl
+
+-- it is
+pub is_drawn_too : (d : Draft) (e : Ended) (c m n : Chart) → ((o : Outcome) → outcome_of e.done ≡ Some o → true ≡ is_drawn c.cut (end_of e o))
+    → ((o : Outcome) → outcome_of e.done ≡ Some o → TakesPart (λ x. is_in d x (end_of e o)) (has_outside (end_of e o)) c m)
+    → ((o : Outcome) → outcome_of e.done ≡ Some o → n.rows.items ≡ m.rows.items ++ (time_text m.clock e.clock ++ row_text d (end_of e o)))
+    → n ≡ record m { rows = n.rows; clock = Some e.clock } → (ts : List TurnEnd) (t : TurnEnd) → IsEnd e t → Charts d ts c → Charts d (ts ++ t ∷ []) n
+is_drawn_too d e c m n is part rows same ts t i k =
+    let s : TurnEnd = end_of e t.outcome in
+    let D : TurnEnd → Type 0 = λ x. is_drawn c.cut x ≡ true in
+    let P : TurnEnd → Type 0 = λ x. IsDrawn d (filter (is_drawn c.cut) ts ++ x ∷ []) n in
+    let drawn : IsDrawn d (filter (is_drawn c.cut) ts ++ s ∷ []) n =
+    drawn_more d (filter (is_drawn c.cut) ts) s c m n (part t.outcome i.outcome) (rows t.outcome i.outcome) same k in
+    drawn_all d ts t c n true (subst D (end_is e t i) (sym (is t.outcome i.outcome))) (subst P (end_is e t i) drawn)
+    (ap (λ (x : Chart). x.cut) same ∙ (part t.outcome i.outcome).cut)
+
+-- ---- what a watcher is told
+
+turns_end : (ns : List Notice) (t : TurnEnd) → turns_in ns ++ t ∷ [] ≡ turns_in (ns ++ ends t ∷ [])
+turns_end [] t = refl
+turns_end (ends s ∷ ns) t = ap (λ (ts : List TurnEnd). s ∷ ts) (turns_end ns t)
+turns_end (throws x ∷ ns) t = turns_end ns t
+
+turns_more : (ns : List Notice) (x : Throw) → turns_in ns ≡ turns_in (ns ++ throws x ∷ [])
+turns_more [] x = refl
+turns_more (ends s ∷ ns) x = ap (λ (ts : List TurnEnd). s ∷ ts) (turns_more ns x)
+turns_more (throws y ∷ ns) x = turns_more ns x
+
+pub charts_end : (d : Draft) (ns : List Notice) (t : TurnEnd) (c : Chart) → Charts d (turns_in ns ++ t ∷ []) c → Charts d (turns_in (ns ++ ends t ∷ [])) c
+charts_end d ns t c k = let P : List TurnEnd → Type 0 = λ ts. Charts d ts c in subst P (turns_end ns t) k
+
+pub charts_throw : (d : Draft) (ns : List Notice) (x : Throw) (c : Chart) → Charts d (turns_in ns) c → Charts d (turns_in (ns ++ throws x ∷ [])) c
+charts_throw d ns x c k = let P : List TurnEnd → Type 0 = λ ts. Charts d ts c in subst P (turns_more ns x) k
+
+-- ---- who takes part
+
+same_actors : (x y : ActorName) → same_actor x y ≡ true → x ≡ y
+same_actors x y e = by_process (x.process.0 == y.process.0) refl e
+  where
+    by_process : (b : Bool) → (x.process.0 == y.process.0) ≡ b → (if b then x.instance.0 == y.instance.0 else false) ≡ true → x ≡ y
+    by_process true f e =
+        let p : x.process.0 ≡ y.process.0 = eqb-true x.process.0 y.process.0 f in
+        let k : x.instance.0 ≡ y.instance.0 = eqb-true x.instance.0 y.instance.0 e in
+        λ i. record { process = record { 0 = p i }; instance = record { 0 = k i } }
+    by_process false f e = absurd (false≢true e)
+
+is_there : (a b : Bool) → (b ≡ true → a ≡ true) → a ≡ (a || b)
+is_there true b so = refl
+is_there false true so = so refl
+is_there false false so = refl
+
+-- one that is among them already
+pub entered_already : (xs : List ActorName) (actor : ActorName) → takes_part xs actor ≡ true → (x : ActorName)
+    → takes_part xs x ≡ (takes_part xs x || same_actor actor x)
+entered_already xs actor has x =
+    is_there (takes_part xs x) (same_actor actor x)
+    (λ same. let P : ActorName → Type 0 = λ y. takes_part xs y ≡ true in subst P (same_actors actor x same) has)
+
+-- one more
+pub entered_new : (xs : List ActorName) (actor x : ActorName) → takes_part (xs ++ actor ∷ []) x ≡ (takes_part xs x || same_actor actor x)
+entered_new xs actor x = any_more (λ y. same_actor y x) xs actor
+
+-- nobody
+pub nobody : (a : Bool) → a ≡ (a || false)
+nobody a = sym (or_none a)
+
+-- one part behind another
+pub both_part : (P Q : ActorName → Bool) (a b : Bool) (c m n : Chart) → TakesPart P a c m → TakesPart Q b m n → TakesPart (λ x. P x || Q x) (a || b) c n
+both_part P Q a b c m n p q = record {
+  actors = λ x.
+      q.actors x ∙ (ap (λ (y : Bool). y || Q x) (p.actors x) ∙ sym (or_more (takes_part c.actors.items x) (P x) (Q x)));
+  environment = q.environment ∙ (ap (λ (y : Bool). y || b) p.environment ∙ sym (or_more c.environment a b));
+  rows = q.rows ∙ p.rows;
+  clock = q.clock ∙ p.clock;
+  cut = q.cut ∙ p.cut;
+}
+
+pub part_as : (P Q : ActorName → Bool) (a b : Bool) (c n : Chart) → ((x : ActorName) → P x ≡ Q x) → a ≡ b → TakesPart P a c n → TakesPart Q b c n
+part_as P Q a b c n same out p = record {
+  actors = λ x. p.actors x ∙ ap (λ (y : Bool). takes_part c.actors.items x || y) (same x);
+  environment = p.environment ∙ ap (λ (y : Bool). c.environment || y) out;
+  rows = p.rows;
+  clock = p.clock;
+  cut = p.cut;
+}
+
+pub none_part : (c : Chart) → TakesPart (λ x. false) false c c
+none_part c = record {
+  actors = λ x. nobody (takes_part c.actors.items x);
+  environment = nobody c.environment;
+  rows = refl;
+  clock = refl;
+  cut = refl;
+}
+
+-- ---- columns
+
+more_text : (xs ys : List (List ℕ)) → behind_each (xs ++ ys) ≡ behind_each xs ++ behind_each ys
+more_text xs ys = flat_map-append (λ n. codes ", " ++ head_of n) xs ys
+
+pub none_more : (c : Columns) → HasMore [] c c
+none_more c = record { text = sym (append-nil c.text.items); count = omega arith }
+
+-- columns behind columns
+pub more_behind : (xs ys : List (List ℕ)) (a b c : Columns) → HasMore xs a b → HasMore ys b c → HasMore (xs ++ ys) a c
+more_behind xs ys a b c p q = record {
+  text = q.text
+      ∙ (ap (λ (t : List ℕ). t ++ behind_each ys) p.text
+      ∙ (append_assoc a.text.items (behind_each xs) (behind_each ys) ∙ ap (λ (t : List ℕ). a.text.items ++ t) (sym (more_text xs ys))));
+  count = omega (arith, p.count, q.count, length-append xs ys);
+}
+
+pub columns_with : (xs ys : List (List ℕ)) (b c : Columns) → HasColumns xs b → HasMore ys b c → HasColumns (xs ++ ys) c
+columns_with xs ys b c p q = record {
+  text = q.text ∙ (ap (λ (t : List ℕ). t ++ behind_each ys) p.text ∙ sym (more_text xs ys));
+  count = omega (arith, p.count, q.count, length-append xs ys);
+}
+
+instances_more : (p k n : ℕ) → instances_from p k (n + 1) ≡ instances_from p k n ++ named p (k + n) ∷ []
+instances_more p k zero = ap (λ (j : ℕ). named p j ∷ []) (let e : k ≡ k + 0 = omega arith in e)
+instances_more p k (suc n) =
+    ap (λ (xs : List ActorName). named p k ∷ xs)
+    (instances_more p (suc k) n ∙ ap (λ (j : ℕ). instances_from p (suc k) n ++ named p j ∷ []) (let e : suc k + n ≡ k + suc n = omega arith in e))
+
+-- those of these actors that take part, as columns
+abbrev pub chosen : Draft → List ActorName → List ActorName → List (List ℕ)
+chosen d xs names = map (sender_text d) (filter (takes_part xs) names)
+
+chosen_more : (d : Draft) (xs names others : List ActorName) → chosen d xs (names ++ others) ≡ chosen d xs names ++ chosen d xs others
+chosen_more d xs names others =
+    ap (map (sender_text d)) (filter-append (takes_part xs) names others)
+    ∙ map-append (sender_text d) (filter (takes_part xs) names) (filter (takes_part xs) others)
+
+pub more_names : (d : Draft) (xs names others all : List ActorName) (a b c : Columns) → all ≡ names ++ others → HasMore (chosen d xs names) a b
+    → HasMore (chosen d xs others) b c → HasMore (chosen d xs all) a c
+more_names d xs names others all a b c is p q =
+    let P : List (List ℕ) → Type 0 = λ ns. HasMore ns a c in
+    subst P (sym (ap (chosen d xs) is ∙ chosen_more d xs names others)) (more_behind (chosen d xs names) (chosen d xs others) a b c p q)
+
+-- one instance more
+pub instance_more : (d : Draft) (xs : List ActorName) (p i k : ℕ) (a b c : Columns) → k ≡ i + 1 → HasMore (chosen d xs (instances_from p 1 i)) a b
+    → HasMore (chosen d xs (named p k ∷ [])) b c → HasMore (chosen d xs (instances_from p 1 (i + 1))) a c
+instance_more d xs p i k a b c is q r =
+    let K : ℕ → Type 0 = λ j. HasMore (chosen d xs (named p j ∷ [])) b c in
+    more_names d xs (instances_from p 1 i) (named p (1 + i) ∷ []) (instances_from p 1 (i + 1)) a b c (instances_more p 1 i) q
+    (subst K (is ∙ (let e : i + 1 ≡ 1 + i = omega arith in e)) r)
+
+names_more : (p : ℕ) (ns : List ℕ) (n : ℕ) → names_from p (ns ++ n ∷ []) ≡ names_from p ns ++ instances_from (p + length ns) 1 n
+names_more p [] n =
+    append-nil (instances_from p 1 n) ∙ ap (λ (q : ℕ). instances_from q 1 n) (let e : p ≡ p + 0 = omega arith in e)
+names_more p (m ∷ ns) n =
+    ap (λ (xs : List ActorName). instances_from p 1 m ++ xs)
+    (names_more (suc p) ns n ∙ ap (λ (q : ℕ). names_from (suc p) ns ++ instances_from q 1 n) (let e : suc p + length ns ≡ p + suc (length ns) = omega arith in e))
+    ∙ sym (append_assoc (instances_from p 1 m) (names_from (suc p) ns) (instances_from (p + suc (length ns)) 1 n))
+
+-- the instances of one process more
+pub process_more : (d : Draft) (xs : List ActorName) (ps : List DraftProcess) (i : ℕ) (x : DraftProcess) (n : ℕ) (a b c : Columns) → i < length ps
+    → get_or ps i x ≡ x → n ≡ x.instances → HasMore (chosen d xs (actors_of (take i ps))) a b → HasMore (chosen d xs (instances_from i 1 n)) b c
+    → HasMore (chosen d xs (actors_of (take (i + 1) ps))) a c
+process_more d xs ps i x n a b c within is many p q =
+    let K : ℕ → Type 0 = λ j. HasMore (chosen d xs (instances_from i 1 j)) b c in
+    let ns : List ℕ = counts_of (take i ps) in
+    let few : length ns ≡ i = length-map (take i ps) (λ (y : DraftProcess). y.instances) ∙ length-take-le i ps (omega (arith, within)) in
+    let all : actors_of (take (i + 1) ps) ≡ actors_of (take i ps) ++ instances_from i 1 x.instances =
+    ap actors_of (take_more ps i x within ∙ ap (λ y. take i ps ++ y ∷ []) is)
+    ∙ (ap (names_from 0) (map-append (λ (y : DraftProcess). y.instances) (take i ps) (x ∷ []))
+    ∙ (names_more 0 ns x.instances ∙ ap (λ (k : ℕ). actors_of (take i ps) ++ instances_from k 1 x.instances) few)) in
+    more_names d xs (actors_of (take i ps)) (instances_from i 1 x.instances) (actors_of (take (i + 1) ps)) a b c all p (subst K many q)
+
+-- ---- notes
+
+pub no_note : (d : Draft) (me : ActorName) (lines : List (List ℕ)) → is_empty (below_each lines) ≡ true → note_of d me lines ≡ []
+no_note d me [] none = refl
+no_note d me (line ∷ lines) none = absurd (cc)
+
+pub a_note : (d : Draft) (me : ActorName) (lines : List (List ℕ)) → is_empty (below_each lines) ≡ false
+    → beside d me (codes " note ") (drop 2 (below_each lines)) ≡ note_of d me lines
+a_note d me [] some = absurd (cc)
+a_note d me (line ∷ lines) some = refl
+
+-- ---- the head of a chart
+
+pub heads_are : (names : List (List ℕ)) → drop 2 (behind_each names) ≡ heads names
+heads_are [] = refl
+heads_are (name ∷ names) = refl
