@@ -9,7 +9,9 @@ abbrev words : goal.After-seeing → SeeingWords
 words c = record {
   echo = c.is_given.result;
   trace = c.get_str-2.result;
-  thrown = c.get_str-3.result;
+  chart = c.get_str-3.result;
+  turns = c.get_str-4.result;
+  thrown = c.get_str-5.result;
   every = c.is_given-2.result;
 }
 
@@ -17,12 +19,14 @@ under_ids : (c : goal.After-seeing) → AreSeenUnder (given_by c.args.given.now)
 under_ids c = record {
   echo = ap says_true (sym c.get_str.ensures) ∙ sym c.is_given.ensures;
   trace = sym c.get_str-2.ensures;
-  thrown = sym c.get_str-3.ensures;
-  every = ap says_true (sym c.get_str-4.ensures) ∙ sym c.is_given-2.ensures;
+  chart = sym c.get_str-3.ensures;
+  turns = sym c.get_str-4.ensures;
+  thrown = sym c.get_str-5.ensures;
+  every = ap says_true (sym c.get_str-6.ensures) ∙ sym c.is_given-2.ensures;
 }
 
 pub returns-clause-some : goal.returns-clause-some
 returns-clause-some c = sees (given_by c.args.given.now) (words c) c.seeing.result (under_ids c) c.seeing.ensures.some
 
 pub returns-clause-none : goal.returns-clause-none
-returns-clause-none c = λ n. record { words = words c; under_ids = under_ids c; several = c.seeing.ensures.none n }
+returns-clause-none c = λ n. record { words = words c; under_ids = under_ids c; none = c.seeing.ensures.none n }
