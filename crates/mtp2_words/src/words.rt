@@ -109,7 +109,7 @@ fn script_named(word: &str) -> Source<'_>
 
 /// The set and the script that two words name, with what is seen of the run; none where standard input is to be both.
 fn played<'a>(set: &'a str, script: &'a str, seen: Seeing<'a>) -> Option<Request<'a>>
-    ensures play { IfSome result (IsPlay set.now script.now seen) }
+    ensures play { IfSome result (IsPlay set.now script.now seen.entry) }
     ensures none { IsNone result → AreStdin set.now script.now }
 {
     if are_stdin(set, script) {

@@ -36,10 +36,10 @@ opened_at d port env journal t is agree = record {
 
 -- how far the run of a list of commands came
 pub record BookGoing (lines : List PlainLine) (b : Ledger) (commands : List PlainSaid) (last : Option (List ℕ)) (first now : Option (List ℕ))
-    (begun traced : Option (List ℕ)) (book : Ledger) (latest : Option (List ℕ)) (t u : Tracer) : Type 0 where
+    (begun told : Option (List ℕ)) (book : Ledger) (latest : Option (List ℕ)) (t u : Tracer) : Type 0 where
   pub run : last ≡ None → IsRun b commands first now book latest
   pub every : u.every ≡ t.every
-  pub traced : last ≡ None → IsAtStart b t → BookTracing lines b commands begun traced u
+  pub traced : last ≡ None → IsAtStart b t → BookTracing lines b commands begun told u
 
 pub book_run_begins : (b : Ledger) (old last : Option (List ℕ)) → last ≡ None → IsRun b [] old old b last
 book_run_begins b old last none =
@@ -123,10 +123,10 @@ book_traced_part every lines b items i x begun now new u within is same stays mi
 
 -- how far the run of a list of commands came
 pub record TermGoing (keeps : Bool) (lines : List PlainLine) (t : Term) (commands : List PlainTermSaid) (last : Option (List ℕ)) (first now : Option (List ℕ))
-    (begun traced : Option (List ℕ)) (term : Term) (latest : Option (List ℕ)) (old new : Tracer) : Type 0 where
+    (begun told : Option (List ℕ)) (term : Term) (latest : Option (List ℕ)) (old new : Tracer) : Type 0 where
   pub run : last ≡ None → IsTermRun keeps t commands first now term latest
   pub every : new.every ≡ old.every
-  pub traced : last ≡ None → IsAtStart (book_in t) old → TermTracing keeps lines t commands begun traced new
+  pub traced : last ≡ None → IsAtStart (book_in t) old → TermTracing keeps lines t commands begun told new
 
 pub term_run_begins : (keeps : Bool) (t : Term) (old last : Option (List ℕ)) → last ≡ None → IsTermRun keeps t [] old old t last
 term_run_begins keeps t old last none =

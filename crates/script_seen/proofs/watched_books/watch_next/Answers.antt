@@ -8,3 +8,9 @@ returns-clause-watched g c on b before first run s =
     book_watched b before (plain_said c.args.said.now) (λ d ns. g.N.Watcher.knows d ns c.args.watcher.now) (λ d ns. g.N.Watcher.knows d ns c.watch.new.watcher) _ _ _ s
     (book_behind b _ first _ _ _ (c.in_ok-obey.ensures.goes c.if-not-branch.false b before first run)) c.in_ok-watch.ensures.first c.in_ok-watch.ensures.moved
     c.in_ok-watch.ensures.in_step c.in_ok-watch.ensures.knows
+
+pub returns-clause-goes : goal.returns-clause-goes
+returns-clause-goes g c on b before first run = c.in_ok-obey.ensures.goes c.if-not-branch.false b before first run
+
+pub returns-then-not-branch-clause-missed : goal.returns-then-not-branch-clause-missed
+returns-then-not-branch-clause-missed g c off = c.in_ok-obey.ensures.missed c.if-not-branch.true
