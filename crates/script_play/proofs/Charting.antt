@@ -1,9 +1,9 @@
 -- A chart, one turn more.
-use Rattle.std.proofs.Common.{◌≡◌, ◌∙◌, ℕ, zero, suc, ◌+◌, Bool, true, false, List, [], ◌∷◌, ◌++◌, length, map, take, drop, append-nil, append_assoc, get_or, ◌<◌, eqb-true, Option, Some, None, arith, refl, sym, ap, subst}
+use Rattle.std.proofs.Common.{◌≡◌, ◌∙◌, ℕ, zero, suc, ◌+◌, Bool, true, false, List, [], ◌∷◌, ◌++◌, length, map, take, drop, append-nil, append_assoc, get_or, ◌<◌, ◌≤◌, eqb-true, Option, Some, None, arith, refl, sym, ap, subst}
 use Rattle.std.specs.Prelude.{◌||◌, ◌==◌, filter, is_empty, if◌then◌else◌, codes}
 use Rattle.std.specs.List.{list_any, flat_map}
 use Rattle.std.proofs.lemmas.Bool.{false≢true}
-use Rattle.std.proofs.lemmas.List.{length-append, length-map, length-take-le, map-append, take_more}
+use Rattle.std.proofs.lemmas.List.{length-append, length-map, length-take-le, map-append, take_all, take_more}
 use Rattle.std.proofs.lemmas.List.Elements.{filter-append}
 use Rattle.std.proofs.lemmas.Grind.{flat_map-append}
 use Rattle.turn_code.specs.Outcome.{Outcome}
@@ -208,11 +208,15 @@ columns_with xs ys b c p q = record {
   count = omega (arith, p.count, q.count, length-append xs ys);
 }
 
-instances_more : (p k n : ℕ) → instances_from p k (n + 1) ≡ instances_from p k n ++ named p (k + n) ∷ []
-instances_more p k zero = ap (λ (j : ℕ). named p j ∷ []) (let e : k ≡ k + 0 = omega arith in e)
-instances_more p k (suc n) =
-    ap (λ (xs : List ActorName). named p k ∷ xs)
-    (instances_more p (suc k) n ∙ ap (λ (j : ℕ). instances_from p (suc k) n ++ named p j ∷ []) (let e : suc k + n ≡ k + suc n = omega arith in e))
+instances_length : (p k n : ℕ) → length (instances_from p k n) ≡ n
+instances_length p k zero = refl
+instances_length p k (suc n) = ap (λ (m : ℕ). suc m) (instances_length p (suc k) n)
+
+instance_at : (p k n i : ℕ) (x : ActorName) → i < n → get_or (instances_from p k n) i x ≡ named p (k + i)
+instance_at p k zero i x within = absurd (omega (arith, within))
+instance_at p k (suc n) zero x within = ap (named p) (let e : k ≡ k + 0 = omega arith in e)
+instance_at p k (suc n) (suc i) x within =
+    instance_at p (suc k) n i x (omega (arith, within)) ∙ ap (named p) (let e : suc k + i ≡ k + suc i = omega arith in e)
 
 -- those of these actors that take part, as columns
 abbrev pub chosen : Draft → List ActorName → List ActorName → List (List ℕ)
@@ -230,12 +234,22 @@ more_names d xs names others all a b c is p q =
     subst P (sym (ap (chosen d xs) is ∙ chosen_more d xs names others)) (more_behind (chosen d xs names) (chosen d xs others) a b c p q)
 
 -- one instance more
-pub instance_more : (d : Draft) (xs : List ActorName) (p i k : ℕ) (a b c : Columns) → k ≡ i + 1 → HasMore (chosen d xs (instances_from p 1 i)) a b
-    → HasMore (chosen d xs (named p k ∷ [])) b c → HasMore (chosen d xs (instances_from p 1 (i + 1))) a c
-instance_more d xs p i k a b c is q r =
-    let K : ℕ → Type 0 = λ j. HasMore (chosen d xs (named p j ∷ [])) b c in
-    more_names d xs (instances_from p 1 i) (named p (1 + i) ∷ []) (instances_from p 1 (i + 1)) a b c (instances_more p 1 i) q
-    (subst K (is ∙ (let e : i + 1 ≡ 1 + i = omega arith in e)) r)
+pub instance_more : (d : Draft) (xs : List ActorName) (p n i k : ℕ) (a b c : Columns) → i < n → k ≡ i + 1
+    → HasMore (chosen d xs (take i (instances_from p 1 n))) a b → HasMore (chosen d xs (named p k ∷ [])) b c
+    → HasMore (chosen d xs (take (i + 1) (instances_from p 1 n))) a c
+instance_more d xs p n i k a b c within is q r =
+    let all : List ActorName = instances_from p 1 n in
+    let far : i < length all = omega (arith, within, instances_length p 1 n) in
+    let this : get_or all i (named p k) ≡ named p k =
+    instance_at p 1 n i (named p k) within ∙ ap (named p) (let e : 1 + i ≡ k = omega (arith, is) in e) in
+    more_names d xs (take i all) (named p k ∷ []) (take (i + 1) all) a b c
+    (take_more all i (named p k) far ∙ ap (λ (y : ActorName). take i all ++ y ∷ []) this) q r
+
+pub all_instances : (d : Draft) (xs : List ActorName) (p n i : ℕ) (a b : Columns) → n ≤ i → HasMore (chosen d xs (take i (instances_from p 1 n))) a b
+    → HasMore (chosen d xs (instances_from p 1 n)) a b
+all_instances d xs p n i a b over q =
+    let P : List ActorName → Type 0 = λ l. HasMore (chosen d xs l) a b in
+    subst P (take_all i (instances_from p 1 n) (omega (arith, over, instances_length p 1 n))) q
 
 names_more : (p : ℕ) (ns : List ℕ) (n : ℕ) → names_from p (ns ++ n ∷ []) ≡ names_from p ns ++ instances_from (p + length ns) 1 n
 names_more p [] n =
@@ -258,6 +272,21 @@ process_more d xs ps i x n a b c within is many p q =
     ∙ (ap (names_from 0) (map-append (λ (y : DraftProcess). y.instances) (take i ps) (x ∷ []))
     ∙ (names_more 0 ns x.instances ∙ ap (λ (k : ℕ). actors_of (take i ps) ++ instances_from k 1 x.instances) few)) in
     more_names d xs (actors_of (take i ps)) (instances_from i 1 x.instances) (actors_of (take (i + 1) ps)) a b c all p (subst K many q)
+
+pub all_processes : (d : Draft) (xs : List ActorName) (ps : List DraftProcess) (i : ℕ) (a b : Columns) → length ps ≤ i
+    → HasMore (chosen d xs (actors_of (take i ps))) a b → HasMore (chosen d xs (actors_of ps)) a b
+all_processes d xs ps i a b over q =
+    let P : List DraftProcess → Type 0 = λ l. HasMore (chosen d xs (actors_of l)) a b in subst P (take_all i ps over) q
+
+-- an actor that takes part, or doesn't
+pub chosen_one : (d : Draft) (xs : List ActorName) (actor : ActorName) (a b : Columns) → takes_part xs actor ≡ true → HasMore (sender_text d actor ∷ []) a b
+    → HasMore (chosen d xs (actor ∷ [])) a b
+chosen_one d xs actor a b has more =
+    let F : Bool → Type 0 = λ t. HasMore (map (sender_text d) (if t then actor ∷ [] else [])) a b in subst F (sym has) more
+
+pub chosen_none : (d : Draft) (xs : List ActorName) (actor : ActorName) (a : Columns) → takes_part xs actor ≡ false → HasMore (chosen d xs (actor ∷ [])) a a
+chosen_none d xs actor a not_there =
+    let F : Bool → Type 0 = λ t. HasMore (map (sender_text d) (if t then actor ∷ [] else [])) a a in subst F (sym not_there) (none_more a)
 
 -- ---- notes
 
