@@ -1,8 +1,9 @@
 -- A chart, one turn more.
 use Rattle.std.proofs.Common.{◌≡◌, ◌∙◌, ℕ, zero, suc, ◌+◌, Bool, true, false, List, [], ◌∷◌, ◌++◌, length, map, take, drop, append-nil, append_assoc, get_or, ◌<◌, ◌≤◌, eqb-true, Option, Some, None, arith, refl, sym, ap, subst}
-use Rattle.std.specs.Prelude.{◌||◌, ◌==◌, filter, is_empty, if◌then◌else◌, codes}
+use Rattle.std.specs.Prelude.{◌||◌, ◌==◌, filter, is_empty, is_some, option_map, if◌then◌else◌, codes}
 use Rattle.std.specs.List.{list_any, flat_map}
 use Rattle.std.proofs.lemmas.Bool.{false≢true}
+use Rattle.std.proofs.lemmas.Option.{same_Some}
 use Rattle.std.proofs.lemmas.List.{length-append, length-map, length-take-le, map-append, take_all, take_more}
 use Rattle.std.proofs.lemmas.List.Elements.{filter-append}
 use Rattle.std.proofs.lemmas.Grind.{flat_map-append}
@@ -12,12 +13,14 @@ use Rattle.turn_code.specs.declared.effect.Effect.{Effect}
 use Rattle.turn_code.specs.declared.draft.DraftProcess.{DraftProcess}
 use Rattle.script_lines.specs.Replies.{sender_text}
 use Rattle.script_seen.specs.Names.{same_actor, named, instances_from, names_from, counts_of, actors_of}
+use Rattle.script_seen.specs.Told.{lost_at}
 use Rattle.script_seen.specs.Turn.{Turn, outcome_of}
 use Rattle.script_seen.specs.Watched.{Notice, TurnEnd, IsEnd, Throw, ends, throws, turns_in}
 use Rattle.script_seen.specs.actor_machine_types.name.ActorName.{ActorName}
+use Rattle.script_seen.specs.actor_machine_types.reply.Lost.{Lost}
 use Rattle.script_seen.specs.actor_machine_types.reply.Report.{Report}
 use Rattle.script_seen.specs.declared.turns.Ended.{Ended}
-use Rattle.script_play.specs.Charted.{time_text, row_text, rows_text, is_in, has_outside, is_drawn, last_clock, end_of, takes_part, head_of, heads, behind_each, stacked, below_each, note_of, beside, Charts, IsDrawn, TakesPart, HasMore, HasColumns}
+use Rattle.script_play.specs.Charted.{time_text, row_text, rows_text, came_text, box_text, outs_text, timing_of, is_in, is_sender, gets, get_it, came_from_outside, goes_outside, has_outside, is_drawn, last_clock, end_of, takes_part, head_of, heads, behind_each, stacked, below_each, note_of, beside, Charts, IsDrawn, TakesPart, HasMore, HasColumns}
 use Rattle.script_play.specs.declared.charts.Chart.{Chart}
 use Rattle.script_play.specs.declared.columns.Columns.{Columns}
 
@@ -184,6 +187,79 @@ none_part c = record {
   clock = refl;
   cut = refl;
 }
+
+effects_are : (x : Option Outcome) (o : Outcome) (es : List Effect) → option_map (λ (y : Outcome). y.progress.effects) x ≡ Some es → x ≡ Some o
+    → es ≡ o.progress.effects
+effects_are x o es part is = same_Some es o.progress.effects (sym part ∙ ap (option_map (λ (y : Outcome). y.progress.effects)) is)
+
+-- whoever is drawn with a turn
+pub all_enter : (d : Draft) (e : Ended) (es : List Effect) (c m k n : Chart) → option_map (λ (y : Outcome). y.progress.effects) (outcome_of e.done) ≡ Some es
+    → TakesPart (same_actor e.me) false c m → TakesPart (is_sender e.done.input.sender) (came_from_outside e.done.input.sender) m k
+    → TakesPart (get_it d e.me e.report.lost.items 0 es) (list_any goes_outside es) k n → (o : Outcome) → outcome_of e.done ≡ Some o
+    → TakesPart (λ x. is_in d x (end_of e o)) (has_outside (end_of e o)) c n
+all_enter d e es c m k n part own sender others o ran =
+    let E : List Effect → Type 0 =
+    λ l. TakesPart (λ x. same_actor e.me x || (is_sender e.done.input.sender x || get_it d e.me e.report.lost.items 0 l x))
+    (came_from_outside e.done.input.sender || list_any goes_outside l) c n in
+    subst E (effects_are (outcome_of e.done) o es part ran)
+    (both_part (same_actor e.me) (λ x. is_sender e.done.input.sender x || get_it d e.me e.report.lost.items 0 es x) false
+    (came_from_outside e.done.input.sender || list_any goes_outside es) c m n own
+    (both_part (is_sender e.done.input.sender) (get_it d e.me e.report.lost.items 0 es) (came_from_outside e.done.input.sender) (list_any goes_outside es) m k n
+    sender others))
+
+-- ---- effects, one more
+
+gets_more : (d : Draft) (me : ActorName) (lost : List Lost) (k : ℕ) (es : List Effect) (e : Effect) (x : ActorName)
+    → get_it d me lost k (es ++ e ∷ []) x ≡ (get_it d me lost k es x || gets d me (is_some (lost_at lost (k + length es))) e x)
+gets_more d me lost k [] e x =
+    or_none (gets d me (is_some (lost_at lost k)) e x)
+    ∙ ap (λ (j : ℕ). gets d me (is_some (lost_at lost j)) e x) (let f : k ≡ k + 0 = omega arith in f)
+gets_more d me lost k (y ∷ es) e x =
+    ap (λ (b : Bool). gets d me (is_some (lost_at lost k)) y x || b)
+    (gets_more d me lost (k + 1) es e x
+    ∙ ap (λ (j : ℕ). get_it d me lost (k + 1) es x || gets d me (is_some (lost_at lost j)) e x) (let f : k + 1 + length es ≡ k + suc (length es) = omega arith in f))
+    ∙ or_more (gets d me (is_some (lost_at lost k)) y x) (get_it d me lost (k + 1) es x) (gets d me (is_some (lost_at lost (k + suc (length es)))) e x)
+
+pub effect_more : (d : Draft) (me : ActorName) (lost : List Lost) (es : List Effect) (i : ℕ) (e : Effect) (is_lost : Bool) (c m n : Chart) → i < length es
+    → get_or es i e ≡ e → is_lost ≡ is_some (lost_at lost i) → TakesPart (get_it d me lost 0 (take i es)) (list_any goes_outside (take i es)) c m
+    → TakesPart (gets d me is_lost e) (goes_outside e) m n
+    → TakesPart (get_it d me lost 0 (take (i + 1) es)) (list_any goes_outside (take (i + 1) es)) c n
+effect_more d me lost es i e is_lost c m n within is how p q =
+    let few : length (take i es) ≡ i = length-take-le i es (omega (arith, within)) in
+    let all : take i es ++ e ∷ [] ≡ take (i + 1) es = sym (take_more es i e within ∙ ap (λ (y : Effect). take i es ++ y ∷ []) is) in
+    let P : List Effect → Type 0 = λ l. TakesPart (get_it d me lost 0 l) (list_any goes_outside l) c n in
+    let B : Bool → Type 0 = λ b. TakesPart (gets d me b e) (goes_outside e) m n in
+    let here : is_lost ≡ is_some (lost_at lost (0 + length (take i es))) = how ∙ ap (λ (j : ℕ). is_some (lost_at lost j)) (sym few) in
+    subst P all
+    (part_as _ _ _ _ c n (λ x. sym (gets_more d me lost 0 (take i es) e x)) (sym (any_more goes_outside (take i es) e))
+    (both_part (get_it d me lost 0 (take i es)) (gets d me (is_some (lost_at lost (0 + length (take i es)))) e) (list_any goes_outside (take i es)) (goes_outside e)
+    c m n p (subst B here q)))
+
+pub all_effects : (d : Draft) (me : ActorName) (lost : List Lost) (es : List Effect) (i : ℕ) (c n : Chart) → length es ≤ i
+    → TakesPart (get_it d me lost 0 (take i es)) (list_any goes_outside (take i es)) c n → TakesPart (get_it d me lost 0 es) (list_any goes_outside es) c n
+all_effects d me lost es i c n over p =
+    let P : List Effect → Type 0 = λ l. TakesPart (get_it d me lost 0 l) (list_any goes_outside l) c n in subst P (take_all i es over) p
+
+-- ---- the rows of a turn
+
+five_pieces : (a t c b o n r s u v w : List ℕ) → r ≡ a ++ t → s ≡ r ++ c → u ≡ s ++ b → v ≡ u ++ o → w ≡ v ++ n → w ≡ a ++ (t ++ (c ++ (b ++ (o ++ n))))
+five_pieces a t c b o n r s u v w p q h k l =
+    l
+    ∙ (ap (λ (x : List ℕ). x ++ n) (k ∙ ap (λ (x : List ℕ). x ++ o) (h ∙ ap (λ (x : List ℕ). x ++ b) (q ∙ ap (λ (x : List ℕ). x ++ c) p)))
+    ∙ simp append_assoc)
+
+pub turn_rows : (d : Draft) (e : Ended) (es : List Effect) (last : Option ℕ) (a r s u v w : List ℕ)
+    → option_map (λ (y : Outcome). y.progress.effects) (outcome_of e.done) ≡ Some es → r ≡ a ++ time_text last e.clock
+    → s ≡ r ++ came_text d e.me e.done e.done.place → u ≡ s ++ box_text d e.me e.done.place e.report.end → v ≡ u ++ outs_text d e.me e.report.lost.items 0 es
+    → w ≡ v ++ note_of d e.me (flat_map (timing_of d e.me.process.0 e.clock) es) → (o : Outcome) → outcome_of e.done ≡ Some o
+    → w ≡ a ++ (time_text last e.clock ++ row_text d (end_of e o))
+turn_rows d e es last a r s u v w part p q h k l o ran =
+    let E : List Effect → Type 0 =
+    λ x. w ≡ a ++ (time_text last e.clock ++ (came_text d e.me e.done e.done.place ++ (box_text d e.me e.done.place e.report.end
+    ++ (outs_text d e.me e.report.lost.items 0 x ++ note_of d e.me (flat_map (timing_of d e.me.process.0 e.clock) x))))) in
+    subst E (effects_are (outcome_of e.done) o es part ran)
+    (five_pieces a (time_text last e.clock) (came_text d e.me e.done e.done.place) (box_text d e.me e.done.place e.report.end)
+    (outs_text d e.me e.report.lost.items 0 es) (note_of d e.me (flat_map (timing_of d e.me.process.0 e.clock) es)) r s u v w p q h k l)
 
 -- ---- columns
 
