@@ -438,3 +438,18 @@ chart_is d cut own ts c cs width heads_text same is columns_have wide heads_have
     ∙ (ap (λ (t : List ℕ). codes "msc {\n  width=\"" ++ (decimal (COLUMN * length (columns d ds)) ++ (codes "\", arcgradient=\"0\";\n  " ++ (t ++ (codes ";\n" ++ (c.rows.items ++ codes "}\n")))))) H
     ∙ (ap (λ (t : List ℕ). codes "msc {\n  width=\"" ++ (decimal (COLUMN * length (columns d ds)) ++ (codes "\", arcgradient=\"0\";\n  " ++ (heads (columns d ds) ++ (codes ";\n" ++ (t ++ codes "}\n")))))) k.rows
     ∙ C))
+
+pub columns_made : (d : Draft) (has out : Bool) (ys xs : List ActorName) (a b : Columns) → has ≡ out → ys ≡ xs
+    → HasColumns (if has then codes "ENV" ∷ [] else []) a → HasMore (chosen d ys (actors_of d.processes)) a b → HasColumns (columns_of d out xs) b
+columns_made d has out ys xs a b same actors first more =
+    let B : Bool → Type 0 = λ x. HasColumns ((if x then codes "ENV" ∷ [] else []) ++ chosen d ys (actors_of d.processes)) b in
+    let A : List ActorName → Type 0 = λ l. HasColumns ((if out then codes "ENV" ∷ [] else []) ++ chosen d l (actors_of d.processes)) b in
+    subst A actors (subst B same (columns_with (if has then codes "ENV" ∷ [] else []) (chosen d ys (actors_of d.processes)) a b first more))
+
+pub seven_pieces : (m n a h s r e q u v w x y z : List ℕ) → q ≡ m → u ≡ q ++ n → v ≡ u ++ a → w ≡ v ++ h → x ≡ w ++ s → y ≡ x ++ r → z ≡ y ++ e
+    → z ≡ m ++ (n ++ (a ++ (h ++ (s ++ (r ++ e)))))
+seven_pieces m n a h s r e q u v w x y z is1 is2 is3 is4 is5 is6 is7 =
+    let f : List ℕ → List ℕ → List ℕ = λ l k. l ++ k in
+    is7
+    ∙ (ap (λ l. f l e) (is6 ∙ ap (λ l. f l r) (is5 ∙ ap (λ l. f l s) (is4 ∙ ap (λ l. f l h) (is3 ∙ ap (λ l. f l a) (is2 ∙ ap (λ l. f l n) is1)))))
+    ∙ simp append_assoc)
