@@ -14,5 +14,9 @@ pub use clap::Error;
 pub use clap::error::ErrorKind;
 pub use ends::{LineEnd, LineWords, line_end};
 pub use script_links::RoundLimits;
+<<<<<<< HEAD
 pub use seeing::{Seeing, SeeingWords, Sight, Turns, seeing};
+=======
+pub use seeing::{Seeing, SeeingWords, Sight, seen_by};
+>>>>>>> h37-seen2-first
 pub use words::{Named, Request, Source, read};

@@ -1,6 +1,6 @@
 use Rattle.std.specs.Prelude.{◌||◌, is_none}
 use Rattle.script_play.proofs.Charting.{columns_made}
-use Rattle.script_play.proofs.charts.Chart.columns.Goals as goal
+use Rattle.script_play.proofs.charts.Chart.all_columns.Goals as goal
 
 pub returns : goal.returns
 returns c =
