@@ -14,9 +14,5 @@ pub use clap::Error;
 pub use clap::error::ErrorKind;
 pub use ends::{LineEnd, LineWords, line_end};
 pub use script_links::RoundLimits;
-<<<<<<< HEAD
-pub use seeing::{Seeing, SeeingWords, Sight, Turns, seeing};
-=======
-pub use seeing::{Seeing, SeeingWords, Sight, seen_by};
->>>>>>> h37-seen2-first
+pub use seeing::{Seeing, SeeingWords, Sight, Turns, seen_by};
 pub use words::{Named, Request, Source, read};

@@ -95,7 +95,6 @@ fn sight_of<'a>(words: &SeeingWords<'a>) -> Option<Sight<'a>>
     }
 }
 
-<<<<<<< HEAD
 /// The turns from one number to another.
 fn turns_between(first: Option<u32>, last: Option<u32>) -> Option<Turns>
     ensures { result ≡ both_turns first last }
@@ -136,11 +135,7 @@ fn turns_in(word: Option<&str>) -> Option<Turns>
 }
 
 /// What of a run is to be seen, by words; none where more is asked for than is had at a time, where turns are named without a chart, or a word names none.
-pub fn seeing<'a>(words: &SeeingWords<'a>) -> Option<Seeing<'a>>
-=======
-/// What of a run is to be seen, by words; none where more is asked for than is had at a time.
 pub fn seen_by<'a>(words: &SeeingWords<'a>) -> Option<Seeing<'a>>
->>>>>>> h37-seen2-first
     ensures some { IfSome result (IsSeenBy words.now) }
     ensures none { IsNone result → IsNoSeeing words.now }
 {

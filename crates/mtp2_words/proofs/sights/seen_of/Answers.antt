@@ -29,8 +29,4 @@ pub returns-clause-some : goal.returns-clause-some
 returns-clause-some c = sees (given_by c.args.given.now) (words c) c.seen_by.result (under_ids c) c.seen_by.ensures.some
 
 pub returns-clause-none : goal.returns-clause-none
-<<<<<<< HEAD
-returns-clause-none c = λ n. record { words = words c; under_ids = under_ids c; none = c.seeing.ensures.none n }
-=======
-returns-clause-none c = λ n. record { words = words c; under_ids = under_ids c; several = c.seen_by.ensures.none n }
->>>>>>> h37-seen2-first
+returns-clause-none c = λ n. record { words = words c; under_ids = under_ids c; none = c.seen_by.ensures.none n }
