@@ -105,22 +105,24 @@ IsPlaySeenInPart usual (AtEnd told) old new from to d bytes =
 
 -- A script was played as it is to be seen: with the lines of its commands, where that is asked for;
 -- else with what is wanted of it in a file, where there is one, which had this and now has that.
-abbrev pub IsWatched :
-    RoundLimits → Bool → Wanted → Option (List ℕ) → Option (List ℕ) → Option (Option (List ℕ))
-    → Option (Option (List ℕ)) → Draft → List ℕ → Type 0
-IsWatched usual true wanted old new begun now d bytes = IsPlayed usual true old new d bytes
-IsWatched usual false wanted old new None now d bytes = IsPlayed usual false old new d bytes
-IsWatched usual false wanted old new (Some begun) None d bytes = ⊥
-IsWatched usual false wanted old new (Some begun) (Some now) d bytes =
-    IsPlaySeen usual wanted old new begun now d bytes
+pub data IsWatched (usual : RoundLimits) (echo : Bool) (wanted : Wanted)
+    (old new : Option (List ℕ)) (begun now : Option (Option (List ℕ))) (d : Draft)
+    (bytes : List ℕ) : Type 0 where
+  has_lines : echo ≡ true → IsPlayed usual echo old new d bytes
+      → IsWatched usual echo wanted old new begun now d bytes
+  has_neither : echo ≡ false → begun ≡ None → IsPlayed usual echo old new d bytes
+      → IsWatched usual echo wanted old new begun now d bytes
+  has_file : (was has : Option (List ℕ)) → echo ≡ false → begun ≡ Some was → now ≡ Some has
+      → IsPlaySeen usual wanted old new was has d bytes
+      → IsWatched usual echo wanted old new begun now d bytes
 
-abbrev pub IsWatchedInPart :
-    RoundLimits → Bool → Wanted → Option (List ℕ) → Option (List ℕ) → Option (Option (List ℕ))
-    → Option (Option (List ℕ)) → Draft → List ℕ → Type 0
-IsWatchedInPart usual true wanted old new begun now d bytes =
-    IsPlayedInPart usual true old new d bytes
-IsWatchedInPart usual false wanted old new None now d bytes =
-    IsPlayedInPart usual false old new d bytes
-IsWatchedInPart usual false wanted old new (Some begun) None d bytes = ⊥
-IsWatchedInPart usual false wanted old new (Some begun) (Some now) d bytes =
-    IsPlaySeenInPart usual wanted old new begun now d bytes
+pub data IsWatchedInPart (usual : RoundLimits) (echo : Bool) (wanted : Wanted)
+    (old new : Option (List ℕ)) (begun now : Option (Option (List ℕ))) (d : Draft)
+    (bytes : List ℕ) : Type 0 where
+  has_lines_in_part : echo ≡ true → IsPlayedInPart usual echo old new d bytes
+      → IsWatchedInPart usual echo wanted old new begun now d bytes
+  has_neither_in_part : echo ≡ false → begun ≡ None → IsPlayedInPart usual echo old new d bytes
+      → IsWatchedInPart usual echo wanted old new begun now d bytes
+  has_file_in_part : (was has : Option (List ℕ)) → echo ≡ false → begun ≡ Some was → now ≡ Some has
+      → IsPlaySeenInPart usual wanted old new was has d bytes
+      → IsWatchedInPart usual echo wanted old new begun now d bytes
