@@ -260,8 +260,8 @@ def called(signal, given):
 def chart(seen, least=0, most=None):
     """The turns as a chart in mscgen's language."""
     turns = [it for it in seen.turns if it[0] >= least and (most is None or it[0] <= most)]
-    here = {it[2] for it in turns} | {it[6] for it in turns if it[6]} | {to for it in turns for part in it[8] if part[0] == "output" for to in [part[3]] if to == "ENV"}
-    ordered = [it for it in ["ENV", *(actor.shown() for actor in seen.book.actors)] if it in here]
+    here = {it[2] for it in turns} | {it[6] for it in turns if it[6]} | {part[3] for it in turns for part in it[8] if part[0] == "output" and (part[4] or part[3] == "ENV")}
+    ordered = [it for it in ["ENV", *(actor.shown() for actor in seen.book.actors)] if it in here] or ["ENV"]
     out = ["msc {", f'  width="{140 * len(ordered)}", arcgradient="0";', "  " + ", ".join(f'"{it}" [label="{it}"]' for it in ordered) + ";"]
     clock, states = None, {}
     for number, at, actor, place, trigger, given, source, end, laid in turns:
@@ -275,10 +275,12 @@ def chart(seen, least=0, most=None):
             out.append(f'  "{actor}" note "{actor}" [label="{signal} runs out"];')
         if end != state:
             out.append(f'  "{actor}" abox "{actor}" [label="{end}"];')
-        out += [f'  "{actor}" => "ENV" [label="{called(part[1], part[2])}"];' for part in laid if part[0] == "output" and part[3] == "ENV"]
+        for part in laid:
+            if part[0] == "output" and (part[4] or part[3] == "ENV"):
+                out.append(f'  "{actor}" {"-x" if part[4] else "=>"} "{part[3]}" [label="{called(part[1], part[2])}"];')
         notes = [told(part) for part in laid if part[0] != "output"]
         if notes:
-            out.append(f'  "{actor}" note "{actor}" [label="{quoted(chr(92) + "n".join(notes)) if False else (chr(92) + "n").join(notes)}"];')
+            out.append(f'  "{actor}" note "{actor}" [label="{(chr(92) + "n").join(notes)}"];')
     return out + ["}"]
 
 

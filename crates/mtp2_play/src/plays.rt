@@ -10,7 +10,7 @@ use crate::sets::{STDIN, own_set, set_word};
 use mtp2_words::{Named, Seeing, Sight, Source};
 use plain_text::{NamedReader, Teller};
 use script_check::{FAILED, SetWord};
-use script_play::{Wanted, play, play_seen};
+use script_play::{Cut, Told, Wanted, play, play_seen};
 use std::alloc::Global;
 use std::fs;
 use std::io::{Read, Write};
@@ -237,6 +237,7 @@ fn run_watched<R: Runtime + AllocGlobal, H: Eprint, F: Write, W: Write>(
 fn path_of<'a>(sight: Sight<'a>) -> &'a str {
     match sight {
         Sight::Trace(path) => path,
+        Sight::Chart(path) => path,
         Sight::Thrown(path) => path,
         Sight::Capture(path) => path,
     }
@@ -245,7 +246,11 @@ fn path_of<'a>(sight: Sight<'a>) -> &'a str {
 /// What is wanted of a run, where there is a file for it.
 fn wanted_of(seen: &Seeing<'_>) -> Wanted {
     match seen.sight {
-        Some(Sight::Thrown(_)) => Wanted::Thrown,
+        Some(Sight::Chart(_)) => Wanted::AtEnd(Told::Chart(Cut {
+            first: seen.turns.first,
+            last: seen.turns.last,
+        })),
+        Some(Sight::Thrown(_)) => Wanted::AtEnd(Told::Thrown),
         Some(Sight::Capture(_)) => Wanted::Capture(seen.every),
         _ => Wanted::Trace(seen.every),
     }

@@ -1,6 +1,6 @@
 -- What the words of a command line ask for, by the ids under which they stand in its matches, and
 -- why they ask for nothing.
-use Rattle.std.specs.Prelude.{◌≡◌, ◌⊎◌, ◌≤◌, ℕ, Bool, true, List, Option, Some, None, IsSomeAnd}
+use Rattle.std.specs.Prelude.{◌≡◌, ◌⊎◌, ℕ, Bool, true, List, Option, Some, None, IsSomeAnd}
 use Rattle.std.specs.Prelude.{option_map, option_and_then, codes}
 use Rattle.std.specs.List.{AllZip}
 use Rattle.clap.specs.Words.{Row, Text, all_of, first_of, first_value, found_of}
@@ -10,7 +10,7 @@ use Rattle.mtp2_words.specs.declared.ends.LineEnd.{LineEnd}
 use Rattle.mtp2_words.specs.declared.ends.LineWords.{LineWords}
 use Rattle.mtp2_words.specs.Words.{command_of, says_true, workers_of, IsNamed, IsOwnNamed}
 use Rattle.mtp2_words.specs.Words.{IsSource, IsText, NamesNone}
-use Rattle.mtp2_words.specs.Seeing.{IsSeenBy, asked_of}
+use Rattle.mtp2_words.specs.Seeing.{IsSeenBy, IsNoSeeing}
 use Rattle.mtp2_words.specs.declared.seeing.Seeing.{Seeing}
 use Rattle.mtp2_words.specs.declared.seeing.SeeingWords.{SeeingWords}
 use Rattle.mtp2_words.specs.declared.words.Named.{Named}
@@ -42,6 +42,8 @@ pub record AreBothStdin (given : Given) : Type 0 where
 pub record AreSeenUnder (given : Given) (words : SeeingWords) : Type 0 where
   pub echo : says_true (given (codes "echo")) ≡ words.echo
   pub trace : given (codes "trace") ≡ option_map (λ w. w.now) words.trace
+  pub chart : given (codes "chart") ≡ option_map (λ w. w.now) words.chart
+  pub turns : given (codes "turns") ≡ option_map (λ w. w.now) words.turns
   pub thrown : given (codes "thrown") ≡ option_map (λ w. w.now) words.thrown
   pub capture : given (codes "capture") ≡ option_map (λ w. w.now) words.capture
   pub every : says_true (given (codes "every")) ≡ words.every
@@ -52,11 +54,12 @@ pub record AsksSeen (given : Given) (seen : Seeing) : Type 0 where
   pub under_ids : AreSeenUnder given words
   pub seen_is : IsSeenBy words seen
 
--- options are there that ask for more than is had at a time
+-- options are there that ask for more than is had at a time, or for turns without a chart, or for
+-- none
 pub record SaysNoSeeing (given : Given) : Type 0 where
   pub words : SeeingWords
   pub under_ids : AreSeenUnder given words
-  pub several : 2 ≤ asked_of words
+  pub none : IsNoSeeing words
 
 -- `play`: the set that SET names, and the script that SCRIPT names; standard input isn't both
 pub record AsksPlay (given : Given) (set : Named) (script : Source) (seen : Seeing) :

@@ -138,6 +138,18 @@ fn with_seeing_options<'a>(alloc: Global, command: Command<'a>) -> Result<Comman
         "PATH",
         "A file or a FIFO for a trace: a line for each command, each signal of the environment, each timer that runs out and each turn",
     );
+    let chart = option_word(
+        alloc,
+        "chart",
+        "PATH",
+        "A file or a FIFO for a chart of the turns, in the language of mscgen",
+    );
+    let turns = option_word(
+        alloc,
+        "turns",
+        "A..B",
+        "Which turns are drawn, by their numbers in a trace; all where nothing is said",
+    );
     let thrown = option_word(
         alloc,
         "thrown",
@@ -158,6 +170,8 @@ fn with_seeing_options<'a>(alloc: Global, command: Command<'a>) -> Result<Comman
     command
         .arg(echo)?
         .arg(trace)?
+        .arg(chart)?
+        .arg(turns)?
         .arg(thrown)?
         .arg(capture)?
         .arg(every)

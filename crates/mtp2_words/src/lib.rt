@@ -14,5 +14,5 @@ pub use clap::Error;
 pub use clap::error::ErrorKind;
 pub use ends::{LineEnd, LineWords, line_end};
 pub use script_links::RoundLimits;
-pub use seeing::{Seeing, SeeingWords, Sight, seen_by};
+pub use seeing::{Seeing, SeeingWords, Sight, Turns, seen_by};
 pub use words::{Named, Request, Source, read};

@@ -14,6 +14,8 @@ pub(crate) fn seen_of<'a>(given: &ArgMatches<'a>) -> Option<Seeing<'a>>
     seen_by(&SeeingWords {
         echo: is_given(given.get_str("echo")),
         trace: given.get_str("trace"),
+        chart: given.get_str("chart"),
+        turns: given.get_str("turns"),
         thrown: given.get_str("thrown"),
         capture: given.get_str("capture"),
         every: is_given(given.get_str("every")),

@@ -1,6 +1,7 @@
 mod Refusals
 mod Texts
 mod Throwing
+mod Charting
 mod Tellings
 pub mod Watching
 mod Capturings

@@ -1,5 +1,5 @@
 -- What was thrown away, counted once more.
-use Rattle.std.proofs.Common.{◌≡◌, ◌∙◌, ℕ, zero, suc, ◌+◌, ◌<◌, Bool, true, false, List, [], ◌∷◌, ◌++◌, length, map, get_or, slice_set, Option, None, Some, arith, refl, sym, ap}
+use Rattle.std.proofs.Common.{◌≡◌, ◌∙◌, ℕ, zero, suc, ◌+◌, ◌<◌, Bool, true, false, List, [], ◌∷◌, ◌++◌, append_assoc, length, map, get_or, slice_set, Option, None, Some, arith, refl, sym, ap}
 use Rattle.std.specs.Prelude.{cond, if◌then◌else◌, position}
 use Rattle.std.specs.List.{position_from}
 use Rattle.std.proofs.lemmas.Iterator.Adapters.{position_from-zero}
@@ -42,6 +42,16 @@ new_from x (c ∷ cs) i none = new_by x c cs i (same_throw c x) none (new_from x
 -- it wasn't
 pub counted_first : (x : Throw) (cs : List Throw) → position (λ (c : Throw). same_throw c x) cs ≡ None → cs ++ x ∷ [] ≡ counted_throw x cs
 counted_first x cs none = sym (new_from x cs 0 (sym (position_from-zero (λ (c : Throw). same_throw c x) cs) ∙ none))
+
+-- ---- a line
+
+pub eight_pieces : (a p s q t g u n e b c d f h i j k : List ℕ) → b ≡ a ++ p → c ≡ b ++ s → d ≡ c ++ q → f ≡ d ++ t → h ≡ f ++ g → i ≡ h ++ u → j ≡ i ++ n
+    → k ≡ j ++ e → k ≡ a ++ (p ++ (s ++ (q ++ (t ++ (g ++ (u ++ (n ++ e)))))))
+eight_pieces a p s q t g u n e b c d f h i j k is1 is2 is3 is4 is5 is6 is7 is8 =
+    let with : List ℕ → List ℕ → List ℕ = λ more text. text ++ more in
+    is8
+    ∙ (ap (with e) (is7 ∙ ap (with n) (is6 ∙ ap (with u) (is5 ∙ ap (with g) (is4 ∙ ap (with t) (is3 ∙ ap (with q) (is2 ∙ ap (with s) is1))))))
+    ∙ simp append_assoc)
 
 -- ---- what a watcher is told
 

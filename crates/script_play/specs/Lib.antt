@@ -1,4 +1,5 @@
 pub mod Captured
+pub mod Charted
 pub mod Played
 pub mod Seen
 pub mod Thrown

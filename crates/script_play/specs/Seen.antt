@@ -14,10 +14,13 @@ use Rattle.script_seen.specs.WatchedKinds.{IsBookWatched, IsBookWatchedInPart, I
 use Rattle.script_seen.specs.WatchedKinds.{IsTermWatchedInPart}
 use Rattle.script_play.specs.Captured.{IsCaptured, IsCapturedInPart}
 use Rattle.script_play.specs.Played.{IsObeyed, IsMissedIn, IsPlayed, IsPlayedInPart}
+use Rattle.script_play.specs.Charted.{charted_of}
 use Rattle.script_play.specs.Thrown.{thrown_of}
 use Rattle.script_play.specs.Traced.{IsPlayTraced, IsPlayTracedInPart}
 use Rattle.script_play.specs.declared.seeing.Wanted.{Wanted}
-use Rattle.script_play.specs.declared.seeing.Wanted.TheVariants.{Trace, Capture, Thrown}
+use Rattle.script_play.specs.declared.seeing.Wanted.TheVariants.{Trace, Capture, AtEnd}
+use Rattle.script_play.specs.declared.watching.Told.{Told}
+use Rattle.script_play.specs.declared.watching.Told.TheVariants.{Chart, Thrown}
 
 -- P holds of what is noticed of all commands of a script: of a book of the set, or of a new
 -- terminal over it, with the usual limits where the script chooses none
@@ -124,6 +127,11 @@ pub record IsPlayCapturedInPart (usual : RoundLimits) (every : Bool)
 
 -- ---- what is wanted of a run
 
+-- what is told of a run at its end, by all that was noticed
+abbrev pub told_of : Told → Draft → List Notice → List ℕ
+told_of (Chart cut) d ns = charted_of cut d ns
+told_of Thrown d ns = thrown_of d ns
+
 -- the bytes are a script that was run, and what is wanted of that was written
 abbrev pub IsPlaySeen :
     RoundLimits → Wanted → Option (List ℕ) → Option (List ℕ) → Option (List ℕ) → Option (List ℕ)
@@ -132,8 +140,8 @@ IsPlaySeen usual (Trace every) old new from to d bytes =
     IsPlayTraced usual every old new from to d bytes
 IsPlaySeen usual (Capture every) old new from to d bytes =
     IsPlayCaptured usual every old new from to d bytes
-IsPlaySeen usual Thrown old new from to d bytes =
-    IsPlayTold usual old new (Grew thrown_of d from to) d bytes
+IsPlaySeen usual (AtEnd told) old new from to d bytes =
+    IsPlayTold usual old new (Grew (told_of told) d from to) d bytes
 
 abbrev pub IsPlaySeenInPart :
     RoundLimits → Wanted → Option (List ℕ) → Option (List ℕ) → Option (List ℕ) → Option (List ℕ)
@@ -142,8 +150,8 @@ IsPlaySeenInPart usual (Trace every) old new from to d bytes =
     IsPlayTracedInPart usual every old new from to d bytes
 IsPlaySeenInPart usual (Capture every) old new from to d bytes =
     IsPlayCapturedInPart usual every old new from to d bytes
-IsPlaySeenInPart usual Thrown old new from to d bytes =
-    IsPlayToldInPart usual old new (Grew thrown_of d from to) d bytes
+IsPlaySeenInPart usual (AtEnd told) old new from to d bytes =
+    IsPlayToldInPart usual old new (Grew (told_of told) d from to) d bytes
 
 -- ---- with lines, with something in a file, or with neither
 

@@ -4,11 +4,16 @@
 mod captured_plays;
 mod captured_terminals;
 mod capturing;
+mod chart_rows;
+mod charts;
+mod columns;
 mod playing;
 mod seeing;
 mod thrown;
 mod tracing;
 mod watching;
 
+pub use charts::Cut;
 pub use playing::play;
 pub use seeing::{Wanted, play_seen};
+pub use watching::Told;

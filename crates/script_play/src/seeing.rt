@@ -6,7 +6,7 @@ ghost use Rattle.script_play.specs.Seen.{IsPlaySeen, IsPlaySeenInPart};
 
 use crate::captured_plays::play_captured;
 use crate::tracing::play_traced;
-use crate::watching::play_thrown;
+use crate::watching::{Told, play_told};
 use script_check::SetWord;
 use script_seen::RoundLimits;
 use std::alloc::Global;
@@ -19,12 +19,12 @@ pub enum Wanted {
     Trace(bool),
     /// A capture of the units that go out and come in; whether every unit is captured.
     Capture(bool),
-    /// Which signals and timers were thrown away in which states, and how often.
-    Thrown,
+    /// What is told at its end.
+    AtEnd(Told),
 }
 
 /// Runs a script as `play` does without the lines of its commands, and writes what is wanted of the run to `out`: a trace or a capture as it runs, or at
-/// its end, or at an expectation that fails, what was thrown away.
+/// its end, or at an expectation that fails, a chart of its turns or what was thrown away.
 ///
 /// Gives the exit status, as `play` does: 4 where a write to `out` fails too, where a terminal's journal begins anew within a command, as it does
 /// behind 32,768 events, but for a capture; and for a script of a link set; and with a capture for a script of a book.
@@ -57,6 +57,8 @@ pub fn play_seen<S: Read + Drop, R: Read + Drop, T: Write, W: Write, E: Write>(
         Wanted::Capture(every) => {
             play_captured(alloc, set, usual, name, script, every, out, writer, errors)
         }
-        Wanted::Thrown => play_thrown(alloc, set, usual, name, script, out, writer, errors),
+        Wanted::AtEnd(told) => {
+            play_told(alloc, set, usual, name, script, told, out, writer, errors)
+        }
     }
 }

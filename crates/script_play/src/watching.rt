@@ -1,13 +1,15 @@
-//! The command `play` with what is told of its run at the end: which signals were thrown away.
+//! The command `play` with what is told of its run at the end: a chart, or which signals were thrown away.
 ghost use Rattle.std.specs.Prelude.{◌≡◌, ◌⊎◌, ℕ, [], List, IfSome};
 ghost use Rattle.plain_text.specs.Reading.{Keeps};
 ghost use Rattle.script_check.specs.Checked.{given, IsAccepted};
 ghost use Rattle.script_seen.specs.TermScripts.{plain_any_script, IsInRange};
 ghost use Rattle.script_seen.specs.GroupScripts.{plain_play_script, IsFit};
 ghost use Rattle.script_play.specs.Played.{IsOtherObeyed, IsObeyed, IsOtherMissed, IsMissedIn, HasNoOther, HasNoTerminal, IsNotRun, IsOnSet, IsRefused};
-ghost use Rattle.script_play.specs.Seen.{IsOtherTold, AreTold, IsOtherToldInPart, AreToldInPart, IsPlayTold, IsPlayToldInPart, IsToldTo, Grew};
+ghost use Rattle.script_play.specs.Seen.{IsOtherTold, AreTold, IsOtherToldInPart, AreToldInPart, IsPlayTold, IsPlayToldInPart, IsToldTo, Grew, told_of};
+ghost use Rattle.script_play.specs.Charted.{charted_of};
 ghost use Rattle.script_play.specs.Thrown.{thrown_of};
 
+use crate::charts::{Chart, Cut};
 use crate::playing::{explain, explain_length, refuse_script};
 use crate::thrown::Thrown;
 use plain_text::{TextRead, line_at_limit, read_text};
@@ -53,7 +55,7 @@ fn lacks_watcher<E: Write>(alloc: Global, errors: &mut E) -> u8
     let _told = write_line(
         alloc,
         errors,
-        &"mtp2_play: what is thrown away is told of a script of a book or a terminal",
+        &"mtp2_play: a chart, and what is thrown away, are told of a script of a book or a terminal",
     );
     FAILED
 }
@@ -160,27 +162,84 @@ fn tell_thrown<T: Write, W: Write, E: Write>(
     tell(status, thrown.text(alloc, set), out)
 }
 
-/// Runs a script of a book or of a terminal as `play` does without the lines of its commands, and tells at its end, or at an expectation that
-/// fails, which signals and timers were thrown away in which states, and how often: to `out` goes a line `PROCESS STATE/SIGNAL N` for each, in the
-/// order of the first time.
+/// Runs the script of a text that was read, and draws a chart of its turns.
+fn tell_chart<T: Write, W: Write, E: Write>(
+    alloc: Global,
+    set: &Verified,
+    usual: RoundLimits,
+    read: &TextRead,
+    cut: Cut,
+    out: &mut T,
+    writer: &mut W,
+    errors: &mut E,
+) -> u8
+    ensures held { result ≡ 0 → (bytes : List ℕ) → Keeps bytes read.now
+        → IsPlayTold usual (W.contents writer.old) (W.contents writer.new) (Grew (charted_of cut) set.now (T.contents out.old) (T.contents out.new)) set.now bytes }
+    ensures missed { result ≡ 1 → (bytes : List ℕ) → Keeps bytes read.now
+        → IsPlayToldInPart usual (W.contents writer.old) (W.contents writer.new) (Grew (charted_of cut) set.now (T.contents out.old) (T.contents out.new)) set.now bytes }
+    ensures refused { result ≡ 2 → (bytes : List ℕ) → Keeps bytes read.now → IsNotRun (W.contents writer.old) (W.contents writer.new) set.now bytes }
+    ensures status { (result ≡ 0) ⊎ (result ≡ 1) ⊎ (result ≡ 2) ⊎ (result ≡ 4) }
+{
+    let mut chart = Chart::new(alloc, cut);
+    let status = watch_text(alloc, set, usual, read, &mut chart, writer, errors);
+    tell(status, chart.text(alloc, set, cut), out)
+}
+
+/// What is told of a run at its end.
+#[derive(Clone, Copy, PartialEq, Eq, Debug)]
+pub enum Told {
+    /// A chart of these turns.
+    Chart(Cut),
+    /// Which signals and timers were thrown away in which states, and how often.
+    Thrown,
+}
+
+/// Runs the script of a text that was read, and tells this of it.
+fn tell_run<T: Write, W: Write, E: Write>(
+    alloc: Global,
+    set: &Verified,
+    usual: RoundLimits,
+    read: &TextRead,
+    told: Told,
+    out: &mut T,
+    writer: &mut W,
+    errors: &mut E,
+) -> u8
+    ensures held { result ≡ 0 → (bytes : List ℕ) → Keeps bytes read.now
+        → IsPlayTold usual (W.contents writer.old) (W.contents writer.new) (Grew (told_of told) set.now (T.contents out.old) (T.contents out.new)) set.now bytes }
+    ensures missed { result ≡ 1 → (bytes : List ℕ) → Keeps bytes read.now
+        → IsPlayToldInPart usual (W.contents writer.old) (W.contents writer.new) (Grew (told_of told) set.now (T.contents out.old) (T.contents out.new)) set.now bytes }
+    ensures refused { result ≡ 2 → (bytes : List ℕ) → Keeps bytes read.now → IsNotRun (W.contents writer.old) (W.contents writer.new) set.now bytes }
+    ensures status { (result ≡ 0) ⊎ (result ≡ 1) ⊎ (result ≡ 2) ⊎ (result ≡ 4) }
+{
+    match told {
+        Told::Chart(cut) => tell_chart(alloc, set, usual, read, cut, out, writer, errors),
+        Told::Thrown => tell_thrown(alloc, set, usual, read, out, writer, errors),
+    }
+}
+
+/// Runs a script of a book or of a terminal as `play` does without the lines of its commands, and tells this of it at its end, or at an expectation
+/// that fails: to `out` goes a chart of its turns in mscgen's language; or which signals and timers were thrown away in which states, and how often, a
+/// line `PROCESS STATE/SIGNAL N` for each, in the order of the first time.
 ///
 /// Gives the exit status, as `play` does: 4 where the write to `out` fails too, where a terminal's journal begins anew within a command, as it does
 /// behind 32,768 events, and for a script of a link set.
-pub(crate) fn play_thrown<S: Read + Drop, R: Read + Drop, T: Write, W: Write, E: Write>(
+pub(crate) fn play_told<S: Read + Drop, R: Read + Drop, T: Write, W: Write, E: Write>(
     alloc: Global,
     set: SetWord<S>,
     usual: RoundLimits,
     name: &str,
     mut script: R,
+    told: Told,
     out: &mut T,
     writer: &mut W,
     errors: &mut E,
 ) -> u8
     ensures accepted { (result ≡ 0) ⊎ (result ≡ 1) → IfSome (given S.remaining set) IsAccepted }
     ensures held { result ≡ 0 → IsOnSet (given S.remaining set) (R.remaining script)
-        (λ d. IsPlayTold usual (W.contents writer.old) (W.contents writer.new) (Grew thrown_of d (T.contents out.old) (T.contents out.new)) d) }
+        (λ d. IsPlayTold usual (W.contents writer.old) (W.contents writer.new) (Grew (told_of told) d (T.contents out.old) (T.contents out.new)) d) }
     ensures missed { result ≡ 1 → IsOnSet (given S.remaining set) (R.remaining script)
-        (λ d. IsPlayToldInPart usual (W.contents writer.old) (W.contents writer.new) (Grew thrown_of d (T.contents out.old) (T.contents out.new)) d) }
+        (λ d. IsPlayToldInPart usual (W.contents writer.old) (W.contents writer.new) (Grew (told_of told) d (T.contents out.old) (T.contents out.new)) d) }
     ensures refused { result ≡ 2
         → IsRefused (given S.remaining set) (R.remaining script) (W.contents writer.old) (W.contents writer.new) }
     ensures status { (result ≡ 0) ⊎ (result ≡ 1) ⊎ (result ≡ 2) ⊎ (result ≡ 4) }
@@ -189,7 +248,7 @@ pub(crate) fn play_thrown<S: Read + Drop, R: Read + Drop, T: Write, W: Write, E:
     let read = read_text(alloc, &mut script);
     match set {
         Ok(set) => match read {
-            Ok(read) => tell_thrown(alloc, &set, usual, &read, out, writer, errors),
+            Ok(read) => tell_run(alloc, &set, usual, &read, told, out, writer, errors),
             Err(_) => FAILED,
         },
         Err(refusal) => refuse_set(alloc, name, &refusal, writer, errors),

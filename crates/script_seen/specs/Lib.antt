@@ -6,7 +6,10 @@ pub mod TracedKinds
 pub mod Following
 pub mod Watched
 pub mod WatchedKinds
+pub use Rattle.actor_machine.specs.Effects
 pub use Rattle.actor_machine.specs.Looking
+pub use Rattle.actor_machine.specs.Names
+pub use Rattle.turn_machine.specs.Turn
 pub use Rattle.script_group.specs.GroupRuns
 pub use Rattle.script_group.specs.Lines
 pub use Rattle.script_group.specs.Played

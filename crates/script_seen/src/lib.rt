@@ -16,12 +16,15 @@ mod watched_books;
 mod watched_terminals;
 mod watching;
 
-pub use actor_machine::ActorName;
+pub use actor_machine::{ActorName, Lost};
 pub use books::show_book;
 pub use events::{same_trigger, trigger_of};
 pub use groups::show_group;
 pub use input_port::Item;
-pub use pushing::{push_number, push_process, push_state, push_trigger};
+pub use pushing::{
+    meant, push_actor, push_end, push_number, push_party, push_process, push_signal, push_state,
+    push_timer, push_trigger, shown,
+};
 pub use script_group::{
     FAILED, HELD, MISSED, OpenError, TermPlayer, Terminal, Unit, asks_told, encode, line_of_unit,
     new_player, play_book, play_group, play_terminal, refuse, refuse_set, text_line, write_line,
@@ -31,9 +34,11 @@ pub use script_links::{
     play_script_in,
 };
 pub use terminals::show_terminal;
+pub use timing::delay_of;
 pub use traced_books::trace_book;
 pub use traced_terminals::trace_terminal;
-pub use turns::Ended;
+pub use turn_machine::Job;
+pub use turns::{Ended, is_dull, loss_at, stays_in};
 pub use watched_books::watch_book;
 pub use watched_terminals::watch_terminal;
 pub use watching::Watcher;

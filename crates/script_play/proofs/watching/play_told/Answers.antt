@@ -1,6 +1,6 @@
 use Rattle.script_play.specs.Played.{set_refused, script_refused}
 use Rattle.script_play.proofs.Texts.{not_held, not_missed}
-use Rattle.script_play.proofs.watching.play_thrown.Goals as goal
+use Rattle.script_play.proofs.watching.play_told.Goals as goal
 use Rattle.script_check.proofs.Prints.{accepted_bytes, of_refusal, refusal_printed}
 
 pub returns-in-Ok-read-clause-accepted : goal.returns-in-Ok-read-clause-accepted
@@ -13,7 +13,7 @@ returns-in-Ok-read-clause-held g c zero = record {
   of_script = record {
     bytes = c.in-Ok-read.ensures.bytes;
     are_known = c.in-Ok-read.ensures.are_known;
-    holds = c.tell_thrown.ensures.held zero c.in-Ok-read.ensures.bytes c.in-Ok-read.ensures.keeps;
+    holds = c.tell_run.ensures.held zero c.in-Ok-read.ensures.bytes c.in-Ok-read.ensures.keeps;
   };
 }
 
@@ -27,7 +27,7 @@ returns-in-Ok-read-clause-missed g c one = record {
   of_script = record {
     bytes = c.in-Ok-read.ensures.bytes;
     are_known = c.in-Ok-read.ensures.are_known;
-    holds = c.tell_thrown.ensures.missed one c.in-Ok-read.ensures.bytes c.in-Ok-read.ensures.keeps;
+    holds = c.tell_run.ensures.missed one c.in-Ok-read.ensures.bytes c.in-Ok-read.ensures.keeps;
   };
 }
 
@@ -42,7 +42,7 @@ returns-in-Ok-read-clause-refused g c two =
       of_script = record {
         bytes = c.in-Ok-read.ensures.bytes;
         are_known = c.in-Ok-read.ensures.are_known;
-        holds = c.tell_thrown.ensures.refused two c.in-Ok-read.ensures.bytes c.in-Ok-read.ensures.keeps;
+        holds = c.tell_run.ensures.refused two c.in-Ok-read.ensures.bytes c.in-Ok-read.ensures.keeps;
       };
     })
 
