@@ -15,7 +15,7 @@ pub returns-in_ok-octets-in-Units-clause-coming : goal.returns-in_ok-octets-in-U
 returns-in_ok-octets-in-Units-clause-coming c =
     let I : List ℕ → Type 0 = λ xs. IsLineOf xs c.in_ok-octets-in-Units.octets.items in
     comes_as _ _ _ (ap plain_term_command c.in-Units.is)
-    (record { once = c.in_ok-octets-in-Units.octets.items; is_line = subst I c.deref-2.ensures.value c.in_ok-octets-in-Units.ensures; are = refl })
+    (record { once = c.in_ok-octets-in-Units.octets.items; is_line = subst I c.deref-in-Units.ensures.value c.in_ok-octets-in-Units.ensures; are = refl })
 
 pub returns-in_ok-octets-in-Errors-clause-coming : goal.returns-in_ok-octets-in-Errors-clause-coming
 returns-in_ok-octets-in-Errors-clause-coming c =
@@ -23,4 +23,4 @@ returns-in_ok-octets-in-Errors-clause-coming c =
 
 pub returns-in_ok-octets-in-Line-clause-coming : goal.returns-in_ok-octets-in-Line-clause-coming
 returns-in_ok-octets-in-Line-clause-coming c =
-    comes_as _ _ _ (ap plain_term_command c.in-Line.is) (append-nil c.in_ok-octets-in-Line.octets.items ∙ (c.in_ok-octets-in-Line.ensures.items ∙ c.deref-3.ensures.value))
+    comes_as _ _ _ (ap plain_term_command c.in-Line.is) (append-nil c.in_ok-octets-in-Line.octets.items ∙ (c.in_ok-octets-in-Line.ensures.items ∙ c.deref-in-Line.ensures.value))
