@@ -2,7 +2,7 @@ use Rattle.std.proofs.Common.{◌∷◌, [], sym, ap, ◌∙◌, List, ℕ}
 use Rattle.bit_line.specs.declared.events.LineEvent.TheVariants as events
 use Rattle.line_streams.specs.Capturing.{without_check}
 use Rattle.line_streams.proofs.Reporting.{first_unit}
-use Rattle.line_streams.proofs.ended.unit_in.Goals as goal
+use Rattle.line_streams.proofs.closing.unit_in.Goals as goal
 
 pub returns-in-Unit : goal.returns-in-Unit
 returns-in-Unit c =

@@ -2,7 +2,7 @@ use Rattle.std.proofs.Common.{List, Bool, subst}
 use Rattle.bit_line.specs.Deframing.{Stands}
 use Rattle.su_octets.specs.Bits.{bits_of}
 use Rattle.line_streams.proofs.Reporting.{one_octet, ends_unit}
-use Rattle.line_streams.proofs.ended.ended.Goals as goal
+use Rattle.line_streams.proofs.closing.ended.Goals as goal
 
 pub returns-clause-stands : goal.returns-clause-stands
 returns-clause-stands c = λ octets stands.
