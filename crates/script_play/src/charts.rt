@@ -186,7 +186,8 @@ impl Chart {
             return Ok(());
         }
         self.enter_all(set, ended)?;
-        self.push_rows(alloc, set, ended)
+        self.push_rows(alloc, set, ended)?;
+        Ok(())
     }
 
     /// Whether the environment stands at the head: where it takes part, and where no turn is drawn.
