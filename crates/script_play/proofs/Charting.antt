@@ -443,7 +443,7 @@ columns_are d ts c k =
     (same_chosen (takes_part c.actors.items) (λ x. list_any (is_in d x) ts) (actors_of d.processes) k.actors)
 
 -- the chart of the turns that were drawn
-pub chart_is : (d : Draft) (cut own : Cut) (ts : List TurnEnd) (c : Chart) (cs : Columns) (width : ℕ) (heads_text : List ℕ) → own ≡ cut → c.cut ≡ own
+chart_is : (d : Draft) (cut own : Cut) (ts : List TurnEnd) (c : Chart) (cs : Columns) (width : ℕ) (heads_text : List ℕ) → own ≡ cut → c.cut ≡ own
     → HasColumns (columns_of d (c.environment || is_none c.clock) c.actors.items) cs → width ≡ COLUMN * cs.count → heads_text ≡ drop 2 cs.text.items → Charts d ts c
     → codes "msc {\n  width=\"" ++ decimal width ++ codes "\", arcgradient=\"0\";\n  " ++ heads_text ++ codes ";\n" ++ c.rows.items ++ codes "}\n" ≡ chart_text d cut ts
 chart_is d cut own ts c cs width heads_text same is columns_have wide heads_have k =
@@ -467,8 +467,20 @@ columns_made d has out ys xs a b same actors first more =
     let A : List ActorName → Type 0 = λ l. HasColumns ((if out then codes "ENV" ∷ [] else []) ++ chosen d l (actors_of d.processes)) b in
     subst A actors (subst B same (columns_with (if has then codes "ENV" ∷ [] else []) (chosen d ys (actors_of d.processes)) a b first more))
 
-pub seven_pieces : (m n a h s r e q u v w x y z : List ℕ) → q ≡ m → u ≡ q ++ n → v ≡ u ++ a → w ≡ v ++ h → x ≡ w ++ s → y ≡ x ++ r → z ≡ y ++ e
+seven_pieces : (m n a h s r e q u v w x y z : List ℕ) → q ≡ m → u ≡ q ++ n → v ≡ u ++ a → w ≡ v ++ h → x ≡ w ++ s → y ≡ x ++ r → z ≡ y ++ e
     → z ≡ m ++ n ++ a ++ h ++ s ++ r ++ e
 seven_pieces m n a h s r e q u v w x y z is1 is2 is3 is4 is5 is6 is7 =
     let f : List ℕ → List ℕ → List ℕ = λ l k. l ++ k in
     is7 ∙ ap (λ l. f l e) (is6 ∙ ap (λ l. f l r) (is5 ∙ ap (λ l. f l s) (is4 ∙ ap (λ l. f l h) (is3 ∙ ap (λ l. f l a) (is2 ∙ ap (λ l. f l n) is1)))))
+
+-- the whole text, piece by piece
+pub chart_made : (d : Draft) (cut own : Cut) (ts : List TurnEnd) (c : Chart) (cs : Columns) (width : ℕ) (heads_text rows q u v w x y z : List ℕ) → own ≡ cut
+    → c.cut ≡ own → HasColumns (columns_of d (c.environment || is_none c.clock) c.actors.items) cs → width ≡ COLUMN * cs.count
+    → heads_text ≡ drop 2 cs.text.items → rows ≡ c.rows.items → q ≡ codes "msc {\n  width=\"" → u ≡ q ++ decimal width
+    → v ≡ u ++ codes "\", arcgradient=\"0\";\n  " → w ≡ v ++ heads_text → x ≡ w ++ codes ";\n" → y ≡ x ++ rows → z ≡ y ++ codes "}\n" → Charts d ts c
+    → z ≡ chart_text d cut ts
+chart_made d cut own ts c cs width heads_text rows q u v w x y z same is columns_have wide heads_have drawn is1 is2 is3 is4 is5 is6 is7 k =
+    let R : List ℕ → Type 0 = λ r. y ≡ x ++ r in
+    seven_pieces (codes "msc {\n  width=\"") (decimal width) (codes "\", arcgradient=\"0\";\n  ") heads_text (codes ";\n") c.rows.items (codes "}\n") q u v w x y z is1 is2
+    is3 is4 is5 (subst R drawn is6) is7
+    ∙ chart_is d cut own ts c cs width heads_text same is columns_have wide heads_have k
