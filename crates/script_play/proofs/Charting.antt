@@ -1,9 +1,9 @@
 -- A chart, one turn more.
 use Rattle.std.proofs.Common.{◌≡◌, ◌∙◌, ℕ, zero, suc, ◌+◌, ◌*◌, Bool, true, false, List, [], ◌∷◌, ◌++◌, length, map, take, drop, append-nil, append_assoc, get_or, ◌<◌, ◌≤◌, eqb-true, Option, Some, None, arith, refl, sym, ap, subst}
-use Rattle.std.specs.Prelude.{◌||◌, ◌==◌, filter, is_none, is_some, option_map, slice_get, if◌then◌else◌, codes}
+use Rattle.std.specs.Prelude.{◌||◌, ◌&&◌, ◌==◌, filter, is_none, is_some, option_map, slice_get, if◌then◌else◌, codes}
 use Rattle.std.specs.List.{list_any, flat_map}
 use Rattle.std.specs.Fmt.{decimal}
-use Rattle.std.proofs.lemmas.Bool.{false≢true, ne_eqb}
+use Rattle.std.proofs.lemmas.Bool.{and_parts, false≢true, ne_eqb}
 use Rattle.std.proofs.lemmas.Option.{same_Some, slice_get-get_or, get_or_from_slice_get}
 use Rattle.std.proofs.lemmas.List.{length-append, length-map, length-take-le, map-append, take_all, take_more}
 use Rattle.std.proofs.lemmas.List.Elements.{filter-append}
@@ -42,6 +42,15 @@ or_more false b c = refl
 any_more : {A : Type 0} (p : A → Bool) (xs : List A) (x : A) → list_any p (xs ++ x ∷ []) ≡ (list_any p xs || p x)
 any_more p [] x = or_none (p x)
 any_more p (y ∷ ys) x = ap (λ (b : Bool). p y || b) (any_more p ys x) ∙ or_more (p y) (list_any p ys) (p x)
+
+-- ---- which turns are drawn
+
+pub same_cut : (a b : Cut) → ((a.first == b.first) && (a.last == b.last)) ≡ true → a ≡ b
+same_cut a b same =
+    let parts = and_parts (a.first == b.first) (a.last == b.last) same in
+    let first : a.first ≡ b.first = eqb-true a.first b.first parts.0 in
+    let last : a.last ≡ b.last = eqb-true a.last b.last parts.1 in
+    λ i. record { first = first i; last = last i }
 
 -- ---- rows
 
