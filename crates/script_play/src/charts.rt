@@ -1,5 +1,5 @@
 //! A chart of turns, in the language of mscgen.
-ghost use Rattle.std.specs.Prelude.{◌≡◌, ◌++◌, ◌∷◌, ◌||◌, ◌*◌, [], List, Some, is_none, OnOk, IfOk, false};
+ghost use Rattle.std.specs.Prelude.{◌≡◌, ◌==◌, ◌&&◌, ◌++◌, ◌∷◌, ◌||◌, ◌*◌, [], List, Some, is_none, OnOk, IfOk, false};
 ghost use Rattle.std.specs.List.{list_any};
 ghost use Rattle.turn_code.specs.Outcome.{Outcome};
 ghost use Rattle.turn_code.specs.declared.draft.Draft.{Draft};
@@ -51,6 +51,13 @@ fn width_of(columns: u64) -> Result<u64, AllocError>
         Some(width) => Ok(width),
         None => Err(AllocError),
     }
+}
+
+/// Whether they are the same turns.
+fn are_same(left: Cut, right: Cut) -> bool
+    ensures { result ≡ ((left.first == right.first) && (left.last == right.last)) }
+{
+    left.first == right.first && left.last == right.last
 }
 
 /// Whether a turn is one of those that are to be drawn, and does anything.
@@ -186,7 +193,8 @@ impl Chart {
             return Ok(());
         }
         self.enter_all(set, ended)?;
-        self.push_rows(alloc, set, ended)
+        self.push_rows(alloc, set, ended)?;
+        Ok(())
     }
 
     /// Whether the environment stands at the head: where it takes part, and where no turn is drawn.
@@ -214,7 +222,7 @@ impl Chart {
     ) -> Result<Vec<u8>, AllocError>
         ensures { IfOk result (λ v. (ts : List TurnEnd) → Charts set.now ts self.now → v.items ≡ chart_text set.now cut ts) }
     {
-        if self.cut != cut {
+        if !are_same(self.cut, cut) {
             return Err(AllocError);
         }
         let columns = self.all_columns(alloc, set)?;

@@ -5,8 +5,8 @@ use Rattle.script_play.proofs.thrown.Thrown.count.Goals as goal
 
 pub returns-in_ok-again-in-Some : goal.returns-in_ok-again-in-Some
 returns-in_ok-again-in-Some c =
-    ap (slice_set c.args.self.now.throws.items c.in-Some.number) c.in_ok-again.ensures
-    ∙ counted_again c.args.throw c.args.self.now.throws.items c.in-Some.number _ (sym c.number.ensures.first)
+    ap (slice_set c.args.self.now.throws.items c.in-Some.number) c.in_ok-again-in-Some.ensures
+    ∙ counted_again c.args.throw c.args.self.now.throws.items c.in-Some.number _ (sym c.in-Some.ensures.first)
 
 pub returns-in_ok-push-in-None : goal.returns-in_ok-push-in-None
-returns-in_ok-push-in-None c = c.in_ok-push.ensures.items ∙ counted_first c.args.throw c.args.self.now.throws.items (sym c.number.ensures.first)
+returns-in_ok-push-in-None c = c.in_ok-push-in-None.ensures.items ∙ counted_first c.args.throw c.args.self.now.throws.items (sym c.in-None.ensures.first)
