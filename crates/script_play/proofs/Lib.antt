@@ -2,4 +2,4 @@ mod Refusals
 mod Texts
 mod Throwing
 mod Tellings
-pub mod Watching
+pub mod WatchedPlays
