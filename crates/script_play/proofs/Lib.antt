@@ -2,7 +2,7 @@ mod Refusals
 mod Texts
 mod Throwing
 mod Tellings
-pub mod Watching
+pub mod WatchedPlays
 mod Capturings
 mod OutGoing
 mod TermCaptures
