@@ -255,16 +255,6 @@ fn wanted_for(sight: &Sight<'_>, every: bool) -> Wanted
     }
 }
 
-/// What of a run goes to that file; whether what has no effect does too.
-fn wanted_for(sight: &Sight<'_>, every: bool) -> Wanted
-    ensures { result ≡ wanted_for every sight.now }
-{
-    match sight {
-        Sight::Trace(_) => Wanted::Trace(every),
-        Sight::Thrown(_) => Wanted::Thrown,
-    }
-}
-
 /// What is wanted of a run, where there is a file for it.
 fn wanted_of(seen: &Seeing<'_>) -> Wanted
     ensures { result ≡ wanted_by seen.now }
