@@ -3,7 +3,7 @@ mod Texts
 mod Throwing
 mod Charting
 mod Tellings
-pub mod Watching
+pub mod WatchedPlays
 mod Capturings
 mod OutGoing
 mod TermCaptures

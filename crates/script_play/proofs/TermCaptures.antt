@@ -1,5 +1,5 @@
 -- What is captured of a terminal's run, one command more.
-use Rattle.std.proofs.Common.{◌≡◌, ◌∙◌, ℕ, zero, suc, ◌+◌, ◌<◌, ◌≤◌, Bool, true, false, List, [], ◌∷◌, ◌++◌, append-nil, length, map, take, drop, get_or, Option, None, Some, refl, sym, ap, subst}
+use Rattle.std.proofs.Common.{◌≡◌, ◌∙◌, ℕ, ◌+◌, ◌<◌, ◌≤◌, Bool, true, false, List, [], ◌∷◌, ◌++◌, append-nil, length, map, take, drop, get_or, Option, None, sym, subst}
 use Rattle.std.specs.List.{flat_map}
 use Rattle.std.specs.Io.KnownBytes.{Appends}
 use Rattle.std.proofs.KnownBytes.{Appends-nil, Appends-trans}
@@ -12,8 +12,8 @@ use Rattle.script_links.specs.TermScripts.{PlainTermSaid, plain_term_said}
 use Rattle.script_links.specs.declared.script.TermSaid.{TermSaid}
 use Rattle.script_seen.specs.Lines.{line_of}
 use Rattle.script_seen.specs.Term.{Term}
-use Rattle.script_seen.specs.TermAnswers.{Obeys, GoOut}
-use Rattle.script_seen.specs.TermRuns.{latest, prints, begins as run_begins_by, IsTermRun, IsTermMissed, IsTermMissedBy, HasPrinted, HasObeyed, was_met, was_done, HasGivenOut}
+use Rattle.script_seen.specs.TermAnswers.{Obeys}
+use Rattle.script_seen.specs.TermRuns.{prints, begins as run_begins_by, IsTermRun, IsTermMissed, IsTermMissedBy, HasPrinted, HasObeyed, was_met, was_done, HasGivenOut}
 use Rattle.script_seen.proofs.Showings.{one_more, parts_at, all_taken}
 use Rattle.script_play.specs.Captured.{time_of, IsComing, is_noted, Hears, Sends, Goes, begins, goes_out, comes_in, holds, IsHeard, IsCapturing, IsTermCapturing, IsCaptured, IsCapturedInPart}
 use Rattle.script_play.specs.declared.capturing.LinkSeen.{LinkSeen}

@@ -1,7 +1,5 @@
 //! Terminals' scripts as they run, with a capture.
 ghost use Rattle.std.specs.Prelude.{◌≡◌, ◌⊎◌, ◌++◌, ◌∷◌, [], ℕ, Bool, List, Option, None, map, IfOk, OnOk, true, false};
-ghost use Rattle.std.specs.Io.KnownBytes.{Appends};
-ghost use Rattle.line_streams.specs.Records.{HEADER};
 ghost use Rattle.line_streams.specs.declared.seen.Seen.{Seen as OneSeen};
 ghost use Rattle.script_links.specs.TermCommands.{plain_term_command};
 ghost use Rattle.script_links.specs.TermScripts.{PlainTermSaid, plain_term_said, asks_told};

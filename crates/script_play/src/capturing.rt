@@ -1,7 +1,7 @@
 //! What is captured of a link, unit by unit.
 ghost use Rattle.std.specs.Prelude.{◌≡◌, ◌*◌, ◌∷◌, ◌++◌, [], ℕ, Bool, false, List, Option, Some, OnOk, IfOk};
 ghost use Rattle.std.specs.Io.KnownBytes.{Appends};
-ghost use Rattle.su_octets.specs.Frame.{Frame};
+ghost use Rattle.su_octets.specs.Frame.{Frame, SpareBitsAreZero};
 ghost use Rattle.line_streams.specs.Capturing.{IsUnit, without_check};
 ghost use Rattle.line_streams.specs.Records.{HEADER};
 ghost use Rattle.line_streams.specs.declared.seen.Seen.{Seen as OneSeen};
@@ -175,7 +175,7 @@ impl LinkSeen {
 
 /// The octets of a unit without its check octets. A unit that isn't whole would be told as want of memory, but none comes here.
 fn octets_of(unit: &Unit) -> Result<ArrayVec<u8, 278>, AllocError>
-    ensures { IfOk result (λ v. (frame : List ℕ) × Frame frame unit.now × (v.items ≡ without_check frame)) }
+    ensures { IfOk result (λ v. (frame : List ℕ) × Frame frame unit.now × SpareBitsAreZero frame × (v.items ≡ without_check frame)) }
 {
     if !unit.whole() {
         return Err(AllocError);

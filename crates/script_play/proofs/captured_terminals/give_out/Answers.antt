@@ -1,4 +1,4 @@
-use Rattle.std.proofs.Common.{sym, ap, ◌∙◌}
+use Rattle.std.proofs.Common.{sym, ◌∙◌}
 use Rattle.script_play.proofs.OutGoing.{goes_none, goes_more, goes_silent, goes_all}
 use Rattle.script_play.proofs.captured_terminals.give_out.Goals as goal
 
