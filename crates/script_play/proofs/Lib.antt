@@ -3,4 +3,4 @@ mod Texts
 mod Throwing
 mod Charting
 mod Tellings
-pub mod Watching
+pub mod WatchedPlays
