@@ -262,7 +262,7 @@ def chart(seen, least=0, most=None):
     turns = [it for it in seen.turns if it[0] >= least and (most is None or it[0] <= most)]
     here = {it[2] for it in turns} | {it[6] for it in turns if it[6]} | {part[3] for it in turns for part in it[8] if part[0] == "output" and (part[4] or part[3] == "ENV")}
     ordered = [it for it in ["ENV", *(actor.shown() for actor in seen.book.actors)] if it in here] or ["ENV"]
-    out = ["msc {", f'  width="{140 * len(ordered)}", arcgradient="0";', "  " + ", ".join(f'"{it}" [label="{it}"]' for it in ordered) + ";"]
+    out = ["msc {", f'  width="{140 * len(ordered)}", arcgradient="0";', "  " + ", ".join(f'"{it}" [label="{it}"]' for it in ordered) + ";", *([] if turns else ["  |||;"])]
     clock, states = None, {}
     for number, at, actor, place, trigger, given, source, end, laid in turns:
         if at != clock:

@@ -245,14 +245,18 @@ fn path_of<'a>(sight: &Sight<'a>) -> &'a str
     }
 }
 
-/// What of a run goes to that file; whether what has no effect does too.
-fn wanted_for(sight: &Sight<'_>, every: bool) -> Wanted
-    ensures { result ≡ wanted_for every sight.now }
+/// What of a run goes to that file, of what is to be seen of it.
+fn wanted_for(sight: &Sight<'_>, seen: &Seeing<'_>) -> Wanted
+    ensures { result ≡ wanted_for seen.now.every seen.now.turns sight.now }
 {
     match sight {
-        Sight::Trace(_) => Wanted::Trace(every),
-        Sight::Thrown(_) => Wanted::Thrown,
-        Sight::Capture(_) => Wanted::Capture(every),
+        Sight::Trace(_) => Wanted::Trace(seen.every),
+        Sight::Chart(_) => Wanted::AtEnd(Told::Chart(Cut {
+            first: seen.turns.first,
+            last: seen.turns.last,
+        })),
+        Sight::Thrown(_) => Wanted::AtEnd(Told::Thrown),
+        Sight::Capture(_) => Wanted::Capture(seen.every),
     }
 }
 
@@ -261,7 +265,7 @@ fn wanted_of(seen: &Seeing<'_>) -> Wanted
     ensures { result ≡ wanted_by seen.now }
 {
     match &seen.sight {
-        Some(sight) => wanted_for(sight, seen.every),
+        Some(sight) => wanted_for(sight, seen),
         None => Wanted::Trace(seen.every),
     }
 }

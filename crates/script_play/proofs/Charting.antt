@@ -24,7 +24,7 @@ use Rattle.script_seen.specs.actor_machine_types.name.ActorName.{ActorName}
 use Rattle.script_seen.specs.actor_machine_types.reply.Lost.{Lost}
 use Rattle.script_seen.specs.actor_machine_types.reply.Report.{Report}
 use Rattle.script_seen.specs.declared.turns.Ended.{Ended}
-use Rattle.script_play.specs.Charted.{time_text, row_text, rows_text, came_text, box_text, outs_text, timing_of, is_in, is_sender, gets, get_it, came_from_outside, goes_outside, has_outside, is_drawn, last_clock, end_of, takes_part, are_none, drawn_columns, columns_of, chart_of, chart_text, COLUMN, head_of, heads, behind_each, stacked, below_each, note_of, beside, Charts, IsDrawn, TakesPart, HasMore, HasColumns}
+use Rattle.script_play.specs.Charted.{time_text, row_text, rows_text, came_text, box_text, outs_text, timing_of, is_in, is_sender, gets, get_it, came_from_outside, goes_outside, has_outside, is_drawn, last_clock, end_of, takes_part, are_none, after_heads, drawn_columns, columns_of, chart_of, chart_text, COLUMN, head_of, heads, behind_each, stacked, below_each, note_of, beside, Charts, IsDrawn, TakesPart, HasMore, HasColumns}
 use Rattle.script_play.specs.declared.charts.Chart.{Chart}
 use Rattle.script_play.specs.declared.charts.Cut.{Cut}
 use Rattle.script_play.specs.declared.columns.Columns.{Columns}
@@ -454,7 +454,8 @@ columns_are d ts c k =
 -- the chart of the turns that were drawn
 chart_is : (d : Draft) (cut own : Cut) (ts : List TurnEnd) (c : Chart) (cs : Columns) (width : ℕ) (heads_text : List ℕ) → own ≡ cut → c.cut ≡ own
     → HasColumns (columns_of d (c.environment || is_none c.clock) c.actors.items) cs → width ≡ COLUMN * cs.count → heads_text ≡ drop 2 cs.text.items → Charts d ts c
-    → codes "msc {\n  width=\"" ++ decimal width ++ codes "\", arcgradient=\"0\";\n  " ++ heads_text ++ codes ";\n" ++ c.rows.items ++ codes "}\n" ≡ chart_text d cut ts
+    → codes "msc {\n  width=\"" ++ decimal width ++ codes "\", arcgradient=\"0\";\n  " ++ heads_text ++ after_heads (is_none c.clock) ++ c.rows.items
+    ++ codes "}\n" ≡ chart_text d cut ts
 chart_is d cut own ts c cs width heads_text same is columns_have wide heads_have k =
     let ds : List TurnEnd = filter (is_drawn c.cut) ts in
     let names : columns_of d (c.environment || is_none c.clock) c.actors.items ≡ drawn_columns d ds = columns_are d ds c k in
@@ -463,11 +464,13 @@ chart_is d cut own ts c cs width heads_text same is columns_have wide heads_have
     let H : heads_text ≡ heads (drawn_columns d ds) =
     heads_have ∙ (ap (λ (t : List ℕ). drop 2 t) (columns_have.text ∙ ap behind_each names) ∙ heads_are (drawn_columns d ds)) in
     let C : chart_of d ds ≡ chart_text d cut ts = ap (λ (x : Cut). chart_of d (filter (is_drawn x) ts)) (is ∙ same) in
-    let made : ℕ → List ℕ → List ℕ → List ℕ =
-    λ n h r. codes "msc {\n  width=\"" ++ decimal n ++ codes "\", arcgradient=\"0\";\n  " ++ h ++ codes ";\n" ++ r ++ codes "}\n" in
-    ap (λ (n : ℕ). made n heads_text c.rows.items) W
-    ∙ (ap (λ (h : List ℕ). made (COLUMN * length (drawn_columns d ds)) h c.rows.items) H
-    ∙ (ap (λ (r : List ℕ). made (COLUMN * length (drawn_columns d ds)) (heads (drawn_columns d ds)) r) k.rows ∙ C))
+    let E : is_none c.clock ≡ are_none ds = ap (λ (o : Option ℕ). is_none o) k.clock ∙ no_turns ds in
+    let made : ℕ → List ℕ → Bool → List ℕ → List ℕ =
+    λ n h none r. codes "msc {\n  width=\"" ++ decimal n ++ codes "\", arcgradient=\"0\";\n  " ++ h ++ after_heads none ++ r ++ codes "}\n" in
+    ap (λ (n : ℕ). made n heads_text (is_none c.clock) c.rows.items) W
+    ∙ (ap (λ (h : List ℕ). made (COLUMN * length (drawn_columns d ds)) h (is_none c.clock) c.rows.items) H
+    ∙ (ap (λ (none : Bool). made (COLUMN * length (drawn_columns d ds)) (heads (drawn_columns d ds)) none c.rows.items) E
+    ∙ (ap (λ (r : List ℕ). made (COLUMN * length (drawn_columns d ds)) (heads (drawn_columns d ds)) (are_none ds) r) k.rows ∙ C)))
 
 pub columns_made : (d : Draft) (has out : Bool) (ys xs : List ActorName) (a b : Columns) → has ≡ out → ys ≡ xs
     → HasColumns (if has then codes "ENV" ∷ [] else []) a → HasMore (chosen d ys (actors_of d.processes)) a b → HasColumns (columns_of d out xs) b
@@ -483,13 +486,14 @@ seven_pieces m n a h s r e q u v w x y z is1 is2 is3 is4 is5 is6 is7 =
     is7 ∙ ap (λ l. f l e) (is6 ∙ ap (λ l. f l r) (is5 ∙ ap (λ l. f l s) (is4 ∙ ap (λ l. f l h) (is3 ∙ ap (λ l. f l a) (is2 ∙ ap (λ l. f l n) is1)))))
 
 -- the whole text, piece by piece
-pub chart_made : (d : Draft) (cut own : Cut) (ts : List TurnEnd) (c : Chart) (cs : Columns) (width : ℕ) (heads_text rows q u v w x y z : List ℕ) → own ≡ cut
+pub chart_made : (d : Draft) (cut own : Cut) (ts : List TurnEnd) (c : Chart) (cs : Columns) (width : ℕ) (has_none : Bool) (heads_text rows q u v w x y z : List ℕ) → own ≡ cut
     → c.cut ≡ own → HasColumns (columns_of d (c.environment || is_none c.clock) c.actors.items) cs → width ≡ COLUMN * cs.count
-    → heads_text ≡ drop 2 cs.text.items → rows ≡ c.rows.items → q ≡ codes "msc {\n  width=\"" → u ≡ q ++ decimal width
-    → v ≡ u ++ codes "\", arcgradient=\"0\";\n  " → w ≡ v ++ heads_text → x ≡ w ++ codes ";\n" → y ≡ x ++ rows → z ≡ y ++ codes "}\n" → Charts d ts c
+    → heads_text ≡ drop 2 cs.text.items → rows ≡ c.rows.items → has_none ≡ is_none c.clock → q ≡ codes "msc {\n  width=\"" → u ≡ q ++ decimal width
+    → v ≡ u ++ codes "\", arcgradient=\"0\";\n  " → w ≡ v ++ heads_text → x ≡ w ++ after_heads has_none → y ≡ x ++ rows → z ≡ y ++ codes "}\n" → Charts d ts c
     → z ≡ chart_text d cut ts
-chart_made d cut own ts c cs width heads_text rows q u v w x y z same is columns_have wide heads_have drawn is1 is2 is3 is4 is5 is6 is7 k =
+chart_made d cut own ts c cs width has_none heads_text rows q u v w x y z same is columns_have wide heads_have drawn none is1 is2 is3 is4 is5 is6 is7 k =
     let R : List ℕ → Type 0 = λ r. y ≡ x ++ r in
-    seven_pieces (codes "msc {\n  width=\"") (decimal width) (codes "\", arcgradient=\"0\";\n  ") heads_text (codes ";\n") c.rows.items (codes "}\n") q u v w x y z is1 is2
-    is3 is4 is5 (subst R drawn is6) is7
+    let N : Bool → Type 0 = λ b. x ≡ w ++ after_heads b in
+    seven_pieces (codes "msc {\n  width=\"") (decimal width) (codes "\", arcgradient=\"0\";\n  ") heads_text (after_heads (is_none c.clock)) c.rows.items (codes "}\n") q u v w x y z is1 is2
+    is3 is4 (subst N none is5) (subst R drawn is6) is7
     ∙ chart_is d cut own ts c cs width heads_text same is columns_have wide heads_have k

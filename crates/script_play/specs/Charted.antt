@@ -246,6 +246,11 @@ heads (name ∷ names) = head_of name ++ flat_map (λ n. codes ", " ++ head_of n
 
 -- ---- the chart
 
+-- what stands behind the heads; mscgen wants a row at least
+abbrev pub after_heads : Bool → List ℕ
+after_heads true = codes ";\n  |||;\n"
+after_heads false = codes ";\n"
+
 -- the turn that ended, with what it came to
 abbrev pub end_of : Ended → Outcome → TurnEnd
 end_of e o = record { clock = e.clock; me = e.me; turn = e.done; outcome = o; report = e.report }
@@ -264,8 +269,8 @@ COLUMN = 140
 abbrev pub chart_of : Draft → List TurnEnd → List ℕ
 chart_of d ts =
     codes "msc {\n  width=\"" ++ decimal (COLUMN * length (drawn_columns d ts))
-    ++ codes "\", arcgradient=\"0\";\n  " ++ heads (drawn_columns d ts) ++ codes ";\n"
-    ++ rows_text d None ts ++ codes "}\n"
+    ++ codes "\", arcgradient=\"0\";\n  " ++ heads (drawn_columns d ts)
+    ++ after_heads (are_none ts) ++ rows_text d None ts ++ codes "}\n"
 
 abbrev pub chart_text : Draft → Cut → List TurnEnd → List ℕ
 chart_text d cut ts = chart_of d (filter (is_drawn cut) ts)

@@ -6,7 +6,7 @@ ghost use Rattle.turn_code.specs.declared.draft.Draft.{Draft};
 ghost use Rattle.script_seen.specs.Names.{same_actor};
 ghost use Rattle.script_seen.specs.Turn.{outcome_of};
 ghost use Rattle.script_seen.specs.Watched.{TurnEnd, IsEnd};
-ghost use Rattle.script_play.specs.Charted.{time_text, row_text, is_in, has_outside, is_outside, is_address, is_sender, came_from_outside, goes_outside, gets, get_it, is_drawn, end_of, columns_of, chart_text, COLUMN, HasColumns, Charts, TakesPart};
+ghost use Rattle.script_play.specs.Charted.{time_text, row_text, is_in, has_outside, is_outside, is_address, is_sender, came_from_outside, goes_outside, gets, get_it, is_drawn, end_of, after_heads, columns_of, chart_text, COLUMN, HasColumns, Charts, TakesPart};
 
 use crate::chart_rows::{
     behind_two, is_arc, push_box, push_came, push_outputs, push_time, push_timers, receiver_of,
@@ -51,6 +51,16 @@ fn width_of(columns: u64) -> Result<u64, AllocError>
         Some(width) => Ok(width),
         None => Err(AllocError),
     }
+}
+
+/// What stands behind the heads: mscgen wants a row at least.
+fn push_ending(text: &mut Vec<u8>, has_none: bool) -> Result<(), AllocError>
+    ensures { OnOk result (text.new.items ≡ text.old.items ++ after_heads has_none) }
+{
+    if has_none {
+        return Ok(text.extend_from_slice(b";\n  |||;\n")?);
+    }
+    Ok(text.extend_from_slice(b";\n")?)
 }
 
 /// Whether they are the same turns.
@@ -230,7 +240,7 @@ impl Chart {
         push_number(alloc, &mut text, width_of(columns.count)?)?;
         text.extend_from_slice(b"\", arcgradient=\"0\";\n  ")?;
         text.extend_from_slice(behind_two(&columns.text))?;
-        text.extend_from_slice(b";\n")?;
+        push_ending(&mut text, self.clock.is_none())?;
         text.extend_from_slice(&self.rows)?;
         text.extend_from_slice(b"}\n")?;
         Ok(text)
