@@ -7,3 +7,8 @@ pub mod WatchedPlays
 mod Capturings
 mod OutGoing
 mod TermCaptures
+mod OtherLinks
+mod SetCaptures
+mod SetClocks
+mod SetOutGoing
+mod SetCommands
