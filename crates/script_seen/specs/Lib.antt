@@ -6,6 +6,7 @@ pub mod TracedKinds
 pub mod Following
 pub mod Watched
 pub mod WatchedKinds
+pub use Rattle.actor_machine.specs.declared as actor_machine_types
 pub use Rattle.actor_machine.specs.Effects
 pub use Rattle.actor_machine.specs.Looking
 pub use Rattle.actor_machine.specs.Names
