@@ -66,7 +66,7 @@ set_captured every first before said begun old new now next last printed on link
       goes = s.goes;
       heard = one_known every so_far.seen s.last zero on so_far.came links s.came m (omega (arith, within, as_many))
           (λ other apart c k h. known_still every other c so_far.seen s.last k (λ x. s.apart other (λ same. apart (zero_on ∙ same)) k.repeats x) h)
-          (subst N (sym zero_on) s.capturing.heard);
+          (subst N (sym zero_on) s.capturing.heard) so_far.heard;
       written = s.capturing.written;
     }
 

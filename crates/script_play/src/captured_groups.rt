@@ -12,10 +12,10 @@ ghost use Rattle.script_seen.specs.TermAnswers.{unit_line};
 ghost use Rattle.script_seen.specs.TermRuns.{HasPrinted, LacksName};
 ghost use Rattle.script_seen.specs.GroupAnswers.{Playing};
 ghost use Rattle.script_seen.specs.GroupRuns.{playing_of, last_of, HasGivenOut, IsGroupRun, IsGroupWritten, IsGroupMissed, IsGroupMissedBy, IsOfNewSet};
-ghost use Rattle.script_play.specs.Captured.{Hears, IsCapturing};
+ghost use Rattle.script_play.specs.Captured.{repeated, Hears, IsCapturing};
 ghost use Rattle.script_play.specs.CapturedSets.{IsComing, is_noted, books_of, clock_in, SendsOn, Goes, AreHeard, IsCapturedThere, IsSetCapturing, IsSetCaptured, IsSetCapturedInPart};
 
-use crate::captured_terminals::line_of;
+use crate::captured_terminals::{Coming, line_of};
 use crate::capturing::{LinkSeen, begin, lost, time_of};
 use script_seen::{
     FAILED, GroupCommand, GroupPlayer, GroupSaid, GroupScript, HELD, MISSED, RoundLimits, Unit,
@@ -95,7 +95,38 @@ fn give_out<T: Write, W: Write>(
     Ok(())
 }
 
-/// What comes in on the link of this number by a command, by which no unit is asked for, and nothing expected.
+/// What comes in by a command, by which no unit is asked for, and nothing expected.
+fn come_on(alloc: Global, command: &GroupCommand<'_>) -> io::Result<Coming>
+    ensures noted { OnOk result (is_noted (plain_group_command command.now) ≡ true) }
+    ensures coming { IfOk result (λ c. IsComing (plain_group_command command.now) (repeated c.times c.octets.items)) }
+{
+    match command {
+        GroupCommand::Unit(octets) => {
+            let octets = line_of_unit(alloc, octets)?;
+            Ok(Coming { octets, times: 1 })
+        }
+        GroupCommand::Line(octets) => {
+            let octets = Vec::from_slice(alloc, octets)?;
+            Ok(Coming { octets, times: 1 })
+        }
+        GroupCommand::Out(_) | GroupCommand::Expect(_) => Err(lost()),
+        GroupCommand::Order(_)
+        | GroupCommand::Tick(_)
+        | GroupCommand::State(_)
+        | GroupCommand::Value(_, _)
+        | GroupCommand::On(_)
+        | GroupCommand::Send(_)
+        | GroupCommand::Bound(_)
+        | GroupCommand::Message(_)
+        | GroupCommand::Admit(_)
+        | GroupCommand::Own(_) => Ok(Coming {
+            octets: Vec::new(alloc),
+            times: 0,
+        }),
+    }
+}
+
+/// Captures what comes in on the link of this number by a command, by which no unit is asked for, and nothing expected.
 fn note<T: Write>(
     alloc: Global,
     command: &GroupCommand<'_>,
@@ -110,28 +141,9 @@ fn note<T: Write>(
         → IsCapturing number every came ss begun (T.contents out.old) link.old
         → (last : List OneSeen) × Hears number at came come ss last × IsCapturing number every (came ++ come) last begun (T.contents out.new) link.new)) }
 {
-    match command {
-        GroupCommand::Unit(octets) => {
-            let line = line_of_unit(alloc, octets)?;
-            link.hear_times(number, at, &line, 1, out)?;
-            Ok(())
-        }
-        GroupCommand::Line(octets) => {
-            link.hear(number, at, octets, out)?;
-            Ok(())
-        }
-        GroupCommand::Out(_) | GroupCommand::Expect(_) => Err(lost()),
-        GroupCommand::Order(_)
-        | GroupCommand::Tick(_)
-        | GroupCommand::State(_)
-        | GroupCommand::Value(_, _)
-        | GroupCommand::On(_)
-        | GroupCommand::Send(_)
-        | GroupCommand::Bound(_)
-        | GroupCommand::Message(_)
-        | GroupCommand::Admit(_)
-        | GroupCommand::Own(_) => Ok(()),
-    }
+    let coming = come_on(alloc, command)?;
+    link.hear_times(number, at, &coming.octets, coming.times, out)?;
+    Ok(())
 }
 
 /// Does what a command says on the link that lines speak of, of which this is known, and captures what it has come in and go out. Whether the run
