@@ -97,16 +97,18 @@ no_expectation c text noted is =
     let contrary : false ≡ true = subst P is noted in cc
 
 pub there_come : (every : Bool) (first : Playing) (before : List PlainGroupSaid) (said : PlainGroupSaid) (come : List ℕ) (begun old new from to : Option (List ℕ))
-    (now next : Playing) (last printed : Option (List ℕ)) (all : List (List ℕ)) (came : List ℕ) (seen : List Seen) (at : ℕ) (l m : LinkSeen)
-    → is_noted said.command ≡ true → at ≡ set_time now → IsComing said.command come → HasObeyed said.command from to last printed now next
-    → (IsCapturing now.on every came seen begun old l
-    → (more : List Seen) × Hears now.on at came come seen more × IsCapturing now.on every (came ++ come) more begun new m)
+    (now next : Playing) (last printed : Option (List ℕ)) (all : List (List ℕ)) (came : List ℕ) (seen : List Seen) (at n : ℕ) (l m : LinkSeen)
+    → is_noted said.command ≡ true → n ≡ now.on → at ≡ set_time now → IsComing said.command come → HasObeyed said.command from to last printed now next
+    → (IsCapturing n every came seen begun old l
+    → (more : List Seen) × Hears n at came come seen more × IsCapturing n every (came ++ come) more begun new m)
     → Goes first before now last all seen → slice_get all now.on ≡ Some came → IsCapturing now.on every came seen begun old l
     → IsCapturedThere every first (before ++ said ∷ []) next printed all now.on seen begun new m
-there_come every first before said come begun old new from to now next last printed all came seen at l m noted time coming (was_met text is met same kept stays) step goes there known =
+there_come every first before said come begun old new from to now next last printed all came seen at n l m noted number time coming (was_met text is met same kept stays) step goes there known =
     absurd (no_expectation said.command text noted is)
-there_come every first before said come begun old new from to now next last printed all came seen at l m noted time coming (was_done lines obeys has) step goes there known =
-    let s = step known in
+there_come every first before said come begun old new from to now next last printed all came seen at n l m noted number time coming (was_done lines obeys has) step goes there known =
+    let N : ℕ → Type 0 =
+    λ k. IsCapturing k every came seen begun old l → (more : List Seen) × Hears k at came come seen more × IsCapturing k every (came ++ come) more begun new m in
+    let s = subst N number step known in
     let H : ℕ → Type 0 = λ k. Hears now.on k came come seen s.0 in
     let hears = subst H time s.1 in
     let G : Option (List ℕ) → Type 0 = λ x. Goes first (before ++ said ∷ []) next x (slice_set all now.on (came ++ come)) s.0 in

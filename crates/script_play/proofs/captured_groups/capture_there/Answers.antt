@@ -1,4 +1,4 @@
-use Rattle.std.proofs.Common.{◌≡◌, ◌∙◌, ◌*◌, ℕ, ap}
+use Rattle.std.proofs.Common.{◌≡◌, ◌∙◌, ◌*◌, ℕ, ap, arith}
 use Rattle.std.proofs.lemmas.Result.{IfOk-weaker}
 use Rattle.script_links.specs.GroupCommands.{plain_group_command}
 use Rattle.script_links.specs.GroupScripts.{plain_group_said}
@@ -30,7 +30,7 @@ returns-in_ok-note-in_default-clause-captured g c =
     let noted = c.in_ok-note-in_default.ensures in
     let time : c.in_ok-at.at ≡ set_time (playing_of c.args.player.now) = c.in_ok-at.ensures ∙ ap (λ (n : ℕ). TICK * n) c.clock_of.ensures in
     IfOk-weaker c.obey-in_default.result _ _ (λ on obeyed is every p before all came seen begun goes there known. there_come every p before
-    (plain_group_said c.args.said.now) noted.heard.0 begun _ _ _ _ _ _ _ _ all came seen c.in_ok-at.at _ _ noted.noted time noted.heard.1 (obeyed is)
+    (plain_group_said c.args.said.now) noted.heard.0 begun _ _ _ _ _ _ _ _ all came seen c.in_ok-at.at _ _ _ noted.noted (omega (arith, c.requires.few)) time noted.heard.1 (obeyed is)
     (λ now. noted.heard.2 every came seen begun now) goes there known) c.obey-in_default.ensures.obeyed
 
 pub returns-in_ok-note-in_default-clause-uncaptured : goal.returns-in_ok-note-in_default-clause-uncaptured
