@@ -27,7 +27,7 @@ pub enum Wanted {
 /// its end, or at an expectation that fails, a chart of its turns or what was thrown away.
 ///
 /// Gives the exit status, as `play` does: 4 where a write to `out` fails too, where a terminal's journal begins anew within a command, as it does
-/// behind 32,768 events, but for a capture; and for a script of a link set; and with a capture for a script of a book.
+/// behind 32,768 events, and for a script of a link set, but with a capture; with a capture for a script of a book.
 pub fn play_seen<S: Read + Drop, R: Read + Drop, T: Write, W: Write, E: Write>(
     alloc: Global,
     set: SetWord<S>,
