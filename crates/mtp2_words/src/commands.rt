@@ -138,12 +138,43 @@ fn with_seeing_options<'a>(alloc: Global, command: Command<'a>) -> Result<Comman
         "PATH",
         "A file or a FIFO for a trace: a line for each command, each signal of the environment, each timer that runs out and each turn",
     );
+    let chart = option_word(
+        alloc,
+        "chart",
+        "PATH",
+        "A file or a FIFO for a chart of the turns, in the language of mscgen",
+    );
+    let turns = option_word(
+        alloc,
+        "turns",
+        "A..B",
+        "Which turns are drawn, by their numbers in a trace; all where nothing is said",
+    );
+    let thrown = option_word(
+        alloc,
+        "thrown",
+        "PATH",
+        "A file or a FIFO for which signals were thrown away in which states, and how often",
+    );
+    let capture = option_word(
+        alloc,
+        "capture",
+        "PATH",
+        "A file or a FIFO for the units that go out and come in, in pcap's format; those that say nothing new are left out",
+    );
     let every = flag_word(
         alloc,
         "every",
-        "Has signals that are thrown away traced too, and turns that change nothing",
+        "Has signals that are thrown away traced too, and turns that change nothing; and every unit captured",
     );
-    command.arg(echo)?.arg(trace)?.arg(every)
+    command
+        .arg(echo)?
+        .arg(trace)?
+        .arg(chart)?
+        .arg(turns)?
+        .arg(thrown)?
+        .arg(capture)?
+        .arg(every)
 }
 
 /// The command `play`.

@@ -7,11 +7,12 @@ mod flags;
 mod limits;
 mod says;
 mod seeing;
+mod sights;
 mod words;
 
 pub use clap::Error;
 pub use clap::error::ErrorKind;
 pub use ends::{LineEnd, LineWords, line_end};
 pub use script_links::RoundLimits;
-pub use seeing::Seeing;
+pub use seeing::{Seeing, SeeingWords, Sight, Turns, seen_by};
 pub use words::{Named, Request, Source, read};

@@ -10,7 +10,8 @@ use crate::commands::all_commands;
 use crate::ends::{LineEnd, LineWords, line_end};
 use crate::flags::is_given;
 use crate::says::{are_stdin, complaint_of, workers_of};
-use crate::seeing::{Seeing, are_both_seen, seen_of};
+use crate::seeing::Seeing;
+use crate::sights::seen_of;
 use clap::error::ErrorKind;
 use clap::{ArgMatches, Error};
 use std::alloc::{AllocError, Global};
@@ -228,10 +229,7 @@ fn asked_play<'a>(given: &ArgMatches<'a>) -> Option<Request<'a>>
 {
     let set = given.get_str("SET")?;
     let script = given.get_str("SCRIPT")?;
-    let seen = seen_of(given);
-    if are_both_seen(&seen) {
-        return None;
-    }
+    let seen = seen_of(given)?;
     played(set, script, seen)
 }
 

@@ -147,7 +147,7 @@ fn terminal_limits() -> Limits
 }
 
 /// The tracer of a terminal over a set.
-fn open_tracer(alloc: Global, set: &Verified, every: bool) -> Result<Tracer, AllocError>
+pub(crate) fn open_tracer(alloc: Global, set: &Verified, every: bool) -> Result<Tracer, AllocError>
     ensures every { IfOk result (λ t. t.every ≡ every) }
     ensures start { IfOk result (IsAtStart (opened_book set.now MOST_PORT MOST_ENVIRONMENT MOST_JOURNAL)) }
 {
