@@ -1,5 +1,5 @@
 -- A chart, one turn more.
-use Rattle.std.proofs.Common.{◌≡◌, ◌∙◌, ℕ, zero, suc, ◌+◌, ◌*◌, Bool, true, false, List, [], ◌∷◌, ◌++◌, length, map, take, drop, append-nil, append_assoc, get_or, ◌<◌, ◌≤◌, eqb-true, Option, Some, None, arith, refl, sym, ap, subst}
+use Rattle.std.proofs.Common.{◌≡◌, ◌∙◌, ℕ, zero, suc, ◌+◌, ◌*◌, Bool, true, false, not, List, [], ◌∷◌, ◌++◌, length, map, take, drop, append-nil, append_assoc, get_or, ◌<◌, ◌≤◌, eqb-true, Option, Some, None, arith, refl, sym, ap, subst}
 use Rattle.std.specs.Prelude.{◌||◌, ◌&&◌, ◌==◌, filter, is_none, is_some, option_map, slice_get, if◌then◌else◌, codes}
 use Rattle.std.specs.List.{list_any, flat_map}
 use Rattle.std.specs.Fmt.{decimal}
@@ -426,6 +426,13 @@ is_noted d me (line ∷ lines) a b text more is some behind r =
 pub heads_are : (names : List (List ℕ)) → drop 2 (behind_each names) ≡ heads names
 heads_are [] = refl
 heads_are (name ∷ names) = refl
+
+-- an answer that is the other way round
+pub none_told : (o : Option ℕ) (r : Bool) → is_some o ≡ not r → r ≡ is_none o
+none_told None true is = refl
+none_told None false is = is
+none_told (Some n) true is = is
+none_told (Some n) false is = refl
 
 none_yet : (last : ℕ) (ts : List TurnEnd) → is_none (last_clock (Some last) ts) ≡ false
 none_yet last [] = refl
