@@ -5,7 +5,7 @@ use Rattle.std.specs.Prelude.{IsSomeAnd}
 use Rattle.std.specs.Io.KnownBytes.{Appends}
 use Rattle.clap.specs.declared.error.kind.ErrorKind.{ErrorKind}
 use Rattle.clap.specs.declared.error.kind.ErrorKind.TheVariants.{DisplayHelp, DisplayVersion}
-use Rattle.plain_limits.specs.Limits.{LEAST_WORKERS, MOST_WORKERS}
+use Rattle.plain_laws.specs.Limits.{LEAST_WORKERS, MOST_WORKERS}
 use Rattle.script_check.specs.Checked.{IsGiven, PrintsCosts, PrintsRefusal}
 use Rattle.script_play.specs.Played.{IsOnSet, IsPlayed, IsPlayedInPart, IsRefused}
 use Rattle.script_play.specs.Seen.{IsWatched, IsWatchedInPart}

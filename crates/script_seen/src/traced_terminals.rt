@@ -5,7 +5,7 @@ ghost use Rattle.actor_machine.specs.Kept.{opened_book};
 ghost use Rattle.script_lines.specs.Lines.{plain_line, lines_of};
 ghost use Rattle.script_links.specs.TermCommands.{plain_term_command};
 ghost use Rattle.script_links.specs.TermScripts.{PlainTermSaid, plain_term_said, asks_told};
-ghost use Rattle.plain_limits.specs.Limits.{MOST_PORT, MOST_ENVIRONMENT, MOST_JOURNAL};
+ghost use Rattle.plain_laws.specs.Limits.{MOST_PORT, MOST_ENVIRONMENT, MOST_JOURNAL};
 ghost use Rattle.script_group.specs.Term.{Term};
 ghost use Rattle.script_group.specs.TermRuns.{last_of, IsTermRun, IsTermWritten, IsTermMissed, IsTermFailed, IsTermMissedBy, IsOfNew, LacksName};
 ghost use Rattle.script_seen.specs.Traced.{IsFront};

@@ -1,7 +1,7 @@
 //! Terminals' scripts as they run, with a watcher.
 ghost use Rattle.std.specs.Prelude.{◌≡◌, ◌⊎◌, ◌++◌, ◌∷◌, [], List, ℕ, Option, None, map, IfOk, true, false};
 ghost use Rattle.actor_machine.specs.Kept.{opened_book};
-ghost use Rattle.plain_limits.specs.Limits.{MOST_PORT, MOST_ENVIRONMENT, MOST_JOURNAL};
+ghost use Rattle.plain_laws.specs.Limits.{MOST_PORT, MOST_ENVIRONMENT, MOST_JOURNAL};
 ghost use Rattle.script_links.specs.TermScripts.{PlainTermSaid, plain_term_said, asks_told};
 ghost use Rattle.script_group.specs.Term.{Term};
 ghost use Rattle.script_group.specs.TermRuns.{last_of, IsTermRun, IsTermWritten, IsTermMissed, IsTermFailed, IsTermMissedBy, IsOfNew, LacksName};
