@@ -165,5 +165,18 @@ def cut_libraries(rt):
         return status
 
     crates.is_built, crates.build_rlib = is_built, build_rlib
+    # (what another checkout built fits only what stands on that very library there; what `rt ci` kept fits in each)
+    if hasattr(rt, "take_rlib"):
+        elsewhere = rt.take_rlib
+
+        def take_rlib(crate):
+            shutil.rmtree(kept(crate), ignore_errors=True)
+            os.makedirs(kept(crate))
+            if take(crate):
+                note(crate, over(crate), crate.stamp())
+                return True
+            return elsewhere(crate)
+
+        rt.take_rlib = take_rlib
     # (a quick pass over the sources of all crates below, before any of them is built, takes ten minutes and 10 GB in an upper crate)
     crates.front_end = lambda _: 0

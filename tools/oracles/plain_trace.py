@@ -5,7 +5,7 @@ each event, a chart, and what of the text was taken.
 usage: tools/oracles/plain_trace.py SET SCRIPT [--every]      prints the trace of a script of a book or of a terminal
        tools/oracles/plain_trace.py SET SCRIPT --chart [--turns A..B]     prints it as a chart in mscgen's language
        tools/oracles/plain_trace.py SET SCRIPT --coverage     prints which transitions, answers and lines of the text were taken, in lcov's format
-       tools/oracles/plain_trace.py SET SCRIPT --thrown       prints which signals were thrown away in which states, and how often
+       tools/oracles/plain_trace.py SET SCRIPT --thrown       prints which signals were thrown away in which states, and how often, in the order of the first time
 
 SET and SCRIPT are as plain_term.py has them; the status is that of the script. Lines of a trace, behind the ticks gone by:
 
@@ -216,6 +216,10 @@ class Seen:
         self.budgets = {line.split(" budget ")[0]: line.split()[-5] for line in check(text)[:-1]}
         self.names = {(it[1][0][0].lower(), lo(name)): name[0] for it in P(text, lex(text)).block() if it[0] == "process" for part in it[1][1] if part[0] != "timer" for name in part[1]}
 
+    def thrown(self):
+        """The lines of what was thrown away, in the order of the first time."""
+        return [f"{process} {state}/{signal} {times}" for (process, state, signal), times in self.taken.thrown.items()]
+
     def command(self, text):
         asks = text.split(" ")[0] in ("state", "value", "measure", "expect") and text != "measure reset"
         if not asks:
@@ -256,9 +260,9 @@ def called(signal, given):
 def chart(seen, least=0, most=None):
     """The turns as a chart in mscgen's language."""
     turns = [it for it in seen.turns if it[0] >= least and (most is None or it[0] <= most)]
-    here = {it[2] for it in turns} | {it[6] for it in turns if it[6]} | {to for it in turns for part in it[8] if part[0] == "output" for to in [part[3]] if to == "ENV"}
-    ordered = [it for it in ["ENV", *(actor.shown() for actor in seen.book.actors)] if it in here]
-    out = ["msc {", f'  width="{140 * len(ordered)}", arcgradient="0";', "  " + ", ".join(f'"{it}" [label="{it}"]' for it in ordered) + ";"]
+    here = {it[2] for it in turns} | {it[6] for it in turns if it[6]} | {part[3] for it in turns for part in it[8] if part[0] == "output" and (part[4] or part[3] == "ENV")}
+    ordered = [it for it in ["ENV", *(actor.shown() for actor in seen.book.actors)] if it in here] or ["ENV"]
+    out = ["msc {", f'  width="{140 * len(ordered)}", arcgradient="0";', "  " + ", ".join(f'"{it}" [label="{it}"]' for it in ordered) + ";", *([] if turns else ["  |||;"])]
     clock, states = None, {}
     for number, at, actor, place, trigger, given, source, end, laid in turns:
         if at != clock:
@@ -271,10 +275,12 @@ def chart(seen, least=0, most=None):
             out.append(f'  "{actor}" note "{actor}" [label="{signal} runs out"];')
         if end != state:
             out.append(f'  "{actor}" abox "{actor}" [label="{end}"];')
-        out += [f'  "{actor}" => "ENV" [label="{called(part[1], part[2])}"];' for part in laid if part[0] == "output" and part[3] == "ENV"]
+        for part in laid:
+            if part[0] == "output" and (part[4] or part[3] == "ENV"):
+                out.append(f'  "{actor}" {"-x" if part[4] else "=>"} "{part[3]}" [label="{called(part[1], part[2])}"];')
         notes = [told(part) for part in laid if part[0] != "output"]
         if notes:
-            out.append(f'  "{actor}" note "{actor}" [label="{quoted(chr(92) + "n".join(notes)) if False else (chr(92) + "n").join(notes)}"];')
+            out.append(f'  "{actor}" note "{actor}" [label="{(chr(92) + "n").join(notes)}"];')
     return out + ["}"]
 
 
@@ -358,7 +364,7 @@ def main(given):
     elif "--coverage" in options:
         print("\n".join(seen.taken.lcov(f"examples/{plain_term.SETS[word]}" if word in plain_term.SETS else word)))
     elif "--thrown" in options:
-        print("\n".join(f"{process} {state}/{signal} {times}" for (process, state, signal), times in sorted(seen.taken.thrown.items())))
+        print("\n".join(seen.thrown()))
     else:
         print("\n".join(seen.lines))
     return status

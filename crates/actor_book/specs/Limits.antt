@@ -1,7 +1,7 @@
 -- How much a link may hold.
 use Rattle.std.specs.Prelude.{ℕ, ◌≤◌}
-use Rattle.plain_limits.specs.Limits.{LEAST_ENVIRONMENT, LEAST_JOURNAL, LEAST_PORT}
-use Rattle.plain_limits.specs.Limits.{MOST_ENVIRONMENT, MOST_JOURNAL, MOST_PORT}
+use Rattle.plain_laws.specs.Limits.{LEAST_ENVIRONMENT, LEAST_JOURNAL, LEAST_PORT}
+use Rattle.plain_laws.specs.Limits.{MOST_ENVIRONMENT, MOST_JOURNAL, MOST_PORT}
 
 -- how many signals a port may hold, how many may wait for the environment, and how many events a
 -- journal may hold

@@ -6,7 +6,7 @@ ghost use Rattle.actor_machine.specs.Ledger.{rebased, next, room, state_of};
 ghost use Rattle.actor_machine.specs.Kept.{IsKept, opened_book};
 ghost use Rattle.actor_machine.specs.Refusals.{with_room, needs};
 ghost use Rattle.actor_machine.specs.declared.event.Event.{Event as PlainEvent};
-ghost use Rattle.plain_limits.specs.Limits.{PAST_PLACES};
+ghost use Rattle.plain_laws.specs.Limits.{PAST_PLACES};
 
 use crate::limits::Limits;
 use actor_machine::laws::keeps_law;

@@ -6,7 +6,7 @@ ghost use Rattle.actor_machine.specs.declared.event.Event.TheVariants.{Offer as 
 ghost use Rattle.actor_machine.specs.declared.reply.Reply.TheVariants as reply;
 ghost use Rattle.actor_book.specs.Accepted.{Takes, refusal_of};
 ghost use Rattle.actor_book.specs.Answered.{answer_by};
-ghost use Rattle.plain_limits.specs.Limits.{MOST_PARAMETERS};
+ghost use Rattle.plain_laws.specs.Limits.{MOST_PARAMETERS};
 
 use crate::book::Book;
 use actor_machine::{Emitted, Event, Offer, Refusal};

@@ -2,7 +2,7 @@
 
 ghost use Rattle.std.specs.Prelude.{◌≡◌, ◌↔◌, ◌≤◌, IsSome, IfSome};
 ghost use Rattle.actor_book.specs.Limits.{AreLimits};
-ghost use Rattle.plain_limits.specs.Limits.{LEAST_ENVIRONMENT, LEAST_JOURNAL, LEAST_PORT, MOST_ENVIRONMENT, MOST_JOURNAL, MOST_PORT};
+ghost use Rattle.plain_laws.specs.Limits.{LEAST_ENVIRONMENT, LEAST_JOURNAL, LEAST_PORT, MOST_ENVIRONMENT, MOST_JOURNAL, MOST_PORT};
 
 use std::marker::Model;
 

@@ -9,7 +9,7 @@ ghost use Rattle.actor_machine.specs.Step.{Says};
 ghost use Rattle.actor_machine.specs.declared.event.Event.TheVariants.{Offer as Offered, Begin, Skip, Finish, Advance, TakeEnv};
 ghost use Rattle.actor_machine.specs.declared.reply.Reply.TheVariants as reply;
 ghost use Rattle.actor_book.specs.Accepted.{Takes};
-ghost use Rattle.plain_limits.specs.Limits.{MOST_ACTORS, MOST_EFFECTS, MOST_VARIABLES};
+ghost use Rattle.plain_laws.specs.Limits.{MOST_ACTORS, MOST_EFFECTS, MOST_VARIABLES};
 
 use crate::book::Book;
 use actor_machine::laws::{fits_law, keeps_law, out_law, state_law};

@@ -1,6 +1,6 @@
 -- What becomes of a link that was opened with a set, from what its parts promise: opening it, and running events.
 use Rattle.std.proofs.Common.{◌≡◌, ◌≤◌, List, map, sym, subst}
-use Rattle.plain_limits.specs.Limits.{MOST_JOURNAL}
+use Rattle.plain_laws.specs.Limits.{MOST_JOURNAL}
 use Rattle.sdl_ast.specs.Plain.{PlainBlock}
 use Rattle.turn_code.specs.Outcome.{Meaning, Means}
 use Rattle.turn_code.specs.Valid.{IsValid}

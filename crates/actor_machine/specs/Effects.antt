@@ -3,7 +3,7 @@ use Rattle.std.specs.Prelude.{ℕ, zero, suc, ◌+◌, ◌==◌, ℤ, pos, negsu
 use Rattle.std.specs.Prelude.{length, max, nat_lt, Option, None, Some, option_to_list}
 use Rattle.std.specs.Prelude.{if◌then◌else◌}
 use Rattle.std.specs.FinMap as map
-use Rattle.plain_limits.specs.Limits.{MOST_TIMERS_EACH}
+use Rattle.plain_laws.specs.Limits.{MOST_TIMERS_EACH}
 use Rattle.turn_code.specs.Outcome.{Outcome}
 use Rattle.turn_code.specs.declared.numbers.InstanceNumber.{InstanceNumber}
 use Rattle.turn_code.specs.declared.input.Party.{Party}

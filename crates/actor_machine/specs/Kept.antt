@@ -4,8 +4,8 @@
 use Rattle.std.specs.Prelude.{◌≡◌, ℕ, ◌+◌, ◌*◌, ◌<◌, ◌≤◌, Bool, true, false, suc, List, [], ◌∷◌}
 use Rattle.std.specs.Prelude.{◌++◌, length, map, count_by, None, Some, slice_get}
 use Rattle.std.specs.FinMap as finite
-use Rattle.plain_limits.specs.Limits.{LAST_PLACE, LAST_TICK, MOST_INSTRUCTIONS, MOST_JOURNAL}
-use Rattle.plain_limits.specs.Limits.{MOST_TURNS_BEGUN}
+use Rattle.plain_laws.specs.Limits.{LAST_PLACE, LAST_TICK, MOST_INSTRUCTIONS, MOST_JOURNAL}
+use Rattle.plain_laws.specs.Limits.{MOST_TURNS_BEGUN}
 use Rattle.turn_code.specs.Valid.{IsValid}
 use Rattle.turn_code.specs.Start.{initial_values}
 use Rattle.turn_code.specs.declared.input.Place.TheVariants.{Start}

@@ -1,6 +1,6 @@
 -- What follows from the machine alone, for every book and every list of events.
 use Rattle.std.specs.Prelude.{◌≡◌, ◌≢◌, ℕ, ◌+◌, ◌<◌, ◌≤◌, ◌↔◌, List, [], ◌∷◌, None, Some, slice_get}
-use Rattle.plain_limits.specs.Limits.{MOST_JOURNAL, PAST_PLACES}
+use Rattle.plain_laws.specs.Limits.{MOST_JOURNAL, PAST_PLACES}
 use Rattle.turn_code.specs.Outcome.{Outcome, Meaning, Means}
 use Rattle.turn_code.specs.Transitions.{Transition, transition_at}
 use Rattle.turn_code.specs.Valid.{IsValid}

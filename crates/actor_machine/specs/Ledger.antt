@@ -2,7 +2,7 @@
 -- replay of these.
 use Rattle.std.specs.Prelude.{ℕ, ◌+◌, ◌-◌, List, [], ◌∷◌, ◌++◌, length, Option, None, Some, Result}
 use Rattle.std.specs.Prelude.{Err, slice_get, nat_lt, nat_le, if◌then◌else◌}
-use Rattle.plain_limits.specs.Limits.{LAST_PLACE}
+use Rattle.plain_laws.specs.Limits.{LAST_PLACE}
 use Rattle.turn_code.specs.Outcome.{Outcome, Meaning, result_in}
 use Rattle.turn_code.specs.Run.{run}
 use Rattle.turn_code.specs.Transitions.{Transition, transition_at}

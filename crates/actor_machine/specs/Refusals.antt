@@ -3,7 +3,7 @@
 use Rattle.std.specs.Prelude.{ℕ, ◌+◌, ◌==◌, Bool, true, false, not, ◌&&◌, List, [], ◌∷◌, length}
 use Rattle.std.specs.Prelude.{map, Option, None, Some, slice_get, nat_lt, nat_le, if◌then◌else◌}
 use Rattle.std.specs.List.{list_any}
-use Rattle.plain_limits.specs.Limits.{LAST_TICK, MOST_TICKS, MOST_TURNS_BEGUN}
+use Rattle.plain_laws.specs.Limits.{LAST_TICK, MOST_TICKS, MOST_TURNS_BEGUN}
 use Rattle.turn_code.specs.Values.{sort_of}
 use Rattle.turn_code.specs.Transitions.{parameters_of}
 use Rattle.turn_code.specs.declared.value.Sort.{Sort}

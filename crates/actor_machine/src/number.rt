@@ -2,7 +2,7 @@
 
 ghost use Rattle.std.specs.Prelude.{◌≡◌, ◌≤◌, ◌<◌, ◌*◌, Some, length};
 ghost use Rattle.actor_machine.specs.Names.{named, actors_of, place_of};
-ghost use Rattle.plain_limits.specs.Limits.{MOST_INSTANCES};
+ghost use Rattle.plain_laws.specs.Limits.{MOST_INSTANCES};
 
 use crate::name::ActorName;
 use turn_check::Verified;

@@ -1,6 +1,6 @@
 -- What a link needs of its processes as it begins.
 use Rattle.std.specs.Prelude.{◌≤◌, length}
-use Rattle.plain_limits.specs.Limits.{MOST_INSTANCES, MOST_VARIABLES}
+use Rattle.plain_laws.specs.Limits.{MOST_INSTANCES, MOST_VARIABLES}
 use Rattle.turn_code.specs.declared.draft.DraftProcess.{DraftProcess}
 
 -- a process with as many variables as an actor has room for, and with as many instances as a

@@ -1,6 +1,6 @@
 -- The outcome of a turn from its parts.
 use Rattle.std.specs.Prelude.{ℕ, ◌<◌, List, [], ◌∷◌, Option, None}
-use Rattle.plain_limits.specs.Limits.{MOST_TIMERS_EACH}
+use Rattle.plain_laws.specs.Limits.{MOST_TIMERS_EACH}
 use Rattle.turn_code.specs.Outcome.{Outcome}
 use Rattle.turn_code.specs.declared.value.Value.{Value}
 use Rattle.turn_code.specs.declared.effect.Effect.{Effect}

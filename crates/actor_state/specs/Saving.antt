@@ -1,6 +1,6 @@
 -- Signals and timers within the bounds of a set.
 use Rattle.std.specs.Prelude.{ℕ, ◌<◌, Option, None, Some, option_map}
-use Rattle.plain_limits.specs.Limits.{MOST_SIGNALS, MOST_TIMERS_EACH}
+use Rattle.plain_laws.specs.Limits.{MOST_SIGNALS, MOST_TIMERS_EACH}
 use Rattle.turn_code.specs.declared.draft.Draft.{Draft}
 use Rattle.turn_code.specs.declared.draft.Trigger.{Trigger}
 use Rattle.turn_code.specs.declared.draft.Trigger.TheVariants.{Signal, Timer}

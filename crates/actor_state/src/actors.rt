@@ -5,7 +5,7 @@ ghost use Rattle.actor_machine.specs.Core.{change, change_found, found_in, names
 ghost use Rattle.actor_machine.specs.Names.{actors_of, place_of, number_for};
 ghost use Rattle.actor_machine.specs.Effects.{receives, drops, hears, moved, refusal_in, refusal_at};
 ghost use Rattle.actor_state.specs.Outcomes.{with_variables};
-ghost use Rattle.plain_limits.specs.Limits.{MOST_TIMERS_EACH, MOST_VARIABLES};
+ghost use Rattle.plain_laws.specs.Limits.{MOST_TIMERS_EACH, MOST_VARIABLES};
 
 use actor_machine::{Actor, ActorName, Cause, Standing, number_of};
 use input_port::{Arrival, PutError};

@@ -4,7 +4,7 @@ ghost use Rattle.std.specs.Prelude.{◌≡◌, ◌≤◌, ◌<◌, ◌+◌, ◌^
 ghost use Rattle.actor_machine.specs.Refusals.{advance_rows, first_of};
 ghost use Rattle.tick_wheel.specs.Timers.{due, not_due};
 ghost use Rattle.actor_machine.specs.Step.{notified, passed, due_in};
-ghost use Rattle.plain_limits.specs.Limits.{LAST_TICK, MOST_TICKS};
+ghost use Rattle.plain_laws.specs.Limits.{LAST_TICK, MOST_TICKS};
 
 use crate::actors::notify;
 use crate::link_actors::LinkActors;

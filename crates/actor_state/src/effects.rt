@@ -7,7 +7,7 @@ ghost use Rattle.actor_machine.specs.Effects.{laid, laid_all, lost_by, lost_for,
 ghost use Rattle.actor_machine.specs.Step.{report_of};
 ghost use Rattle.tick_wheel.specs.Turning.{timers_of};
 ghost use Rattle.actor_state.specs.Outcomes.{outcome_with, with_variables, HasTimer, HaveTimers};
-ghost use Rattle.plain_limits.specs.Limits.{MOST_ACTORS, MOST_EFFECTS, MOST_TIMERS_EACH, MOST_TURNS_BEGUN, MOST_VARIABLES};
+ghost use Rattle.plain_laws.specs.Limits.{MOST_ACTORS, MOST_EFFECTS, MOST_TIMERS_EACH, MOST_TURNS_BEGUN, MOST_VARIABLES};
 
 use crate::actors::{deliver_to, end_turn, forget_timer, number_for, settle_at};
 use crate::link_actors::LinkActors;

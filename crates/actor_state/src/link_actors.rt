@@ -5,7 +5,7 @@ ghost use Rattle.std.specs.Option.{option_copied};
 ghost use Rattle.actor_machine.specs.Core.{names_in, outs};
 ghost use Rattle.actor_machine.specs.declared.actor.Actor.{Actor as PlainActor};
 ghost use Rattle.actor_machine.specs.declared.actor.Standing.{Standing as PlainStanding};
-ghost use Rattle.plain_limits.specs.Limits.{MOST_ACTORS};
+ghost use Rattle.plain_laws.specs.Limits.{MOST_ACTORS};
 
 use crate::actors::count_outs;
 use crate::ring::Ring;
@@ -31,7 +31,7 @@ impl Model for LinkActors {
     ghost use Rattle.tick_wheel.specs.Timers.{timers_code};
     ghost use Rattle.tick_wheel.specs.Turning.{timers_of};
     ghost use Rattle.actor_machine.specs.Core.{Core};
-    ghost use Rattle.plain_limits.specs.Limits.{MOST_ACTORS};
+    ghost use Rattle.plain_laws.specs.Limits.{MOST_ACTORS};
 
     ghost Value = { Core };
 

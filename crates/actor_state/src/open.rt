@@ -6,7 +6,7 @@ ghost use Rattle.actor_machine.specs.Names.{instances_from};
 ghost use Rattle.actor_machine.specs.Kept.{opened, opened_actor, opened_from};
 ghost use Rattle.turn_code.specs.declared.draft.DraftProcess.{DraftProcess as PlainProcess};
 ghost use Rattle.actor_state.specs.Opening.{HasFew};
-ghost use Rattle.plain_limits.specs.Limits.{LEAST_PORT, MOST_ACTORS, MOST_PORT, MOST_PROCESSES};
+ghost use Rattle.plain_laws.specs.Limits.{LEAST_PORT, MOST_ACTORS, MOST_PORT, MOST_PROCESSES};
 
 use crate::link_actors::LinkActors;
 use crate::ring::Ring;

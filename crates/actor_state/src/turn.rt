@@ -6,7 +6,7 @@ ghost use Rattle.actor_machine.specs.Looking.{looks, item_at, input_with, given_
 ghost use Rattle.actor_machine.specs.Refusals.{begin_rows, skip_rows, first_of};
 ghost use Rattle.actor_machine.specs.declared.actor.Actor.{Actor as PlainActor};
 ghost use Rattle.actor_state.specs.Saving.{skipped_by};
-ghost use Rattle.plain_limits.specs.Limits.{MOST_TURNS_BEGUN};
+ghost use Rattle.plain_laws.specs.Limits.{MOST_TURNS_BEGUN};
 
 use crate::link_actors::LinkActors;
 use crate::look::{look, number_of, take, trigger_of};

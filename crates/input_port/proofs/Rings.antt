@@ -4,7 +4,7 @@ use Rattle.std.specs.List.{slice_get, list_any, remove}
 use Rattle.std.proofs.lemmas.Option.{same_Some}
 use Rattle.std.proofs.lemmas.List.{drop_all}
 use Rattle.circular_buffer.specs.Buffer.{Buffer, buffer}
-use Rattle.plain_limits.specs.Limits.{MOST_TIMERS_EACH}
+use Rattle.plain_laws.specs.Limits.{MOST_TIMERS_EACH}
 use Rattle.input_port.specs.declared.queue.Item.{Item}
 use Rattle.input_port.specs.Queue.{is_of_timer, IsQueue}
 

@@ -2,7 +2,7 @@
 use Rattle.std.specs.Prelude.{◌≡◌, ℕ, ◌<◌, ◌≤◌, Bool, true, false, not, List, [], ◌∷◌, ◌++◌, Option}
 use Rattle.std.specs.Prelude.{Some, None, if◌then◌else◌, ◌==◌, nat_eq, filter, count_by}
 use Rattle.std.specs.List.{list_any, IsDistinct, AllByRecursion}
-use Rattle.plain_limits.specs.Limits.{LEAST_PORT, MOST_PORT, MOST_TIMERS_EACH}
+use Rattle.plain_laws.specs.Limits.{LEAST_PORT, MOST_PORT, MOST_TIMERS_EACH}
 use Rattle.input_port.specs.declared.queue.Item.{Item}
 use Rattle.input_port.specs.declared.queue.Item.TheVariants.{Signal, Timer}
 

@@ -1,7 +1,7 @@
 -- Which items a state saves (Z.100, save).
 use Rattle.std.specs.Prelude.{ℕ, Bool, ◌&&◌, ◌==◌, nat_lt}
 use Rattle.std.specs.Int.{bit_at}
-use Rattle.plain_limits.specs.Limits.{MOST_SIGNALS, MOST_TIMERS_EACH}
+use Rattle.plain_laws.specs.Limits.{MOST_SIGNALS, MOST_TIMERS_EACH}
 use Rattle.input_port.specs.declared.save.Saved.{Saved}
 use Rattle.input_port.specs.declared.queue.Item.{Item}
 use Rattle.input_port.specs.declared.queue.Item.TheVariants.{Signal, Timer}

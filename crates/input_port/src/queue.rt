@@ -5,7 +5,7 @@ ghost use Rattle.std.specs.Option.{option_copied};
 ghost use Rattle.circular_buffer.specs.Buffer.{buffer};
 ghost use Rattle.input_port.specs.Saves.{saves};
 ghost use Rattle.input_port.specs.Queue.{is_signal, is_of_timer, signal_count, has_timer, without_timer, first_unsaved, without_first, Takes, IsQueue};
-ghost use Rattle.plain_limits.specs.Limits.{LEAST_PORT, MOST_PORT, MOST_TIMERS_EACH};
+ghost use Rattle.plain_laws.specs.Limits.{LEAST_PORT, MOST_PORT, MOST_TIMERS_EACH};
 
 use crate::save::{Saved, TIMERS};
 use arrayvec::ArrayVec;
@@ -86,7 +86,7 @@ pub struct Port {
 impl Model for Port {
     ghost use Rattle.std.specs.Prelude.{◌≡◌, ◌+◌};
     ghost use Rattle.input_port.specs.Queue.{Queue, IsQueue};
-    ghost use Rattle.plain_limits.specs.Limits.{MOST_TIMERS_EACH};
+    ghost use Rattle.plain_laws.specs.Limits.{MOST_TIMERS_EACH};
 
     ghost Value = { Queue };
 

@@ -2,7 +2,7 @@
 
 ghost use Rattle.std.specs.Prelude.{◌≡◌, ℕ, ◌<◌, ◌||◌, ◌==◌, false};
 ghost use Rattle.input_port.specs.Saves.{saves_signal, saves_timer, saves};
-ghost use Rattle.plain_limits.specs.Limits.{MOST_SIGNALS, MOST_TIMERS_EACH};
+ghost use Rattle.plain_laws.specs.Limits.{MOST_SIGNALS, MOST_TIMERS_EACH};
 
 use crate::queue::Item;
 use turn_code::{SignalNumber, TimerNumber};

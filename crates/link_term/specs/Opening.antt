@@ -1,6 +1,6 @@
 -- A terminal over a set.
 use Rattle.std.specs.Prelude.{◌≡◌, ℕ, true, [], All}
-use Rattle.plain_limits.specs.Limits.{MOST_ENVIRONMENT, MOST_JOURNAL, MOST_PORT}
+use Rattle.plain_laws.specs.Limits.{MOST_ENVIRONMENT, MOST_JOURNAL, MOST_PORT}
 use Rattle.turn_code.specs.declared.draft.Draft.{Draft}
 use Rattle.bit_line.specs.Deframing.{Stands}
 use Rattle.bit_line.specs.Stuffers.{Gave}

@@ -4,8 +4,9 @@ use Rattle.script_check.specs.Checked.{given, IsGiven, PrintsCosts, PrintsRefusa
 use Rattle.script_check.specs.declared.sets.SetWord.{SetWord}
 use Rattle.script_check.specs.declared.sets.SetWord.TheVariants.{Standard as standard_set, Q703 as q703_set, Monitors as monitors_set, Text}
 use Rattle.script_play.specs.Played.{IsOnSet, IsPlayed, IsPlayedInPart, IsNotRun, IsRefused, set_refused, script_refused}
-use Rattle.script_play.specs.Traced.{IsPlayTraced, IsPlayTracedInPart, IsWatched, IsWatchedInPart}
-use Rattle.script_play.proofs.Watching.{was_played, was_played_in_part}
+use Rattle.script_play.specs.Seen.{IsPlaySeen, IsPlaySeenInPart, IsWatched, IsWatchedInPart}
+use Rattle.script_play.specs.declared.seeing.Wanted.{Wanted}
+use Rattle.script_play.proofs.WatchedPlays.{was_played, was_played_in_part}
 use Rattle.pool_soak.specs.Findings.{IsSoaked, IsSoakedInVain, IsTurnedDown}
 use Rattle.line_filter.specs.Filters.{Line}
 use Rattle.line_play.specs.Opening.{IsNoSet}
@@ -156,18 +157,18 @@ in_part usual wanted echo set script old new same s =
     let Q : RoundLimits → Type 0 = λ l. IsOnSet set None (IsPlayedInPart l echo old new) in
     subst Q same (record { draft = s.draft; is_set = s.is_set; of_script = some_bytes script (IsPlayedInPart usual echo old new s.draft) s.of_script })
 
--- with a trace
-pub traced : (usual wanted : RoundLimits) (every : Bool) (set script old new begun now : Option (List ℕ)) → usual ≡ wanted
-    → IsOnSet set script (IsPlayTraced usual every old new begun now) → IsOnSet set None (IsPlayTraced wanted every old new begun now)
-traced usual wanted every set script old new begun now same s =
-    let Q : RoundLimits → Type 0 = λ l. IsOnSet set None (IsPlayTraced l every old new begun now) in
-    subst Q same (record { draft = s.draft; is_set = s.is_set; of_script = some_bytes script (IsPlayTraced usual every old new begun now s.draft) s.of_script })
+-- with what is wanted of it in a file
+pub seen : (usual wanted : RoundLimits) (sight : Wanted) (set script old new begun now : Option (List ℕ)) → usual ≡ wanted
+    → IsOnSet set script (IsPlaySeen usual sight old new begun now) → IsOnSet set None (IsPlaySeen wanted sight old new begun now)
+seen usual wanted sight set script old new begun now same s =
+    let Q : RoundLimits → Type 0 = λ l. IsOnSet set None (IsPlaySeen l sight old new begun now) in
+    subst Q same (record { draft = s.draft; is_set = s.is_set; of_script = some_bytes script (IsPlaySeen usual sight old new begun now s.draft) s.of_script })
 
-pub traced_in_part : (usual wanted : RoundLimits) (every : Bool) (set script old new begun now : Option (List ℕ)) → usual ≡ wanted
-    → IsOnSet set script (IsPlayTracedInPart usual every old new begun now) → IsOnSet set None (IsPlayTracedInPart wanted every old new begun now)
-traced_in_part usual wanted every set script old new begun now same s =
-    let Q : RoundLimits → Type 0 = λ l. IsOnSet set None (IsPlayTracedInPart l every old new begun now) in
-    subst Q same (record { draft = s.draft; is_set = s.is_set; of_script = some_bytes script (IsPlayTracedInPart usual every old new begun now s.draft) s.of_script })
+pub seen_in_part : (usual wanted : RoundLimits) (sight : Wanted) (set script old new begun now : Option (List ℕ)) → usual ≡ wanted
+    → IsOnSet set script (IsPlaySeenInPart usual sight old new begun now) → IsOnSet set None (IsPlaySeenInPart wanted sight old new begun now)
+seen_in_part usual wanted sight set script old new begun now same s =
+    let Q : RoundLimits → Type 0 = λ l. IsOnSet set None (IsPlaySeenInPart l sight old new begun now) in
+    subst Q same (record { draft = s.draft; is_set = s.is_set; of_script = some_bytes script (IsPlaySeenInPart usual sight old new begun now s.draft) s.of_script })
 
 not_run_in : (set script old new : Option (List ℕ)) → IsOnSet set script (IsNotRun old new) → IsOnSet set None (IsNotRun old new)
 not_run_in set script old new s = record { draft = s.draft; is_set = s.is_set; of_script = some_bytes script (IsNotRun old new s.draft) s.of_script }
@@ -178,13 +179,13 @@ not_run set script old new (script_refused s) = script_refused (not_run_in set s
 
 -- ---- and its set
 
-pub watched_on_some : (usual : RoundLimits) (echo every : Bool) (set old new : Option (List ℕ)) (begun now : Option (Option (List ℕ)))
-    → IsOnSet set None (IsWatched usual echo every old new begun now) → IsOnSet None None (IsWatched usual echo every old new begun now)
-watched_on_some usual echo every set old new begun now s = record { draft = s.draft; is_set = some_bytes set _ s.is_set; of_script = s.of_script }
+pub watched_on_some : (usual : RoundLimits) (echo : Bool) (wanted : Wanted) (set old new : Option (List ℕ)) (begun now : Option (Option (List ℕ)))
+    → IsOnSet set None (IsWatched usual echo wanted old new begun now) → IsOnSet None None (IsWatched usual echo wanted old new begun now)
+watched_on_some usual echo wanted set old new begun now s = record { draft = s.draft; is_set = some_bytes set _ s.is_set; of_script = s.of_script }
 
-pub in_part_on_some : (usual : RoundLimits) (echo every : Bool) (set old new : Option (List ℕ)) (begun now : Option (Option (List ℕ)))
-    → IsOnSet set None (IsWatchedInPart usual echo every old new begun now) → IsOnSet None None (IsWatchedInPart usual echo every old new begun now)
-in_part_on_some usual echo every set old new begun now s = record { draft = s.draft; is_set = some_bytes set _ s.is_set; of_script = s.of_script }
+pub in_part_on_some : (usual : RoundLimits) (echo : Bool) (wanted : Wanted) (set old new : Option (List ℕ)) (begun now : Option (Option (List ℕ)))
+    → IsOnSet set None (IsWatchedInPart usual echo wanted old new begun now) → IsOnSet None None (IsWatchedInPart usual echo wanted old new begun now)
+in_part_on_some usual echo wanted set old new begun now s = record { draft = s.draft; is_set = some_bytes set _ s.is_set; of_script = s.of_script }
 
 not_run_on : (set old new : Option (List ℕ)) → IsOnSet set None (IsNotRun old new) → IsOnSet None None (IsNotRun old new)
 not_run_on set old new s = record { draft = s.draft; is_set = some_bytes set _ s.is_set; of_script = s.of_script }
@@ -193,12 +194,12 @@ pub not_run_on_some : (set old new : Option (List ℕ)) → IsRefused set None o
 not_run_on_some set old new (set_refused g) = set_refused (some_bytes set (PrintsRefusal old new) g)
 not_run_on_some set old new (script_refused s) = script_refused (not_run_on set old new s)
 
--- ---- without its trace
+-- ---- without what goes to a file
 
-pub was_played_on : (set : Named) (echo every : Bool) (status : ℕ) (old new : Option (List ℕ)) (begun now : Option (Option (List ℕ)))
-    → IsWatchedOn set echo every status old new begun now → IsPlayedOn set echo status old new
-was_played_on set echo every status old new begun now w = record {
-  held = λ zero. was_played (usual_limits_of set) echo every (own_text_of set) None old new begun now (w.held zero);
-  missed = λ one. was_played_in_part (usual_limits_of set) echo every (own_text_of set) None old new begun now (w.missed one);
+pub was_played_on : (set : Named) (echo : Bool) (wanted : Wanted) (status : ℕ) (old new : Option (List ℕ)) (begun now : Option (Option (List ℕ)))
+    → IsWatchedOn set echo wanted status old new begun now → IsPlayedOn set echo status old new
+was_played_on set echo wanted status old new begun now w = record {
+  held = λ zero. was_played (usual_limits_of set) echo wanted (own_text_of set) None old new begun now (w.held zero);
+  missed = λ one. was_played_in_part (usual_limits_of set) echo wanted (own_text_of set) None old new begun now (w.missed one);
   refused = w.refused;
 }

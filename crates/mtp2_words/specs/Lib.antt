@@ -2,6 +2,7 @@ pub mod Asked
 pub mod Commands
 pub mod Ends
 pub mod Limits
+pub mod Seeing
 pub mod SetEnds
 pub mod TurnedDown
 pub mod Words

@@ -2,7 +2,7 @@
 use Rattle.std.specs.Prelude.{◌≡◌, ℕ, if◌then◌else◌, List, Option, Some, None, option_and_then}
 use Rattle.std.specs.Prelude.{codes, Bool, false, bytes_eq}
 use Rattle.std.specs.Int.{is_in_range}
-use Rattle.plain_limits.specs.Limits.{LEAST_WORKERS, MOST_WORKERS}
+use Rattle.plain_laws.specs.Limits.{LEAST_WORKERS, MOST_WORKERS}
 use Rattle.script_links.specs.Numbers.{count_of}
 use Rattle.mtp2_words.specs.declared.words.Named.{Named}
 use Rattle.mtp2_words.specs.declared.words.Named.TheVariants.{Standard, Q703, Monitors, Stdin, File}

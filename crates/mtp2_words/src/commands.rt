@@ -129,7 +129,7 @@ fn play_begun<'a>(alloc: Global) -> Result<Command<'a>, AllocError>
         alloc,
         "play",
         "Runs a script on a set of processes, or on one end of a signalling link or of a set of links",
-        "First lines: ports N (1 to 64), env N (1 to 1024), journal N (16 to 65536).\nCommands: offer P SIG v.., begin P, finish P, skip P, tick N, env, rest, flood N P SIG v.., state P, value P x, expect TEXT.\nA script may begin with terminal basic, terminal cyclic or terminal cyclic N1 N2 (1 to 127 messages, 300 to 8192 octets): then one end of a link runs on the set, with the commands\ncommand W (power, start, stop, emergency, calm, outage, back, busy, free, flush, continue, overload), unit HEX, units N HEX, errors N, line HEX, msu HEX, out N, tick N,\ntold, accepted, retrieve, retrieve N, measure NAME, measure reset, state P, value P x, expect TEXT. A unit may be HEX, or words as out prints them (of an MSU sio HEX sif HEX).\nWith group basic N or group cyclic N (1 to 16) one end of N links runs, with command, unit, line, out, tick, state, value and expect of link L behind on L, and\nsend HEX, fail, message HEX, retrieve, abandon, divert, rebalance, table, held, unsure, link, admit yes, admit no.\nPrints a line for each command but on and expect, and for each unit that goes out; one that is refused prints refused CODE Name (B1 to B12, W1, W2, E1, K1 to K4), and the run goes on.\nExits with 0, or 1 after failed line N where an expect failed, 2 after refused CODE Name where the set or the script is refused\n(F1, L1 to L3, P1, P2, S1 to S11, X1; X2 NoName NAME where the set lacks a name that a terminal wants), 4 where memory, a file, a read or a write fails.",
+        "First lines: ports N (1 to 64), env N (1 to 1024), journal N (16 to 65536).\nCommands: offer P SIG v.., begin P, finish P, skip P, tick N, env, rest, flood N P SIG v.., state P, value P x, expect TEXT.\nA script may begin with terminal basic, terminal cyclic or terminal cyclic N1 N2 (1 to 127 messages, 300 to 8192 octets): then one end of a link runs on the set, with the commands\ncommand W (power, start, stop, emergency, calm, outage, back, busy, free, flush, continue, overload), unit HEX, units N HEX, errors N, line HEX, msu HEX, out N, tick N,\ntold, accepted, retrieve, retrieve N, measure NAME, measure reset, state P, value P x, expect TEXT. A unit may be HEX, or words as out prints them (of an MSU sio HEX sif HEX).\nWith group basic N or group cyclic N (1 to 16) one end of N links runs, with command, unit, line, out, tick, state, value and expect of link L behind on L, and\nsend HEX, bound HEX, fail, message HEX, retrieve, abandon, divert, rebalance, table, held, unsure, link, admit yes, admit no.\nPrints a line for each command but on and expect, and for each unit that goes out; one that is refused prints refused CODE Name (B1 to B12, W1, W2, E1, K1 to K5), and the run goes on.\nExits with 0, or 1 after failed line N where an expect failed, 2 after refused CODE Name where the set or the script is refused\n(F1, L1 to L3, P1, P2, S1 to S11, X1; X2 NoName NAME where the set lacks a name that a terminal wants), 4 where memory, a file, a read or a write fails.",
     )
     .arg(set)?
     .arg(script)
@@ -150,12 +150,43 @@ fn with_seeing_options<'a>(alloc: Global, command: Command<'a>) -> Result<Comman
         "PATH",
         "A file or a FIFO for a trace: a line for each command, each signal of the environment, each timer that runs out and each turn",
     );
+    let chart = option_word(
+        alloc,
+        "chart",
+        "PATH",
+        "A file or a FIFO for a chart of the turns, in the language of mscgen",
+    );
+    let turns = option_word(
+        alloc,
+        "turns",
+        "A..B",
+        "Which turns are drawn, by their numbers in a trace; all where nothing is said",
+    );
+    let thrown = option_word(
+        alloc,
+        "thrown",
+        "PATH",
+        "A file or a FIFO for which signals were thrown away in which states, and how often",
+    );
+    let capture = option_word(
+        alloc,
+        "capture",
+        "PATH",
+        "A file or a FIFO for the units that go out and come in, in pcap's format; those that say nothing new are left out",
+    );
     let every = flag_word(
         alloc,
         "every",
-        "Has signals that are thrown away traced too, and turns that change nothing",
+        "Has signals that are thrown away traced too, and turns that change nothing; and every unit captured",
     );
-    command.arg(echo)?.arg(trace)?.arg(every)
+    command
+        .arg(echo)?
+        .arg(trace)?
+        .arg(chart)?
+        .arg(turns)?
+        .arg(thrown)?
+        .arg(capture)?
+        .arg(every)
 }
 
 /// The command `play`.

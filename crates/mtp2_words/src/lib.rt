@@ -10,12 +10,13 @@ mod seeing;
 mod set_commands;
 mod set_ends;
 mod set_words;
+mod sights;
 mod words;
 
 pub use clap::Error;
 pub use clap::error::ErrorKind;
 pub use ends::{LineEnd, LineWords, line_end};
 pub use script_links::RoundLimits;
-pub use seeing::Seeing;
+pub use seeing::{Seeing, SeeingWords, Sight, Turns, seen_by};
 pub use set_ends::SetEnd;
 pub use words::{Named, Request, Source, read};

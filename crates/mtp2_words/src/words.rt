@@ -10,9 +10,10 @@ use crate::commands::all_commands;
 use crate::ends::{LineEnd, LineWords, line_end};
 use crate::flags::is_given;
 use crate::says::{are_stdin, complaint_of, workers_of};
-use crate::seeing::{Seeing, are_both_seen, seen_of};
+use crate::seeing::Seeing;
 use crate::set_ends::SetEnd;
 use crate::set_words::tended;
+use crate::sights::seen_of;
 use clap::error::ErrorKind;
 use clap::{ArgMatches, Error};
 use std::alloc::{AllocError, Global};
@@ -236,10 +237,7 @@ fn asked_play<'a>(given: &ArgMatches<'a>) -> Option<Request<'a>>
 {
     let set = given.get_str("SET")?;
     let script = given.get_str("SCRIPT")?;
-    let seen = seen_of(given);
-    if are_both_seen(&seen) {
-        return None;
-    }
+    let seen = seen_of(given)?;
     played(set, script, seen)
 }
 

@@ -1,7 +1,7 @@
 -- The books that `soak` has worked on.
 use Rattle.std.specs.Prelude.{◌≡◌, ℕ, List, length, Option, None, Some}
 use Rattle.std.specs.List.{All}
-use Rattle.plain_limits.specs.Limits.{USUAL_ENVIRONMENT, USUAL_JOURNAL, USUAL_PORT}
+use Rattle.plain_laws.specs.Limits.{USUAL_ENVIRONMENT, USUAL_JOURNAL, USUAL_PORT}
 use Rattle.turn_code.specs.declared.draft.Draft.{Draft}
 use Rattle.actor_machine.specs.Ledger.{Ledger}
 use Rattle.actor_machine.specs.Kept.{opened_book}

@@ -3,7 +3,7 @@ use Rattle.std.specs.Prelude.{ℕ, ◌≡◌, nat_lt, ◌&&◌, if◌then◌else
 use Rattle.std.specs.Prelude.{Option, None, Some, option_and_then, Result, Ok, Err, codes}
 use Rattle.std.specs.Int.{is_in_range}
 use Rattle.std.specs.Str.{bytes_eq}
-use Rattle.plain_limits.specs.Limits.{MOST_LINKS}
+use Rattle.plain_laws.specs.Limits.{MOST_LINKS}
 use Rattle.plain_text.specs.Reading.{LONGEST}
 use Rattle.script_lines.specs.Numbers.{count_of}
 use Rattle.script_lines.specs.Lines.{PlainLine, lines_of, line_at}

@@ -9,7 +9,7 @@ ghost use Rattle.actor_machine.specs.Kept.{opened_book};
 ghost use Rattle.actor_machine.specs.Ledger.{next};
 ghost use Rattle.pool_soak.specs.Books.{AreOpened, AreBegun, AreKept, PORT, ENVIRONMENT, JOURNAL};
 ghost use Rattle.pool_soak.specs.Findings.{IsEnd, IsSoaked, IsSoakedInVain, IsTurnedDown, PrintsFault, lines_with};
-ghost use Rattle.plain_limits.specs.Limits.{LEAST_WORKERS, MOST_WORKERS};
+ghost use Rattle.plain_laws.specs.Limits.{LEAST_WORKERS, MOST_WORKERS};
 
 use crate::client::{Open, Script};
 use crate::finding_lines::{audit_of, seats_of, status_of};

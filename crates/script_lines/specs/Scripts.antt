@@ -5,9 +5,9 @@ use Rattle.std.specs.Prelude.{Result, Ok, Err, codes}
 use Rattle.std.specs.Int.{is_in_range}
 use Rattle.std.specs.List.{filter_map}
 use Rattle.std.specs.Str.{bytes_eq}
-use Rattle.plain_limits.specs.Limits.{LEAST_ENVIRONMENT, LEAST_JOURNAL, LEAST_PORT}
-use Rattle.plain_limits.specs.Limits.{MOST_ENVIRONMENT, MOST_JOURNAL, MOST_PORT, USUAL_ENVIRONMENT}
-use Rattle.plain_limits.specs.Limits.{USUAL_JOURNAL, USUAL_PORT}
+use Rattle.plain_laws.specs.Limits.{LEAST_ENVIRONMENT, LEAST_JOURNAL, LEAST_PORT}
+use Rattle.plain_laws.specs.Limits.{MOST_ENVIRONMENT, MOST_JOURNAL, MOST_PORT, USUAL_ENVIRONMENT}
+use Rattle.plain_laws.specs.Limits.{USUAL_JOURNAL, USUAL_PORT}
 use Rattle.plain_text.specs.Reading.{LONGEST}
 use Rattle.script_lines.specs.Numbers.{count_of}
 use Rattle.script_lines.specs.Lines.{PlainLine, lines_of, line_at}

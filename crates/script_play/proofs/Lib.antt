@@ -1,3 +1,14 @@
 mod Refusals
 mod Texts
-pub mod Watching
+mod Throwing
+mod Charting
+mod Tellings
+pub mod WatchedPlays
+mod Capturings
+mod OutGoing
+mod TermCaptures
+mod OtherLinks
+mod SetCaptures
+mod SetClocks
+mod SetOutGoing
+mod SetCommands

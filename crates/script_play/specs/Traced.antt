@@ -1,6 +1,5 @@
 -- What the status of `play` says of a trace.
-use Rattle.std.specs.Prelude.{◌≡◌, ℕ, Bool, true, false, List, Option}
-use Rattle.std.specs.Prelude.{Some, None, Ok, IsUtf8}
+use Rattle.std.specs.Prelude.{◌≡◌, ℕ, Bool, List, Option, Ok, IsUtf8}
 use Rattle.turn_code.specs.declared.draft.Draft.{Draft}
 use Rattle.script_seen.specs.resend_store_types.messages.RoundLimits.{RoundLimits}
 use Rattle.script_seen.specs.TermScripts.{PlainAnyScript, book, terminal, asks_told}
@@ -10,7 +9,7 @@ use Rattle.script_seen.specs.Played.{first_book}
 use Rattle.script_seen.specs.TermRuns.{IsOfNew}
 use Rattle.script_seen.specs.TracedKinds.{IsBookTraced, IsBookTracedInPart, IsTermTraced}
 use Rattle.script_seen.specs.TracedKinds.{IsTermTracedInPart}
-use Rattle.script_play.specs.Played.{IsObeyed, IsMissedIn, IsPlayed, IsPlayedInPart}
+use Rattle.script_play.specs.Played.{IsObeyed, IsMissedIn}
 
 -- all commands of a script are traced: of a book of the set, or of a new terminal over it, with the
 -- usual limits where the script chooses none
@@ -64,27 +63,3 @@ pub record IsPlayTracedInPart (usual : RoundLimits) (every : Bool)
   pub reads : play_script_of bytes ≡ Ok script
   pub missed : IsMissedIn usual d script old new
   pub traced : AreTracedInPart usual every (lines_of bytes) d script begun now
-
--- ---- with lines, with a trace, or with neither
-
--- A script was played as it is to be seen: with the lines of its commands, where that is asked for;
--- else with a trace, where there is a file for it, which had this and now has that.
-pub data IsWatched (usual : RoundLimits) (echo every : Bool) (old new : Option (List ℕ))
-    (begun now : Option (Option (List ℕ))) (d : Draft) (bytes : List ℕ) : Type 0 where
-  has_lines : echo ≡ true → IsPlayed usual echo old new d bytes
-      → IsWatched usual echo every old new begun now d bytes
-  has_neither : echo ≡ false → begun ≡ None → IsPlayed usual echo old new d bytes
-      → IsWatched usual echo every old new begun now d bytes
-  has_trace : (was has : Option (List ℕ)) → echo ≡ false → begun ≡ Some was → now ≡ Some has
-      → IsPlayTraced usual every old new was has d bytes
-      → IsWatched usual echo every old new begun now d bytes
-
-pub data IsWatchedInPart (usual : RoundLimits) (echo every : Bool) (old new : Option (List ℕ))
-    (begun now : Option (Option (List ℕ))) (d : Draft) (bytes : List ℕ) : Type 0 where
-  has_lines_in_part : echo ≡ true → IsPlayedInPart usual echo old new d bytes
-      → IsWatchedInPart usual echo every old new begun now d bytes
-  has_neither_in_part : echo ≡ false → begun ≡ None → IsPlayedInPart usual echo old new d bytes
-      → IsWatchedInPart usual echo every old new begun now d bytes
-  has_trace_in_part : (was has : Option (List ℕ)) → echo ≡ false → begun ≡ Some was → now ≡ Some has
-      → IsPlayTracedInPart usual every old new was has d bytes
-      → IsWatchedInPart usual echo every old new begun now d bytes

@@ -1,8 +1,20 @@
 //! The command `play`: a script, run on a set of processes, or on a terminal.
 #![tactic(auto)]
 
+mod captured_groups;
+mod captured_plays;
+mod captured_terminals;
+mod capturing;
+mod chart_rows;
+mod charts;
+mod columns;
 mod playing;
+mod seeing;
+mod thrown;
 mod tracing;
+mod watching;
 
+pub use charts::Cut;
 pub use playing::play;
-pub use tracing::play_traced;
+pub use seeing::{Wanted, play_seen};
+pub use watching::Told;

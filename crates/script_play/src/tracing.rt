@@ -143,7 +143,7 @@ fn trace_text<W: Write, T: Write, E: Write>(
 ///
 /// Gives the exit status, as `play` does: 4 where a write to `trace` fails too, where a terminal's journal begins anew within a command, and for a
 /// script of a link set, which has no trace.
-pub fn play_traced<S: Read + Drop, R: Read + Drop, W: Write, T: Write, E: Write>(
+pub(crate) fn play_traced<S: Read + Drop, R: Read + Drop, W: Write, T: Write, E: Write>(
     alloc: Global,
     set: SetWord<S>,
     usual: RoundLimits,

@@ -1,7 +1,10 @@
-mod Showings
+pub mod Showings
 mod Items
 mod Steps
 mod Tellings
 mod Tracings
 mod ShownRuns
-mod TracedRuns
+pub mod TracedRuns
+mod Noticing
+mod Watchings
+pub mod WatchedRuns

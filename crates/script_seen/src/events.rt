@@ -104,7 +104,7 @@ pub(crate) fn due_text(
 }
 
 /// What an input or a SAVE would name an item by.
-fn trigger_of(item: &Item) -> Trigger
+pub fn trigger_of(item: &Item) -> Trigger
     ensures { result ≡ trigger_of item.now }
 {
     match item {
@@ -114,7 +114,7 @@ fn trigger_of(item: &Item) -> Trigger
 }
 
 /// Whether they are the same signal or the same timer.
-fn same_trigger(left: Trigger, right: Trigger) -> bool
+pub fn same_trigger(left: Trigger, right: Trigger) -> bool
     ensures { result ≡ same_trigger left right }
 {
     match left {
@@ -140,7 +140,7 @@ fn is_saved(set: &Verified, process: ProcessNumber, state: StateNumber, item: &I
 }
 
 /// The first item of a port that a state doesn't save.
-fn first_item<'a>(
+pub(crate) fn first_item<'a>(
     set: &Verified,
     process: ProcessNumber,
     state: StateNumber,

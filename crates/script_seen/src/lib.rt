@@ -1,4 +1,4 @@
-//! What of a script's run is seen beside its replies: its lines, each in front of what it prints.
+//! What of a script's run is seen beside its replies: its lines, each in front of what it prints, and what happens by them.
 #![tactic(auto)]
 
 mod books;
@@ -12,13 +12,34 @@ mod traced_books;
 mod traced_terminals;
 mod tracing;
 mod turns;
+mod watched_books;
+mod watched_terminals;
+mod watching;
 
+pub use actor_machine::{ActorName, Lost};
 pub use books::show_book;
+pub use events::{same_trigger, trigger_of};
 pub use groups::show_group;
-pub use script_group::{
-    FAILED, OpenError, play_book, play_group, play_terminal, refuse, refuse_set, write_line,
+pub use input_port::Item;
+pub use pushing::{
+    meant, push_actor, push_end, push_number, push_party, push_process, push_signal, push_state,
+    push_timer, push_trigger, shown,
 };
-pub use script_links::{AnyScript, PlayScript, RoundLimits, play_fault, play_script_in};
+pub use script_group::{
+    FAILED, GroupPlayer, HELD, MISSED, OpenError, TermPlayer, Terminal, Unit, asks_told, encode,
+    line_of_unit, new_player, open_group, play_book, play_group, play_terminal, refuse, refuse_set,
+    text_line, write_line,
+};
+pub use script_links::{
+    AnyScript, GroupCommand, GroupSaid, GroupScript, PlayScript, RoundLimits, TermCommand,
+    TermSaid, TermScript, play_fault, play_script_in,
+};
 pub use terminals::show_terminal;
+pub use timing::delay_of;
 pub use traced_books::trace_book;
 pub use traced_terminals::trace_terminal;
+pub use turn_machine::Job;
+pub use turns::{Ended, is_dull, loss_at, stays_in};
+pub use watched_books::watch_book;
+pub use watched_terminals::watch_terminal;
+pub use watching::Watcher;

@@ -5,7 +5,7 @@ ghost use Rattle.actor_machine.specs.Kept.{opened_book};
 ghost use Rattle.script_lines.specs.Lines.{plain_line, lines_of};
 ghost use Rattle.script_links.specs.TermCommands.{plain_term_command};
 ghost use Rattle.script_links.specs.TermScripts.{PlainTermSaid, plain_term_said, asks_told};
-ghost use Rattle.plain_limits.specs.Limits.{MOST_PORT, MOST_ENVIRONMENT, MOST_JOURNAL};
+ghost use Rattle.plain_laws.specs.Limits.{MOST_PORT, MOST_ENVIRONMENT, MOST_JOURNAL};
 ghost use Rattle.script_group.specs.Term.{Term};
 ghost use Rattle.script_group.specs.TermRuns.{last_of, IsTermRun, IsTermWritten, IsTermMissed, IsTermFailed, IsTermMissedBy, IsOfNew, LacksName};
 ghost use Rattle.script_seen.specs.Traced.{IsFront};
@@ -147,7 +147,7 @@ fn terminal_limits() -> Limits
 }
 
 /// The tracer of a terminal over a set.
-fn open_tracer(alloc: Global, set: &Verified, every: bool) -> Result<Tracer, AllocError>
+pub(crate) fn open_tracer(alloc: Global, set: &Verified, every: bool) -> Result<Tracer, AllocError>
     ensures every { IfOk result (λ t. t.every ≡ every) }
     ensures start { IfOk result (IsAtStart (opened_book set.now MOST_PORT MOST_ENVIRONMENT MOST_JOURNAL)) }
 {

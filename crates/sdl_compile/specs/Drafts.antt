@@ -2,8 +2,8 @@
 -- what the transitions mean.
 use Rattle.std.specs.Prelude.{◌≡◌, ℕ, ◌≤◌, List, [], ◌∷◌, length, map, Option, Some, None, IsSome}
 use Rattle.std.specs.List.{AllZip}
-use Rattle.plain_limits.specs.Limits.{MOST_PARAMETERS, MOST_SIGNALS, MOST_STATES, MOST_TIMERS_EACH}
-use Rattle.plain_limits.specs.Limits.{MOST_VARIABLES}
+use Rattle.plain_laws.specs.Limits.{MOST_PARAMETERS, MOST_SIGNALS, MOST_STATES, MOST_TIMERS_EACH}
+use Rattle.plain_laws.specs.Limits.{MOST_VARIABLES}
 use Rattle.sdl_ast.specs.declared.expression.Identifier.{Identifier}
 use Rattle.sdl_ast.specs.Plain.{PlainProcess, PlainBlock}
 use Rattle.turn_code.specs.declared.variable_set.VariableSet.{VariableSet}

@@ -1,6 +1,6 @@
 -- The paths of a block's routes, with the numbers of their names.
 use Rattle.std.specs.Prelude.{◌≤◌, List, length, All, IsSome}
-use Rattle.plain_limits.specs.Limits.{MOST_PROCESSES, MOST_SIGNALS}
+use Rattle.plain_laws.specs.Limits.{MOST_PROCESSES, MOST_SIGNALS}
 use Rattle.sdl_ast.specs.declared.expression.Identifier.{Identifier}
 use Rattle.sdl_ast.specs.declared.tree.Party.{Party}
 use Rattle.sdl_ast.specs.declared.tree.Party.TheVariants.{Environment, Process}

@@ -16,7 +16,7 @@ ghost use Rattle.sdl_compile.specs.Drafts.{IsReadyProcess, MatchesProcess, IsPro
 ghost use Rattle.sdl_compile.specs.Blocks.{drafted_party, drafted_path, MatchesBlock};
 ghost use Rattle.sdl_compile.specs.Meaning.{RunsAsMeant};
 ghost use Rattle.sdl_compile.specs.Routes.{KnownParty, IsKnown, IsKnownPath, HasFewNames, signal_numbered};
-ghost use Rattle.plain_limits.specs.Limits.{MOST_PROCESSES, MOST_SIGNALS};
+ghost use Rattle.plain_laws.specs.Limits.{MOST_PROCESSES, MOST_SIGNALS};
 
 use crate::process::{Survey, compile_process};
 use crate::state::draft_name;

@@ -9,7 +9,7 @@ ghost use Rattle.sdl_sound.specs.Longest.{places_cost};
 ghost use Rattle.sdl_compile.specs.Drafts.{Means};
 ghost use Rattle.sdl_compile.specs.Made.{IsPieceOf};
 ghost use Rattle.sdl_compile.specs.Settings.{IsSetting, IsReadyPiece, count_from, effects_from};
-ghost use Rattle.plain_limits.specs.Limits.{MOST_PARAMETERS};
+ghost use Rattle.plain_laws.specs.Limits.{MOST_PARAMETERS};
 
 use sdl_ast::{Identifier, Transition};
 use sdl_facts::{

@@ -15,7 +15,7 @@ ghost use Rattle.turn_code.specs.Sets.{initial_set};
 ghost use Rattle.sdl_sound.specs.Longest.{start_piece};
 ghost use Rattle.sdl_compile.specs.Made.{IsPieceOf};
 ghost use Rattle.sdl_compile.specs.Drafts.{IsReadyProcess, Means, MatchesProcess, IsProcessOf, AllReady, AllTriggers, IsNamedAs, SavesAll, AreInputsOf, sets_of};
-ghost use Rattle.plain_limits.specs.Limits.{MOST_PROCESSES};
+ghost use Rattle.plain_laws.specs.Limits.{MOST_PROCESSES};
 
 use crate::piece::compile_transition;
 use crate::state::{Context, compile_states, draft_name};

@@ -4,7 +4,7 @@ ghost use Rattle.sdl_ast.specs.Views.{text_of, process_of};
 ghost use Rattle.sdl_tables.specs.Names.{variables_of};
 ghost use Rattle.sdl_sound.specs.Longest.{size};
 ghost use Rattle.sdl_emit.specs.Bodies.{IsBody};
-ghost use Rattle.plain_limits.specs.Limits.{MOST_INSTRUCTIONS};
+ghost use Rattle.plain_laws.specs.Limits.{MOST_INSTRUCTIONS};
 
 use sdl_ast::Transition;
 use sdl_measures::code_size;

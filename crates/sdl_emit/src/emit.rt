@@ -8,7 +8,7 @@ ghost use Rattle.sdl_names.specs.Scopes.{scope_in};
 ghost use Rattle.sdl_meaning.specs.Act.{divisor_of};
 ghost use Rattle.sdl_meaning.specs.Named.{NamedTree, NamedTrees, NamedTasks, NamedSending, NamedSendings, NamedAction, NamedPlaces};
 ghost use Rattle.sdl_meaning.specs.Code.{tree_code, trees_code, tasks_code, sendings_code, action_code, places_code, unary_code, binary_code, division_code};
-ghost use Rattle.plain_limits.specs.Limits.{MOST_PARAMETERS};
+ghost use Rattle.plain_laws.specs.Limits.{MOST_PARAMETERS};
 
 use crate::landing::put;
 use sdl_ast::{

@@ -7,7 +7,7 @@ ghost use Rattle.sdl_sound.specs.Longest.{tests_size};
 ghost use Rattle.turn_code.specs.declared.instruction.Instruction.TheVariants.{Drop as DropCode, Pick};
 ghost use Rattle.sdl_meaning.specs.Code.{is_literal, names_truth};
 ghost use Rattle.sdl_emit.specs.Landing.{left_jump, left_place, landed, filled, first_or, has_any, picked_by};
-ghost use Rattle.plain_limits.specs.Limits.{MOST_INSTRUCTIONS};
+ghost use Rattle.plain_laws.specs.Limits.{MOST_INSTRUCTIONS};
 
 use sdl_ast::{Constant, Decision, Literal, Range};
 use std::alloc::AllocError;

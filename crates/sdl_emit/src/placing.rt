@@ -11,7 +11,7 @@ ghost use Rattle.sdl_emit.specs.Placing.{decision_joins, numbers_of, HaveNumbers
 ghost use Rattle.sdl_meaning.specs.Named.{NamedText, NamedConnections};
 ghost use Rattle.sdl_meaning.specs.Outcomes.{Scope, connector_at};
 ghost use Rattle.sdl_meaning.specs.Code.{number_or_zero, code_joins, else_joins, answers_joins, add_number, joined, text_at, size_at, place_in, ArePlaced};
-ghost use Rattle.plain_limits.specs.Limits.{MOST_INSTRUCTIONS};
+ghost use Rattle.plain_laws.specs.Limits.{MOST_INSTRUCTIONS};
 
 use crate::bodies::Body;
 use crate::marks::add_once;

@@ -1,6 +1,6 @@
 -- What comes with a transition, and what the compiler asks of it.
 use Rattle.std.specs.Prelude.{◌≡◌, ℕ, ◌≤◌, List, [], ◌∷◌, length}
-use Rattle.plain_limits.specs.Limits.{MOST_PARAMETERS}
+use Rattle.plain_laws.specs.Limits.{MOST_PARAMETERS}
 use Rattle.sdl_ast.specs.Views.{block_of, process_of}
 use Rattle.turn_code.specs.declared.value.Sort.{Sort}
 use Rattle.turn_code.specs.declared.draft.PlaceFacts.{PlaceFacts}

@@ -3,7 +3,7 @@ ghost use Rattle.std.specs.Prelude.{◌≡◌, ℕ, ◌+◌, ◌≤◌, length, 
 ghost use Rattle.turn_code.specs.Code.{successors};
 ghost use Rattle.turn_code.specs.Rules.{greatest};
 ghost use Rattle.sdl_facts.specs.PlaceCounts.{weight, number_at, AreCountsFrom, AreWithin};
-ghost use Rattle.plain_limits.specs.Limits.{MOST_INSTRUCTIONS};
+ghost use Rattle.plain_laws.specs.Limits.{MOST_INSTRUCTIONS};
 
 use turn_code::Instruction;
 

@@ -7,7 +7,7 @@ ghost use Rattle.sdl_meaning.specs.Named.{NamedTasks, NamedAction, NamedPlaces};
 ghost use Rattle.turn_code.specs.Sets.{with_variable};
 ghost use Rattle.sdl_facts.specs.Reads.{tasks_set, action_set, everything, meet, places_set};
 ghost use Rattle.sdl_facts.specs.Facts.{tree_sets, trees_sets, sendings_sets, tasks_sets, action_sets, ranges_sets, tests_sets, places_sets};
-ghost use Rattle.plain_limits.specs.Limits.{MOST_VARIABLES};
+ghost use Rattle.plain_laws.specs.Limits.{MOST_VARIABLES};
 
 use sdl_ast::{Action, Assignment, Decision, Expression, Identifier, Range, Sending};
 use sdl_emit::Names;

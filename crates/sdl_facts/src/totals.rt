@@ -8,7 +8,7 @@ ghost use Rattle.sdl_sound.specs.Longest.{piece_budget, piece_effects};
 ghost use Rattle.sdl_meaning.specs.Code.{ArePlaced, place_in, connections_place, piece_code};
 ghost use Rattle.sdl_emit.specs.Scopes.{scope_in, piece_in, places_by};
 ghost use Rattle.sdl_facts.specs.Settings.{IsSetting, IsReadyPiece};
-ghost use Rattle.plain_limits.specs.Limits.{MOST_INSTRUCTIONS};
+ghost use Rattle.plain_laws.specs.Limits.{MOST_INSTRUCTIONS};
 
 use crate::counts::{Counted, count_places};
 use crate::setting::Setting;

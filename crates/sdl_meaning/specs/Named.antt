@@ -16,7 +16,7 @@ use Rattle.sdl_sound.specs.Plain.{Text, falls, ends, does, decides, Choice, noth
 use Rattle.sdl_sound.specs.Plain.{answer, PlainConnection}
 use Rattle.turn_code.specs.declared.input.Address.{Address}
 use Rattle.std.specs.List.{flat_map}
-use Rattle.plain_limits.specs.Limits.{MOST_PARAMETERS}
+use Rattle.plain_laws.specs.Limits.{MOST_PARAMETERS}
 use Rattle.sdl_sound.specs.TableNames.{variables_of}
 use Rattle.sdl_sound.specs.Statements.{statements_of, joins_of}
 use Rattle.sdl_sound.specs.Going.{goes_on, choice_goes_on}

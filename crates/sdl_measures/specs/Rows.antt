@@ -1,7 +1,7 @@
 -- What the transitions of a process pass.
 use Rattle.std.specs.Prelude.{◌≡◌, ℕ, ◌+◌, Bool, false, ◌||◌, List, [], ◌∷◌, if◌then◌else◌, nat_lt}
 use Rattle.std.specs.List.{list_any}
-use Rattle.plain_limits.specs.Limits.{MOST_EFFECTS, MOST_INSTRUCTIONS, MOST_OPERANDS}
+use Rattle.plain_laws.specs.Limits.{MOST_EFFECTS, MOST_INSTRUCTIONS, MOST_OPERANDS}
 use Rattle.sdl_ast.specs.Plain.{Text, PlainStimulus, PlainProcess}
 use Rattle.sdl_sound.specs.Longest.{Piece, pieces_of, text_size, text_depth, text_effects}
 use Rattle.sdl_sound.specs.Longest.{piece_size, piece_depth, piece_effects}

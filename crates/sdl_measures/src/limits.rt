@@ -1,7 +1,7 @@
 //! The limits: how long and how deep transitions are, and how many of everything there are.
 ghost use Rattle.std.specs.Prelude.{◌≡◌, ◌++◌, ◌∷◌, [], ℕ, List, map, min, nat_lt, length, sum_by, find, IfOk};
 ghost use Rattle.std.specs.List.{flat_map, list_any};
-ghost use Rattle.plain_limits.specs.Limits.{MOST_PARAMETERS, MOST_STATES, MOST_TIMERS_EACH, MOST_VARIABLES};
+ghost use Rattle.plain_laws.specs.Limits.{MOST_PARAMETERS, MOST_STATES, MOST_TIMERS_EACH, MOST_VARIABLES};
 ghost use Rattle.sdl_ast.specs.Views.{text_of, stimulus_of, input_of, process_of, block_of, signal_of};
 ghost use Rattle.sdl_tables.specs.Names.{connector_names, processes_of, signals_of, states_of, variables_of, timers_of};
 ghost use Rattle.sdl_tables.specs.Rows.{rows_inputs, stimulus_inputs};

@@ -9,7 +9,7 @@ ghost use Rattle.sdl_meaning.specs.Outcomes.{variable_at, state_at, timer_at, co
 ghost use Rattle.sdl_meaning.specs.Named.{HasReceiver};
 ghost use Rattle.sdl_meaning.specs.Code.{number_or_zero, party_or_environment, receiver_code};
 ghost use Rattle.sdl_names.specs.Uses.{IsUseTable};
-ghost use Rattle.plain_limits.specs.Limits.{MOST_VARIABLES, MOST_STATES, MOST_TIMERS_EACH, MOST_SIGNALS, MOST_PROCESSES};
+ghost use Rattle.plain_laws.specs.Limits.{MOST_VARIABLES, MOST_STATES, MOST_TIMERS_EACH, MOST_SIGNALS, MOST_PROCESSES};
 
 use crate::uses::UseTable;
 use sdl_ast::{Destination, Expression, Identifier, Sort};

@@ -2,9 +2,9 @@
 use Rattle.std.specs.Prelude.{ℕ, Bool, ◌||◌, List, [], ◌∷◌, ◌++◌, Option, length, nat_lt, find}
 use Rattle.std.specs.Prelude.{sum_by}
 use Rattle.std.specs.List.{list_any}
-use Rattle.plain_limits.specs.Limits.{MOST_EFFECTS, MOST_INSTANCES, MOST_INSTRUCTIONS}
-use Rattle.plain_limits.specs.Limits.{MOST_OPERANDS, MOST_PARAMETERS, MOST_PIECES, MOST_PROCESSES}
-use Rattle.plain_limits.specs.Limits.{MOST_SIGNALS, MOST_STATES, MOST_TIMERS_EACH, MOST_VARIABLES}
+use Rattle.plain_laws.specs.Limits.{MOST_EFFECTS, MOST_INSTANCES, MOST_INSTRUCTIONS}
+use Rattle.plain_laws.specs.Limits.{MOST_OPERANDS, MOST_PARAMETERS, MOST_PIECES, MOST_PROCESSES}
+use Rattle.plain_laws.specs.Limits.{MOST_SIGNALS, MOST_STATES, MOST_TIMERS_EACH, MOST_VARIABLES}
 use Rattle.sdl_tables.specs.Plain.{PlainBlock}
 use Rattle.sdl_tables.specs.Names.{signals_of, processes_of, variables_of, timers_of, states_of}
 use Rattle.sdl_sound.specs.Longest.{pieces_of, piece_size, piece_depth, piece_effects}

@@ -4,7 +4,7 @@ use Rattle.std.specs.Prelude.{Option, None, Some, slice_get, option_and_then, Co
 use Rattle.std.specs.List.{AllZip}
 use Rattle.std.specs.Option.{option_map_or}
 use Rattle.std.specs.Global.{Vec}
-use Rattle.plain_limits.specs.Limits.{MOST_VARIABLES}
+use Rattle.plain_laws.specs.Limits.{MOST_VARIABLES}
 use Rattle.sdl_unset.specs.Graph.{has, Passes}
 use Rattle.sdl_unset.specs.Order.{AreSorted}
 use Rattle.sdl_unset.specs.declared.paths.Passage.{Passage}

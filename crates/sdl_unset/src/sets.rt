@@ -2,7 +2,7 @@
 ghost use Rattle.std.specs.Prelude.{◌≡◌, ℕ, ◌≤◌, Some, length, IfOk, slice_get};
 ghost use Rattle.std.specs.Int.{bit_at};
 ghost use Rattle.sdl_unset.specs.Fates.{is_set_in, set_bit};
-ghost use Rattle.plain_limits.specs.Limits.{MOST_VARIABLES};
+ghost use Rattle.plain_laws.specs.Limits.{MOST_VARIABLES};
 
 use crate::paths::Fate;
 use std::alloc::{AllocError, Global};

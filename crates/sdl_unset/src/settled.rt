@@ -9,7 +9,7 @@ ghost use Rattle.sdl_sound.specs.Orders.{IsOrder, AreOrders};
 ghost use Rattle.sdl_sound.specs.Refusals.{IsWithin};
 ghost use Rattle.sdl_unset.specs.Fates.{AreFates};
 ghost use Rattle.sdl_unset.specs.Surveys.{IsSurvey, AreSurveys};
-ghost use Rattle.plain_limits.specs.Limits.{MOST_VARIABLES};
+ghost use Rattle.plain_laws.specs.Limits.{MOST_VARIABLES};
 
 use crate::paths::Fate;
 use crate::places::read_places;

@@ -15,7 +15,7 @@ ghost use Rattle.sdl_sound.specs.Orders.{IsOrder};
 ghost use Rattle.sdl_sound.specs.Standing.{taken_by, taken_in};
 ghost use Rattle.sdl_unset.specs.Graphs.{IsGraphOf};
 ghost use Rattle.sdl_unset.specs.Flows.{Does, Stands, AreTold, AreJoined, text_doings, ArePassages, IsSummaryBy, AreSummariesBy};
-ghost use Rattle.plain_limits.specs.Limits.{MOST_VARIABLES};
+ghost use Rattle.plain_laws.specs.Limits.{MOST_VARIABLES};
 
 use crate::flow::{Flow, initials_flow, places_flow};
 use crate::paths::{Graph, Passage, Summary};

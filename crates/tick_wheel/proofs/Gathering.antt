@@ -14,7 +14,7 @@ use Rattle.std.proofs.lemmas.Map.Made.{length-from_same_keys}
 use Rattle.std.proofs.Math.Bool.{or-false}
 use Rattle.std.proofs.Math.ListN.{get_or-eq_default}
 use Rattle.tick_wheel.specs.Sizes.{SLOTS}
-use Rattle.plain_limits.specs.Limits.{MOST_TIMERS_EACH}
+use Rattle.plain_laws.specs.Limits.{MOST_TIMERS_EACH}
 use Rattle.tick_wheel.specs.TimerId.{TimerId, timer_cmp}
 use Rattle.tick_wheel.specs.Table.{timer_at, entries_from, deadlines_of, PLACES}
 use Rattle.tick_wheel.specs.Timers.{due_cmp, in_order, due}

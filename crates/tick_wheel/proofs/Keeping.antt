@@ -9,7 +9,7 @@ use Rattle.std.proofs.lemmas.Bool.Decides.{nat_tests, eqb_tells}
 use Rattle.std.proofs.lemmas.Bool.{true≢false, or_cases}
 use Rattle.std.proofs.lemmas.List.{get_or-set_same, get_or-set_other, length-set, length-map, get_or-map, ext_get_or, get_or-replicate, length-replicate}
 use Rattle.std.proofs.Math.Bool.{or-true}
-use Rattle.plain_limits.specs.Limits.{LAST_TICK}
+use Rattle.plain_laws.specs.Limits.{LAST_TICK}
 use Rattle.tick_wheel.specs.Sizes.{SLOTS}
 use Rattle.tick_wheel.specs.Lists.{without}
 use Rattle.tick_wheel.proofs.Tables.{without-gone, distinct-without}

@@ -5,7 +5,7 @@ use Rattle.std.specs.Prelude.{if◌then◌else◌, List, [], ◌∷◌, ◌++◌
 use Rattle.std.specs.Prelude.{Some}
 use Rattle.std.specs.List.{list_any, IsDistinct}
 use Rattle.std.specs.FinMap as finite
-use Rattle.plain_limits.specs.Limits.{LAST_TICK}
+use Rattle.plain_laws.specs.Limits.{LAST_TICK}
 use Rattle.tick_wheel.specs.Sizes.{SLOTS}
 use Rattle.tick_wheel.specs.Table.{NoneDue, timer_at, PLACES}
 use Rattle.tick_wheel.specs.Timers.{Deadlines}

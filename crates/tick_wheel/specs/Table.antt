@@ -2,7 +2,7 @@
 use Rattle.std.specs.Prelude.{◌≡◌, ℕ, ◌+◌, ◌*◌, ◌/◌, ◌%◌, List, [], ◌∷◌, map, Option, Some, None}
 use Rattle.std.specs.Prelude.{nat_le, if◌then◌else◌}
 use Rattle.std.specs.FinMap as finite
-use Rattle.plain_limits.specs.Limits.{MOST_ACTORS, MOST_TIMERS_EACH}
+use Rattle.plain_laws.specs.Limits.{MOST_ACTORS, MOST_TIMERS_EACH}
 use Rattle.tick_wheel.specs.TimerId.{TimerId}
 use Rattle.tick_wheel.specs.Timers.{Deadlines}
 

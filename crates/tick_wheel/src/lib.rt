@@ -6,7 +6,7 @@ ghost use Rattle.std.specs.List.{IsDistinct};
 ghost use Rattle.std.specs.List.Sorted.{IsPermutation, IsSorted};
 ghost use Rattle.std.specs.Ordering.{eq_by_cmp};
 ghost use Rattle.std.specs.FinMap as map;
-ghost use Rattle.plain_limits.specs.Limits.{MOST_ACTORS, MOST_TIMERS_EACH, MOST_TICKS, LAST_TICK};
+ghost use Rattle.plain_laws.specs.Limits.{MOST_ACTORS, MOST_TIMERS_EACH, MOST_TICKS, LAST_TICK};
 ghost use Rattle.tick_wheel.specs.Table.{timer_at, PLACES};
 ghost use Rattle.tick_wheel.specs.Slots.{without_all};
 ghost use Rattle.tick_wheel.specs.Turning.{near_count, MOST_LOOKED};
@@ -43,7 +43,7 @@ pub struct Timer {
 impl Model for Timer {
     ghost use Rattle.std.specs.Prelude.{◌<◌};
     ghost use Rattle.tick_wheel.specs.TimerId.{TimerId};
-    ghost use Rattle.plain_limits.specs.Limits.{MOST_ACTORS, MOST_TIMERS_EACH};
+    ghost use Rattle.plain_laws.specs.Limits.{MOST_ACTORS, MOST_TIMERS_EACH};
 
     ghost Value = { TimerId };
 

@@ -2,7 +2,7 @@
 
 ghost use Rattle.std.specs.Prelude.{◌≡◌, ℕ, ◌+◌, ◌%◌, ◌<◌, ◌≤◌, [], ◌++◌, min, nat_eq, true, IfOk, length, get_or, vec_capacity};
 ghost use Rattle.std.specs.List.{list_any};
-ghost use Rattle.plain_limits.specs.Limits.{MOST_TICKS};
+ghost use Rattle.plain_laws.specs.Limits.{MOST_TICKS};
 ghost use Rattle.tick_wheel.specs.Sizes.{SLOTS};
 ghost use Rattle.tick_wheel.specs.Table.{PLACES};
 ghost use Rattle.tick_wheel.specs.Slots.{IsWheel, due_before, due_of, visited};

@@ -1,7 +1,7 @@
 -- What a machine stands for, and what its next instruction makes of it.
 use Rattle.std.specs.Prelude.{◌≡◌, ℕ, ◌<◌, ◌≤◌, List, length, Bool, true, false, IsTrue, Some}
 use Rattle.std.specs.Prelude.{slice_get}
-use Rattle.plain_limits.specs.Limits.{MOST_EFFECTS, MOST_OPERANDS, MOST_PARAMETERS}
+use Rattle.plain_laws.specs.Limits.{MOST_EFFECTS, MOST_OPERANDS, MOST_PARAMETERS}
 use Rattle.turn_code.specs.Code.{effects_of, sends}
 use Rattle.turn_code.specs.Run.{Progress, After, goes, ends, stuck}
 use Rattle.turn_code.specs.declared.value.Value.{Value}

@@ -5,7 +5,7 @@ use Rattle.std.specs.Prelude.{int_div, int_rem, Bool as Truth, not, ◌&&◌, �
 use Rattle.std.specs.Prelude.{nat_le, List, [], ◌∷◌, ◌++◌, length, take, drop, reverse, Option}
 use Rattle.std.specs.Prelude.{Some, None, slice_get, slice_set}
 use Rattle.std.specs.Int.{int_rem_euclid}
-use Rattle.plain_limits.specs.Limits.{MOST_INSTRUCTIONS}
+use Rattle.plain_laws.specs.Limits.{MOST_INSTRUCTIONS}
 use Rattle.turn_code.specs.Values.{wrap, holds, is_between, differ}
 use Rattle.turn_code.specs.declared.value.Value.{Value}
 use Rattle.turn_code.specs.declared.value.Value.TheVariants.{Int, Bool}

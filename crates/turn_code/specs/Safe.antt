@@ -1,6 +1,6 @@
 -- Runs that never get stuck.
 use Rattle.std.specs.Prelude.{◌≡◌, ℕ, zero, suc, ◌≤◌, List, [], length, Option, Some, slice_get}
-use Rattle.plain_limits.specs.Limits.{MOST_INSTRUCTIONS, MOST_PARAMETERS}
+use Rattle.plain_laws.specs.Limits.{MOST_INSTRUCTIONS, MOST_PARAMETERS}
 use Rattle.turn_code.specs.Run.{Progress, After, goes, ends, stuck, step, begun, run, ended}
 use Rattle.turn_code.specs.Transitions.{Transition}
 use Rattle.turn_code.specs.Code.{sends}

@@ -8,7 +8,7 @@ ghost use Rattle.turn_code.specs.Operation.{meaning_of, truth_of};
 ghost use Rattle.turn_code.specs.Division.{division_of};
 ghost use Rattle.turn_code.specs.declared.value.Value.TheVariants.{Int as IntValue, Bool as BoolValue};
 ghost use Rattle.turn_code.specs.declared.effect.Effect.TheVariants.{Set as SetEffect};
-ghost use Rattle.plain_limits.specs.Limits.{MOST_EFFECTS, MOST_INSTRUCTIONS, MOST_OPERANDS, MOST_PARAMETERS};
+ghost use Rattle.plain_laws.specs.Limits.{MOST_EFFECTS, MOST_INSTRUCTIONS, MOST_OPERANDS, MOST_PARAMETERS};
 
 use crate::division::Division;
 use crate::effect::{Effect, Sending};

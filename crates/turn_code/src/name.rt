@@ -1,7 +1,7 @@
 //! Names as the text spells them.
 
 ghost use Rattle.std.specs.Prelude.{◌≡◌, ◌≤◌, ◌↔◌, length, IsSome, IfSome};
-ghost use Rattle.plain_limits.specs.Limits.{LONGEST_NAME};
+ghost use Rattle.plain_laws.specs.Limits.{LONGEST_NAME};
 
 use arrayvec::ArrayVec;
 use std::marker::Model;

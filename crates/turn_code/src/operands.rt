@@ -3,7 +3,7 @@
 ghost use Rattle.std.specs.Prelude.{◌≡◌, ◌<◌, ◌≤◌, ◌==◌, [], ◌∷◌, length, take, drop, reverse, IfSome, IfNone, IfOk, IfErr, OnErr};
 ghost use Rattle.turn_code.specs.declared.value.Value.TheVariants.{Int as IntValue, Bool as BoolValue};
 ghost use Rattle.turn_code.specs.Taken.{TroubleAtOne, TroubleAtTwo, TroubleAtBoolean, TroubleAtBooleans};
-ghost use Rattle.plain_limits.specs.Limits.{MOST_OPERANDS, MOST_PARAMETERS};
+ghost use Rattle.plain_laws.specs.Limits.{MOST_OPERANDS, MOST_PARAMETERS};
 
 use crate::trouble::Trouble;
 use crate::value::Value;
@@ -19,7 +19,7 @@ pub struct Operands {
 impl Model for Operands {
     ghost use Rattle.std.specs.Prelude.{◌≤◌, List, length, reverse};
     ghost use Rattle.turn_code.specs.declared.value.Value.{Value as Item};
-    ghost use Rattle.plain_limits.specs.Limits.{MOST_OPERANDS};
+    ghost use Rattle.plain_laws.specs.Limits.{MOST_OPERANDS};
 
     ghost Value = { List Item };
 

@@ -2,7 +2,7 @@
 
 ghost use Rattle.std.specs.Prelude.{◌≡◌, ◌<◌, ◌≤◌, ◌^◌, ◌↔◌, IsTrue, length};
 ghost use Rattle.turn_code.specs.Sets.{initial_set};
-ghost use Rattle.plain_limits.specs.Limits.{MOST_VARIABLES};
+ghost use Rattle.plain_laws.specs.Limits.{MOST_VARIABLES};
 
 use crate::draft::DraftVariable;
 use crate::numbers::VariableNumber;

@@ -1,6 +1,6 @@
 -- What a pool serves, and what it leaves.
 use Rattle.std.specs.Prelude.{◌≡◌, ◌≤◌, ◌+◌, ℕ, List, length, count_by}
-use Rattle.plain_limits.specs.Limits.{LEAST_WORKERS, MOST_LINKS, MOST_WORKERS}
+use Rattle.plain_laws.specs.Limits.{LEAST_WORKERS, MOST_LINKS, MOST_WORKERS}
 use Rattle.actor_machine.specs.Kept.{is_finish}
 use Rattle.actor_machine.specs.Ledger.{Ledger, state_of}
 use Rattle.turn_pool.specs.declared.fault.PoolFault.{PoolFault}

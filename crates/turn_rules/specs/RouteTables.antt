@@ -2,7 +2,7 @@
 use Rattle.std.specs.Prelude.{◌≡◌, ℕ, ◌<◌, Bool, false, eqb, ◌&&◌, List, [], map, Contains}
 use Rattle.std.specs.Prelude.{slice_index_or}
 use Rattle.std.specs.List.{list_any}
-use Rattle.plain_limits.specs.Limits.{MOST_PROCESSES}
+use Rattle.plain_laws.specs.Limits.{MOST_PROCESSES}
 use Rattle.turn_code.specs.declared.input.Party.{Party}
 use Rattle.turn_code.specs.declared.input.Party.TheVariants.{Environment, Process}
 use Rattle.turn_code.specs.declared.numbers.SignalNumber.{SignalNumber}

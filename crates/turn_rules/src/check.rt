@@ -6,7 +6,7 @@ ghost use Rattle.turn_code.specs.Valid.{IsValidTransition, Keeps};
 ghost use Rattle.turn_rules.specs.Seen.{seen};
 ghost use Rattle.turn_rules.specs.First.{EachBefore, NoneBefore};
 ghost use Rattle.turn_rules.specs.Parts.{AllEntries, HasParts};
-ghost use Rattle.plain_limits.specs.Limits.{MOST_INSTRUCTIONS, MOST_VARIABLES};
+ghost use Rattle.plain_laws.specs.Limits.{MOST_INSTRUCTIONS, MOST_VARIABLES};
 
 use crate::entry::check_entry;
 use crate::indexed::IndexedDraft;

@@ -2,7 +2,7 @@
 
 ghost use Rattle.std.specs.Prelude.{◌≡◌, ◌≤◌, ◌+◌, ◌↔◌, ℕ, true, ◌&&◌, ◌||◌, eqb, ltb, IsTrue};
 ghost use Rattle.turn_rules.specs.Parties.{seat, holds};
-ghost use Rattle.plain_limits.specs.Limits.{MOST_PROCESSES};
+ghost use Rattle.plain_laws.specs.Limits.{MOST_PROCESSES};
 
 use turn_code::Party;
 

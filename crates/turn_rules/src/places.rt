@@ -10,7 +10,7 @@ ghost use Rattle.turn_code.specs.declared.draft.DraftSignal.{DraftSignal};
 ghost use Rattle.turn_rules.specs.Seen.{seen};
 ghost use Rattle.turn_rules.specs.First.{EachBefore};
 ghost use Rattle.turn_rules.specs.Parts.{Part, NextPart, AllParts, AllNexts, NumbersPart, CountsPart, SetsHold, ShapesPart};
-ghost use Rattle.plain_limits.specs.Limits.{MOST_INSTRUCTIONS, MOST_PARAMETERS, MOST_VARIABLES};
+ghost use Rattle.plain_laws.specs.Limits.{MOST_INSTRUCTIONS, MOST_PARAMETERS, MOST_VARIABLES};
 
 use crate::indexed::IndexedDraft;
 use crate::routes::keeps_sending;

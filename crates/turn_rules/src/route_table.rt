@@ -4,7 +4,7 @@ ghost use Rattle.std.specs.Prelude.{◌≡◌, ◌<◌, ℕ, false, eqb, ◌&&�
 ghost use Rattle.std.specs.List.{flat_map};
 ghost use Rattle.turn_rules.specs.Parties.{seat, holds};
 ghost use Rattle.turn_rules.specs.RouteTables.{none, listed, is_process, Mention, mentions_of, Tells};
-ghost use Rattle.plain_limits.specs.Limits.{MOST_PROCESSES};
+ghost use Rattle.plain_laws.specs.Limits.{MOST_PROCESSES};
 
 use crate::party_set::PartySet;
 use turn_code::{DraftRoute, Party, ProcessNumber, SignalNumber};

@@ -3,7 +3,7 @@
 ghost use Rattle.std.specs.Prelude.{◌≡◌, ◌≤◌, length};
 ghost use Rattle.turn_code.specs.Transitions.{start_of, input_of, trigger_parameters};
 ghost use Rattle.turn_rules.specs.Seen.{seen};
-ghost use Rattle.plain_limits.specs.Limits.{MOST_VARIABLES};
+ghost use Rattle.plain_laws.specs.Limits.{MOST_VARIABLES};
 
 use turn_code::{
     DraftInput, DraftPiece, DraftProcess, DraftSignal, DraftState, ProcessNumber, Sort, Trigger,

@@ -6,7 +6,7 @@ use Rattle.std.specs.Prelude.{if◌then◌else◌, List, ◌∷◌, ◌++◌, ta
 use Rattle.std.specs.Prelude.{Option, Some, None, slice_index_or, slice_set}
 use Rattle.std.specs.Ordering.{int_eq}
 use Rattle.std.specs.Int.{int_rem_euclid}
-use Rattle.plain_limits.specs.Limits.{MOST_OPERANDS, MOST_PARAMETERS, MOST_VARIABLES}
+use Rattle.plain_laws.specs.Limits.{MOST_OPERANDS, MOST_PARAMETERS, MOST_VARIABLES}
 use Rattle.turn_code.specs.Values.{wrap, holds, is_between, differ}
 use Rattle.turn_code.specs.declared.numbers.SignalNumber.{SignalNumber}
 use Rattle.turn_code.specs.declared.numbers.TimerNumber.{TimerNumber}

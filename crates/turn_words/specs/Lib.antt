@@ -2,4 +2,4 @@ pub mod Bare
 pub mod Meant
 pub mod Sorts
 pub mod Steps
-pub use Rattle.plain_limits.specs.Limits
+pub use Rattle.plain_laws.specs.Limits

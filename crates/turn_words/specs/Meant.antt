@@ -3,7 +3,7 @@
 use Rattle.std.specs.Prelude.{◌≡◌, ℕ, ◌≤◌, ℤ, List, ◌∷◌, ◌++◌, [], length, map, take, Option, Some}
 use Rattle.std.specs.Prelude.{None, slice_get}
 use Rattle.std.specs.Int.{bit_at}
-use Rattle.plain_limits.specs.Limits.{MOST_PARAMETERS}
+use Rattle.plain_laws.specs.Limits.{MOST_PARAMETERS}
 use Rattle.turn_code.specs.Run.{address_of}
 use Rattle.turn_code.specs.declared.value.Value.{Value}
 use Rattle.turn_code.specs.declared.value.Value.TheVariants.{Int, Bool}

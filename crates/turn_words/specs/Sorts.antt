@@ -1,7 +1,7 @@
 -- The sorts that words have lost, in bits.
 use Rattle.std.specs.Prelude.{◌≡◌, ℕ, ◌+◌, ◌*◌, ◌≤◌, Bool as Truth, true, false, if◌then◌else◌}
 use Rattle.std.specs.Prelude.{List, [], ◌∷◌, map, Option, Some, slice_get, slice_index_or}
-use Rattle.plain_limits.specs.Limits.{MOST_PARAMETERS}
+use Rattle.plain_laws.specs.Limits.{MOST_PARAMETERS}
 use Rattle.turn_code.specs.Values.{sort_of}
 use Rattle.turn_code.specs.Run.{address_of}
 use Rattle.turn_code.specs.declared.value.Sort.{Sort}

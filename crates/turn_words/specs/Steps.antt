@@ -1,6 +1,6 @@
 -- A step on words is the step on the values that they stand for.
 use Rattle.std.specs.Prelude.{◌≡◌, ℕ, ◌≤◌, List, length, map}
-use Rattle.plain_limits.specs.Limits.{MOST_VARIABLES}
+use Rattle.plain_laws.specs.Limits.{MOST_VARIABLES}
 use Rattle.turn_code.specs.Values.{sort_of}
 use Rattle.turn_code.specs.Run.{Progress, After as Tagged, goes, ends, stuck, step}
 use Rattle.turn_code.specs.Transitions.{Transition}

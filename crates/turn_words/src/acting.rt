@@ -3,7 +3,7 @@ ghost use Rattle.std.specs.Prelude.{◌≡◌, ◌<◌, ◌≤◌, ◌≤ℤ◌,
 ghost use Rattle.turn_code.specs.Values.{holds, is_between};
 ghost use Rattle.turn_code.specs.Operation.{meaning_of, truth_of};
 ghost use Rattle.turn_code.specs.Division.{division_of};
-ghost use Rattle.plain_limits.specs.Limits.{MOST_OPERANDS, MOST_PARAMETERS, MOST_VARIABLES};
+ghost use Rattle.plain_laws.specs.Limits.{MOST_OPERANDS, MOST_PARAMETERS, MOST_VARIABLES};
 ghost use Rattle.turn_words.specs.declared.after.Next.TheVariants.{Goes, Ends};
 ghost use Rattle.turn_words.specs.Bare.{bare_of, did, Takes, HasRoom, HasWords, bare_act, pushed, put, loaded, stored, given, combined, divided, negated_word, inverted, joined, compared, tested, picked, dropped, sent, timed, words_taken};
 

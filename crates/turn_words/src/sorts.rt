@@ -6,7 +6,7 @@ ghost use Rattle.turn_code.specs.declared.effect.Effect.{Effect as AnyEffect};
 ghost use Rattle.turn_code.specs.declared.draft.DraftSignal.{DraftSignal as AnySignal};
 ghost use Rattle.turn_words.specs.Meant.{word_of, IsEffectOf};
 ghost use Rattle.turn_words.specs.Sorts.{is_boolean, sort_bits, sorts_of, AreBitsOf, IsOfSorts, HasReceiver};
-ghost use Rattle.plain_limits.specs.Limits.{MOST_PARAMETERS, MOST_SIGNALS, MOST_VARIABLES};
+ghost use Rattle.plain_laws.specs.Limits.{MOST_PARAMETERS, MOST_SIGNALS, MOST_VARIABLES};
 
 use crate::after::Given;
 use arrayvec::ArrayVec;

@@ -1,5 +1,5 @@
 use Rattle.std.proofs.Common.{◌≤◌, subst}
-use Rattle.plain_limits.specs.Limits.{MOST_JOURNAL}
+use Rattle.plain_laws.specs.Limits.{MOST_JOURNAL}
 use Rattle.turn_verify.specs.Meant.{meaning_of}
 use Rattle.actor_headline.proofs.Whole.{runs_by, coded_by, ends_opened}
 use Rattle.actor_headline.proofs.running.run_set.Goals as goal

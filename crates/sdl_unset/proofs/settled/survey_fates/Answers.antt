@@ -6,7 +6,7 @@ use Rattle.sdl_tables.specs.Names.{variable_names, states_of}
 use Rattle.sdl_unset.specs.Fates.{AreSet, IsUnsetAt, fate_path, HasFirst}
 use Rattle.sdl_unset.proofs.Surveying.{survey_steps, survey_reads, survey_names, survey_shortest, survey_first, number_within}
 use Rattle.sdl_unset.proofs.Settling.{settled, never}
-use Rattle.plain_limits.specs.Limits.{MOST_VARIABLES}
+use Rattle.plain_laws.specs.Limits.{MOST_VARIABLES}
 use Rattle.sdl_unset.proofs.settled.survey_fates.Goals as goal
 
 pub sets_in-requires : goal.sets_in-requires

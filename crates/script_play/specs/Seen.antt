@@ -1,0 +1,184 @@
+-- What the status of `play` says of what is told at the end of a run, and of a capture.
+use Rattle.std.specs.Prelude.{◌≡◌, ℕ, Bool, true, false, List, Option, Some, None, Result, Ok}
+use Rattle.std.specs.Prelude.{Err, IsUtf8}
+use Rattle.std.specs.Global.{Vec}
+use Rattle.std.specs.Io.KnownBytes.{Appends}
+use Rattle.turn_code.specs.declared.draft.Draft.{Draft}
+use Rattle.script_seen.specs.resend_store_types.messages.RoundLimits.{RoundLimits}
+use Rattle.script_seen.specs.TermScripts.{PlainAnyScript, book, terminal, asks_told}
+use Rattle.script_seen.specs.GroupScripts.{PlainPlayScript, other, group, play_script_of}
+use Rattle.script_seen.specs.Played.{first_book}
+use Rattle.script_seen.specs.GroupRuns.{IsOfNewSet}
+use Rattle.script_seen.specs.TermRuns.{IsOfNew}
+use Rattle.script_seen.specs.Watched.{Notice}
+use Rattle.script_seen.specs.WatchedKinds.{IsBookWatched, IsBookWatchedInPart, IsTermWatched}
+use Rattle.script_seen.specs.WatchedKinds.{IsTermWatchedInPart}
+use Rattle.script_play.specs.Captured.{IsCaptured, IsCapturedInPart}
+use Rattle.script_play.specs.CapturedSets.{IsSetCaptured, IsSetCapturedInPart}
+use Rattle.script_play.specs.Played.{IsObeyed, IsMissedIn, IsPlayed, IsPlayedInPart}
+use Rattle.script_play.specs.Charted.{charted_of}
+use Rattle.script_play.specs.Thrown.{thrown_of}
+use Rattle.script_play.specs.Traced.{IsPlayTraced, IsPlayTracedInPart}
+use Rattle.script_play.specs.declared.seeing.Wanted.{Wanted}
+use Rattle.script_play.specs.declared.seeing.Wanted.TheVariants.{Trace, Capture, AtEnd}
+use Rattle.script_play.specs.declared.watching.Told.{Told}
+use Rattle.script_play.specs.declared.watching.Told.TheVariants.{Chart, Thrown}
+
+-- P holds of what is noticed of all commands of a script: of a book of the set, or of a new
+-- terminal over it, with the usual limits where the script chooses none
+abbrev pub IsOtherTold :
+    RoundLimits → Draft → PlainAnyScript → (List Notice → Type 0) → Type 0
+IsOtherTold usual d (book s) P = IsBookWatched (first_book d s.settings) s.commands P
+IsOtherTold usual d (terminal s) P =
+    IsOfNew d usual s.head (λ t. IsTermWatched (asks_told s.commands) t s.commands P)
+
+-- of a script of a link set nothing is told
+abbrev pub AreTold : RoundLimits → Draft → PlainPlayScript → (List Notice → Type 0) → Type 0
+AreTold usual d (other s) P = IsOtherTold usual d s P
+AreTold usual d (group s) P = ⊥
+
+-- so it does of those in front of an expectation that failed
+abbrev pub IsOtherToldInPart :
+    RoundLimits → Draft → PlainAnyScript → (List Notice → Type 0) → Type 0
+IsOtherToldInPart usual d (book s) P = IsBookWatchedInPart (first_book d s.settings) s.commands P
+IsOtherToldInPart usual d (terminal s) P =
+    IsOfNew d usual s.head (λ t. IsTermWatchedInPart (asks_told s.commands) t s.commands P)
+
+abbrev pub AreToldInPart :
+    RoundLimits → Draft → PlainPlayScript → (List Notice → Type 0) → Type 0
+AreToldInPart usual d (other s) P = IsOtherToldInPart usual d s P
+AreToldInPart usual d (group s) P = ⊥
+
+-- the bytes are a script, all of whose commands were obeyed, and P holds of what is noticed of it
+pub record IsPlayTold (usual : RoundLimits) (old new : Option (List ℕ))
+    (P : List Notice → Type 0) (d : Draft) (bytes : List ℕ) : Type 0 where
+  pub utf8 : IsUtf8 bytes
+  pub script : PlainPlayScript
+  pub reads : play_script_of bytes ≡ Ok script
+  pub run : IsObeyed usual d script old new
+  pub told : AreTold usual d script P
+
+-- the bytes are a script, an expectation of which failed; P holds of what is noticed of the
+-- commands in front of that
+pub record IsPlayToldInPart (usual : RoundLimits) (old new : Option (List ℕ))
+    (P : List Notice → Type 0) (d : Draft) (bytes : List ℕ) : Type 0 where
+  pub utf8 : IsUtf8 bytes
+  pub script : PlainPlayScript
+  pub reads : play_script_of bytes ≡ Ok script
+  pub missed : IsMissedIn usual d script old new
+  pub told : AreToldInPart usual d script P
+
+-- what is told was written
+abbrev pub IsToldTo :
+    {E : Type 0} → Result (Vec ℕ) E → Option (List ℕ) → Option (List ℕ) → Type 0
+IsToldTo (Ok text) old new = Appends old new text.items
+IsToldTo (Err error) old new = ⊥
+
+-- what was written grew by what is told of all that was noticed
+abbrev pub Grew :
+    (Draft → List Notice → List ℕ) → Draft → Option (List ℕ) → Option (List ℕ) → List Notice
+    → Type 0
+Grew tells d old new ns = Appends old new (tells d ns)
+
+-- ---- captures
+
+-- a terminal's script is captured; a book's has no units
+abbrev pub IsOtherCaptured :
+    RoundLimits → Bool → Draft → PlainAnyScript → Option (List ℕ) → Option (List ℕ) → Type 0
+IsOtherCaptured usual every d (book s) old new = ⊥
+IsOtherCaptured usual every d (terminal s) old new =
+    IsOfNew d usual s.head
+    (λ t. IsCaptured every (asks_told s.commands) t s.commands old new)
+
+-- so is one of a set of links
+abbrev pub AreCaptured :
+    RoundLimits → Bool → Draft → PlainPlayScript → Option (List ℕ) → Option (List ℕ) → Type 0
+AreCaptured usual every d (other s) old new = IsOtherCaptured usual every d s old new
+AreCaptured usual every d (group s) old new =
+    IsOfNewSet d usual s.head (IsSetCaptured every s.commands old new)
+
+-- up to an expectation that failed
+abbrev pub IsOtherCapturedInPart :
+    RoundLimits → Bool → Draft → PlainAnyScript → Option (List ℕ) → Option (List ℕ) → Type 0
+IsOtherCapturedInPart usual every d (book s) old new = ⊥
+IsOtherCapturedInPart usual every d (terminal s) old new =
+    IsOfNew d usual s.head
+    (λ t. IsCapturedInPart every (asks_told s.commands) t s.commands old new)
+
+abbrev pub AreCapturedInPart :
+    RoundLimits → Bool → Draft → PlainPlayScript → Option (List ℕ) → Option (List ℕ) → Type 0
+AreCapturedInPart usual every d (other s) old new = IsOtherCapturedInPart usual every d s old new
+AreCapturedInPart usual every d (group s) old new =
+    IsOfNewSet d usual s.head (IsSetCapturedInPart every s.commands old new)
+
+-- the bytes are a script, all of whose commands were obeyed, and whose links are captured
+pub record IsPlayCaptured (usual : RoundLimits) (every : Bool) (old new from to : Option (List ℕ))
+    (d : Draft) (bytes : List ℕ) : Type 0 where
+  pub utf8 : IsUtf8 bytes
+  pub script : PlainPlayScript
+  pub reads : play_script_of bytes ≡ Ok script
+  pub run : IsObeyed usual d script old new
+  pub captured : AreCaptured usual every d script from to
+
+-- so up to an expectation that failed
+pub record IsPlayCapturedInPart (usual : RoundLimits) (every : Bool)
+    (old new from to : Option (List ℕ)) (d : Draft) (bytes : List ℕ) : Type 0 where
+  pub utf8 : IsUtf8 bytes
+  pub script : PlainPlayScript
+  pub reads : play_script_of bytes ≡ Ok script
+  pub missed : IsMissedIn usual d script old new
+  pub captured : AreCapturedInPart usual every d script from to
+
+-- ---- what is wanted of a run
+
+-- what is told of a run at its end, by all that was noticed
+abbrev pub told_of : Told → Draft → List Notice → List ℕ
+told_of (Chart cut) d ns = charted_of cut d ns
+told_of Thrown d ns = thrown_of d ns
+
+-- the bytes are a script that was run, and what is wanted of that was written
+abbrev pub IsPlaySeen :
+    RoundLimits → Wanted → Option (List ℕ) → Option (List ℕ) → Option (List ℕ) → Option (List ℕ)
+    → Draft → List ℕ → Type 0
+IsPlaySeen usual (Trace every) old new from to d bytes =
+    IsPlayTraced usual every old new from to d bytes
+IsPlaySeen usual (Capture every) old new from to d bytes =
+    IsPlayCaptured usual every old new from to d bytes
+IsPlaySeen usual (AtEnd told) old new from to d bytes =
+    IsPlayTold usual old new (Grew (told_of told) d from to) d bytes
+
+abbrev pub IsPlaySeenInPart :
+    RoundLimits → Wanted → Option (List ℕ) → Option (List ℕ) → Option (List ℕ) → Option (List ℕ)
+    → Draft → List ℕ → Type 0
+IsPlaySeenInPart usual (Trace every) old new from to d bytes =
+    IsPlayTracedInPart usual every old new from to d bytes
+IsPlaySeenInPart usual (Capture every) old new from to d bytes =
+    IsPlayCapturedInPart usual every old new from to d bytes
+IsPlaySeenInPart usual (AtEnd told) old new from to d bytes =
+    IsPlayToldInPart usual old new (Grew (told_of told) d from to) d bytes
+
+-- ---- with lines, with something in a file, or with neither
+
+-- A script was played as it is to be seen: with the lines of its commands, where that is asked for;
+-- else with what is wanted of it in a file, where there is one, which had this and now has that.
+pub data IsWatched (usual : RoundLimits) (echo : Bool) (wanted : Wanted)
+    (old new : Option (List ℕ)) (begun now : Option (Option (List ℕ))) (d : Draft)
+    (bytes : List ℕ) : Type 0 where
+  has_lines : echo ≡ true → IsPlayed usual echo old new d bytes
+      → IsWatched usual echo wanted old new begun now d bytes
+  has_neither : echo ≡ false → begun ≡ None → IsPlayed usual echo old new d bytes
+      → IsWatched usual echo wanted old new begun now d bytes
+  has_file : (was has : Option (List ℕ)) → echo ≡ false → begun ≡ Some was → now ≡ Some has
+      → IsPlaySeen usual wanted old new was has d bytes
+      → IsWatched usual echo wanted old new begun now d bytes
+
+pub data IsWatchedInPart (usual : RoundLimits) (echo : Bool) (wanted : Wanted)
+    (old new : Option (List ℕ)) (begun now : Option (Option (List ℕ))) (d : Draft)
+    (bytes : List ℕ) : Type 0 where
+  has_lines_in_part : echo ≡ true → IsPlayedInPart usual echo old new d bytes
+      → IsWatchedInPart usual echo wanted old new begun now d bytes
+  has_neither_in_part : echo ≡ false → begun ≡ None → IsPlayedInPart usual echo old new d bytes
+      → IsWatchedInPart usual echo wanted old new begun now d bytes
+  has_file_in_part : (was has : Option (List ℕ)) → echo ≡ false → begun ≡ Some was → now ≡ Some has
+      → IsPlaySeenInPart usual wanted old new was has d bytes
+      → IsWatchedInPart usual echo wanted old new begun now d bytes

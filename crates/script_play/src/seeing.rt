@@ -1,0 +1,64 @@
+//! The command `play` with what is wanted of its run in a file.
+ghost use Rattle.std.specs.Prelude.{◌≡◌, ◌⊎◌, IfSome};
+ghost use Rattle.script_check.specs.Checked.{given, IsAccepted};
+ghost use Rattle.script_play.specs.Played.{IsOnSet, IsRefused};
+ghost use Rattle.script_play.specs.Seen.{IsPlaySeen, IsPlaySeenInPart};
+
+use crate::captured_plays::play_captured;
+use crate::tracing::play_traced;
+use crate::watching::{Told, play_told};
+use script_check::SetWord;
+use script_seen::RoundLimits;
+use std::alloc::Global;
+use std::io::{Read, Write};
+
+/// What of a run goes to a file.
+#[derive(Clone, Copy, PartialEq, Eq, Debug)]
+pub enum Wanted {
+    /// A trace of what happens; whether what has no effect is traced too.
+    Trace(bool),
+    /// A capture of the units that go out and come in; whether every unit is captured.
+    Capture(bool),
+    /// What is told at its end.
+    AtEnd(Told),
+}
+
+/// Runs a script as `play` does without the lines of its commands, and writes what is wanted of the run to `out`: a trace or a capture as it runs, or at
+/// its end, or at an expectation that fails, a chart of its turns or what was thrown away.
+///
+/// Gives the exit status, as `play` does: 4 where a write to `out` fails too, where a terminal's journal begins anew within a command, as it does
+/// behind 32,768 events, and for a script of a link set, but with a capture; with a capture for a script of a book.
+pub fn play_seen<S: Read + Drop, R: Read + Drop, T: Write, W: Write, E: Write>(
+    alloc: Global,
+    set: SetWord<S>,
+    usual: RoundLimits,
+    name: &str,
+    script: R,
+    wanted: Wanted,
+    out: &mut T,
+    writer: &mut W,
+    errors: &mut E,
+) -> u8
+    ensures accepted { (result ≡ 0) ⊎ (result ≡ 1) → IfSome (given S.remaining set) IsAccepted }
+    ensures held { result ≡ 0
+        → IsOnSet (given S.remaining set) (R.remaining script)
+        (IsPlaySeen usual wanted (W.contents writer.old) (W.contents writer.new) (T.contents out.old) (T.contents out.new)) }
+    ensures missed { result ≡ 1
+        → IsOnSet (given S.remaining set) (R.remaining script)
+        (IsPlaySeenInPart usual wanted (W.contents writer.old) (W.contents writer.new) (T.contents out.old) (T.contents out.new)) }
+    ensures refused { result ≡ 2
+        → IsRefused (given S.remaining set) (R.remaining script) (W.contents writer.old) (W.contents writer.new) }
+    ensures status { (result ≡ 0) ⊎ (result ≡ 1) ⊎ (result ≡ 2) ⊎ (result ≡ 4) }
+{
+    match wanted {
+        Wanted::Trace(every) => {
+            play_traced(alloc, set, usual, name, script, every, out, writer, errors)
+        }
+        Wanted::Capture(every) => {
+            play_captured(alloc, set, usual, name, script, every, out, writer, errors)
+        }
+        Wanted::AtEnd(told) => {
+            play_told(alloc, set, usual, name, script, told, out, writer, errors)
+        }
+    }
+}
