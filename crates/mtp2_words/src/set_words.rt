@@ -33,10 +33,7 @@ fn end_of<'a>(given: &ArgMatches<'a>) -> Option<SetEnd<'a>>
 }
 
 /// The lines that the matches of `set` name.
-fn lines_of<'a>(
-    alloc: Global,
-    given: &ArgMatches<'a>,
-) -> Result<Option<Vec<&'a str>>, AllocError>
+fn lines_of<'a>(alloc: Global, given: &ArgMatches<'a>) -> Result<Option<Vec<&'a str>>, AllocError>
     ensures some { IfOk result (λ o. IfSome o (λ v. IsSomeAnd (all_of (codes "link") (rows_of (found_of given.now))) (AreLinesOf v.items))) }
     ensures none { IfOk result (λ o. IsNone o → AreNoLines (all_of (codes "link") (rows_of (found_of given.now)))) }
 {
