@@ -60,7 +60,8 @@ fn go_round<H: Clock + AllocGlobal, L: Lines, O: Orders, P: Reports>(
         if !goes_on {
             return Ok(());
         }
-        if lines.are_over()? {
+        let are_over = lines.are_over()?;
+        if are_over {
             return Ok(());
         }
     }

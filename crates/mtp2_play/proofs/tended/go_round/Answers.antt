@@ -13,12 +13,12 @@ pub returns-then-are_over : goal.returns-then-are_over
 returns-then-are_over g c =
     has_run _ _ _ _ _ _ _ _
     (rounds_on _ _ _ c.in_ok-goes_on.goes_on _ _ _ _ _ c.if-not-goes_on.false
-    (rounds_more _ _ _ _ _ _ _ _ _ _ _ _ c.loop-round.invariant.ahead c.loop-round.invariant.made c.in_ok-goes_on.ensures.made) c.are_over.ensures)
+    (rounds_more _ _ _ _ _ _ _ _ _ _ _ _ c.loop-round.invariant.ahead c.loop-round.invariant.made c.in_ok-goes_on.ensures.made) c.in_ok-are_over.ensures)
 
 pub loop-round-preserved : goal.loop-round-preserved
 loop-round-preserved g c = record {
   made = rounds_on _ _ _ c.in_ok-goes_on.goes_on _ _ _ _ _ c.if-not-goes_on.false
-      (rounds_more _ _ _ _ _ _ _ _ _ _ _ _ c.loop-round.invariant.ahead c.loop-round.invariant.made c.in_ok-goes_on.ensures.made) c.are_over.ensures;
+      (rounds_more _ _ _ _ _ _ _ _ _ _ _ _ c.loop-round.invariant.ahead c.loop-round.invariant.made c.in_ok-goes_on.ensures.made) c.in_ok-are_over.ensures;
   ahead = c.round.ensures.ahead ∙ c.loop-round.invariant.ahead;
 }
 
