@@ -5,6 +5,7 @@ use crate::set_tap::SetTap;
 use line_filter::Bits;
 use line_play::{Came, Lines};
 use line_streams::{Departures, Fed, Feed, open_both};
+use plain_text::Teller;
 use std::alloc::{AllocError, Global};
 use std::fs::File;
 use std::io::{self, ErrorKind};
@@ -29,8 +30,8 @@ struct Open {
 struct SetLine<'a> {
     /// Where its octets come from.
     input: &'a str,
-    /// Where they go to.
-    output: &'a str,
+    /// Where they go to, where that is another file.
+    output: Option<&'a str>,
     open: Option<Open>,
     /// For how many rounds it hasn't been open.
     shut: u64,
@@ -42,8 +43,9 @@ struct SetLine<'a> {
 
 /// The lines of a set.
 #[derive(Drop)]
-pub struct SetLines<'a, H> {
+pub struct SetLines<'a, H: Eprint> {
     host: &'a H,
+    teller: &'a Teller<'a, H>,
     alloc: Global,
     bits: Bits,
     lines: Vec<SetLine<'a>>,
@@ -53,11 +55,29 @@ pub struct SetLines<'a, H> {
     pub tap: Option<SetTap>,
 }
 
-/// The two paths that a word names: `IN,OUT`, or one for both.
-fn paths(word: &str) -> (&str, &str) {
+/// The paths that a word names: `IN,OUT`, or one for both.
+fn paths(word: &str) -> (&str, Option<&str>) {
     match word.split_once(',') {
-        Some((input, output)) => (input, output),
-        None => (word, word),
+        Some((input, output)) => (input, Some(output)),
+        None => (word, None),
+    }
+}
+
+/// Opens a file to read and to write. At the first try it is told by its name where that can't be.
+fn open_told<H: Files<File = File> + Eprint>(
+    host: &H,
+    teller: &Teller<'_, H>,
+    path: &str,
+    first: bool,
+) -> io::Result<File> {
+    match open_both(host, path) {
+        Ok(file) => Ok(file),
+        Err(error) => {
+            if first {
+                teller.tell(path, &error);
+            }
+            Err(error)
+        }
     }
 }
 
@@ -70,14 +90,19 @@ impl SetLine<'_> {
         self.broken = false;
     }
 
-    /// Opens it.
-    fn try_open<H: Files<File = File> + Threads>(
+    /// Opens it. One file for both ways is opened once: a channel of a card has one that holds it.
+    fn try_open<H: Files<File = File> + Threads + Eprint>(
         &self,
         host: &H,
+        teller: &Teller<'_, H>,
         alloc: Global,
+        first: bool,
     ) -> io::Result<Open> {
-        let input = open_both(host, self.input)?;
-        let output = open_both(host, self.output)?;
+        let input = open_told(host, teller, self.input, first)?;
+        let output = match self.output {
+            Some(path) => open_told(host, teller, path, first)?,
+            None => input.try_clone()?,
+        };
         Ok(Open {
             feed: Feed::start(host, alloc, input)?,
             sink: Departures::start(host, alloc, output)?,
@@ -85,14 +110,19 @@ impl SetLine<'_> {
     }
 
     /// Opens it, where it is time to try.
-    fn reopen<H: Files<File = File> + Threads>(&mut self, host: &H, alloc: Global) -> Came {
+    fn reopen<H: Files<File = File> + Threads + Eprint>(
+        &mut self,
+        host: &H,
+        teller: &Teller<'_, H>,
+        alloc: Global,
+    ) -> Came {
         let first = self.shut == 0;
         let tries = self.shut % BETWEEN == 0;
         self.shut = self.shut.saturating_add(1);
         if !tries {
             return Came::Closed;
         }
-        match self.try_open(host, alloc) {
+        match self.try_open(host, teller, alloc, first) {
             Ok(open) => {
                 self.open = Some(open);
                 Came::Opened
@@ -106,16 +136,17 @@ impl SetLine<'_> {
     }
 
     /// What came of it.
-    fn take<H: Files<File = File> + Threads>(
+    fn take<H: Files<File = File> + Threads + Eprint>(
         &mut self,
         host: &H,
+        teller: &Teller<'_, H>,
         alloc: Global,
         part: &mut [u8],
     ) -> Came {
         let fed = match &mut self.open {
             Some(_) if self.broken => Fed::Failed,
             Some(open) => open.feed.take(part),
-            None => return self.reopen(host, alloc),
+            None => return self.reopen(host, teller, alloc),
         };
         match fed {
             Fed::Octets(count) => Came::Octets(count),
@@ -143,7 +174,7 @@ impl SetLine<'_> {
     }
 }
 
-impl<'a, H> SetLines<'a, H> {
+impl<'a, H: Eprint> SetLines<'a, H> {
     /// Lines that these words name, none of them open.
     ///
     /// # Errors
@@ -151,6 +182,7 @@ impl<'a, H> SetLines<'a, H> {
     /// Where there is no memory.
     pub fn new(
         host: &'a H,
+        teller: &'a Teller<'a, H>,
         alloc: Global,
         bits: Bits,
         words: &[&'a str],
@@ -170,6 +202,7 @@ impl<'a, H> SetLines<'a, H> {
         }
         Ok(SetLines {
             host,
+            teller,
             alloc,
             bits,
             lines,
@@ -179,7 +212,7 @@ impl<'a, H> SetLines<'a, H> {
     }
 }
 
-impl<H: Files<File = File> + Threads> Lines for SetLines<'_, H> {
+impl<H: Files<File = File> + Threads + Eprint> Lines for SetLines<'_, H> {
     ghost traffic = { λ _. None };
 
     fn begin(&mut self, now: u64) {
@@ -192,7 +225,7 @@ impl<H: Files<File = File> + Threads> Lines for SetLines<'_, H> {
         let Some(line) = self.lines.get_mut(link) else {
             return Came::Closed;
         };
-        let came = line.take(self.host, self.alloc, part);
+        let came = line.take(self.host, self.teller, self.alloc, part);
         if let Came::Octets(count) = came {
             if let Some(octets) = part.get_mut(..count) {
                 self.bits.turn_all(octets);

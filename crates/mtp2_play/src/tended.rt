@@ -137,7 +137,7 @@ fn serve<H: Files<File = File> + Threads + Eprint + Clock + AllocGlobal>(
         Ok(tap) => tap,
         Err(status) => return status,
     };
-    let Ok(mut open_lines) = SetLines::new(host, host.alloc(), end.bits, lines, tap) else {
+    let Ok(mut open_lines) = SetLines::new(host, teller, host.alloc(), end.bits, lines, tap) else {
         return FAILED;
     };
     let Ok(mut desk) = SetDesk::new(host.alloc(), tender, end.ahead, orders, reports) else {

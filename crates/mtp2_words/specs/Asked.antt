@@ -12,7 +12,7 @@ use Rattle.mtp2_words.specs.declared.set_ends.SetWords.{SetWords}
 use Rattle.mtp2_words.specs.declared.ends.LineEnd.{LineEnd}
 use Rattle.mtp2_words.specs.declared.ends.LineWords.{LineWords}
 use Rattle.mtp2_words.specs.Words.{command_of, says_true, workers_of, IsNamed, IsOwnNamed}
-use Rattle.mtp2_words.specs.Words.{IsSource, IsText, IsSetText, NamesNone}
+use Rattle.mtp2_words.specs.Words.{IsSource, IsText, IsSetText, IsNoSetText, NamesNone}
 use Rattle.mtp2_words.specs.Seeing.{IsSeenBy, IsNoSeeing}
 use Rattle.mtp2_words.specs.declared.seeing.Seeing.{Seeing}
 use Rattle.mtp2_words.specs.declared.seeing.SeeingWords.{SeeingWords}
@@ -122,9 +122,9 @@ pub record AsksSetEnd (given : Given) (end : SetEnd) : Type 0 where
   pub under_ids : AreSetUnderIds given words
   pub end_is : IsSetEndOf words end
 
--- `set`: the set of processes that --text names, and such an end
+-- `set`: the set of processes that --set or --text names, and such an end
 pub record AsksSet (given : Given) (set : Named) (end : SetEnd) : Type 0 where
-  pub set_is : IsSetText (given (codes "text")) set
+  pub set_is : IsSetText (given (codes "set")) (given (codes "text")) set
   pub asks_end : AsksSetEnd given end
 
 -- lines are those that words name, 1 to 16
@@ -243,10 +243,10 @@ IsNoSetEndBy given =
     (given (codes "MODE") ≡ None)
     ⊎ ((given (codes "own") ≡ None) ⊎ ((given (codes "peer") ≡ None) ⊎ SaysNoSetEnd given))
 
--- `set`: standard input as --text, no such end, or no lines
+-- `set`: --set and --text both, or one that names no set, no such end, or no lines
 abbrev pub IsNoSet : Given → List Row → Type 0
 IsNoSet given rows =
-    (given (codes "text") ≡ Some (codes "stdin"))
+    IsNoSetText (given (codes "set")) (given (codes "text"))
     ⊎ (IsNoSetEndBy given ⊎ AreNoLines (all_of (codes "link") rows))
 
 -- `frame`: no HEX

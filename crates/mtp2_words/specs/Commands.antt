@@ -107,8 +107,10 @@ with_links command =
     with_rule
     (with_rule
     (with_rule
+    (with_rule
     (with_rule (with_rule command (needed_words (codes "link"))) (needed_word (codes "own")))
-    (needed_word (codes "peer"))) (option_word (codes "network"))) (option_word (codes "text"))
+    (needed_word (codes "peer"))) (option_word (codes "network"))) (option_word (codes "set")))
+    (option_word (codes "text"))
 
 -- a command with the options that say what an end does on its lines
 abbrev pub with_streams : App → App

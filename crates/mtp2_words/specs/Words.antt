@@ -122,10 +122,20 @@ abbrev pub IsText : Option (List ℕ) → Named → Type 0
 IsText None set = set ≡ Standard
 IsText (Some word) set = IsTextNamed set word
 
--- the same of the links of a set; `q703` where there is none
-abbrev pub IsSetText : Option (List ℕ) → Named → Type 0
-IsSetText None set = set ≡ Q703
-IsSetText (Some word) set = IsTextNamed set word
+-- the processes of the links of a set, by a word for a set of the program's own or one for a text,
+-- of which one may be there; `q703` where none is
+abbrev pub IsSetText : Option (List ℕ) → Option (List ℕ) → Named → Type 0
+IsSetText None None set = set ≡ Q703
+IsSetText None (Some text) set = IsTextNamed set text
+IsSetText (Some own) None set = IsOwnNamed set own
+IsSetText (Some own) (Some text) set = ⊥
+
+-- both are there, or the one that is names none
+abbrev pub IsNoSetText : Option (List ℕ) → Option (List ℕ) → Type 0
+IsNoSetText None None = ⊥
+IsNoSetText None (Some text) = text ≡ codes "stdin"
+IsNoSetText (Some own) None = NamesNone own
+IsNoSetText (Some own) (Some text) = Unit {0}
 
 -- an option without a word behind it was entered
 abbrev pub says_true : Option (List ℕ) → Bool

@@ -60,17 +60,24 @@ fn with_links<'a>(alloc: Global, command: Command<'a>) -> Result<Command<'a>, Al
         "0..3",
         "The network indicator of the set's own messages; 2 where nothing is said",
     );
+    let set = option_word(
+        alloc,
+        "set",
+        "SET",
+        "The processes of the links: q703 (as where nothing is said), or standard",
+    );
     let text = option_word(
         alloc,
         "text",
         "TEXT",
-        "q703 (as where nothing is said), standard, or a file with the text of a set of processes",
+        "In place of --set: a file with the text of a set of processes, q703 or standard",
     );
     command
         .arg(link)?
         .arg(own)?
         .arg(peer)?
         .arg(network)?
+        .arg(set)?
         .arg(text)
 }
 

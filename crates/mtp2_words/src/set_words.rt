@@ -1,7 +1,7 @@
 //! The words of the command `set`.
-ghost use Rattle.std.specs.Prelude.{◌≡◌, IfOk, IfSome, IsNone, IsSomeAnd, Some, option_map, codes};
+ghost use Rattle.std.specs.Prelude.{◌≡◌, IfOk, IfSome, IsNone, IsSomeAnd, option_map, codes};
 ghost use Rattle.clap.specs.Words.{all_of, found_of, rows_of};
-ghost use Rattle.mtp2_words.specs.Words.{command_of, IsSetText};
+ghost use Rattle.mtp2_words.specs.Words.{command_of, IsOwnNamed, NamesNone, IsSetText, IsNoSetText};
 ghost use Rattle.mtp2_words.specs.Asked.{given_by, IsAsked, AreAllAsked, AsksSetEnd, IsNoSetEndBy, IsNoSet, AreLinesOf, AreNoLines};
 
 use crate::flags::is_given;
@@ -49,14 +49,33 @@ fn lines_of<'a>(alloc: Global, given: &ArgMatches<'a>) -> Result<Option<Vec<&'a 
     }
 }
 
-/// The processes of the links, by the word for them: `q703` where there is none.
-fn text_of<'a>(word: Option<&'a str>) -> Option<Named<'a>>
-    ensures some { IfSome result (IsSetText (option_map (λ w. w.now) word.entry)) }
-    ensures none { IsNone result → option_map (λ w. w.now) word.entry ≡ Some (codes "stdin") }
+/// The set of the program's own that a word names; none where it names none.
+fn own_named<'a>(word: &str) -> Option<Named<'a>>
+    ensures some { IfSome result (λ set. IsOwnNamed set word.now) }
+    ensures none { IsNone result → NamesNone word.now }
 {
     match word {
-        Some(word) => text_named(word),
-        None => Some(Named::Q703),
+        "standard" => Some(Named::Standard),
+        "q703" => Some(Named::Q703),
+        "monitors" => Some(Named::Monitors),
+        _ => None,
+    }
+}
+
+/// The processes of the links, by the word for a set of the program's own or the one for a text: `q703` where there is neither, none where there are both.
+fn text_of<'a>(own: Option<&'a str>, text: Option<&'a str>) -> Option<Named<'a>>
+    ensures some { IfSome result (IsSetText (option_map (λ w. w.now) own.entry) (option_map (λ w. w.now) text.entry)) }
+    ensures none { IsNone result → IsNoSetText (option_map (λ w. w.now) own.entry) (option_map (λ w. w.now) text.entry) }
+{
+    match own {
+        Some(own) => match text {
+            Some(_) => None,
+            None => own_named(own),
+        },
+        None => match text {
+            Some(text) => text_named(text),
+            None => Some(Named::Q703),
+        },
     }
 }
 
@@ -70,7 +89,7 @@ pub(crate) fn tended<'a>(
     ensures all { IfOk result (λ o. IfSome o (AreAllAsked (rows_of (found_of given.now)))) }
     ensures none { IfOk result (λ o. IsNone o → IsNoSet (given_by given.now) (rows_of (found_of given.now))) }
 {
-    let Some(set) = text_of(given.get_str("text")) else {
+    let Some(set) = text_of(given.get_str("set"), given.get_str("text")) else {
         return Ok(None);
     };
     let Some(end) = end_of(given) else {
