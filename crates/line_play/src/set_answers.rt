@@ -59,11 +59,7 @@ fn obey_links(
 }
 
 /// Sends a message. Why not, if it isn't taken.
-fn send_message(
-    alloc: Global,
-    tender: &mut Tender,
-    msu: Msu,
-) -> Result<Option<Refused>, AllocError>
+fn send_message(alloc: Global, tender: &mut Tender, msu: Msu) -> Result<Option<Refused>, AllocError>
     ensures sent { IfOk result (λ r. IsNone r → Acts (msu ∷ []) [] tender.old tender.new) }
     ensures refused { IfOk result (λ r. IsSome r → IsUntaken msu tender.old tender.new) }
 {

@@ -138,8 +138,10 @@ fn asked_in<'a>(alloc: Global, words: &[&'a str]) -> Result<Option<SetOrder<'a>>
 pub(crate) fn is_set_report(alloc: Global, line: &str) -> Result<bool, AllocError> {
     let words = words_in(alloc, line)?;
     match words.as_slice() {
-        [millisecond, word, ..] => Ok(millisecond.parse::<u64>().is_ok()
-            && (count(word).is_some() || *word == "shared" || *word == "unsure")),
+        [millisecond, word, ..] => Ok(
+            millisecond.parse::<u64>().is_ok()
+                && (count(word).is_some() || *word == "shared" || *word == "unsure"),
+        ),
         _ => Ok(false),
     }
 }
@@ -149,13 +151,7 @@ fn sent_word<'a>(words: &[&'a str]) -> Option<&'a str>
     ensures { sent_by (texts words.now) ≡ option_and_then octets_of (option_map (λ w. w.now) result) }
 {
     match words {
-        [first, word] => {
-            if *first == "send" {
-                Some(*word)
-            } else {
-                None
-            }
-        }
+        [first, word] => { if *first == "send" { Some(*word) } else { None } }
         _ => None,
     }
 }
