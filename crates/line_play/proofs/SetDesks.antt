@@ -9,7 +9,7 @@ use Rattle.line_filter.specs.Reporting.{Stand}
 use Rattle.set_tending.specs.Tended.{Tended}
 use Rattle.line_play.proofs.SetRounds.{grows_none, grows_then, grows_last}
 use Rattle.line_play.specs.LineTraffic.{Traffic, Grows}
-use Rattle.line_play.specs.SetDesks.{AreNewWires, place_of, IsNewSetDesk, Ran, RanFrom}
+use Rattle.line_play.specs.SetDesks.{AreNewWires, place_of, IsNewSetDesk, some_round, Ran, RanFrom}
 use Rattle.line_play.specs.SetRounds.{Made, SetPlace, IsRound, Rounds, begins, round}
 use Rattle.line_play.specs.declared.set_desk.SetDesk.{SetDesk}
 
@@ -53,10 +53,32 @@ rounds_on ahead p q goes_on a b f g h is made none_given = record {
   gives = grows_last f g h made.traffic made.gives none_given;
 }
 
-pub has_run : (ahead : ℕ) (p q : SetPlace) (goes_on : Bool) (a b : Stand) (f g : Option (List Traffic)) → Made (λ bytes traffic. Rounds ahead p bytes traffic goes_on q) a b f g
-    → Made (λ bytes traffic. Ran ahead p bytes traffic q) a b f g
-has_run ahead p q goes_on a b f g made =
-    record { bytes = made.bytes; traffic = made.traffic; are = record { goes_on = goes_on; rounds = made.are }; tells = made.tells; gives = made.gives }
+-- one round more, by what was ahead then, and the run has ended
+pub has_run : (ahead now : ℕ) (p q r : SetPlace) (goes_on : Bool) (a b c : Stand) (f g h : Option (List Traffic)) → now ≡ ahead
+    → Made (λ bytes traffic. Rounds ahead p bytes traffic true q) a b f g → Made (λ bytes traffic. IsRound now q bytes traffic goes_on r) b c g h
+    → Made (λ bytes traffic. Ran ahead p bytes traffic r) a c f h
+has_run ahead now p q r goes_on a b c f g h same before more = record {
+  bytes = before.bytes ++ more.bytes;
+  traffic = before.traffic ++ more.traffic;
+  are = record {
+    goes_on = goes_on;
+    rounds = round more.bytes more.traffic goes_on before.are (subst (λ (n : ℕ). IsRound n q more.bytes more.traffic goes_on r) same more.are);
+    some = refl;
+  };
+  tells = tells_trans a b c before.bytes more.bytes before.tells more.tells;
+  gives = grows_then f g h before.traffic more.traffic before.gives more.gives;
+}
+
+-- behind it lines were asked whether they are over
+pub has_run_on : (ahead : ℕ) (p q : SetPlace) (a b : Stand) (f g h : Option (List Traffic)) → Made (λ bytes traffic. Ran ahead p bytes traffic q) a b f g → Grows g h []
+    → Made (λ bytes traffic. Ran ahead p bytes traffic q) a b f h
+has_run_on ahead p q a b f g h made none_given = record {
+  bytes = made.bytes;
+  traffic = made.traffic;
+  are = made.are;
+  tells = made.tells;
+  gives = grows_last f g h made.traffic made.gives none_given;
+}
 
 from_ok : {A E : Type 0} (r : Result A E) (P : Type 0) → is_ok r ≡ true → OnOk r P → P
 from_ok (Ok v) P is h = h

@@ -1,12 +1,12 @@
 -- A set on lines, with its orders and reports.
-use Rattle.std.specs.Prelude.{◌≡◌, ℕ, Bool, List, [], length, All, Option}
+use Rattle.std.specs.Prelude.{◌≡◌, ℕ, Bool, true, false, List, [], length, All, Option}
 use Rattle.line_filter.specs.Orders.{Timed}
 use Rattle.set_tending.specs.Tended.{Tended}
 use Rattle.set_tending.specs.Wires.{IsNewWire}
 use Rattle.set_tending.specs.declared.wire.Wire.{Wire}
 use Rattle.line_filter.specs.Reporting.{Stand}
 use Rattle.line_play.specs.LineTraffic.{Traffic}
-use Rattle.line_play.specs.SetRounds.{Made, SetPlace, Rounds, waiting_in}
+use Rattle.line_play.specs.SetRounds.{Made, SetPlace, Rounds, begins, round, waiting_in}
 use Rattle.line_play.specs.declared.set_desk.SetDesk.{SetDesk}
 
 -- a line for each link, on which nothing came or went
@@ -32,11 +32,19 @@ pub record IsNewSetDesk {O P : Type 0} (tender : Tended) (ahead : ℕ) (orders :
   pub orders_are : desk.orders ≡ orders
   pub reports_are : desk.reports ≡ reports
 
--- rounds were made, one behind another, and the last one ended the run or didn't
+-- whether a round was made
+abbrev pub some_round :
+    {ahead : ℕ} {p : SetPlace} {bytes : List ℕ} {traffic : List Traffic} {goes_on : Bool}
+    {q : SetPlace} → Rounds ahead p bytes traffic goes_on q → Bool
+some_round begins = false
+some_round (round more others goes_on before is) = true
+
+-- rounds were made, one at least, one behind another, and the last one ended the run or didn't
 pub record Ran (ahead : ℕ) (p : SetPlace) (bytes : List ℕ) (traffic : List Traffic) (q : SetPlace) :
     Type 0 where
   pub goes_on : Bool
   pub rounds : Rounds ahead p bytes traffic goes_on q
+  pub some : some_round rounds ≡ true
 
 -- A set ran from its first round on: nothing had come or gone, and no order waited. What was told,
 -- and what lines were given, is that of its rounds.

@@ -34,23 +34,23 @@ fn is_send(alloc: Global, text: &str) -> Result<bool, AllocError>
     }
 }
 
-/// Whether an order may overtake others that wait: it stops links, or says which links orders speak of.
-fn overtakes(order: &SetOrder<'_>) -> bool
+/// Whether an order may overtake others that wait: it stops links, and none that waits starts some, or it says which links orders speak of.
+fn overtakes(order: &SetOrder<'_>, starts: bool) -> bool
     ensures { result ≡ true → octets_sent order.now ≡ None }
 {
     match order {
-        SetOrder::Link(order) => *order == Order::Stop,
+        SetOrder::Link(order) => !starts && *order == Order::Stop,
         SetOrder::On(_) => true,
         _ => false,
     }
 }
 
-/// Whether a line may overtake orders that wait.
-fn may_overtake(alloc: Global, text: &str) -> Result<bool, AllocError>
+/// Whether a line may overtake the orders that wait.
+fn may_overtake(alloc: Global, queue: &Queue, text: &str) -> Result<bool, AllocError>
     ensures { IfOk result (λ first. first ≡ true → sent_by (words_of text.now) ≡ None) }
 {
     match set_order_in(alloc, text)? {
-        Some(order) => Ok(overtakes(&order)),
+        Some(order) => Ok(overtakes(&order, queue.has_start())),
         None => Ok(false),
     }
 }
@@ -139,7 +139,7 @@ fn take_order<P: Reports>(
     if !has_to_wait(alloc, state, queue, line)? {
         return state.obey(alloc, focus, line, reports);
     }
-    if may_overtake(alloc, line)? {
+    if may_overtake(alloc, queue, line)? {
         return state.obey(alloc, focus, line, reports);
     }
     if queue.put(focus, text) {

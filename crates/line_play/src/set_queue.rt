@@ -46,6 +46,16 @@ impl Queue {
         self.waiting.len() >= MOST_WAITING
     }
 
+    /// Whether one that starts links waits: a `stop` behind it may not go before it.
+    pub fn has_start(&self) -> bool {
+        for waiting in self.waiting.iter() {
+            if waiting.text.as_str().trim() == "start" {
+                return true;
+            }
+        }
+        false
+    }
+
     /// The first.
     pub fn first(&self) -> Option<&Waiting> {
         self.waiting.front()
