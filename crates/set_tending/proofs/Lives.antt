@@ -106,11 +106,11 @@ heeds_on t s _ sent handed told _ before (one {hs} {u} {v} {w} h earlier out beh
     let out_so : HandsOut h (with_more s u.set hs) mid = record { reports = out.reports; same = refl } in
     let more : List Msu = user_message s.plan h.report in
     let told_so : (s.messages ++ user_messages s.plan hs) ++ more ≡ s.messages ++ user_messages s.plan (hs ++ h ∷ []) =
-        append_assoc s.messages (user_messages s.plan hs) more ∙ ap (λ (ms : List Msu). s.messages ++ ms) (sym (user_more s.plan hs h)) in
+    append_assoc s.messages (user_messages s.plan hs) more ∙ ap (λ (ms : List Msu). s.messages ++ ms) (sym (user_more s.plan hs h)) in
     let step : Lives t sent ((handed ++ hs) ++ h ∷ []) told (record s { set = v.set; messages = (s.messages ++ user_messages s.plan hs) ++ more }) =
-        hands h mid so_far out_so in
+    hands h mid so_far out_so in
     let last : Lives t (sent ++ []) ((handed ++ hs) ++ h ∷ []) told (record s { set = w.set; messages = (s.messages ++ user_messages s.plan hs) ++ more }) =
-        calls [] w.set step behind in
+    calls [] w.set step behind in
     subst (λ (ms : List Msu). Lives t sent (handed ++ (hs ++ h ∷ [])) told (record s { set = w.set; messages = ms })) told_so
     (subst (λ (gone : List Handed). Lives t sent gone told (record s { set = w.set; messages = (s.messages ++ user_messages s.plan hs) ++ more }))
     (append_assoc handed hs (h ∷ []))

@@ -3,8 +3,8 @@ ghost use Rattle.std.specs.Prelude.{◌≡◌, [], IfOk, OnOk};
 ghost use Rattle.set_tending.specs.Rounds.{Adds};
 ghost use Rattle.set_tending.specs.Wires.{GivesNext, Speaks, HearsPart, Hears, SILENT as HEARD, Waits, Passes, IsNewWire};
 
-use line_filter::Voice;
 use crate::tender::{TendError, Tender};
+use line_filter::Voice;
 
 /// For so many rounds a line on which nothing comes isn't taken for silent.
 const PATIENCE: u64 = 1_000;
@@ -34,11 +34,7 @@ pub struct Wire {
 }
 
 /// Has a link hear the first of some octets, as many as find room, and heeds what it tells. What is left of them.
-fn hear_part<'a>(
-    tender: &mut Tender,
-    link: usize,
-    octets: &'a [u8],
-) -> Result<&'a [u8], TendError>
+fn hear_part<'a>(tender: &mut Tender, link: usize, octets: &'a [u8]) -> Result<&'a [u8], TendError>
     ensures { IfOk result (λ left. HearsPart link tender.old octets.now left.now tender.new) }
 {
     let taken = tender.line_in(link, octets);
@@ -193,7 +189,6 @@ impl Wire {
             Ok(Passed::Same)
         }
     }
-
 }
 
 /// A round of a line that isn't open: 1s are heard.
