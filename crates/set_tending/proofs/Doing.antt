@@ -1,6 +1,5 @@
 -- What the rules do, one thing behind another.
 use Rattle.std.proofs.Common.{◌≡◌, ◌∙◌, ℕ, Bool, length, List, [], ◌∷◌, ◌++◌, append-nil, append_assoc, refl, sym, ap, subst}
-use Rattle.std.specs.List.{flat_map}
 use Rattle.std.proofs.lemmas.Grind.{flat_map-append}
 use Rattle.resend_store.specs.declared.messages.Msu.{Msu}
 use Rattle.link_group.specs.Set.{LinkSet}

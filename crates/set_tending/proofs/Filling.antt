@@ -10,7 +10,6 @@ use Rattle.group_changeover.specs.Sharing.{selection_of, selection_by, link_of}
 use Rattle.group_changeover.specs.Bound.{is_bound}
 use Rattle.link_group.specs.group_members_types.link.Link.{Link}
 use Rattle.link_group.specs.Set.{LinkSet, points_of}
-use Rattle.link_group.specs.OneLink.{held}
 use Rattle.link_group.specs.Reading.{held_count, message_at}
 use Rattle.link_group.specs.Links.{read_at}
 use Rattle.set_tending.specs.Cares.{LAST}

@@ -3,13 +3,13 @@ use Rattle.std.proofs.Common.{◌≡◌, ◌∙◌, ℕ, List, [], ◌∷◌, �
 use Rattle.resend_store.specs.declared.messages.Msu.{Msu}
 use Rattle.link_group.specs.Set.{LinkSet}
 use Rattle.link_group.specs.Ticks.{after_ticks}
-use Rattle.line_filter.specs.Speaking.{Voice, Gives, fixed, fresh, silent}
+use Rattle.line_filter.specs.Speaking.{Voice, fixed, fresh, silent}
 use Rattle.set_tending.specs.Calling.{ByCalls}
 use Rattle.set_tending.specs.Lives.{Lives, begins, calls, hands, tells, ticks, Lived}
 use Rattle.set_tending.specs.Rounds.{Acts, Does, Adds, Handed, HandsOut, Heeds, nothing, one, user_messages, IsHeeded, AddsHeeded, Ticks}
 use Rattle.set_tending.specs.Telling.{user_message}
 use Rattle.set_tending.specs.Tended.{Tended}
-use Rattle.set_tending.specs.Wires.{Asks, GivesNext, Speaks, nothing as no_octet, octet, HearsPart, Hears, no_part, one_part}
+use Rattle.set_tending.specs.Wires.{GivesNext, Speaks, nothing as no_octet, octet, Hears, no_part, one_part}
 use Rattle.set_tending.specs.declared.tender.Plan.{Plan}
 use Rattle.set_tending.proofs.Calling.{by_none, by_then, by_is, by_gives, by_reports, by_ticks}
 use Rattle.set_tending.proofs.Doing.{adds_of, heeded_nothing, user_more}

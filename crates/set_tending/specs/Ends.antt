@@ -1,6 +1,6 @@
 -- The messages that a set sends of its own: changeover, changeback and traffic restart (Q.704, 15.4,
 -- 15.5, 15.16), and tests of a link (Q.707, 2.2).
-use Rattle.std.specs.Prelude.{◌≡◌, ℕ, ◌+◌, ◌*◌, ◌<◌, ◌^◌, List, [], ◌∷◌, ◌++◌, Some, drop, length}
+use Rattle.std.specs.Prelude.{◌≡◌, ℕ, ◌+◌, ◌*◌, ◌<◌, ◌^◌, List, [], ◌∷◌, ◌++◌, Some, drop}
 use Rattle.resend_store.specs.declared.messages.Msu.{Msu}
 use Rattle.group_changeover.specs.Labels.{label_in}
 use Rattle.set_tending.specs.declared.ends.Ends.{Ends}

@@ -1,5 +1,5 @@
 //! One line of a set.
-ghost use Rattle.std.specs.Prelude.{◌≡◌, [], IfOk, OnOk};
+ghost use Rattle.std.specs.Prelude.{◌≡◌, ◌++◌, ◌∷◌, [], IfOk, OnOk};
 ghost use Rattle.set_tending.specs.Rounds.{Adds};
 ghost use Rattle.set_tending.specs.Wires.{GivesNext, Speaks, HearsPart, Hears, SILENT as HEARD, Waits, Passes, IsNewWire};
 
@@ -67,6 +67,16 @@ fn hear(tender: &mut Tender, link: usize, octets: &[u8]) -> Result<(), TendError
     }
 }
 
+/// Puts an octet behind others.
+fn push_octet(out: &mut Vec<u8>, octet: u8) -> Result<(), TendError>
+    ensures { OnOk result (out.new.items ≡ out.old.items ++ octet ∷ []) }
+{
+    match out.push(octet) {
+        Ok(()) => Ok(()),
+        Err(_) => Err(TendError::NoMemory),
+    }
+}
+
 impl Wire {
     /// Nothing came, nothing went out.
     pub fn new() -> Wire
@@ -123,9 +133,7 @@ impl Wire {
     {
         for _octet in 0..count {
             let octet = self.next(tender, link)?;
-            if out.push(octet).is_err() {
-                return Err(TendError::NoMemory);
-            }
+            push_octet(out, octet)?;
         }
         Ok(())
     }
@@ -150,9 +158,7 @@ impl Wire {
             return Ok(Passed::Same);
         }
         for _octet in 0..ahead {
-            if out.push(SILENCE).is_err() {
-                return Err(TendError::NoMemory);
-            }
+            push_octet(out, SILENCE)?;
         }
         if self.quiet == PATIENCE {
             Ok(Passed::Silent)
@@ -179,11 +185,11 @@ impl Wire {
         if came.is_empty() {
             return self.wait(tender, link, ahead, out);
         }
-        let was = self.quiet >= PATIENCE;
+        let quiet = self.quiet;
         self.quiet = 0;
         hear(tender, link, came)?;
         self.speak(tender, link, came.len(), out)?;
-        if was {
+        if quiet >= PATIENCE {
             Ok(Passed::Back)
         } else {
             Ok(Passed::Same)
