@@ -17,7 +17,7 @@ use mtp2_words::{Named, SetEnd};
 use plain_text::{Errors, FAILED, HELD, NamedReader, Teller};
 use script_check::SetWord;
 use std::fs::{self, File};
-use std::io::{self, Read};
+use std::io::{self, ErrorKind, Read};
 use std::rt::Files;
 use std::thread;
 use std::thread::Threads;
@@ -65,7 +65,7 @@ fn go_round<H: Clock + AllocGlobal, L: Lines, O: Orders, P: Reports>(
             return Ok(());
         }
     }
-    Ok(())
+    Err(io::Error::from(ErrorKind::Other))
 }
 
 /// Where a capture goes that is asked for, with its header. What can't be opened is told by its name, and the exit status is given.
