@@ -67,6 +67,13 @@ pub adds_rebalance : {A : Type 0} (t : Tended) (d : LinkSet) (r : Result A Rebal
 adds_rebalance t d (Ok v) fault ok err = adds_is t d (rebalanced t.set) ok (by_rebalances t.set (sym fault))
 adds_rebalance t d (Err e) fault ok err = adds_is t d t.set err (by_none t.set)
 
+pub rebalanced_so : (t : Tended) (d : LinkSet) → d ≡ rebalanced t.set → record t { set = d } ≡ record t { set = rebalanced t.set }
+rebalanced_so t d is = ap (λ (x : LinkSet). record t { set = x }) is
+
+pub on_ok_so : {A E P : Type 0} (r : Result A E) → P → OnOk r P
+on_ok_so (Ok v) p = p
+on_ok_so (Err e) p = tt
+
 pub adds_command : {A : Type 0} (t : Tended) (d : LinkSet) (l : ℕ) (command : _) (r : Result A CommandError)
     → OnOk r (ByCommand command l t.set d) → IfErr r (IsCommandError command l t.set d) → Adds t (record t { set = d })
 adds_command t d l command (Ok v) ok err = adds_call t d (by_commands t.set d l command ok)
