@@ -40,7 +40,7 @@ class Terminal(Link):
         self.messages, self.statuses, self.names = [], [], set()
         self.deliver, self.behind_odd, self.spare, self.left = True, False, 0, False
         self.serves = self.came = self.served = self.anew = self.failed = self.far_out = False
-        self.admitted = True
+        self.admitted, self.is_to_clear, self.hand = True, False, []
         self.changing, self.told, self.answered, self.waited, self.out = False, None, False, 0, False
         self.had_one, self.since = False, None
         self.points = 1, 2
@@ -50,6 +50,9 @@ class Terminal(Link):
 
     def rebase(self):
         pass
+
+    def offer(self, actor, signal, *values):
+        """It has no processes that could be told."""
 
     def carries(self):
         return self.phase == "in" and not (self.is_held or self.own_out or self.far_out or self.paused)
@@ -184,7 +187,7 @@ class Tender:
 
     def __init__(self, links, own, peer, tested, tell):
         self.set, self.tested, self.tell, self.now = Group([Terminal() for _ in range(links)], own, peer), tested, tell, 0
-        self.cares, self.hands = [Care() for _ in range(links)], {}
+        self.cares = [Care() for _ in range(links)]
         self.sharing, self.blocked, self.open, self.restarts, self.unsure = ("rests", 0), 0, False, False, 0
         self.heard = []
         if tested:
@@ -317,18 +320,15 @@ class Tender:
         if not link.out and not care.serves:
             why = link.why_not()
             if why is None:
-                self.hands[at] = self.set.retrieve(at)
-                care.handed = len(self.hands[at])
+                care.handed = self.set.retrieve(at)
             elif why.startswith("K4") and (link.answered or not self.may_wait(at, link, care)):
                 self.unsure += link.unknown()
                 self.tell(f"{at} unsure {link.unknown()}")
-                self.hands[at] = self.set.abandon(at)
-                care.handed = len(self.hands[at])
-        if at in self.hands:
+                care.handed = self.set.abandon(at)
+        if link.out:
             try:
-                self.set.divert(at, self.hands[at])
+                self.set.divert(at)
                 self.tell(f"{at} diverted {care.handed}")
-                del self.hands[at]
             except Refused:
                 pass
 
