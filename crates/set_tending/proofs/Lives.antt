@@ -6,13 +6,13 @@ use Rattle.link_group.specs.Ticks.{after_ticks}
 use Rattle.line_filter.specs.Speaking.{Voice, fixed, fresh, silent}
 use Rattle.set_tending.specs.Calling.{ByCalls}
 use Rattle.set_tending.specs.Lives.{Lives, begins, calls, hands, tells, ticks, Lived}
-use Rattle.set_tending.specs.Rounds.{Acts, Does, Adds, Handed, HandsOut, Heeds, nothing, one, user_messages, IsHeeded, AddsHeeded, Ticks}
+use Rattle.set_tending.specs.Rounds.{Acts, Does, Adds, Handed, HandsOut, Heeds, nothing, one, user_messages, IsHeeded, AddsHeeded, Tends, Ticks}
 use Rattle.set_tending.specs.Telling.{user_message}
 use Rattle.set_tending.specs.Tended.{Tended}
 use Rattle.set_tending.specs.Wires.{GivesNext, Speaks, nothing as no_octet, octet, Hears, no_part, one_part}
 use Rattle.set_tending.specs.declared.tender.Plan.{Plan}
 use Rattle.set_tending.proofs.Calling.{by_none, by_then, by_is, by_gives, by_reports, by_ticks}
-use Rattle.set_tending.proofs.Doing.{adds_of, heeded_nothing, user_more}
+use Rattle.set_tending.proofs.Doing.{adds_of, heeded_nothing, user_more, tends_heeded}
 
 -- ---- all that becomes of the set is by its calls
 
@@ -127,6 +127,9 @@ lived_heeds t u w sent told before adds =
     let h : IsHeeded u w = adds u (heeded_nothing u) in
     subst (λ (x : Tended). Lived t sent told x) (sym (heeded_is u w h.handed h.plan h.ticks h.messages))
     (record { handed = before.handed ++ h.handed; lives = heeds_on t u w sent before.handed told h.handed before.lives h.heeds })
+
+pub lived_tends : (t u w : Tended) (sent told : List Msu) → Lived t sent told u → Tends u w → Lived t sent told w
+lived_tends t u w sent told before tends = lived_heeds t u w sent told before (tends_heeded u w tends)
 
 -- ---- lines
 
