@@ -15,8 +15,9 @@ use Rattle.set_tending.specs.Wires.{Hears, Passes, SILENT}
 use Rattle.set_tending.specs.declared.wire.Passed.{Passed}
 use Rattle.set_tending.specs.declared.wire.Passed.TheVariants.{Same, Silent, Back}
 use Rattle.set_tending.specs.declared.wire.Wire.{Wire}
-use Rattle.line_play.specs.LineTraffic.{Traffic, Grows, some_of, given, front_of, octets_in, arrived, silence_for}
+use Rattle.line_play.specs.LineTraffic.{Traffic, octets_go, line_says, Grows, coming, given, front_of, arrived, silence_for}
 use Rattle.line_play.specs.declared.set_lines.Came.{Came}
+use Rattle.line_play.specs.declared.set_lines.Came.TheVariants as line
 use Rattle.line_play.specs.SetObeying.{Obeys, SendsNone, sent_by}
 use Rattle.line_play.specs.SetRounds.{Made, line_told, passed_told, PassesOn, Carries, passes, misses, ends, fails, opens, CarriesAt, CarriesAll, no_link, one_link, TellsAll, ObeysWaiting, rests, obeys, TakesOrder, at_once, behind, report, Attends, waited, comes, AttendsAll, none_due, full, quits, MOST_WAITING, SetPlace, IsRound}
 
@@ -44,7 +45,7 @@ grows_last f g h xs more none_given = subst (λ (ys : List Traffic). Grows f h y
 
 -- octets that are given are some
 pub given_some : (link : ℕ) (octets : List ℕ) (f g : Option (List Traffic)) → (octets ≡ [] → ⊥)
-    → Grows f g (record { link = link; came = false; octets = octets } ∷ []) → Grows f g (given link octets)
+    → Grows f g (octets_go link octets ∷ []) → Grows f g (given link octets)
 given_some link [] f g some gives = absurd (some refl)
 given_some link (octet ∷ octets) f g some gives = gives
 
@@ -109,59 +110,78 @@ passed_told_so r link ahead t u w x came out passed as_told a b f g is made give
     })
     line
 
+-- what a line said, by what that is
+pub said_so : (link : ℕ) (part : List ℕ) (said as_said : Came) (f g : Option (List Traffic)) → said ≡ as_said → Grows f g (arrived link part said)
+    → Grows f g (arrived link part as_said)
+said_so link part said as_said f g is arrives = subst (λ (s : Came). Grows f g (arrived link part s)) is arrives
+
 -- behind what came of the line
-pub passed_on : {A E : Type 0} (r : Result A E) (link ahead : ℕ) (t u : Tended) (w x : Wire) (part came : List ℕ) (said : Came) (a b : Stand)
-    (f g h : Option (List Traffic)) → Grows f g (arrived link part said) → octets_in part said ≡ came
+pub passed_on : {A E : Type 0} (r : Result A E) (link ahead : ℕ) (t u : Tended) (w x : Wire) (part came : List ℕ) (count : ℕ) (said : Came) (a b : Stand)
+    (f g h : Option (List Traffic)) → Grows f g (arrived link part said) → said ≡ line.Octets count → came ≡ front_of count part
     → OnOk r (Made (λ bytes traffic. PassesOn link ahead came t w bytes traffic u x) a b g h)
     → OnOk r (Made (λ bytes traffic. Carries link ahead t w bytes traffic u x) a b f h)
-passed_on r link ahead t u w x part came said a b f g h arrives is made =
-    let so : Grows f g (some_of true link came) = subst (λ (xs : List ℕ). Grows f g (some_of true link xs)) is arrives in
+passed_on r link ahead t u w x part came count said a b f g h arrives is came_is made =
+    let so : Grows f g (coming link came) =
+    subst (λ (xs : List ℕ). Grows f g (coming link xs)) (sym came_is) (said_so link part said (line.Octets count) f g is arrives) in
     on_ok_weaker r
     (λ (m : Made (λ bytes traffic. PassesOn link ahead came t w bytes traffic u x) a b g h). record {
       bytes = m.bytes;
-      traffic = some_of true link came ++ m.traffic;
+      traffic = coming link came ++ m.traffic;
       are = passes came m.are;
       tells = m.tells;
-      gives = grows_then f g h (some_of true link came) m.traffic so m.gives;
+      gives = grows_then f g h (coming link came) m.traffic so m.gives;
     })
     made
 
--- a line that isn't open gives nothing
-pub none_arrived : (link : ℕ) (part : List ℕ) (said : Came) (f g : Option (List Traffic)) → octets_in part said ≡ [] → Grows f g (arrived link part said) → Grows f g []
-none_arrived link part said f g is arrives = subst (λ (xs : List ℕ). Grows f g (some_of true link xs)) is arrives
-
-pub missed : {A E : Type 0} (r : Result A E) (link ahead : ℕ) (t u : Tended) (w : Wire) (a : Stand) (f g : Option (List Traffic)) → Grows f g []
-    → OnOk r (Hears link t SILENT u) → OnOk r (Made (λ bytes traffic. Carries link ahead t w bytes traffic u w) a a f g)
-missed r link ahead t u w a f g gives hears =
-    on_ok_weaker r (λ (h : Hears link t SILENT u). record { bytes = []; traffic = []; are = misses h; tells = tells_none a; gives = gives }) hears
-
-pub line_ended : {A E : Type 0} (r : Result A E) (link ahead : ℕ) (t : Tended) (w : Wire) (a b : Stand) (f g : Option (List Traffic)) → Grows f g []
-    → OnOk r (TellsLines a b (line_told t.ticks link (codes "ended"))) → OnOk r (Made (λ bytes traffic. Carries link ahead t w bytes traffic t w) a b f g)
-line_ended r link ahead t w a b f g gives line =
+-- it isn't open
+pub missed : {A E : Type 0} (r : Result A E) (link ahead : ℕ) (t u : Tended) (w : Wire) (a : Stand) (f g : Option (List Traffic))
+    → Grows f g (line_says link line.Closed ∷ []) → OnOk r (Hears link t SILENT u)
+    → OnOk r (Made (λ bytes traffic. Carries link ahead t w bytes traffic u w) a a f g)
+missed r link ahead t u w a f g says hears =
     on_ok_weaker r
-    (λ (l : TellsLines a b (line_told t.ticks link (codes "ended"))). record { bytes = line_told t.ticks link (codes "ended"); traffic = []; are = ends; tells = l; gives = gives })
-    line
+    (λ (h : Hears link t SILENT u). record { bytes = []; traffic = line_says link line.Closed ∷ []; are = misses h; tells = tells_none a; gives = says }) hears
 
-pub line_failed : {A E : Type 0} (r : Result A E) (link ahead : ℕ) (t : Tended) (w : Wire) (a b : Stand) (f g : Option (List Traffic)) → Grows f g []
-    → OnOk r (TellsLines a b (line_told t.ticks link (codes "failed"))) → OnOk r (Made (λ bytes traffic. Carries link ahead t w bytes traffic t w) a b f g)
-line_failed r link ahead t w a b f g gives line =
+pub line_ended : {A E : Type 0} (r : Result A E) (link ahead : ℕ) (t : Tended) (w : Wire) (a b : Stand) (f g : Option (List Traffic))
+    → Grows f g (line_says link line.Ended ∷ []) → OnOk r (TellsLines a b (line_told t.ticks link (codes "ended")))
+    → OnOk r (Made (λ bytes traffic. Carries link ahead t w bytes traffic t w) a b f g)
+line_ended r link ahead t w a b f g says told_so =
     on_ok_weaker r
-    (λ (l : TellsLines a b (line_told t.ticks link (codes "failed"))). record { bytes = line_told t.ticks link (codes "failed"); traffic = []; are = fails; tells = l; gives = gives })
-    line
+    (λ (l : TellsLines a b (line_told t.ticks link (codes "ended"))). record {
+      bytes = line_told t.ticks link (codes "ended");
+      traffic = line_says link line.Ended ∷ [];
+      are = ends;
+      tells = l;
+      gives = says;
+    })
+    told_so
 
-pub line_opened : {A E : Type 0} (r : Result A E) (link ahead : ℕ) (t : Tended) (w : Wire) (a b : Stand) (f g h : Option (List Traffic)) → Grows f g []
-    → Grows g h (replicate ahead (silence_for link)) → OnOk r (TellsLines a b (line_told t.ticks link (codes "open")))
-    → OnOk r (Made (λ bytes traffic. Carries link ahead t w bytes traffic t w) a b f h)
-line_opened r link ahead t w a b f g h none_given gives line =
+pub line_failed : {A E : Type 0} (r : Result A E) (link ahead : ℕ) (t : Tended) (w : Wire) (a b : Stand) (f g : Option (List Traffic))
+    → Grows f g (line_says link line.Failed ∷ []) → OnOk r (TellsLines a b (line_told t.ticks link (codes "failed")))
+    → OnOk r (Made (λ bytes traffic. Carries link ahead t w bytes traffic t w) a b f g)
+line_failed r link ahead t w a b f g says told_so =
+    on_ok_weaker r
+    (λ (l : TellsLines a b (line_told t.ticks link (codes "failed"))). record {
+      bytes = line_told t.ticks link (codes "failed");
+      traffic = line_says link line.Failed ∷ [];
+      are = fails;
+      tells = l;
+      gives = says;
+    })
+    told_so
+
+pub line_opened : {A E : Type 0} (r : Result A E) (link ahead : ℕ) (t : Tended) (w : Wire) (a b : Stand) (f g h : Option (List Traffic))
+    → Grows f g (line_says link line.Opened ∷ []) → Grows g h (replicate ahead (silence_for link))
+    → OnOk r (TellsLines a b (line_told t.ticks link (codes "open"))) → OnOk r (Made (λ bytes traffic. Carries link ahead t w bytes traffic t w) a b f h)
+line_opened r link ahead t w a b f g h says gives told_so =
     on_ok_weaker r
     (λ (l : TellsLines a b (line_told t.ticks link (codes "open"))). record {
       bytes = line_told t.ticks link (codes "open");
-      traffic = replicate ahead (silence_for link);
+      traffic = line_says link line.Opened ∷ replicate ahead (silence_for link);
       are = opens;
       tells = l;
-      gives = grows_same f g h (replicate ahead (silence_for link)) none_given gives;
+      gives = grows_then f g h (line_says link line.Opened ∷ []) (replicate ahead (silence_for link)) says gives;
     })
-    line
+    told_so
 
 -- ---- all lines
 

@@ -17,7 +17,8 @@ use Rattle.set_tending.specs.declared.wire.Passed.TheVariants.{Same, Silent, Bac
 use Rattle.set_tending.specs.declared.wire.Wire.{Wire}
 use Rattle.line_play.specs.declared.set_queue.Queue.{Queue}
 use Rattle.line_play.specs.SetObeying.{Obeys, SendsNone, sent_by}
-use Rattle.line_play.specs.LineTraffic.{Traffic, Grows, some_of, given, silence_for}
+use Rattle.line_play.specs.LineTraffic.{Traffic, line_says, Grows, coming, given, silence_for}
+use Rattle.line_play.specs.declared.set_lines.Came.TheVariants as line
 
 -- Bytes were told, octets came of lines and were given to them, of all of which R speaks.
 pub record Made (R : List ℕ → List Traffic → Type 0) (old new : Stand)
@@ -48,18 +49,22 @@ pub record PassesOn (link ahead : ℕ) (came : List ℕ) (t : Tended) (w : Wire)
   pub tells : bytes ≡ passed_told u.ticks link passed
   pub gives : traffic ≡ given link out
 
--- A round of a line. It is open: what came is heard, and what goes out goes on. Or it isn't: 1s are
--- heard. Or it ended, failed, or was opened, which is told; as many octets of 1s go ahead then.
+-- A round of a line. It is open: what came is heard, and what goes out goes on. Or it says that it
+-- isn't: 1s are heard. Or it says that it ended, failed, or was opened, which is told; as many octets
+-- of 1s go ahead then.
 pub data Carries (link ahead : ℕ) (t : Tended) (w : Wire) :
     List ℕ → List Traffic → Tended → Wire → Type 0 where
   passes : {bytes : List ℕ} {traffic : List Traffic} {u : Tended} {x : Wire} (came : List ℕ)
       → PassesOn link ahead came t w bytes traffic u x
-      → Carries link ahead t w bytes (some_of true link came ++ traffic) u x
-  misses : {u : Tended} → Hears link t SILENT u → Carries link ahead t w [] [] u w
-  ends : Carries link ahead t w (line_told t.ticks link (codes "ended")) [] t w
-  fails : Carries link ahead t w (line_told t.ticks link (codes "failed")) [] t w
+      → Carries link ahead t w bytes (coming link came ++ traffic) u x
+  misses : {u : Tended} → Hears link t SILENT u
+      → Carries link ahead t w [] (line_says link line.Closed ∷ []) u w
+  ends : Carries link ahead t w (line_told t.ticks link (codes "ended"))
+      (line_says link line.Ended ∷ []) t w
+  fails : Carries link ahead t w (line_told t.ticks link (codes "failed"))
+      (line_says link line.Failed ∷ []) t w
   opens : Carries link ahead t w (line_told t.ticks link (codes "open"))
-      (replicate ahead (silence_for link)) t w
+      (line_says link line.Opened ∷ replicate ahead (silence_for link)) t w
 
 -- the line at a place
 pub record CarriesAt (link ahead : ℕ) (t : Tended) (ws : List Wire)

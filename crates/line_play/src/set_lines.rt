@@ -1,6 +1,6 @@
 //! What gives octets of lines and takes them.
-ghost use Rattle.std.specs.Prelude.{List, [], ◌∷◌, false, Option};
-ghost use Rattle.line_play.specs.LineTraffic.{Traffic, Grows, arrived};
+ghost use Rattle.std.specs.Prelude.{List, [], ◌∷◌, Option};
+ghost use Rattle.line_play.specs.LineTraffic.{Traffic, octets_go, Grows, arrived};
 
 use std::io;
 
@@ -21,7 +21,7 @@ pub enum Came {
 
 /// The lines of a set.
 pub trait Lines {
-    // the octets that came of lines and were given to them, in their order, where that is known
+    // the octets that came of lines and were given to them, and what lines said, in their order, where that is known
     ghost traffic: { Self → Option (List Traffic) };
 
     /// A round begins, at this millisecond.
@@ -34,7 +34,7 @@ pub trait Lines {
 
     /// Octets go out on a line. They are lost where it isn't open.
     fn give(&mut self, link: usize, octets: &[u8])
-        ensures { Grows (traffic self.old) (traffic self.new) (record { link = link; came = false; octets = octets.now } ∷ []) };
+        ensures { Grows (traffic self.old) (traffic self.new) (octets_go link octets.now ∷ []) };
 
     /// Whether a run ends, since no line could be opened for long: with the line that failed, where one did.
     fn are_over(&mut self) -> io::Result<bool>
