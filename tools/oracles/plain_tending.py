@@ -291,8 +291,8 @@ class Tender:
         return message in self.set.links[at].held()
 
     def least(self, about, other=None):
-        able = [(len(it.held()), at) for at, it in enumerate(self.set.links) if at != about and it.is_able() and not it.has_outage()]
-        return min(able)[1] if able else other
+        able = [(not it.admitted, len(it.held()), at) for at, it in enumerate(self.set.links) if at != about and it.is_able() and not it.has_outage()]
+        return min(able)[2] if able else other
 
     def tend(self):
         self.heed()

@@ -1,7 +1,8 @@
 -- What the words of a command line ask for, by the ids under which they stand in its matches, and
 -- why they ask for nothing.
 use Rattle.std.specs.Prelude.{◌≡◌, ◌⊎◌, ℕ, Bool, true, false, List, Option, Some, None, IsSomeAnd}
-use Rattle.std.specs.Prelude.{option_map, option_and_then, codes, map, length, Bor}
+use Rattle.std.specs.Prelude.{option_map, option_and_then, codes, map, length}
+use Rattle.std.specs.Borrow.{Bor}
 use Rattle.std.specs.List.{AllZip}
 use Rattle.clap.specs.Words.{Row, Text, all_of, first_of, first_value, found_of}
 use Rattle.clap.specs.declared.parser.matches.ArgMatches.{ArgMatches}

@@ -1,5 +1,5 @@
 -- What words say of one end of a set of links.
-use Rattle.std.specs.Prelude.{◌≡◌, ◌⊎◌, ℕ, ◌&&◌, nat_le, nat_lt, not, Bool, if◌then◌else◌, List}
+use Rattle.std.specs.Prelude.{◌≡◌, ◌==◌, ◌⊎◌, ℕ, ◌&&◌, nat_le, nat_lt, not, Bool, false, if◌then◌else◌, List}
 use Rattle.std.specs.Prelude.{Option, Some, None, option_map, option_and_then}
 use Rattle.script_links.specs.Numbers.{count_of}
 use Rattle.script_links.specs.Orders.{mode_named}
@@ -33,6 +33,7 @@ pub record IsSetEndOf (words : SetWords) (end : SetEnd) : Type 0 where
   pub mode_is : mode_named words.mode.now ≡ Some end.mode
   pub own_is : point_named words.own.now ≡ Some end.own
   pub peer_is : point_named words.peer.now ≡ Some end.peer
+  pub apart : (end.own == end.peer) ≡ false
   pub network_is : network_of (option_map (λ w. w.now) words.network) ≡ Some end.network
   pub bits_are : bits_of (option_map (λ w. w.now) words.bits) ≡ Some end.bits
   pub ahead_is : set_ahead_of (option_map (λ w. w.now) words.ahead) ≡ Some end.ahead
@@ -41,11 +42,12 @@ pub record IsSetEndOf (words : SetWords) (end : SetEnd) : Type 0 where
   pub capture_is : option_map (λ w. w.now) end.capture ≡ option_map (λ w. w.now) words.capture
   pub tests_are : end.tests ≡ not words.no_test
 
--- one of them says nothing
+-- one of them says nothing, or two say the same point
 abbrev pub IsNoSetEnd : SetWords → Type 0
 IsNoSetEnd words =
     (mode_named words.mode.now ≡ None) ⊎ (point_named words.own.now ≡ None)
     ⊎ (point_named words.peer.now ≡ None)
+    ⊎ (point_named words.own.now ≡ point_named words.peer.now)
     ⊎ (network_of (option_map (λ w. w.now) words.network) ≡ None)
     ⊎ (bits_of (option_map (λ w. w.now) words.bits) ≡ None)
     ⊎ (set_ahead_of (option_map (λ w. w.now) words.ahead) ≡ None)

@@ -36,7 +36,7 @@ pub(crate) fn complaint_of(matches: &ArgMatches<'_>) -> &'static str {
             "MODE is basic or cyclic, --bits low or high, --ahead a number up to 8000; --n1, 1 to 127, and --n2, 300 to 8192, are for cyclic; standard input is the line, so it can't be --text"
         }
         "set" => {
-            "MODE is basic or cyclic, --link stands 1 to 16 times, --own and --peer are numbers below 16384, --network below 4, --bits is low or high, --ahead a number up to 8000; --set is standard, q703 or monitors, and not had beside --text, which can't be standard input"
+            "MODE is basic or cyclic, --link stands 1 to 16 times, --own and --peer are two different numbers below 16384, --network below 4, --bits is low or high, --ahead a number up to 8000; --set is standard, q703 or monitors, and not had beside --text, which can't be standard input"
         }
         "draw" => "--states is for a PROCESS",
         "text" => "SET is standard, q703 or monitors",

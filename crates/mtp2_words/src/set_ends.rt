@@ -22,7 +22,7 @@ pub struct SetEnd<'a> {
     pub mode: Mode,
     /// The code of this point, below 16,384.
     pub own: u16,
-    /// That of the other.
+    /// That of the other, which isn't the same.
     pub peer: u16,
     /// The network indicator, 0 to 3.
     pub network: u8,
@@ -105,7 +105,7 @@ pub(crate) fn are_few(lines: &[&str]) -> bool
     1 <= lines.len() && lines.len() <= MOST_LINKS
 }
 
-/// The end of a set of links that words say; none where one of them says nothing.
+/// The end of a set of links that words say; none where one of them says nothing, or both points are one.
 pub fn set_end<'a>(words: &SetWords<'a>) -> Option<SetEnd<'a>>
     ensures some { IfSome result (IsSetEndOf words.now) }
     ensures none { IsNone result → IsNoSetEnd words.now }
@@ -113,6 +113,9 @@ pub fn set_end<'a>(words: &SetWords<'a>) -> Option<SetEnd<'a>>
     let mode = mode_named(words.mode)?;
     let own = point_named(words.own)?;
     let peer = point_named(words.peer)?;
+    if own == peer {
+        return None;
+    }
     let network = network_of(words.network)?;
     let bits = bits_of(words.bits)?;
     let ahead = set_ahead_of(words.ahead)?;

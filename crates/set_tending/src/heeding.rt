@@ -217,7 +217,7 @@ impl Tender {
     }
 
     /// Whether a link is admitted, or isn't there.
-    fn is_admitted(&self, link: usize) -> bool {
+    pub(crate) fn is_admitted(&self, link: usize) -> bool {
         match self.state(link) {
             Some(state) => state.admitted,
             None => true,
