@@ -40,7 +40,7 @@ class Terminal(Link):
         self.messages, self.statuses, self.names = [], [], set()
         self.deliver, self.behind_odd, self.spare, self.left = True, False, 0, False
         self.serves = self.came = self.served = self.anew = self.failed = self.far_out = False
-        self.admitted = True
+        self.admitted, self.is_to_clear, self.hand = True, False, []
         self.changing, self.told, self.answered, self.waited, self.out = False, None, False, 0, False
         self.had_one, self.since = False, None
         self.points = 1, 2
@@ -50,6 +50,9 @@ class Terminal(Link):
 
     def rebase(self):
         pass
+
+    def offer(self, actor, signal, *values):
+        """It has no processes that could be told."""
 
     def carries(self):
         return self.phase == "in" and not (self.is_held or self.own_out or self.far_out or self.paused)
@@ -184,8 +187,8 @@ class Tender:
 
     def __init__(self, links, own, peer, tested, tell):
         self.set, self.tested, self.tell, self.now = Group([Terminal() for _ in range(links)], own, peer), tested, tell, 0
-        self.cares, self.hands = [Care() for _ in range(links)], {}
-        self.sharing, self.open, self.restarts, self.unsure = ("rests", 0), False, False, 0
+        self.cares = [Care() for _ in range(links)]
+        self.sharing, self.blocked, self.open, self.restarts, self.unsure = ("rests", 0), 0, False, False, 0
         self.heard = []
         if tested:
             for at in range(links):
@@ -288,8 +291,8 @@ class Tender:
         return message in self.set.links[at].held()
 
     def least(self, about, other=None):
-        able = [(len(it.held()), at) for at, it in enumerate(self.set.links) if at != about and it.is_able() and not it.has_outage()]
-        return min(able)[1] if able else other
+        able = [(not it.admitted, len(it.held()), at) for at, it in enumerate(self.set.links) if at != about and it.is_able() and not it.has_outage()]
+        return min(able)[2] if able else other
 
     def tend(self):
         self.heed()
@@ -317,18 +320,15 @@ class Tender:
         if not link.out and not care.serves:
             why = link.why_not()
             if why is None:
-                self.hands[at] = self.set.retrieve(at)
-                care.handed = len(self.hands[at])
+                care.handed = self.set.retrieve(at)
             elif why.startswith("K4") and (link.answered or not self.may_wait(at, link, care)):
                 self.unsure += link.unknown()
                 self.tell(f"{at} unsure {link.unknown()}")
-                self.hands[at] = self.set.abandon(at)
-                care.handed = len(self.hands[at])
-        if at in self.hands:
+                care.handed = self.set.abandon(at)
+        if link.out:
             try:
-                self.set.divert(at, self.hands[at])
+                self.set.divert(at)
                 self.tell(f"{at} diverted {care.handed}")
-                del self.hands[at]
             except Refused:
                 pass
 
@@ -403,28 +403,33 @@ class Tender:
         wanted = [self.set.pick(able, selection) for selection in range(16)]
         even = wanted == self.set.table and not any(self.set.links[at].failed for at in able)
         if not able or even or any(it.changing for it in self.set.links):
-            if self.sharing[0] != "rests":
-                self.sharing = ("rests", 0)
+            self.settle()
             return
         try:
             self.set.rebalance()
-            self.sharing = ("rests", 0) if self.sharing[0] != "rests" else self.sharing
+            self.settle()
             self.tell("shared " + " ".join(map(str, self.set.table)))
         except Refused:
             self.drain(wanted)
 
+    def settle(self):
+        self.blocked = 0
+        if self.sharing[0] != "rests":
+            self.sharing = ("rests", 0)
+
     def drain(self, wanted):
         way = [at for at, it in enumerate(self.set.links)
                if any(self.set.table[s] == at and wanted[s] != at and it.holds(s) for s in range(16))]
+        out = [at for at in way if self.set.links[at].has_outage()]
+        self.blocked = self.blocked + 1 if out else 0
         state, when = self.sharing
-        if all(self.set.links[at].has_outage() for at in way):
-            if state != "blocked":
-                self.sharing = ("blocked", self.now + DRAIN)
-            elif self.now >= when and any(it.carries() and it.admitted for at, it in enumerate(self.set.links) if at not in way):
-                self.sharing = ("rests", 0)
-                for at in way:
-                    if not self.set.links[at].changing:
-                        self.begin(at)
+        if self.blocked > DRAIN and any(it.carries() and it.admitted for at, it in enumerate(self.set.links) if at not in out):
+            self.blocked, self.sharing = 0, ("rests", 0)
+            for at in out:
+                if not self.set.links[at].changing:
+                    self.begin(at)
+        elif len(out) == len(way):
+            self.sharing = ("blocked", 0)
         elif state == "rests" and self.now < when or state == "drains" and self.now < when:
             pass
         elif state == "drains":

@@ -1,5 +1,5 @@
 -- Octets that are filled up, and units that fill some.
-use Rattle.std.proofs.Common.{◌≡◌, ℕ, ◌+◌, ◌-◌, ◌*◌, ◌%◌, ◌^◌, ◌<◌, ◌≤◌, zero, suc, Bool, true, false, List, [], ◌∷◌, ◌++◌, length, inl, inr, refl, sym, ap, ◌∙◌, subst, append_assoc, append-nil, arith, drop, drop_of_length-le}
+use Rattle.std.proofs.Common.{◌≡◌, ℕ, ◌+◌, ◌-◌, ◌*◌, ◌%◌, ◌^◌, ◌<◌, ◌≤◌, zero, suc, Bool, true, false, List, [], ◌∷◌, ◌++◌, length, inl, inr, refl, sym, ap, ◌∙◌, subst, append_assoc, append-nil, arith, drop}
 use Rattle.std.specs.Prelude.{◌⊎◌, ◌&&◌, replicate, slice_index_or}
 use Rattle.std.proofs.lemmas.List.{length-append}
 use Rattle.su_octets.specs.Bits.{low_bits, bits_of}
@@ -167,6 +167,3 @@ fills_of old new octet bits len few rest filled anew = record {
       ∙ ap (λ (bs : List Bool). bs ++ replicate (8 - len) true) (rest given sent gave)));
   anew = anew;
 }
-
-pub all_gone : (xs : List ℕ) (n len : ℕ) → len ≡ length xs → len ≤ n → drop n xs ≡ []
-all_gone xs n len is over = drop_of_length-le xs (let e : length xs ≤ n = omega (arith, is, over) in e)

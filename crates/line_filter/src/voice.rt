@@ -90,6 +90,17 @@ impl Voice {
         None
     }
 
+    /// The octet that goes out next where no unit is under way: the terminal is asked for one.
+    fn ask<T: LineTerminal>(&mut self, terminal: &mut T) -> io::Result<u8>
+        requires { self.old.ready ≡ [] }
+        ensures { IfOk result (λ octet. Gives T.acts terminal.old self.old octet terminal.new self.new) }
+    {
+        match terminal.unit_out()? {
+            Some(unit) => Ok(self.begin(&unit)),
+            None => Ok(self.fall_silent()),
+        }
+    }
+
     /// The octet that goes out next. The terminal is asked for a unit only where none is under way.
     ///
     /// # Errors
@@ -98,14 +109,9 @@ impl Voice {
     pub fn next<T: LineTerminal>(&mut self, terminal: &mut T) -> io::Result<u8>
         ensures { IfOk result (λ octet. Gives T.acts terminal.old self.old octet terminal.new self.new) }
     {
-        if self.gone < self.ready.len() {
-            let octet = self.ready[self.gone];
-            self.gone += 1;
-            return Ok(octet);
-        }
-        match terminal.unit_out()? {
-            Some(unit) => Ok(self.begin(&unit)),
-            None => Ok(self.fall_silent()),
+        match self.rest() {
+            Some(octet) => Ok(octet),
+            None => self.ask(terminal),
         }
     }
 }

@@ -1,5 +1,7 @@
 -- What a call of the set, however it ends, does to a set that tends itself.
-use Rattle.std.proofs.Common.{◌≡◌, ◌∙◌, ℕ, ◌<◌, Bool, true, if◌then◌else◌, List, [], ◌∷◌, ◌++◌, append-nil, Option, None, Some, Result, Ok, Err, is_ok, OnOk, OnErr, IfOk, IfErr, IfSome, refl, sym, ap, subst}
+use Rattle.std.proofs.Common.{◌≡◌, ◌∙◌, ℕ, ◌<◌, ◌≤◌, Bool, true, false, if◌then◌else◌, List, [], ◌∷◌, ◌++◌, append-nil, length, Option, None, Some, is_some, Result, Ok, Err, is_ok, OnOk, OnErr, IfOk, IfErr, IfSome, refl, sym, ap, subst, arith}
+use Rattle.std.specs.Prelude.{◌↔◌}
+use Rattle.std.proofs.lemmas.Bool.{true≢false}
 use Rattle.std.proofs.lemmas.Grind.{flat_map-append}
 use Rattle.resend_store.specs.declared.messages.Msu.{Msu}
 use Rattle.su_octets.specs.declared.units.Unit.{Unit}
@@ -10,6 +12,8 @@ use Rattle.group_changeover.specs.Bound.{is_bound}
 use Rattle.group_changeover.specs.declared.errors.AbandonError.{AbandonError}
 use Rattle.group_changeover.specs.declared.errors.BindError.{BindError}
 use Rattle.group_changeover.specs.declared.errors.FailError.{FailError}
+use Rattle.group_changeover.specs.declared.errors.LinkError.{LinkError}
+use Rattle.group_changeover.specs.declared.errors.LinkError.TheVariants.{NoLink}
 use Rattle.group_changeover.specs.declared.errors.RebalanceError.{RebalanceError}
 use Rattle.group_changeover.specs.declared.errors.RetrieveError.{RetrieveError}
 use Rattle.link_group.specs.OneLink.{fault_of, retrieve_refusal, abandon_refusal}
@@ -23,7 +27,7 @@ use Rattle.link_group.specs.Lines.{ByLink, ByCommand, after_admission, IsCommand
 use Rattle.set_tending.specs.Telling.{message_in, messages_in}
 use Rattle.set_tending.specs.Calling.{ByCalls}
 use Rattle.set_tending.specs.Tended.{Tended}
-use Rattle.set_tending.specs.Rounds.{Acts, Adds, HandsOut}
+use Rattle.set_tending.specs.Rounds.{Acts, Adds, HandsOut, HasTold}
 use Rattle.set_tending.specs.declared.told.Told.{Told}
 use Rattle.set_tending.specs.declared.told.Told.TheVariants.{Message}
 use Rattle.set_tending.specs.declared.tender.Plan.{Plan}
@@ -63,6 +67,13 @@ pub adds_rebalance : {A : Type 0} (t : Tended) (d : LinkSet) (r : Result A Rebal
 adds_rebalance t d (Ok v) fault ok err = adds_is t d (rebalanced t.set) ok (by_rebalances t.set (sym fault))
 adds_rebalance t d (Err e) fault ok err = adds_is t d t.set err (by_none t.set)
 
+pub rebalanced_so : (t : Tended) (d : LinkSet) → d ≡ rebalanced t.set → record t { set = d } ≡ record t { set = rebalanced t.set }
+rebalanced_so t d is = ap (λ (x : LinkSet). record t { set = x }) is
+
+pub on_ok_so : {A E P : Type 0} (r : Result A E) → P → OnOk r P
+on_ok_so (Ok v) p = p
+on_ok_so (Err e) p = tt
+
 pub adds_command : {A : Type 0} (t : Tended) (d : LinkSet) (l : ℕ) (command : _) (r : Result A CommandError)
     → OnOk r (ByCommand command l t.set d) → IfErr r (IsCommandError command l t.set d) → Adds t (record t { set = d })
 adds_command t d l command (Ok v) ok err = adds_call t d (by_commands t.set d l command ok)
@@ -87,6 +98,18 @@ hands_out t d l (Some report) did = record { reports = did; same = refl }
 
 pub adds_report : (t : Tended) (d : LinkSet) (l : ℕ) (o : Option Report) → ByLink (Reported o) l t.set d → Adds t (record t { set = d })
 adds_report t d l o did = adds_call t d (by_reports t.set d l o did)
+
+pub has_told : (c : LinkSet) (t : Tended) (l : ℕ) (o : Option Report) → is_some o ≡ false → ByLink (Reported o) l c t.set → HasTold l t
+has_told c t l None none_there did = record { before = c; none_left = did }
+has_told c t l (Some report) none_there did = absurd (true≢false none_there)
+
+-- nothing is asked of a link that isn't there
+pub not_there : {A P : Type 0} (r : Result A LinkError) (e : LinkError) (c d : LinkSet) (l : ℕ) → r ≡ Err e
+    → ((r ≡ Err NoLink) ↔ (length c.links ≤ l)) → d ≡ c → l < length d.links → P
+not_there r NoLink c d l is fault same there =
+    let past : length c.links ≤ l = fault.0 is in
+    let links_are : length d.links ≡ length c.links = ap (λ (x : LinkSet). length x.links) same in
+    absurd (omega arith)
 
 -- ---- messages
 

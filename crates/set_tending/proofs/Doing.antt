@@ -1,13 +1,12 @@
 -- What the rules do, one thing behind another.
-use Rattle.std.proofs.Common.{◌≡◌, ◌∙◌, ℕ, Bool, length, List, [], ◌∷◌, ◌++◌, append-nil, append_assoc, refl, sym, ap, subst}
-use Rattle.std.specs.List.{flat_map}
+use Rattle.std.proofs.Common.{◌≡◌, ◌∙◌, ℕ, ◌≤◌, Bool, length, List, [], ◌∷◌, ◌++◌, append-nil, append_assoc, refl, sym, ap, subst, arith}
 use Rattle.std.proofs.lemmas.Grind.{flat_map-append}
 use Rattle.resend_store.specs.declared.messages.Msu.{Msu}
 use Rattle.link_group.specs.Set.{LinkSet}
 use Rattle.set_tending.specs.Calling.{ByCalls}
 use Rattle.set_tending.specs.Telling.{user_message}
 use Rattle.set_tending.specs.Tended.{Tended, IsNewTended}
-use Rattle.set_tending.specs.Rounds.{Acts, Does, Adds, Handed, HandsOut, Heeds, nothing, one, user_messages, IsHeeded, AddsHeeded}
+use Rattle.set_tending.specs.Rounds.{Acts, Does, Adds, Handed, HandsOut, Heeds, nothing, one, user_messages, IsHeeded, AddsHeeded, HeedsEach, no_link, one_link, Tends}
 use Rattle.set_tending.specs.declared.ends.Ends.{Ends}
 use Rattle.set_tending.specs.declared.tender.Plan.{Plan}
 use Rattle.set_tending.proofs.Calling.{by_none, by_both, by_is}
@@ -112,3 +111,26 @@ heeded_one s t u w h before out acts =
           ∙ (ap (λ (p : Plan). s.messages ++ (user_messages s.plan before.handed ++ user_message p h.report)) plan_is
           ∙ ap (λ (ms : List Msu). s.messages ++ ms) (sym (user_more s.plan before.handed h)))));
     }
+
+-- ---- all links
+
+-- as many as there are
+pub each_all : (t u : Tended) (count gone : ℕ) → HeedsEach t gone u → gone ≤ count → count ≤ gone → HeedsEach t count u
+each_all t u count gone heeds most least =
+    let whole : gone ≡ count = omega arith in
+    subst (λ (n : ℕ). HeedsEach t n u) whole heeds
+
+each_heeded : (t u : Tended) (count : ℕ) → HeedsEach t count u → AddsHeeded t u
+each_heeded t _ _ no_link = λ first h. h
+each_heeded t _ _ (one_link {count} {u} {w} before adds told) = λ first h. adds first (each_heeded t u count before first h)
+
+pub tends_heeded : (t u : Tended) → Tends t u → AddsHeeded t u
+tends_heeded t u tends = λ first h. adds_heeded_then first tends.heeded u (each_heeded t tends.heeded t.plan.links tends.heeds first h) tends.adds
+
+-- the links were heeded, and the rules did what they do in four steps
+pub tends_in_steps : (t heeded u v w x : Tended) → HeedsEach t t.plan.links heeded → Adds heeded u → Adds u v → Adds v w → Adds w x → Tends t x
+tends_in_steps t heeded u v w x heeds first second third last = record {
+  heeded = heeded;
+  heeds = heeds;
+  adds = λ start d. last start (third start (second start (first start d)));
+}

@@ -10,7 +10,6 @@ use Rattle.group_changeover.specs.Sharing.{selection_of, selection_by, link_of}
 use Rattle.group_changeover.specs.Bound.{is_bound}
 use Rattle.link_group.specs.group_members_types.link.Link.{Link}
 use Rattle.link_group.specs.Set.{LinkSet, points_of}
-use Rattle.link_group.specs.OneLink.{held}
 use Rattle.link_group.specs.Reading.{held_count, message_at}
 use Rattle.link_group.specs.Links.{read_at}
 use Rattle.set_tending.specs.Cares.{LAST}
@@ -64,8 +63,8 @@ full_by k count octets is octets_is =
     let count_is : count ≡ length (held_by k) = is ∙ held_there k in
     let whole : take (length (held_by k)) (held_by k) ≡ held_by k = take_all (length (held_by k)) (held_by k) (omega arith) in
     let octets_at : octets ≡ min LAST (octets_in (held_by k)) =
-        octets_is
-        ∙ (ap (λ (n : ℕ). min LAST (octets_in (take n (held_by k)))) count_is ∙ ap (λ (ms : List Msu). min LAST (octets_in ms)) whole) in
+    octets_is
+    ∙ (ap (λ (n : ℕ). min LAST (octets_in (take n (held_by k)))) count_is ∙ ap (λ (ms : List Msu). min LAST (octets_in ms)) whole) in
     ap (λ (n : ℕ). nat_le MOST_HELD n || nat_le MOST_OCTETS octets) count_is
     ∙ (ap (λ (n : ℕ). nat_le MOST_HELD (length (held_by k)) || nat_le MOST_OCTETS n) octets_at
     ∙ ap (λ (b : Bool). nat_le MOST_HELD (length (held_by k)) || b) (capped_reaches (octets_in (held_by k))))

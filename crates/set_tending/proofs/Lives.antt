@@ -3,16 +3,16 @@ use Rattle.std.proofs.Common.{◌≡◌, ◌∙◌, ℕ, List, [], ◌∷◌, �
 use Rattle.resend_store.specs.declared.messages.Msu.{Msu}
 use Rattle.link_group.specs.Set.{LinkSet}
 use Rattle.link_group.specs.Ticks.{after_ticks}
-use Rattle.line_filter.specs.Speaking.{Voice, Gives, fixed, fresh, silent}
+use Rattle.line_filter.specs.Speaking.{Voice, fixed, fresh, silent}
 use Rattle.set_tending.specs.Calling.{ByCalls}
 use Rattle.set_tending.specs.Lives.{Lives, begins, calls, hands, tells, ticks, Lived}
-use Rattle.set_tending.specs.Rounds.{Acts, Does, Adds, Handed, HandsOut, Heeds, nothing, one, user_messages, IsHeeded, AddsHeeded, Ticks}
+use Rattle.set_tending.specs.Rounds.{Acts, Does, Adds, Handed, HandsOut, Heeds, nothing, one, user_messages, IsHeeded, AddsHeeded, Tends, Ticks}
 use Rattle.set_tending.specs.Telling.{user_message}
 use Rattle.set_tending.specs.Tended.{Tended}
-use Rattle.set_tending.specs.Wires.{Asks, GivesNext, Speaks, nothing as no_octet, octet, HearsPart, Hears, no_part, one_part}
+use Rattle.set_tending.specs.Wires.{GivesNext, Speaks, nothing as no_octet, octet, Hears, no_part, one_part}
 use Rattle.set_tending.specs.declared.tender.Plan.{Plan}
 use Rattle.set_tending.proofs.Calling.{by_none, by_then, by_is, by_gives, by_reports, by_ticks}
-use Rattle.set_tending.proofs.Doing.{adds_of, heeded_nothing, user_more}
+use Rattle.set_tending.proofs.Doing.{adds_of, heeded_nothing, user_more, tends_heeded}
 
 -- ---- all that becomes of the set is by its calls
 
@@ -106,11 +106,11 @@ heeds_on t s _ sent handed told _ before (one {hs} {u} {v} {w} h earlier out beh
     let out_so : HandsOut h (with_more s u.set hs) mid = record { reports = out.reports; same = refl } in
     let more : List Msu = user_message s.plan h.report in
     let told_so : (s.messages ++ user_messages s.plan hs) ++ more ≡ s.messages ++ user_messages s.plan (hs ++ h ∷ []) =
-        append_assoc s.messages (user_messages s.plan hs) more ∙ ap (λ (ms : List Msu). s.messages ++ ms) (sym (user_more s.plan hs h)) in
+    append_assoc s.messages (user_messages s.plan hs) more ∙ ap (λ (ms : List Msu). s.messages ++ ms) (sym (user_more s.plan hs h)) in
     let step : Lives t sent ((handed ++ hs) ++ h ∷ []) told (record s { set = v.set; messages = (s.messages ++ user_messages s.plan hs) ++ more }) =
-        hands h mid so_far out_so in
+    hands h mid so_far out_so in
     let last : Lives t (sent ++ []) ((handed ++ hs) ++ h ∷ []) told (record s { set = w.set; messages = (s.messages ++ user_messages s.plan hs) ++ more }) =
-        calls [] w.set step behind in
+    calls [] w.set step behind in
     subst (λ (ms : List Msu). Lives t sent (handed ++ (hs ++ h ∷ [])) told (record s { set = w.set; messages = ms })) told_so
     (subst (λ (gone : List Handed). Lives t sent gone told (record s { set = w.set; messages = (s.messages ++ user_messages s.plan hs) ++ more }))
     (append_assoc handed hs (h ∷ []))
@@ -127,6 +127,9 @@ lived_heeds t u w sent told before adds =
     let h : IsHeeded u w = adds u (heeded_nothing u) in
     subst (λ (x : Tended). Lived t sent told x) (sym (heeded_is u w h.handed h.plan h.ticks h.messages))
     (record { handed = before.handed ++ h.handed; lives = heeds_on t u w sent before.handed told h.handed before.lives h.heeds })
+
+pub lived_tends : (t u w : Tended) (sent told : List Msu) → Lived t sent told u → Tends u w → Lived t sent told w
+lived_tends t u w sent told before tends = lived_heeds t u w sent told before (tends_heeded u w tends)
 
 -- ---- lines
 

@@ -1,5 +1,5 @@
 -- Messages that came and aren't told.
-use Rattle.std.proofs.Common.{◌≡◌, ◌∙◌, ℕ, ◌<◌, nat_le, Bool, false, if◌then◌else◌, List, [], ◌∷◌, sym, ap, arith}
+use Rattle.std.proofs.Common.{◌≡◌, ◌∙◌, ℕ, ◌<◌, nat_le, Bool, false, if◌then◌else◌, [], ◌∷◌, sym, ap, arith}
 use Rattle.std.proofs.lemmas.Bool.Decides.{nat_tests}
 use Rattle.resend_store.specs.declared.messages.Msu.{Msu}
 use Rattle.set_tending.specs.Came.{came}

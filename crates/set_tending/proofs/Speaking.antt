@@ -1,6 +1,7 @@
 -- Octets that come in and go out on the line of a link, and a round of it.
-use Rattle.std.proofs.Common.{◌≡◌, ◌∙◌, ℕ, ◌+◌, ◌%◌, ◌<◌, ◌≤◌, ◌==◌, ◌&&◌, nat_le, Bool, true, false, if◌then◌else◌, List, [], ◌∷◌, ◌++◌, append-nil, append_assoc, take-append-drop, length, take, drop, replicate, Result, Ok, Err, IfOk, OnOk, refl, sym, ap, subst, arith}
+use Rattle.std.proofs.Common.{◌≡◌, ◌∙◌, ℕ, ◌+◌, ◌%◌, ◌<◌, ◌≤◌, ◌==◌, ◌&&◌, nat_le, Bool, true, false, if◌then◌else◌, List, [], ◌∷◌, ◌++◌, append-nil, append_assoc, take-append-drop, length, take, replicate, Result, Ok, Err, IfOk, refl, sym, ap, subst, arith}
 use Rattle.std.proofs.lemmas.Bool.Decides.{nat_tests}
+use Rattle.std.proofs.lemmas.List.{replicate_more}
 use Rattle.line_filter.specs.Speaking.{Voice}
 use Rattle.set_tending.specs.Tended.{Tended}
 use Rattle.set_tending.specs.Wires.{Speaks, nothing, octet, GivesNext, HearsPart, Hears, no_part, one_part, PATIENCE, SILENCE, SILENT, rounds_on, ahead_at, heard_at, passed_by, passed_on, Waits, Passes, some, none}
@@ -10,6 +11,13 @@ use Rattle.set_tending.specs.declared.wire.Wire.{Wire}
 
 pub speaks_nothing : (link : ℕ) (t : Tended) (v : Voice) (out : List ℕ) → Speaks link 0 t v out t v out
 speaks_nothing link t v out = nothing t v out
+
+-- as many as were to go out
+pub speaks_all : (link count gone : ℕ) (t u : Tended) (v x : Voice) (out after : List ℕ) → Speaks link gone t v out u x after → gone ≤ count → count ≤ gone
+    → Speaks link count t v out u x after
+speaks_all link count gone t u v x out after speaks most least =
+    let whole : gone ≡ count = omega arith in
+    subst (λ (n : ℕ). Speaks link n t v out u x after) whole speaks
 
 -- one octet more
 pub speaks_more : (link count : ℕ) (t u w : Tended) (v x y : Voice) (out after last : List ℕ) (gives : ℕ)
@@ -49,7 +57,34 @@ passed_silent q is =
     let e : (q == PATIENCE) ≡ true = grind (arith, nat_tests) in
     sym (ap (λ (b : Bool). if b then Silent else Same) e)
 
+-- 1s that go out
+pub silent_none : (out : List ℕ) → out ≡ out ++ replicate 0 SILENCE
+silent_none out = sym (append-nil out)
+
+pub silent_more : (out before after : List ℕ) (gone : ℕ) → before ≡ out ++ replicate gone SILENCE → after ≡ before ++ SILENCE ∷ []
+    → after ≡ out ++ replicate (gone + 1) SILENCE
+silent_more out before after gone is pushed =
+    pushed
+    ∙ (ap (λ (xs : List ℕ). xs ++ SILENCE ∷ []) is
+    ∙ (append_assoc out (replicate gone SILENCE) (SILENCE ∷ []) ∙ ap (λ (xs : List ℕ). out ++ xs) (replicate_more gone SILENCE)))
+
+pub silent_all : (out after : List ℕ) (ahead gone : ℕ) → after ≡ out ++ replicate gone SILENCE → gone ≤ ahead → ahead ≤ gone
+    → after ≡ out ++ replicate ahead SILENCE
+silent_all out after ahead gone is most least =
+    let whole : gone ≡ ahead = omega arith in
+    is ∙ ap (λ (n : ℕ). out ++ replicate n SILENCE) whole
+
 -- ---- what is heard
+
+none_in : (octets : List ℕ) → length octets ≡ 0 → octets ≡ []
+none_in [] none_there = refl
+none_in (x ∷ octets) none_there = absurd (omega (arith, none_there))
+
+pub is_none : (octets : List ℕ) (b : Bool) → b ≡ (length octets == 0) → b ≡ true → octets ≡ []
+is_none octets b is shown = none_in octets (grind (arith, nat_tests))
+
+pub is_some_there : (octets : List ℕ) (b : Bool) → b ≡ (length octets == 0) → b ≡ false → 0 < length octets
+is_some_there octets b is denied = grind (arith, nat_tests)
 
 -- so much of some octets was heard, and the rest wasn't yet
 pub record HeardSoFar (link : ℕ) (t : Tended) (octets rest : List ℕ) (u : Tended) : Type 0 where

@@ -54,7 +54,8 @@ content_in indicator link content =
 abbrev pub came_by : Ends → Msu → Option Label → Came
 came_by e m None = Message
 came_by e m (Some label) =
-    if comes_between e label then content_in (m.sio % 16) label.sls (drop 4 m.sif.items) else Message
+    if comes_between e label then content_in (m.sio % 16) label.sls (drop 4 m.sif.items)
+    else Message
 
 -- What is none of these, and what isn't between these points, is for level 3.
 unfoldable pub came : Ends → Msu → Came

@@ -1,5 +1,5 @@
 -- What is kept of each link, and how it changes.
-use Rattle.std.specs.Prelude.{ℕ, ◌+◌, ◌-◌, ◌^◌, ◌%◌, ◌&&◌, ◌||◌, nat_lt, nat_le, not, Bool, true, false}
+use Rattle.std.specs.Prelude.{ℕ, ◌+◌, ◌-◌, ◌^◌, ◌%◌, ◌&&◌, ◌||◌, nat_le, not, Bool, true, false}
 use Rattle.std.specs.Prelude.{if◌then◌else◌, min, max, Option, Some, None}
 use Rattle.std.specs.Prelude.{is_some, is_none}
 use Rattle.group_changeover.specs.Saying.{is_order as is_kind_order}

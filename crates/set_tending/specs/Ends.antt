@@ -1,6 +1,6 @@
--- The messages that a set sends of its own: changeover, changeback and traffic restart (Q.704, 15.4,
--- 15.5, 15.16), and tests of a link (Q.707, 2.2).
-use Rattle.std.specs.Prelude.{◌≡◌, ℕ, ◌+◌, ◌*◌, ◌<◌, ◌^◌, List, [], ◌∷◌, ◌++◌, Some, drop, length}
+-- The messages that a set sends of its own: changeover, changeback and traffic restart (Q.704,
+-- 15.4, 15.5, 15.16), and tests of a link (Q.707, 2.2).
+use Rattle.std.specs.Prelude.{◌≡◌, ℕ, ◌+◌, ◌*◌, ◌<◌, ◌^◌, List, [], ◌∷◌, ◌++◌, Some, drop}
 use Rattle.resend_store.specs.declared.messages.Msu.{Msu}
 use Rattle.group_changeover.specs.Labels.{label_in}
 use Rattle.set_tending.specs.declared.ends.Ends.{Ends}
@@ -26,8 +26,8 @@ abbrev pub TESTING : ℕ
 TESTING = 1
 
 -- behind the label, in decimal: changeback acknowledgement 97 and the code that came, traffic
--- restart allowed 23, a test 17 with four octets, whose number stands in the upper half of an octet,
--- and the answer to a test 33, with what stood behind the test's heading
+-- restart allowed 23, a test 17 with four octets, whose number stands in the upper half of an
+-- octet, and the answer to a test 33, with what stood behind the test's heading
 abbrev pub back_declared : ℕ → List ℕ
 back_declared code = 97 ∷ code ∷ []
 

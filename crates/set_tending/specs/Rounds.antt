@@ -1,10 +1,12 @@
 -- What the calls of a set that tends itself do. All that becomes of the set is by its calls.
-use Rattle.std.specs.Prelude.{◌≡◌, ℕ, ◌+◌, ◌^◌, ◌-◌, min, List, [], ◌∷◌, ◌++◌, Some}
+use Rattle.std.specs.Prelude.{◌≡◌, ℕ, ◌+◌, ◌^◌, ◌-◌, ◌<◌, min, List, [], ◌∷◌, ◌++◌, length}
+use Rattle.std.specs.Prelude.{None, Some}
 use Rattle.std.specs.List.{flat_map}
 use Rattle.resend_store.specs.declared.messages.Msu.{Msu}
 use Rattle.link_transceiver.specs.declared.signals.Report.{Report}
 use Rattle.link_group.specs.Doing.{Reported}
 use Rattle.link_group.specs.Lines.{ByLink}
+use Rattle.link_group.specs.Set.{LinkSet}
 use Rattle.link_group.specs.Ticks.{after_ticks}
 use Rattle.set_tending.specs.Calling.{ByCalls}
 use Rattle.set_tending.specs.Telling.{user_message}
@@ -63,6 +65,27 @@ pub record IsHeeded (old new : Tended) : Type 0 where
 
 abbrev pub AddsHeeded : Tended → Tended → Type 0
 AddsHeeded old new = (first : Tended) → IsHeeded first old → IsHeeded first new
+
+-- Asked for a report behind all that it handed out, a link had none.
+pub record HasTold (link : ℕ) (t : Tended) : Type 0 where
+  pub before : LinkSet
+  pub none_left : ByLink (Reported None) link before t.set
+
+-- where it is there
+abbrev pub ToldAll : ℕ → Tended → Type 0
+ToldAll link t = link < length t.set.links → HasTold link t
+
+-- So many links are heeded one after another from the first, each until it has nothing to tell.
+pub data HeedsEach (t : Tended) : ℕ → Tended → Type 0 where
+  no_link : HeedsEach t 0 t
+  one_link : {count : ℕ} {u w : Tended}
+      → HeedsEach t count u → AddsHeeded u w → ToldAll count w → HeedsEach t (count + 1) w
+
+-- All links are heeded, and then the rules do what they do by calls of the set.
+pub record Tends (old new : Tended) : Type 0 where
+  pub heeded : Tended
+  pub heeds : HeedsEach old old.plan.links heeded
+  pub adds : Adds heeded new
 
 -- ---- a tick
 

@@ -1,5 +1,5 @@
 -- What comes in and what goes out on the line of a link of a set.
-use Rattle.std.specs.Prelude.{◌≡◌, ℕ, ◌+◌, ◌-◌, ◌^◌, ◌%◌, ◌<◌, ◌==◌, ◌&&◌, nat_le, min, zero, suc}
+use Rattle.std.specs.Prelude.{◌≡◌, ℕ, ◌+◌, ◌-◌, ◌^◌, ◌%◌, ◌<◌, ◌==◌, ◌&&◌, nat_le, min}
 use Rattle.std.specs.Prelude.{if◌then◌else◌, List, [], ◌∷◌, ◌++◌, length, replicate, take, drop}
 use Rattle.std.specs.Prelude.{Option}
 use Rattle.su_octets.specs.declared.units.Unit as units

@@ -1,5 +1,8 @@
 //! What is done to the set: each is a call of it, or none.
 ghost use Rattle.std.specs.Prelude.{◌≡◌, ◌∷◌, [], OnOk, OnErr};
+ghost use Rattle.link_group.specs.Lines.{ByCommand};
+ghost use Rattle.link_group.specs.OneLink.{fault_of};
+ghost use Rattle.link_group.specs.Placing.{rebalance_fault, rebalanced};
 ghost use Rattle.set_tending.specs.Rounds.{Adds, Acts};
 
 use crate::tender::{TendError, Tender};
@@ -65,7 +68,8 @@ impl Tender {
 
     /// Gives a command to a link, as [`link_group::Group::command`].
     fn order(&mut self, link: usize, command: Command) -> Result<(), CommandError>
-        ensures { Adds self.old self.new }
+        ensures adds { Adds self.old self.new }
+        ensures ok { OnOk result (ByCommand command link self.old.set self.new.set) }
     {
         match self.set.command(link, command) {
             Ok(()) => Ok(()),
@@ -75,7 +79,8 @@ impl Tender {
 
     /// The same. What a link's buffers are emptied of by it is told as unsure.
     pub(crate) fn give(&mut self, link: usize, command: Command) -> Result<(), CommandError>
-        ensures { Adds self.old self.new }
+        ensures adds { Adds self.old self.new }
+        ensures ok { OnOk result (ByCommand command link self.old.set self.new.set) }
     {
         let before = self.set.unsure();
         self.order(link, command)?;
@@ -148,6 +153,8 @@ impl Tender {
     /// The same. Nothing changes then.
     pub fn rebalance(&mut self) -> Result<(), RebalanceError>
         ensures adds { Adds self.old self.new }
+        ensures fault { fault_of result ≡ rebalance_fault self.old.set }
+        ensures ok { OnOk result (self.new ≡ record self.old { set = rebalanced self.old.set }) }
         ensures err { OnErr result (self.new ≡ self.old) }
     {
         match self.set.rebalance() {

@@ -43,8 +43,8 @@ impl Tender {
         };
         self.wait_on(link);
         if !self.set.hand(link).is_some() && !self.care(link).serves {
-            let is_over =
-                state.answer == Some(Answer::Unknown) || !self.is_waited_for(link, waited);
+            let is_over = state.answer == Some(Answer::Unknown)
+                || !self.is_waited_for(link, waited);
             self.hand_out(link, is_over)?;
         }
         self.divert_all(link)

@@ -1,7 +1,7 @@
 //! What links tell.
 ghost use Rattle.std.specs.Prelude.{◌≡◌, [], OnOk, IfSome, IsNone};
 ghost use Rattle.link_transceiver.specs.declared.signals.Report.TheVariants.{Message};
-ghost use Rattle.set_tending.specs.Rounds.{Acts, Adds, AddsHeeded, HandsOut};
+ghost use Rattle.set_tending.specs.Rounds.{Acts, Adds, AddsHeeded, HandsOut, HeedsEach, ToldAll};
 ghost use Rattle.set_tending.specs.Telling.{user_message};
 
 use crate::came::Came;
@@ -17,7 +17,7 @@ const BETWEEN_TESTS: u64 = 60_000;
 impl Tender {
     /// Takes all that each link has to tell.
     pub(crate) fn heed_all(&mut self) -> Result<(), TendError>
-        ensures { OnOk result (AddsHeeded self.old self.new) }
+        ensures { OnOk result (HeedsEach self.old self.old.plan.links self.new) }
     {
         for link in 0..self.len() {
             self.heed_link(link)?;
@@ -26,8 +26,13 @@ impl Tender {
     }
 
     /// Takes all that a link has to tell.
+    ///
+    /// # Errors
+    ///
+    /// Where there is no memory, or after 2^64 - 1 reports.
     pub fn heed_link(&mut self, link: usize) -> Result<(), TendError>
-        ensures { OnOk result (AddsHeeded self.old self.new) }
+        ensures adds { OnOk result (AddsHeeded self.old self.new) }
+        ensures told { OnOk result (ToldAll link self.new) }
     {
         for _report in 0..u64::MAX {
             match self.next_report(link) {
@@ -35,13 +40,14 @@ impl Tender {
                 None => return Ok(()),
             }
         }
-        Ok(())
+        Err(TendError::NoMemory)
     }
 
     /// What a link has to tell next.
     fn next_report(&mut self, link: usize) -> Option<Report>
         ensures some { IfSome result (λ report. HandsOut (record { link = link; report = report }) self.old self.new) }
         ensures none { IsNone result → Adds self.old self.new }
+        ensures told { IsNone result → ToldAll link self.new }
     {
         match self.set.report(link) {
             Ok(report) => report,
@@ -211,7 +217,7 @@ impl Tender {
     }
 
     /// Whether a link is admitted, or isn't there.
-    fn is_admitted(&self, link: usize) -> bool {
+    pub(crate) fn is_admitted(&self, link: usize) -> bool {
         match self.state(link) {
             Some(state) => state.admitted,
             None => true,

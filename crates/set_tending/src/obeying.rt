@@ -1,7 +1,9 @@
 //! Orders.
-ghost use Rattle.std.specs.Prelude.{◌≡◌, ◌∷◌, [], Some, OnOk, OnErr, min, take, slice_get};
+ghost use Rattle.std.specs.Prelude.{◌≡◌, ◌≤◌, ◌∷◌, [], true, false, Some, Err, OnOk, OnErr, min, take, slice_get};
 ghost use Rattle.group_changeover.specs.Labels.{label_in};
 ghost use Rattle.group_changeover.specs.Sharing.{link_of};
+ghost use Rattle.link_group.specs.Commanding.{is_start};
+ghost use Rattle.link_group.specs.Lines.{ByCommand};
 ghost use Rattle.link_group.specs.OneLink.{fault_of};
 ghost use Rattle.link_group.specs.Reading.{message_at};
 ghost use Rattle.set_tending.specs.Cares.{LAST};
@@ -18,6 +20,25 @@ const MOST_HELD: usize = 256;
 
 /// So many octets that it holds do, 450 ms of a line: an order of changeover and its answer stand behind them.
 const MOST_OCTETS: usize = 3_000;
+
+fn is_start(command: Command) -> bool
+    ensures { result ≡ is_start command }
+{
+    match command {
+        Command::Start => true,
+        Command::PowerOn
+        | Command::Stop
+        | Command::Emergency
+        | Command::Calm
+        | Command::Outage
+        | Command::Back
+        | Command::Busy
+        | Command::Free
+        | Command::Flush
+        | Command::Continue
+        | Command::Overload => false,
+    }
+}
 
 impl Tender {
     /// How many octets a message that a link holds has.
@@ -95,24 +116,36 @@ impl Tender {
         }
     }
 
+    /// Gives a command to a link, and keeps what follows of it.
+    fn carry_out(&mut self, link: usize, command: Command) -> Result<(), CommandError>
+        ensures adds { Adds self.old self.new }
+        ensures ok { OnOk result (ByCommand command link self.old.set self.new.set) }
+    {
+        self.give(link, command)?;
+        self.keep(link, self.care(link).obeyed(command));
+        Ok(())
+    }
+
     /// Obeys an order to a link. A link that is to start is started once that is due.
     ///
     /// # Errors
     ///
-    /// Those of [`link_group::Group::command`], and nothing changes then; none for Start.
+    /// Those of [`link_group::Group::command`], and nothing changes in the set then, but where there is no memory to tell what became unsure; for
+    /// Start only that the link isn't there.
     pub fn obey(&mut self, link: usize, command: Command) -> Result<(), CommandError>
-        ensures { Adds self.old self.new }
+        ensures adds { Adds self.old self.new }
+        ensures start { OnOk result (is_start command ≡ true → self.new ≡ self.old) }
+        ensures other { OnOk result (is_start command ≡ false → ByCommand command link self.old.set self.new.set) }
+        ensures none { self.old.plan.links ≤ link → result ≡ Err CommandError.NoLink }
     {
         if link >= self.len() {
             return Err(CommandError::NoLink);
         }
         self.keep(link, self.care(link).asked(command, self.ticks));
-        if command == Command::Start {
+        if is_start(command) {
             return Ok(());
         }
-        self.give(link, command)?;
-        self.keep(link, self.care(link).obeyed(command));
-        Ok(())
+        self.carry_out(link, command)
     }
 
     /// The links of selections, as they are told.

@@ -8,6 +8,9 @@ use crate::told::Told;
 use group_changeover::Kind;
 use link_group::Msu;
 
+/// More messages than a link holds.
+const UNTESTED: usize = 1_000_000;
+
 impl Tender {
     /// Whether a link takes messages about others: it is in service and not held, and no processor is out there.
     pub(crate) fn may_take(&self, link: usize) -> bool {
@@ -17,17 +20,28 @@ impl Tender {
         }
     }
 
-    /// The link that takes messages about this one and holds the fewest, if there is one. It isn't this one.
+    /// How many messages a link holds; one that isn't admitted counts as if it held more than any: its line may be looped,
+    /// and then it takes for itself what is sent there.
+    fn load(&self, link: usize) -> usize {
+        let held = self.set.held(link).unwrap_or(usize::MAX);
+        if self.is_admitted(link) {
+            held
+        } else {
+            held.saturating_add(UNTESTED)
+        }
+    }
+
+    /// The link that takes messages about this one and holds the fewest, one that is admitted before others, if there is one. It isn't this one.
     pub(crate) fn least_loaded(&self, about: usize) -> Option<usize> {
         let mut best: Option<(usize, usize)> = None;
         for link in 0..self.len() {
             if link == about || !self.may_take(link) {
                 continue;
             }
-            let held = self.set.held(link).unwrap_or(usize::MAX);
+            let load = self.load(link);
             best = match best {
-                Some((least, at)) if least <= held => Some((least, at)),
-                _ => Some((held, link)),
+                Some((least, at)) if least <= load => Some((least, at)),
+                _ => Some((load, link)),
             };
         }
         match best {

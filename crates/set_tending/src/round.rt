@@ -2,7 +2,7 @@
 ghost use Rattle.std.specs.Prelude.{◌≡◌, ◌<◌, length, IfOk, OnOk, OnErr};
 ghost use Rattle.link_group.specs.Doing.{Listened, Sent};
 ghost use Rattle.link_group.specs.Lines.{ByLink};
-ghost use Rattle.set_tending.specs.Rounds.{Adds, AddsHeeded, Ticks};
+ghost use Rattle.set_tending.specs.Rounds.{Adds, Tends, Ticks};
 
 use crate::tender::{TendError, Tender};
 use link_group::CallError;
@@ -74,7 +74,7 @@ impl Tender {
     ///
     /// Where there is no memory.
     pub fn tend(&mut self) -> Result<(), TendError>
-        ensures { OnOk result (AddsHeeded self.old self.new) }
+        ensures { OnOk result (Tends self.old self.new) }
     {
         self.heed_all()?;
         for link in 0..self.len() {

@@ -8,7 +8,8 @@ use arrayvec::ArrayVec;
 use group_changeover::{label_of, pick};
 use link_group::{LinkState, Msu, RebalanceError};
 
-/// For so many ticks messages to send wait at most, so that links run empty.
+/// For so many ticks messages to send wait at most, so that links run empty; behind as many rounds in which it is in the way a link with a
+/// processor out is left.
 const DRAIN: u64 = 1_000;
 
 /// Then they don't, for so many ticks.
@@ -21,8 +22,8 @@ pub enum Sharing {
     Rests(u64),
     /// They wait, up to this tick.
     Drains(u64),
-    /// All that is in the way is on links with a processor out, up to this tick.
-    Blocked(u64),
+    /// All that is in the way is on links with a processor out.
+    Blocked,
 }
 
 impl Sharing {
@@ -36,15 +37,7 @@ impl Sharing {
             Sharing::Rests(since) if now < since => Sharing::Rests(since),
             Sharing::Drains(end) if now < end => Sharing::Drains(end),
             Sharing::Drains(_) => Sharing::Rests(now.saturating_add(CALM)),
-            Sharing::Rests(_) | Sharing::Blocked(_) => Sharing::Drains(now.saturating_add(DRAIN)),
-        }
-    }
-
-    /// Until when what is in the way, all of it on links with a processor out, is waited for.
-    fn blocked_until(self, now: u64) -> u64 {
-        match self {
-            Sharing::Blocked(end) => end,
-            Sharing::Rests(_) | Sharing::Drains(_) => now.saturating_add(DRAIN),
+            Sharing::Rests(_) | Sharing::Blocked => Sharing::Drains(now.saturating_add(DRAIN)),
         }
     }
 
@@ -52,7 +45,7 @@ impl Sharing {
     fn settled(self) -> Sharing {
         match self {
             Sharing::Rests(since) => Sharing::Rests(since),
-            Sharing::Drains(_) | Sharing::Blocked(_) => Sharing::Rests(0),
+            Sharing::Drains(_) | Sharing::Blocked => Sharing::Rests(0),
         }
     }
 }
@@ -189,15 +182,18 @@ impl Tender {
         links
     }
 
-    /// Whether each of these links has a processor out.
-    fn all_out(&self, links: &[usize]) -> bool {
+    /// Those of these links that have a processor out.
+    fn out_among(&self, links: &[usize]) -> ArrayVec<usize, 16> {
+        let mut out = ArrayVec::new();
         for link in links {
             match self.state(*link) {
-                Some(state) if !has_outage(state) => return false,
+                Some(state) if has_outage(state) => {
+                    let _fits = out.try_push(*link).is_ok();
+                }
                 _ => {}
             }
         }
-        true
+        out
     }
 
     /// Whether a link but these carries messages.
@@ -228,24 +224,30 @@ impl Tender {
         ensures { OnOk result (Adds self.old self.new) }
     {
         let links = self.in_way(able);
-        if self.all_out(links.as_slice()) {
-            return self.wait_for(links.as_slice());
-        }
-        self.sharing = self.sharing.drained(self.ticks);
-        Ok(())
+        let out = self.out_among(links.as_slice());
+        self.sharing = if out.len() == links.len() {
+            Sharing::Blocked
+        } else {
+            self.sharing.drained(self.ticks)
+        };
+        self.wait_for(out.as_slice())
     }
 
-    /// What is done where all that is in the way is on links with a processor out.
-    fn wait_for(&mut self, links: &[usize]) -> Result<(), TendError>
+    /// What is done where links with a processor out are in the way, if any are: once they have been that for so long, they are left.
+    fn wait_for(&mut self, out: &[usize]) -> Result<(), TendError>
         ensures { OnOk result (Adds self.old self.new) }
     {
-        let end = self.sharing.blocked_until(self.ticks);
-        self.sharing = Sharing::Blocked(end);
-        if self.ticks < end || !self.another_carries(links) {
+        self.blocked = if out.is_empty() {
+            0
+        } else {
+            self.blocked.saturating_add(1)
+        };
+        if self.blocked <= DRAIN || !self.another_carries(out) {
             return Ok(());
         }
+        self.blocked = 0;
         self.sharing = Sharing::Rests(0);
-        self.leave(links)
+        self.leave(out)
     }
 
     /// Sharing out is over, or has nothing to do: no message to send waits.
@@ -253,6 +255,7 @@ impl Tender {
         ensures { self.new ≡ self.old }
     {
         self.sharing = self.sharing.settled();
+        self.blocked = 0;
     }
 
     /// Shares selections out anew, where that is wanted and may be.

@@ -54,6 +54,8 @@ pub struct Tender {
     pub(crate) told: VecDeque<Told>,
     pub(crate) cares: [Care; MOST_LINKS],
     pub(crate) sharing: Sharing,
+    /// In how many rounds, one behind another, links with a processor out were in the way of sharing out.
+    pub(crate) blocked: u64,
     /// Whether a link was in service and admitted as this was last looked at.
     pub(crate) is_open: bool,
     /// Whether traffic restart allowed is to go out.
@@ -88,6 +90,7 @@ impl Tender {
             told: VecDeque::new(alloc),
             cares: [Care::new(); MOST_LINKS],
             sharing: Sharing::new(),
+            blocked: 0,
             is_open: false,
             restarts: false,
             shared: [None; MOST_LINKS],

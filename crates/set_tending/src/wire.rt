@@ -1,10 +1,10 @@
 //! One line of a set.
-ghost use Rattle.std.specs.Prelude.{◌≡◌, [], IfOk, OnOk};
+ghost use Rattle.std.specs.Prelude.{◌≡◌, ◌++◌, ◌∷◌, [], IfOk, OnOk};
 ghost use Rattle.set_tending.specs.Rounds.{Adds};
 ghost use Rattle.set_tending.specs.Wires.{GivesNext, Speaks, HearsPart, Hears, SILENT as HEARD, Waits, Passes, IsNewWire};
 
-use line_filter::Voice;
 use crate::tender::{TendError, Tender};
+use line_filter::Voice;
 
 /// For so many rounds a line on which nothing comes isn't taken for silent.
 const PATIENCE: u64 = 1_000;
@@ -34,11 +34,7 @@ pub struct Wire {
 }
 
 /// Has a link hear the first of some octets, as many as find room, and heeds what it tells. What is left of them.
-fn hear_part<'a>(
-    tender: &mut Tender,
-    link: usize,
-    octets: &'a [u8],
-) -> Result<&'a [u8], TendError>
+fn hear_part<'a>(tender: &mut Tender, link: usize, octets: &'a [u8]) -> Result<&'a [u8], TendError>
     ensures { IfOk result (λ left. HearsPart link tender.old octets.now left.now tender.new) }
 {
     let taken = tender.line_in(link, octets);
@@ -68,6 +64,16 @@ fn hear(tender: &mut Tender, link: usize, octets: &[u8]) -> Result<(), TendError
         Ok(())
     } else {
         Err(TendError::NoMemory)
+    }
+}
+
+/// Puts an octet behind others.
+fn push_octet(out: &mut Vec<u8>, octet: u8) -> Result<(), TendError>
+    ensures { OnOk result (out.new.items ≡ out.old.items ++ octet ∷ []) }
+{
+    match out.push(octet) {
+        Ok(()) => Ok(()),
+        Err(_) => Err(TendError::NoMemory),
     }
 }
 
@@ -127,9 +133,7 @@ impl Wire {
     {
         for _octet in 0..count {
             let octet = self.next(tender, link)?;
-            if out.push(octet).is_err() {
-                return Err(TendError::NoMemory);
-            }
+            push_octet(out, octet)?;
         }
         Ok(())
     }
@@ -154,9 +158,7 @@ impl Wire {
             return Ok(Passed::Same);
         }
         for _octet in 0..ahead {
-            if out.push(SILENCE).is_err() {
-                return Err(TendError::NoMemory);
-            }
+            push_octet(out, SILENCE)?;
         }
         if self.quiet == PATIENCE {
             Ok(Passed::Silent)
@@ -183,17 +185,16 @@ impl Wire {
         if came.is_empty() {
             return self.wait(tender, link, ahead, out);
         }
-        let was = self.quiet >= PATIENCE;
+        let quiet = self.quiet;
         self.quiet = 0;
         hear(tender, link, came)?;
         self.speak(tender, link, came.len(), out)?;
-        if was {
+        if quiet >= PATIENCE {
             Ok(Passed::Back)
         } else {
             Ok(Passed::Same)
         }
     }
-
 }
 
 /// A round of a line that isn't open: 1s are heard.

@@ -7,6 +7,6 @@ returns c = record {
   middle = c.line_in-taken.new.self;
   listens = c.line_in-taken.ensures.taken (omega arith);
   adds = c.line_in-taken.ensures.adds;
-  heeds = c.in_ok-heed_link.ensures;
+  heeds = c.in_ok-heed_link.ensures.adds;
   left_is = refl;
 }

@@ -1,12 +1,14 @@
-use Rattle.std.proofs.Common.{sym, ap, ◌∙◌}
-use Rattle.line_filter.specs.Acts.{asked}
-use Rattle.line_filter.specs.Speaking.{Voice, fresh}
-use Rattle.line_filter.proofs.Filling.{all_gone}
-use Rattle.line_filter.proofs.Telling.{moved}
+use Rattle.std.proofs.Common.{refl, ap, subst, IfOk, ◌∙◌}
+use Rattle.line_filter.specs.Speaking.{Voice, Gives, fixed}
 use Rattle.line_filter.proofs.voice.Voice.next.Goals as goal
 
+pub ask-requires : goal.ask-requires
+ask-requires g c = let same = c.in-None.ensures.none refl in ap (λ (v : Voice). v.ready) same.1 ∙ same.0
+
 pub returns-in-Some : goal.returns-in-Some
-returns-in-Some g c =
-    fresh c.in-Some.unit
-    (sym (ap (λ (v : Voice). v.ready) c.self.view_is) ∙ all_gone c.self.inside.ready.items c.self.inside.gone c.len.result c.len.ensures.value c.if-self-len.false)
-    (moved _ _ c.in-Some.is (λ unit. g.T.LineTerminal.acts c.args.terminal.now (asked unit) c.unit_out.new.self) c.in_ok-unit.ensures.act) c.begin.ensures
+returns-in-Some g c = fixed c.in-Some.ensures.some.0 c.in-Some.ensures.some.1 refl
+
+pub returns-in-None : goal.returns-in-None
+returns-in-None g c =
+    subst (λ (v : Voice). IfOk c.ask.result (λ octet. Gives g.T.LineTerminal.acts c.args.terminal.now v octet c.ask.new.terminal c.ask.new.self)) (c.in-None.ensures.none refl).1
+    c.ask.ensures

@@ -1,4 +1,4 @@
-use Rattle.std.proofs.Common.{arith, rules}
+use Rattle.std.proofs.Common.{arith}
 use Rattle.set_tending.proofs.Fields.{label_within}
 use Rattle.set_tending.proofs.ends.Ends.label.Goals as goal
 

@@ -12,5 +12,5 @@ pub returns : goal.returns
 returns c =
     let set_is : c.self.inside.set ≡ c.args.self.now.set = ap (λ (t : Tended). t.set) c.self.view_is in
     let free : is_bound (points_of c.args.self.now.set) c.args.msu.now ≡ false =
-        sym (c.is_bound.ensures ∙ ap (λ (s : LinkSet). is_bound (points_of s) c.args.msu.now) set_is) ∙ c.if-is_bound.false in
+    sym (c.is_bound.ensures ∙ ap (λ (s : LinkSet). is_bound (points_of s) c.args.msu.now) set_is) ∙ c.if-is_bound.false in
     no_room_full c.args.self.now.set c.args.msu.now c.args.label c.lacks_room.result c.requires free c.lacks_room.ensures

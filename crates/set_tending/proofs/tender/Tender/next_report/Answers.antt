@@ -1,6 +1,6 @@
 use Rattle.set_tending.proofs.Calling.{by_none}
 use Rattle.set_tending.proofs.Doing.{adds_is}
-use Rattle.set_tending.proofs.Acting.{hands_out, adds_report}
+use Rattle.set_tending.proofs.Acting.{hands_out, adds_report, has_told, not_there}
 use Rattle.set_tending.proofs.tender.Tender.next_report.Goals as goal
 use Rattle.set_tending.proofs.tender.Tender.next_report.Goals.{in-Ok, in-Err}
 
@@ -14,4 +14,10 @@ pub returns-clause-none : goal.returns-clause-none
 returns-clause-none c = elim c.match-report.branch [
   | in-Ok w ↦ λ none. rw (← c.self.view_is) (adds_report _ _ c.args.link w.in-Ok.report w.in-Ok.ensures.ok)
   | in-Err w ↦ λ none. rw (← c.self.view_is) (adds_is _ _ _ w.in-Err.ensures.err (by_none _))
+]
+
+pub returns-clause-told : goal.returns-clause-told
+returns-clause-told c = elim c.match-report.branch [
+  | in-Ok w ↦ λ none there. has_told c.self.inside.set _ c.args.link w.in-Ok.report (rw w.result-is at none) w.in-Ok.ensures.ok
+  | in-Err w ↦ λ none there. not_there c.report.result _ c.self.inside.set c.report.new.self c.args.link w.in-Err.is c.report.ensures.fault w.in-Err.ensures.err there
 ]
