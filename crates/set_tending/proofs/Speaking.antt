@@ -1,7 +1,7 @@
 -- Octets that come in and go out on the line of a link, and a round of it.
-use Rattle.std.proofs.Common.{◌≡◌, ◌∙◌, ℕ, ◌+◌, ◌%◌, ◌<◌, ◌≤◌, ◌==◌, ◌&&◌, nat_le, Bool, true, false, if◌then◌else◌, List, [], ◌∷◌, ◌++◌, append-nil, append_assoc, take-append-drop, length, take, replicate, Result, Ok, Err, IfOk, refl, sym, ap, subst, arith}
+use Rattle.std.proofs.Common.{◌≡◌, ◌∙◌, ℕ, ◌+◌, ◌-◌, ◌%◌, ◌<◌, ◌≤◌, ◌==◌, ◌&&◌, nat_le, Bool, true, false, if◌then◌else◌, List, [], ◌∷◌, ◌++◌, append-nil, append_assoc, length-drop, take-append-drop, length, take, drop, replicate, Result, Ok, Err, IfOk, refl, sym, ap, subst, arith}
 use Rattle.std.proofs.lemmas.Bool.Decides.{nat_tests}
-use Rattle.std.proofs.lemmas.List.{replicate_more}
+use Rattle.std.proofs.lemmas.List.{replicate_more, take_all}
 use Rattle.line_filter.specs.Speaking.{Voice}
 use Rattle.set_tending.specs.Tended.{Tended}
 use Rattle.set_tending.specs.Wires.{Speaks, nothing, octet, GivesNext, HearsPart, Hears, no_part, one_part, PATIENCE, SILENCE, SILENT, rounds_on, ahead_at, heard_at, passed_by, passed_on, Waits, Passes, some, none}
@@ -79,6 +79,10 @@ silent_all out after ahead gone is most least =
 none_in : (octets : List ℕ) → length octets ≡ 0 → octets ≡ []
 none_in [] none_there = refl
 none_in (x ∷ octets) none_there = absurd (omega (arith, none_there))
+
+-- all that stands behind some octets
+pub all_behind : (octets : List ℕ) (gone : ℕ) → take (length octets - gone) (drop gone octets) ≡ drop gone octets
+all_behind octets gone = take_all (length octets - gone) (drop gone octets) (omega (arith, length-drop gone octets))
 
 pub is_none : (octets : List ℕ) (b : Bool) → b ≡ (length octets == 0) → b ≡ true → octets ≡ []
 is_none octets b is shown = none_in octets (grind (arith, nat_tests))

@@ -141,7 +141,8 @@ impl Tender {
         if link >= self.len() {
             return Err(CommandError::NoLink);
         }
-        self.keep(link, self.care(link).asked(command, self.ticks));
+        let care = self.care(link).asked(command, self.ticks);
+        self.keep(link, care);
         if is_start(command) {
             return Ok(());
         }

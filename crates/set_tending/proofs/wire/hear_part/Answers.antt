@@ -1,4 +1,5 @@
-use Rattle.std.proofs.Common.{refl, arith}
+use Rattle.std.proofs.Common.{arith}
+use Rattle.set_tending.proofs.Speaking.{all_behind}
 use Rattle.set_tending.proofs.wire.hear_part.Goals as goal
 
 pub returns : goal.returns
@@ -8,5 +9,5 @@ returns c = record {
   listens = c.line_in-taken.ensures.taken (omega arith);
   adds = c.line_in-taken.ensures.adds;
   heeds = c.in_ok-heed_link.ensures.adds;
-  left_is = refl;
+  left_is = all_behind c.args.octets.now c.line_in-taken.result;
 }

@@ -1,4 +1,4 @@
-use Rattle.std.proofs.Common.{arith}
+use Rattle.std.proofs.Common.{refl, arith}
 use Rattle.set_tending.proofs.Speaking.{passes_none, passes_back, passes_still, is_none, is_some_there}
 use Rattle.set_tending.proofs.wire.Wire.pass.Goals as goal
 
@@ -8,10 +8,10 @@ returns-then-is_empty c =
 
 pub returns-then-quiet-ge-PATIENCE : goal.returns-then-quiet-ge-PATIENCE
 returns-then-quiet-ge-PATIENCE c =
-    passes_back _ _ c.len.result _ _ _ _ _ _ _ _ (is_some_there _ c.is_empty.result c.is_empty.ensures c.if-is_empty.false) c.len.ensures c.in_ok-hear.ensures
+    passes_back _ _ _ _ _ _ _ _ _ _ _ (is_some_there _ c.is_empty.result c.is_empty.ensures c.if-is_empty.false) refl c.in_ok-hear.ensures
     c.in_ok-speak.ensures.speaks c.speak.ensures.quiet (omega arith)
 
 pub returns-else-quiet-ge-PATIENCE : goal.returns-else-quiet-ge-PATIENCE
 returns-else-quiet-ge-PATIENCE c =
-    passes_still _ _ c.len.result _ _ _ _ _ _ _ _ (is_some_there _ c.is_empty.result c.is_empty.ensures c.if-is_empty.false) c.len.ensures c.in_ok-hear.ensures
+    passes_still _ _ _ _ _ _ _ _ _ _ _ (is_some_there _ c.is_empty.result c.is_empty.ensures c.if-is_empty.false) refl c.in_ok-hear.ensures
     c.in_ok-speak.ensures.speaks c.speak.ensures.quiet (omega arith)
