@@ -9,7 +9,7 @@ use Rattle.set_tending.specs.Wires.{Passes, some, none}
 use Rattle.set_tending.specs.declared.wire.Wire.{Wire}
 use Rattle.set_tending.specs.declared.wire.Passed.{Passed}
 use Rattle.set_tending.proofs.Doing.{adds_nothing}
-use Rattle.set_tending.proofs.Lives.{lived_none, lived_adds, lived_sends, lived_ticks, lived_heeds, lived_hears, lived_speaks, lived_tells}
+use Rattle.set_tending.proofs.Lives.{lived_none, lived_adds, lived_sends, lived_ticks, lived_tends, lived_hears, lived_speaks, lived_tells}
 use Rattle.line_play.specs.LineTraffic.{Traffic}
 use Rattle.line_play.specs.SetObeying.{IsRefused, bad, untaken, other, Obeys, sends, does, refuses}
 use Rattle.line_play.specs.SetRounds.{Carries, passes, misses, ends, fails, opens, CarriesAll, no_link, one_link, Tells, nothing, one, ObeysWaiting, rests, obeys, TakesOrder, at_once, behind, report, Attends, waited, comes, AttendsAll, none_due, full, quits, SetPlace, IsRound, Rounds, begins, round}
@@ -108,7 +108,7 @@ lived_round t p q sent told ahead bytes traffic goes_on l is =
     lived_telling t is.obeyed (sent ++ sent_by_all is.attends) (told ++ told_in is.tells.tells) is.fourth q.set
     (lived_all t is.calm sent (told ++ told_in is.tells.tells) p.waiting p.left is.third goes_on is.obeyed q.waiting q.left
     (lived_telling t is.tended sent told is.second is.calm
-    (lived_heeds t is.ticked is.tended sent told
+    (lived_tends t is.ticked is.tended sent told
     (lived_ticks t is.carried is.ticked sent told
     (lived_lines t p.set sent told ahead p.wires (length p.wires) is.first traffic is.carried q.wires l is.carries) is.ticks)
     is.tends)

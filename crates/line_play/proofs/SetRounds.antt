@@ -9,7 +9,7 @@ use Rattle.line_filter.specs.Desks.{Told as TellsSuch}
 use Rattle.line_filter.specs.Orders.{Timed, NextIs, NoneIsDue, QUIT, told}
 use Rattle.line_filter.specs.Reporting.{Stand, TellsLines}
 use Rattle.line_filter.proofs.Reporting.{tells_none, tells_trans}
-use Rattle.set_tending.specs.Rounds.{AddsHeeded, Ticks}
+use Rattle.set_tending.specs.Rounds.{Tends, Ticks}
 use Rattle.set_tending.specs.Tended.{Tended}
 use Rattle.set_tending.specs.Wires.{Hears, Passes, SILENT}
 use Rattle.set_tending.specs.declared.wire.Passed.{Passed}
@@ -311,7 +311,7 @@ attends_quit t u waiting now left fewer last ms a b c before ms_is next line = r
 
 pub is_round : (ahead : ℕ) (p q : SetPlace) (goes_on : Bool) (carried ticked tended calm obeyed : Tended) (a b c d e : Stand) (f g h : Option (List Traffic))
     → Grows f g [] → Made (λ bytes traffic. CarriesAll ahead p.set p.wires (length p.wires) bytes traffic carried q.wires) a b g h → Ticks carried ticked
-    → AddsHeeded ticked tended → TellsSuch (λ bytes. TellsAll tended bytes calm) b c
+    → Tends ticked tended → TellsSuch (λ bytes. TellsAll tended bytes calm) b c
     → TellsSuch (λ bytes. AttendsAll calm p.waiting p.left bytes goes_on obeyed q.waiting q.left) c d
     → TellsSuch (λ bytes. TellsAll obeyed bytes q.set) d e → Made (λ bytes traffic. IsRound ahead p bytes traffic goes_on q) a e f h
 is_round ahead p q goes_on carried ticked tended calm obeyed a b c d e f g h none_given first ticks tends second third fourth = record {

@@ -6,7 +6,7 @@ use Rattle.std.specs.Fmt.{decimal}
 use Rattle.script_lines.specs.Words.{words_of}
 use Rattle.line_filter.specs.Orders.{Timed, NextIs, NoneIsDue, QUIT, told}
 use Rattle.line_filter.specs.Reporting.{Stand, TellsLines}
-use Rattle.set_tending.specs.Rounds.{AddsHeeded, Ticks}
+use Rattle.set_tending.specs.Rounds.{Tends, Ticks}
 use Rattle.set_tending.specs.Telling.{message_in}
 use Rattle.set_tending.specs.Tended.{Tended}
 use Rattle.set_tending.specs.Texts.{told_text}
@@ -180,7 +180,7 @@ pub record IsRound (ahead : ℕ) (p : SetPlace) (bytes : List ℕ) (traffic : Li
   pub ticked : Tended
   pub ticks : Ticks carried ticked
   pub tended : Tended
-  pub tends : AddsHeeded ticked tended
+  pub tends : Tends ticked tended
   pub calm : Tended
   pub second : List ℕ
   pub tells : TellsAll tended second calm

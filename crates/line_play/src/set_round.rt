@@ -1,6 +1,6 @@
 //! A round of a set on its lines.
 ghost use Rattle.std.specs.Prelude.{◌≡◌, ◌<◌, [], length, replicate, IfOk, OnOk};
-ghost use Rattle.set_tending.specs.Rounds.{AddsHeeded, Ticks};
+ghost use Rattle.set_tending.specs.Rounds.{Tends, Ticks};
 ghost use Rattle.set_tending.specs.Wires.{Hears, Passes, SILENT};
 ghost use Rattle.line_play.specs.LineTraffic.{Grows, given, front_of, silence_for};
 ghost use Rattle.line_play.specs.SetRounds.{Made, PassesOn, Carries, CarriesAt, CarriesAll};
@@ -219,7 +219,7 @@ pub(crate) fn tick(tender: &mut Tender) -> io::Result<()>
 
 /// What is to be done for the links is done.
 pub(crate) fn tend(tender: &mut Tender) -> io::Result<()>
-    ensures { OnOk result (AddsHeeded tender.old tender.new) }
+    ensures { OnOk result (Tends tender.old tender.new) }
 {
     match tender.tend() {
         Ok(()) => Ok(()),

@@ -5,4 +5,4 @@ pub loop-link-init : goal.loop-link-init
 loop-link-init c = adds_nothing _
 
 pub loop-link-preserved : goal.loop-link-preserved
-loop-link-preserved c = adds_then _ _ _ c.loop-link.invariant c.obey.ensures
+loop-link-preserved c = adds_then _ _ _ c.loop-link.invariant c.obey.ensures.adds
