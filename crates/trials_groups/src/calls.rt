@@ -1,6 +1,8 @@
 //! Calls of a set. One that wants memory is made once more, since it changed nothing; what its clauses say ends here.
 
-use set_tending::{AbandonError, CallError, Command, CommandError, Group, LineError, RetrieveError};
+use set_tending::{
+    AbandonError, CallError, Command, CommandError, Group, LineError, RetrieveError,
+};
 use std::alloc::AllocError;
 
 /// Why a trial stopped.
