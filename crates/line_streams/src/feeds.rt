@@ -1,5 +1,5 @@
 //! Octets of a line that a thread reads, as far as they have come, and the end of the line.
-ghost use Rattle.std.specs.Prelude.{◌≡◌, ◌++◌, true};
+ghost use Rattle.std.specs.Prelude.{◌≡◌, ◌≤◌, ◌++◌, true, IfOk, length};
 ghost use Rattle.rtrb.specs.Ring.{sent, received};
 ghost use Rattle.line_streams.specs.Feeding.{Gives};
 
@@ -96,7 +96,9 @@ struct Bed {
 }
 
 /// Reads what there is into a part; none at the end. An interrupted read is tried again.
-fn read_part(file: &mut File, part: &mut [u8]) -> io::Result<usize> {
+fn read_part(file: &mut File, part: &mut [u8]) -> io::Result<usize>
+    ensures { IfOk result (λ n. n ≤ length part.new) }
+{
     for _read in 0..u64::MAX {
         match file.read(part) {
             Ok(count) => return Ok(count),
