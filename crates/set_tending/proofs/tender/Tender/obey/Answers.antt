@@ -1,4 +1,4 @@
-use Rattle.std.proofs.Common.{◌≡◌, ◌∙◌, true, false, true≢false, sym, subst, arith}
+use Rattle.std.proofs.Common.{◌≡◌, ◌∙◌, false, true≢false, sym, subst, arith}
 use Rattle.std.proofs.lemmas.Result.{on_ok_weaker}
 use Rattle.link_group.specs.Commanding.{is_start}
 use Rattle.link_group.specs.Lines.{ByCommand}
