@@ -50,8 +50,8 @@ pub record PassesOn (link ahead : ℕ) (came : List ℕ) (t : Tended) (w : Wire)
   pub gives : traffic ≡ given link out
 
 -- A round of a line. It is open: what came is heard, and what goes out goes on. Or it says that it
--- isn't: 1s are heard. Or it says that it ended, failed, or was opened, which is told; as many octets
--- of 1s go ahead then.
+-- isn't: 1s are heard. Or it says that it ended, failed, or was opened, which is told; as many
+-- octets of 1s go ahead then.
 pub data Carries (link ahead : ℕ) (t : Tended) (w : Wire) :
     List ℕ → List Traffic → Tended → Wire → Type 0 where
   passes : {bytes : List ℕ} {traffic : List Traffic} {u : Tended} {x : Wire} (came : List ℕ)
