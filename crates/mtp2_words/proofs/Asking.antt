@@ -1,5 +1,5 @@
 -- What the words of a command's matches ask for, by what single words say.
-use Rattle.std.proofs.Common.{◌≡◌, ◌∙◌, ℕ, ◌+◌, ◌<◌, [], ◌∷◌, ◌++◌, Bor, map, take, length, get_or, List, Option, Some, None, Result, Ok, Err, IfOk, IsNone, IfSome, IsSomeAnd, refl, sym, ap, subst, inl, inr, is_some, option_map, option_and_then, box_value, codes, Bool, true, false}
+use Rattle.std.proofs.Common.{◌≡◌, ◌∙◌, ℕ, ◌+◌, ◌<◌, [], ◌∷◌, ◌++◌, Bor, map, take, length, get_or, List, Option, Some, None, Result, Ok, Err, IfOk, IsNone, IfSome, IsSomeAnd, refl, sym, ap, subst, inl, inr, option_map, option_and_then, box_value, codes, Bool, true, false}
 use Rattle.std.proofs.lemmas.Option.{none-some, same_Some, IfSome_then}
 use Rattle.std.proofs.lemmas.List.{take_more, map-append, length-map}
 use Rattle.plain_laws.proofs.Pairwise.{zip_push}
@@ -17,7 +17,7 @@ use Rattle.mtp2_words.specs.declared.ends.LineWords.{LineWords}
 use Rattle.mtp2_words.specs.Words.{command_of, workers_of, AreStdin, IsNamed, IsDiff, IsOwnNamed, IsPlay, IsPrint, IsSoak, IsSource, NamesNone, says_true}
 use Rattle.mtp2_words.specs.Seeing.{IsSeenBy}
 use Rattle.mtp2_words.specs.declared.seeing.Seeing.{Seeing}
-use Rattle.mtp2_words.specs.Asked.{Given, given_by, given_in, AreAllAsked, AreNamed, AreBothStdin, AreUnderIds, AsksEnd, AsksNothing, IsAsked, IsAskedBy, IsNoPlay, IsNoPrint, IsNoSoak, SaysNothing, AreTwoStdin, AsksDiff, AsksDraw, IsNoDiff, AreSetUnderIds, AsksSetEnd, AreLinesOf, AreNoLines, AreSeenUnder, AsksSeen, SaysNoSeeing}
+use Rattle.mtp2_words.specs.Asked.{Given, given_by, given_in, AreAllAsked, AreNamed, AreBothStdin, AreUnderIds, AsksEnd, AsksNothing, IsAsked, IsAskedBy, IsNoPlay, IsNoPrint, IsNoSoak, SaysNothing, AsksDiff, AsksDraw, IsNoDiff, AreSetUnderIds, AsksSetEnd, AreLinesOf, AreNoLines, AreSeenUnder, AsksSeen, SaysNoSeeing}
 use Rattle.mtp2_words.specs.declared.seeing.SeeingWords.{SeeingWords}
 use Rattle.mtp2_words.specs.declared.words.Named.{Named}
 use Rattle.mtp2_words.specs.declared.words.Request.{Request}

@@ -1,6 +1,6 @@
 -- Command lines of which the clauses of `read` say what they ask for.
-use Rattle.std.proofs.Common.{◌≡◌, List, [], ◌∷◌, true, refl, codes}
-use Rattle.clap.specs.Words.{Text, takes}
+use Rattle.std.proofs.Common.{◌≡◌, [], ◌∷◌, true, refl, codes}
+use Rattle.clap.specs.Words.{takes}
 use Rattle.clap.proofs.OnLiterals.{clap_on_literals}
 use Rattle.mtp2_words.specs.Commands.{all_commands}
 

@@ -1,4 +1,4 @@
-use Rattle.std.proofs.Common.{List, map, string_bytes, inl, inr, refl}
+use Rattle.std.proofs.Common.{List, map, string_bytes, inl, inr}
 use Rattle.std.proofs.lemmas.Result.{err_from_is_err_and}
 use Rattle.clap.specs.Words.{Text}
 use Rattle.mtp2_words.proofs.Building.{reads, refuses, says_nothing, has_no_fault, has_fault}
