@@ -1,4 +1,7 @@
 //! Octets of a line that a thread reads, as far as they have come, and the end of the line.
+ghost use Rattle.std.specs.Prelude.{◌≡◌, ◌≤◌, ◌++◌, true, IfOk, length};
+ghost use Rattle.rtrb.specs.Ring.{sent, received};
+ghost use Rattle.line_streams.specs.Feeding.{Gives};
 
 use rtrb::{Consumer, Producer, RingBuffer};
 use std::alloc::Global;
@@ -65,7 +68,9 @@ impl Feed {
     }
 
     /// Takes octets that have come, as far as there is room for them. It never waits.
-    pub fn take(&mut self, part: &mut [u8]) -> Fed {
+    pub fn take(&mut self, part: &mut [u8]) -> Fed
+        ensures { Gives result part.new (received self.old.ring) (received self.new.ring) }
+    {
         let over = self.over.load(Ordering::SeqCst);
         let count = self.ring.pop_partial_slice(part);
         if count > 0 {
@@ -91,7 +96,9 @@ struct Bed {
 }
 
 /// Reads what there is into a part; none at the end. An interrupted read is tried again.
-fn read_part(file: &mut File, part: &mut [u8]) -> io::Result<usize> {
+fn read_part(file: &mut File, part: &mut [u8]) -> io::Result<usize>
+    ensures { IfOk result (λ n. n ≤ length part.new) }
+{
     for _read in 0..u64::MAX {
         match file.read(part) {
             Ok(count) => return Ok(count),
@@ -107,7 +114,9 @@ fn read_part(file: &mut File, part: &mut [u8]) -> io::Result<usize> {
 
 impl Bed {
     /// Hands on what was read, and waits until it has been taken.
-    fn hand_on(&mut self, octets: &[u8]) -> bool {
+    fn hand_on(&mut self, octets: &[u8]) -> bool
+        ensures { result ≡ true → sent self.new.ring ≡ sent self.old.ring ++ octets.now }
+    {
         let mut one = [0; 1];
         self.ring.push_entire_slice(octets).is_ok() && self.taken.read_exact(&mut one).is_ok()
     }
