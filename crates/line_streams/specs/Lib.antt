@@ -1,5 +1,6 @@
 pub mod Capturing
 pub mod Departing
+pub mod Feeding
 pub mod Known
 pub mod Records
 pub mod Repeats
