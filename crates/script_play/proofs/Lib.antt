@@ -7,3 +7,9 @@ pub mod WatchedPlays
 mod Capturings
 mod OutGoing
 mod TermCaptures
+mod Pieces
+mod Covering
+mod Walking
+mod Marking
+mod Rowing
+mod Printing

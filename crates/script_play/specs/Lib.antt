@@ -1,6 +1,10 @@
 pub mod Captured
 pub mod Charted
+pub mod Covered
+pub mod Lcov
+pub mod OnWay
 pub mod Played
 pub mod Seen
 pub mod Thrown
 pub mod Traced
+pub mod Ways

@@ -12,7 +12,7 @@ ghost use Rattle.script_play.specs.Covered.{state_in, same_state, is_known, know
 ghost use Rattle.script_play.specs.declared.coverage.Turns.{Turns as Known};
 
 use crate::ways::pass;
-use script_seen::{Ended, Job};
+use script_seen::Ended;
 use sdl_tables::{InputRow, ProcessTable};
 use std::alloc::{AllocError, Global};
 use turn_code::{Input, Place, StateNumber};

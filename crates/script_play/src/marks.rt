@@ -136,13 +136,24 @@ fn push_process(marks: &mut Vec<Mark>, process: &ProcessTable<'_>) -> Result<(),
     push_connections(marks, &process.process().connections)
 }
 
+/// What stands in processes.
+fn push_processes(
+    marks: &mut Vec<Mark>,
+    processes: &[ProcessTable<'_>],
+) -> Result<(), AllocError>
+    ensures { OnOk result (marks.new.items ≡ marks.old.items ++ flat_map process_marks (map process_of processes.now)) }
+{
+    for process in processes {
+        push_process(marks, process)?;
+    }
+    Ok(())
+}
+
 /// What stands in a block, process by process.
 pub(crate) fn block_marks(alloc: Global, block: &BlockTable<'_>) -> Result<Vec<Mark>, AllocError>
     ensures { IfOk result (λ v. v.items ≡ block_marks (block_of block.now)) }
 {
     let mut marks = Vec::new(alloc);
-    for process in block.tables() {
-        push_process(&mut marks, process)?;
-    }
+    push_processes(&mut marks, block.tables())?;
     Ok(marks)
 }

@@ -154,6 +154,23 @@ fn push_process_rows(
     push_states_rows(alloc, rows, turns, signals, process, owner, &inputs)
 }
 
+/// The transitions of processes.
+fn push_processes_rows(
+    alloc: Global,
+    rows: &mut Vec<Row>,
+    turns: &TurnCounts,
+    signals: &NameTable,
+    processes: &[ProcessTable<'_>],
+) -> Result<(), AllocError>
+    ensures { OnOk result (map row_of rows.new.items
+        ≡ map row_of rows.old.items ++ all_rows (known_turns turns.now.turns.items) signals.now 0 (map process_of processes.now)) }
+{
+    for (owner, process) in processes.iter().enumerate() {
+        push_process_rows(alloc, rows, turns, signals, process, owner)?;
+    }
+    Ok(())
+}
+
 /// The transitions of a block, process by process.
 pub(crate) fn block_rows(
     alloc: Global,
@@ -164,8 +181,6 @@ pub(crate) fn block_rows(
         ≡ all_rows (known_turns turns.now.turns.items) (signal_names (block_of block.now)) 0 (processes_of (block_of block.now))) }
 {
     let mut rows = Vec::new(alloc);
-    for (owner, process) in block.tables().iter().enumerate() {
-        push_process_rows(alloc, &mut rows, turns, block.signals(), process, owner)?;
-    }
+    push_processes_rows(alloc, &mut rows, turns, block.signals(), block.tables())?;
     Ok(rows)
 }
