@@ -18,7 +18,7 @@ use Rattle.turn_code.specs.declared.input.Input as given
 use Rattle.turn_code.specs.declared.input.Place.{Place}
 use Rattle.turn_code.specs.declared.input.Place.TheVariants.{Start, State as AtState}
 use Rattle.turn_code.specs.declared.numbers.StateNumber.{StateNumber}
-use Rattle.turn_machine.specs.Turn.{Turn}
+use Rattle.script_seen.specs.Turn.{Turn}
 use Rattle.script_seen.specs.Watched.{TurnEnd}
 use Rattle.script_play.specs.Ways.{Taken, at, else_of}
 use Rattle.script_play.specs.Covered.{is_at, is_else, times, others, same_state, state_in, is_of, turns_of, is_known, known_turns, counted_turn, HasTurns, HasCounts, one_more, HasTaken, passed, taken_input, input_at, taken_at, taken_of, taken_by, Covers}

@@ -8,7 +8,7 @@ use Rattle.sdl_tables.specs.Names.{Input, inputs_by_state, processes_of, variabl
 use Rattle.turn_code.specs.declared.input.Input as given
 use Rattle.turn_code.specs.declared.input.Place.{Place}
 use Rattle.turn_code.specs.declared.input.Place.TheVariants.{Start, State as AtState}
-use Rattle.turn_machine.specs.Turn.{Turn}
+use Rattle.script_seen.specs.Turn.{Turn}
 use Rattle.script_seen.specs.Watched.{TurnEnd}
 use Rattle.script_play.specs.Ways.{Taken, at, else_of, taken_in as parameters_in, through}
 use Rattle.script_play.specs.declared.coverage.Places.{Places}

@@ -173,6 +173,21 @@ pub record IsTextCoveredInPart (name : List ℕ) (known : Option (List ℕ)) (us
   pub is_set : IsSetOf text d
   pub covered : IsCoveredInPart name text usual old new from to d bytes
 
+-- of some text of the set, in a file of some name
+pub record IsSomeCovered (usual : RoundLimits) (old new from to : Option (List ℕ)) (d : Draft)
+    (bytes : List ℕ) : Type 0 where
+  pub name : List ℕ
+  pub text : List ℕ
+  pub is_set : IsSetOf text d
+  pub covered : IsCovered name text usual old new from to d bytes
+
+pub record IsSomeCoveredInPart (usual : RoundLimits) (old new from to : Option (List ℕ))
+    (d : Draft) (bytes : List ℕ) : Type 0 where
+  pub name : List ℕ
+  pub text : List ℕ
+  pub is_set : IsSetOf text d
+  pub covered : IsCoveredInPart name text usual old new from to d bytes
+
 -- ---- what is wanted of a run
 
 -- what is told of a run at its end, by all that was noticed
@@ -182,51 +197,50 @@ told_of Thrown d ns = thrown_of d ns
 
 -- the bytes are a script that was run, and what is wanted of that was written
 abbrev pub IsPlaySeen :
-    List ℕ → Option (List ℕ) → RoundLimits → Wanted → Option (List ℕ) → Option (List ℕ)
-    → Option (List ℕ) → Option (List ℕ) → Draft → List ℕ → Type 0
-IsPlaySeen name known usual (Trace every) old new from to d bytes =
+    RoundLimits → Wanted → Option (List ℕ) → Option (List ℕ) → Option (List ℕ) → Option (List ℕ)
+    → Draft → List ℕ → Type 0
+IsPlaySeen usual (Trace every) old new from to d bytes =
     IsPlayTraced usual every old new from to d bytes
-IsPlaySeen name known usual (Capture every) old new from to d bytes =
+IsPlaySeen usual (Capture every) old new from to d bytes =
     IsPlayCaptured usual every old new from to d bytes
-IsPlaySeen name known usual (AtEnd told) old new from to d bytes =
+IsPlaySeen usual (AtEnd told) old new from to d bytes =
     IsPlayTold usual old new (Grew (told_of told) d from to) d bytes
-IsPlaySeen name known usual Coverage old new from to d bytes =
-    IsTextCovered name known usual old new from to d bytes
+IsPlaySeen usual Coverage old new from to d bytes = IsSomeCovered usual old new from to d bytes
 
 abbrev pub IsPlaySeenInPart :
-    List ℕ → Option (List ℕ) → RoundLimits → Wanted → Option (List ℕ) → Option (List ℕ)
-    → Option (List ℕ) → Option (List ℕ) → Draft → List ℕ → Type 0
-IsPlaySeenInPart name known usual (Trace every) old new from to d bytes =
+    RoundLimits → Wanted → Option (List ℕ) → Option (List ℕ) → Option (List ℕ) → Option (List ℕ)
+    → Draft → List ℕ → Type 0
+IsPlaySeenInPart usual (Trace every) old new from to d bytes =
     IsPlayTracedInPart usual every old new from to d bytes
-IsPlaySeenInPart name known usual (Capture every) old new from to d bytes =
+IsPlaySeenInPart usual (Capture every) old new from to d bytes =
     IsPlayCapturedInPart usual every old new from to d bytes
-IsPlaySeenInPart name known usual (AtEnd told) old new from to d bytes =
+IsPlaySeenInPart usual (AtEnd told) old new from to d bytes =
     IsPlayToldInPart usual old new (Grew (told_of told) d from to) d bytes
-IsPlaySeenInPart name known usual Coverage old new from to d bytes =
-    IsTextCoveredInPart name known usual old new from to d bytes
+IsPlaySeenInPart usual Coverage old new from to d bytes =
+    IsSomeCoveredInPart usual old new from to d bytes
 
 -- ---- with lines, with something in a file, or with neither
 
 -- A script was played as it is to be seen: with the lines of its commands, where that is asked for;
 -- else with what is wanted of it in a file, where there is one, which had this and now has that.
-pub data IsWatched (name : List ℕ) (known : Option (List ℕ)) (usual : RoundLimits)
-    (echo : Bool) (wanted : Wanted) (old new : Option (List ℕ))
-    (begun now : Option (Option (List ℕ))) (d : Draft) (bytes : List ℕ) : Type 0 where
+pub data IsWatched (usual : RoundLimits) (echo : Bool) (wanted : Wanted)
+    (old new : Option (List ℕ)) (begun now : Option (Option (List ℕ))) (d : Draft)
+    (bytes : List ℕ) : Type 0 where
   has_lines : echo ≡ true → IsPlayed usual echo old new d bytes
-      → IsWatched name known usual echo wanted old new begun now d bytes
+      → IsWatched usual echo wanted old new begun now d bytes
   has_neither : echo ≡ false → begun ≡ None → IsPlayed usual echo old new d bytes
-      → IsWatched name known usual echo wanted old new begun now d bytes
+      → IsWatched usual echo wanted old new begun now d bytes
   has_file : (was has : Option (List ℕ)) → echo ≡ false → begun ≡ Some was → now ≡ Some has
-      → IsPlaySeen name known usual wanted old new was has d bytes
-      → IsWatched name known usual echo wanted old new begun now d bytes
+      → IsPlaySeen usual wanted old new was has d bytes
+      → IsWatched usual echo wanted old new begun now d bytes
 
-pub data IsWatchedInPart (name : List ℕ) (known : Option (List ℕ)) (usual : RoundLimits)
-    (echo : Bool) (wanted : Wanted) (old new : Option (List ℕ))
-    (begun now : Option (Option (List ℕ))) (d : Draft) (bytes : List ℕ) : Type 0 where
+pub data IsWatchedInPart (usual : RoundLimits) (echo : Bool) (wanted : Wanted)
+    (old new : Option (List ℕ)) (begun now : Option (Option (List ℕ))) (d : Draft)
+    (bytes : List ℕ) : Type 0 where
   has_lines_in_part : echo ≡ true → IsPlayedInPart usual echo old new d bytes
-      → IsWatchedInPart name known usual echo wanted old new begun now d bytes
+      → IsWatchedInPart usual echo wanted old new begun now d bytes
   has_neither_in_part : echo ≡ false → begun ≡ None → IsPlayedInPart usual echo old new d bytes
-      → IsWatchedInPart name known usual echo wanted old new begun now d bytes
+      → IsWatchedInPart usual echo wanted old new begun now d bytes
   has_file_in_part : (was has : Option (List ℕ)) → echo ≡ false → begun ≡ Some was → now ≡ Some has
-      → IsPlaySeenInPart name known usual wanted old new was has d bytes
-      → IsWatchedInPart name known usual echo wanted old new begun now d bytes
+      → IsPlaySeenInPart usual wanted old new was has d bytes
+      → IsWatchedInPart usual echo wanted old new begun now d bytes
