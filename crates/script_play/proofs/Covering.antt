@@ -273,6 +273,22 @@ state_taken p q state n rows place o x xs new here same are is has =
     ∙ (ap (λ (rs : List (List Input)). taken_input p (input_at (slice_get rs q.0) n) x) are
     ∙ ap (λ (at : Place). taken_at p at n x) (sym here)))) has
 
+pub at_start : (p : PlainProcess) (n : ℕ) (place : Place) (x : given.Input) (xs : List Taken) (new : Counts) → place ≡ Start → HasTaken (xs ++ taken_at p Start 0 x) new
+    → HasTaken (xs ++ taken_at p place n x) new
+at_start p n place x xs new here has = subst (λ (at : Place). HasTaken (xs ++ taken_at p at n x) new) (sym here) has
+
+-- the same by other names
+pub counted_as : (old new : List Turns) (p q : ℕ) (s : Option ℕ) (place : Place) (n m : ℕ) → new ≡ counted_turn p s n old → p ≡ q → s ≡ state_in place → n ≡ m
+    → new ≡ counted_turn q (state_in place) m old
+counted_as old new p q s place n m is one state number =
+    is ∙ (ap (λ (k : ℕ). counted_turn k s n old) one ∙ (ap (λ (k : Option ℕ). counted_turn q k n old) state ∙ ap (λ (k : ℕ). counted_turn q (state_in place) k old) number))
+
+pub taken_as : (p : PlainProcess) (xs : List Taken) (old new : Counts) (t : Turn) (place : Place) (n : ℕ) (x : given.Input) → place ≡ t.place → n ≡ t.input_number → x ≡ t.input
+    → (HasTaken xs old → HasTaken (xs ++ taken_at p place n x) new) → HasTaken xs old → HasTaken (xs ++ taken_of (Some p) t) new
+taken_as p xs old new t place n x here number input step has =
+    subst (λ (l : List Taken). HasTaken (xs ++ l) new)
+    (ap (λ (at : Place). taken_at p at n x) here ∙ (ap (λ (k : ℕ). taken_at p t.place k x) number ∙ ap (λ (i : given.Input). taken_at p t.place t.input_number i) input)) (step has)
+
 taken_more : (b : PlainBlock) (ts : List TurnEnd) (t : TurnEnd) → taken_by b (ts ++ t ∷ []) ≡ taken_by b ts ++ taken_of (slice_get (processes_of b) t.me.process.0) t.turn
 taken_more b ts t = sym (flat_map_more (λ (u : TurnEnd). taken_of (slice_get (processes_of b) u.me.process.0) u.turn) [] ts t)
 

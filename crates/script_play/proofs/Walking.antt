@@ -9,12 +9,12 @@ use Rattle.sdl_ast.specs.declared.tree.Statement.{Statement}
 use Rattle.sdl_ast.specs.declared.tree.Statement.TheVariants.{Act, Decide}
 use Rattle.sdl_ast.specs.declared.tree.Action.{Action}
 use Rattle.sdl_ast.specs.declared.tree.Transition.{Transition}
-use Rattle.sdl_ast.specs.Plain.{Text, falls, does, decides, Choice, PlainStatement, act, decide, PlainAnswer, PlainConnection, PlainProcess, before, all_answers}
+use Rattle.sdl_ast.specs.Plain.{Text, falls, Choice, PlainStatement, act, decide, PlainAnswer, PlainConnection, PlainProcess, before, all_answers}
 use Rattle.sdl_ast.specs.Views.{plain_statement, plain_answer, plain_decision, tree_of, action_of, text_of, statement_of, decision_of, statements_before, answers_before, end_text, else_choice, choice_of}
-use Rattle.sdl_ast.proofs.Views.{text_of-is, plain_answer-is, plain_act, plain_decides, decision_of-is, statement_of-act}
+use Rattle.sdl_ast.proofs.Views.{text_of-is, plain_answer-is, plain_decides, decision_of-is, statement_of-act}
 use Rattle.sdl_tables.specs.Names.{variable_names}
 use Rattle.turn_code.specs.declared.value.Value.{Value}
-use Rattle.script_play.specs.Ways.{Taken, at, Way, stands, behind, goes_with, then_way, is_for, with_value, valued, way_of, chosen_way, behind_action, action_place, joined_at, in_connection, joins_on, through}
+use Rattle.script_play.specs.Ways.{Taken, at, else_of, end_place, Way, stands, behind, goes_with, then_way, is_for, with_value, valued, way_of, chosen_way, behind_action, action_place, joined_at, in_connection, joins_on, through}
 use Rattle.script_play.specs.Covered.{HasTaken}
 use Rattle.script_play.specs.OnWay.{IsOnWay}
 use Rattle.script_play.specs.declared.coverage.Counts.{Counts}
@@ -185,12 +185,29 @@ answer_passed whole ids k xs i a others x b vs old new lt is for so h =
     (ap (λ (t : Bool). cond t (behind (at a.at ∷ []) (way_of ids (text_of a.body) vs)) (chosen_way ids k (answers_before (drop (i + 1) xs) others) x vs)) so)
     (answer_on whole ids k xs i a others x b vs old new lt is for h)
 
+pub first_answer : (ids : List Identifier) (d : Decision) (xs : List Answer) (x : Value) (vs : Values) (c : Counts) → xs ≡ (out-Decision d).answers.items
+    → IsOnWay (chosen_way ids (out-Decision d).at (choice_of d) x vs) (chosen_way ids (out-Decision d).at (answers_before xs (else_choice (out-Decision d).otherwise)) x vs) c c
+first_answer ids d xs x vs c is =
+    on_start _ _ c (ap (λ (l : List Answer). chosen_way ids (out-Decision d).at (answers_before l (else_choice (out-Decision d).otherwise)) x vs) (sym is))
+
 pub answers_past : (whole : Way) (ids : List Identifier) (k : ℕ) (xs : List Answer) (i : ℕ) (o r : Option Transition) (x : Value) (vs : Values) (old new : Counts) → length xs ≤ i → o ≡ r
     → IsOnWay whole (chosen_way ids k (answers_before (drop i xs) (else_choice o)) x vs) old new → IsOnWay whole (chosen_way ids k (else_choice r) x vs) old new
 answers_past whole ids k xs i o r x vs old new past is h =
     as_left whole _ _ old new
     (ap (λ (l : List Answer). chosen_way ids k (answers_before l (else_choice o)) x vs) (drop_all i xs past)
     ∙ ap (λ (p : Option Transition). chosen_way ids k (else_choice p) x vs) is) h
+
+pub end_taken : (ids : List Identifier) (e : End) (k : ℕ) (vs : Values) (old new : Counts) → k ≡ end_place e → ((xs : List Taken) → HasTaken xs old → HasTaken (xs ++ at k ∷ []) new)
+    → IsOnWay (way_of ids (end_text (Some e)) vs) (stands (Some e) vs) old new
+end_taken ids e k vs old new is counts =
+    as_whole (behind (at k ∷ []) (stands (Some e) vs)) _ _ old new (ap (λ (n : ℕ). behind (at n ∷ []) (stands (Some e) vs)) is) (on_taken (at k) (stands (Some e) vs) old new counts)
+
+pub else_taken : (whole : Way) (ids : List Identifier) (k : ℕ) (body : Transition) (x : Value) (vs : Values) (left : Way) (old now mid new : Counts)
+    → IsOnWay whole (chosen_way ids k (else_choice (Some body)) x vs) old now → ((ys : List Taken) → HasTaken ys now → HasTaken (ys ++ else_of k ∷ []) mid)
+    → IsOnWay (way_of ids (text_of body) vs) left mid new → IsOnWay whole left old new
+else_taken whole ids k body x vs left old now mid new h counts walked =
+    let inside = way_of ids (text_of body) vs in
+    on_part whole inside left old mid new (on_part whole (behind (else_of k ∷ []) inside) inside old now mid h (on_taken (else_of k) inside now mid counts)) walked
 
 -- ---- JOINs
 
@@ -224,3 +241,12 @@ pub goes_no_further : (p : PlainProcess) (n m : ℕ) (t : Text) (e : Option End)
 goes_no_further p n m t e vs ws old new more to h xs has =
     subst (λ (l : List Taken). HasTaken (xs ++ l) new)
     (sym (append-nil h.taken) ∙ (sym (joined p m t e None vs ws old new h to) ∙ ap (λ (j : ℕ). through p j t vs) (sym more))) (h.counts xs has)
+
+pub with_names : (p : PlainProcess) (ids : List Identifier) (t : Text) (vs : Values) (left : Way) (old new : Counts) → ids ≡ variable_names p → IsOnWay (way_of ids t vs) left old new
+    → IsOnWay (way_of (variable_names p) t vs) left old new
+with_names p ids t vs left old new is h = subst (λ (l : List Identifier). IsOnWay (way_of l t vs) left old new) is h
+
+-- with the parameters in their variables, and as many JOINs as there are connections
+pub goes_as : (p : PlainProcess) (n k : ℕ) (t : Text) (vs ws : Values) (xs : List Taken) (c : Counts) → n ≡ k → vs ≡ ws → HasTaken (xs ++ through p n t vs) c → HasTaken (xs ++ through p k t ws) c
+goes_as p n k t vs ws xs c is same has =
+    subst (λ (us : Values). HasTaken (xs ++ through p k t us) c) same (subst (λ (m : ℕ). HasTaken (xs ++ through p m t vs) c) is has)

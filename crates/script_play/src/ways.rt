@@ -1,9 +1,11 @@
 //! The way of a turn through its text.
-ghost use Rattle.std.specs.Prelude.{◌≡◌, ◌++◌, List, map, slice_get, slice_set};
+ghost use Rattle.std.specs.Prelude.{◌≡◌, ◌++◌, List, Option as Maybe, map, slice_get, slice_set};
 ghost use Rattle.std.specs.Option.{option_map};
 ghost use Rattle.sdl_ast.specs.Plain.{falls};
 ghost use Rattle.sdl_ast.specs.declared.tree.Decision.{out-Decision};
-ghost use Rattle.sdl_ast.specs.Views.{action_of, assignment_of, choice_of, connection_of, decision_of, process_of, statement_of, text_of};
+ghost use Rattle.sdl_ast.specs.Views.{action_of, assignment_of, choice_of, connection_of, decision_of, end_text, process_of, statement_of, text_of};
+ghost use Rattle.sdl_ast.specs.declared.expression.Identifier.{Identifier};
+ghost use Rattle.turn_code.specs.declared.value.Value.{Value as OneValue};
 ghost use Rattle.script_play.specs.Ways.{Taken, action_place, end_place, put, assigned, behind_action, taken_in, stands, way_of, chosen_way, connection_at, joined_at, through};
 ghost use Rattle.script_play.specs.Covered.{HasTaken, passed};
 ghost use Rattle.script_play.specs.OnWay.{IsOnWay};
@@ -81,6 +83,19 @@ fn act(names: &NameTable, values: &mut Values, action: &Action)
         Action::Output(_) => {}
         Action::Set(_) => {}
         Action::Reset(_) => {}
+    }
+}
+
+/// The end of a transition, if it has one, is come to.
+fn finish(counts: &mut Counts, end: Option<End>) -> Option<End>
+    ensures { (ids : List Identifier) (vs : List (Maybe OneValue)) → IsOnWay (way_of ids (end_text end) vs) (stands result vs) counts.old counts.new }
+{
+    match end {
+        Some(end) => {
+            counts.take_at(end_place(end));
+            Some(end)
+        }
+        None => None,
     }
 }
 
@@ -163,31 +178,37 @@ fn walk(
             None => {}
         }
     }
-    match transition.end {
-        Some(end) => {
-            counts.take_at(end_place(end));
-            Some(end)
-        }
-        None => None,
-    }
+    finish(counts, transition.end)
+}
+
+/// The connections of a process.
+fn connections_in<'a>(process: &ProcessTable<'a>) -> &'a [Connection]
+    ensures { map connection_of result.now ≡ (process_of process.now).connections }
+{
+    &process.process().connections
 }
 
 /// The connection with a name.
 fn connection_at<'a>(process: &ProcessTable<'a>, name: &Identifier) -> Option<&'a Connection>
     ensures { option_map (λ k. connection_of k.now) result ≡ connection_at (process_of process.now) name.now.name }
 {
-    let number = process.connectors().number(name.name)?;
-    process.process().connections.get(number)
+    match process.connectors().number(name.name) {
+        Some(number) => connections_in(process).get(number),
+        None => None,
+    }
 }
 
 /// The connection to which an end leads.
 fn joined_at<'a>(process: &ProcessTable<'a>, end: Option<End>) -> Option<&'a Connection>
     ensures { option_map (λ k. connection_of k.now) result ≡ joined_at (process_of process.now) end }
 {
-    match end? {
-        End::NextState(_) => None,
-        End::Stop(_) => None,
-        End::Join(join) => connection_at(process, &join.connector),
+    match end {
+        Some(end) => match end {
+            End::NextState(_) => None,
+            End::Stop(_) => None,
+            End::Join(join) => connection_at(process, &join.connector),
+        },
+        None => None,
     }
 }
 
@@ -252,6 +273,6 @@ pub(crate) fn pass(
 {
     let mut values = copied_variables(&input.variables);
     take_parameters(process.variables(), &mut values, places, &input.parameters);
-    let joins = process.process().connections.len();
+    let joins = connections_in(process).len();
     go(process, &mut values, counts, transition, joins);
 }
