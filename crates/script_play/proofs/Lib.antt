@@ -8,8 +8,9 @@ mod Capturings
 mod OutGoing
 mod TermCaptures
 mod Pieces
-mod Covering
+mod Countings
 mod Walking
 mod Marking
 mod Rowing
 mod Printing
+mod CoveredPlays

@@ -1,6 +1,7 @@
 pub mod Captured
 pub mod Charted
 pub mod Covered
+pub mod Covering
 pub mod Lcov
 pub mod OnWay
 pub mod Played

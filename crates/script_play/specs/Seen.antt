@@ -4,10 +4,6 @@ use Rattle.std.specs.Prelude.{Err, IfSome, IsUtf8}
 use Rattle.std.specs.Global.{Vec}
 use Rattle.std.specs.Io.KnownBytes.{Appends}
 use Rattle.turn_code.specs.declared.draft.Draft.{Draft}
-use Rattle.sdl_lex.specs.Lexed.{Answers}
-use Rattle.sdl_lex.specs.declared.lexemes.Token.{Token}
-use Rattle.sdl_ast.specs.Plain.{PlainBlock}
-use Rattle.sdl_tree.specs.Syntax.{Reads}
 use Rattle.script_check.specs.Checked.{IsSetOf}
 use Rattle.script_seen.specs.resend_store_types.messages.RoundLimits.{RoundLimits}
 use Rattle.script_seen.specs.TermScripts.{PlainAnyScript, book, terminal, asks_told}
@@ -20,7 +16,7 @@ use Rattle.script_seen.specs.WatchedKinds.{IsTermWatchedInPart}
 use Rattle.script_play.specs.Captured.{IsCaptured, IsCapturedInPart}
 use Rattle.script_play.specs.Played.{IsObeyed, IsMissedIn, IsPlayed, IsPlayedInPart}
 use Rattle.script_play.specs.Charted.{charted_of}
-use Rattle.script_play.specs.Lcov.{lcov_text}
+use Rattle.script_play.specs.Covering.{IsLcov}
 use Rattle.script_play.specs.Thrown.{thrown_of}
 use Rattle.script_play.specs.Traced.{IsPlayTraced, IsPlayTracedInPart}
 use Rattle.script_play.specs.declared.seeing.Wanted.{Wanted}
@@ -134,29 +130,12 @@ pub record IsPlayCapturedInPart (usual : RoundLimits) (every : Bool)
 
 -- ---- what of the set's text was taken
 
--- the text reads as the block
-pub record IsTextOf (text : List ℕ) (b : PlainBlock) : Type 0 where
-  pub tokens : List Token
-  pub lexed : Answers text (Ok tokens)
-  pub reads : Reads tokens b
-
 -- what the turns of a run took of a text was written, in which its file has this name
-abbrev pub IsCoveredBy :
-    List ℕ → List ℕ → PlainBlock → Option (List ℕ) → Option (List ℕ) → List Notice → Type 0
-IsCoveredBy name text b old new ns = Appends old new (lcov_text name text b (turns_in ns))
-
--- the bytes are a script that was run, and so it was
-pub record IsCovered (name text : List ℕ) (usual : RoundLimits) (old new from to : Option (List ℕ))
-    (d : Draft) (bytes : List ℕ) : Type 0 where
-  pub block : PlainBlock
-  pub is_block : IsTextOf text block
-  pub told : IsPlayTold usual old new (IsCoveredBy name text block from to) d bytes
-
-pub record IsCoveredInPart (name text : List ℕ) (usual : RoundLimits)
-    (old new from to : Option (List ℕ)) (d : Draft) (bytes : List ℕ) : Type 0 where
-  pub block : PlainBlock
-  pub is_block : IsTextOf text block
-  pub told : IsPlayToldInPart usual old new (IsCoveredBy name text block from to) d bytes
+pub record IsCoveredBy (name text : List ℕ) (old new : Option (List ℕ)) (ns : List Notice) :
+    Type 0 where
+  pub out : List ℕ
+  pub is_lcov : IsLcov name text (turns_in ns) out
+  pub written : Appends old new out
 
 -- of the text of the set, which has these bytes where they are known
 pub record IsTextCovered (name : List ℕ) (known : Option (List ℕ)) (usual : RoundLimits)
@@ -164,14 +143,14 @@ pub record IsTextCovered (name : List ℕ) (known : Option (List ℕ)) (usual : 
   pub text : List ℕ
   pub is_known : IfSome known (λ all. text ≡ all)
   pub is_set : IsSetOf text d
-  pub covered : IsCovered name text usual old new from to d bytes
+  pub told : IsPlayTold usual old new (IsCoveredBy name text from to) d bytes
 
 pub record IsTextCoveredInPart (name : List ℕ) (known : Option (List ℕ)) (usual : RoundLimits)
     (old new from to : Option (List ℕ)) (d : Draft) (bytes : List ℕ) : Type 0 where
   pub text : List ℕ
   pub is_known : IfSome known (λ all. text ≡ all)
   pub is_set : IsSetOf text d
-  pub covered : IsCoveredInPart name text usual old new from to d bytes
+  pub told : IsPlayToldInPart usual old new (IsCoveredBy name text from to) d bytes
 
 -- of some text of the set, in a file of some name
 pub record IsSomeCovered (usual : RoundLimits) (old new from to : Option (List ℕ)) (d : Draft)
@@ -179,14 +158,14 @@ pub record IsSomeCovered (usual : RoundLimits) (old new from to : Option (List �
   pub name : List ℕ
   pub text : List ℕ
   pub is_set : IsSetOf text d
-  pub covered : IsCovered name text usual old new from to d bytes
+  pub told : IsPlayTold usual old new (IsCoveredBy name text from to) d bytes
 
 pub record IsSomeCoveredInPart (usual : RoundLimits) (old new from to : Option (List ℕ))
     (d : Draft) (bytes : List ℕ) : Type 0 where
   pub name : List ℕ
   pub text : List ℕ
   pub is_set : IsSetOf text d
-  pub covered : IsCoveredInPart name text usual old new from to d bytes
+  pub told : IsPlayToldInPart usual old new (IsCoveredBy name text from to) d bytes
 
 -- ---- what is wanted of a run
 

@@ -2,12 +2,12 @@
 ghost use Rattle.std.specs.Prelude.{◌≡◌, ◌⊎◌, ℕ, [], List, IfSome, IfOk, Option as Maybe, Some, map};
 ghost use Rattle.plain_text.specs.Reading.{Keeps, IsReading};
 ghost use Rattle.sdl_ast.specs.Views.{block_of, process_of};
-ghost use Rattle.sdl_tables.specs.Names.{processes_of, inputs_by_state};
-ghost use Rattle.sdl_tables.specs.Rows.{rows_inputs};
+ghost use Rattle.sdl_tables.specs.Names.{inputs_by_state};
 ghost use Rattle.script_check.specs.Checked.{given, IsAccepted};
+ghost use Rattle.script_seen.specs.Watched.{TurnEnd};
 ghost use Rattle.script_play.specs.Played.{IsNotRun, IsOnSet, IsRefused};
-ghost use Rattle.script_play.specs.Seen.{IsPlayTold, IsPlayToldInPart, IsCoveredBy, IsCovered, IsCoveredInPart, IsTextCovered, IsTextCoveredInPart};
-ghost use Rattle.script_play.specs.Covered.{Covers};
+ghost use Rattle.script_play.specs.Seen.{IsPlayTold, IsPlayToldInPart, IsCoveredBy, IsTextCovered, IsTextCoveredInPart};
+ghost use Rattle.script_play.specs.Covering.{IsTextOf, inputs_in, IsCovering, IsLcov};
 
 use crate::coverage::Coverage;
 use crate::lcov::lcov_text;
@@ -17,7 +17,7 @@ use script_check::{MONITORS, Q703, STANDARD, SetWord, find_set, refuse_set};
 use script_seen::{ActorName, Ended, FAILED, Item, RoundLimits, Watcher, write_line};
 use sdl_lex::tokens;
 use sdl_tables::{BlockTable, InputRow, ProcessTable};
-use sdl_tree::{Block, parse};
+use sdl_tree::parse;
 use std::alloc::{AllocError, Global};
 use std::io::{self, ErrorKind, Read, Write};
 use std::str;
@@ -26,7 +26,8 @@ use turn_code::StateNumber;
 
 /// What turns took of a text, on its way.
 #[derive(Drop)]
-struct Covering<'a, 'b> {
+pub(crate) struct Covering<'a, 'b> {
+    text: &'b str,
     block: &'b BlockTable<'a>,
     /// For each process, and each of its states, what it takes.
     inputs: Vec<Vec<Vec<InputRow<'a>>>>,
@@ -34,15 +35,10 @@ struct Covering<'a, 'b> {
 }
 
 impl Watcher for Covering<'_, '_> {
-    ghost use Rattle.std.specs.Prelude.{◌≡◌, ℕ, List, map};
-    ghost use Rattle.sdl_ast.specs.Views.{block_of};
-    ghost use Rattle.sdl_tables.specs.Names.{processes_of, inputs_by_state};
-    ghost use Rattle.sdl_tables.specs.Rows.{rows_inputs};
     ghost use Rattle.script_seen.specs.Watched.{turns_in};
-    ghost use Rattle.script_play.specs.Covered.{Covers};
+    ghost use Rattle.script_play.specs.Covering.{IsCovering};
 
-    ghost knows = { λ d ns c. Covers (block_of c.block.now) (turns_in ns) c.coverage
-        × (map (λ rows. map rows_inputs rows.items) c.inputs.items ≡ map inputs_by_state (processes_of (block_of c.block.now))) };
+    ghost knows = { λ d ns c. IsCovering (turns_in ns) c };
 
     fn end(&mut self, _alloc: Global, _set: &Verified, ended: &Ended) -> io::Result<()> {
         let number = usize::from(ended.me.process.0);
@@ -72,7 +68,7 @@ fn all_inputs<'a>(
     alloc: Global,
     tables: &[ProcessTable<'a>],
 ) -> Result<Vec<Vec<Vec<InputRow<'a>>>>, AllocError>
-    ensures { IfOk result (λ v. map (λ rows. map rows_inputs rows.items) v.items ≡ map inputs_by_state (map process_of tables.now)) }
+    ensures { IfOk result (λ v. map inputs_in v.items ≡ map inputs_by_state (map process_of tables.now)) }
 {
     let mut all = Vec::new(alloc);
     for process in tables {
@@ -82,22 +78,38 @@ fn all_inputs<'a>(
     Ok(all)
 }
 
-/// Nothing was taken yet of a text of this length with these tables.
+/// Nothing was taken yet of a text that has these tables.
 fn open<'a, 'b>(
     alloc: Global,
+    text: &'b str,
     block: &'b BlockTable<'a>,
-    length: usize,
 ) -> Result<Covering<'a, 'b>, AllocError>
-    ensures { IfOk result (λ c. (c.block.now ≡ block.now) × Covers (block_of c.block.now) [] c.coverage
-        × (map (λ rows. map rows_inputs rows.items) c.inputs.items ≡ map inputs_by_state (processes_of (block_of c.block.now)))) }
+    requires { IsTextOf text.now (block_of block.now) }
+    ensures { IfOk result (IsCovering []) }
 {
     let inputs = all_inputs(alloc, block.tables())?;
-    let coverage = Coverage::new(alloc, length)?;
+    let coverage = Coverage::new(alloc, text.len())?;
     Ok(Covering {
+        text,
         block,
         inputs,
         coverage,
     })
+}
+
+/// What was taken of a text, in the format of lcov, where it is of that text that this is told.
+fn covered_text(
+    alloc: Global,
+    name: &str,
+    text: &str,
+    covering: &Covering<'_, '_>,
+) -> Result<Vec<u8>, AllocError>
+    ensures { IfOk result (λ v. (ts : List TurnEnd) → IsCovering ts covering.now → IsLcov name.now text.now ts v.items) }
+{
+    if covering.text != text {
+        return Err(AllocError);
+    }
+    lcov_text(alloc, name, text, covering.block, &covering.coverage)
 }
 
 /// Runs the script of a text that was read, and tells what was taken of the text of its set, which has these tables.
@@ -113,49 +125,20 @@ fn cover_block<T: Write, W: Write, E: Write>(
     writer: &mut W,
     errors: &mut E,
 ) -> u8
+    requires { IsTextOf text.now (block_of block.now) }
     ensures held { result ≡ 0 → (bytes : List ℕ) → Keeps bytes read.now
-        → IsPlayTold usual (W.contents writer.old) (W.contents writer.new)
-        (IsCoveredBy name.now text.now (block_of block.now) (T.contents out.old) (T.contents out.new)) set.now bytes }
+        → IsPlayTold usual (W.contents writer.old) (W.contents writer.new) (IsCoveredBy name.now text.now (T.contents out.old) (T.contents out.new)) set.now bytes }
     ensures missed { result ≡ 1 → (bytes : List ℕ) → Keeps bytes read.now
-        → IsPlayToldInPart usual (W.contents writer.old) (W.contents writer.new)
-        (IsCoveredBy name.now text.now (block_of block.now) (T.contents out.old) (T.contents out.new)) set.now bytes }
+        → IsPlayToldInPart usual (W.contents writer.old) (W.contents writer.new) (IsCoveredBy name.now text.now (T.contents out.old) (T.contents out.new)) set.now bytes }
     ensures refused { result ≡ 2 → (bytes : List ℕ) → Keeps bytes read.now → IsNotRun (W.contents writer.old) (W.contents writer.new) set.now bytes }
     ensures status { (result ≡ 0) ⊎ (result ≡ 1) ⊎ (result ≡ 2) ⊎ (result ≡ 4) }
 {
-    let Ok(mut covering) = open(alloc, block, text.len()) else {
-        return FAILED;
-    };
-    let status = watch_text(alloc, set, usual, read, &mut covering, writer, errors);
-    let told = lcov_text(alloc, name, text, block, &covering.coverage);
-    tell(status, told, out)
-}
-
-/// The same with the tree of the text.
-fn cover_tree<T: Write, W: Write, E: Write>(
-    alloc: Global,
-    set: &Verified,
-    text: &str,
-    name: &str,
-    tree: &Block,
-    usual: RoundLimits,
-    read: &TextRead,
-    out: &mut T,
-    writer: &mut W,
-    errors: &mut E,
-) -> u8
-    ensures held { result ≡ 0 → (bytes : List ℕ) → Keeps bytes read.now
-        → IsPlayTold usual (W.contents writer.old) (W.contents writer.new)
-        (IsCoveredBy name.now text.now (block_of tree.now) (T.contents out.old) (T.contents out.new)) set.now bytes }
-    ensures missed { result ≡ 1 → (bytes : List ℕ) → Keeps bytes read.now
-        → IsPlayToldInPart usual (W.contents writer.old) (W.contents writer.new)
-        (IsCoveredBy name.now text.now (block_of tree.now) (T.contents out.old) (T.contents out.new)) set.now bytes }
-    ensures refused { result ≡ 2 → (bytes : List ℕ) → Keeps bytes read.now → IsNotRun (W.contents writer.old) (W.contents writer.new) set.now bytes }
-    ensures status { (result ≡ 0) ⊎ (result ≡ 1) ⊎ (result ≡ 2) ⊎ (result ≡ 4) }
-{
-    match BlockTable::new(alloc, tree) {
-        Ok(block) => cover_block(
-            alloc, set, text, name, &block, usual, read, out, writer, errors,
-        ),
+    match open(alloc, text, block) {
+        Ok(mut covering) => {
+            let status = watch_text(alloc, set, usual, read, &mut covering, writer, errors);
+            let told = covered_text(alloc, name, text, &covering);
+            tell(status, told, out)
+        }
         Err(_) => FAILED,
     }
 }
@@ -173,17 +156,20 @@ fn cover<T: Write, W: Write, E: Write>(
     errors: &mut E,
 ) -> u8
     ensures held { result ≡ 0 → (bytes : List ℕ) → Keeps bytes read.now
-        → IsCovered name.now text.now usual (W.contents writer.old) (W.contents writer.new) (T.contents out.old) (T.contents out.new) set.now bytes }
+        → IsPlayTold usual (W.contents writer.old) (W.contents writer.new) (IsCoveredBy name.now text.now (T.contents out.old) (T.contents out.new)) set.now bytes }
     ensures missed { result ≡ 1 → (bytes : List ℕ) → Keeps bytes read.now
-        → IsCoveredInPart name.now text.now usual (W.contents writer.old) (W.contents writer.new) (T.contents out.old) (T.contents out.new) set.now bytes }
+        → IsPlayToldInPart usual (W.contents writer.old) (W.contents writer.new) (IsCoveredBy name.now text.now (T.contents out.old) (T.contents out.new)) set.now bytes }
     ensures refused { result ≡ 2 → (bytes : List ℕ) → Keeps bytes read.now → IsNotRun (W.contents writer.old) (W.contents writer.new) set.now bytes }
     ensures status { (result ≡ 0) ⊎ (result ≡ 1) ⊎ (result ≡ 2) ⊎ (result ≡ 4) }
 {
     match tokens(alloc, text) {
         Ok(tokens) => match parse(alloc, &tokens) {
-            Ok(tree) => cover_tree(
-                alloc, set, text, name, &tree, usual, read, out, writer, errors,
-            ),
+            Ok(tree) => match BlockTable::new(alloc, &tree) {
+                Ok(block) => cover_block(
+                    alloc, set, text, name, &block, usual, read, out, writer, errors,
+                ),
+                Err(_) => FAILED,
+            },
             Err(_) => FAILED,
         },
         Err(_) => FAILED,

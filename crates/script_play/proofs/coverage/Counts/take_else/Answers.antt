@@ -1,5 +1,5 @@
 use Rattle.std.proofs.Common.{refl}
-use Rattle.script_play.proofs.Covering.{taken_at_else}
+use Rattle.script_play.proofs.Countings.{taken_at_else}
 use Rattle.script_play.proofs.coverage.Counts.take_else.Goals as goal
 
 pub returns : goal.returns

@@ -1,6 +1,6 @@
 use Rattle.sdl_ast.specs.Views.{process_of}
 use Rattle.sdl_tables.specs.Rows.{row_input}
-use Rattle.script_play.proofs.Covering.{row_taken}
+use Rattle.script_play.proofs.Countings.{row_taken}
 use Rattle.script_play.proofs.coverage.Counts.take_row.Goals as goal
 
 pub returns : goal.returns

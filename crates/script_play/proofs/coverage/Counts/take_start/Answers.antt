@@ -1,4 +1,4 @@
-use Rattle.script_play.proofs.Covering.{start_taken}
+use Rattle.script_play.proofs.Countings.{start_taken}
 use Rattle.script_play.proofs.coverage.Counts.take_start.Goals as goal
 
 pub returns : goal.returns

@@ -2,7 +2,7 @@ use Rattle.std.proofs.Common.{refl, sym, ap, ◌∙◌}
 use Rattle.std.specs.Option.{option_map}
 use Rattle.sdl_ast.specs.Views.{process_of}
 use Rattle.sdl_tables.specs.Rows.{row_input}
-use Rattle.script_play.proofs.Covering.{at_start, state_taken, taken_nothing}
+use Rattle.script_play.proofs.Countings.{at_start, state_taken, taken_nothing}
 use Rattle.script_play.proofs.coverage.Counts.take_turn.Goals as goal
 
 pub returns-in-Start : goal.returns-in-Start

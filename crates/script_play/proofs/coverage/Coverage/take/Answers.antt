@@ -1,7 +1,7 @@
 use Rattle.std.proofs.Common.{ap, ◌∙◌}
 use Rattle.sdl_ast.specs.Views.{process_of}
 use Rattle.script_play.specs.Covered.{state_in}
-use Rattle.script_play.proofs.Covering.{covers_more, counted_as, taken_as}
+use Rattle.script_play.proofs.Countings.{covers_more, counted_as, taken_as}
 use Rattle.script_play.proofs.coverage.Coverage.take.Goals as goal
 
 pub returns : goal.returns

@@ -1,5 +1,5 @@
 use Rattle.std.proofs.Common.{◌≡◌, ◌∙◌, ap, get_or, replicate, rules}
-use Rattle.script_play.proofs.Covering.{zero_at}
+use Rattle.script_play.proofs.Countings.{zero_at}
 use Rattle.script_play.proofs.coverage.Places.new.Goals as goal
 
 pub returns : goal.returns

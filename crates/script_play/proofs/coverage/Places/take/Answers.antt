@@ -1,5 +1,5 @@
 use Rattle.std.proofs.Common.{refl}
-use Rattle.script_play.proofs.Covering.{counts_more, counts_over}
+use Rattle.script_play.proofs.Countings.{counts_more, counts_over}
 use Rattle.script_play.proofs.coverage.Places.take.Goals as goal
 
 pub returns-in-Some : goal.returns-in-Some

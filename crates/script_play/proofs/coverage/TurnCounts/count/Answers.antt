@@ -1,6 +1,6 @@
 use Rattle.std.proofs.Common.{sym, ap, ◌∙◌}
 use Rattle.std.specs.Prelude.{slice_set}
-use Rattle.script_play.proofs.Covering.{more, counted_again, counted_first}
+use Rattle.script_play.proofs.Countings.{more, counted_again, counted_first}
 use Rattle.script_play.proofs.coverage.TurnCounts.count.Goals as goal
 
 pub returns-in_ok-again-in-Some : goal.returns-in_ok-again-in-Some
