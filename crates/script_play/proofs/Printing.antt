@@ -90,13 +90,13 @@ rows_past rows i s past h =
 abbrev is_newline : ℕ → Bool
 is_newline o = o == 10
 
-pub line_more : (text : List ℕ) (i o line next : ℕ) → i < length text → o ≡ get_or text i o → line ≡ line_at text i → next ≡ (if o == 10 then line + 1 else line) → next ≡ line_at text (i + 1)
+pub line_more : (text : List ℕ) (i o line next : ℕ) → i < length text → o ≡ get_or text i 0 → line ≡ line_at text i → next ≡ (if o == 10 then line + 1 else line) → next ≡ line_at text (i + 1)
 line_more text i o line next lt is at so =
     so
     ∙ (ap (λ n. if o == 10 then n + 1 else n) at
     ∙ (by_test (o == 10)
     ∙ (ap (λ n. count_by is_newline (take i text) + cond (n == 10) 1 0 + 1) is
-    ∙ ap (λ n. n + 1) (sym (sum_by_more (λ n. cond (is_newline n) 1 0) text i o lt)))))
+    ∙ ap (λ n. n + 1) (sym (sum_by_more (λ n. cond (is_newline n) 1 0) text i 0 lt)))))
   where
     by_test : (b : Bool) → (if b then line_at text i + 1 else line_at text i) ≡ count_by is_newline (take i text) + cond b 1 0 + 1
     by_test true = omega arith

@@ -131,22 +131,32 @@ fn line_behind(line: u32, octet: u8) -> Result<u32, AllocError>
 }
 
 /// The number of the line of a place; of the end's, where it is past that.
-fn line_at(lines: &[u32], at: u32) -> u32
+fn line_at(lines: &[u32], at: u32) -> u64
     ensures { (text : List ℕ) → AreLines text lines.now → result ≡ line_at text at }
 {
     match lines.get(at as usize) {
-        Some(line) => *line,
+        Some(line) => u64::from(*line),
         None => last_line(lines),
     }
 }
 
 /// The number of the last line.
-fn last_line(lines: &[u32]) -> u32
+fn last_line(lines: &[u32]) -> u64
     ensures { (text : List ℕ) → AreLines text lines.now → result ≡ line_at text (length text) }
 {
     match lines.last() {
-        Some(line) => *line,
+        Some(line) => u64::from(*line),
         None => 0,
+    }
+}
+
+/// How many numbers of lines there are, 0 too.
+fn line_count(lines: &[u32]) -> usize
+    ensures { (text : List ℕ) → AreLines text lines.now → result ≡ line_at text (length text) + 1 }
+{
+    match lines.last() {
+        Some(line) => *line as usize + 1,
+        None => 1,
     }
 }
 
@@ -160,8 +170,7 @@ fn push_places(
     ensures { OnOk result ((text : List ℕ) → AreLines text lines.now → out.new.items ≡ out.old.items ++ flat_map (place_line text) (map row_of rows.now)) }
 {
     for row in rows {
-        let line = u64::from(line_at(lines, row.at));
-        push_named(alloc, out, "FN:", line, &row.name)?;
+        push_named(alloc, out, "FN:", line_at(lines, row.at), &row.name)?;
     }
     Ok(())
 }
@@ -234,7 +243,7 @@ fn push_answer(
 {
     let line = branch_line(
         alloc,
-        u64::from(line_at(lines, decision)),
+        line_at(lines, decision),
         u64::from(decision),
         number as u64,
         counts.times(decision),
@@ -311,7 +320,7 @@ fn more_of(seen: Option<u64>, times: u64) -> u64
 }
 
 /// Something on a line was taken so often.
-fn see(seen: &mut Vec<Option<u64>>, line: u32, times: u64)
+fn see(seen: &mut Vec<Option<u64>>, line: u64, times: u64)
     ensures { seen.new.items ≡ slice_set seen.old.items line (Some (max (unwrap_or (slice_index_or seen.old.items line None) 0) times)) }
 {
     let line = line as usize;
@@ -342,7 +351,7 @@ fn line_counts(
     ensures { IfOk result (λ v. (text : List ℕ) → AreLines text lines.now → v.items ≡ line_counts text (slice_index counts.now.begun.times.items) marks.now) }
 {
     let nothing: Option<u64> = None;
-    let mut seen = vec![in alloc; nothing; last_line(lines) as usize + 1]?;
+    let mut seen = vec![in alloc; nothing; line_count(lines)]?;
     for mark in marks {
         see_mark(&mut seen, lines, counts, *mark);
     }
