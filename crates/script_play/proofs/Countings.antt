@@ -161,7 +161,7 @@ none_more t p q s r n m other known =
     by_test false never = refl
 
 known_counted : (p q : ℕ) (s r : Option ℕ) (n m : ℕ) (ts : List Turns) → known_turns (counted_turn p s n ts) q r m ≡ known_turns ts q r m + one_if (same_key p s n q r m)
-known_counted p q s r n m [] = refl
+known_counted p q s r n m [] = omega arith
 known_counted p q s r n m (t ∷ ts) = by_test (is_known t p s n) refl (known_counted p q s r n m ts)
   where
     left : (b d : Bool) → is_known t p s n ≡ false → is_known t q r m ≡ d → (u v : ℕ) → u ≡ v + one_if (same_key p s n q r m)
@@ -184,26 +184,26 @@ turns_more ts t c d is has = λ q r m.
 
 -- ---- places
 
-set_more : (f : ℕ → ℕ) (ts : List ℕ) (at n : ℕ) → at < length ts → n ≡ get_or ts at 0 + 1 → ((k : ℕ) → get_or ts k 0 ≡ f k) → (k : ℕ) → get_or (slice_set ts at n) k 0 ≡ one_more at f k
-set_more f ts at n within is has k = by_test (k == at) refl
+set_more : (f : ℕ → ℕ) (ts : List ℕ) (spot n : ℕ) → spot < length ts → n ≡ get_or ts spot 0 + 1 → ((k : ℕ) → get_or ts k 0 ≡ f k) → (k : ℕ) → get_or (slice_set ts spot n) k 0 ≡ one_more spot f k
+set_more f ts spot n within is has k = by_test (k == spot) refl
   where
-    by_test : (b : Bool) → nat_eq k at ≡ b → get_or (slice_set ts at n) k 0 ≡ (if b then f k + 1 else f k)
+    by_test : (b : Bool) → nat_eq k spot ≡ b → get_or (slice_set ts spot n) k 0 ≡ (if b then f k + 1 else f k)
     by_test true e =
-        let same : k ≡ at = same_number k at e in
-        ap (λ (j : ℕ). get_or (slice_set ts at n) j 0) same
-        ∙ (get_or-set_same ts at n 0 within ∙ (is ∙ ap (λ (j : ℕ). j + 1) (ap (λ (j : ℕ). get_or ts j 0) (sym same) ∙ has k)))
+        let same : k ≡ spot = same_number k spot e in
+        ap (λ (j : ℕ). get_or (slice_set ts spot n) j 0) same
+        ∙ (get_or-set_same ts spot n 0 within ∙ (is ∙ ap (λ (j : ℕ). j + 1) (ap (λ (j : ℕ). get_or ts j 0) (sym same) ∙ has k)))
     by_test false e =
-        let other : k ≢ at = λ same. true≢false (sym (same_as k) ∙ (ap (nat_eq k) same ∙ e)) in
-        get_or-set_other ts at k n 0 other ∙ has k
+        let other : k ≢ spot = λ same. true≢false (sym (same_as k) ∙ (ap (nat_eq k) same ∙ e)) in
+        get_or-set_other ts spot k n 0 other ∙ has k
 
     same_as : (j : ℕ) → nat_eq j j ≡ true
     same_as j = grind (arith, nat_tests)
 
 -- what was taken at a place is counted there
-pub counts_more : (f : ℕ → ℕ) (c d : Places) (at n : ℕ) → at < length c.times.items → n ≡ get_or c.times.items at 0 + 1 → d.times.items ≡ slice_set c.times.items at n → d.over ≡ c.over
-    → HasCounts f c → HasCounts (one_more at f) d
-counts_more f c d at n within is are same has = λ under k.
-    ap (λ (l : List ℕ). get_or l k 0) are ∙ set_more f c.times.items at n within is (has (sym same ∙ under)) k
+pub counts_more : (f : ℕ → ℕ) (c d : Places) (spot n : ℕ) → spot < length c.times.items → n ≡ get_or c.times.items spot 0 + 1 → d.times.items ≡ slice_set c.times.items spot n → d.over ≡ c.over
+    → HasCounts f c → HasCounts (one_more spot f) d
+counts_more f c d spot n within is are same has = λ under k.
+    ap (λ (l : List ℕ). get_or l k 0) are ∙ set_more f c.times.items spot n within is (has (sym same ∙ under)) k
 
 pub counts_over : (f : ℕ → ℕ) (d : Places) → d.over ≡ true → HasCounts f d
 counts_over f d over = λ under. absurd (true≢false (sym over ∙ under))
@@ -211,8 +211,8 @@ counts_over f d over = λ under. absurd (true≢false (sym over ∙ under))
 counts_as : (f g : ℕ → ℕ) (c : Places) → ((k : ℕ) → f k ≡ g k) → HasCounts f c → HasCounts g c
 counts_as f g c same has = λ under k. has under k ∙ same k
 
-add_if : (f : ℕ → ℕ) (k at : ℕ) → (if k == at then f k + 1 else f k) ≡ f k + one_if (k == at)
-add_if f k at = by_test (k == at)
+add_if : (f : ℕ → ℕ) (k spot : ℕ) → (if k == spot then f k + 1 else f k) ≡ f k + one_if (k == spot)
+add_if f k spot = by_test (k == spot)
   where
     by_test : (b : Bool) → (if b then f k + 1 else f k) ≡ f k + one_if b
     by_test true = refl
@@ -271,11 +271,11 @@ state_taken p q state n rows place o x xs new here same are is has =
     (ap (λ (i : Option Input). taken_input p i x) is
     ∙ (ap (λ (k : ℕ). taken_input p (input_at (slice_get rows k) n) x) same
     ∙ (ap (λ (rs : List (List Input)). taken_input p (input_at (slice_get rs q.0) n) x) are
-    ∙ ap (λ (at : Place). taken_at p at n x) (sym here)))) has
+    ∙ ap (λ (it : Place). taken_at p it n x) (sym here)))) has
 
 pub at_start : (p : PlainProcess) (n : ℕ) (place : Place) (x : given.Input) (xs : List Taken) (new : Counts) → place ≡ Start → HasTaken (xs ++ taken_at p Start 0 x) new
     → HasTaken (xs ++ taken_at p place n x) new
-at_start p n place x xs new here has = subst (λ (at : Place). HasTaken (xs ++ taken_at p at n x) new) (sym here) has
+at_start p n place x xs new here has = subst (λ (it : Place). HasTaken (xs ++ taken_at p it n x) new) (sym here) has
 
 -- the same by other names
 pub counted_as : (old new : List Turns) (p q : ℕ) (s : Option ℕ) (place : Place) (n m : ℕ) → new ≡ counted_turn p s n old → p ≡ q → s ≡ state_in place → n ≡ m
@@ -287,7 +287,7 @@ pub taken_as : (p : PlainProcess) (xs : List Taken) (old new : Counts) (t : Turn
     → (HasTaken xs old → HasTaken (xs ++ taken_at p place n x) new) → HasTaken xs old → HasTaken (xs ++ taken_of (Some p) t) new
 taken_as p xs old new t place n x here number input step has =
     subst (λ (l : List Taken). HasTaken (xs ++ l) new)
-    (ap (λ (at : Place). taken_at p at n x) here ∙ (ap (λ (k : ℕ). taken_at p t.place k x) number ∙ ap (λ (i : given.Input). taken_at p t.place t.input_number i) input)) (step has)
+    (ap (λ (it : Place). taken_at p it n x) here ∙ (ap (λ (k : ℕ). taken_at p t.place k x) number ∙ ap (λ (i : given.Input). taken_at p t.place t.input_number i) input)) (step has)
 
 taken_more : (b : PlainBlock) (ts : List TurnEnd) (t : TurnEnd) → taken_by b (ts ++ t ∷ []) ≡ taken_by b ts ++ taken_of (slice_get (processes_of b) t.me.process.0) t.turn
 taken_more b ts t = sym (flat_map_more (λ (u : TurnEnd). taken_of (slice_get (processes_of b) u.me.process.0) u.turn) [] ts t)

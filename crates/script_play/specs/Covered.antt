@@ -112,7 +112,7 @@ HasCounts f p = p.over ≡ false → (k : ℕ) → slice_index p.times.items k �
 
 -- one more at a place
 abbrev pub one_more : ℕ → (ℕ → ℕ) → ℕ → ℕ
-one_more at f k = if k == at then f k + 1 else f k
+one_more place f k = if k == place then f k + 1 else f k
 
 -- this was taken so far
 pub record HasTaken (xs : List Taken) (c : Counts) : Type 0 where

@@ -220,8 +220,8 @@ lines_text os =
     count_lines 0 os ++ summary (codes "LF:") (codes "LH:") (flat_map option_to_list os)
 
 -- lines on their way, of what was taken so often
-pub record IsSection (text ns : List ℕ) (s : Section) : Type 0 where
-  pub text : s.text.items ≡ text
+pub record IsSection (lines ns : List ℕ) (s : Section) : Type 0 where
+  pub text : s.text.items ≡ lines
   pub found : s.found ≡ length ns
   pub hit : s.hit ≡ count_by (nat_lt 0) ns
 

@@ -56,11 +56,11 @@ quotient_of op t x = found (divide op (divisor_of t) x fresh)
 
 -- what an expression comes to, where variables of these names have these values
 abbrev pub valued : List Identifier → Tree → List (Option Value) → Option Value
-valued ids (number at k) vs = Some (Int (wrap (pos k)))
-valued ids (truth at b) vs = Some (Truth b)
-valued ids (variable at n) vs = held (number_of ids n.name) vs
-valued ids (unary at op t) vs = option_and_then (made_of_one op) (valued ids t vs)
-valued ids (binary at op t u) vs =
+valued ids (number k n) vs = Some (Int (wrap (pos n)))
+valued ids (truth k b) vs = Some (Truth b)
+valued ids (variable k n) vs = held (number_of ids n.name) vs
+valued ids (unary k op t) vs = option_and_then (made_of_one op) (valued ids t vs)
+valued ids (binary k op t u) vs =
     option_and_then (λ x. if is_division op then quotient_of op u x
     else option_and_then (made_of_two op x) (valued ids u vs)) (valued ids t vs)
 

@@ -47,7 +47,7 @@ fn push_end(marks: &mut Vec<Mark>, end: Option<End>) -> Result<(), AllocError>
     ensures { OnOk result (marks.new.items ≡ marks.old.items ++ text_marks (end_text end)) }
 {
     match end {
-        Some(end) => push_begin(marks, end_place(end)),
+        Some(end) => push_begin(marks, end_place(&end)),
         None => Ok(()),
     }
 }

@@ -35,12 +35,12 @@ pub(crate) fn action_place(action: &Action) -> u32
 }
 
 /// Where the end of a transition begins.
-pub(crate) fn end_place(end: End) -> u32
-    ensures { result ≡ end_place end }
+pub(crate) fn end_place(end: &End) -> u32
+    ensures { result ≡ end_place end.now }
 {
     match end {
         End::NextState(next) => next.at,
-        End::Stop(at) => at,
+        End::Stop(at) => *at,
         End::Join(join) => join.at,
     }
 }
@@ -92,7 +92,7 @@ fn finish(counts: &mut Counts, end: Option<End>) -> Option<End>
 {
     match end {
         Some(end) => {
-            counts.take_at(end_place(end));
+            counts.take_at(end_place(&end));
             Some(end)
         }
         None => None,
