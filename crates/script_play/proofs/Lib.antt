@@ -7,6 +7,11 @@ pub mod WatchedPlays
 mod Capturings
 mod OutGoing
 mod TermCaptures
+mod OtherLinks
+mod SetCaptures
+mod SetClocks
+mod SetOutGoing
+mod SetCommands
 mod Pieces
 mod Countings
 mod Walking

@@ -9,11 +9,13 @@ use Rattle.script_seen.specs.resend_store_types.messages.RoundLimits.{RoundLimit
 use Rattle.script_seen.specs.TermScripts.{PlainAnyScript, book, terminal, asks_told}
 use Rattle.script_seen.specs.GroupScripts.{PlainPlayScript, other, group, play_script_of}
 use Rattle.script_seen.specs.Played.{first_book}
+use Rattle.script_seen.specs.GroupRuns.{IsOfNewSet}
 use Rattle.script_seen.specs.TermRuns.{IsOfNew}
 use Rattle.script_seen.specs.Watched.{Notice, turns_in}
 use Rattle.script_seen.specs.WatchedKinds.{IsBookWatched, IsBookWatchedInPart, IsTermWatched}
 use Rattle.script_seen.specs.WatchedKinds.{IsTermWatchedInPart}
 use Rattle.script_play.specs.Captured.{IsCaptured, IsCapturedInPart}
+use Rattle.script_play.specs.CapturedSets.{IsSetCaptured, IsSetCapturedInPart}
 use Rattle.script_play.specs.Played.{IsObeyed, IsMissedIn, IsPlayed, IsPlayedInPart}
 use Rattle.script_play.specs.Charted.{charted_of}
 use Rattle.script_play.specs.Covering.{IsLcov}
@@ -91,11 +93,12 @@ IsOtherCaptured usual every d (terminal s) old new =
     IsOfNew d usual s.head
     (λ t. IsCaptured every (asks_told s.commands) t s.commands old new)
 
--- a script of a link set isn't captured
+-- so is one of a set of links
 abbrev pub AreCaptured :
     RoundLimits → Bool → Draft → PlainPlayScript → Option (List ℕ) → Option (List ℕ) → Type 0
 AreCaptured usual every d (other s) old new = IsOtherCaptured usual every d s old new
-AreCaptured usual every d (group s) old new = ⊥
+AreCaptured usual every d (group s) old new =
+    IsOfNewSet d usual s.head (IsSetCaptured every s.commands old new)
 
 -- up to an expectation that failed
 abbrev pub IsOtherCapturedInPart :
@@ -108,9 +111,10 @@ IsOtherCapturedInPart usual every d (terminal s) old new =
 abbrev pub AreCapturedInPart :
     RoundLimits → Bool → Draft → PlainPlayScript → Option (List ℕ) → Option (List ℕ) → Type 0
 AreCapturedInPart usual every d (other s) old new = IsOtherCapturedInPart usual every d s old new
-AreCapturedInPart usual every d (group s) old new = ⊥
+AreCapturedInPart usual every d (group s) old new =
+    IsOfNewSet d usual s.head (IsSetCapturedInPart every s.commands old new)
 
--- the bytes are a script, all of whose commands were obeyed, and whose link is captured
+-- the bytes are a script, all of whose commands were obeyed, and whose links are captured
 pub record IsPlayCaptured (usual : RoundLimits) (every : Bool) (old new from to : Option (List ℕ))
     (d : Draft) (bytes : List ℕ) : Type 0 where
   pub utf8 : IsUtf8 bytes

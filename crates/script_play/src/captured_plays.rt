@@ -7,6 +7,7 @@ ghost use Rattle.script_seen.specs.GroupScripts.{plain_play_script, IsFit};
 ghost use Rattle.script_play.specs.Played.{IsOtherObeyed, IsObeyed, IsOtherMissed, IsMissedIn, HasNoOther, HasNoTerminal, IsNotRun, IsOnSet, IsRefused};
 ghost use Rattle.script_play.specs.Seen.{IsOtherCaptured, AreCaptured, IsOtherCapturedInPart, AreCapturedInPart, IsPlayCaptured, IsPlayCapturedInPart};
 
+use crate::captured_groups::capture_group;
 use crate::captured_terminals::capture_terminal;
 use crate::playing::{explain, explain_length, refuse_script};
 use plain_text::{TextRead, line_at_limit, read_text};
@@ -18,14 +19,14 @@ use std::io::{Read, Write};
 use std::str;
 use turn_check::Verified;
 
-/// Tells that units of a terminal's script alone are captured. Gives the exit status.
+/// Tells that a script of a book has no units. Gives the exit status.
 fn lacks_units<E: Write>(alloc: Global, errors: &mut E) -> u8
     ensures { result ≡ 4 }
 {
     let _told = write_line(
         alloc,
         errors,
-        &"mtp2_play: units are captured of a script of a terminal",
+        &"mtp2_play: a script of a book has no units to capture",
     );
     FAILED
 }
@@ -57,7 +58,7 @@ fn capture_other<T: Write, W: Write, E: Write>(
     }
 }
 
-/// Runs a script, and captures its link.
+/// Runs a script, and captures its links.
 fn capture_script<T: Write, W: Write, E: Write>(
     alloc: Global,
     set: &Verified,
@@ -80,11 +81,13 @@ fn capture_script<T: Write, W: Write, E: Write>(
         PlayScript::Other(script) => {
             capture_other(alloc, set, usual, script, every, out, writer, errors)
         }
-        PlayScript::Group(_) => lacks_units(alloc, errors),
+        PlayScript::Group(script) => {
+            capture_group(alloc, set, usual, script, every, out, writer)
+        }
     }
 }
 
-/// Runs the script of a text that was read, and captures its link.
+/// Runs the script of a text that was read, and captures its links.
 fn capture_text<T: Write, W: Write, E: Write>(
     alloc: Global,
     set: &Verified,
@@ -122,11 +125,11 @@ fn capture_text<T: Write, W: Write, E: Write>(
     }
 }
 
-/// Runs a script of a terminal as `play` does without the lines of its commands, and captures its link in pcap's format, with a millisecond for each
-/// tick: the units that `out` prints, and those that come in without error. Those that say nothing new are left out, unless `every` says otherwise.
-/// A record goes out in one write.
+/// Runs a script of a terminal or of a link set as `play` does without the lines of its commands, and captures its links in pcap's format, with a
+/// millisecond for each tick: the units that `out` prints, and those that come in without error. Those that say nothing new are left out, unless
+/// `every` says otherwise. A record goes out in one write.
 ///
-/// Gives the exit status, as `play` does: 4 where a write to `out` fails too, and for another script.
+/// Gives the exit status, as `play` does: 4 where a write to `out` fails too, and for a script of a book, which has no units.
 pub(crate) fn play_captured<S: Read + Drop, R: Read + Drop, W: Write, T: Write, E: Write>(
     alloc: Global,
     set: SetWord<S>,

@@ -76,9 +76,9 @@ fn give_out<T: Write, W: Write>(
 
 /// What comes in by a command: octets, so many times.
 #[derive(Drop)]
-struct Coming {
-    octets: Vec<u8>,
-    times: u32,
+pub(crate) struct Coming {
+    pub(crate) octets: Vec<u8>,
+    pub(crate) times: u32,
 }
 
 /// What comes in by a command, by which no unit is asked for, and nothing expected.

@@ -1,6 +1,7 @@
 //! The command `play`: a script, run on a set of processes, or on a terminal.
 #![tactic(auto)]
 
+mod captured_groups;
 mod captured_plays;
 mod captured_terminals;
 mod capturing;

@@ -32,8 +32,8 @@ pub enum Wanted {
 /// there.
 ///
 /// Gives the exit status, as `play` does: 4 where a write to `out` fails too, where a terminal's journal begins anew within a command, as it does
-/// behind 32,768 events, but for a capture; and for a script of a link set; with a capture for a script of a book; and with
-/// coverage where the set's text has more octets than a text may have.
+/// behind 32,768 events, and for a script of a link set, but with a capture; with a capture for a script of a book; and with coverage where the set's
+/// text has more octets than a text may have.
 pub fn play_seen<S: Read + Drop, R: Read + Drop, T: Write, W: Write, E: Write>(
     alloc: Global,
     set: SetWord<S>,

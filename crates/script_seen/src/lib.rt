@@ -26,12 +26,13 @@ pub use pushing::{
     push_timer, push_trigger, shown,
 };
 pub use script_group::{
-    FAILED, HELD, MISSED, OpenError, TermPlayer, Terminal, Unit, asks_told, encode, line_of_unit,
-    new_player, play_book, play_group, play_terminal, refuse, refuse_set, text_line, write_line,
+    FAILED, GroupPlayer, HELD, MISSED, OpenError, TermPlayer, Terminal, Unit, asks_told, encode,
+    line_of_unit, new_player, open_group, play_book, play_group, play_terminal, refuse, refuse_set,
+    text_line, write_line,
 };
 pub use script_links::{
-    AnyScript, PlayScript, RoundLimits, TermCommand, TermSaid, TermScript, play_fault,
-    play_script_in,
+    AnyScript, GroupCommand, GroupSaid, GroupScript, PlayScript, RoundLimits, TermCommand,
+    TermSaid, TermScript, play_fault, play_script_in,
 };
 pub use terminals::show_terminal;
 pub use timing::delay_of;
