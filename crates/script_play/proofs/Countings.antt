@@ -184,7 +184,10 @@ turns_more ts t c d is has = λ q r m.
 
 -- ---- places
 
-set_more : (f : ℕ → ℕ) (ts : List ℕ) (spot n : ℕ) → spot < length ts → n ≡ get_or ts spot 0 + 1 → ((k : ℕ) → get_or ts k 0 ≡ f k) → (k : ℕ) → get_or (slice_set ts spot n) k 0 ≡ one_more spot f k
+same_as : (j : ℕ) → nat_eq j j ≡ true
+same_as j = grind (arith, nat_tests)
+
+pub set_more : (f : ℕ → ℕ) (ts : List ℕ) (spot n : ℕ) → spot < length ts → n ≡ get_or ts spot 0 + 1 → ((k : ℕ) → get_or ts k 0 ≡ f k) → (k : ℕ) → get_or (slice_set ts spot n) k 0 ≡ one_more spot f k
 set_more f ts spot n within is has k = by_test (k == spot) refl
   where
     by_test : (b : Bool) → nat_eq k spot ≡ b → get_or (slice_set ts spot n) k 0 ≡ (if b then f k + 1 else f k)
@@ -195,9 +198,6 @@ set_more f ts spot n within is has k = by_test (k == spot) refl
     by_test false e =
         let other : k ≢ spot = λ same. true≢false (sym (same_as k) ∙ (ap (nat_eq k) same ∙ e)) in
         get_or-set_other ts spot k n 0 other ∙ has k
-
-    same_as : (j : ℕ) → nat_eq j j ≡ true
-    same_as j = grind (arith, nat_tests)
 
 -- what was taken at a place is counted there
 pub counts_more : (f : ℕ → ℕ) (c d : Places) (spot n : ℕ) → spot < length c.times.items → n ≡ get_or c.times.items spot 0 + 1 → d.times.items ≡ slice_set c.times.items spot n → d.over ≡ c.over
@@ -244,7 +244,7 @@ taken_at_else xs c d k counts same has = record {
 -- first one thing, and then others
 pub taken_both : (xs ys : List Taken) (x : Taken) (old mid new : Counts) → (HasTaken xs old → HasTaken (xs ++ x ∷ []) mid) → ((zs : List Taken) → HasTaken zs mid → HasTaken (zs ++ ys) new)
     → HasTaken xs old → HasTaken (xs ++ x ∷ ys) new
-taken_both xs ys x old mid new one then has = subst (λ (l : List Taken). HasTaken l new) (append_assoc xs (x ∷ []) ys) (then (xs ++ x ∷ []) (one has))
+taken_both xs ys x old mid new one next has = subst (λ (l : List Taken). HasTaken l new) (append_assoc xs (x ∷ []) ys) (next (xs ++ x ∷ []) (one has))
 
 pub taken_nothing : (xs : List Taken) (c : Counts) → HasTaken xs c → HasTaken (xs ++ []) c
 taken_nothing xs c has = subst (λ (l : List Taken). HasTaken l c) (sym (append-nil xs)) has
@@ -252,16 +252,16 @@ taken_nothing xs c has = subst (λ (l : List Taken). HasTaken l c) (sym (append-
 pub start_taken : (q p : the_process.Process) (x : given.Input) (xs : List Taken) (old mid new : Counts) → q ≡ p → (HasTaken xs old → HasTaken (xs ++ at q.start.at ∷ []) mid)
     → ((zs : List Taken) → HasTaken zs mid → HasTaken (zs ++ passed (process_of p) [] (text_of q.start.transition) x) new) → HasTaken xs old
     → HasTaken (xs ++ taken_at (process_of p) Start 0 x) new
-start_taken q p x xs old mid new same one then has =
+start_taken q p x xs old mid new same one next has =
     subst (λ (r : the_process.Process). HasTaken (xs ++ at r.start.at ∷ passed (process_of p) [] (text_of r.start.transition) x) new) same
-    (taken_both xs (passed (process_of p) [] (text_of q.start.transition) x) (at q.start.at) old mid new one then has)
+    (taken_both xs (passed (process_of p) [] (text_of q.start.transition) x) (at q.start.at) old mid new one next has)
 
 pub row_taken : (p : PlainProcess) (i : Input) (places : List (Option Identifier)) (x : given.Input) (xs : List Taken) (old mid new : Counts) → places ≡ i.stimulus.places
     → (HasTaken xs old → HasTaken (xs ++ at i.at ∷ []) mid) → ((zs : List Taken) → HasTaken zs mid → HasTaken (zs ++ passed p places i.text x) new) → HasTaken xs old
     → HasTaken (xs ++ taken_input p (Some i) x) new
-row_taken p i places x xs old mid new same one then has =
+row_taken p i places x xs old mid new same one next has =
     subst (λ (l : List (Option Identifier)). HasTaken (xs ++ at i.at ∷ passed p l i.text x) new) same
-    (taken_both xs (passed p places i.text x) (at i.at) old mid new one then has)
+    (taken_both xs (passed p places i.text x) (at i.at) old mid new one next has)
 
 pub state_taken : (p : PlainProcess) (q : StateNumber) (state n : ℕ) (rows : List (List Input)) (place : Place) (o : Option Input) (x : given.Input) (xs : List Taken) (new : Counts)
     → place ≡ AtState q → state ≡ q.0 → rows ≡ inputs_by_state p → o ≡ input_at (slice_get rows state) n → HasTaken (xs ++ taken_input p o x) new
@@ -302,7 +302,7 @@ covers_more b ts t p c d is counted taken has = record {
       (ap (λ (o : Option PlainProcess). taken_by b ts ++ taken_of o t.turn) (sym is) ∙ sym (taken_more b ts t)) (taken (taken_by b ts) has.taken);
 }
 
-pub zero_at : (n k : ℕ) → get_or (replicate n 0) k 0 ≡ 0
+pub zero_at : (n k : ℕ) → ◌≡◌ {A = ℕ} (get_or (replicate n 0) k 0) 0
 zero_at zero k = refl
 zero_at (suc n) zero = refl
 zero_at (suc n) (suc k) = zero_at n k

@@ -8,7 +8,7 @@ use Rattle.std.proofs.lemmas.Bool.Decides.{nat_tests}
 use Rattle.std.proofs.lemmas.List.{length_push, take_more, take_all, length-take-le, length-replicate, get_or-set_same, get_or-set_other, length-set, set_past, get_or-replicate}
 use Rattle.std.proofs.lemmas.List.FromFn.{fill_by_all}
 use Rattle.std.proofs.lemmas.List.Sums.{sum_by_push, sum_by_more, fold_more}
-use Rattle.std.proofs.lemmas.Option.{slice_get-get_or}
+use Rattle.std.proofs.lemmas.Option.{slice_get_past}
 use Rattle.sdl_sound.proofs.Spread.{flat_more}
 use Rattle.plain_laws.proofs.Lists.{mapped_more}
 use Rattle.script_play.specs.Lcov.{Transition, row_of, line_at, AreLines, counted, turns_line, summary, IsSection, begins_at, seen_at, seen_on, Sees, line_count, line_counts, count_line, count_lines}
@@ -142,17 +142,12 @@ line_there text lines k n there h = by_side (nat_lt (length text) k) refl
   where
     by_side : (b : Bool) → nat_lt (length text) k ≡ b → n ≡ line_at text k
     by_side true e =
-        let none : slice_get lines k ≡ None = slice_past lines k (grind (arith, nat_tests, h.number)) in
+        let none : slice_get lines k ≡ None = slice_get_past lines k (grind (arith, nat_tests, h.number)) in
         absurd (let f : ⊥ = cc in f)
     by_side false e =
         let le : k ≤ length text = grind (arith, nat_tests) in
         let same : Some n ≡ Some (line_at text k) = sym there ∙ h.are k le in
         cc
-
-    slice_past : (xs : List ℕ) (j : ℕ) → length xs ≤ j → slice_get xs j ≡ None
-    slice_past [] j le = refl
-    slice_past (x ∷ xs) zero le = absurd (omega (arith, le))
-    slice_past (x ∷ xs) (suc j) le = slice_past xs j (omega (arith, le))
 
 pub line_past : (text lines : List ℕ) (k n : ℕ) → slice_get lines k ≡ None → n ≡ line_at text (length text) → AreLines text lines → n ≡ line_at text k
 line_past text lines k n none is h = is ∙ past_end text k (by_side (nat_lt k (length text + 1)) refl)
@@ -189,7 +184,7 @@ pub lines_section_more : (os : List (Option ℕ)) (i : ℕ) (o : Option ℕ) (s 
 lines_section_more os i o s t lt is h step =
     section_as _ _ _ _ t
     (ap (count_lines 0) (take_more os i o lt ∙ ap (λ x. take i os ++ x ∷ []) (sym is))
-    ∙ (count_lines_more 0 (take i os) o ∙ ap (λ k. count_lines 0 (take i os) ++ count_line k o) (length-take-le i os (omega (arith, lt)))))
+    ∙ (count_lines_more 0 (take i os) o ∙ ap (λ k. count_lines 0 (take i os) ++ count_line k o) (let e : 0 + length (take i os) ≡ i = omega (arith, length-take-le i os (omega (arith, lt))) in e)))
     (flat_more option_to_list os i o lt is) (step _ _ h)
 
 pub lines_section_past : (os : List (Option ℕ)) (i : ℕ) (s : Section) → length os ≤ i → IsSection (count_lines 0 (take i os)) (flat_map option_to_list (take i os)) s

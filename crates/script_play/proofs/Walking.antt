@@ -1,5 +1,6 @@
 -- A walk: one statement and one answer further, and the ends.
 use Rattle.std.proofs.Common.{◌≡◌, ◌∙◌, ℕ, suc, ◌+◌, ◌<◌, ◌≤◌, Bool, true, false, cond, List, [], ◌∷◌, ◌++◌, append_assoc, append-nil, length, map, drop, get_or, Option, None, Some, refl, sym, ap, subst}
+use Rattle.std.specs.Option.{option_map}
 use Rattle.std.proofs.lemmas.List.{drop_more, drop_all}
 use Rattle.sdl_ast.specs.declared.expression.Identifier.{Identifier}
 use Rattle.sdl_ast.specs.declared.tree.Answer.{Answer}
@@ -197,10 +198,16 @@ answers_past whole ids k xs i o r x vs old new past is h =
     (ap (λ (l : List Answer). chosen_way ids k (answers_before l (else_choice o)) x vs) (drop_all i xs past)
     ∙ ap (λ (p : Option Transition). chosen_way ids k (else_choice p) x vs) is) h
 
-pub end_taken : (ids : List Identifier) (e : End) (k : ℕ) (vs : Values) (old new : Counts) → k ≡ end_place e → ((xs : List Taken) → HasTaken xs old → HasTaken (xs ++ at k ∷ []) new)
-    → IsOnWay (way_of ids (end_text (Some e)) vs) (stands (Some e) vs) old new
-end_taken ids e k vs old new is counts =
-    as_whole (behind (at k ∷ []) (stands (Some e) vs)) _ _ old new (ap (λ (n : ℕ). behind (at n ∷ []) (stands (Some e) vs)) is) (on_taken (at k) (stands (Some e) vs) old new counts)
+pub end_taken : (ids : List Identifier) (o : Option End) (k : ℕ) (vs : Values) (old new : Counts) → Some k ≡ option_map end_place o
+    → ((xs : List Taken) → HasTaken xs old → HasTaken (xs ++ at k ∷ []) new) → IsOnWay (way_of ids (end_text o) vs) (stands o vs) old new
+end_taken ids None k vs old new is counts = absurd (let f : ⊥ = cc in f)
+end_taken ids (Some e) k vs old new is counts =
+    let same : k ≡ end_place e = cc in
+    as_whole (behind (at k ∷ []) (stands (Some e) vs)) _ _ old new (ap (λ (n : ℕ). behind (at n ∷ []) (stands (Some e) vs)) same) (on_taken (at k) (stands (Some e) vs) old new counts)
+
+pub none_taken : (ids : List Identifier) (o : Option End) (vs : Values) (c : Counts) → None ≡ option_map end_place o → IsOnWay (way_of ids (end_text o) vs) (stands o vs) c c
+none_taken ids None vs c is = on_start _ _ c refl
+none_taken ids (Some e) vs c is = absurd (let f : ⊥ = cc in f)
 
 pub else_taken : (whole : Way) (ids : List Identifier) (k : ℕ) (body : Transition) (x : Value) (vs : Values) (left : Way) (old now mid new : Counts)
     → IsOnWay whole (chosen_way ids k (else_choice (Some body)) x vs) old now → ((ys : List Taken) → HasTaken ys now → HasTaken (ys ++ else_of k ∷ []) mid)

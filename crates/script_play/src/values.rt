@@ -4,6 +4,7 @@ ghost use Rattle.sdl_ast.specs.Views.{tree_of};
 ghost use Rattle.sdl_tables.specs.Names.{number_of};
 ghost use Rattle.sdl_sound.specs.Longest.{is_division};
 ghost use Rattle.sdl_meaning.specs.Act.{divisor_of, quotient, relation_of, integer_in, compared, between, is_literal, covers_integer, covers_truth};
+ghost use Rattle.turn_code.specs.Values.{wrap};
 ghost use Rattle.turn_code.specs.declared.value.Value.TheVariants.{Int, Bool as Truth};
 ghost use Rattle.script_play.specs.Ways.{made_of_one, made_of_two, quotient_of, held, valued, has_value, is_for};
 
@@ -30,12 +31,19 @@ fn unary(operator: UnaryOperator, value: Value) -> Option<Value>
     }
 }
 
+/// The Integer of a number in a text.
+fn integer(value: u32) -> i32
+    ensures { result ≡ wrap (pos value) }
+{
+    value.cast_signed()
+}
+
 /// The number right of a division; 0 for all else that may stand there.
 fn divisor(expression: &Expression) -> i32
     ensures { result ≡ divisor_of (tree_of expression.now) }
 {
     match expression {
-        Expression::Number { value, .. } => value.cast_signed(),
+        Expression::Number { value, .. } => integer(*value),
         Expression::Truth { .. } => 0,
         Expression::Variable { .. } => 0,
         Expression::Unary { .. } => 0,
@@ -158,7 +166,7 @@ pub(crate) fn evaluate(
     ensures { result ≡ valued names.now (tree_of expression.now) values.now }
 {
     match expression {
-        Expression::Number { value, .. } => Some(Value::Int(value.cast_signed())),
+        Expression::Number { value, .. } => Some(Value::Int(integer(*value))),
         Expression::Truth { value, .. } => Some(Value::Bool(*value)),
         Expression::Variable { name, .. } => held(names, values, name),
         Expression::Unary {

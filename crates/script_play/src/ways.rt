@@ -86,16 +86,26 @@ fn act(names: &NameTable, values: &mut Values, action: &Action)
     }
 }
 
+/// Where an end begins, if there is one.
+fn place_of(end: &Option<End>) -> Option<u32>
+    ensures { result ≡ option_map end_place end.now }
+{
+    match end {
+        Some(end) => Some(end_place(end)),
+        None => None,
+    }
+}
+
 /// The end of a transition, if it has one, is come to.
 fn finish(counts: &mut Counts, end: Option<End>) -> Option<End>
     ensures { (ids : List Identifier) (vs : List (Maybe OneValue)) → IsOnWay (way_of ids (end_text end) vs) (stands result vs) counts.old counts.new }
 {
-    match end {
-        Some(end) => {
-            counts.take_at(end_place(&end));
-            Some(end)
+    match place_of(&end) {
+        Some(place) => {
+            counts.take_at(place);
+            end
         }
-        None => None,
+        None => end,
     }
 }
 
