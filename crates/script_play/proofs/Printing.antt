@@ -1,19 +1,27 @@
 -- What is told of a text: lines, and how many.
-use Rattle.std.proofs.Common.{◌≡◌, ◌∙◌, ℕ, zero, suc, ◌+◌, ◌-◌, ◌<◌, ◌≤◌, Bool, true, false, cond, max, List, [], ◌∷◌, ◌++◌, append_assoc, append-nil, length, map, take, get_or, replicate, slice_set, Option, None, Some, unwrap_or, arith, refl, sym, ap, subst}
+use Rattle.std.proofs.Common.{◌≡◌, ◌∙◌, ℕ, zero, suc, ◌+◌, ◌-◌, ◌<◌, ◌≤◌, Bool, true, false, true≢false, ◌||◌, cond, max, List, [], ◌∷◌, ◌++◌, append_assoc, append-nil, length, map, take, get_or, replicate, slice_set, Option, None, Some, unwrap_or, arith, refl, sym, ap, subst}
 use Rattle.std.specs.Prelude.{◌==◌, nat_eq, nat_lt, if◌then◌else◌, codes, count_by, fold, slice_get, slice_index, option_to_list}
 use Rattle.std.specs.Fmt.{decimal}
 use Rattle.std.specs.List.{flat_map, range_with_len, sum_by}
 use Rattle.std.proofs.lemmas.Bool.{eqb-true as same_number}
 use Rattle.std.proofs.lemmas.Bool.Decides.{nat_tests}
-use Rattle.std.proofs.lemmas.List.{length_push, take_more, take_all, length-take-le, length-replicate, get_or-set_same, get_or-set_other, length-set, set_past, get_or-replicate}
+use Rattle.std.proofs.lemmas.List.{length_push, take_more, take_all, length-take-le, length-replicate, get_or-set_same, get_or-set_other, length-set, get_or-replicate, get_or_default}
 use Rattle.std.proofs.lemmas.List.FromFn.{fill_by_all}
 use Rattle.std.proofs.lemmas.List.Sums.{sum_by_push, sum_by_more, fold_more}
 use Rattle.std.proofs.lemmas.Option.{slice_get_past}
 use Rattle.sdl_sound.proofs.Spread.{flat_more}
 use Rattle.plain_laws.proofs.Lists.{mapped_more}
-use Rattle.script_play.specs.Lcov.{Transition, row_of, line_at, AreLines, counted, turns_line, summary, IsSection, begins_at, seen_at, seen_on, Sees, line_count, line_counts, count_line, count_lines}
+use Rattle.sdl_ast.specs.Plain.{PlainBlock}
+use Rattle.sdl_tables.specs.Names.{processes_of, signal_names}
+use Rattle.script_seen.specs.Watched.{TurnEnd}
+use Rattle.script_play.specs.Covered.{times, others, turns_of, taken_by, known_turns, HasTurns, HasTaken, Covers}
+use Rattle.script_play.specs.Lcov.{Transition, row_of, all_rows, block_marks, line_at, AreLines, counted, turns_line, summary, rows_text, taken_word, branch_line, mark_line, mark_times, answers_text, IsSection, begins_at, seen_at, seen_on, Sees, line_count, line_counts, count_line, count_lines, lines_text, report_text, lcov_text}
+use Rattle.script_play.specs.declared.coverage.Coverage.{Coverage}
+use Rattle.script_play.specs.declared.coverage.Counts.{Counts}
+use Rattle.script_play.specs.declared.coverage.TurnCounts.{TurnCounts}
 use Rattle.script_play.specs.declared.lcov.Section.{Section}
 use Rattle.script_play.specs.declared.marks.Mark.{Mark}
+use Rattle.script_play.specs.declared.marks.Mark.TheVariants.{Answer, Else}
 use Rattle.script_play.specs.declared.rows.Row.{Row}
 use std.Path.{fun_ext}
 
@@ -53,6 +61,32 @@ section_to found hit lines ns old a b new s one two three h =
     ∙ (ap (λ l. old ++ (l ++ (counted found s.found ++ counted hit s.hit))) h.text
     ∙ (ap (λ n. old ++ (lines ++ (counted found n ++ counted hit s.hit))) h.found
     ∙ ap (λ n. old ++ (lines ++ (counted found (length ns) ++ counted hit n))) h.hit)))))
+
+-- the same line
+pub line_as : (said line same : List ℕ) (ns : List ℕ) (t : Section) → line ≡ same → IsSection (said ++ line) ns t → IsSection (said ++ same) ns t
+line_as said line same ns t is h = section_as _ _ _ _ t (ap (λ l. said ++ l) (sym is)) refl h
+
+-- an answer, an ELSE
+pub answer_pushed : (text : List ℕ) (f g : ℕ → ℕ) (m : Mark) (a k n times : ℕ) (said ns : List ℕ) (t : Section) → m ≡ Answer a k n → times ≡ f a
+    → IsSection (said ++ branch_line (line_at text k) k n (taken_word (f k) times)) (ns ++ times ∷ []) t → IsSection (said ++ mark_line text f g m) (ns ++ mark_times f g m) t
+answer_pushed text f g m a k n times said ns t is so h =
+    section_as _ _ _ _ t
+    (ap (λ x. said ++ mark_line text f g x) is ∙ ap (λ x. said ++ branch_line (line_at text k) k n (taken_word (f k) x)) (sym so))
+    (ap (λ x. ns ++ mark_times f g x) is ∙ ap (λ x. ns ++ x ∷ []) (sym so)) h
+
+pub else_pushed : (text : List ℕ) (f g : ℕ → ℕ) (m : Mark) (k n times : ℕ) (said ns : List ℕ) (t : Section) → m ≡ Else k n → times ≡ g k
+    → IsSection (said ++ branch_line (line_at text k) k n (taken_word (f k) times)) (ns ++ times ∷ []) t → IsSection (said ++ mark_line text f g m) (ns ++ mark_times f g m) t
+else_pushed text f g m k n times said ns t is so h =
+    section_as _ _ _ _ t
+    (ap (λ x. said ++ mark_line text f g x) is ∙ ap (λ x. said ++ branch_line (line_at text k) k n (taken_word (f k) x)) (sym so))
+    (ap (λ x. ns ++ mark_times f g x) is ∙ ap (λ x. ns ++ x ∷ []) (sym so)) h
+
+-- a line that was taken
+pub some_counted : (line times : ℕ) (o : Option ℕ) (text : List ℕ) (s t : Section) → o ≡ Some times → text ≡ count_line line (Some times)
+    → ((said ns : List ℕ) → IsSection said ns s → IsSection (said ++ text) (ns ++ times ∷ []) t) → (said ns : List ℕ) → IsSection said ns s
+    → IsSection (said ++ count_line line o) (ns ++ option_to_list o) t
+some_counted line times o text s t is so step said ns h =
+    section_as _ _ _ _ t (ap (λ l. said ++ l) (ap (count_line line) is ∙ sym so)) (ap (λ (p : Option ℕ). ns ++ option_to_list p) is) (step said ns h)
 
 -- of items so far
 pub items_more : {A : Type 0} (L T : A → List ℕ) (xs : List A) (i : ℕ) (x : A) (s t : Section) → i < length xs → x ≡ get_or xs i x
@@ -177,15 +211,17 @@ count_lines_more n (x ∷ os) o =
     ∙ (ap (λ k. count_line n x ++ (count_lines (n + 1) os ++ count_line k o)) (let e : n + 1 + length os ≡ n + suc (length os) = omega arith in e)
     ∙ sym (append_assoc (count_line n x) (count_lines (n + 1) os) (count_line (n + suc (length os)) o)))
 
-pub lines_section_more : (os : List (Option ℕ)) (i : ℕ) (o : Option ℕ) (s t : Section) → i < length os → o ≡ get_or os i o
+pub lines_section_more : (os : List (Option ℕ)) (i : ℕ) (d : Option ℕ) (s t : Section) → i < length os
     → IsSection (count_lines 0 (take i os)) (flat_map option_to_list (take i os)) s
-    → ((text ns : List ℕ) → IsSection text ns s → IsSection (text ++ count_line i o) (ns ++ option_to_list o) t)
+    → ((text ns : List ℕ) → IsSection text ns s → IsSection (text ++ count_line i (get_or os i d)) (ns ++ option_to_list (get_or os i d)) t)
     → IsSection (count_lines 0 (take (i + 1) os)) (flat_map option_to_list (take (i + 1) os)) t
-lines_section_more os i o s t lt is h step =
+lines_section_more os i d s t lt h step =
+    let o = get_or os i d in
     section_as _ _ _ _ t
-    (ap (count_lines 0) (take_more os i o lt ∙ ap (λ x. take i os ++ x ∷ []) (sym is))
-    ∙ (count_lines_more 0 (take i os) o ∙ ap (λ k. count_lines 0 (take i os) ++ count_line k o) (let e : 0 + length (take i os) ≡ i = omega (arith, length-take-le i os (omega (arith, lt))) in e)))
-    (flat_more option_to_list os i o lt is) (step _ _ h)
+    (ap (count_lines 0) (take_more os i d lt)
+    ∙ (count_lines_more 0 (take i os) o
+    ∙ ap (λ k. count_lines 0 (take i os) ++ count_line k o) (let e : 0 + length (take i os) ≡ i = omega (arith, length-take-le i os (omega (arith, lt))) in e)))
+    (flat_more option_to_list os i o lt (get_or_default os i d o lt)) (step _ _ h)
 
 pub lines_section_past : (os : List (Option ℕ)) (i : ℕ) (s : Section) → length os ≤ i → IsSection (count_lines 0 (take i os)) (flat_map option_to_list (take i os)) s
     → IsSection (count_lines 0 os) (flat_map option_to_list os) s
@@ -246,3 +282,40 @@ pub all_seen : (text : List ℕ) (f : ℕ → ℕ) (ms : List Mark) (i count : �
 all_seen text f ms i count os past is h =
     fill_by_all (line_count text f ms) os count None h.number (λ line less. h.seen line less ∙ ap (λ l. line_count text f l line) (take_all i ms past))
     ∙ ap (λ n. map (line_count text f ms) (range_with_len 0 n)) is
+
+-- ---- the whole
+
+pub three_pieces : (o a b n r s t : List ℕ) → a ≡ o ++ r → b ≡ a ++ s → n ≡ b ++ t → n ≡ o ++ (r ++ s ++ t)
+three_pieces o a b n r s t one two three =
+    three ∙ (ap (λ l. l ++ t) (two ∙ (ap (λ l. l ++ s) one ∙ append_assoc o r s)) ∙ append_assoc o (r ++ s) t)
+
+regroup : (h r a l e : List ℕ) → (h ++ (r ++ a ++ l)) ++ e ≡ h ++ r ++ a ++ l ++ e
+regroup h r a l e = ap (λ x. x ++ e) (sym (append_assoc h (r ++ a) l) ∙ ap (λ x. x ++ l) (sym (append_assoc h r a)))
+
+neither : (a b : Bool) → a || b ≡ false → (a ≡ false) × (b ≡ false)
+neither true b e = absurd (true≢false e)
+neither false b e = (refl, e)
+
+pub lcov_is : (name text : List ℕ) (b : PlainBlock) (ts : List TurnEnd) (c : Coverage) (counts : Counts) (rows : List Row) (ms : List Mark) (turns : TurnCounts) (h o n : List ℕ)
+    → counts ≡ c.counts → map row_of rows ≡ all_rows (known_turns turns.turns.items) (signal_names b) 0 (processes_of b) → turns ≡ c.turns → ms ≡ block_marks b
+    → counts.begun.over || counts.others.over ≡ false → h ≡ codes "TN:scripts\nSF:" ++ name ++ codes "\n"
+    → o ≡ h ++ (rows_text text (map row_of rows) ++ answers_text text (slice_index counts.begun.times.items) (slice_index counts.others.times.items) ms
+    ++ lines_text (line_counts text (slice_index counts.begun.times.items) ms))
+    → n ≡ o ++ codes "end_of_record\n" → Covers b ts c → n ≡ lcov_text name text b ts
+lcov_is name text b ts c counts rows ms turns h o n same are known marks under head told last covers =
+    let taken = subst (HasTaken (taken_by b ts)) (sym same) covers.taken in
+    let f : slice_index counts.begun.times.items ≡ times (taken_by b ts) = fun_ext (λ k. taken.begun (neither counts.begun.over counts.others.over under).0 k) in
+    let g : slice_index counts.others.times.items ≡ others (taken_by b ts) = fun_ext (λ k. taken.others (neither counts.begun.over counts.others.over under).1 k) in
+    let of_turns = subst (HasTurns ts) (sym known) covers.turns in
+    let rs : map row_of rows ≡ all_rows (turns_of ts) (signal_names b) 0 (processes_of b) =
+    are ∙ ap (λ (u : ℕ → Option ℕ → ℕ → ℕ). all_rows u (signal_names b) 0 (processes_of b)) (fun_ext (λ p. fun_ext (λ q. fun_ext (λ m. of_turns p q m)))) in
+    let F = slice_index counts.begun.times.items in
+    let G = slice_index counts.others.times.items in
+    last
+    ∙ (ap (λ l. l ++ codes "end_of_record\n") told
+    ∙ (regroup h (rows_text text (map row_of rows)) (answers_text text F G ms) (lines_text (line_counts text F ms)) (codes "end_of_record\n")
+    ∙ (ap (λ l. l ++ rows_text text (map row_of rows) ++ answers_text text F G ms ++ lines_text (line_counts text F ms) ++ codes "end_of_record\n") head
+    ∙ (ap (λ (l : List Transition). report_text name text l F G ms) rs
+    ∙ (ap (λ (u : ℕ → ℕ). report_text name text (all_rows (turns_of ts) (signal_names b) 0 (processes_of b)) u G ms) f
+    ∙ (ap (λ (u : ℕ → ℕ). report_text name text (all_rows (turns_of ts) (signal_names b) 0 (processes_of b)) (times (taken_by b ts)) u ms) g
+    ∙ ap (report_text name text (all_rows (turns_of ts) (signal_names b) 0 (processes_of b)) (times (taken_by b ts)) (others (taken_by b ts))) marks))))))
