@@ -5,11 +5,9 @@ use Rattle.std.specs.Global.{Vec}
 use Rattle.std.specs.Option.{option_map}
 use Rattle.std.specs.Io.KnownBytes.{Appends}
 use Rattle.std.proofs.lemmas.Option.{slice_get-map, same_Some}
-use Rattle.sdl_ast.specs.declared.tree.Process as the_process
 use Rattle.sdl_ast.specs.Plain.{PlainBlock, PlainProcess}
-use Rattle.sdl_ast.specs.Views.{block_of, process_of}
+use Rattle.sdl_ast.specs.Views.{block_of}
 use Rattle.sdl_tables.specs.Names.{Input, inputs_by_state, processes_of}
-use Rattle.sdl_tables.specs.declared.process_table.InputRow.{InputRow}
 use Rattle.turn_code.specs.declared.draft.Draft.{Draft}
 use Rattle.script_check.specs.Checked.{IsSetOf, IsGiven, IsAccepted, PrintsRefusal}
 use Rattle.script_seen.specs.resend_store_types.messages.RoundLimits.{RoundLimits}
@@ -34,34 +32,23 @@ turns_same [] x = refl
 turns_same (ends s ∷ ns) x = ap (λ (l : List TurnEnd). s ∷ l) (turns_same ns x)
 turns_same (throws y ∷ ns) x = turns_same ns x
 
-process_there : (ps : List the_process.Process) (all : List PlainProcess) (n m : ℕ) (p : the_process.Process) → map process_of ps ≡ all → slice_get ps n ≡ Some p → n ≡ m
-    → slice_get all m ≡ Some (process_of p)
-process_there ps all n m p are there same =
-    ap (slice_get all) (sym same)
-    ∙ (ap (λ l. slice_get l n) (sym are) ∙ (slice_get-map process_of ps n ∙ ap (option_map process_of) there))
-
-inputs_there : (rows : List (Vec (Vec InputRow))) (all : List PlainProcess) (n m : ℕ) (is : Vec (Vec InputRow)) (p : PlainProcess) → map inputs_in rows ≡ map inputs_by_state all
-    → slice_get rows n ≡ Some is → n ≡ m → slice_get all m ≡ Some p → inputs_in is ≡ inputs_by_state p
-inputs_there rows all n m is p are there same at =
-    same_Some (inputs_in is) (inputs_by_state p)
-    (sym (slice_get-map inputs_in rows n ∙ ap (option_map inputs_in) there)
-    ∙ (ap (λ l. slice_get l n) are
-    ∙ (slice_get-map inputs_by_state all n
-    ∙ (ap (λ k. option_map inputs_by_state (slice_get all k)) same ∙ ap (option_map inputs_by_state) at))))
-
-pub covering_end : (ns : List Notice) (t : TurnEnd) (c : Covering) (after : Coverage) (ps : List the_process.Process) (n : ℕ) (p : the_process.Process) (is : Vec (Vec InputRow))
-    → map process_of ps ≡ processes_of (block_of c.block.now) → slice_get ps n ≡ Some p → slice_get c.inputs.items n ≡ Some is → n ≡ t.me.process.0
-    → ((ts : List TurnEnd) → slice_get (processes_of (block_of c.block.now)) t.me.process.0 ≡ Some (process_of p) → inputs_in is ≡ inputs_by_state (process_of p)
+-- of the process of the turn, and of what its states take
+pub covering_end : (ns : List Notice) (t : TurnEnd) (c : Covering) (after : Coverage) (all : List PlainProcess) (rows : List (List (List Input))) (n : ℕ) (p : PlainProcess) (is : List (List Input))
+    → all ≡ processes_of (block_of c.block.now) → rows ≡ map inputs_in c.inputs.items → Some p ≡ slice_get all n → Some is ≡ slice_get rows n → n ≡ t.me.process.0
+    → ((ts : List TurnEnd) → slice_get (processes_of (block_of c.block.now)) t.me.process.0 ≡ Some p → is ≡ inputs_by_state p
     → Covers (block_of c.block.now) ts c.coverage → Covers (block_of c.block.now) (ts ++ t ∷ []) after)
     → IsCovering (turns_in ns) c → IsCovering (turns_in (ns ++ ends t ∷ [])) (record c { coverage = after })
-covering_end ns t c after ps n p is are there at same step known =
-    let all = processes_of (block_of c.block.now) in
-    let place = process_there ps all n t.me.process.0 p are there same in
+covering_end ns t c after all rows n p is are those there at same step known =
+    let ps = processes_of (block_of c.block.now) in
+    let place : slice_get ps n ≡ Some p = ap (λ (l : List PlainProcess). slice_get l n) (sym are) ∙ sym there in
+    let inputs : is ≡ inputs_by_state p =
+    same_Some is (inputs_by_state p)
+    (at ∙ (ap (λ (l : List (List (List Input))). slice_get l n) (those ∙ known.inputs) ∙ (slice_get-map inputs_by_state ps n ∙ ap (option_map inputs_by_state) place))) in
     record {
       is_text = known.is_text;
       covers =
           subst (λ (l : List TurnEnd). Covers (block_of c.block.now) l after) (turns_more ns t)
-          (step (turns_in ns) place (inputs_there c.inputs.items all n t.me.process.0 is (process_of p) known.inputs at same place) known.covers);
+          (step (turns_in ns) (ap (slice_get ps) (sym same) ∙ place) inputs known.covers);
       inputs = known.inputs;
     }
 

@@ -1,8 +1,10 @@
 //! The command `play` with what is told at its end of the text of its set: what of it was taken, in the format of lcov.
-ghost use Rattle.std.specs.Prelude.{◌≡◌, ◌⊎◌, ℕ, [], List, IfSome, IfOk, Option as Maybe, Some, map};
+ghost use Rattle.std.specs.Prelude.{◌≡◌, ◌⊎◌, ℕ, [], List, IfSome, IfOk, Option as Maybe, Some, map, slice_get};
+ghost use Rattle.std.specs.Option.{option_map};
 ghost use Rattle.plain_text.specs.Reading.{Keeps, IsReading};
 ghost use Rattle.sdl_ast.specs.Views.{block_of, process_of};
 ghost use Rattle.sdl_tables.specs.Names.{inputs_by_state};
+ghost use Rattle.sdl_tables.specs.Rows.{rows_inputs};
 ghost use Rattle.script_check.specs.Checked.{given, IsAccepted};
 ghost use Rattle.script_seen.specs.Watched.{TurnEnd};
 ghost use Rattle.script_play.specs.Played.{IsNotRun, IsOnSet, IsRefused};
@@ -42,8 +44,8 @@ impl Watcher for Covering<'_, '_> {
 
     fn end(&mut self, _alloc: Global, _set: &Verified, ended: &Ended) -> io::Result<()> {
         let number = usize::from(ended.me.process.0);
-        match self.block.tables().get(number) {
-            Some(process) => match self.inputs.get(number) {
+        match process_at(self.block.tables(), number) {
+            Some(process) => match inputs_at(&self.inputs, number) {
                 Some(inputs) => Ok(self.coverage.take(process, inputs, ended)?),
                 None => Err(io::Error::from(ErrorKind::Other)),
             },
@@ -60,6 +62,29 @@ impl Watcher for Covering<'_, '_> {
         _item: &Item,
     ) -> io::Result<()> {
         Ok(())
+    }
+}
+
+/// A process, if there is one of this number.
+fn process_at<'a, 'b>(
+    tables: &'b [ProcessTable<'a>],
+    number: usize,
+) -> Option<&'b ProcessTable<'a>>
+    ensures { option_map (λ p. process_of p.now) result ≡ slice_get (map process_of tables.now) number }
+{
+    tables.get(number)
+}
+
+/// What the states of a process take, if there is one of this number.
+fn inputs_at<'a, 'b>(
+    inputs: &'b [Vec<Vec<InputRow<'a>>>],
+    number: usize,
+) -> Option<&'b [Vec<InputRow<'a>>]>
+    ensures { option_map (λ v. map rows_inputs v.now) result ≡ slice_get (map inputs_in inputs.now) number }
+{
+    match inputs.get(number) {
+        Some(states) => Some(states),
+        None => None,
     }
 }
 
