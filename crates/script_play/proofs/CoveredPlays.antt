@@ -1,0 +1,164 @@
+-- Plays with what turns took of the set's text.
+use Rattle.std.proofs.Common.{◌≡◌, ◌∙◌, ℕ, List, [], ◌∷◌, ◌++◌, map, Option, None, Some, Result, Ok, Err, IfOk, IfSome, refl, sym, ap, subst}
+use Rattle.std.specs.Prelude.{slice_get}
+use Rattle.std.specs.Global.{Vec}
+use Rattle.std.specs.Option.{option_map}
+use Rattle.std.specs.Io.KnownBytes.{Appends}
+use Rattle.std.proofs.lemmas.Option.{slice_get-map, same_Some}
+use Rattle.sdl_ast.specs.Plain.{PlainBlock, PlainProcess}
+use Rattle.sdl_ast.specs.Views.{block_of}
+use Rattle.sdl_tables.specs.Names.{Input, inputs_by_state, processes_of}
+use Rattle.turn_code.specs.declared.draft.Draft.{Draft}
+use Rattle.script_check.specs.Checked.{IsSetOf, IsGiven, IsAccepted, PrintsRefusal}
+use Rattle.script_seen.specs.resend_store_types.messages.RoundLimits.{RoundLimits}
+use Rattle.script_seen.specs.Watched.{Notice, TurnEnd, Throw as OneThrow, ends, throws, turns_in}
+use Rattle.script_play.specs.Played.{IsOnSet, IsRefused, set_refused, script_refused}
+use Rattle.script_play.specs.Covered.{Covers}
+use Rattle.script_play.specs.Lcov.{lcov_text}
+use Rattle.script_play.specs.Covering.{IsTextOf, inputs_in, IsCovering, IsLcov}
+use Rattle.script_play.specs.Seen.{IsToldTo, IsPlayTold, IsPlayToldInPart, IsCoveredBy, IsTextCovered, IsTextCoveredInPart, IsSomeCovered, IsSomeCoveredInPart}
+use Rattle.script_play.specs.declared.coverage.Coverage.{Coverage}
+use Rattle.script_play.specs.declared.covering.Covering.{Covering}
+
+-- ---- a turn that ends, and what is thrown away
+
+turns_more : (ns : List Notice) (t : TurnEnd) → turns_in ns ++ t ∷ [] ≡ turns_in (ns ++ ends t ∷ [])
+turns_more [] t = refl
+turns_more (ends s ∷ ns) t = ap (λ (l : List TurnEnd). s ∷ l) (turns_more ns t)
+turns_more (throws x ∷ ns) t = turns_more ns t
+
+turns_same : (ns : List Notice) (x : OneThrow) → turns_in ns ≡ turns_in (ns ++ throws x ∷ [])
+turns_same [] x = refl
+turns_same (ends s ∷ ns) x = ap (λ (l : List TurnEnd). s ∷ l) (turns_same ns x)
+turns_same (throws y ∷ ns) x = turns_same ns x
+
+-- of the process of the turn, and of what its states take
+pub covering_end : (ns : List Notice) (t : TurnEnd) (c : Covering) (after : Coverage) (all : List PlainProcess) (rows : List (List (List Input))) (n : ℕ) (p : PlainProcess) (is : List (List Input))
+    → all ≡ processes_of (block_of c.block.now) → rows ≡ map inputs_in c.inputs.items → Some p ≡ slice_get all n → Some is ≡ slice_get rows n → n ≡ t.me.process.0
+    → ((ts : List TurnEnd) → slice_get (processes_of (block_of c.block.now)) t.me.process.0 ≡ Some p → is ≡ inputs_by_state p
+    → Covers (block_of c.block.now) ts c.coverage → Covers (block_of c.block.now) (ts ++ t ∷ []) after)
+    → IsCovering (turns_in ns) c → IsCovering (turns_in (ns ++ ends t ∷ [])) (record c { coverage = after })
+covering_end ns t c after all rows n p is are those there at same step known =
+    let ps = processes_of (block_of c.block.now) in
+    let place : slice_get ps n ≡ Some p = ap (λ (l : List PlainProcess). slice_get l n) (sym are) ∙ sym there in
+    let inputs : is ≡ inputs_by_state p =
+    same_Some is (inputs_by_state p)
+    (at ∙ (ap (λ (l : List (List (List Input))). slice_get l n) (those ∙ known.inputs) ∙ (slice_get-map inputs_by_state ps n ∙ ap (option_map inputs_by_state) place))) in
+    record {
+      is_text = known.is_text;
+      covers =
+          subst (λ (l : List TurnEnd). Covers (block_of c.block.now) l after) (turns_more ns t)
+          (step (turns_in ns) (ap (slice_get ps) (sym same) ∙ place) inputs known.covers);
+      inputs = known.inputs;
+    }
+
+pub covering_throw : (ns : List Notice) (x : OneThrow) (c : Covering) → IsCovering (turns_in ns) c → IsCovering (turns_in (ns ++ throws x ∷ [])) c
+covering_throw ns x c known = subst (λ (l : List TurnEnd). IsCovering l c) (turns_same ns x) known
+
+-- ---- what is told at the end
+
+pub told_of_text : (name text was : List ℕ) (ts : List TurnEnd) (b : PlainBlock) (out : List ℕ) → was ≡ text → IsTextOf was b → out ≡ lcov_text name text b ts → IsLcov name text ts out
+told_of_text name text was ts b out same is told = record { block = b; is_block = subst (λ (t : List ℕ). IsTextOf t b) same is; told = told }
+
+pub covered_to : {E : Type 0} (r : Result (Vec ℕ) E) (old new : Option (List ℕ)) (name text : List ℕ) (c : Covering) → IsToldTo r old new
+    → IfOk r (λ v. (ts : List TurnEnd) → IsCovering ts c → IsLcov name text ts v.items) → (ns : List Notice) → IsCovering (turns_in ns) c → IsCoveredBy name text old new ns
+covered_to (Ok v) old new name text c told is ns known = record { out = v.items; is_lcov = is (turns_in ns) known; written = told }
+covered_to (Err e) old new name text c told is ns known = absurd told
+
+-- ---- of a text that is known, or isn't
+
+given_as : (known : Option (List ℕ)) (bytes : List ℕ) (P : List ℕ → Type 0) → IfSome known (λ all. bytes ≡ all) → IsGiven (Some bytes) P → IsGiven known P
+given_as None bytes P is g = record { bytes = g.bytes; are_known = tt; holds = g.holds }
+given_as (Some all) bytes P is g = record { bytes = g.bytes; are_known = g.are_known ∙ is; holds = g.holds }
+
+known_as : (known : Option (List ℕ)) (bytes text : List ℕ) → IfSome known (λ all. bytes ≡ all) → text ≡ bytes → IfSome known (λ all. text ≡ all)
+known_as None bytes text is same = tt
+known_as (Some all) bytes text is same = same ∙ is
+
+pub accepted_as : (known : Option (List ℕ)) (bytes : List ℕ) → IfSome known (λ all. bytes ≡ all) → IsAccepted bytes → IfSome known IsAccepted
+accepted_as None bytes is a = tt
+accepted_as (Some all) bytes is a = subst IsAccepted is a
+
+pub covered_as : (name : List ℕ) (known : Option (List ℕ)) (bytes : List ℕ) (usual : RoundLimits) (script old new from to : Option (List ℕ)) → IfSome known (λ all. bytes ≡ all)
+    → IsOnSet (Some bytes) script (IsTextCovered name (Some bytes) usual old new from to) → IsOnSet known script (IsTextCovered name known usual old new from to)
+covered_as name known bytes usual script old new from to is s = record {
+  draft = s.draft;
+  is_set = given_as known bytes (λ all. IsSetOf all s.draft) is s.is_set;
+  of_script = record {
+    bytes = s.of_script.bytes;
+    are_known = s.of_script.are_known;
+    holds = record {
+      text = s.of_script.holds.text;
+      is_known = known_as known bytes s.of_script.holds.text is s.of_script.holds.is_known;
+      is_set = s.of_script.holds.is_set;
+      told = s.of_script.holds.told;
+    };
+  };
+}
+
+pub covered_in_part_as : (name : List ℕ) (known : Option (List ℕ)) (bytes : List ℕ) (usual : RoundLimits) (script old new from to : Option (List ℕ)) → IfSome known (λ all. bytes ≡ all)
+    → IsOnSet (Some bytes) script (IsTextCoveredInPart name (Some bytes) usual old new from to) → IsOnSet known script (IsTextCoveredInPart name known usual old new from to)
+covered_in_part_as name known bytes usual script old new from to is s = record {
+  draft = s.draft;
+  is_set = given_as known bytes (λ all. IsSetOf all s.draft) is s.is_set;
+  of_script = record {
+    bytes = s.of_script.bytes;
+    are_known = s.of_script.are_known;
+    holds = record {
+      text = s.of_script.holds.text;
+      is_known = known_as known bytes s.of_script.holds.text is s.of_script.holds.is_known;
+      is_set = s.of_script.holds.is_set;
+      told = s.of_script.holds.told;
+    };
+  };
+}
+
+-- so of some text
+pub some_covered : (name : List ℕ) (known : Option (List ℕ)) (usual : RoundLimits) (set script old new from to : Option (List ℕ))
+    → IsOnSet set script (IsTextCovered name known usual old new from to) → IsOnSet set script (IsSomeCovered usual old new from to)
+some_covered name known usual set script old new from to s = record {
+  draft = s.draft;
+  is_set = s.is_set;
+  of_script = record {
+    bytes = s.of_script.bytes;
+    are_known = s.of_script.are_known;
+    holds = record { name = name; text = s.of_script.holds.text; is_set = s.of_script.holds.is_set; told = s.of_script.holds.told };
+  };
+}
+
+pub some_covered_in_part : (name : List ℕ) (known : Option (List ℕ)) (usual : RoundLimits) (set script old new from to : Option (List ℕ))
+    → IsOnSet set script (IsTextCoveredInPart name known usual old new from to) → IsOnSet set script (IsSomeCoveredInPart usual old new from to)
+some_covered_in_part name known usual set script old new from to s = record {
+  draft = s.draft;
+  is_set = s.is_set;
+  of_script = record {
+    bytes = s.of_script.bytes;
+    are_known = s.of_script.are_known;
+    holds = record { name = name; text = s.of_script.holds.text; is_set = s.of_script.holds.is_set; told = s.of_script.holds.told };
+  };
+}
+
+pub refused_as : (known : Option (List ℕ)) (bytes : List ℕ) (script old new : Option (List ℕ)) → IfSome known (λ all. bytes ≡ all) → IsRefused (Some bytes) script old new
+    → IsRefused known script old new
+refused_as known bytes script old new is (set_refused g) = set_refused (given_as known bytes (PrintsRefusal old new) is g)
+refused_as known bytes script old new is (script_refused s) =
+    script_refused (record { draft = s.draft; is_set = given_as known bytes (λ all. IsSetOf all s.draft) is s.is_set; of_script = s.of_script })
+
+-- of the set of these bytes, as a text
+pub bytes_covered : (name text bytes : List ℕ) (usual : RoundLimits) (old new from to : Option (List ℕ)) (d : Draft) (said : List ℕ) (g : IsGiven (Some bytes) (λ all. IsSetOf all d)) → text ≡ bytes
+    → IsPlayTold usual old new (IsCoveredBy name text from to) d said → IsTextCovered name (Some bytes) usual old new from to d said
+bytes_covered name text bytes usual old new from to d said g same told = record {
+  text = text;
+  is_known = same;
+  is_set = subst (λ (all : List ℕ). IsSetOf all d) (g.are_known ∙ sym same) g.holds;
+  told = told;
+}
+
+pub bytes_covered_in_part : (name text bytes : List ℕ) (usual : RoundLimits) (old new from to : Option (List ℕ)) (d : Draft) (said : List ℕ) (g : IsGiven (Some bytes) (λ all. IsSetOf all d)) → text ≡ bytes
+    → IsPlayToldInPart usual old new (IsCoveredBy name text from to) d said → IsTextCoveredInPart name (Some bytes) usual old new from to d said
+bytes_covered_in_part name text bytes usual old new from to d said g same told = record {
+  text = text;
+  is_known = same;
+  is_set = subst (λ (all : List ℕ). IsSetOf all d) (g.are_known ∙ sym same) g.holds;
+  told = told;
+}
