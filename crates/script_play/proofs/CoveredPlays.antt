@@ -1,68 +1,39 @@
 -- Plays with what turns took of the set's text.
-use Rattle.std.proofs.Common.{◌≡◌, ◌∙◌, ℕ, List, [], ◌∷◌, ◌++◌, map, Option, None, Some, Result, Ok, Err, IfOk, IfSome, refl, sym, ap, subst}
-use Rattle.std.specs.Prelude.{slice_get}
+use Rattle.std.proofs.Common.{◌≡◌, ◌∙◌, ℕ, List, [], ◌∷◌, ◌++◌, Option, None, Some, Result, Ok, Err, IfOk, IfSome, sym, ap, subst}
 use Rattle.std.specs.Global.{Vec}
-use Rattle.std.specs.Option.{option_map}
-use Rattle.std.specs.Io.KnownBytes.{Appends}
-use Rattle.std.proofs.lemmas.Option.{slice_get-map, same_Some}
-use Rattle.sdl_ast.specs.Plain.{PlainBlock, PlainProcess}
-use Rattle.sdl_ast.specs.Views.{block_of}
-use Rattle.sdl_tables.specs.Names.{Input, inputs_by_state, processes_of}
 use Rattle.turn_code.specs.declared.draft.Draft.{Draft}
 use Rattle.script_check.specs.Checked.{IsSetOf, IsGiven, IsAccepted, PrintsRefusal}
 use Rattle.script_seen.specs.resend_store_types.messages.RoundLimits.{RoundLimits}
-use Rattle.script_seen.specs.Watched.{Notice, TurnEnd, Throw as OneThrow, ends, throws, turns_in}
+use Rattle.script_seen.specs.Turn.{Turn}
+use Rattle.script_seen.specs.Watched.{Notice, TurnEnd, Throw as OneThrow, ends, throws}
+use Rattle.script_covered.specs.Texts.{IsCovering, IsLcov}
+use Rattle.script_covered.specs.declared.text_coverage.TextCoverage.{TextCoverage}
 use Rattle.script_play.specs.Played.{IsOnSet, IsRefused, set_refused, script_refused}
-use Rattle.script_play.specs.Covered.{Covers}
-use Rattle.script_play.specs.Lcov.{lcov_text}
-use Rattle.script_play.specs.Covering.{IsTextOf, inputs_in, IsCovering, IsLcov}
-use Rattle.script_play.specs.Seen.{IsToldTo, IsPlayTold, IsPlayToldInPart, IsCoveredBy, IsTextCovered, IsTextCoveredInPart, IsSomeCovered, IsSomeCoveredInPart}
-use Rattle.script_play.specs.declared.coverage.Coverage.{Coverage}
-use Rattle.script_play.specs.declared.covering.Covering.{Covering}
+use Rattle.script_play.specs.Seen.{IsToldTo, IsPlayTold, IsPlayToldInPart, turns_run, IsCoveredBy, IsTextCovered, IsTextCoveredInPart, IsSomeCovered, IsSomeCoveredInPart}
 
 -- ---- a turn that ends, and what is thrown away
 
-turns_more : (ns : List Notice) (t : TurnEnd) → turns_in ns ++ t ∷ [] ≡ turns_in (ns ++ ends t ∷ [])
-turns_more [] t = refl
-turns_more (ends s ∷ ns) t = ap (λ (l : List TurnEnd). s ∷ l) (turns_more ns t)
-turns_more (throws x ∷ ns) t = turns_more ns t
+runs_more : (ns : List Notice) (t : TurnEnd) → turns_run ns ++ t.turn ∷ [] ≡ turns_run (ns ++ ends t ∷ [])
+runs_more [] t = refl
+runs_more (ends s ∷ ns) t = ap (λ (l : List Turn). s.turn ∷ l) (runs_more ns t)
+runs_more (throws x ∷ ns) t = runs_more ns t
 
-turns_same : (ns : List Notice) (x : OneThrow) → turns_in ns ≡ turns_in (ns ++ throws x ∷ [])
-turns_same [] x = refl
-turns_same (ends s ∷ ns) x = ap (λ (l : List TurnEnd). s ∷ l) (turns_same ns x)
-turns_same (throws y ∷ ns) x = turns_same ns x
+runs_same : (ns : List Notice) (x : OneThrow) → turns_run ns ≡ turns_run (ns ++ throws x ∷ [])
+runs_same [] x = refl
+runs_same (ends s ∷ ns) x = ap (λ (l : List Turn). s.turn ∷ l) (runs_same ns x)
+runs_same (throws y ∷ ns) x = runs_same ns x
 
--- of the process of the turn, and of what its states take
-pub covering_end : (ns : List Notice) (t : TurnEnd) (c : Covering) (after : Coverage) (all : List PlainProcess) (rows : List (List (List Input))) (n : ℕ) (p : PlainProcess) (is : List (List Input))
-    → all ≡ processes_of (block_of c.block.now) → rows ≡ map inputs_in c.inputs.items → Some p ≡ slice_get all n → Some is ≡ slice_get rows n → n ≡ t.me.process.0
-    → ((ts : List TurnEnd) → slice_get (processes_of (block_of c.block.now)) t.me.process.0 ≡ Some p → is ≡ inputs_by_state p
-    → Covers (block_of c.block.now) ts c.coverage → Covers (block_of c.block.now) (ts ++ t ∷ []) after)
-    → IsCovering (turns_in ns) c → IsCovering (turns_in (ns ++ ends t ∷ [])) (record c { coverage = after })
-covering_end ns t c after all rows n p is are those there at same step known =
-    let ps = processes_of (block_of c.block.now) in
-    let place : slice_get ps n ≡ Some p = ap (λ (l : List PlainProcess). slice_get l n) (sym are) ∙ sym there in
-    let inputs : is ≡ inputs_by_state p =
-    same_Some is (inputs_by_state p)
-    (at ∙ (ap (λ (l : List (List (List Input))). slice_get l n) (those ∙ known.inputs) ∙ (slice_get-map inputs_by_state ps n ∙ ap (option_map inputs_by_state) place))) in
-    record {
-      is_text = known.is_text;
-      covers =
-          subst (λ (l : List TurnEnd). Covers (block_of c.block.now) l after) (turns_more ns t)
-          (step (turns_in ns) (ap (slice_get ps) (sym same) ∙ place) inputs known.covers);
-      inputs = known.inputs;
-    }
+pub covering_end : (ns : List Notice) (t : TurnEnd) (u : Turn) (c : TextCoverage) → u ≡ t.turn → IsCovering (turns_run ns ++ u ∷ []) c → IsCovering (turns_run (ns ++ ends t ∷ [])) c
+covering_end ns t u c is known = subst (λ (l : List Turn). IsCovering l c) (ap (λ (v : Turn). turns_run ns ++ v ∷ []) is ∙ runs_more ns t) known
 
-pub covering_throw : (ns : List Notice) (x : OneThrow) (c : Covering) → IsCovering (turns_in ns) c → IsCovering (turns_in (ns ++ throws x ∷ [])) c
-covering_throw ns x c known = subst (λ (l : List TurnEnd). IsCovering l c) (turns_same ns x) known
+pub covering_throw : (ns : List Notice) (x : OneThrow) (c : TextCoverage) → IsCovering (turns_run ns) c → IsCovering (turns_run (ns ++ throws x ∷ [])) c
+covering_throw ns x c known = subst (λ (l : List Turn). IsCovering l c) (runs_same ns x) known
 
 -- ---- what is told at the end
 
-pub told_of_text : (name text was : List ℕ) (ts : List TurnEnd) (b : PlainBlock) (out : List ℕ) → was ≡ text → IsTextOf was b → out ≡ lcov_text name text b ts → IsLcov name text ts out
-told_of_text name text was ts b out same is told = record { block = b; is_block = subst (λ (t : List ℕ). IsTextOf t b) same is; told = told }
-
-pub covered_to : {E : Type 0} (r : Result (Vec ℕ) E) (old new : Option (List ℕ)) (name text : List ℕ) (c : Covering) → IsToldTo r old new
-    → IfOk r (λ v. (ts : List TurnEnd) → IsCovering ts c → IsLcov name text ts v.items) → (ns : List Notice) → IsCovering (turns_in ns) c → IsCoveredBy name text old new ns
-covered_to (Ok v) old new name text c told is ns known = record { out = v.items; is_lcov = is (turns_in ns) known; written = told }
+pub covered_to : {E : Type 0} (r : Result (Vec ℕ) E) (old new : Option (List ℕ)) (name text : List ℕ) (c : TextCoverage) → IsToldTo r old new
+    → IfOk r (λ v. (ts : List Turn) → IsCovering ts c → IsLcov name text ts v.items) → (ns : List Notice) → IsCovering (turns_run ns) c → IsCoveredBy name text old new ns
+covered_to (Ok v) old new name text c told is ns known = record { out = v.items; is_lcov = is (turns_run ns) known; written = told }
 covered_to (Err e) old new name text c told is ns known = absurd told
 
 -- ---- of a text that is known, or isn't

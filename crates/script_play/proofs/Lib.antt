@@ -12,10 +12,4 @@ mod SetCaptures
 mod SetClocks
 mod SetOutGoing
 mod SetCommands
-mod Pieces
-mod Countings
-mod Walking
-mod Marking
-mod Rowing
-mod Printing
 mod CoveredPlays

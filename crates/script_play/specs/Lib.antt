@@ -1,12 +1,7 @@
 pub mod Captured
 pub mod CapturedSets
 pub mod Charted
-pub mod Covered
-pub mod Covering
-pub mod Lcov
-pub mod OnWay
 pub mod Played
 pub mod Seen
 pub mod Thrown
 pub mod Traced
-pub mod Ways

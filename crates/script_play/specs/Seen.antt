@@ -1,6 +1,6 @@
 -- What the status of `play` says of what is told at the end of a run, and of a capture.
 use Rattle.std.specs.Prelude.{◌≡◌, ℕ, Bool, true, false, List, Option, Some, None, Result, Ok}
-use Rattle.std.specs.Prelude.{Err, IfSome, IsUtf8}
+use Rattle.std.specs.Prelude.{Err, IfSome, IsUtf8, map}
 use Rattle.std.specs.Global.{Vec}
 use Rattle.std.specs.Io.KnownBytes.{Appends}
 use Rattle.turn_code.specs.declared.draft.Draft.{Draft}
@@ -11,14 +11,15 @@ use Rattle.script_seen.specs.GroupScripts.{PlainPlayScript, other, group, play_s
 use Rattle.script_seen.specs.Played.{first_book}
 use Rattle.script_seen.specs.GroupRuns.{IsOfNewSet}
 use Rattle.script_seen.specs.TermRuns.{IsOfNew}
-use Rattle.script_seen.specs.Watched.{Notice, turns_in}
+use Rattle.script_seen.specs.Turn.{Turn}
+use Rattle.script_seen.specs.Watched.{Notice, TurnEnd, turns_in}
 use Rattle.script_seen.specs.WatchedKinds.{IsBookWatched, IsBookWatchedInPart, IsTermWatched}
 use Rattle.script_seen.specs.WatchedKinds.{IsTermWatchedInPart}
+use Rattle.script_covered.specs.Texts.{IsLcov}
 use Rattle.script_play.specs.Captured.{IsCaptured, IsCapturedInPart}
 use Rattle.script_play.specs.CapturedSets.{IsSetCaptured, IsSetCapturedInPart}
 use Rattle.script_play.specs.Played.{IsObeyed, IsMissedIn, IsPlayed, IsPlayedInPart}
 use Rattle.script_play.specs.Charted.{charted_of}
-use Rattle.script_play.specs.Covering.{IsLcov}
 use Rattle.script_play.specs.Thrown.{thrown_of}
 use Rattle.script_play.specs.Traced.{IsPlayTraced, IsPlayTracedInPart}
 use Rattle.script_play.specs.declared.seeing.Wanted.{Wanted}
@@ -134,11 +135,15 @@ pub record IsPlayCapturedInPart (usual : RoundLimits) (every : Bool)
 
 -- ---- what of the set's text was taken
 
+-- the turns of a run
+abbrev pub turns_run : List Notice → List Turn
+turns_run ns = map (λ (t : TurnEnd). t.turn) (turns_in ns)
+
 -- what the turns of a run took of a text was written, in which its file has this name
 pub record IsCoveredBy (name text : List ℕ) (old new : Option (List ℕ)) (ns : List Notice) :
     Type 0 where
   pub out : List ℕ
-  pub is_lcov : IsLcov name text (turns_in ns) out
+  pub is_lcov : IsLcov name text (turns_run ns) out
   pub written : Appends old new out
 
 -- of the text of the set, which has these bytes where they are known

@@ -1,56 +1,37 @@
 //! The command `play` with what is told at its end of the text of its set: what of it was taken, in the format of lcov.
-ghost use Rattle.std.specs.Prelude.{◌≡◌, ◌⊎◌, ℕ, [], List, IfSome, IfOk, Option as Maybe, Some, map, slice_get};
-ghost use Rattle.std.specs.Option.{option_map};
+ghost use Rattle.std.specs.Prelude.{◌≡◌, ◌⊎◌, ℕ, List, IfSome, Option as Maybe, Some};
 ghost use Rattle.plain_text.specs.Reading.{Keeps, IsReading};
-ghost use Rattle.sdl_ast.specs.Views.{block_of, process_of};
-ghost use Rattle.sdl_tables.specs.Names.{inputs_by_state};
-ghost use Rattle.sdl_tables.specs.Rows.{rows_inputs};
+ghost use Rattle.sdl_ast.specs.Views.{block_of};
 ghost use Rattle.script_check.specs.Checked.{given, IsAccepted};
-ghost use Rattle.script_seen.specs.Watched.{TurnEnd};
+ghost use Rattle.script_covered.specs.Texts.{IsTextOf};
 ghost use Rattle.script_play.specs.Played.{IsNotRun, IsOnSet, IsRefused};
 ghost use Rattle.script_play.specs.Seen.{IsPlayTold, IsPlayToldInPart, IsCoveredBy, IsTextCovered, IsTextCoveredInPart};
-ghost use Rattle.script_play.specs.Covering.{IsTextOf, inputs_in, IsCovering, IsLcov};
 
-use crate::coverage::Coverage;
-use crate::lcov::lcov_text;
 use crate::watching::{tell, watch_text};
 use plain_text::{TextRead, read_text};
 use script_check::{MONITORS, Q703, STANDARD, SetWord, find_set, refuse_set};
+use script_covered::{BlockTable, TextCoverage, parse, tokens};
 use script_seen::{ActorName, Ended, FAILED, Item, RoundLimits, Watcher, write_line};
-use sdl_lex::tokens;
-use sdl_tables::{BlockTable, InputRow, ProcessTable};
-use sdl_tree::parse;
-use std::alloc::{AllocError, Global};
-use std::io::{self, ErrorKind, Read, Write};
+use std::alloc::Global;
+use std::io::{self, Read, Write};
 use std::str;
 use turn_check::Verified;
 use turn_code::StateNumber;
 
-/// What turns took of a text, on its way.
+/// Who is told of a run, and knows what its turns took of a text.
 #[derive(Drop)]
-pub(crate) struct Covering<'a, 'b> {
-    text: &'b str,
-    block: &'b BlockTable<'a>,
-    /// For each process, and each of its states, what it takes.
-    inputs: Vec<Vec<Vec<InputRow<'a>>>>,
-    coverage: Coverage,
+struct Covering<'a, 'b> {
+    coverage: TextCoverage<'a, 'b>,
 }
 
 impl Watcher for Covering<'_, '_> {
-    ghost use Rattle.script_seen.specs.Watched.{turns_in};
-    ghost use Rattle.script_play.specs.Covering.{IsCovering};
+    ghost use Rattle.script_covered.specs.Texts.{IsCovering};
+    ghost use Rattle.script_play.specs.Seen.{turns_run};
 
-    ghost knows = { λ d ns c. IsCovering (turns_in ns) c };
+    ghost knows = { λ d ns c. IsCovering (turns_run ns) c.coverage };
 
     fn end(&mut self, _alloc: Global, _set: &Verified, ended: &Ended) -> io::Result<()> {
-        let number = usize::from(ended.me.process.0);
-        match process_at(self.block.tables(), number) {
-            Some(process) => match inputs_at(&self.inputs, number) {
-                Some(inputs) => Ok(self.coverage.take(process, inputs, ended)?),
-                None => Err(io::Error::from(ErrorKind::Other)),
-            },
-            None => Err(io::Error::from(ErrorKind::Other)),
-        }
+        Ok(self.coverage.take(&ended.done)?)
     }
 
     fn throw(
@@ -63,78 +44,6 @@ impl Watcher for Covering<'_, '_> {
     ) -> io::Result<()> {
         Ok(())
     }
-}
-
-/// A process, if there is one of this number.
-fn process_at<'a, 'b>(
-    tables: &'b [ProcessTable<'a>],
-    number: usize,
-) -> Option<&'b ProcessTable<'a>>
-    ensures { option_map (λ p. process_of p.now) result ≡ slice_get (map process_of tables.now) number }
-{
-    tables.get(number)
-}
-
-/// What the states of a process take, if there is one of this number.
-fn inputs_at<'a, 'b>(
-    inputs: &'b [Vec<Vec<InputRow<'a>>>],
-    number: usize,
-) -> Option<&'b [Vec<InputRow<'a>>]>
-    ensures { option_map (λ v. map rows_inputs v.now) result ≡ slice_get (map inputs_in inputs.now) number }
-{
-    match inputs.get(number) {
-        Some(states) => Some(states),
-        None => None,
-    }
-}
-
-/// What each state of each process takes.
-fn all_inputs<'a>(
-    alloc: Global,
-    tables: &[ProcessTable<'a>],
-) -> Result<Vec<Vec<Vec<InputRow<'a>>>>, AllocError>
-    ensures { IfOk result (λ v. map inputs_in v.items ≡ map inputs_by_state (map process_of tables.now)) }
-{
-    let mut all = Vec::new(alloc);
-    for process in tables {
-        let inputs = process.inputs(alloc)?;
-        all.push(inputs)?;
-    }
-    Ok(all)
-}
-
-/// Nothing was taken yet of a text that has these tables.
-fn open<'a, 'b>(
-    alloc: Global,
-    text: &'b str,
-    block: &'b BlockTable<'a>,
-) -> Result<Covering<'a, 'b>, AllocError>
-    requires { IsTextOf text.now (block_of block.now) }
-    ensures { IfOk result (IsCovering []) }
-{
-    let inputs = all_inputs(alloc, block.tables())?;
-    let coverage = Coverage::new(alloc, text.len())?;
-    Ok(Covering {
-        text,
-        block,
-        inputs,
-        coverage,
-    })
-}
-
-/// What was taken of a text, in the format of lcov, where it is of that text that this is told.
-fn covered_text(
-    alloc: Global,
-    name: &str,
-    text: &str,
-    covering: &Covering<'_, '_>,
-) -> Result<Vec<u8>, AllocError>
-    ensures { IfOk result (λ v. (ts : List TurnEnd) → IsCovering ts covering.now → IsLcov name.now text.now ts v.items) }
-{
-    if covering.text != text {
-        return Err(AllocError);
-    }
-    lcov_text(alloc, name, text, covering.block, &covering.coverage)
 }
 
 /// Runs the script of a text that was read, and tells what was taken of the text of its set, which has these tables.
@@ -158,10 +67,11 @@ fn cover_block<T: Write, W: Write, E: Write>(
     ensures refused { result ≡ 2 → (bytes : List ℕ) → Keeps bytes read.now → IsNotRun (W.contents writer.old) (W.contents writer.new) set.now bytes }
     ensures status { (result ≡ 0) ⊎ (result ≡ 1) ⊎ (result ≡ 2) ⊎ (result ≡ 4) }
 {
-    match open(alloc, text, block) {
-        Ok(mut covering) => {
+    match TextCoverage::new(alloc, text, block) {
+        Ok(coverage) => {
+            let mut covering = Covering { coverage };
             let status = watch_text(alloc, set, usual, read, &mut covering, writer, errors);
-            let told = covered_text(alloc, name, text, &covering);
+            let told = covering.coverage.report(alloc, name, text);
             tell(status, told, out)
         }
         Err(_) => FAILED,

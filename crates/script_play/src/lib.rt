@@ -8,18 +8,12 @@ mod capturing;
 mod chart_rows;
 mod charts;
 mod columns;
-mod coverage;
 mod covering;
-mod lcov;
-mod marks;
 mod playing;
-mod rows;
 mod seeing;
 mod thrown;
 mod tracing;
-mod values;
 mod watching;
-mod ways;
 
 pub use charts::Cut;
 pub use playing::play;

@@ -1,0 +1,7 @@
+mod Pieces
+mod Countings
+mod Walking
+mod Marking
+mod Rowing
+mod Printing
+mod TextCounts

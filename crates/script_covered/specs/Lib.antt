@@ -1,0 +1,5 @@
+pub mod Ways
+pub mod OnWay
+pub mod Covered
+pub mod Lcov
+pub mod Texts

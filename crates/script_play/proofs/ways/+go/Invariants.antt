@@ -1,4 +1,0 @@
-use Rattle.script_play.proofs.ways.+go.Given as goal
-
-abbrev pub decreases-go : goal.decreases-go
-decreases-go l = l.joins
