@@ -5,3 +5,4 @@ mod Marking
 mod Rowing
 mod Printing
 mod TextCounts
+mod Endings

@@ -15,7 +15,7 @@ use Rattle.sdl_ast.specs.Views.{plain_statement, plain_answer, plain_decision, t
 use Rattle.sdl_ast.proofs.Views.{text_of-is, plain_answer-is, plain_decides, decision_of-is, statement_of-act}
 use Rattle.sdl_tables.specs.Names.{variable_names}
 use Rattle.turn_code.specs.declared.value.Value.{Value}
-use Rattle.script_covered.specs.Ways.{Taken, at, else_of, end_place, Way, stands, behind, goes_with, then_way, is_for, with_value, valued, way_of, chosen_way, behind_action, action_place, joined_at, in_connection, joins_on, through}
+use Rattle.script_covered.specs.Ways.{Taken, at, else_of, end_place, Way, stands, behind, goes_with, then_way, is_for, with_value, valued, way_of, chosen_way, behind_action, action_place, joined_at, joined_way, way_on, whole_way, through}
 use Rattle.script_covered.specs.Covered.{HasTaken}
 use Rattle.script_covered.specs.OnWay.{IsOnWay}
 use Rattle.script_covered.specs.declared.coverage.Counts.{Counts}
@@ -229,10 +229,11 @@ goes_alone p n t e vs ws old new none h xs has =
     (ap (λ (w : Way). w.taken) (sym (gone _ e ws old new h)) ∙ ap (λ (m : ℕ). through p m t vs) (sym none)) (h.counts xs has)
 
 joined : (p : PlainProcess) (n : ℕ) (t : Text) (e : Option End) (k : Option PlainConnection) (vs ws : Values) (old new : Counts) (h : IsOnWay (way_of (variable_names p) t vs) (stands e ws) old new)
-    → joined_at p e ≡ k → through p (suc n) t vs ≡ h.taken ++ in_connection k (λ u. through p n u ws)
+    → joined_at p e ≡ k → through p (suc n) t vs ≡ (joined_way k (record { taken = h.taken; end = e; values = ws }) (λ u. whole_way p n u ws)).taken
 joined p n t e k vs ws old new h to =
-    let f : Text → Values → List Taken = λ u us. through p n u us in
-    ap (λ (w : Way). joins_on p w f) (gone _ e ws old new h) ∙ ap (λ (o : Option PlainConnection). h.taken ++ in_connection o (λ u. f u ws)) to
+    let f : Text → Values → Way = λ u us. whole_way p n u us in
+    ap (λ (w : Way). (way_on p w f).taken) (gone _ e ws old new h)
+    ∙ ap (λ (o : Option PlainConnection). (joined_way o (record { taken = h.taken; end = e; values = ws }) (λ u. f u ws)).taken) to
 
 pub goes_on_by : (p : PlainProcess) (n m : ℕ) (t : Text) (e : Option End) (k : PlainConnection) (vs ws : Values) (old mid new : Counts) → n ≡ suc m → joined_at p e ≡ Some k
     → IsOnWay (way_of (variable_names p) t vs) (stands e ws) old mid → ((ys : List Taken) → HasTaken ys mid → HasTaken (ys ++ through p m k.text ws) new)
@@ -246,8 +247,7 @@ goes_on_by p n m t e k vs ws old mid new more to h counts xs has =
 pub goes_no_further : (p : PlainProcess) (n m : ℕ) (t : Text) (e : Option End) (vs ws : Values) (old new : Counts) → n ≡ suc m → joined_at p e ≡ None
     → IsOnWay (way_of (variable_names p) t vs) (stands e ws) old new → (xs : List Taken) → HasTaken xs old → HasTaken (xs ++ through p n t vs) new
 goes_no_further p n m t e vs ws old new more to h xs has =
-    subst (λ (l : List Taken). HasTaken (xs ++ l) new)
-    (sym (append-nil h.taken) ∙ (sym (joined p m t e None vs ws old new h to) ∙ ap (λ (j : ℕ). through p j t vs) (sym more))) (h.counts xs has)
+    subst (λ (l : List Taken). HasTaken (xs ++ l) new) (sym (joined p m t e None vs ws old new h to) ∙ ap (λ (j : ℕ). through p j t vs) (sym more)) (h.counts xs has)
 
 pub with_names : (p : PlainProcess) (ids : List Identifier) (t : Text) (vs : Values) (left : Way) (old new : Counts) → ids ≡ variable_names p → IsOnWay (way_of ids t vs) left old new
     → IsOnWay (way_of (variable_names p) t vs) left old new

@@ -9,7 +9,7 @@ use Rattle.turn_code.specs.declared.input.Input as given
 use Rattle.turn_code.specs.declared.input.Place.{Place}
 use Rattle.turn_code.specs.declared.input.Place.TheVariants.{Start, State as AtState}
 use Rattle.turn_machine.specs.Turn.{Turn}
-use Rattle.script_covered.specs.Ways.{Taken, at, else_of, taken_in as parameters_in, through}
+use Rattle.script_covered.specs.Ways.{Taken, at, else_of, Way, taken_in as parameters_in, whole_way}
 use Rattle.script_covered.specs.declared.coverage.Places.{Places}
 use Rattle.script_covered.specs.declared.coverage.Counts.{Counts}
 use Rattle.script_covered.specs.declared.coverage.Turns.{Turns}
@@ -18,13 +18,17 @@ use Rattle.script_covered.specs.declared.coverage.Coverage.{Coverage}
 
 -- ---- of turns
 
--- behind START or an INPUT with these places, on an input: as many JOINs are followed as there are
--- connections
+-- the way of a turn behind START or an INPUT with these places, on an input: as many JOINs are
+-- followed as there are connections
+abbrev pub turn_way : PlainProcess → List (Option Identifier) → Text → given.Input → Way
+turn_way p places t x =
+    whole_way p (length p.connections) t
+    (parameters_in (variable_names p) x.parameters.items 0 places x.variables.items)
+
+-- what is taken on it
 abbrev pub passed :
     PlainProcess → List (Option Identifier) → Text → given.Input → List Taken
-passed p places t x =
-    through p (length p.connections) t
-    (parameters_in (variable_names p) x.parameters.items 0 places x.variables.items)
+passed p places t x = (turn_way p places t x).taken
 
 abbrev pub taken_input : PlainProcess → Option Input → given.Input → List Taken
 taken_input p None x = []

@@ -3,3 +3,4 @@ pub mod OnWay
 pub mod Covered
 pub mod Lcov
 pub mod Texts
+pub mod Meant

@@ -182,16 +182,20 @@ joined_at p (Some (NextState n)) = None
 joined_at p (Some (Stop k)) = None
 joined_at p (Some (Join j)) = connection_at p j.connector.name
 
-abbrev pub in_connection : Option PlainConnection → (Text → List Taken) → List Taken
-in_connection None f = []
-in_connection (Some c) f = f c.text
+-- on through that, if there is one
+abbrev pub joined_way : Option PlainConnection → Way → (Text → Way) → Way
+joined_way None w f = w
+joined_way (Some k) w f = behind w.taken (f k.text)
 
-abbrev pub joins_on :
-    PlainProcess → Way → (Text → List (Option Value) → List Taken) → List Taken
-joins_on p w f = w.taken ++ in_connection (joined_at p w.end) (λ t. f t w.values)
+abbrev pub way_on : PlainProcess → Way → (Text → List (Option Value) → Way) → Way
+way_on p w f = joined_way (joined_at p w.end) w (λ t. f t w.values)
 
--- what is taken on the way through a text, and through those that it joins, n at most
+-- through a text, and on through those that it joins, n at most
+abbrev pub whole_way : PlainProcess → ℕ → Text → List (Option Value) → Way
+whole_way p zero t vs = way_of (variable_names p) t vs
+whole_way p (suc n) t vs =
+    way_on p (way_of (variable_names p) t vs) (λ u ws. whole_way p n u ws)
+
+-- what is taken on that
 abbrev pub through : PlainProcess → ℕ → Text → List (Option Value) → List Taken
-through p zero t vs = (way_of (variable_names p) t vs).taken
-through p (suc n) t vs =
-    joins_on p (way_of (variable_names p) t vs) (λ u ws. through p n u ws)
+through p n t vs = (whole_way p n t vs).taken

@@ -2,6 +2,7 @@
 #![tactic(auto)]
 
 mod coverage;
+pub mod laws;
 mod lcov;
 mod line_numbers;
 mod marks;

@@ -1,0 +1,501 @@
+-- Where a transition ends by its meaning, the way of its turn comes to that end.
+use Rattle.std.proofs.Common.{◌≡◌, ◌∙◌, ℕ, zero, suc, ◌+◌, ◌≤◌, nat_lt, Bool, true, false, cond, ◌||◌, List, [], ◌∷◌, length, map, Option, None, Some, unwrap_or, arith, refl, sym, ap, subst}
+use Rattle.std.specs.Prelude.{ℤ, pos, int_lt, slice_get, slice_set, option_and_then}
+use Rattle.std.specs.List.{position_or_len}
+use Rattle.std.specs.Option.{option_map}
+use Rattle.std.proofs.lemmas.Bool.Decides.{nat_tests}
+use Rattle.std.proofs.lemmas.List.{length-map}
+use Rattle.std.proofs.lemmas.Option.{slice_get_past, same_Some}
+use Rattle.sdl_ast.specs.declared.expression.Identifier.{Identifier}
+use Rattle.sdl_ast.specs.declared.expression.UnaryOperator.{UnaryOperator}
+use Rattle.sdl_ast.specs.declared.expression.UnaryOperator.TheVariants.{Negate, Not}
+use Rattle.sdl_ast.specs.declared.expression.BinaryOperator.{BinaryOperator}
+use Rattle.sdl_ast.specs.declared.expression.BinaryOperator.TheVariants.{Or, Xor, And, Equal, NotEqual, Less, LessEqual, Greater, GreaterEqual, Add, Subtract, Multiply, Divide, Modulo, Remainder}
+use Rattle.sdl_ast.specs.declared.tree.Destination.{Destination}
+use Rattle.sdl_ast.specs.declared.tree.End.{End}
+use Rattle.sdl_ast.specs.declared.tree.End.TheVariants.{NextState, Stop, Join}
+use Rattle.sdl_ast.specs.declared.tree.Join as tree_join
+use Rattle.sdl_ast.specs.declared.tree.Range.{Range}
+use Rattle.sdl_ast.specs.Plain.{Tree, number, truth, variable, unary, binary, PlainAssignment, PlainSending, PlainAction, task, output, set_timer, reset_timer, Text, falls, ends, does, decides, Choice, nothing_else, otherwise, answer, PlainConnection, PlainProcess}
+use Rattle.sdl_tables.specs.Names.{same_name, variable_names, connection_named}
+use Rattle.sdl_sound.specs.Longest.{is_division, Piece}
+use Rattle.sdl_meaning.specs.Act as meaning
+use Rattle.sdl_meaning.specs.Act.{slot, read, written, write, Working, reckons, compares, joins, working, apply_one, apply_two, divisor_of, divide, value_of, values_of, assign, put_out, send, send_all, start_timer, stop_timer, perform, end_in, end_with, told, try_ranges, find_truth, leave, decide, act, choose, pick, closed, entered, follow, join_in, pass, take_places, ran, Act, covers_integer, covers_truth, receiver_of}
+use Rattle.sdl_meaning.specs.Outcomes.{Scope, Ending, at_end, in_trouble, Outcome, goes_on, over, then_do, variable_at, signal_at, timer_at, state_at}
+use Rattle.sdl_meaning.proofs.Choices.{IsOver}
+use Rattle.sdl_meaning.proofs.Follows.{follow_over}
+use Rattle.sdl_meaning.proofs.Sorting.{found_at}
+use Rattle.turn_code.specs.declared.input.Address.{Address}
+use Rattle.turn_code.specs.declared.input.Input as given
+use Rattle.turn_code.specs.declared.machine.End as code
+use Rattle.turn_code.specs.declared.machine.End.TheVariants as code_end
+use Rattle.turn_code.specs.declared.trouble.Trouble.{Trouble}
+use Rattle.turn_code.specs.declared.trouble.Trouble.TheVariants.{NoState, Outside}
+use Rattle.turn_code.specs.declared.value.Value.{Value}
+use Rattle.turn_code.specs.declared.value.Value.TheVariants.{Int, Bool as Truth}
+use Rattle.turn_code.specs.Run.{Progress, tick, begun, ended}
+use Rattle.script_covered.specs.Ways.{Taken, at, else_of, Way, stands, behind, goes_with, then_way, is_for, with_value, made_of_one, made_of_two, quotient_of, found, fresh, held, valued, put, put_at, assigned, behind_action, taken_in, action_place, end_place, way_of, chosen_way, connection_at, joined_at, joined_way, whole_way}
+use Rattle.script_covered.specs.Covered.{turn_way}
+use Rattle.script_covered.specs.Meant.{meant_end, ComesTo}
+
+abbrev Values : Type 0
+Values = List (Option Value)
+
+-- ---- what is read
+
+-- a part comes to a value, and leaves the variables; or it is stuck
+abbrev Reads : {A : Type 0} → Outcome A → Option A → Values → Type 0
+Reads (goes_on x s) o vs = (o ≡ Some x) × (s.variables ≡ vs)
+Reads (over (at_end e) s) o vs = ⊥
+Reads (over (in_trouble t) s) o vs = Unit {0}
+
+then_reads : {A B : Type 0} (o : Outcome A) (p : Option A) (vs : Values) (f : A → Progress → Outcome B) (g : A → Option B) → Reads o p vs
+    → ((x : A) (r : Progress) → r.variables ≡ vs → Reads (f x r) (g x) vs) → Reads (then_do o f) (option_and_then g p) vs
+then_reads (goes_on x s) p vs f g h step = subst (λ q. Reads (f x s) (option_and_then g q) vs) (sym h.0) (step x s h.1)
+then_reads (over (at_end e) s) p vs f g h step = h
+then_reads (over (in_trouble t) s) p vs f g h step = tt
+
+-- from variables that are these
+reads_at : {A : Type 0} (o : Outcome A) (p : Values → Option A) (us vs : Values) → us ≡ vs → Reads o (p us) us → Reads o (p vs) vs
+reads_at o p us vs is h = subst (λ ws. Reads o (p ws) ws) is h
+
+read_is : (p : Option (Option Value)) (s : Progress) → Reads (read p (tick s)) (unwrap_or p None) s.variables
+read_is None s = tt
+read_is (Some None) s = tt
+read_is (Some (Some x)) s = (refl, refl)
+
+slot_is : (n : Option ℕ) (s : Progress) → Reads (read (slot n s) (tick s)) (held n s.variables) s.variables
+slot_is None s = tt
+slot_is (Some n) s = read_is (slice_get s.variables n) s
+
+one_reads : (op : UnaryOperator) (x : Value) (r : Progress) (vs : Values) → r.variables ≡ vs → Reads (apply_one op x (tick r)) (made_of_one op x) vs
+one_reads Negate (Int x) r vs is = (refl, is)
+one_reads Negate (Truth b) r vs is = tt
+one_reads Not (Int x) r vs is = tt
+one_reads Not (Truth b) r vs is = (refl, is)
+
+same_reads : (w : Working) (x y : Value) (r : Progress) (vs : Values) → r.variables ≡ vs → Reads (apply_two w x y (tick r)) (found (apply_two w x y fresh)) vs
+same_reads (reckons f) (Int x) (Int y) r vs is = (refl, is)
+same_reads (reckons f) (Int x) (Truth y) r vs is = tt
+same_reads (reckons f) (Truth x) y r vs is = tt
+same_reads (compares f) (Int x) (Int y) r vs is = (refl, is)
+same_reads (compares f) (Int x) (Truth y) r vs is = tt
+same_reads (compares f) (Truth x) y r vs is = tt
+same_reads (joins f) (Truth x) (Truth y) r vs is = (refl, is)
+same_reads (joins f) (Truth x) (Int y) r vs is = tt
+same_reads (joins f) (Int x) y r vs is = tt
+
+two_reads : (b : Bool) (op : BinaryOperator) (x y : Value) (r : Progress) (vs : Values) → r.variables ≡ vs → Reads (apply_two (working b op) x y (tick r)) (made_of_two op x y) vs
+two_reads b Or x y r vs is = same_reads (working b Or) x y r vs is
+two_reads b Xor x y r vs is = same_reads (working b Xor) x y r vs is
+two_reads b And x y r vs is = same_reads (working b And) x y r vs is
+two_reads true Equal (Truth x) y r vs is = same_reads (working true Equal) (Truth x) y r vs is
+two_reads true Equal (Int x) y r vs is = tt
+two_reads false Equal (Int x) y r vs is = same_reads (working false Equal) (Int x) y r vs is
+two_reads false Equal (Truth x) y r vs is = tt
+two_reads true NotEqual (Truth x) y r vs is = same_reads (working true NotEqual) (Truth x) y r vs is
+two_reads true NotEqual (Int x) y r vs is = tt
+two_reads false NotEqual (Int x) y r vs is = same_reads (working false NotEqual) (Int x) y r vs is
+two_reads false NotEqual (Truth x) y r vs is = tt
+two_reads b Less x y r vs is = same_reads (working b Less) x y r vs is
+two_reads b LessEqual x y r vs is = same_reads (working b LessEqual) x y r vs is
+two_reads b Greater x y r vs is = same_reads (working b Greater) x y r vs is
+two_reads b GreaterEqual x y r vs is = same_reads (working b GreaterEqual) x y r vs is
+two_reads b Add x y r vs is = same_reads (working b Add) x y r vs is
+two_reads b Subtract x y r vs is = same_reads (working b Subtract) x y r vs is
+two_reads b Multiply x y r vs is = same_reads (working b Multiply) x y r vs is
+two_reads b Divide x y r vs is = same_reads (working b Divide) x y r vs is
+two_reads b Modulo x y r vs is = same_reads (working b Modulo) x y r vs is
+two_reads b Remainder x y r vs is = same_reads (working b Remainder) x y r vs is
+
+divided_reads : (op : BinaryOperator) (t : Tree) (x : Value) (r : Progress) (vs : Values) → r.variables ≡ vs → Reads (divide op (divisor_of t) x (tick r)) (quotient_of op t x) vs
+divided_reads op t (Truth b) r vs is = tt
+divided_reads op t (Int x) r vs is = by_test (int_lt (pos 0) (divisor_of t))
+  where
+    by_test : (b : Bool) → Reads (cond b (goes_on (Int (meaning.quotient op x (divisor_of t))) (tick r)) (over (in_trouble _) (tick r)))
+        (found (cond b (goes_on (Int (meaning.quotient op x (divisor_of t))) fresh) (over (in_trouble _) fresh))) vs
+    by_test true = (refl, is)
+    by_test false = tt
+
+module _ (c : Scope) where
+  abbrev ids : List Identifier
+  ids = variable_names c.process
+
+  value_reads : (t : Tree) (s : Progress) → Reads (value_of c t s) (valued ids t s.variables) s.variables
+  value_reads (number k n) s = (refl, refl)
+  value_reads (truth k b) s = (refl, refl)
+  value_reads (variable k n) s = slot_is (variable_at c n) s
+  value_reads (unary k op t) s =
+      then_reads (value_of c t s) (valued ids t s.variables) s.variables (λ x r. apply_one op x (tick r)) (made_of_one op) (value_reads t s) (λ x r is. one_reads op x r s.variables is)
+  value_reads (binary k op t u) s =
+      then_reads (value_of c t s) (valued ids t s.variables) s.variables
+      (λ x r. cond (is_division op) (divide op (divisor_of u) x (tick r)) (then_do (value_of c u r) (λ y r. apply_two (working (meaning.is_truth c t) op) x y (tick r))))
+      (λ x. cond (is_division op) (quotient_of op u x) (option_and_then (made_of_two op x) (valued ids u s.variables)))
+      (value_reads t s) (λ x r is. by_test x r is (is_division op) (value_reads u r))
+    where
+      by_test : (x : Value) (r : Progress) → r.variables ≡ s.variables → (b : Bool) → Reads (value_of c u r) (valued ids u r.variables) r.variables
+          → Reads (cond b (divide op (divisor_of u) x (tick r)) (then_do (value_of c u r) (λ y r. apply_two (working (meaning.is_truth c t) op) x y (tick r))))
+          (cond b (quotient_of op u x) (option_and_then (made_of_two op x) (valued ids u s.variables))) s.variables
+      by_test x r is true other = divided_reads op u x r s.variables is
+      by_test x r is false other =
+          then_reads (value_of c u r) (valued ids u s.variables) s.variables (λ y r. apply_two (working (meaning.is_truth c t) op) x y (tick r)) (made_of_two op x)
+          (reads_at (value_of c u r) (valued ids u) r.variables s.variables is other) (λ y q at. two_reads (meaning.is_truth c t) op x y q s.variables at)
+
+-- ---- what keeps the variables
+
+-- it goes on with these variables, or is stuck
+abbrev Keeps : {A : Type 0} → Outcome A → Values → Type 0
+Keeps (goes_on x s) vs = s.variables ≡ vs
+Keeps (over (at_end e) s) vs = ⊥
+Keeps (over (in_trouble t) s) vs = Unit {0}
+
+then_keeps : {A B : Type 0} (o : Outcome A) (us vs : Values) (f : A → Progress → Outcome B) → Keeps o us → ((x : A) (r : Progress) → r.variables ≡ us → Keeps (f x r) vs) → Keeps (then_do o f) vs
+then_keeps (goes_on x s) us vs f h step = step x s h
+then_keeps (over (at_end e) s) us vs f h step = h
+then_keeps (over (in_trouble t) s) us vs f h step = tt
+
+read_keeps : {A B : Type 0} (o : Outcome A) (p : Option A) (us vs : Values) (f : A → Progress → Outcome B) → Reads o p us
+    → ((x : A) (r : Progress) → p ≡ Some x → r.variables ≡ us → Keeps (f x r) vs) → Keeps (then_do o f) vs
+read_keeps (goes_on x s) p us vs f h step = step x s h.0 h.1
+read_keeps (over (at_end e) s) p us vs f h step = h
+read_keeps (over (in_trouble t) s) p us vs f h step = tt
+
+written_keeps : (o : Option (Option Value)) (n : ℕ) (x : Value) (r : Progress) (vs : Values) → r.variables ≡ vs → Keeps (written o n x r) (slice_set vs n (Some x))
+written_keeps None n x r vs is = tt
+written_keeps (Some old) n x r vs is = ap (λ (l : Values). slice_set l n (Some x)) is
+
+write_keeps : (o : Option ℕ) (x : Value) (r : Progress) (vs : Values) → r.variables ≡ vs → Keeps (write o x r) (put_at o (Some x) vs)
+write_keeps None x r vs is = tt
+write_keeps (Some n) x r vs is = written_keeps (slice_get r.variables n) n x (tick r) vs is
+
+put_out_keeps : (o : Option ℕ) (p : Option Address) (xs : List Value) (r : Progress) (vs : Values) → r.variables ≡ vs → Keeps (put_out o p xs r) vs
+put_out_keeps None p xs r vs is = tt
+put_out_keeps (Some n) None xs r vs is = tt
+put_out_keeps (Some n) (Some p) xs r vs is = is
+
+start_keeps : (o : Option ℕ) (x : Value) (r : Progress) (vs : Values) → r.variables ≡ vs → Keeps (start_timer o x r) vs
+start_keeps None x r vs is = tt
+start_keeps (Some t) (Int z) r vs is = is
+start_keeps (Some t) (Truth b) r vs is = tt
+
+stop_keeps : (o : Option ℕ) (r : Progress) → Keeps (stop_timer o r) r.variables
+stop_keeps None r = tt
+stop_keeps (Some t) r = refl
+
+module _ (c : Scope) where
+  assign_keeps : (ts : List PlainAssignment) (s : Progress) → Keeps (assign c ts s) (assigned (ids c) ts s.variables)
+  assign_keeps [] s = refl
+  assign_keeps (a ∷ rest) s =
+      read_keeps (value_of c a.value s) (valued (ids c) a.value s.variables) s.variables _ (λ x r. then_do (write (variable_at c a.variable) x r) (λ _ q. assign c rest q)) (value_reads c a.value s)
+      (λ x r is here. then_keeps (write (variable_at c a.variable) x r) (put (ids c) a.variable (Some x) s.variables) _ (λ _ q. assign c rest q)
+      (write_keeps (variable_at c a.variable) x r s.variables here)
+      (λ _ q there. subst (λ (us : Values). Keeps (assign c rest q) (assigned (ids c) rest us)) (there ∙ ap (λ (o : Option Value). put (ids c) a.variable o s.variables) (sym is)) (assign_keeps rest q)))
+
+  values_keep : (ts : List Tree) (s : Progress) → Keeps (values_of c ts s) s.variables
+  values_keep [] s = refl
+  values_keep (t ∷ ts) s =
+      read_keeps (value_of c t s) (valued (ids c) t s.variables) s.variables s.variables (λ x r. then_do (values_of c ts r) (λ xs q. goes_on (x ∷ xs) q)) (value_reads c t s)
+      (λ x r is here. then_keeps (values_of c ts r) r.variables s.variables (λ xs q. goes_on (x ∷ xs) q) (values_keep ts r) (λ xs q there. there ∙ here))
+
+  module _ (sender : Option Address) where
+    send_keeps : (to : Option Destination) (x : PlainSending) (s : Progress) → Keeps (send c sender to x s) s.variables
+    send_keeps to x s =
+        then_keeps (values_of c x.parameters s) s.variables s.variables (λ xs r. put_out (signal_at c x.signal) (receiver_of c sender to x.signal) xs (tick r)) (values_keep x.parameters s)
+        (λ xs r here. put_out_keeps (signal_at c x.signal) (receiver_of c sender to x.signal) xs (tick r) s.variables here)
+
+    sends_keep : (to : Option Destination) (xs : List PlainSending) (s : Progress) → Keeps (send_all c sender to xs s) s.variables
+    sends_keep to [] s = refl
+    sends_keep to (x ∷ xs) s =
+        then_keeps (send c sender to x s) s.variables s.variables (λ _ r. send_all c sender to xs r) (send_keeps to x s)
+        (λ _ r here. subst (Keeps (send_all c sender to xs r)) here (sends_keep to xs r))
+
+    perform_keeps : (a : PlainAction) (s : Progress) → Keeps (perform c sender a s) (behind_action (ids c) a s.variables)
+    perform_keeps (task k ts) s = assign_keeps ts s
+    perform_keeps (output k xs to) s = sends_keep to xs s
+    perform_keeps (set_timer k t n) s =
+        read_keeps (value_of c t s) (valued (ids c) t s.variables) s.variables s.variables (λ x r. start_timer (timer_at c n) x (tick r)) (value_reads c t s)
+        (λ x r is here. start_keeps (timer_at c n) x (tick r) s.variables here)
+    perform_keeps (reset_timer k n) s = stop_keeps (timer_at c n) s
+
+  places_keep : (ps : List Value) (j : ℕ) (places : List (Option Identifier)) (s : Progress) → Keeps (take_places c ps j places s) (taken_in (ids c) ps j places s.variables)
+  places_keep ps j [] s = refl
+  places_keep ps j (None ∷ places) s = places_keep ps (j + 1) places s
+  places_keep ps j (Some n ∷ places) s = by_parameter (slice_get ps j) (places_keep ps (j + 1) places)
+    where
+      by_parameter : (o : Option Value) → ((r : Progress) → Keeps (take_places c ps (j + 1) places r) (taken_in (ids c) ps (j + 1) places r.variables))
+          → Keeps (then_do (pass o (variable_at c n) s) (λ _ r. take_places c ps (j + 1) places r)) (taken_in (ids c) ps (j + 1) places (put (ids c) n o s.variables))
+      by_parameter None rest = tt
+      by_parameter (Some x) rest =
+          then_keeps (write (variable_at c n) x (tick s)) (put (ids c) n (Some x) s.variables) _ (λ _ r. take_places c ps (j + 1) places r) (write_keeps (variable_at c n) x (tick s) s.variables refl)
+          (λ _ r here. subst (λ (us : Values). Keeps (take_places c ps (j + 1) places r) (taken_in (ids c) ps (j + 1) places us)) here (rest r))
+
+-- ---- answers
+
+tried : (rs : List Range) (x : ℤ) (s : Progress) → Reads (try_ranges rs x s) (Some (is_for rs (Int x))) s.variables
+tried [] x s = (refl, refl)
+tried (r ∷ rs) x s = by_told (covers_integer r x) (tried rs x (tick s))
+  where
+    by_told : (o : Option Bool) → Reads (try_ranges rs x (tick s)) (Some (is_for rs (Int x))) s.variables
+        → Reads (then_do (told o (tick s)) (λ b q. cond b (goes_on true q) (try_ranges rs x q))) (Some (unwrap_or o false || is_for rs (Int x))) s.variables
+    by_told None rest = tt
+    by_told (Some true) rest = (refl, refl)
+    by_told (Some false) rest = rest
+
+found_so : (rs : List Range) (b : Bool) (s : Progress) → Reads (find_truth rs b s) (Some (is_for rs (Truth b))) s.variables
+found_so [] b s = (refl, refl)
+found_so (r ∷ rs) b s = by_told (covers_truth r b) (found_so rs b s)
+  where
+    by_told : (o : Option Bool) → Reads (find_truth rs b s) (Some (is_for rs (Truth b))) s.variables
+        → Reads (then_do (told o s) (λ d q. cond d (goes_on true q) (find_truth rs b q))) (Some (unwrap_or o false || is_for rs (Truth b))) s.variables
+    by_told None rest = tt
+    by_told (Some true) rest = (refl, refl)
+    by_told (Some false) rest = rest
+
+-- ---- statements, where a JOIN never goes on
+
+-- it came to the end of a text, with what was done then
+record EndsBy (c : Scope) (join : List ℕ → Progress → Outcome (Unit {0})) (w : Way) (e : code.End) (s : Progress) : Type 0 where
+  end : End
+  now : Progress
+  is_end : w.end ≡ Some end
+  variables : w.values ≡ now.variables
+  by : end_with c join end now ≡ over (at_end e) s
+
+module _ (c : Scope) (join : List ℕ → Progress → Outcome (Unit {0})) (joins_over : (x : List ℕ) (s : Progress) → IsOver (join x s)) (sender : Option Address) where
+  -- the way goes on as the meaning does, with the same variables, or comes to its end; or that is stuck
+  abbrev Comes : Outcome (Unit {0}) → Way → Type 0
+  Comes (goes_on x s) w = (w.end ≡ None) × (w.values ≡ s.variables)
+  Comes (over (at_end e) s) w = EndsBy c join w e s
+  Comes (over (in_trouble t) s) w = Unit {0}
+
+  kept_comes : (o : Outcome (Unit {0})) (us : Values) (f : Unit {0} → Progress → Outcome (Unit {0})) (w : Way) → Keeps o us
+      → ((x : Unit {0}) (r : Progress) → r.variables ≡ us → Comes (f x r) w) → Comes (then_do o f) w
+  kept_comes (goes_on x s) us f w h step = step x s h
+  kept_comes (over (at_end e) s) us f w h step = absurd h
+  kept_comes (over (in_trouble t) s) us f w h step = tt
+
+  read_comes : {A : Type 0} (o : Outcome A) (p : Option A) (us : Values) (f : A → Progress → Outcome (Unit {0})) (w : Way) → Reads o p us
+      → ((x : A) (r : Progress) → p ≡ Some x → r.variables ≡ us → Comes (f x r) w) → Comes (then_do o f) w
+  read_comes (goes_on x s) p us f w h step = step x s h.0 h.1
+  read_comes (over (at_end e) s) p us f w h step = absurd h
+  read_comes (over (in_trouble t) s) p us f w h step = tt
+
+  leave_comes : (o : Outcome (Unit {0})) (w : Way) → Comes o w → Comes (leave o) w
+  leave_comes (goes_on x s) w h = h
+  leave_comes (over (at_end e) s) w h = h
+  leave_comes (over (in_trouble t) s) w h = tt
+
+  more_comes : (o : Outcome (Unit {0})) (w : Way) (xs : List Taken) → Comes o w → Comes o (behind xs w)
+  more_comes (goes_on x s) w xs h = h
+  more_comes (over (at_end e) s) w xs h = record { end = h.end; now = h.now; is_end = h.is_end; variables = h.variables; by = h.by }
+  more_comes (over (in_trouble t) s) w xs h = tt
+
+  -- a way, and then one behind it
+  way_comes : (o : Outcome (Unit {0})) (w : Way) (f : Unit {0} → Progress → Outcome (Unit {0})) (g : Values → Way) → Comes o w
+      → ((x : Unit {0}) (r : Progress) → Comes (f x r) (g r.variables)) → Comes (then_do o f) (then_way w g)
+  way_comes (goes_on x s) w f g h step =
+      subst (λ (e : Option End). Comes (f x s) (goes_with e w.taken w.values g)) (sym h.0)
+      (subst (λ (us : Values). Comes (f x s) (behind w.taken (g us))) (sym h.1) (more_comes (f x s) (g s.variables) w.taken (step x s)))
+  way_comes (over (at_end e) s) w f g h step =
+      subst (λ (o : Option End). EndsBy c join (goes_with o w.taken w.values g) e s) (sym h.is_end) (record { end = h.end; now = h.now; is_end = refl; variables = h.variables; by = h.by })
+  way_comes (over (in_trouble t) s) w f g h step = tt
+
+  end_over : (e : End) (s : Progress) → IsOver (end_with c join e s)
+  end_over (NextState n) s = by_state (state_at c n.state)
+    where
+      by_state : (o : Option ℕ) → IsOver (end_in o s)
+      by_state None = tt
+      by_state (Some q) = tt
+  end_over (Stop k) s = tt
+  end_over (Join j) s = joins_over j.connector.name (tick s)
+
+  end_comes : (e : End) (s : Progress) (xs : List Taken) → Comes (end_with c join e s) (behind xs (stands (Some e) s.variables))
+  end_comes e s xs = by_outcome (end_with c join e s) refl (end_over e s)
+    where
+      by_outcome : (o : Outcome (Unit {0})) → end_with c join e s ≡ o → IsOver o → Comes o (behind xs (stands (Some e) s.variables))
+      by_outcome (goes_on x r) is h = absurd h
+      by_outcome (over (at_end d) r) is h = record { end = e; now = s; is_end = refl; variables = refl; by = is }
+      by_outcome (over (in_trouble t) r) is h = tt
+
+  decide_comes : (b : Bool) (x : Value) (r : Progress) (by_integer : ℤ → Outcome (Unit {0})) (by_truth : Bool → Outcome (Unit {0})) (w : Value → Way)
+      → ((z : ℤ) → Comes (by_integer z) (w (Int z))) → ((d : Bool) → Comes (by_truth d) (w (Truth d))) → Comes (decide b x r by_integer by_truth) (w x)
+  decide_comes true (Truth d) r by_integer by_truth w one other = other d
+  decide_comes true (Int z) r by_integer by_truth w one other = tt
+  decide_comes false (Int z) r by_integer by_truth w one other = one z
+  decide_comes false (Truth d) r by_integer by_truth w one other = tt
+
+  -- an answer is for the value, or one of the others is
+  answer_comes : (tests : Outcome Bool) (b : Bool) (k : ℕ) (us : Values) (body others : Progress → Outcome (Unit {0})) (w v : Way) → Reads tests (Some b) us
+      → ((r : Progress) → r.variables ≡ us → Comes (body r) w) → ((r : Progress) → r.variables ≡ us → Comes (others r) v)
+      → Comes (then_do tests (λ d r. cond d (leave (body r)) (others r))) (cond b (behind (at k ∷ []) w) v)
+  answer_comes tests b k us body others w v h one other =
+      read_comes tests (Some b) us (λ d r. cond d (leave (body r)) (others r)) (cond b (behind (at k ∷ []) w) v) h
+      (λ d r is here. subst (λ (e : Bool). Comes (cond d (leave (body r)) (others r)) (cond e (behind (at k ∷ []) w) v)) (sym (same_Some b d is)) (by_test d r here))
+    where
+      by_test : (d : Bool) (r : Progress) → r.variables ≡ us → Comes (cond d (leave (body r)) (others r)) (cond d (behind (at k ∷ []) w) v)
+      by_test true r here = more_comes (leave (body r)) w (at k ∷ []) (leave_comes (body r) w (one r here))
+      by_test false r here = other r here
+
+  at_values : (o : Outcome (Unit {0})) (w : Values → Way) (us vs : Values) → us ≡ vs → Comes o (w us) → Comes o (w vs)
+  at_values o w us vs is h = subst (λ (ws : Values). Comes o (w ws)) is h
+
+  mutual
+    text_comes : (t : Text) (s : Progress) → Comes (act c join sender t s) (way_of (ids c) t s.variables)
+    text_comes falls s = (refl, refl)
+    text_comes (ends e) s = end_comes e s (at (end_place e) ∷ [])
+    text_comes (does a rest) s =
+        kept_comes (perform c sender a s) (behind_action (ids c) a s.variables) (λ _ r. act c join sender rest r) _ (perform_keeps c sender a s)
+        (λ _ r is. more_comes (act c join sender rest r) _ (at (action_place a) ∷ []) (at_values (act c join sender rest r) (way_of (ids c) rest) _ _ is (text_comes rest r)))
+    text_comes (decides k q choice rest) s =
+        read_comes (value_of c q s) (valued (ids c) q s.variables) s.variables
+        (λ x r. then_do (decide (meaning.is_truth c q) x r (λ z. choose c join sender choice z r) (λ b. pick c join sender choice b (tick r))) (λ _ r. act c join sender rest r)) _
+        (value_reads c q s)
+        (λ x r is there. subst
+        (λ (o : Option Value). Comes (then_do (decide (meaning.is_truth c q) x r (λ z. choose c join sender choice z r) (λ b. pick c join sender choice b (tick r))) (λ _ r. act c join sender rest r))
+        (then_way (behind (at k ∷ []) (with_value o s.variables (λ y. chosen_way (ids c) k choice y s.variables))) (way_of (ids c) rest))) (sym is)
+        (way_comes (decide (meaning.is_truth c q) x r (λ z. choose c join sender choice z r) (λ b. pick c join sender choice b (tick r))) (behind (at k ∷ []) (chosen_way (ids c) k choice x s.variables))
+        (λ _ r. act c join sender rest r) (way_of (ids c) rest)
+        (more_comes _ (chosen_way (ids c) k choice x s.variables) (at k ∷ [])
+        (decide_comes (meaning.is_truth c q) x r (λ z. choose c join sender choice z r) (λ b. pick c join sender choice b (tick r)) (λ y. chosen_way (ids c) k choice y s.variables)
+        (λ z. at_values (choose c join sender choice z r) (chosen_way (ids c) k choice (Int z)) _ _ there (choose_comes k choice z r))
+        (λ b. at_values (pick c join sender choice b (tick r)) (chosen_way (ids c) k choice (Truth b)) _ _ there (pick_comes k choice b (tick r)))))
+        (λ _ r. text_comes rest r)))
+
+    choose_comes : (k : ℕ) (choice : Choice) (x : ℤ) (s : Progress) → Comes (choose c join sender choice x s) (chosen_way (ids c) k choice (Int x) s.variables)
+    choose_comes k nothing_else x s = tt
+    choose_comes k (otherwise body) x s =
+        more_comes (leave (act c join sender body (tick s))) (way_of (ids c) body s.variables) (else_of k ∷ []) (leave_comes (act c join sender body (tick s)) _ (text_comes body (tick s)))
+    choose_comes k (answer a rs body others) x s =
+        answer_comes (try_ranges rs x s) (is_for rs (Int x)) a s.variables (λ r. act c join sender body r) (λ r. choose c join sender others x r)
+        (way_of (ids c) body s.variables) (chosen_way (ids c) k others (Int x) s.variables) (tried rs x s)
+        (λ r there. at_values (act c join sender body r) (way_of (ids c) body) _ _ there (text_comes body r))
+        (λ r there. at_values (choose c join sender others x r) (chosen_way (ids c) k others (Int x)) _ _ there (choose_comes k others x r))
+
+    pick_comes : (k : ℕ) (choice : Choice) (b : Bool) (s : Progress) → Comes (pick c join sender choice b s) (chosen_way (ids c) k choice (Truth b) s.variables)
+    pick_comes k nothing_else b s = tt
+    pick_comes k (otherwise body) b s =
+        more_comes (leave (act c join sender body s)) (way_of (ids c) body s.variables) (else_of k ∷ []) (leave_comes (act c join sender body s) _ (text_comes body s))
+    pick_comes k (answer a rs body others) b s =
+        answer_comes (find_truth rs b s) (is_for rs (Truth b)) a s.variables (λ r. act c join sender body r) (λ r. pick c join sender others b r)
+        (way_of (ids c) body s.variables) (chosen_way (ids c) k others (Truth b) s.variables) (found_so rs b s)
+        (λ r there. at_values (act c join sender body r) (way_of (ids c) body) _ _ there (text_comes body r))
+        (λ r there. at_values (pick c join sender others b r) (chosen_way (ids c) k others (Truth b)) _ _ there (pick_comes k others b r))
+
+-- ---- JOINs
+
+abbrev connection_name : PlainConnection → Identifier
+connection_name k = k.name
+
+-- the connection with a name is that which has its number
+connection_there : (p : PlainProcess) (x : List ℕ) → connection_named p x ≡ connection_at p x
+connection_there p x = found_at connection_name x p.connections ∙ by_place (nat_lt n (length (map connection_name p.connections))) refl
+  where
+    abbrev n : ℕ
+    n = position_or_len (λ (i : Identifier). same_name x i.name) (map connection_name p.connections)
+
+    by_place : (b : Bool) → nat_lt n (length (map connection_name p.connections)) ≡ b → slice_get p.connections n ≡ option_and_then (slice_get p.connections) (cond b (Some n) None)
+    by_place true e = refl
+    by_place false e =
+        let past : length p.connections ≤ n = grind (arith, nat_tests, length-map p.connections connection_name) in
+        slice_get_past p.connections n past
+
+no_end : {A : Type 0} (e : code.End) (t : Trouble) (s r : Progress) → ◌≡◌ {A = Outcome A} (over (in_trouble t) s) (over (at_end e) r) → ⊥
+no_end e t s r is = cc
+
+closed_end : (o : Outcome (Unit {0})) (e : code.End) (s : Progress) → closed o ≡ over (at_end e) s → o ≡ over (at_end e) s
+closed_end (goes_on x r) e s is = absurd (let f : ⊥ = cc in f)
+closed_end (over d r) e s is = is
+
+behind_joined : (c : Scope) (xs : List Taken) (w : Way) (e : code.End) (s : Progress) → ComesTo c w e s → ComesTo c (behind xs w) e s
+behind_joined c xs w e s h = record { end = h.end; is_end = h.is_end; is_meant = h.is_meant; variables = h.variables }
+
+-- an end that is no JOIN
+comes_here : (c : Scope) (w : Way) (end : End) (r s : Progress) (e d : code.End) → w.end ≡ Some end → w.values ≡ r.variables → meant_end c end ≡ Some d
+    → ◌≡◌ {A = Outcome (Unit {0})} (over (at_end d) (tick r)) (over (at_end e) s) → ComesTo c w e s
+comes_here c w end r s e d is are meant so =
+    let same : d ≡ e = cc in
+    let last : tick r ≡ s = cc in
+    record { end = end; is_end = is; is_meant = meant ∙ ap Some same; variables = are ∙ ap (λ (q : Progress). q.variables) last }
+
+no_join : (p : PlainProcess) (n : ℕ) (t : Text) (vs : Values) (end : End) → (way_of (variable_names p) t vs).end ≡ Some end → joined_at p (Some end) ≡ None
+    → whole_way p n t vs ≡ way_of (variable_names p) t vs
+no_join p zero t vs end is none = refl
+no_join p (suc n) t vs end is none =
+    let w = way_of (variable_names p) t vs in
+    ap (λ (o : Option PlainConnection). joined_way o w (λ u. whole_way p n u w.values)) (ap (joined_at p) is ∙ none)
+
+module _ (c : Scope) (sender : Option Address) where
+  abbrev way : Text → Values → Way
+  way t vs = way_of (variable_names c.process) t vs
+
+  -- a text that ends by its meaning, where n JOINs at most are followed
+  abbrev Ends : ℕ → Type 0
+  Ends n = (t : Text) (s : Progress) (e : code.End) (r : Progress) → act c (follow c sender n) sender t s ≡ over (at_end e) r → ComesTo c (whole_way c.process n t s.variables) e r
+
+  join_ends : (n : ℕ) (t : Text) (s now : Progress) (j : tree_join.Join) (e : code.End) (r : Progress) → (way t s.variables).end ≡ Some (Join j) → (way t s.variables).values ≡ now.variables
+      → follow c sender n j.connector.name (tick now) ≡ over (at_end e) r → ((m : ℕ) → n ≡ suc m → Ends m) → ComesTo c (whole_way c.process n t s.variables) e r
+  join_ends zero t s now j e r is are by inner = absurd (no_end e Outside (tick now) r by)
+  join_ends (suc m) t s now j e r is are by inner = by_connection (connection_named c.process j.connector.name) refl by
+    where
+      by_connection : (o : Option PlainConnection) → connection_named c.process j.connector.name ≡ o
+          → entered o (tick now) (λ u. closed (act c (follow c sender m) sender u (tick now))) ≡ over (at_end e) r → ComesTo c (whole_way c.process (suc m) t s.variables) e r
+      by_connection None at so = absurd (no_end e Outside (tick now) r so)
+      by_connection (Some k) at so =
+          let w = way t s.variables in
+          let on : whole_way c.process (suc m) t s.variables ≡ behind w.taken (whole_way c.process m k.text w.values) =
+          ap (λ (o : Option PlainConnection). joined_way o w (λ u. whole_way c.process m u w.values)) (ap (joined_at c.process) is ∙ (sym (connection_there c.process j.connector.name) ∙ at)) in
+          subst (λ (v : Way). ComesTo c v e r) (sym on)
+          (behind_joined c w.taken (whole_way c.process m k.text w.values) e r
+          (subst (λ (us : Values). ComesTo c (whole_way c.process m k.text us) e r) (sym are) (inner m refl k.text (tick now) e r (closed_end (act c (follow c sender m) sender k.text (tick now)) e r so))))
+
+  -- by the end to which it came
+  ended_by : (n : ℕ) (t : Text) (s now : Progress) (end : End) (e : code.End) (r : Progress) → (way t s.variables).end ≡ Some end → (way t s.variables).values ≡ now.variables
+      → end_with c (follow c sender n) end now ≡ over (at_end e) r → ((m : ℕ) → n ≡ suc m → Ends m) → ComesTo c (whole_way c.process n t s.variables) e r
+  ended_by n t s now (NextState m) e r is are by inner =
+      subst (λ (w : Way). ComesTo c w e r) (sym (no_join c.process n t s.variables (NextState m) is refl)) (by_state (state_at c m.state) refl by)
+    where
+      by_state : (o : Option ℕ) → state_at c m.state ≡ o → end_in o now ≡ over (at_end e) r → ComesTo c (way t s.variables) e r
+      by_state None at so = absurd (no_end e NoState (tick now) r so)
+      by_state (Some q) at so =
+          comes_here c (way t s.variables) (NextState m) now r e (code_end.State (record { 0 = q })) is are (ap (option_map (λ k. code_end.State (record { 0 = k }))) at) so
+  ended_by n t s now (Stop k) e r is are by inner =
+      subst (λ (w : Way). ComesTo c w e r) (sym (no_join c.process n t s.variables (Stop k) is refl)) (comes_here c (way t s.variables) (Stop k) now r e code_end.Stop is are refl by)
+  ended_by n t s now (Join j) e r is are by inner = join_ends n t s now j e r is are by inner
+
+  come_by : (n : ℕ) (t : Text) (s : Progress) (e : code.End) (r : Progress) → act c (follow c sender n) sender t s ≡ over (at_end e) r → EndsBy c (follow c sender n) (way t s.variables) e r
+  come_by n t s e r is =
+      subst (λ (o : Outcome (Unit {0})). Comes c (follow c sender n) (follow_over c sender n) sender o (way t s.variables)) is (text_comes c (follow c sender n) (follow_over c sender n) sender t s)
+
+  text_ends : (n : ℕ) → Ends n
+  text_ends zero t s e r is =
+      let h = come_by zero t s e r is in
+      ended_by zero t s h.now h.end e r h.is_end h.variables h.by (λ m no. absurd (omega (arith, no)))
+  text_ends (suc k) t s e r is =
+      let h = come_by (suc k) t s e r is in
+      ended_by (suc k) t s h.now h.end e r h.is_end h.variables h.by
+      (λ m so. let same : k ≡ m = omega (arith, so) in subst Ends same (λ u q d z there. text_ends k u q d z there))
+
+-- ---- the whole turn
+
+ran_end : (o : Outcome (Unit {0})) (e : code.End) (s : Progress) → ran o ≡ ended e s → o ≡ over (at_end e) s
+ran_end (goes_on x r) e s is = absurd (let f : ⊥ = cc in f)
+ran_end (over (at_end d) r) e s is =
+    let same : d ≡ e = cc in
+    let last : r ≡ s = cc in
+    ap (λ (b : code.End). over (at_end b) r) same ∙ ap (λ (q : Progress). over (at_end e) q) last
+ran_end (over (in_trouble t) r) e s is = absurd (let f : ⊥ = cc in f)
+
+kept_ends : (o : Outcome (Unit {0})) (us : Values) (f : Unit {0} → Progress → Outcome (Unit {0})) (e : code.End) (s : Progress) (P : Type 0) → Keeps o us → then_do o f ≡ over (at_end e) s
+    → ((x : Unit {0}) (r : Progress) → r.variables ≡ us → f x r ≡ over (at_end e) s → P) → P
+kept_ends (goes_on x r) us f e s P h is step = step x r h is
+kept_ends (over (at_end d) r) us f e s P h is step = absurd h
+kept_ends (over (in_trouble t) r) us f e s P h is step = absurd (no_end e t r s is)
+
+pub ends_so : (c : Scope) (q : Piece) (x : given.Input) (e : code.End) (s : Progress) → Act c q x ≡ ended e s → ComesTo c (turn_way c.process q.places q.text x) e s
+ends_so c q x e s is =
+    let ps = x.parameters.items in
+    let us = taken_in (variable_names c.process) ps 0 q.places x.variables.items in
+    kept_ends (take_places c ps 0 q.places (begun x)) us (λ _ r. act c (join_in c x.sender) x.sender q.text r) e s (ComesTo c (turn_way c.process q.places q.text x) e s)
+    (places_keep c ps 0 q.places (begun x)) (ran_end _ e s is)
+    (λ _ r there so. subst (λ (vs : Values). ComesTo c (whole_way c.process (length c.process.connections) q.text vs) e s) there
+    (text_ends c x.sender (length c.process.connections) q.text r e s so))
