@@ -5,4 +5,5 @@ mod Marking
 mod Rowing
 mod Printing
 mod TextCounts
+mod Readings
 mod Endings

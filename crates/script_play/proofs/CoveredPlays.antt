@@ -1,7 +1,10 @@
 -- Plays with what turns took of the set's text.
-use Rattle.std.proofs.Common.{◌≡◌, ◌∙◌, ℕ, List, [], ◌∷◌, ◌++◌, Option, None, Some, Result, Ok, Err, IfOk, IfSome, sym, ap, subst}
+use Rattle.std.proofs.Common.{◌≡◌, ◌∙◌, ℕ, List, [], ◌∷◌, ◌++◌, Option, None, Some, Result, Ok, Err, IfOk, IfSome, false, length, nat_lt, refl, sym, ap, subst}
 use Rattle.std.specs.Global.{Vec}
+use Rattle.plain_text.specs.Reading.{LONGEST, IsReading}
+use Rattle.plain_text.specs.declared.reading.TextRead.{TextRead}
 use Rattle.turn_code.specs.declared.draft.Draft.{Draft}
+use Rattle.script_check.proofs.Long.{all_kept}
 use Rattle.script_check.specs.Checked.{IsSetOf, IsGiven, IsAccepted, PrintsRefusal}
 use Rattle.script_seen.specs.resend_store_types.messages.RoundLimits.{RoundLimits}
 use Rattle.script_seen.specs.Turn.{Turn}
@@ -45,6 +48,11 @@ given_as (Some all) bytes P is g = record { bytes = g.bytes; are_known = g.are_k
 known_as : (known : Option (List ℕ)) (bytes text : List ℕ) → IfSome known (λ all. bytes ≡ all) → text ≡ bytes → IfSome known (λ all. text ≡ all)
 known_as None bytes text is same = tt
 known_as (Some all) bytes text is same = same ∙ is
+
+-- what is kept of a text that isn't too long is the text
+pub is_kept : (known : Option (List ℕ)) (read : TextRead) (bytes : List ℕ) → IsReading known read → nat_lt LONGEST (length read.kept.items) ≡ false → bytes ≡ read.kept.items
+    → IfSome known (λ all. bytes ≡ all)
+is_kept known read bytes r short is = known_as known r.bytes bytes r.are_known (is ∙ all_kept r.bytes read r.keeps short)
 
 pub accepted_as : (known : Option (List ℕ)) (bytes : List ℕ) → IfSome known (λ all. bytes ≡ all) → IsAccepted bytes → IfSome known IsAccepted
 accepted_as None bytes is a = tt
