@@ -159,8 +159,12 @@ none_more t p q s r n m other known =
     by_test true never = sym (never refl)
     by_test false never = refl
 
+none_counted : (b : Bool) → cond {A = ℕ} b 1 0 ≡ 0 + one_if b
+none_counted true = refl
+none_counted false = refl
+
 known_counted : (p q : ℕ) (s r : Option ℕ) (n m : ℕ) (ts : List Turns) → known_turns (counted_turn p s n ts) q r m ≡ known_turns ts q r m + one_if (same_key p s n q r m)
-known_counted p q s r n m [] = omega arith
+known_counted p q s r n m [] = none_counted (same_key p s n q r m)
 known_counted p q s r n m (t ∷ ts) = by_test (is_known t p s n) refl (known_counted p q s r n m ts)
   where
     left : (b d : Bool) → is_known t p s n ≡ false → is_known t q r m ≡ d → (u v : ℕ) → u ≡ v + one_if (same_key p s n q r m)

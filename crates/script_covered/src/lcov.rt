@@ -1,5 +1,5 @@
 //! What of a text was taken, in the format of lcov.
-ghost use Rattle.std.specs.Prelude.{◌≡◌, ◌∷◌, ◌++◌, ℕ, List, Some, codes, map, max, slice_index, slice_index_or, slice_set, unwrap_or, option_to_list, OnOk, IfOk};
+ghost use Rattle.std.specs.Prelude.{◌≡◌, ◌∷◌, ◌++◌, [], ℕ, List, None, Some, codes, map, max, slice_index, slice_index_or, slice_set, unwrap_or, option_to_list, OnOk, IfOk};
 ghost use Rattle.std.specs.List.{flat_map};
 ghost use Rattle.sdl_ast.specs.Views.{block_of};
 ghost use Rattle.turn_machine.specs.Turn.{Turn};

@@ -8,7 +8,7 @@ ghost use Rattle.script_covered.specs.Lcov.{row_of, named_as, declared_name, sta
 
 use crate::coverage::TurnCounts;
 use sdl_tables::{BlockTable, InputRow, NameTable, ProcessTable};
-use sdl_ast::Identifier;
+use sdl_ast::{Identifier, Name};
 use std::alloc::{AllocError, Global};
 
 /// A transition: the place of its START or INPUT, its name, and how many turns it had.

@@ -11,7 +11,7 @@ loop-row-preserved c =
     c.loop-row-test.true c.row-item.is c.loop-row.invariant
     (λ text ns h.
     line_as text _ _ _ c.push.new.self
-    (c.deref-2.ensures.value
+    (c.deref-in-loop-row.ensures.value
     ∙ (c.in_ok-push_named.ensures
     ∙ (ap (λ l. l ++ named_line (codes "FNDA:") row.turns c.deref.result.now) c.new-line.ensures.items ∙ ap (named_line (codes "FNDA:") row.turns) c.deref.ensures.value)))
     (c.in_ok-push.ensures text ns h))
