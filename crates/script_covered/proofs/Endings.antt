@@ -1,24 +1,23 @@
 -- Where a transition ends by its meaning, the way of its turn comes to that end.
 use Rattle.std.proofs.Common.{◌≡◌, ◌∙◌, ℕ, zero, suc, ◌≤◌, nat_lt, Bool, true, false, cond, List, [], ◌∷◌, length, map, Option, None, Some, arith, refl, sym, ap, subst}
 use Rattle.std.specs.Prelude.{ℤ, slice_get, option_and_then}
-use Rattle.std.specs.List.{position_or_len}
 use Rattle.std.specs.Option.{option_map}
 use Rattle.std.proofs.lemmas.Bool.Decides.{nat_tests}
 use Rattle.std.proofs.lemmas.List.{length-map}
 use Rattle.std.proofs.lemmas.Option.{slice_get_past, same_Some}
-use Rattle.sdl_ast.specs.declared.expression.Identifier.{Identifier}
 use Rattle.sdl_ast.specs.declared.tree.End.{End}
 use Rattle.sdl_ast.specs.declared.tree.End.TheVariants.{NextState, Stop, Join}
 use Rattle.sdl_ast.specs.declared.tree.Join as tree_join
 use Rattle.sdl_ast.specs.Plain.{number, Text, falls, ends, does, decides, Choice, nothing_else, otherwise, answer, PlainConnection, PlainProcess}
-use Rattle.sdl_tables.specs.Names.{same_name, variable_names, connection_named}
+use Rattle.sdl_tables.specs.Names.{variable_names, connection_named}
 use Rattle.sdl_sound.specs.Longest.{Piece}
 use Rattle.sdl_meaning.specs.Act as meaning
 use Rattle.sdl_meaning.specs.Act.{value_of, perform, end_in, end_with, try_ranges, find_truth, leave, decide, act, choose, pick, closed, entered, follow, join_in, take_places, ran, Act}
 use Rattle.sdl_meaning.specs.Outcomes.{Scope, at_end, in_trouble, Outcome, goes_on, over, then_do, state_at}
 use Rattle.sdl_meaning.proofs.Choices.{IsOver}
 use Rattle.sdl_meaning.proofs.Follows.{follow_over}
-use Rattle.sdl_meaning.proofs.Sorting.{found_at}
+use Rattle.sdl_meaning.proofs.Joining.{connection_name}
+use Rattle.sdl_meaning.proofs.Sorting.{found_at, place_in}
 use Rattle.turn_code.specs.declared.input.Address.{Address}
 use Rattle.turn_code.specs.declared.input.Input as given
 use Rattle.turn_code.specs.declared.machine.End as code
@@ -165,21 +164,18 @@ module _ (c : Scope) (join : List ℕ → Progress → Outcome (Unit {0})) (join
 
 -- ---- JOINs
 
-abbrev connection_name : PlainConnection → Identifier
-connection_name k = k.name
-
 -- the connection with a name is that which has its number
 connection_there : (p : PlainProcess) (x : List ℕ) → connection_named p x ≡ connection_at p x
-connection_there p x = found_at connection_name x p.connections ∙ by_place (nat_lt n (length (map connection_name p.connections))) refl
+connection_there p x =
+    found_at connection_name x p.connections ∙ by_place (nat_lt (place_in connection_name x p.connections) (length (map connection_name p.connections))) refl
   where
-    abbrev n : ℕ
-    n = position_or_len (λ (i : Identifier). same_name x i.name) (map connection_name p.connections)
-
-    by_place : (b : Bool) → nat_lt n (length (map connection_name p.connections)) ≡ b → slice_get p.connections n ≡ option_and_then (slice_get p.connections) (cond b (Some n) None)
+    by_place : (b : Bool) → nat_lt (place_in connection_name x p.connections) (length (map connection_name p.connections)) ≡ b
+        → slice_get p.connections (place_in connection_name x p.connections)
+        ≡ option_and_then (slice_get p.connections) (cond b (Some (place_in connection_name x p.connections)) None)
     by_place true e = refl
     by_place false e =
-        let past : length p.connections ≤ n = grind (arith, nat_tests, length-map p.connections connection_name) in
-        slice_get_past p.connections n past
+        let past : length p.connections ≤ place_in connection_name x p.connections = grind (arith, nat_tests, length-map p.connections connection_name) in
+        slice_get_past p.connections (place_in connection_name x p.connections) past
 
 no_end : {A : Type 0} (e : code.End) (t : Trouble) (s r : Progress) → ◌≡◌ {A = Outcome A} (over (in_trouble t) s) (over (at_end e) r) → ⊥
 no_end e t s r is = cc

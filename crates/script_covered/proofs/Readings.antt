@@ -15,6 +15,7 @@ use Rattle.sdl_meaning.specs.Act as meaning
 use Rattle.sdl_meaning.specs.Act.{slot, read, written, write, Working, reckons, compares, joins, working, apply_one, apply_two, divisor_of, divide, value_of, values_of, assign, put_out, send, send_all, start_timer, stop_timer, perform, told, try_ranges, find_truth, pass, take_places, covers_integer, covers_truth, receiver_of}
 use Rattle.sdl_meaning.specs.Outcomes.{Scope, at_end, in_trouble, Outcome, goes_on, over, then_do, variable_at, signal_at, timer_at}
 use Rattle.turn_code.specs.declared.input.Address.{Address}
+use Rattle.turn_code.specs.declared.trouble.Trouble.TheVariants.{WrongSort}
 use Rattle.turn_code.specs.declared.value.Value.{Value}
 use Rattle.turn_code.specs.declared.value.Value.TheVariants.{Int, Bool as Truth}
 use Rattle.turn_code.specs.Run.{Progress, tick}
@@ -94,8 +95,8 @@ divided_reads : (op : BinaryOperator) (t : Tree) (x : Value) (r : Progress) (vs 
 divided_reads op t (Truth b) r vs is = tt
 divided_reads op t (Int x) r vs is = by_test (int_lt (pos 0) (divisor_of t))
   where
-    by_test : (b : Bool) → Reads (cond b (goes_on (Int (meaning.quotient op x (divisor_of t))) (tick r)) (over (in_trouble _) (tick r)))
-        (found (cond b (goes_on (Int (meaning.quotient op x (divisor_of t))) fresh) (over (in_trouble _) fresh))) vs
+    by_test : (b : Bool) → Reads (cond b (goes_on (Int (meaning.quotient op x (divisor_of t))) (tick r)) (over (in_trouble WrongSort) (tick r)))
+        (found (cond b (goes_on (Int (meaning.quotient op x (divisor_of t))) fresh) (over (in_trouble WrongSort) fresh))) vs
     by_test true = (refl, is)
     by_test false = tt
 
@@ -197,7 +198,7 @@ module _ (c : Scope) where
     perform_keeps (set_timer k t n) s =
         read_keeps (value_of c t s) (valued (ids c) t s.variables) s.variables s.variables (λ x r. start_timer (timer_at c n) x (tick r)) (value_reads c t s)
         (λ x r is here. start_keeps (timer_at c n) x (tick r) s.variables here)
-    perform_keeps (reset_timer k n) s = stop_keeps (timer_at c n) s
+    perform_keeps (reset_timer k n) s = stop_keeps (timer_at c n) (tick s)
 
   pub places_keep : (ps : List Value) (j : ℕ) (places : List (Option Identifier)) (s : Progress) → Keeps (take_places c ps j places s) (taken_in (ids c) ps j places s.variables)
   places_keep ps j [] s = refl

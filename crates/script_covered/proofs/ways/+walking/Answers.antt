@@ -34,7 +34,7 @@ walk-returns t c =
 pub go_by-returns-in-Act : goal.go_by-returns-in-Act
 go_by-returns-in-Act t c =
     subst (λ (s : Statement). IsOnWay (way_of c.args.names.now (statement_of s falls) c.args.values.now.items) (stands _ c.act.new.values.items) c.args.counts.now c.take_at.new.self) (sym c.in-Act.is)
-    (statement_acts c.args.names.now c.in-Act.action.now c.args.values.now.items c.act.new.values.items c.action_place.result c.args.counts.now c.take_at.new.self c.action_place.ensures c.act.ensures c.take_at.ensures)
+    (statement_acts c.args.names.now c.in-Act.action c.args.values.now.items c.act.new.values.items c.action_place.result c.args.counts.now c.take_at.new.self c.action_place.ensures c.act.ensures c.take_at.ensures)
 
 pub go_by-returns-in-Decide : goal.go_by-returns-in-Decide
 go_by-returns-in-Decide t c =

@@ -12,7 +12,7 @@ returns c = λ xs has.
     let places = c.args.places.now in
     let x = c.args.input.now in
     goes_as (process_of c.args.process.now) _ _ (text_of c.args.transition.now) _ _ xs c.go.new.counts
-    (c.len-joins.ensures ∙ (sym (length-map c.connections_in.result.now connection_of) ∙ ap (λ (l : List PlainConnection). length l) c.connections_in.ensures))
+    (sym (length-map c.connections_in-joins.result.now connection_of) ∙ ap (λ (l : List PlainConnection). length l) c.connections_in-joins.ensures)
     (c.take_parameters.ensures
     ∙ (ap (λ vs. taken_in ids c.deref.result.now 0 places vs) (ap (λ v. v.items) c.copied_variables-values.ensures)
     ∙ (ap (λ ps. taken_in ids ps 0 places x.variables.items) c.deref.ensures.value
