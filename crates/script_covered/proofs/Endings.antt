@@ -217,11 +217,11 @@ module _ (c : Scope) (sender : Option Address) where
     where
       by_connection : (o : Option PlainConnection) → connection_named c.process j.connector.name ≡ o
           → entered o (tick now) (λ u. closed (act c (follow c sender m) sender u (tick now))) ≡ over (at_end e) r → ComesTo c (whole_way c.process (suc m) t s.variables) e r
-      by_connection None at so = absurd (no_end e Outside (tick now) r so)
-      by_connection (Some k) at so =
+      by_connection None here so = absurd (no_end e Outside (tick now) r so)
+      by_connection (Some k) here so =
           let w = way t s.variables in
           let on : whole_way c.process (suc m) t s.variables ≡ behind w.taken (whole_way c.process m k.text w.values) =
-          ap (λ (o : Option PlainConnection). joined_way o w (λ u. whole_way c.process m u w.values)) (ap (joined_at c.process) is ∙ (sym (connection_there c.process j.connector.name) ∙ at)) in
+          ap (λ (o : Option PlainConnection). joined_way o w (λ u. whole_way c.process m u w.values)) (ap (joined_at c.process) is ∙ (sym (connection_there c.process j.connector.name) ∙ here)) in
           subst (λ (v : Way). ComesTo c v e r) (sym on)
           (behind_joined c w.taken (whole_way c.process m k.text w.values) e r
           (subst (λ (us : Values). ComesTo c (whole_way c.process m k.text us) e r) (sym are) (inner m refl k.text (tick now) e r (closed_end (act c (follow c sender m) sender k.text (tick now)) e r so))))
@@ -233,9 +233,9 @@ module _ (c : Scope) (sender : Option Address) where
       subst (λ (w : Way). ComesTo c w e r) (sym (no_join c.process n t s.variables (NextState m) is refl)) (by_state (state_at c m.state) refl by)
     where
       by_state : (o : Option ℕ) → state_at c m.state ≡ o → end_in o now ≡ over (at_end e) r → ComesTo c (way t s.variables) e r
-      by_state None at so = absurd (no_end e NoState (tick now) r so)
-      by_state (Some q) at so =
-          comes_here c (way t s.variables) (NextState m) now r e (code_end.State (record { 0 = q })) is are (ap (option_map (λ k. code_end.State (record { 0 = k }))) at) so
+      by_state None here so = absurd (no_end e NoState (tick now) r so)
+      by_state (Some q) here so =
+          comes_here c (way t s.variables) (NextState m) now r e (code_end.State (record { 0 = q })) is are (ap (option_map (λ k. code_end.State (record { 0 = k }))) here) so
   ended_by n t s now (Stop k) e r is are by inner =
       subst (λ (w : Way). ComesTo c w e r) (sym (no_join c.process n t s.variables (Stop k) is refl)) (comes_here c (way t s.variables) (Stop k) now r e code_end.Stop is are refl by)
   ended_by n t s now (Join j) e r is are by inner = join_ends n t s now j e r is are by inner

@@ -15,6 +15,6 @@ returns c = λ xs has.
     (sym (length-map c.connections_in-joins.result.now connection_of) ∙ ap (λ (l : List PlainConnection). length l) c.connections_in-joins.ensures)
     (c.take_parameters.ensures
     ∙ (ap (λ vs. taken_in ids c.deref.result.now 0 places vs) (ap (λ v. v.items) c.copied_variables-values.ensures)
-    ∙ (ap (λ ps. taken_in ids ps 0 places x.variables.items) c.deref.ensures.value
+    ∙ (ap (λ ps. taken_in ids ps 0 places x.variables.items) c.deref.ensures.0
     ∙ ap (λ ns. taken_in ns x.parameters.items 0 places x.variables.items) c.variables.ensures)))
     (c.go.ensures xs has)
