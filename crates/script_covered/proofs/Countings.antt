@@ -1,7 +1,7 @@
 -- What is counted of turns: of transitions, and at places.
-use Rattle.std.proofs.Common.{◌≡◌, ◌≢◌, ◌∙◌, ℕ, zero, suc, ◌+◌, ◌<◌, Bool, true, false, true≢false, ◌&&◌, ◌||◌, cond, List, [], ◌∷◌, ◌++◌, append_assoc, append-nil, length, map, replicate, get_or, slice_set, Option, None, Some, arith, refl, sym, ap, subst}
-use Rattle.std.specs.Prelude.{◌==◌, nat_eq, if◌then◌else◌, position, slice_get, count_by}
-use Rattle.std.specs.List.{flat_map, position_from}
+use Rattle.std.proofs.Common.{◌≡◌, ◌≢◌, ◌∙◌, ℕ, zero, suc, ◌+◌, ◌<◌, Bool, true, false, true≢false, ◌&&◌, cond, List, [], ◌∷◌, ◌++◌, append_assoc, append-nil, length, replicate, get_or, slice_set, Option, None, Some, arith, refl, sym, ap, subst}
+use Rattle.std.specs.Prelude.{◌==◌, nat_eq, if◌then◌else◌, position, slice_get}
+use Rattle.std.specs.List.{position_from}
 use Rattle.std.proofs.lemmas.Bool.{eqb-true as same_number}
 use Rattle.std.proofs.lemmas.Bool.Decides.{nat_tests}
 use Rattle.std.proofs.lemmas.Iterator.Adapters.{position_from-zero}
@@ -20,7 +20,7 @@ use Rattle.turn_code.specs.declared.input.Place.TheVariants.{Start, State as AtS
 use Rattle.turn_code.specs.declared.numbers.StateNumber.{StateNumber}
 use Rattle.turn_machine.specs.Turn.{Turn}
 use Rattle.script_covered.specs.Ways.{Taken, at, else_of}
-use Rattle.script_covered.specs.Covered.{is_at, is_else, times, others, same_state, state_in, is_of, turns_of, is_known, known_turns, counted_turn, HasTurns, HasCounts, one_more, HasTaken, passed, taken_input, input_at, taken_at, taken_of, taken_by, Covers}
+use Rattle.script_covered.specs.Covered.{is_at, is_else, times, others, same_state, state_in, is_of, is_known, known_turns, counted_turn, HasTurns, HasCounts, one_more, HasTaken, passed, taken_input, input_at, taken_at, taken_of, taken_by, Covers}
 use Rattle.script_covered.specs.declared.coverage.Coverage.{Coverage}
 use Rattle.script_covered.specs.declared.coverage.Counts.{Counts}
 use Rattle.script_covered.specs.declared.coverage.Places.{Places}

@@ -1,5 +1,5 @@
 -- What stands in a text: one statement and one answer further.
-use Rattle.std.proofs.Common.{◌≡◌, ◌∙◌, ℕ, ◌+◌, ◌<◌, ◌≤◌, List, [], ◌∷◌, ◌++◌, append_assoc, append-nil, length, drop, get_or, Option, refl, sym, ap}
+use Rattle.std.proofs.Common.{◌≡◌, ◌∙◌, ℕ, ◌+◌, ◌<◌, ◌≤◌, List, [], ◌∷◌, ◌++◌, append_assoc, append-nil, length, drop, get_or, Option, sym, ap}
 use Rattle.std.proofs.lemmas.List.{drop_more, drop_all}
 use Rattle.sdl_ast.specs.declared.tree.Action.{Action}
 use Rattle.sdl_ast.specs.declared.tree.Answer.{Answer}
@@ -8,7 +8,7 @@ use Rattle.sdl_ast.specs.declared.tree.Statement.{Statement}
 use Rattle.sdl_ast.specs.declared.tree.Statement.TheVariants.{Act, Decide}
 use Rattle.sdl_ast.specs.declared.tree.Transition.{Transition}
 use Rattle.sdl_ast.specs.Plain.{Text, Choice}
-use Rattle.sdl_ast.specs.Views.{text_of, action_of, tree_of, choice_of, end_text, else_choice, statement_of, statements_before, answers_before}
+use Rattle.sdl_ast.specs.Views.{text_of, action_of, choice_of, else_choice, statement_of, statements_before, answers_before}
 use Rattle.sdl_ast.proofs.Views.{answer_of-is, statement_of-act, statement_of-decide}
 use Rattle.script_covered.specs.Ways.{action_place}
 use Rattle.script_covered.specs.Lcov.{text_marks, choice_marks}

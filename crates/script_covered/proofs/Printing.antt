@@ -1,8 +1,7 @@
 -- What is told of a text: lines, and how many.
 use Rattle.std.proofs.Common.{◌≡◌, ◌∙◌, ℕ, zero, suc, ◌+◌, ◌-◌, ◌<◌, ◌≤◌, Bool, true, false, true≢false, ◌||◌, cond, max, List, [], ◌∷◌, ◌++◌, append_assoc, append-nil, length, map, take, get_or, replicate, slice_set, Option, None, Some, unwrap_or, arith, refl, sym, ap, subst}
-use Rattle.std.specs.Prelude.{◌==◌, nat_eq, nat_lt, if◌then◌else◌, codes, count_by, fold, slice_get, slice_index, option_to_list}
-use Rattle.std.specs.Fmt.{decimal}
-use Rattle.std.specs.List.{flat_map, range_with_len, sum_by}
+use Rattle.std.specs.Prelude.{◌==◌, nat_eq, nat_lt, if◌then◌else◌, codes, count_by, slice_get, slice_index, option_to_list}
+use Rattle.std.specs.List.{flat_map, range_with_len}
 use Rattle.std.proofs.lemmas.Bool.{eqb-true as same_number}
 use Rattle.std.proofs.lemmas.Bool.Decides.{nat_tests}
 use Rattle.std.proofs.lemmas.List.{length_push, take_more, take_all, length-take-le, length-replicate, get_or-set_same, get_or-set_other, length-set, get_or-replicate, get_or_default}
@@ -10,7 +9,6 @@ use Rattle.std.proofs.lemmas.List.FromFn.{fill_by_all}
 use Rattle.std.proofs.lemmas.List.Sums.{sum_by_push, sum_by_more, fold_more}
 use Rattle.std.proofs.lemmas.Option.{slice_get_past}
 use Rattle.sdl_sound.proofs.Spread.{flat_more}
-use Rattle.plain_laws.proofs.Lists.{mapped_more}
 use Rattle.sdl_ast.specs.Plain.{PlainBlock}
 use Rattle.sdl_tables.specs.Names.{processes_of, signal_names}
 use Rattle.turn_machine.specs.Turn.{Turn}

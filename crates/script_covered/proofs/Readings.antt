@@ -19,7 +19,7 @@ use Rattle.turn_code.specs.declared.trouble.Trouble.TheVariants.{WrongSort}
 use Rattle.turn_code.specs.declared.value.Value.{Value}
 use Rattle.turn_code.specs.declared.value.Value.TheVariants.{Int, Bool as Truth}
 use Rattle.turn_code.specs.Run.{Progress, tick}
-use Rattle.script_covered.specs.Ways.{at, is_for, made_of_one, made_of_two, quotient_of, found, fresh, held, valued, put, put_at, assigned, behind_action, taken_in}
+use Rattle.script_covered.specs.Ways.{is_for, made_of_one, made_of_two, quotient_of, found, fresh, held, valued, put, put_at, assigned, behind_action, taken_in}
 
 abbrev pub Values : Type 0
 Values = List (Option Value)

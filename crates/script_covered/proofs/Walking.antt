@@ -1,5 +1,5 @@
 -- A walk: one statement and one answer further, and the ends.
-use Rattle.std.proofs.Common.{◌≡◌, ◌∙◌, ℕ, suc, ◌+◌, ◌<◌, ◌≤◌, Bool, true, false, cond, List, [], ◌∷◌, ◌++◌, append_assoc, append-nil, length, map, drop, get_or, Option, None, Some, refl, sym, ap, subst}
+use Rattle.std.proofs.Common.{◌≡◌, ◌∙◌, ℕ, suc, ◌+◌, ◌<◌, ◌≤◌, Bool, true, false, cond, List, [], ◌∷◌, ◌++◌, append_assoc, append-nil, length, drop, get_or, Option, None, Some, refl, sym, ap, subst}
 use Rattle.std.specs.Option.{option_map}
 use Rattle.std.proofs.lemmas.List.{drop_more, drop_all}
 use Rattle.sdl_ast.specs.declared.expression.Identifier.{Identifier}
@@ -11,7 +11,7 @@ use Rattle.sdl_ast.specs.declared.tree.Statement.TheVariants.{Act, Decide}
 use Rattle.sdl_ast.specs.declared.tree.Action.{Action}
 use Rattle.sdl_ast.specs.declared.tree.Transition.{Transition}
 use Rattle.sdl_ast.specs.Plain.{Text, falls, Choice, PlainStatement, act, decide, PlainAnswer, PlainConnection, PlainProcess, before, all_answers}
-use Rattle.sdl_ast.specs.Views.{plain_statement, plain_answer, plain_decision, tree_of, action_of, text_of, statement_of, decision_of, statements_before, answers_before, end_text, else_choice, choice_of}
+use Rattle.sdl_ast.specs.Views.{plain_statement, tree_of, action_of, text_of, statement_of, decision_of, statements_before, answers_before, end_text, else_choice, choice_of}
 use Rattle.sdl_ast.proofs.Views.{text_of-is, plain_answer-is, plain_decides, decision_of-is, statement_of-act}
 use Rattle.sdl_tables.specs.Names.{variable_names}
 use Rattle.turn_code.specs.declared.value.Value.{Value}

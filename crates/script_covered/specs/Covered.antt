@@ -1,5 +1,5 @@
 -- What of a text turns took: which transitions, and in these which statements and answers.
-use Rattle.std.specs.Prelude.{◌≡◌, ◌+◌, ◌==◌, ◌&&◌, ℕ, Bool, true, false, List, [], ◌∷◌, ◌++◌, length}
+use Rattle.std.specs.Prelude.{◌≡◌, ◌+◌, ◌==◌, ◌&&◌, ℕ, Bool, true, false, List, [], ◌∷◌, length}
 use Rattle.std.specs.Prelude.{Option, None, Some, if◌then◌else◌, count_by, slice_get, slice_index}
 use Rattle.std.specs.List.{flat_map}
 use Rattle.sdl_ast.specs.declared.expression.Identifier.{Identifier}

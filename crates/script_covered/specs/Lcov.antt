@@ -1,6 +1,6 @@
 -- What of a text was taken, in the format of lcov (geninfo's tracefiles): transitions are
 -- functions, answers of DECISIONs branches.
-use Rattle.std.specs.Prelude.{◌≡◌, ◌≤◌, ◌<◌, ◌+◌, ◌==◌, ℕ, nat_lt, Bool, true, false, List, [], ◌∷◌, ◌++◌}
+use Rattle.std.specs.Prelude.{◌≡◌, ◌≤◌, ◌<◌, ◌+◌, ◌==◌, ℕ, nat_lt, List, [], ◌∷◌, ◌++◌}
 use Rattle.std.specs.Prelude.{length, map, take, count_by, max, codes, fold, if◌then◌else◌}
 use Rattle.std.specs.Prelude.{Option, None, Some, unwrap_or, option_map, option_to_list}
 use Rattle.std.specs.Prelude.{slice_index_or}

@@ -43,12 +43,7 @@ fn turns_section(alloc: Global, rows: &[Row]) -> Result<Section, AllocError>
 }
 
 /// How often an answer was taken; a dash where its DECISION was never asked.
-fn push_taken(
-    alloc: Global,
-    line: &mut Vec<u8>,
-    asked: u64,
-    times: u64,
-) -> Result<(), AllocError>
+fn push_taken(alloc: Global, line: &mut Vec<u8>, asked: u64, times: u64) -> Result<(), AllocError>
     ensures { OnOk result (line.new.items ≡ line.old.items ++ taken_word asked times) }
 {
     if 0 < asked {

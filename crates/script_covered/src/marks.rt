@@ -8,8 +8,8 @@ ghost use Rattle.script_covered.specs.Lcov.{text_marks, choice_marks, input_mark
 ghost use Rattle.script_covered.specs.declared.marks.Mark.TheVariants.{Begins as Begun};
 
 use crate::ways::{action_place, end_place};
-use sdl_tables::{BlockTable, ProcessTable};
 use sdl_ast::{Connection, Decision, End, InputPart, Statement, Transition};
+use sdl_tables::{BlockTable, ProcessTable};
 use std::alloc::{AllocError, Global};
 
 /// What stands in a text.
@@ -137,10 +137,7 @@ fn push_process(marks: &mut Vec<Mark>, process: &ProcessTable<'_>) -> Result<(),
 }
 
 /// What stands in processes.
-fn push_processes(
-    marks: &mut Vec<Mark>,
-    processes: &[ProcessTable<'_>],
-) -> Result<(), AllocError>
+fn push_processes(marks: &mut Vec<Mark>, processes: &[ProcessTable<'_>]) -> Result<(), AllocError>
     ensures { OnOk result (marks.new.items ≡ marks.old.items ++ flat_map process_marks (map process_of processes.now)) }
 {
     for process in processes {

@@ -7,8 +7,8 @@ ghost use Rattle.script_covered.specs.Covered.{known_turns};
 ghost use Rattle.script_covered.specs.Lcov.{row_of, named_as, declared_name, start_name, input_name, state_rows, states_rows, process_rows, all_rows};
 
 use crate::coverage::TurnCounts;
-use sdl_tables::{BlockTable, InputRow, NameTable, ProcessTable};
 use sdl_ast::{Identifier, Name};
+use sdl_tables::{BlockTable, InputRow, NameTable, ProcessTable};
 use std::alloc::{AllocError, Global};
 
 /// A transition: the place of its START or INPUT, its name, and how many turns it had.
@@ -124,9 +124,7 @@ fn push_states_rows(
         ≡ map row_of rows.old.items ++ states_rows (known_turns turns.now.turns.items) signals.now (process_of process.now) owner 0 (map rows_inputs inputs.now)) }
 {
     for (state, of_state) in inputs.iter().enumerate() {
-        push_state_rows(
-            alloc, rows, turns, signals, process, owner, state, of_state,
-        )?;
+        push_state_rows(alloc, rows, turns, signals, process, owner, state, of_state)?;
     }
     Ok(())
 }

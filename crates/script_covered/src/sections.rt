@@ -27,11 +27,7 @@ fn one_if(number: u64, more: bool) -> Result<u64, AllocError>
 }
 
 /// A number in decimal.
-pub(crate) fn push_number(
-    alloc: Global,
-    text: &mut Vec<u8>,
-    number: u64,
-) -> Result<(), AllocError>
+pub(crate) fn push_number(alloc: Global, text: &mut Vec<u8>, number: u64) -> Result<(), AllocError>
     ensures { OnOk result (text.new.items ≡ text.old.items ++ decimal number) }
 {
     let digits = format!(in alloc; "{number}")?;

@@ -24,10 +24,7 @@ pub struct TextCoverage<'a, 'b> {
 }
 
 /// A process, if there is one of this number.
-fn process_at<'a, 'b>(
-    tables: &'b [ProcessTable<'a>],
-    number: usize,
-) -> Option<&'b ProcessTable<'a>>
+fn process_at<'a, 'b>(tables: &'b [ProcessTable<'a>], number: usize) -> Option<&'b ProcessTable<'a>>
     ensures { option_map (λ p. process_of p.now) result ≡ slice_get (map process_of tables.now) number }
 {
     tables.get(number)

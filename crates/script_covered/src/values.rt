@@ -8,11 +8,9 @@ ghost use Rattle.turn_code.specs.Values.{wrap};
 ghost use Rattle.turn_code.specs.declared.value.Value.TheVariants.{Int, Bool as Truth};
 ghost use Rattle.script_covered.specs.Ways.{made_of_one, made_of_two, quotient_of, held, valued, has_value, is_for};
 
+use sdl_ast::{BinaryOperator, Expression, Identifier, Literal, Range, Relation, UnaryOperator};
 use sdl_sound::is_division;
 use sdl_tables::NameTable;
-use sdl_ast::{
-    BinaryOperator, Expression, Identifier, Literal, Range, Relation, UnaryOperator,
-};
 use turn_code::{Connective, Division, Operation, Relation as Standing, Value, negated};
 
 /// What an operator makes of a value; none where it has another sort.

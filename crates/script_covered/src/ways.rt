@@ -13,10 +13,8 @@ ghost use Rattle.script_covered.specs.OnWay.{IsOnWay};
 use crate::coverage::Counts;
 use crate::values::{answers, evaluate};
 use arrayvec::ArrayVec;
+use sdl_ast::{Action, Assignment, Connection, Decision, End, Identifier, Statement, Transition};
 use sdl_tables::{NameTable, ProcessTable};
-use sdl_ast::{
-    Action, Assignment, Connection, Decision, End, Identifier, Statement, Transition,
-};
 use turn_code::{Input, Value, copied_variables};
 
 /// The values of a process's variables, of those that are set.

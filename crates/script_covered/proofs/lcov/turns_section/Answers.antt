@@ -1,4 +1,4 @@
-use Rattle.std.proofs.Common.{[], ◌∷◌, ◌++◌, ap, sym, ◌∙◌, codes, arith}
+use Rattle.std.proofs.Common.{[], ◌∷◌, ◌++◌, ap, ◌∙◌, codes, arith}
 use Rattle.script_covered.specs.Lcov.{named_line, turns_line, row_of}
 use Rattle.script_covered.specs.declared.rows.Row.{Row}
 use Rattle.script_covered.proofs.Printing.{items_more, line_as, rows_past}

@@ -4,7 +4,7 @@ use Rattle.sdl_ast.specs.declared.tree.Decision.{out-Decision}
 use Rattle.sdl_ast.specs.Views.{end_text, else_choice, statements_before, answers_before}
 use Rattle.sdl_ast.proofs.Views.{text_of-is}
 use Rattle.script_covered.specs.Lcov.{text_marks, choice_marks}
-use Rattle.script_covered.proofs.Marking.{statements_on, statements_past, act_more, decision_more, answers_on, answers_past, with_else, without_else}
+use Rattle.script_covered.proofs.Marking.{statements_on, statements_past, answers_on}
 use Rattle.script_covered.proofs.marks.+marking.Goals as goal
 
 pub push_text-loop-statement-init : goal.push_text-loop-statement-init

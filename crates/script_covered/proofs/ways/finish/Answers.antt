@@ -1,4 +1,3 @@
-use Rattle.std.proofs.Common.{sym, ◌∙◌}
 use Rattle.script_covered.proofs.Walking.{end_taken, none_taken}
 use Rattle.script_covered.proofs.ways.finish.Goals as goal
 
