@@ -48,8 +48,11 @@ class Taken:
 
     def __init__(self, text):
         self.text = text
-        entities = P(text, lex(text)).block()
-        self.transitions, self.decisions, self.lines = {}, {}, {}
+        self.parser = P(text, lex(text))
+        entities = self.parser.block()
+        # of each decision the places of its answers, None for ELSE; and where something begins
+        self.transitions, self.decisions, self.begun = {}, {}, set()
+        self.printed = {it.lower(): it for it in (line.split(" budget ")[0] for line in check(text)[:-1])}
         for it in entities:
             if it[0] == "process":
                 self.process(it[1])
@@ -62,7 +65,7 @@ class Taken:
 
     def process(self, parsed):
         (name, _), _, (at, start), states, connections, _ = parsed
-        self.transitions[name.lower(), "START", None] = (f"{name} START", self.at(at))
+        self.transitions[name.lower(), "START", None] = (self.printed[f"{name} START".lower()], at)
         self.body(start)
         for names, clauses in states:
             for it in clauses:
@@ -70,7 +73,7 @@ class Taken:
                     for state in names:
                         for (signal, _), _ in it[2]:
                             key = name.lower(), lo(state), signal.lower()
-                            self.transitions[key] = (f"{name} {state[0]}/{signal}", self.at(it[1]))
+                            self.transitions[key] = (self.printed[f"{name} {state[0]}/{signal}".lower()], it[1])
                     self.body(it[3])
         for _, _, body in connections:
             self.body(body)
@@ -78,34 +81,39 @@ class Taken:
     def body(self, text):
         for act in text[0]:
             if act[0] == "decide":
-                self.decisions[act[1]] = len(act[3]) + (act[4] is not None)
-                self.lines[self.at(act[1])] = 0
+                answers = [self.parser.opened[id(ranges)] for ranges, _ in act[3]]
+                self.decisions[act[1]] = answers + [None] * (act[4] is not None)
+                self.begun |= {act[1], *answers}
                 for _, body in act[3]:
                     self.body(body)
                 if act[4] is not None:
                     self.body(act[4])
             else:
-                self.lines[self.at(act[-1])] = 0
+                self.begun.add(act[-1])
         if text[1] is not None:
-            self.lines[self.at(text[1][1])] = 0
+            self.begun.add(text[1][1])
 
     def lcov(self, path):
         """In lcov's format, for the file of this path."""
         out = ["TN:scripts", f"SF:{path}"]
         ordered = sorted(self.transitions.items(), key=lambda it: (it[1][1], it[1][0]))
-        out += [f"FN:{line},{name}" for _, (name, line) in ordered]
+        out += [f"FN:{self.at(place)},{name}" for _, (name, place) in ordered]
         out += [f"FNDA:{self.turns[key]},{name}" for key, (name, _) in ordered]
         out += [f"FNF:{len(ordered)}", f"FNH:{sum(self.turns[key] > 0 for key, _ in ordered)}"]
-        branches = [(place, number, answer) for number, (place, count) in enumerate(sorted(self.decisions.items())) for answer in range(count)]
-        for place, number, answer in branches:
+        branches = [(place, answer) for place, answers in sorted(self.decisions.items()) for answer in range(len(answers))]
+        for place, answer in branches:
             times = self.answers[place, answer] if self.asked[place] else "-"
-            out.append(f"BRDA:{self.at(place)},{number},{answer},{times}")
-        out += [f"BRF:{len(branches)}", f"BRH:{sum(self.answers[place, answer] > 0 for place, _, answer in branches)}"]
-        lines = dict(self.lines)
-        for place, times in self.passed.items():
-            lines[self.at(place)] = lines.get(self.at(place), 0) + times
-        for key, (_, line) in self.transitions.items():
-            lines[line] = lines.get(line, 0) + self.turns[key]
+            out.append(f"BRDA:{self.at(place)},{place},{answer},{times}")
+        out += [f"BRF:{len(branches)}", f"BRH:{sum(self.answers[it] > 0 for it in branches)}"]
+        taken, lines = collections.Counter(self.passed), {}
+        for key, (_, place) in self.transitions.items():
+            taken[place] += self.turns[key]
+        for place, answers in self.decisions.items():
+            for answer, opened in enumerate(answers):
+                if opened is not None:
+                    taken[opened] += self.answers[place, answer]
+        for place in self.begun | {place for _, place in self.transitions.values()}:
+            lines[self.at(place)] = max(lines.get(self.at(place), 0), taken[place])
         out += [f"DA:{line},{times}" for line, times in sorted(lines.items())]
         return out + [f"LF:{len(lines)}", f"LH:{sum(times > 0 for times in lines.values())}", "end_of_record"]
 
@@ -362,7 +370,7 @@ def main(given):
         cut = options[options.index("--turns") + 1].split("..") if "--turns" in options else ["0", ""]
         print("\n".join(chart(seen, int(cut[0] or 0), int(cut[1]) if cut[1] else None)))
     elif "--coverage" in options:
-        print("\n".join(seen.taken.lcov(f"examples/{plain_term.SETS[word]}" if word in plain_term.SETS else word)))
+        print("\n".join(seen.taken.lcov(word)))
     elif "--thrown" in options:
         print("\n".join(seen.thrown()))
     else:

@@ -48,6 +48,7 @@ pub record AreSeenUnder (given : Given) (words : SeeingWords) : Type 0 where
   pub trace : given (codes "trace") ≡ option_map (λ w. w.now) words.trace
   pub chart : given (codes "chart") ≡ option_map (λ w. w.now) words.chart
   pub turns : given (codes "turns") ≡ option_map (λ w. w.now) words.turns
+  pub coverage : given (codes "coverage") ≡ option_map (λ w. w.now) words.coverage
   pub thrown : given (codes "thrown") ≡ option_map (λ w. w.now) words.thrown
   pub capture : given (codes "capture") ≡ option_map (λ w. w.now) words.capture
   pub every : says_true (given (codes "every")) ≡ words.every

@@ -40,8 +40,10 @@ with_seeing_options command =
     (with_rule
     (with_rule
     (with_rule
+    (with_rule
     (with_rule (with_rule command (flag_word (codes "echo"))) (option_word (codes "trace")))
-    (option_word (codes "chart"))) (option_word (codes "turns"))) (option_word (codes "thrown")))
+    (option_word (codes "chart"))) (option_word (codes "turns")))
+    (option_word (codes "coverage"))) (option_word (codes "thrown")))
     (option_word (codes "capture"))) (flag_word (codes "every"))
 
 -- `play SET SCRIPT`, with its options

@@ -162,6 +162,12 @@ fn with_seeing_options<'a>(alloc: Global, command: Command<'a>) -> Result<Comman
         "A..B",
         "Which turns are drawn, by their numbers in a trace; all where nothing is said",
     );
+    let coverage = option_word(
+        alloc,
+        "coverage",
+        "PATH",
+        "A file or a FIFO for what of the set's text was taken, in the format of lcov",
+    );
     let thrown = option_word(
         alloc,
         "thrown",
@@ -184,6 +190,7 @@ fn with_seeing_options<'a>(alloc: Global, command: Command<'a>) -> Result<Comman
         .arg(trace)?
         .arg(chart)?
         .arg(turns)?
+        .arg(coverage)?
         .arg(thrown)?
         .arg(capture)?
         .arg(every)

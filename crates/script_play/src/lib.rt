@@ -8,6 +8,7 @@ mod capturing;
 mod chart_rows;
 mod charts;
 mod columns;
+mod covering;
 mod playing;
 mod seeing;
 mod thrown;

@@ -1,0 +1,22 @@
+use Rattle.std.proofs.Common.{sym, ◌∙◌}
+use Rattle.script_play.proofs.CoveredPlays.{is_kept, accepted_as, covered_as, covered_in_part_as, refused_as}
+use Rattle.script_play.proofs.covering.cover_read.Goals as goal
+
+pub returns-clause-accepted : goal.returns-clause-accepted
+returns-clause-accepted g c done known reading =
+    accepted_as known c.deref.result.now (is_kept known c.args.of_set.now c.deref.result.now reading (sym c.is_too_long.ensures ∙ c.if-is_too_long.false) c.deref.ensures.value) (c.cover_bytes.ensures.accepted done)
+
+pub returns-clause-held : goal.returns-clause-held
+returns-clause-held g c zero known reading =
+    covered_as c.args.name.now known c.deref.result.now c.args.usual _ _ _ _ _
+    (is_kept known c.args.of_set.now c.deref.result.now reading (sym c.is_too_long.ensures ∙ c.if-is_too_long.false) c.deref.ensures.value) (c.cover_bytes.ensures.held zero)
+
+pub returns-clause-missed : goal.returns-clause-missed
+returns-clause-missed g c one known reading =
+    covered_in_part_as c.args.name.now known c.deref.result.now c.args.usual _ _ _ _ _
+    (is_kept known c.args.of_set.now c.deref.result.now reading (sym c.is_too_long.ensures ∙ c.if-is_too_long.false) c.deref.ensures.value) (c.cover_bytes.ensures.missed one)
+
+pub returns-clause-refused : goal.returns-clause-refused
+returns-clause-refused g c two known reading =
+    refused_as known c.deref.result.now _ _ _
+    (is_kept known c.args.of_set.now c.deref.result.now reading (sym c.is_too_long.ensures ∙ c.if-is_too_long.false) c.deref.ensures.value) (c.cover_bytes.ensures.refused two)
