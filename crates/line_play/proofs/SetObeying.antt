@@ -2,7 +2,7 @@
 use Rattle.std.proofs.Common.{◌≡◌, ◌∙◌, ◌⊎◌, inl, inr, ℕ, ◌+◌, ◌<◌, Bool, true, false, List, [], ◌∷◌, ◌++◌, length, codes, Option, None, Some, is_some, Result, Ok, Err, OnOk, IfOk, IfSome, IsSome, IsNone, IsTrue, option_map, true≢false, refl, sym, ap, subst, arith}
 use Rattle.std.proofs.lemmas.Result.{on_ok_weaker}
 use Rattle.std.proofs.lemmas.Option.{none-some}
-use Rattle.resend_store.specs.declared.messages.Msu.{Msu}
+use Rattle.script_links.specs.resend_store_types.messages.Msu.{Msu}
 use Rattle.script_lines.specs.Words.{words_of}
 use Rattle.script_terminal.specs.TermAnswers.{IsMessageOf, AreNoMessage as AreUnread}
 use Rattle.line_filter.specs.Desks.{Told as TellsSuch}
