@@ -1,11 +1,6 @@
 -- What words say of one end of a set of links.
-<<<<<<< HEAD
-use Rattle.std.specs.Prelude.{◌≡◌, ◌==◌, ◌⊎◌, ℕ, ◌&&◌, nat_le, nat_lt, not, Bool, false}
-use Rattle.std.specs.Prelude.{if◌then◌else◌, List, Option, Some, None, option_map, option_and_then}
-=======
 use Rattle.std.specs.Prelude.{◌≡◌, ◌==◌, ◌⊎◌, ℕ, ◌&&◌, nat_le, nat_lt, not, Bool, false, List}
 use Rattle.std.specs.Prelude.{if◌then◌else◌, Option, Some, None, option_map, option_and_then}
->>>>>>> h39-tap
 use Rattle.script_links.specs.Numbers.{count_of}
 use Rattle.script_links.specs.Orders.{mode_named}
 use Rattle.mtp2_words.specs.Ends.{bits_of, ahead_named}
