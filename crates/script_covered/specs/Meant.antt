@@ -1,5 +1,5 @@
--- What the way of a turn has to do with the meaning of its text: both come to one end, with the same
--- variables.
+-- What the way of a turn has to do with the meaning of its text: both come to one end, with the
+-- same variables.
 use Rattle.std.specs.Prelude.{◌≡◌, Option, None, Some}
 use Rattle.std.specs.Option.{option_map}
 use Rattle.sdl_ast.specs.declared.tree.End.{End}

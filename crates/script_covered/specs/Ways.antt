@@ -11,8 +11,8 @@ use Rattle.sdl_ast.specs.declared.tree.End.{End}
 use Rattle.sdl_ast.specs.declared.tree.End.TheVariants.{NextState, Stop, Join}
 use Rattle.sdl_ast.specs.declared.tree.Range.{Range}
 use Rattle.sdl_ast.specs.Plain.{Tree, number, truth, variable, unary, binary, PlainAssignment}
-use Rattle.sdl_ast.specs.Plain.{PlainAction, task, output, set_timer, reset_timer, Text, falls, ends}
-use Rattle.sdl_ast.specs.Plain.{does, decides, Choice, nothing_else, otherwise, answer}
+use Rattle.sdl_ast.specs.Plain.{PlainAction, task, output, set_timer, reset_timer, Text, falls}
+use Rattle.sdl_ast.specs.Plain.{ends, does, decides, Choice, nothing_else, otherwise, answer}
 use Rattle.sdl_ast.specs.Plain.{PlainConnection, PlainProcess}
 use Rattle.sdl_tables.specs.Names.{number_of, variable_names, connector_names}
 use Rattle.sdl_sound.specs.Longest.{is_division}

@@ -135,9 +135,7 @@ fn cover_bytes<R: Read + Drop, T: Write, W: Write, E: Write>(
     match set {
         Ok(set) => match str::from_utf8(bytes) {
             Ok(text) => match read {
-                Ok(read) => cover(
-                    alloc, &set, text, name, usual, &read, out, writer, errors,
-                ),
+                Ok(read) => cover(alloc, &set, text, name, usual, &read, out, writer, errors),
                 Err(_) => FAILED,
             },
             Err(_) => FAILED,
