@@ -14,10 +14,11 @@ use Rattle.line_play.specs.SetDesks.{RanFrom}
 use Rattle.line_play.specs.SetOpening.{IsNewTenderOver}
 use Rattle.line_play.specs.Tended.{Tended}
 use Rattle.line_play.specs.declared.set_opening.SetPlan.{SetPlan}
-use Rattle.mtp2_play.specs.SetRuns.{RanOver}
+use Rattle.mtp2_play.specs.SetRuns.{RanOver, plan_of}
 use Rattle.mtp2_play.specs.Spoken.{SpokeOver, BegunOver}
 use Rattle.mtp2_words.specs.resend_store_types.messages.RoundLimits.{RoundLimits}
 use Rattle.mtp2_words.specs.declared.ends.LineEnd.{LineEnd}
+use Rattle.mtp2_words.specs.declared.set_ends.SetEnd.{SetEnd}
 use Rattle.mtp2_play.specs.Printed.{IsDone, IsSetRun, IsSpoken, IsPlayedOn, IsWatchedOn}
 use Rattle.mtp2_words.specs.Limits.{usual_limits_of}
 use Rattle.mtp2_play.specs.Sets.{own_set_of, own_text_of}
@@ -121,6 +122,14 @@ set_turned_down known plan ahead status why ends = record { ran = λ done. absur
 
 pub set_failed : (known : Option (List ℕ)) (plan : SetPlan) (ahead status : ℕ) → status ≡ 4 → IsSetRun known plan ahead status
 set_failed known plan ahead status four = set_turned_down known plan ahead status (λ two. absurd (omega (arith, four, two))) (inr four)
+
+-- by the limits of the set that is named
+pub planned : (known : Option (List ℕ)) (set : Named) (links : ℕ) (end : SetEnd) (limits : RoundLimits) (status : ℕ) → limits ≡ usual_limits_of set
+    → IsSetRun known (record { mode = end.mode; limits = limits; ends = record { own = end.own; peer = end.peer; network = end.network }; links = links; tests = end.tests }) end.ahead status
+    → IsSetRun known (plan_of set links end) end.ahead status
+planned known set links end limits status same s =
+    let Q : RoundLimits → Type 0 = λ l. IsSetRun known (record { mode = end.mode; limits = l; ends = record { own = end.own; peer = end.peer; network = end.network }; links = links; tests = end.tests }) end.ahead status in
+    subst Q same s
 
 -- the status of a run, behind which a capture was ended
 pub ran_as : (status result : ℕ) (P : Type 0) → (status ≡ 0 → P) → (result ≡ status) ⊎ (result ≡ 4) → result ≡ 0 → P

@@ -180,7 +180,7 @@ impl<'a, H: Eprint> SetLines<'a, H> {
     /// # Errors
     ///
     /// Where there is no memory.
-    pub fn new(
+    pub fn shut(
         host: &'a H,
         teller: &'a Teller<'a, H>,
         alloc: Global,

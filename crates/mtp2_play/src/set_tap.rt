@@ -70,7 +70,7 @@ impl SetTap {
         let mut lines = Vec::with_capacity(alloc, links)?;
         for link in 0..links {
             lines.push(Tapped {
-                capture: Capture::new(link as u16, false),
+                capture: Capture::new(u16::try_from(link).unwrap_or(u16::MAX), false),
                 came: Vec::new(alloc),
             })?;
         }

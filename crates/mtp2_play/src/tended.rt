@@ -1,5 +1,5 @@
 //! The command `set`.
-ghost use Rattle.std.specs.Prelude.{◌≡◌, ◌⊎◌, length, IfErr, IsOk, OnOk};
+ghost use Rattle.std.specs.Prelude.{◌≡◌, ◌⊎◌, None, length, IfErr, IsOk, OnOk};
 ghost use Rattle.script_check.specs.Checked.{given};
 ghost use Rattle.line_play.specs.SetDesks.{Ran, RanFrom, place_of};
 ghost use Rattle.line_play.specs.SetRounds.{Made};
@@ -137,7 +137,7 @@ fn serve<H: Files<File = File> + Threads + Eprint + Clock + AllocGlobal>(
         Ok(tap) => tap,
         Err(status) => return status,
     };
-    let Ok(mut open_lines) = SetLines::new(host, teller, host.alloc(), end.bits, lines, tap) else {
+    let Ok(mut open_lines) = SetLines::shut(host, teller, host.alloc(), end.bits, lines, tap) else {
         return FAILED;
     };
     let Ok(mut desk) = SetDesk::new(host.alloc(), tender, end.ahead, orders, reports) else {
@@ -202,6 +202,36 @@ fn run_on<H: Files<File = File> + Threads + Eprint + Clock + AllocGlobal, S: Rea
     }
 }
 
+/// Runs a set over processes whose text comes from a reader. Gives the exit status.
+fn run_text<H: Files<File = File> + Threads + Eprint + Clock + AllocGlobal, S: Read + Drop>(
+    host: &H,
+    teller: &Teller<'_, H>,
+    named: &Named<'_>,
+    lines: &[&str],
+    end: &SetEnd<'_>,
+    text: S,
+) -> u8
+    ensures { IsSetRun None (plan_of named.now (length lines.now) end.now) end.now.ahead result }
+{
+    run_on(host, teller, named, lines, end, SetWord::Text(text))
+}
+
+/// Runs a set over processes of the program's own. Gives the exit status.
+fn run_own<H: Files<File = File> + Threads + Eprint + Clock + AllocGlobal>(
+    host: &H,
+    teller: &Teller<'_, H>,
+    named: &Named<'_>,
+    lines: &[&str],
+    end: &SetEnd<'_>,
+) -> u8
+    ensures { IsSetRun (own_text_of named.now) (plan_of named.now (length lines.now) end.now) end.now.ahead result }
+{
+    match own_set(named) {
+        Some(own) => run_on(host, teller, named, lines, end, own),
+        None => FAILED,
+    }
+}
+
 /// Runs `set`: one end of a set of links, each on its line. Gives the exit status: 0 behind `quit`, or once no line could be opened for 10 s and all
 /// have ended; 2 where the text is refused or lacks a name; 4 where memory, orders or reports fail, or a line did.
 pub fn run_set<H: Files<File = File> + Threads + Eprint + Clock + AllocGlobal>(
@@ -217,14 +247,13 @@ pub fn run_set<H: Files<File = File> + Threads + Eprint + Clock + AllocGlobal>(
         Named::File(path) => match fs::open(host, path) {
             Ok(file) => {
                 let text = NamedReader::new(teller, path, file);
-                run_on(host, teller, named, lines, end, SetWord::Text(text))
+                run_text(host, teller, named, lines, end, text)
             }
             Err(error) => teller.fail(path, &error),
         },
-        Named::Standard | Named::Q703 | Named::Monitors => match own_set(named) {
-            Some(own) => run_on(host, teller, named, lines, end, own),
-            None => FAILED,
-        },
+        Named::Standard | Named::Q703 | Named::Monitors => {
+            run_own(host, teller, named, lines, end)
+        }
         Named::Stdin => FAILED,
     }
 }
