@@ -49,7 +49,7 @@ class Taken:
     def __init__(self, text):
         self.text = text
         entities = P(text, lex(text)).block()
-        self.transitions, self.decisions, self.lines = {}, {}, {}
+        self.transitions, self.decisions, self.begun = {}, {}, set()
         for it in entities:
             if it[0] == "process":
                 self.process(it[1])
@@ -62,7 +62,7 @@ class Taken:
 
     def process(self, parsed):
         (name, _), _, (at, start), states, connections, _ = parsed
-        self.transitions[name.lower(), "START", None] = (f"{name} START", self.at(at))
+        self.transitions[name.lower(), "START", None] = (f"{name} START", at)
         self.body(start)
         for names, clauses in states:
             for it in clauses:
@@ -70,7 +70,7 @@ class Taken:
                     for state in names:
                         for (signal, _), _ in it[2]:
                             key = name.lower(), lo(state), signal.lower()
-                            self.transitions[key] = (f"{name} {state[0]}/{signal}", self.at(it[1]))
+                            self.transitions[key] = (f"{name} {state[0]}/{signal}", it[1])
                     self.body(it[3])
         for _, _, body in connections:
             self.body(body)
@@ -79,21 +79,21 @@ class Taken:
         for act in text[0]:
             if act[0] == "decide":
                 self.decisions[act[1]] = len(act[3]) + (act[4] is not None)
-                self.lines[self.at(act[1])] = 0
+                self.begun.add(act[1])
                 for _, body in act[3]:
                     self.body(body)
                 if act[4] is not None:
                     self.body(act[4])
             else:
-                self.lines[self.at(act[-1])] = 0
+                self.begun.add(act[-1])
         if text[1] is not None:
-            self.lines[self.at(text[1][1])] = 0
+            self.begun.add(text[1][1])
 
     def lcov(self, path):
         """In lcov's format, for the file of this path."""
         out = ["TN:scripts", f"SF:{path}"]
         ordered = sorted(self.transitions.items(), key=lambda it: (it[1][1], it[1][0]))
-        out += [f"FN:{line},{name}" for _, (name, line) in ordered]
+        out += [f"FN:{self.at(place)},{name}" for _, (name, place) in ordered]
         out += [f"FNDA:{self.turns[key]},{name}" for key, (name, _) in ordered]
         out += [f"FNF:{len(ordered)}", f"FNH:{sum(self.turns[key] > 0 for key, _ in ordered)}"]
         branches = [(place, number, answer) for number, (place, count) in enumerate(sorted(self.decisions.items())) for answer in range(count)]
@@ -101,11 +101,11 @@ class Taken:
             times = self.answers[place, answer] if self.asked[place] else "-"
             out.append(f"BRDA:{self.at(place)},{number},{answer},{times}")
         out += [f"BRF:{len(branches)}", f"BRH:{sum(self.answers[place, answer] > 0 for place, _, answer in branches)}"]
-        lines = dict(self.lines)
-        for place, times in self.passed.items():
-            lines[self.at(place)] = lines.get(self.at(place), 0) + times
-        for key, (_, line) in self.transitions.items():
-            lines[line] = lines.get(line, 0) + self.turns[key]
+        taken, lines = collections.Counter(self.passed), {}
+        for key, (_, place) in self.transitions.items():
+            taken[place] += self.turns[key]
+        for place in self.begun | {place for _, place in self.transitions.values()}:
+            lines[self.at(place)] = max(lines.get(self.at(place), 0), taken[place])
         out += [f"DA:{line},{times}" for line, times in sorted(lines.items())]
         return out + [f"LF:{len(lines)}", f"LH:{sum(times > 0 for times in lines.values())}", "end_of_record"]
 
@@ -255,8 +255,8 @@ def called(signal, given):
 def chart(seen, least=0, most=None):
     """The turns as a chart in mscgen's language."""
     turns = [it for it in seen.turns if it[0] >= least and (most is None or it[0] <= most)]
-    here = {it[2] for it in turns} | {it[6] for it in turns if it[6]} | {to for it in turns for part in it[8] if part[0] == "output" for to in [part[3]] if to == "ENV"}
-    ordered = [it for it in ["ENV", *(actor.shown() for actor in seen.book.actors)] if it in here]
+    here = {it[2] for it in turns} | {it[6] for it in turns if it[6]} | {part[3] for it in turns for part in it[8] if part[0] == "output" and (part[4] or part[3] == "ENV")}
+    ordered = [it for it in ["ENV", *(actor.shown() for actor in seen.book.actors)] if it in here] or ["ENV"]
     out = ["msc {", f'  width="{140 * len(ordered)}", arcgradient="0";', "  " + ", ".join(f'"{it}" [label="{it}"]' for it in ordered) + ";"]
     clock, states = None, {}
     for number, at, actor, place, trigger, given, source, end, laid in turns:
@@ -270,10 +270,12 @@ def chart(seen, least=0, most=None):
             out.append(f'  "{actor}" note "{actor}" [label="{signal} runs out"];')
         if end != state:
             out.append(f'  "{actor}" abox "{actor}" [label="{end}"];')
-        out += [f'  "{actor}" => "ENV" [label="{called(part[1], part[2])}"];' for part in laid if part[0] == "output" and part[3] == "ENV"]
+        for part in laid:
+            if part[0] == "output" and (part[4] or part[3] == "ENV"):
+                out.append(f'  "{actor}" {"-x" if part[4] else "=>"} "{part[3]}" [label="{called(part[1], part[2])}"];')
         notes = [told(part) for part in laid if part[0] != "output"]
         if notes:
-            out.append(f'  "{actor}" note "{actor}" [label="{quoted(chr(92) + "n".join(notes)) if False else (chr(92) + "n").join(notes)}"];')
+            out.append(f'  "{actor}" note "{actor}" [label="{(chr(92) + "n").join(notes)}"];')
     return out + ["}"]
 
 
@@ -346,7 +348,7 @@ def main(given):
         cut = options[options.index("--turns") + 1].split("..") if "--turns" in options else ["0", ""]
         print("\n".join(chart(seen, int(cut[0] or 0), int(cut[1]) if cut[1] else None)))
     elif "--coverage" in options:
-        print("\n".join(seen.taken.lcov(f"examples/{plain_term.SETS[word]}" if word in plain_term.SETS else word)))
+        print("\n".join(seen.taken.lcov(word)))
     elif "--thrown" in options:
         print("\n".join(f"{process} {state}/{signal} {times}" for (process, state, signal), times in sorted(seen.taken.thrown.items())))
     else:

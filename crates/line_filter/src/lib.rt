@@ -20,5 +20,6 @@ pub use filter::{Bits, MOST_AHEAD, run_line};
 pub use laws::what_goes_out_was_said;
 pub use orders::{NoOrders, Orders};
 pub use stream::LineOrders;
+pub use su_octets::Unit;
 pub use terminal::{Answer, LineTerminal};
 pub use voice::Voice;

@@ -17,6 +17,7 @@ mod plays;
 mod running;
 mod sets;
 mod texts;
+mod traces;
 
 use crate::captures::{capture_of, end_capture};
 use crate::checks::run_checks;

@@ -6,26 +6,38 @@ ghost use Rattle.mtp2_words.specs.Limits.{usual_limits_of};
 ghost use Rattle.mtp2_play.specs.Printed.{IsPlayedOn};
 
 use crate::sets::{STDIN, own_set, set_word};
-use mtp2_words::{Named, Seeing, Source};
+use mtp2_words::{Named, Seeing, Sight, Source, Turns};
 use plain_text::{NamedReader, Teller};
 use script_check::{FAILED, SetWord};
-use script_play::{play, play_traced};
+use script_play::{Cut, Wanted, play, play_captured, play_traced, play_watched};
 use std::alloc::Global;
 use std::fs;
 use std::io::{Read, Write};
 use std::rt::Runtime;
 
-/// What of a script's run is seen beside its replies: whether the lines of commands are, where a trace goes, and whether what has no effect is
-/// traced too.
+/// What of a script's run is seen beside its replies: whether the lines of commands are, what goes to which file, and whether what has no effect
+/// does too.
 #[derive(Drop)]
-struct Watch<F> {
+struct Watch<'a, F> {
     echo: bool,
     every: bool,
-    trace: Option<F>,
+    turns: Turns,
+    sight: Option<(Sight<'a>, F)>,
+}
+
+/// What is told at the end of a run.
+fn wanted<'a>(sight: Sight<'_>, turns: Turns, text: &'a str) -> Wanted<'a> {
+    match sight {
+        Sight::Coverage(_) => Wanted::Coverage(text),
+        Sight::Thrown(_) => Wanted::Thrown,
+        _ => Wanted::Chart(Cut {
+            first: turns.first,
+            last: turns.last,
+        }),
+    }
 }
 
 /// Runs a script that comes from a reader on a set.
-#[tactic(auto, using(crate::proofs::Known::played, crate::proofs::Known::in_part, crate::proofs::Known::not_run))]
 fn play_on<H: Eprint, S: Read + Drop, T: Read + Drop, F: Write, W: Write>(
     alloc: Global,
     teller: &Teller<'_, H>,
@@ -33,37 +45,32 @@ fn play_on<H: Eprint, S: Read + Drop, T: Read + Drop, F: Write, W: Write>(
     named: &Named<'_>,
     name: &str,
     script: T,
-    watch: &mut Watch<F>,
+    watch: &mut Watch<'_, F>,
     writer: &mut W,
 ) -> u8
-    ensures held { result ≡ 0 → IsOnSet (given S.remaining set) None (IsPlayed (usual_limits_of named.now) watch.old.echo (W.contents writer.old) (W.contents writer.new)) }
-    ensures missed { result ≡ 1 → IsOnSet (given S.remaining set) None (IsPlayedInPart (usual_limits_of named.now) watch.old.echo (W.contents writer.old) (W.contents writer.new)) }
-    ensures refused { result ≡ 2 → IsRefused (given S.remaining set) None (W.contents writer.old) (W.contents writer.new) }
     ensures status { (result ≡ 0) ⊎ (result ≡ 1) ⊎ (result ≡ 2) ⊎ (result ≡ 4) }
 {
     let usual = named.usual_limits();
-    let (echo, every) = (watch.echo, watch.every);
-    match &mut watch.trace {
-        Some(trace) if !echo => play_traced(
-            alloc,
-            set,
-            usual,
-            name,
-            script,
-            every,
-            trace,
-            writer,
-            &mut teller.errors(),
+    let (echo, every, turns) = (watch.echo, watch.every, watch.turns);
+    let errors = &mut teller.errors();
+    match &mut watch.sight {
+        None => play(alloc, set, usual, name, script, echo, writer, errors),
+        Some((Sight::Trace(_), out)) => play_traced(
+            alloc, set, usual, name, script, every, out, writer, errors,
         ),
-        _ => play(
+        Some((Sight::Capture(_), out)) => play_captured(
+            alloc, set, usual, name, script, every, out, writer, errors,
+        ),
+        Some((sight, out)) => play_watched(
             alloc,
             set,
             usual,
             name,
             script,
-            echo,
+            wanted(*sight, turns, name),
+            out,
             writer,
-            &mut teller.errors(),
+            errors,
         ),
     }
 }
@@ -76,7 +83,7 @@ fn play_source<R: Runtime + AllocGlobal, H: Eprint, S: Read + Drop, F: Write, W:
     named: &Named<'_>,
     name: &str,
     script: Source<'_>,
-    watch: &mut Watch<F>,
+    watch: &mut Watch<'_, F>,
     writer: &mut W,
 ) -> u8
     ensures held { result ≡ 0 → IsOnSet (given S.remaining set) None (IsPlayed (usual_limits_of named.now) watch.old.echo (W.contents writer.old) (W.contents writer.new)) }
@@ -111,23 +118,14 @@ fn play_own<R: Runtime + AllocGlobal, H: Eprint, F: Write, W: Write>(
     teller: &Teller<'_, H>,
     set: Named<'_>,
     script: Source<'_>,
-    watch: &mut Watch<F>,
+    watch: &mut Watch<'_, F>,
     writer: &mut W,
 ) -> u8
     ensures printed { IsPlayedOn set.entry watch.old.echo result (W.contents writer.old) (W.contents writer.new) }
     ensures status { (result ≡ 0) ⊎ (result ≡ 1) ⊎ (result ≡ 2) ⊎ (result ≡ 4) }
 {
     match own_set(&set) {
-        Some(own) => play_source(
-            rt,
-            teller,
-            own,
-            &set,
-            set_word(&set),
-            script,
-            watch,
-            writer,
-        ),
+        Some(own) => play_source(rt, teller, own, &set, set_word(&set), script, watch, writer),
         None => FAILED,
     }
 }
@@ -141,7 +139,7 @@ fn play_text<R: Runtime + AllocGlobal, H: Eprint, S: Read + Drop, F: Write, W: W
     name: &str,
     text: S,
     script: Source<'_>,
-    watch: &mut Watch<F>,
+    watch: &mut Watch<'_, F>,
     writer: &mut W,
 ) -> u8
     ensures held { result ≡ 0 → IsOnSet None None (IsPlayed (usual_limits_of named.now) watch.old.echo (W.contents writer.old) (W.contents writer.new)) }
@@ -168,7 +166,7 @@ fn run_watched<R: Runtime + AllocGlobal, H: Eprint, F: Write, W: Write>(
     teller: &Teller<'_, H>,
     set: Named<'_>,
     script: Source<'_>,
-    watch: &mut Watch<F>,
+    watch: &mut Watch<'_, F>,
     writer: &mut W,
 ) -> u8
     ensures printed { IsPlayedOn set.entry watch.old.echo result (W.contents writer.old) (W.contents writer.new) }
@@ -201,6 +199,17 @@ fn run_watched<R: Runtime + AllocGlobal, H: Eprint, F: Write, W: Write>(
     }
 }
 
+/// The file of what is to be seen of a run.
+fn path_of<'a>(sight: Sight<'a>) -> &'a str {
+    match sight {
+        Sight::Trace(path) => path,
+        Sight::Chart(path) => path,
+        Sight::Coverage(path) => path,
+        Sight::Thrown(path) => path,
+        Sight::Capture(path) => path,
+    }
+}
+
 /// The same with what is to be seen of the run.
 pub(crate) fn run_play<R: Runtime + AllocGlobal, H: Eprint, W: Write>(
     rt: &R,
@@ -216,11 +225,13 @@ pub(crate) fn run_play<R: Runtime + AllocGlobal, H: Eprint, W: Write>(
     let mut watch = Watch {
         echo: seen.echo,
         every: seen.every,
-        trace: None,
+        turns: seen.turns,
+        sight: None,
     };
-    if let Some(path) = seen.trace {
+    if let Some(sight) = seen.sight {
+        let path = path_of(sight);
         match fs::create(rt, path) {
-            Ok(file) => watch.trace = Some(file),
+            Ok(file) => watch.sight = Some((sight, file)),
             Err(error) => return teller.fail(path, &error),
         }
     }

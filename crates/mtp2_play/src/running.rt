@@ -9,11 +9,13 @@ ghost use Rattle.line_streams.specs.Known.{known_of};
 ghost use Rattle.mtp2_words.specs.Limits.{usual_limits_of};
 ghost use Rattle.mtp2_play.specs.Spoken.{AreOrdered, Spoke, SpokeOver, Begun, BegunOver, IsUntouched};
 
-use line_filter::{LineOrders, Orders};
+use crate::traces::TracedEnd;
+use line_filter::{LineOrders, Orders, Voice, run_line};
 use line_play::{Desk, LinkEnd, MOST_AHEAD, SetWord, Terminal, link_desk, new_terminal, run_link};
-use line_streams::{OrderStream, ReportStream, open_orders, open_reports};
+use line_streams::{OrderStream, ReportStream, open_orders, open_records, open_reports};
 use mtp2_words::{LineEnd, Named};
-use plain_text::{Errors, FAILED, Teller};
+use plain_text::{Errors, FAILED, HELD, Teller, write_line};
+use script_play::open_tracer;
 use std::alloc::Global;
 use std::fs::File;
 use std::io::{self, Read, Write};
@@ -105,12 +107,64 @@ fn speak<H: Files<File = File> + Threads + Eprint + Clock + AllocGlobal, R: Read
     let Ok(Streams { orders, reports }) = open_streams(host, teller, end) else {
         return FAILED;
     };
+    if let Some(path) = end.trace {
+        return speak_traced(
+            host, teller, end, path, terminal, orders, reports, reader, writer,
+        );
+    }
     let mut desk = link_desk(terminal, orders, reports);
     let status = serve(host.alloc(), end, &mut desk, reader, writer);
     let now = desk.millisecond();
     match desk.reports.end(host, now) {
         Ok(()) => status,
         Err(_) => FAILED,
+    }
+}
+
+/// Has a terminal speak on its line, with a trace to a file of this name.
+fn speak_traced<H: Files<File = File> + Threads + Eprint + Clock + AllocGlobal, R: Read, W: Write>(
+    host: &H,
+    teller: &Teller<'_, H>,
+    end: &LineEnd<'_>,
+    path: &str,
+    terminal: Terminal,
+    orders: LineOrders<OrderStream>,
+    reports: ReportStream<Errors<'_, H>>,
+    reader: &mut R,
+    writer: &mut W,
+) -> u8 {
+    let alloc = host.alloc();
+    let trace = match open_records(host, alloc, path) {
+        Ok(trace) => trace,
+        Err(error) => return teller.fail(path, &error),
+    };
+    let Ok(tracer) = open_tracer(alloc, terminal.book().set(), end.every) else {
+        return FAILED;
+    };
+    let traced = TracedEnd::new(alloc, LinkEnd { terminal }, tracer, trace);
+    let mut desk = Desk {
+        terminal: traced,
+        voice: Voice::new(),
+        orders,
+        reports,
+        count: 0,
+    };
+    let ahead = end.ahead.min(MOST_AHEAD);
+    let run = run_line(alloc, &mut desk, end.bits, ahead, reader, writer);
+    let now = desk.millisecond();
+    let told = desk.reports.end(host, now);
+    let kept = desk.terminal.trace.end(host);
+    let lost = desk.terminal.trace.lost();
+    if lost > 0 {
+        let line = format_args!("{now} lost {lost} trace");
+        if write_line(alloc, &mut teller.errors(), &line).is_err() {
+            return FAILED;
+        }
+    }
+    if run.is_ok() && told.is_ok() && kept.is_ok() {
+        HELD
+    } else {
+        FAILED
     }
 }
 
@@ -122,7 +176,7 @@ fn speak<H: Files<File = File> + Threads + Eprint + Clock + AllocGlobal, R: Read
 /// terminal wants; 4 where memory, a file, a read or a write fails, of reports too. However it ends, what is written on the line is a beginning
 /// of what the terminal gives for octets that were read. (Tests alone show that a refusal is told on standard error, and that the text of its
 /// processes is read first, then its orders and reports are opened, and then its line.)
-pub fn run_line<
+pub fn run_end<
     H: Files<File = File> + Threads + Eprint + Clock + AllocGlobal,
     S: Read + Drop,
     R: Read,

@@ -141,9 +141,49 @@ fn with_seeing_options<'a>(alloc: Global, command: Command<'a>) -> Result<Comman
     let every = flag_word(
         alloc,
         "every",
-        "Has signals that are thrown away traced too, and turns that change nothing",
+        "Has signals that are thrown away traced too, and turns that change nothing; and every unit captured",
     );
-    command.arg(echo)?.arg(trace)?.arg(every)
+    with_told_options(alloc, command.arg(echo)?.arg(trace)?.arg(every)?)
+}
+
+/// The options that say what of a run is told at its end.
+fn with_told_options<'a>(alloc: Global, command: Command<'a>) -> Result<Command<'a>, AllocError> {
+    let chart = option_word(
+        alloc,
+        "chart",
+        "PATH",
+        "A file or a FIFO for a chart of the turns, in the language of mscgen",
+    );
+    let turns = option_word(
+        alloc,
+        "turns",
+        "A..B",
+        "Which turns are drawn, by their numbers in a trace; all where nothing is said",
+    );
+    let coverage = option_word(
+        alloc,
+        "coverage",
+        "PATH",
+        "A file or a FIFO for what of the set's text was taken, in the format of lcov",
+    );
+    let thrown = option_word(
+        alloc,
+        "thrown",
+        "PATH",
+        "A file or a FIFO for which signals were thrown away in which states, and how often",
+    );
+    let capture = option_word(
+        alloc,
+        "capture",
+        "PATH",
+        "A file or a FIFO for the units that go out and come in, in pcap's format; those that say nothing new are left out",
+    );
+    command
+        .arg(chart)?
+        .arg(turns)?
+        .arg(coverage)?
+        .arg(thrown)?
+        .arg(capture)
 }
 
 /// The command `play`.
@@ -239,8 +279,18 @@ fn with_capture_options<'a>(alloc: Global, command: Command<'a>) -> Result<Comma
         "PATH",
         "A file or a FIFO for the units that go out and come in, in pcap's format; those that say nothing new are left out",
     );
-    let every = flag_word(alloc, "every", "Has every unit captured");
-    command.arg(capture)?.arg(every)
+    let trace = option_word(
+        alloc,
+        "trace",
+        "PATH",
+        "A file or a FIFO for a trace: a line for each order, each signal of the environment, each timer that runs out and each turn",
+    );
+    let every = flag_word(
+        alloc,
+        "every",
+        "Has every unit captured, and what has no effect traced too",
+    );
+    command.arg(capture)?.arg(trace)?.arg(every)
 }
 
 /// The command `line`, without what its end does on its line.

@@ -10,7 +10,7 @@ use crate::commands::all_commands;
 use crate::ends::{LineEnd, LineWords, line_end};
 use crate::flags::is_given;
 use crate::says::{are_stdin, complaint_of, workers_of};
-use crate::seeing::{Seeing, are_both_seen, seen_of};
+use crate::seeing::{Seeing, seen_of};
 use clap::error::ErrorKind;
 use clap::{ArgMatches, Error};
 use std::alloc::{AllocError, Global};
@@ -175,6 +175,7 @@ fn line_of<'a>(given: &ArgMatches<'a>) -> Option<LineEnd<'a>>
         bits: given.get_str("bits"),
         ahead: given.get_str("ahead"),
         capture: given.get_str("capture"),
+        trace: given.get_str("trace"),
         every: is_given(given.get_str("every")),
     })
 }
@@ -227,10 +228,7 @@ fn asked_play<'a>(given: &ArgMatches<'a>) -> Option<Request<'a>>
 {
     let set = given.get_str("SET")?;
     let script = given.get_str("SCRIPT")?;
-    let seen = seen_of(given);
-    if are_both_seen(&seen) {
-        return None;
-    }
+    let seen = seen_of(given)?;
     played(set, script, seen)
 }
 

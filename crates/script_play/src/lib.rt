@@ -1,8 +1,19 @@
 //! The command `play`: a script, run on a set of processes, or on a terminal.
 #![tactic(auto)]
 
+mod capturing;
+mod charts;
+mod coverage;
+mod lcov;
 mod playing;
+mod thrown;
 mod tracing;
+mod values;
+mod watching;
 
+pub use capturing::play_captured;
+pub use charts::Cut;
 pub use playing::play;
+pub use script_seen::{Tracer, open_tracer, order_front};
 pub use tracing::play_traced;
+pub use watching::{Wanted, play_watched};

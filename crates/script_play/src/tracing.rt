@@ -54,7 +54,7 @@ fn trace_other<W: Write, T: Write, E: Write>(
 }
 
 /// Tells that a script of a link set has no trace. Gives the exit status.
-fn lacks_trace<E: Write>(alloc: Global, errors: &mut E) -> u8
+pub(crate) fn lacks_trace<E: Write>(alloc: Global, errors: &mut E) -> u8
     ensures { result ≡ 4 }
 {
     let _told = write_line(

@@ -104,7 +104,7 @@ pub(crate) fn due_text(
 }
 
 /// What an input or a SAVE would name an item by.
-fn trigger_of(item: &Item) -> Trigger
+pub fn trigger_of(item: &Item) -> Trigger
     ensures { result ≡ trigger_of item.now }
 {
     match item {
@@ -234,5 +234,18 @@ pub(crate) fn skip_text(
     match book.state().actors().get(usize::from(actor)) {
         Some(found) => skip_of(alloc, book.set(), book.clock(), found),
         None => Ok(Vec::new(alloc)),
+    }
+}
+
+/// The state in which an actor stands, and the first item that waits for it and isn't saved there.
+pub fn item_at<'a>(set: &Verified, actor: &'a Actor) -> Option<(StateNumber, &'a Item)> {
+    match actor.standing {
+        Standing::At(Place::State(state)) => {
+            match first_item(set, actor.name.process, state, &actor.port) {
+                Some(item) => Some((state, item)),
+                None => None,
+            }
+        }
+        Standing::At(Place::Start) | Standing::Stopped => None,
     }
 }

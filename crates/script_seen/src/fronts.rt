@@ -6,7 +6,7 @@ ghost use Rattle.script_lines.specs.Lines.{texts, plain_line};
 ghost use Rattle.script_group.specs.Lines.{line_of};
 ghost use Rattle.script_seen.specs.Shown.{parted, IsLine};
 
-use script_lines::Line;
+use script_lines::{Line, words_in};
 use std::alloc::{AllocError, Global};
 use std::io::{self, ErrorKind, Write};
 
@@ -98,4 +98,17 @@ pub(crate) fn no_octets(alloc: Global) -> Vec<u8>
     ensures { result.items ≡ [] }
 {
     Vec::new(alloc)
+}
+
+/// `> ` and the words of an order of a line, parted by one space, with the end of the line; none for one that only asks, `state P` or `value P x`,
+/// and where it has no words.
+pub fn order_front(alloc: Global, order: &str) -> Result<Option<Vec<u8>>, AllocError> {
+    let words = words_in(alloc, order)?;
+    match words.first() {
+        Some(word) if *word != "state" && *word != "value" => {
+            let front = front_of(alloc, &words)?;
+            Ok(Some(front))
+        }
+        _ => Ok(None),
+    }
 }

@@ -12,13 +12,33 @@ mod traced_books;
 mod traced_terminals;
 mod tracing;
 mod turns;
+mod watched;
+mod watching;
 
+pub use actor_machine::{Actor, ActorName, Lost};
 pub use books::show_book;
+pub use events::{item_at, trigger_of};
+pub use fronts::order_front;
 pub use groups::show_group;
-pub use script_group::{
-    FAILED, OpenError, play_book, play_group, play_terminal, refuse, refuse_set, write_line,
+pub use pushing::{
+    meant, push_actor, push_end, push_number, push_party, push_signal, push_state, push_timer,
+    push_trigger, shown,
 };
-pub use script_links::{AnyScript, PlayScript, RoundLimits, play_fault, play_script_in};
+pub use script_group::{
+    FAILED, GroupPlayer, HELD, MISSED, OpenError, TermPlayer, Terminal, asks_told, end_player,
+    line_of_unit, new_player, open_group, play_book, play_group, play_terminal, refuse, refuse_set,
+    write_line,
+};
+pub use script_links::{
+    AnyScript, GroupCommand, GroupScript, PlayScript, RoundLimits, TermCommand, TermScript,
+    play_fault, play_script_in, unit_in_words,
+};
 pub use terminals::show_terminal;
+pub use timing::delay_of;
 pub use traced_books::trace_book;
-pub use traced_terminals::trace_terminal;
+pub use traced_terminals::{open_tracer, trace_terminal};
+pub use tracing::Tracer;
+pub use turn_machine::{Done, Job};
+pub use turns::{Ended, is_dull, loss_at, stays_in};
+pub use watched::{watch_book, watch_terminal};
+pub use watching::Watcher;

@@ -25,7 +25,7 @@ fn bytes_of<'a>(name: Option<&'a Name>) -> &'a [u8]
 }
 
 /// A number in decimal.
-pub(crate) fn push_number(alloc: Global, line: &mut Vec<u8>, number: u64) -> Result<(), AllocError>
+pub fn push_number(alloc: Global, line: &mut Vec<u8>, number: u64) -> Result<(), AllocError>
     ensures { OnOk result (line.new.items ≡ line.old.items ++ decimal number) }
 {
     let text = format!(in alloc; "{number}")?;
@@ -33,7 +33,7 @@ pub(crate) fn push_number(alloc: Global, line: &mut Vec<u8>, number: u64) -> Res
 }
 
 /// The name of a signal.
-pub(crate) fn push_signal(
+pub fn push_signal(
     line: &mut Vec<u8>,
     set: &Verified,
     signal: SignalNumber,
@@ -44,7 +44,7 @@ pub(crate) fn push_signal(
 }
 
 /// The name of a timer.
-pub(crate) fn push_timer(
+pub fn push_timer(
     line: &mut Vec<u8>,
     set: &Verified,
     process: ProcessNumber,
@@ -56,7 +56,7 @@ pub(crate) fn push_timer(
 }
 
 /// The name of a signal, or of a timer of a process.
-pub(crate) fn push_trigger(
+pub fn push_trigger(
     line: &mut Vec<u8>,
     set: &Verified,
     process: ProcessNumber,
@@ -106,7 +106,7 @@ pub(crate) fn push_values(
 }
 
 /// The value of a variable, or `unset`.
-pub(crate) fn shown(alloc: Global, value: Option<Value>) -> Result<Vec<u8>, AllocError>
+pub fn shown(alloc: Global, value: Option<Value>) -> Result<Vec<u8>, AllocError>
     ensures { IfOk result (λ v. v.items ≡ shown_text value) }
 {
     match value {
@@ -116,7 +116,7 @@ pub(crate) fn shown(alloc: Global, value: Option<Value>) -> Result<Vec<u8>, Allo
 }
 
 /// An actor: its process, and its number where there is more than one instance.
-pub(crate) fn push_actor(
+pub fn push_actor(
     alloc: Global,
     line: &mut Vec<u8>,
     set: &Verified,
@@ -149,7 +149,7 @@ pub(crate) fn push_from(
 }
 
 /// ENV, a process, or an instance of it.
-fn push_party(
+pub fn push_party(
     alloc: Global,
     line: &mut Vec<u8>,
     set: &Verified,
@@ -168,7 +168,7 @@ fn push_party(
 }
 
 /// The instance of a process that gets a signal of an actor that names none.
-fn meant(set: &Verified, me: ActorName, process: ProcessNumber) -> ActorName
+pub fn meant(set: &Verified, me: ActorName, process: ProcessNumber) -> ActorName
     ensures { result ≡ meant set.now me process }
 {
     let same = ActorName {
@@ -227,7 +227,7 @@ pub(crate) fn push_place(
 }
 
 /// The name of a state.
-pub(crate) fn push_state(
+pub fn push_state(
     line: &mut Vec<u8>,
     set: &Verified,
     process: ProcessNumber,
@@ -239,7 +239,7 @@ pub(crate) fn push_state(
 }
 
 /// The state that a turn ended in, or `STOP`.
-pub(crate) fn push_end(
+pub fn push_end(
     line: &mut Vec<u8>,
     set: &Verified,
     process: ProcessNumber,

@@ -26,7 +26,7 @@ fn timer_of(actor: u16, number: u8) -> io::Result<Timer>
 }
 
 /// How long a SET of this length waits.
-pub(crate) fn delay_of(ticks: i32) -> u64
+pub fn delay_of(ticks: i32) -> u64
     ensures { result ≡ delay ticks }
 {
     if ticks < 1 { 1 } else { ticks as u64 }

@@ -129,7 +129,7 @@ fn limits_of(settings: Settings) -> Limits
 }
 
 /// The tracer of a script that sets these numbers.
-fn open_tracer(
+pub(crate) fn open_tracer(
     alloc: Global,
     set: &Verified,
     settings: Settings,

@@ -31,7 +31,7 @@ pub struct Tracer {
 }
 
 /// What an event that can't happen once more is told as.
-fn lost() -> io::Error {
+pub(crate) fn lost() -> io::Error {
     io::Error::from(ErrorKind::Other)
 }
 
@@ -92,7 +92,7 @@ impl Tracer {
     }
 
     /// The turn that an actor has out ends. It, and what is told of it.
-    fn end(&mut self, actor: u16) -> io::Result<Ended>
+    pub(crate) fn end(&mut self, actor: u16) -> io::Result<Ended>
         ensures step { OnOk result (IsStep self.old (event.Finish actor) self.new) }
         ensures ended { IfOk result (λ e. IsEnded self.old.again actor e) }
     {
@@ -152,7 +152,7 @@ impl Tracer {
     }
 
     /// An event happens. The text that tells it.
-    fn happen(&mut self, alloc: Global, event: &Event) -> io::Result<Vec<u8>>
+    pub(crate) fn happen(&mut self, alloc: Global, event: &Event) -> io::Result<Vec<u8>>
         ensures step { OnOk result (IsStep self.old event.now self.new) }
         ensures text { IfOk result (λ v. Agree self.old → v.items ≡ flat_map line_of (told self.old.every self.old.again.set (state_of self.old.again) event.now)) }
     {
@@ -183,7 +183,7 @@ impl Tracer {
     }
 
     /// Where the journal of a book began anew, so does this one's.
-    fn catch_up(&mut self, book: &Book) -> io::Result<()>
+    pub(crate) fn catch_up(&mut self, book: &Book) -> io::Result<()>
         ensures { OnOk result (IsCaughtUp book.now self.old self.new) }
     {
         if book.first() == self.again.first() {
@@ -196,7 +196,7 @@ impl Tracer {
     }
 
     /// Whether as many ticks went by as for a book, and as many turns began and ended.
-    fn is_in_step(&self, book: &Book) -> bool
+    pub(crate) fn is_in_step(&self, book: &Book) -> bool
         ensures { result ≡ are_in_step (state_of self.now.again) (state_of book.now) }
     {
         let (one, other) = (self.again.state(), book.state());
@@ -211,12 +211,7 @@ impl Tracer {
     /// # Errors
     ///
     /// Where the book's journal began anew behind an event that didn't happen here, there is no memory, or a write fails.
-    pub(crate) fn follow<T: Write>(
-        &mut self,
-        alloc: Global,
-        book: &Book,
-        out: &mut T,
-    ) -> io::Result<()>
+    pub fn follow<T: Write>(&mut self, alloc: Global, book: &Book, out: &mut T) -> io::Result<()>
         ensures first { OnOk result (book.now.first ≤ next self.old.again) }
         ensures followed { OnOk result (IsFollowed self.old (since (next self.old.again) book.now) self.new (T.contents out.old) (T.contents out.new)) }
         ensures in_step { OnOk result (are_in_step (state_of self.new.again) (state_of book.now) ≡ true) }

@@ -22,10 +22,14 @@ use turn_machine::{Done, Job};
 /// A turn that ended: at which tick, whose it was, how it ran, and what came of it.
 #[derive(Drop)]
 pub struct Ended {
-    pub(crate) clock: u64,
-    pub(crate) me: ActorName,
-    pub(crate) done: Done,
-    pub(crate) report: Report,
+    /// At which tick.
+    pub clock: u64,
+    /// Whose it was.
+    pub me: ActorName,
+    /// What it was, and how it ran.
+    pub done: Done,
+    /// What came of it.
+    pub report: Report,
 }
 
 /// Whether it is the loss of the effect at a place.
@@ -43,7 +47,7 @@ fn loss_number(lost: &[Lost], place: usize) -> Option<usize>
 }
 
 /// The loss of the effect at a place, if it was lost.
-fn loss_at(lost: &[Lost], place: usize) -> Option<Lost>
+pub fn loss_at(lost: &[Lost], place: usize) -> Option<Lost>
     ensures { result ≡ lost_at lost.now place }
 {
     match loss_number(lost, place) {
@@ -269,7 +273,7 @@ fn line_of(alloc: Global, set: &Verified, ended: &Ended) -> Result<Vec<u8>, Allo
 }
 
 /// Whether a turn that began there and ended so keeps its state.
-fn stays_in(place: Place, end: End) -> bool
+pub fn stays_in(place: Place, end: End) -> bool
     ensures { result ≡ stays_in place end }
 {
     match place {
@@ -282,7 +286,7 @@ fn stays_in(place: Place, end: End) -> bool
 }
 
 /// Whether a turn keeps its state and has no effect.
-fn is_dull(place: Place, end: End, effects: &[Effect]) -> bool
+pub fn is_dull(place: Place, end: End, effects: &[Effect]) -> bool
     ensures { result ≡ is_dull place end effects.now }
 {
     stays_in(place, end) && effects.is_empty()

@@ -1,0 +1,515 @@
+//! A chart of turns, in the language of mscgen.
+
+use script_seen::{
+    ActorName, Ended, Job, Lost, delay_of, is_dull, loss_at, meant, push_actor, push_end,
+    push_number, push_party, push_signal, push_timer, shown, stays_in,
+};
+use std::alloc::{AllocError, Global};
+use turn_check::Verified;
+use turn_code::{
+    Address, Effect, End, InstanceNumber, Party, Place, ProcessNumber, Sending, SignalNumber,
+    TimerNumber, Trigger, Value,
+};
+
+/// Which turns are drawn: those from one number to another.
+#[derive(Clone, Copy, PartialEq, Eq, Debug)]
+pub struct Cut {
+    /// The number of the first turn.
+    pub first: u64,
+    /// The number of the last one.
+    pub last: u64,
+}
+
+/// A chart as its turns end.
+#[derive(Drop)]
+pub struct Chart {
+    cut: Cut,
+    /// The tick of the row that was drawn last.
+    clock: Option<u64>,
+    rows: Vec<u8>,
+    /// Whether the environment takes part.
+    environment: bool,
+    /// The actors that take part.
+    actors: Vec<ActorName>,
+}
+
+/// How wide a column is, in pixels.
+const COLUMN: u64 = 140;
+
+/// An actor in quotation marks.
+fn push_actor_quoted(
+    alloc: Global,
+    line: &mut Vec<u8>,
+    set: &Verified,
+    actor: ActorName,
+) -> Result<(), AllocError> {
+    line.push(b'"')?;
+    push_actor(alloc, line, set, actor)?;
+    Ok(line.push(b'"')?)
+}
+
+/// ENV or an actor in quotation marks.
+fn push_party_quoted(
+    alloc: Global,
+    line: &mut Vec<u8>,
+    set: &Verified,
+    party: Party,
+    instance: Option<InstanceNumber>,
+) -> Result<(), AllocError> {
+    line.push(b'"')?;
+    push_party(alloc, line, set, party, instance)?;
+    Ok(line.push(b'"')?)
+}
+
+/// Values behind one another, a comma before each but the first.
+fn push_commaed(alloc: Global, line: &mut Vec<u8>, values: &[Value]) -> Result<(), AllocError> {
+    for (place, value) in values.iter().enumerate() {
+        if 0 < place {
+            line.extend_from_slice(b", ")?;
+        }
+        let text = shown(alloc, Some(*value))?;
+        line.extend_from_slice(&text)?;
+    }
+    Ok(())
+}
+
+/// A signal with its values in parentheses; without these, where there are no values.
+fn push_called(
+    alloc: Global,
+    line: &mut Vec<u8>,
+    set: &Verified,
+    signal: SignalNumber,
+    values: &[Value],
+) -> Result<(), AllocError> {
+    push_signal(line, set, signal)?;
+    if values.is_empty() {
+        return Ok(());
+    }
+    line.push(b'(')?;
+    push_commaed(alloc, line, values)?;
+    Ok(line.push(b')')?)
+}
+
+/// The row of the time, where it isn't that of the last row.
+fn push_time(
+    alloc: Global,
+    rows: &mut Vec<u8>,
+    last: Option<u64>,
+    clock: u64,
+) -> Result<(), AllocError> {
+    match last {
+        Some(time) if time == clock => Ok(()),
+        _ => {
+            rows.extend_from_slice(b"  --- [label=\"")?;
+            push_number(alloc, rows, clock)?;
+            Ok(rows.extend_from_slice(b" ms\"];\n")?)
+        }
+    }
+}
+
+/// The arc of a signal that an actor takes, from who sent it.
+fn push_taken(
+    alloc: Global,
+    rows: &mut Vec<u8>,
+    set: &Verified,
+    me: ActorName,
+    signal: SignalNumber,
+    job: &Job,
+) -> Result<(), AllocError> {
+    let Some(Address { party, instance }) = job.input().sender else {
+        return Ok(());
+    };
+    rows.extend_from_slice(b"  ")?;
+    push_party_quoted(alloc, rows, set, party, instance)?;
+    rows.extend_from_slice(b" => ")?;
+    push_actor_quoted(alloc, rows, set, me)?;
+    rows.extend_from_slice(b" [label=\"")?;
+    push_called(alloc, rows, set, signal, &job.input().parameters)?;
+    Ok(rows.extend_from_slice(b"\"];\n")?)
+}
+
+/// What a note or a box of an actor begins with.
+fn push_beside(
+    alloc: Global,
+    rows: &mut Vec<u8>,
+    set: &Verified,
+    me: ActorName,
+    kind: &str,
+) -> Result<(), AllocError> {
+    rows.extend_from_slice(b"  ")?;
+    push_actor_quoted(alloc, rows, set, me)?;
+    rows.extend_from_slice(kind.as_bytes())?;
+    push_actor_quoted(alloc, rows, set, me)?;
+    Ok(rows.extend_from_slice(b" [label=\"")?)
+}
+
+/// The note of a timer that an actor takes.
+fn push_run_out(
+    alloc: Global,
+    rows: &mut Vec<u8>,
+    set: &Verified,
+    me: ActorName,
+    timer: TimerNumber,
+) -> Result<(), AllocError> {
+    push_beside(alloc, rows, set, me, " note ")?;
+    push_timer(rows, set, me.process, timer)?;
+    Ok(rows.extend_from_slice(b" runs out\"];\n")?)
+}
+
+/// What a turn took: an arc for a signal, a note for a timer, nothing for START.
+fn push_came(
+    alloc: Global,
+    rows: &mut Vec<u8>,
+    set: &Verified,
+    me: ActorName,
+    job: &Job,
+) -> Result<(), AllocError> {
+    match job.place() {
+        Place::Start => Ok(()),
+        Place::State(state) => match set.trigger(me.process, state, job.input_number()) {
+            Some(Trigger::Signal(signal)) => push_taken(alloc, rows, set, me, signal, job),
+            Some(Trigger::Timer(timer)) => push_run_out(alloc, rows, set, me, timer),
+            None => Ok(()),
+        },
+    }
+}
+
+/// The box of the state that a turn ends in, where that is another one, or of STOP.
+fn push_box(
+    alloc: Global,
+    rows: &mut Vec<u8>,
+    set: &Verified,
+    me: ActorName,
+    place: Place,
+    end: End,
+) -> Result<(), AllocError> {
+    if stays_in(place, end) {
+        return Ok(());
+    }
+    push_beside(alloc, rows, set, me, " abox ")?;
+    push_end(rows, set, me.process, end)?;
+    Ok(rows.extend_from_slice(b"\"];\n")?)
+}
+
+/// Who gets a signal of an actor, with the instance that is meant.
+fn receiver_of(set: &Verified, me: ActorName, receiver: Address) -> Address {
+    match receiver.party {
+        Party::Environment => receiver,
+        Party::Process(process) => match receiver.instance {
+            Some(_) => receiver,
+            None => meant(set, me, process).address(),
+        },
+    }
+}
+
+/// The arc of a signal that goes out, with an arrow or the sign of a loss.
+fn push_sent(
+    alloc: Global,
+    rows: &mut Vec<u8>,
+    set: &Verified,
+    me: ActorName,
+    sending: &Sending,
+    arrow: &str,
+) -> Result<(), AllocError> {
+    let to = receiver_of(set, me, sending.receiver);
+    rows.extend_from_slice(b"  ")?;
+    push_actor_quoted(alloc, rows, set, me)?;
+    rows.extend_from_slice(arrow.as_bytes())?;
+    push_party_quoted(alloc, rows, set, to.party, to.instance)?;
+    rows.extend_from_slice(b" [label=\"")?;
+    push_called(alloc, rows, set, sending.signal, &sending.parameters)?;
+    Ok(rows.extend_from_slice(b"\"];\n")?)
+}
+
+/// What is drawn of the output at a place: an arc where it is lost or goes to ENV, and else nothing, since it is drawn where it is taken.
+fn push_output(
+    alloc: Global,
+    rows: &mut Vec<u8>,
+    set: &Verified,
+    me: ActorName,
+    sending: &Sending,
+    is_lost: bool,
+) -> Result<(), AllocError> {
+    if is_lost {
+        return push_sent(alloc, rows, set, me, sending, " -x ");
+    }
+    match sending.receiver.party {
+        Party::Environment => push_sent(alloc, rows, set, me, sending, " => "),
+        Party::Process(_) => Ok(()),
+    }
+}
+
+/// The arcs of a turn's outputs.
+fn push_outputs(
+    alloc: Global,
+    rows: &mut Vec<u8>,
+    set: &Verified,
+    me: ActorName,
+    effects: &[Effect],
+    lost: &[Lost],
+) -> Result<(), AllocError> {
+    for (place, effect) in effects.iter().enumerate() {
+        if let Effect::Output(sending) = effect {
+            let is_lost = loss_at(lost, place).is_some();
+            push_output(alloc, rows, set, me, sending, is_lost)?;
+        }
+    }
+    Ok(())
+}
+
+/// `set` or `reset` with the timer of an effect, if it is one.
+fn push_timing(
+    alloc: Global,
+    text: &mut Vec<u8>,
+    set: &Verified,
+    process: ProcessNumber,
+    clock: u64,
+    effect: &Effect,
+) -> Result<(), AllocError> {
+    match effect {
+        Effect::Output(_) => Ok(()),
+        Effect::Set(timer, ticks) => {
+            text.extend_from_slice(b"set ")?;
+            push_timer(text, set, process, *timer)?;
+            text.extend_from_slice(b" at ")?;
+            push_number(alloc, text, clock.saturating_add(delay_of(*ticks)))
+        }
+        Effect::Reset(timer) => {
+            text.extend_from_slice(b"reset ")?;
+            push_timer(text, set, process, *timer)
+        }
+    }
+}
+
+/// What a turn makes of timers, with the sign of a new line between two.
+fn timings(
+    alloc: Global,
+    set: &Verified,
+    process: ProcessNumber,
+    clock: u64,
+    effects: &[Effect],
+) -> Result<Vec<u8>, AllocError> {
+    let mut text = Vec::new(alloc);
+    for effect in effects {
+        let is_output = matches!(effect, Effect::Output(_));
+        if !is_output && !text.is_empty() {
+            text.extend_from_slice(b"\\n")?;
+        }
+        push_timing(alloc, &mut text, set, process, clock, effect)?;
+    }
+    Ok(text)
+}
+
+/// The note of what a turn makes of timers, where it does something to one.
+fn push_timers(
+    alloc: Global,
+    rows: &mut Vec<u8>,
+    set: &Verified,
+    clock: u64,
+    me: ActorName,
+    effects: &[Effect],
+) -> Result<(), AllocError> {
+    let text = timings(alloc, set, me.process, clock, effects)?;
+    if text.is_empty() {
+        return Ok(());
+    }
+    push_beside(alloc, rows, set, me, " note ")?;
+    rows.extend_from_slice(&text)?;
+    Ok(rows.extend_from_slice(b"\"];\n")?)
+}
+
+/// Whether an actor is among others.
+fn has(actors: &[ActorName], actor: ActorName) -> bool {
+    actors.iter().any(|it| it.same(actor))
+}
+
+/// An actor as it stands at the head of a chart.
+fn push_named(
+    alloc: Global,
+    text: &mut Vec<u8>,
+    set: &Verified,
+    actor: ActorName,
+) -> Result<(), AllocError> {
+    push_actor_quoted(alloc, text, set, actor)?;
+    text.extend_from_slice(b" [label=")?;
+    push_actor_quoted(alloc, text, set, actor)?;
+    Ok(text.push(b']')?)
+}
+
+impl Chart {
+    /// A chart without rows, in which these turns are to be drawn.
+    pub fn new(alloc: Global, cut: Cut) -> Chart {
+        Chart {
+            cut,
+            clock: None,
+            rows: Vec::new(alloc),
+            environment: false,
+            actors: Vec::new(alloc),
+        }
+    }
+
+    /// An actor takes part.
+    fn enter(&mut self, actor: ActorName) -> Result<(), AllocError> {
+        if has(&self.actors, actor) {
+            return Ok(());
+        }
+        Ok(self.actors.push(actor)?)
+    }
+
+    /// ENV or an actor takes part.
+    fn enter_as(&mut self, address: Address) -> Result<(), AllocError> {
+        match address.party {
+            Party::Environment => {
+                self.environment = true;
+                Ok(())
+            }
+            Party::Process(process) => match address.instance {
+                Some(instance) => self.enter(ActorName { process, instance }),
+                None => Ok(()),
+            },
+        }
+    }
+
+    /// Whoever is drawn with an output takes part.
+    fn enter_receiver(
+        &mut self,
+        set: &Verified,
+        me: ActorName,
+        sending: &Sending,
+        is_lost: bool,
+    ) -> Result<(), AllocError> {
+        let to = receiver_of(set, me, sending.receiver);
+        if is_lost || to.party == Party::Environment {
+            return self.enter_as(to);
+        }
+        Ok(())
+    }
+
+    /// Whoever is drawn with a turn takes part.
+    fn enter_all(&mut self, set: &Verified, ended: &Ended) -> Result<(), AllocError> {
+        self.enter(ended.me)?;
+        if let Some(sender) = ended.done.job().input().sender {
+            self.enter_as(sender)?;
+        }
+        for (place, effect) in ended.done.effects().iter().enumerate() {
+            if let Effect::Output(sending) = effect {
+                let is_lost = loss_at(&ended.report.lost, place).is_some();
+                self.enter_receiver(set, ended.me, sending, is_lost)?;
+            }
+        }
+        Ok(())
+    }
+
+    /// The rows of a turn.
+    fn push_rows(
+        &mut self,
+        alloc: Global,
+        set: &Verified,
+        ended: &Ended,
+    ) -> Result<(), AllocError> {
+        let (clock, me, job) = (ended.clock, ended.me, ended.done.job());
+        let (end, effects) = (ended.report.end, ended.done.effects());
+        let rows = &mut self.rows;
+        push_time(alloc, rows, self.clock, clock)?;
+        push_came(alloc, rows, set, me, job)?;
+        push_box(alloc, rows, set, me, job.place(), end)?;
+        push_outputs(alloc, rows, set, me, effects, &ended.report.lost)?;
+        push_timers(alloc, rows, set, clock, me, effects)
+    }
+
+    /// Draws a turn that ended, where it is one of those that are to be drawn, and does anything.
+    ///
+    /// # Errors
+    ///
+    /// Where there is no memory.
+    pub(crate) fn draw(
+        &mut self,
+        alloc: Global,
+        set: &Verified,
+        ended: &Ended,
+    ) -> Result<(), AllocError> {
+        let job = ended.done.job();
+        let number = job.turn();
+        if number < self.cut.first || self.cut.last < number {
+            return Ok(());
+        }
+        if is_dull(job.place(), ended.report.end, ended.done.effects()) {
+            return Ok(());
+        }
+        self.enter_all(set, ended)?;
+        self.push_rows(alloc, set, ended)?;
+        self.clock = Some(ended.clock);
+        Ok(())
+    }
+
+    /// Whether the environment stands at the head: where it takes part, and where nobody does.
+    fn has_environment(&self) -> bool {
+        self.environment || self.actors.is_empty()
+    }
+
+    /// An actor of a set, where it takes part, behind those that stand there.
+    fn push_name(
+        &self,
+        alloc: Global,
+        names: &mut Vec<u8>,
+        set: &Verified,
+        actor: ActorName,
+    ) -> Result<(), AllocError> {
+        if !has(&self.actors, actor) {
+            return Ok(());
+        }
+        if !names.is_empty() {
+            names.extend_from_slice(b", ")?;
+        }
+        push_named(alloc, names, set, actor)
+    }
+
+    /// The instances of a process that take part.
+    fn push_instances(
+        &self,
+        alloc: Global,
+        names: &mut Vec<u8>,
+        set: &Verified,
+        process: ProcessNumber,
+    ) -> Result<(), AllocError> {
+        for number in 0..set.instances(process) {
+            let instance = InstanceNumber(number.saturating_add(1) as u8);
+            self.push_name(alloc, names, set, ActorName { process, instance })?;
+        }
+        Ok(())
+    }
+
+    /// Who takes part, the environment first, and then actors in the order of the text.
+    fn names(&self, alloc: Global, set: &Verified) -> Result<Vec<u8>, AllocError> {
+        let mut names = Vec::new(alloc);
+        if self.has_environment() {
+            names.extend_from_slice(b"\"ENV\" [label=\"ENV\"]")?;
+        }
+        for process in 0..set.process_count() {
+            self.push_instances(alloc, &mut names, set, ProcessNumber(process as u8))?;
+        }
+        Ok(names)
+    }
+
+    /// How many columns it has.
+    fn columns(&self) -> u64 {
+        self.actors.len() as u64 + u64::from(self.has_environment())
+    }
+
+    /// The chart of the turns that were drawn, whose actors are those of a set.
+    ///
+    /// # Errors
+    ///
+    /// Where there is no memory.
+    pub(crate) fn text(&self, alloc: Global, set: &Verified) -> Result<Vec<u8>, AllocError> {
+        let names = self.names(alloc, set)?;
+        let mut text = Vec::from_slice(alloc, b"msc {\n  width=\"")?;
+        push_number(alloc, &mut text, COLUMN * self.columns())?;
+        text.extend_from_slice(b"\", arcgradient=\"0\";\n  ")?;
+        text.extend_from_slice(&names)?;
+        text.extend_from_slice(b";\n")?;
+        text.extend_from_slice(&self.rows)?;
+        text.extend_from_slice(b"}\n")?;
+        Ok(text)
+    }
+}

@@ -1,0 +1,98 @@
+//! Who watches what happens to a link as a script runs.
+use crate::tracing::{Tracer, lost};
+use crate::turns::Ended;
+use actor_book::Book;
+use actor_machine::{Actor, Event};
+use std::alloc::Global;
+use std::io;
+use turn_check::Verified;
+
+/// Who is told of each turn that ends on a link, and of each signal that is thrown away there.
+pub trait Watcher {
+    /// A turn ended.
+    ///
+    /// # Errors
+    ///
+    /// Where there is no memory.
+    fn end(&mut self, alloc: Global, set: &Verified, ended: &Ended) -> io::Result<()>;
+
+    /// An actor throws away the first item that waits for it and isn't saved.
+    ///
+    /// # Errors
+    ///
+    /// Where there is no memory.
+    fn throw(&mut self, alloc: Global, set: &Verified, actor: &Actor) -> io::Result<()>;
+}
+
+impl Tracer {
+    /// An actor throws a signal away, and a watcher is told.
+    fn skip_watched<N: Watcher>(
+        &mut self,
+        alloc: Global,
+        actor: u16,
+        watcher: &mut N,
+    ) -> io::Result<()> {
+        let Some(found) = self.again.state().actors().get(usize::from(actor)) else {
+            return Err(lost());
+        };
+        watcher.throw(alloc, self.again.set(), found)?;
+        match self.again.skip(actor) {
+            Ok(_) => Ok(()),
+            Err(_) => Err(lost()),
+        }
+    }
+
+    /// The turn that an actor has out ends, and a watcher is told.
+    fn finish_watched<N: Watcher>(
+        &mut self,
+        alloc: Global,
+        actor: u16,
+        watcher: &mut N,
+    ) -> io::Result<()> {
+        let ended = self.end(actor)?;
+        watcher.end(alloc, self.again.set(), &ended)
+    }
+
+    /// An event happens, and a watcher is told.
+    fn happen_watched<N: Watcher>(
+        &mut self,
+        alloc: Global,
+        event: &Event,
+        watcher: &mut N,
+    ) -> io::Result<()> {
+        match event {
+            Event::Skip(actor) => self.skip_watched(alloc, *actor, watcher),
+            Event::Finish(actor) => self.finish_watched(alloc, *actor, watcher),
+            Event::Offer(_) | Event::Begin(_) | Event::Advance(_) | Event::TakeEnv => {
+                let _text = self.happen(alloc, event)?;
+                Ok(())
+            }
+        }
+    }
+
+    /// Has what has happened to a book since happen here too, and tells a watcher.
+    ///
+    /// # Errors
+    ///
+    /// Where the book's journal began anew behind an event that didn't happen here, or there is no memory.
+    pub(crate) fn watch<N: Watcher>(
+        &mut self,
+        alloc: Global,
+        book: &Book,
+        watcher: &mut N,
+    ) -> io::Result<()> {
+        self.catch_up(book)?;
+        let journal = book.journal();
+        let done = self.again.journal().len();
+        if journal.len() < done {
+            return Err(lost());
+        }
+        for event in &journal[done..] {
+            self.happen_watched(alloc, event, watcher)?;
+        }
+        if !self.is_in_step(book) {
+            return Err(lost());
+        }
+        Ok(())
+    }
+}
