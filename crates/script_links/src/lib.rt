@@ -24,6 +24,5 @@ pub use play_faults::play_fault;
 pub use resend_store::{Mode, RoundLimits, USUAL_LIMITS};
 pub use script::{AnyScript, TermSaid, TermScript, any_script};
 pub use script_lines::count;
-pub use unit_words::unit_in_words;
 pub use verbs::{TermVerb, term_verb_in};
 pub use words::GroupWord;

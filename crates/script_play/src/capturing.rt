@@ -4,12 +4,12 @@ use arrayvec::ArrayVec;
 use line_streams::{Deframer, Repeats, Seen, ended, header, record};
 use plain_text::{TextRead, line_at_limit, read_text};
 use script_check::{SetWord, find_set, refuse_set};
-use script_lines::{ScriptFault, lines_in};
+use script_lines::ScriptFault;
 use script_seen::{
-    AnyScript, FAILED, GroupCommand, GroupPlayer, GroupScript, HELD, MISSED, PlayScript,
-    RoundLimits, TermCommand, TermPlayer, TermScript, Terminal, asks_told, end_player,
-    line_of_unit, new_player, open_group, play_script_in, refuse, refuse_set as refuse_names,
-    unit_in_words, write_line,
+    AnyScript, FAILED, GroupCommand, GroupPlayer, GroupSaid, GroupScript, HELD, MISSED, PlayScript,
+    RoundLimits, TermCommand, TermPlayer, TermSaid, TermScript, Terminal, Unit, asks_told, encode,
+    end_player, line_of_unit, new_player, open_group, play_script_in, refuse,
+    refuse_set as refuse_names, text_line, write_line,
 };
 use std::alloc::{AllocError, Global};
 use std::io::{self, ErrorKind, Read, Write};
@@ -103,38 +103,20 @@ impl<T: Write> Capture<'_, T> {
         Ok(())
     }
 
-    /// A unit goes out, by the line that says it.
-    fn send(&mut self, alloc: Global, link: usize, at: u64, words: &[&str]) -> io::Result<()> {
-        let Some(octets) = unit_in_words(alloc, words)? else {
-            return Ok(());
-        };
-        let mut unit = ArrayVec::new();
-        match unit.try_extend_from_slice(&octets) {
-            Ok(()) => self.see(link, true, at, unit),
+    /// A unit goes out.
+    fn send(&mut self, link: usize, at: u64, unit: &Unit) -> io::Result<()> {
+        let mut framed = ArrayVec::new();
+        encode(unit, &mut framed);
+        let mut octets = ArrayVec::new();
+        let length = framed.len().saturating_sub(2);
+        match octets.try_extend_from_slice(&framed.as_slice()[..length]) {
+            Ok(()) => self.see(link, true, at, octets),
             Err(_) => Err(lost()),
         }
     }
 
-    /// Units go out, by the lines that were printed.
-    fn send_all(&mut self, alloc: Global, link: usize, at: u64, printed: &[u8]) -> io::Result<()> {
-        let Ok(text) = str::from_utf8(printed) else {
-            return Err(lost());
-        };
-        let lines = lines_in(alloc, text)?;
-        for line in &lines {
-            self.send(alloc, link, at, &line.words)?;
-        }
-        Ok(())
-    }
-
-    /// What is seen of a command of a terminal's script.
-    fn note(
-        &mut self,
-        alloc: Global,
-        command: &TermCommand<'_>,
-        at: u64,
-        printed: &[u8],
-    ) -> io::Result<()> {
+    /// What comes in by a command of a terminal's script.
+    fn note(&mut self, alloc: Global, command: &TermCommand<'_>, at: u64) -> io::Result<()> {
         match command {
             TermCommand::Unit(octets) => {
                 let line = line_of_unit(alloc, octets)?;
@@ -146,19 +128,17 @@ impl<T: Write> Capture<'_, T> {
             }
             TermCommand::Errors(times) => self.hear_times(0, at, &ERRORED, *times),
             TermCommand::Line(octets) => self.hear(0, at, octets),
-            TermCommand::Out(_) => self.send_all(alloc, 0, at, printed),
             _ => Ok(()),
         }
     }
 
-    /// What is seen of a command of a link set's script, on this link.
+    /// What comes in by a command of a link set's script, on this link.
     fn note_on(
         &mut self,
         alloc: Global,
         command: &GroupCommand<'_>,
         link: usize,
         at: u64,
-        printed: &[u8],
     ) -> io::Result<()> {
         match command {
             GroupCommand::Unit(octets) => {
@@ -166,10 +146,58 @@ impl<T: Write> Capture<'_, T> {
                 self.hear(link, at, &line)
             }
             GroupCommand::Line(octets) => self.hear(link, at, octets),
-            GroupCommand::Out(_) => self.send_all(alloc, link, at, printed),
             _ => Ok(()),
         }
     }
+}
+
+/// The unit that goes out next on a terminal, and its line, or `silent`.
+fn next_out(alloc: Global, player: &mut TermPlayer) -> io::Result<(Option<Unit>, Vec<u8>)> {
+    let given = player.terminal.unit_out()?;
+    let _cleared = player.terminal.obey_clear();
+    let line = match &given {
+        Some(unit) => text_line(alloc, unit)?,
+        None => Vec::from_slice(alloc, b"silent")?,
+    };
+    Ok((given, line))
+}
+
+/// Units go out on a terminal, so many; one line `silent` where none does.
+fn give_out<T: Write, W: Write>(
+    alloc: Global,
+    player: &mut TermPlayer,
+    units: u32,
+    capture: &mut Capture<'_, T>,
+    writer: &mut W,
+) -> io::Result<()> {
+    for _ in 0..units {
+        let at = time_of(player.terminal.book().clock());
+        let (given, line) = next_out(alloc, player)?;
+        player.printer.print(line, writer)?;
+        match given {
+            Some(unit) => capture.send(0, at, &unit)?,
+            None => return Ok(()),
+        }
+    }
+    Ok(())
+}
+
+/// Does what a command of a terminal's script says, and captures what it has come in and go out. Whether the run goes on.
+fn capture_order<T: Write, W: Write>(
+    alloc: Global,
+    player: &mut TermPlayer,
+    said: &TermSaid<'_>,
+    keeps: bool,
+    capture: &mut Capture<'_, T>,
+    writer: &mut W,
+) -> io::Result<bool> {
+    if let TermCommand::Out(units) = &said.command {
+        give_out(alloc, player, *units, capture, writer)?;
+        return Ok(true);
+    }
+    let at = time_of(player.terminal.book().clock());
+    capture.note(alloc, &said.command, at)?;
+    player.obey(alloc, said, keeps, writer)
 }
 
 /// Does what the commands of a terminal's script say, up to an expectation that fails. Gives the exit status.
@@ -182,14 +210,9 @@ fn capture_orders<T: Write, W: Write>(
 ) -> io::Result<u8> {
     let keeps = asks_told(&script.commands);
     for said in &script.commands {
-        let mut printed = Vec::new(alloc);
-        let on = player.obey(alloc, said, keeps, &mut printed)?;
-        writer.write_all(&printed)?;
-        if !on {
+        if !capture_order(alloc, player, said, keeps, capture, writer)? {
             return Ok(MISSED);
         }
-        let at = time_of(player.terminal.book().clock());
-        capture.note(alloc, &said.command, at, &printed)?;
     }
     Ok(HELD)
 }
@@ -224,6 +247,61 @@ fn clock_of(player: &GroupPlayer) -> u64 {
     }
 }
 
+/// The unit that goes out next on a link of a set, and its line, or `silent`.
+fn next_on(
+    alloc: Global,
+    player: &mut GroupPlayer,
+    link: usize,
+) -> io::Result<(Option<Unit>, Vec<u8>)> {
+    let Ok(given) = player.group.unit_out(link) else {
+        return Err(lost());
+    };
+    let line = match &given {
+        Some(unit) => text_line(alloc, unit)?,
+        None => Vec::from_slice(alloc, b"silent")?,
+    };
+    Ok((given, line))
+}
+
+/// Units go out on a link of a set, so many; one line `silent` where none does.
+fn give_out_on<T: Write, W: Write>(
+    alloc: Global,
+    player: &mut GroupPlayer,
+    units: u32,
+    capture: &mut Capture<'_, T>,
+    writer: &mut W,
+) -> io::Result<()> {
+    let (link, at) = (player.on, time_of(clock_of(player)));
+    for _ in 0..units {
+        let (given, line) = next_on(alloc, player, link)?;
+        player.printer.print(line, writer)?;
+        match given {
+            Some(unit) => capture.send(link, at, &unit)?,
+            None => return Ok(()),
+        }
+    }
+    Ok(())
+}
+
+/// Does what a command of a link set's script says, and captures what it has come in and go out. Whether the run goes on.
+fn capture_said<T: Write, W: Write>(
+    alloc: Global,
+    player: &mut GroupPlayer,
+    said: &GroupSaid<'_>,
+    capture: &mut Capture<'_, T>,
+    writer: &mut W,
+) -> io::Result<bool> {
+    if player.on < player.group.len() {
+        if let GroupCommand::Out(units) = &said.command {
+            give_out_on(alloc, player, *units, capture, writer)?;
+            return Ok(true);
+        }
+        let at = time_of(clock_of(player));
+        capture.note_on(alloc, &said.command, player.on, at)?;
+    }
+    player.obey(alloc, said, writer)
+}
+
 /// Does what the commands of a link set's script say, up to an expectation that fails. Gives the exit status.
 fn capture_links<T: Write, W: Write>(
     alloc: Global,
@@ -233,15 +311,8 @@ fn capture_links<T: Write, W: Write>(
     writer: &mut W,
 ) -> io::Result<u8> {
     for said in &script.commands {
-        let mut printed = Vec::new(alloc);
-        let on = player.obey(alloc, said, &mut printed)?;
-        writer.write_all(&printed)?;
-        if !on {
+        if !capture_said(alloc, player, said, capture, writer)? {
             return Ok(MISSED);
-        }
-        let at = time_of(clock_of(player));
-        if player.on < capture.links.len() {
-            capture.note_on(alloc, &said.command, player.on, at, &printed)?;
         }
     }
     Ok(HELD)

@@ -13,8 +13,8 @@ use plain_text::{TextRead, line_at_limit, read_text};
 use script_check::{SetWord, find_set, refuse_set};
 use script_lines::ScriptFault;
 use script_seen::{
-    AnyScript, FAILED, PlayScript, RoundLimits, play_script_in, refuse, trace_book, trace_terminal,
-    write_line,
+    AnyScript, FAILED, PlayScript, RoundLimits, play_script_in, refuse, trace_book, trace_group,
+    trace_terminal, write_line,
 };
 use std::alloc::Global;
 use std::io::{Read, Write};
@@ -60,7 +60,7 @@ pub(crate) fn lacks_trace<E: Write>(alloc: Global, errors: &mut E) -> u8
     let _told = write_line(
         alloc,
         errors,
-        &"mtp2_play: a script of a link set has no trace",
+        &"mtp2_play: of a script of a link set there is no chart, no coverage, and nothing told of what is thrown away",
     );
     FAILED
 }
@@ -93,7 +93,9 @@ fn trace_script<W: Write, T: Write, E: Write>(
                 alloc, set, usual, script, text, every, trace, writer, errors,
             )
         }
-        PlayScript::Group(_) => lacks_trace(alloc, errors),
+        PlayScript::Group(script) => {
+            trace_group(alloc, set, usual, script, text, every, trace, writer)
+        }
     }
 }
 

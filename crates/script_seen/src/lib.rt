@@ -2,6 +2,7 @@
 #![tactic(auto)]
 
 mod books;
+mod changeovers;
 mod events;
 mod fronts;
 mod groups;
@@ -9,6 +10,7 @@ mod pushing;
 mod terminals;
 mod timing;
 mod traced_books;
+mod traced_groups;
 mod traced_terminals;
 mod tracing;
 mod turns;
@@ -25,17 +27,18 @@ pub use pushing::{
     push_trigger, shown,
 };
 pub use script_group::{
-    FAILED, GroupPlayer, HELD, MISSED, OpenError, TermPlayer, Terminal, asks_told, end_player,
-    line_of_unit, new_player, open_group, play_book, play_group, play_terminal, refuse, refuse_set,
-    write_line,
+    FAILED, GroupPlayer, HELD, MISSED, OpenError, TermPlayer, Terminal, Unit, asks_told, encode,
+    end_player, line_of_unit, new_player, open_group, play_book, play_group, play_terminal, refuse,
+    refuse_set, text_line, write_line,
 };
 pub use script_links::{
-    AnyScript, GroupCommand, GroupScript, PlayScript, RoundLimits, TermCommand, TermScript,
-    play_fault, play_script_in, unit_in_words,
+    AnyScript, GroupCommand, GroupSaid, GroupScript, PlayScript, RoundLimits, TermCommand,
+    TermSaid, TermScript, play_fault, play_script_in,
 };
 pub use terminals::show_terminal;
 pub use timing::delay_of;
 pub use traced_books::trace_book;
+pub use traced_groups::trace_group;
 pub use traced_terminals::{open_tracer, trace_terminal};
 pub use tracing::Tracer;
 pub use turn_machine::{Done, Job};
