@@ -305,9 +305,9 @@ def run_book(text, script, seen, say):
     return 0
 
 
-def run_terminal(text, script, seen, say):
+def run_terminal(text, script, seen, say, usual):
     (_, first), *rest = plain_term.spoken(script)
-    terminal = plain_term.Terminal(text, first[1] == "cyclic", *plain_term.limits_of(first))
+    terminal = plain_term.Terminal(text, first[1] == "cyclic", *(plain_term.limits_of(first) or usual))
     seen.book = terminal.book
     commands = [(at, plain_term.command(it)) for at, it in rest]
     terminal.keeps, last, lines = any(it[0] == "told" for _, it in commands), [None], lines_of(script)
@@ -327,14 +327,15 @@ def run_terminal(text, script, seen, say):
     return 0
 
 
-def seen_of(text, script, every=False, say=lambda line: None):
-    """What is seen of a script on a text, and the status."""
+def seen_of(text, script, every=False, say=lambda line: None, usual=()):
+    """What is seen of a script on a text, and the status; with these N1 and N2 where a terminal's script says none."""
     seen = SeenBook.seen = Seen(text, every)
     plain_play.Turn, plain_term.Book = SeenTurn, SeenBook
     if plain_group.is_group(script) if hasattr(plain_group, "is_group") else False:
         raise SystemExit("scripts of link sets have no trace here")
-    run = run_terminal if plain_term.is_terminal(script) else run_book
-    return seen, run(text, script, seen, say)
+    if plain_term.is_terminal(script):
+        return seen, run_terminal(text, script, seen, say, usual)
+    return seen, run_book(text, script, seen, say)
 
 
 def main(given):
@@ -343,7 +344,7 @@ def main(given):
         return 3
     word, path, *options = given
     script = sys.stdin.buffer.read() if path == "stdin" else pathlib.Path(path).read_bytes()
-    seen, status = seen_of(plain_term.text_of(word).encode(), script, "--every" in options)
+    seen, status = seen_of(plain_term.text_of(word).encode(), script, "--every" in options, usual=plain_term.USUAL.get(word, ()))
     if "--chart" in options:
         cut = options[options.index("--turns") + 1].split("..") if "--turns" in options else ["0", ""]
         print("\n".join(chart(seen, int(cut[0] or 0), int(cut[1]) if cut[1] else None)))
