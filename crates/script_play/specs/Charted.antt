@@ -1,0 +1,244 @@
+-- A chart of turns, in the language of mscgen.
+use Rattle.std.specs.Prelude.{ℕ, ◌+◌, ◌*◌, ◌==◌, nat_le, Bool, true, false, not, ◌&&◌, ◌||◌, List, [], ◌∷◌}
+use Rattle.std.specs.Prelude.{◌++◌, length, Option, None, Some, is_some, codes, map, filter}
+use Rattle.std.specs.Prelude.{if◌then◌else◌, is_empty}
+use Rattle.std.specs.List.{flat_map, list_any}
+use Rattle.std.specs.Fmt.{decimal}
+use Rattle.turn_code.specs.declared.draft.Draft.{Draft}
+use Rattle.turn_code.specs.declared.draft.Trigger.{Trigger}
+use Rattle.turn_code.specs.declared.draft.Trigger.TheVariants as trigger
+use Rattle.turn_code.specs.declared.effect.Effect.{Effect}
+use Rattle.turn_code.specs.declared.effect.Effect.TheVariants.{Output, Set, Reset}
+use Rattle.turn_code.specs.declared.effect.Sending.{Sending}
+use Rattle.turn_code.specs.declared.input.Address.{Address}
+use Rattle.turn_code.specs.declared.input.Party.{Party}
+use Rattle.turn_code.specs.declared.input.Party.TheVariants.{Environment, Process}
+use Rattle.turn_code.specs.declared.input.Place.{Place}
+use Rattle.turn_code.specs.declared.input.Place.TheVariants.{Start, State as AtState}
+use Rattle.turn_code.specs.declared.machine.End.{End}
+use Rattle.turn_code.specs.declared.numbers.InstanceNumber.{InstanceNumber}
+use Rattle.turn_code.specs.declared.value.Value.{Value}
+use Rattle.turn_check.specs.Named.{trigger_at}
+use Rattle.turn_machine.specs.Turn.{Turn}
+use Rattle.actor_machine.specs.Effects.{delay}
+use Rattle.actor_machine.specs.Names.{actors_of, same_actor, address_of}
+use Rattle.actor_machine.specs.declared.name.ActorName.{ActorName}
+use Rattle.actor_machine.specs.declared.reply.Lost.{Lost}
+use Rattle.script_lines.specs.Replies.{sender_text, signal_text, end_text, value_text}
+use Rattle.script_seen.specs.Told.{party_text, timer_text, meant, lost_at, is_dull, stays_in}
+use Rattle.script_seen.specs.Watched.{TurnEnd}
+use Rattle.script_play.specs.declared.charts.Cut.{Cut}
+
+abbrev pub quoted : List ℕ → List ℕ
+quoted text = codes "\"" ++ text ++ codes "\""
+
+-- what stands behind a name in a chart: a label, and the end of the row
+abbrev pub labelled : List ℕ → List ℕ
+labelled text = codes " [label=" ++ quoted text ++ codes "];\n"
+
+abbrev pub actor_quoted : Draft → ActorName → List ℕ
+actor_quoted d x = quoted (sender_text d x)
+
+abbrev pub party_quoted : Draft → Party → Option InstanceNumber → List ℕ
+party_quoted d p k = quoted (party_text d p k)
+
+-- ---- signals
+
+abbrev pub commaed : List Value → List ℕ
+commaed [] = []
+commaed (v ∷ vs) = value_text v ++ flat_map (λ x. codes ", " ++ value_text x) vs
+
+-- a signal with its values in parentheses; without these, where there are none
+abbrev pub called_text : Draft → ℕ → List Value → List ℕ
+called_text d s [] = signal_text d s
+called_text d s (v ∷ vs) = signal_text d s ++ codes "(" ++ commaed (v ∷ vs) ++ codes ")"
+
+-- ---- rows of a turn
+
+-- the row of the time, where it isn't that of the row before
+abbrev pub time_text : Option ℕ → ℕ → List ℕ
+time_text None clock = codes "  ---" ++ labelled (decimal clock ++ codes " ms")
+time_text (Some last) clock =
+    if last == clock then [] else codes "  ---" ++ labelled (decimal clock ++ codes " ms")
+
+-- a note or a box of an actor
+abbrev pub beside : Draft → ActorName → List ℕ → List ℕ → List ℕ
+beside d me kind text =
+    codes "  " ++ actor_quoted d me ++ kind ++ actor_quoted d me ++ labelled text
+
+-- the arc of a signal that an actor takes
+abbrev pub taken_text : Draft → ActorName → ℕ → List Value → Option Address → List ℕ
+taken_text d me s vs None = []
+taken_text d me s vs (Some a) =
+    codes "  " ++ party_quoted d a.party a.instance ++ codes " => " ++ actor_quoted d me
+    ++ labelled (called_text d s vs)
+
+abbrev pub trigger_text : Draft → ActorName → Turn → Option Trigger → List ℕ
+trigger_text d me t None = []
+trigger_text d me t (Some (trigger.Signal s)) =
+    taken_text d me s.0 t.input.parameters.items t.input.sender
+trigger_text d me t (Some (trigger.Timer x)) =
+    beside d me (codes " note ") (timer_text d me.process.0 x.0 ++ codes " runs out")
+
+-- what a turn took: nothing at START
+abbrev pub came_text : Draft → ActorName → Turn → Place → List ℕ
+came_text d me t Start = []
+came_text d me t (AtState q) =
+    trigger_text d me t (trigger_at d me.process.0 q.0 t.input_number)
+
+-- the box of a new state, or of STOP
+abbrev pub box_text : Draft → ActorName → Place → End → List ℕ
+box_text d me s e =
+    if stays_in s e then [] else beside d me (codes " abox ") (end_text d me.process.0 e)
+
+-- who gets a signal of an actor, with the instance that is meant
+abbrev pub receiver_of : Draft → ActorName → Party → Option InstanceNumber → Address
+receiver_of d me Environment k = record { party = Environment; instance = k }
+receiver_of d me (Process p) (Some k) = record { party = Process p; instance = Some k }
+receiver_of d me (Process p) None = address_of (meant d me p)
+
+abbrev pub sent_text : Draft → ActorName → Sending → Address → List ℕ → List ℕ
+sent_text d me s to arrow =
+    codes "  " ++ actor_quoted d me ++ arrow ++ party_quoted d to.party to.instance
+    ++ labelled (called_text d s.signal.0 s.parameters.items)
+
+-- whether an output has an arc where it goes out: it is lost, or goes to the environment
+abbrev pub is_arc : Party → Bool → Bool
+is_arc p true = true
+is_arc Environment false = true
+is_arc (Process p) false = false
+
+abbrev pub arrow_of : Bool → List ℕ
+arrow_of true = codes " -x "
+arrow_of false = codes " => "
+
+abbrev pub out_text : Draft → ActorName → Bool → Effect → List ℕ
+out_text d me lost (Output s) =
+    if is_arc s.receiver.party lost
+    then sent_text d me s (receiver_of d me s.receiver.party s.receiver.instance) (arrow_of lost)
+    else []
+out_text d me lost (Set t z) = []
+out_text d me lost (Reset t) = []
+
+-- the outputs in the order of the text, the first effect at place k
+abbrev pub outs_text : Draft → ActorName → List Lost → ℕ → List Effect → List ℕ
+outs_text d me lost k [] = []
+outs_text d me lost k (e ∷ es) =
+    out_text d me (is_some (lost_at lost k)) e ++ outs_text d me lost (k + 1) es
+
+abbrev pub timing_of : Draft → ℕ → ℕ → Effect → List (List ℕ)
+timing_of d p clock (Output s) = []
+timing_of d p clock (Set t z) =
+    (codes "set " ++ timer_text d p t.0 ++ codes " at " ++ decimal (clock + delay z)) ∷ []
+timing_of d p clock (Reset t) = (codes "reset " ++ timer_text d p t.0) ∷ []
+
+-- lines of a label, with mscgen's sign of a new line between two
+abbrev pub stacked : List (List ℕ) → List ℕ
+stacked [] = []
+stacked (line ∷ lines) = line ++ flat_map (λ l. codes "\\n" ++ l) lines
+
+-- one note of what a turn makes of timers, where it does something to one
+abbrev pub note_of : Draft → ActorName → List (List ℕ) → List ℕ
+note_of d me [] = []
+note_of d me (line ∷ lines) = beside d me (codes " note ") (stacked (line ∷ lines))
+
+abbrev pub row_text : Draft → TurnEnd → List ℕ
+row_text d t =
+    came_text d t.me t.turn t.turn.place ++ box_text d t.me t.turn.place t.report.end
+    ++ outs_text d t.me t.report.lost.items 0 t.outcome.progress.effects
+    ++ note_of d t.me
+    (flat_map (timing_of d t.me.process.0 t.clock) t.outcome.progress.effects)
+
+-- the rows of turns behind one of this time
+abbrev pub rows_text : Draft → Option ℕ → List TurnEnd → List ℕ
+rows_text d last [] = []
+rows_text d last (t ∷ ts) =
+    (time_text last t.clock ++ row_text d t) ++ rows_text d (Some t.clock) ts
+
+-- ---- who takes part
+
+abbrev pub is_address : Party → Option InstanceNumber → ActorName → Bool
+is_address Environment k x = false
+is_address (Process p) None x = false
+is_address (Process p) (Some k) x = same_actor (record { process = p; instance = k }) x
+
+abbrev pub is_sender : Option Address → ActorName → Bool
+is_sender None x = false
+is_sender (Some a) x = is_address a.party a.instance x
+
+abbrev pub gets : Draft → ActorName → Bool → Effect → ActorName → Bool
+gets d me lost (Output s) x =
+    is_arc s.receiver.party lost
+    && is_address (receiver_of d me s.receiver.party s.receiver.instance).party
+    (receiver_of d me s.receiver.party s.receiver.instance).instance x
+gets d me lost (Set t z) x = false
+gets d me lost (Reset t) x = false
+
+abbrev pub get_it : Draft → ActorName → List Lost → ℕ → List Effect → ActorName → Bool
+get_it d me lost k [] x = false
+get_it d me lost k (e ∷ es) x =
+    gets d me (is_some (lost_at lost k)) e x || get_it d me lost (k + 1) es x
+
+-- whether an actor is drawn with a turn
+abbrev pub is_in : Draft → ActorName → TurnEnd → Bool
+is_in d x t =
+    same_actor t.me x
+    || (is_sender t.turn.input.sender x
+    || get_it d t.me t.report.lost.items 0 t.outcome.progress.effects x)
+
+abbrev pub is_outside : Party → Bool
+is_outside Environment = true
+is_outside (Process p) = false
+
+abbrev pub came_from_outside : Option Address → Bool
+came_from_outside None = false
+came_from_outside (Some a) = is_outside a.party
+
+abbrev pub goes_outside : Effect → Bool
+goes_outside (Output s) = is_outside s.receiver.party
+goes_outside (Set t z) = false
+goes_outside (Reset t) = false
+
+-- whether the environment is
+abbrev pub has_outside : TurnEnd → Bool
+has_outside t =
+    came_from_outside t.turn.input.sender || list_any goes_outside t.outcome.progress.effects
+
+-- the actors that take part, in the order of the text
+abbrev pub actors_in : Draft → List TurnEnd → List ActorName
+actors_in d ts = filter (λ x. list_any (is_in d x) ts) (actors_of d.processes)
+
+-- the environment stands first, where it takes part or nobody does
+abbrev pub columns : Draft → List TurnEnd → List (List ℕ)
+columns d ts =
+    (if list_any has_outside ts || is_empty (actors_in d ts) then codes "ENV" ∷ [] else [])
+    ++ map (sender_text d) (actors_in d ts)
+
+abbrev pub head_of : List ℕ → List ℕ
+head_of name = quoted name ++ codes " [label=" ++ quoted name ++ codes "]"
+
+abbrev pub heads : List (List ℕ) → List ℕ
+heads [] = []
+heads (name ∷ names) = head_of name ++ flat_map (λ n. codes ", " ++ head_of n) names
+
+-- ---- the chart
+
+-- a turn is drawn: it is one of those that are wanted, and does something
+abbrev pub is_drawn : Cut → TurnEnd → Bool
+is_drawn cut t =
+    nat_le cut.first t.turn.turn
+    && (nat_le t.turn.turn cut.last
+    && not (is_dull t.turn.place t.report.end t.outcome.progress.effects))
+
+-- how wide a column is
+abbrev pub COLUMN : ℕ
+COLUMN = 140
+
+abbrev pub chart_of : Draft → List TurnEnd → List ℕ
+chart_of d ts =
+    codes "msc {\n  width=\"" ++ decimal (COLUMN * length (columns d ts))
+    ++ codes "\", arcgradient=\"0\";\n  " ++ heads (columns d ts) ++ codes ";\n"
+    ++ rows_text d None ts ++ codes "}\n"
+
+abbrev pub chart_text : Draft → Cut → List TurnEnd → List ℕ
+chart_text d cut ts = chart_of d (filter (is_drawn cut) ts)

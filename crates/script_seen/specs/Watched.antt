@@ -1,0 +1,113 @@
+-- What a watcher of a link is told of a run: the turns that end, and what is thrown away.
+use Rattle.std.specs.Prelude.{◌≡◌, ◌≤◌, ◌+◌, ℕ, List, [], ◌∷◌, ◌++◌, length, Option, None, Some, slice_get, true}
+use Rattle.turn_code.specs.Outcome.{Outcome}
+use Rattle.turn_code.specs.declared.draft.Draft.{Draft}
+use Rattle.turn_code.specs.declared.input.Place.{Place}
+use Rattle.turn_code.specs.declared.input.Place.TheVariants.{Start, State as AtState}
+use Rattle.turn_code.specs.declared.numbers.StateNumber.{StateNumber}
+use Rattle.turn_machine.specs.Turn.{Turn}
+use Rattle.input_port.specs.declared.queue.Item.{Item}
+use Rattle.actor_machine.specs.Core.{Core, names_in}
+use Rattle.actor_machine.specs.Looking.{item_at}
+use Rattle.actor_machine.specs.Ledger.{Ledger, runs, replay, state_of, turn_at}
+use Rattle.actor_machine.specs.Step.{report_of}
+use Rattle.actor_machine.specs.declared.actor.Actor.{Actor}
+use Rattle.actor_machine.specs.declared.actor.Standing.{Standing}
+use Rattle.actor_machine.specs.declared.actor.Standing.TheVariants.{At, Stopped}
+use Rattle.actor_machine.specs.declared.name.ActorName.{ActorName}
+use Rattle.actor_machine.specs.declared.event.Event.{Event}
+use Rattle.actor_machine.specs.declared.event.Event.TheVariants as event
+use Rattle.actor_machine.specs.declared.reply.Report.{Report}
+use Rattle.script_seen.specs.Told.{outcome_by, stepped}
+use Rattle.script_seen.specs.Traced.{since, are_in_step}
+
+-- a turn that ended: at which tick, whose it was, what it was, how it ran, and what came of it
+pub record TurnEnd : Type 0 where
+  pub clock : ℕ
+  pub me : ActorName
+  pub turn : Turn
+  pub outcome : Outcome
+  pub report : Report
+
+-- what an actor threw away in a state
+pub record Throw : Type 0 where
+  pub me : ActorName
+  pub state : StateNumber
+  pub item : Item
+
+pub data Notice : Type 0 where
+  ends : TurnEnd → Notice
+  throws : Throw → Notice
+
+abbrev pub end_noticed : Core → ℕ → Option ActorName → Option Turn → Option Outcome → List Notice
+end_noticed w n (Some me) (Some t) (Some o) =
+    ends (record {
+      clock = w.timers.clock; me = me; turn = t; outcome = o; report = report_of n me o w;
+    }) ∷ []
+end_noticed w n (Some me) (Some t) None = []
+end_noticed w n (Some me) None o = []
+end_noticed w n None t o = []
+
+abbrev pub finish_noticed : Core → ℕ → Option ActorName → Option Turn → List Notice
+finish_noticed w n me t = end_noticed w n me t (outcome_by t)
+
+abbrev pub throw_noticed : ActorName → Standing → Option Item → List Notice
+throw_noticed me (At Start) x = []
+throw_noticed me (At (AtState q)) None = []
+throw_noticed me (At (AtState q)) (Some x) =
+    throws (record { me = me; state = q; item = x }) ∷ []
+throw_noticed me Stopped x = []
+
+abbrev pub skip_noticed : Draft → Option Actor → List Notice
+skip_noticed d None = []
+skip_noticed d (Some a) =
+    throw_noticed a.name a.standing
+    (item_at d a.name.process.0 a.standing a.port.items)
+
+-- of an event that happens in a state of a link
+unfoldable pub noticed : Draft → Core → Event → List Notice
+noticed d w (event.Offer o) = []
+noticed d w (event.Begin n) = []
+noticed d w (event.Skip n) = skip_noticed d (slice_get w.actors n)
+noticed d w (event.Finish n) =
+    finish_noticed w n (slice_get (names_in w.actors) n) (turn_at d n (slice_get w.actors n))
+noticed d w (event.Advance k) = []
+noticed d w event.TakeEnv = []
+
+-- of events that happen one after another
+unfoldable pub noticed_in : Draft → Core → List Event → List Notice
+noticed_in d w [] = []
+noticed_in d w (e ∷ es) = noticed d w e ++ noticed_in d (stepped d w e).to es
+
+-- What is noticed of commands in their order, from a state of the link of a set on. B says which
+-- book there is behind commands; how many events had happened, and the state, stand behind these.
+pub data Notices {S : Type 0} (d : Draft) (first : Core) (B : List S → Ledger → Type 0) :
+    List S → ℕ → Core → List Notice → Type 0 where
+  begins : Notices d first B [] 0 first []
+  more : {commands : List S} {place : ℕ} {w : Core} {ns : List Notice} (said : S) (b : Ledger)
+      → Notices d first B commands place w ns
+      → B (commands ++ said ∷ []) b → b.first ≤ place
+      → are_in_step (replay d (runs d) w (since place b)) (state_of b) ≡ true
+      → Notices d first B (commands ++ said ∷ []) (place + length (since place b))
+      (replay d (runs d) w (since place b)) (ns ++ noticed_in d w (since place b))
+
+-- all commands were obeyed, and a watcher was told what happened: P is what it is then
+pub record IsWatched {S : Type 0} (d : Draft) (first : Core) (B : List S → Ledger → Type 0)
+    (commands : List S) (P : List Notice → Type 0) : Type 0 where
+  pub place : ℕ
+  pub now : Core
+  pub notices : List Notice
+  pub are : Notices d first B commands place now notices
+  pub holds : P notices
+
+-- so were those in front of one of these commands, an expectation that fails: M says so of it behind
+-- those
+pub record IsWatchedInPart {S : Type 0} (d : Draft) (first : Core)
+    (B : List S → Ledger → Type 0) (M : List S → S → Type 0) (commands : List S)
+    (P : List Notice → Type 0) : Type 0 where
+  pub before : List S
+  pub said : S
+  pub after : List S
+  pub stands : commands ≡ before ++ said ∷ after
+  pub missed : M before said
+  pub watched : IsWatched d first B before P
