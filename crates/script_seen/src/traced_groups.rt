@@ -63,7 +63,10 @@ fn printed_octets(alloc: Global, printed: &[u8]) -> Result<Vec<u8>, AllocError> 
     let Ok(text) = str::from_utf8(printed) else {
         return Ok(Vec::new(alloc));
     };
-    match octets_in(alloc, text.trim_end())? {
+    let Some(rest) = text.trim_end().strip_prefix("ok ") else {
+        return Ok(Vec::new(alloc));
+    };
+    match octets_in(alloc, rest)? {
         Some(octets) => Ok(octets),
         None => Ok(Vec::new(alloc)),
     }
