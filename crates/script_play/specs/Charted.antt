@@ -1,7 +1,7 @@
 -- A chart of turns, in the language of mscgen.
 use Rattle.std.specs.Prelude.{ℕ, ◌+◌, ◌*◌, ◌==◌, nat_le, Bool, true, false, not, ◌&&◌, ◌||◌, List, [], ◌∷◌}
 use Rattle.std.specs.Prelude.{◌++◌, length, Option, None, Some, is_some, codes, map, filter}
-use Rattle.std.specs.Prelude.{if◌then◌else◌, is_empty}
+use Rattle.std.specs.Prelude.{if◌then◌else◌, is_empty, ◌≡◌, ◌≤◌, count_by}
 use Rattle.std.specs.List.{flat_map, list_any}
 use Rattle.std.specs.Fmt.{decimal}
 use Rattle.turn_code.specs.declared.draft.Draft.{Draft}
@@ -27,6 +27,7 @@ use Rattle.actor_machine.specs.declared.reply.Lost.{Lost}
 use Rattle.script_lines.specs.Replies.{sender_text, signal_text, end_text, value_text}
 use Rattle.script_seen.specs.Told.{party_text, timer_text, meant, lost_at, is_dull, stays_in}
 use Rattle.script_seen.specs.Watched.{TurnEnd}
+use Rattle.script_play.specs.declared.charts.Chart.{Chart}
 use Rattle.script_play.specs.declared.charts.Cut.{Cut}
 
 abbrev pub quoted : List ℕ → List ℕ
@@ -242,3 +243,23 @@ chart_of d ts =
 
 abbrev pub chart_text : Draft → Cut → List TurnEnd → List ℕ
 chart_text d cut ts = chart_of d (filter (is_drawn cut) ts)
+
+-- ---- on its way
+
+abbrev pub last_clock : Option ℕ → List TurnEnd → Option ℕ
+last_clock last [] = last
+last_clock last (t ∷ ts) = last_clock (Some t.clock) ts
+
+-- what a chart has of turns of a set, of which these are drawn
+pub record IsDrawn (d : Draft) (ts : List TurnEnd) (c : Chart) : Type 0 where
+  pub rows : c.rows.items ≡ rows_text d None ts
+  pub clock : c.clock ≡ last_clock None ts
+  pub outside : c.environment ≡ list_any has_outside ts
+  pub actors :
+      (x : ActorName)
+      → list_any (λ y. same_actor y x) c.actors.items ≡ list_any (is_in d x) ts
+  pub once : (x : ActorName) → count_by (λ y. same_actor y x) c.actors.items ≤ 1
+
+-- what it has of all turns that ended so far
+abbrev pub Charts : Draft → List TurnEnd → Chart → Type 0
+Charts d ts c = IsDrawn d (filter (is_drawn c.cut) ts) c

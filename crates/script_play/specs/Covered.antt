@@ -1,6 +1,6 @@
 -- What of a text turns take: which transitions, and in these which statements and answers. A turn's way
 -- is that of what its transition means (sdl_meaning's `Act`), step by step.
-use Rattle.std.specs.Prelude.{◌≡◌, ℕ, zero, suc, ◌==◌, nat_eq, Bool, true, false, ◌&&◌, List, [], ◌∷◌, ◌++◌}
+use Rattle.std.specs.Prelude.{◌≡◌, ◌<◌, ℕ, zero, suc, ◌==◌, nat_eq, Bool, true, false, ◌&&◌, List, [], ◌∷◌, ◌++◌}
 use Rattle.std.specs.Prelude.{length, Option, None, Some, slice_get, if◌then◌else◌, count_by, map}
 use Rattle.std.specs.List.{flat_map}
 use Rattle.sdl_meaning.specs.Act.{perform, value_of, try_ranges, find_truth, is_truth, choose, pick}
@@ -23,6 +23,11 @@ use Rattle.turn_code.specs.declared.value.Value.{Value}
 use Rattle.turn_code.specs.declared.value.Value.TheVariants.{Int, Bool as Truth}
 use Rattle.turn_machine.specs.Turn.{Turn}
 use Rattle.script_seen.specs.Watched.{TurnEnd}
+use Rattle.sdl_ast.specs.Views.{block_of}
+use Rattle.sdl_tables.specs.Names.{processes_of}
+use Rattle.sdl_ast.specs.declared.tree.Block.{Block}
+use Rattle.script_play.specs.declared.coverage.Turns.{Turns}
+use Rattle.script_play.specs.declared.coverage.Taken.{Taken as Known}
 
 -- What is taken: what begins at a place, or the ELSE of the DECISION at a place.
 pub data Taken : Type 0 where
@@ -168,5 +173,26 @@ abbrev pub is_of : ℕ → Place → ℕ → TurnEnd → Bool
 is_of p s n t =
     (t.me.process.0 == p) && (is_place t.turn.place s && (t.turn.input_number == n))
 
+-- as they are counted
+abbrev pub known_turns : List Turns → ℕ → Place → ℕ → ℕ
+known_turns [] p s n = 0
+known_turns (t ∷ ts) p s n =
+    if (t.process.0 == p) && (is_place t.place s && (t.input == n)) then t.times
+    else known_turns ts p s n
+
 abbrev pub turns_of : ℕ → Place → ℕ → List TurnEnd → ℕ
 turns_of p s n ts = count_by (is_of p s n) ts
+
+-- what is known of what turns took of a block; a place of 2^64 passes is past any run
+pub record Covers (b : Block) (ts : List TurnEnd) (c : Known) : Type 0 where
+  pub turns :
+      (p n : ℕ) (s : Place)
+      → known_turns c.turns.items p s n ≡ turns_of p s n ts
+  pub begun :
+      (k : ℕ) → k < length c.begun.times.items
+      → slice_get c.begun.times.items k
+      ≡ Some (times k (taken_in (block_of b) (processes_of (block_of b)) ts))
+  pub others :
+      (k : ℕ) → k < length c.others.times.items
+      → slice_get c.others.times.items k
+      ≡ Some (others k (taken_in (block_of b) (processes_of (block_of b)) ts))

@@ -1,4 +1,11 @@
 //! A chart of turns, in the language of mscgen.
+ghost use Rattle.std.specs.Prelude.{◌≡◌, ◌++◌, ◌∷◌, [], List, OnOk, IfOk};
+ghost use Rattle.std.specs.List.{flat_map, list_any};
+ghost use Rattle.turn_code.specs.declared.draft.Draft.{Draft};
+ghost use Rattle.actor_machine.specs.Names.{same_actor};
+ghost use Rattle.script_lines.specs.Replies.{sender_text};
+ghost use Rattle.script_seen.specs.Watched.{TurnEnd, IsEnd};
+ghost use Rattle.script_play.specs.Charted.{labelled, actor_quoted, party_quoted, commaed, called_text, time_text, beside, taken_text, came_text, box_text, receiver_of, sent_text, is_arc, arrow_of, out_text, outs_text, timing_of, stacked, note_of, head_of, row_text, chart_text, Charts};
 
 use script_seen::{
     ActorName, Ended, Job, Lost, delay_of, is_dull, loss_at, meant, push_actor, push_end,
@@ -39,55 +46,90 @@ const COLUMN: u64 = 140;
 /// An actor in quotation marks.
 fn push_actor_quoted(
     alloc: Global,
-    line: &mut Vec<u8>,
+    row: &mut Vec<u8>,
     set: &Verified,
     actor: ActorName,
-) -> Result<(), AllocError> {
-    line.push(b'"')?;
-    push_actor(alloc, line, set, actor)?;
-    Ok(line.push(b'"')?)
+) -> Result<(), AllocError>
+    ensures { OnOk result (row.new.items ≡ row.old.items ++ actor_quoted set.now actor) }
+{
+    row.push(b'"')?;
+    push_actor(alloc, row, set, actor)?;
+    Ok(row.push(b'"')?)
 }
 
 /// ENV or an actor in quotation marks.
 fn push_party_quoted(
     alloc: Global,
-    line: &mut Vec<u8>,
+    row: &mut Vec<u8>,
     set: &Verified,
     party: Party,
     instance: Option<InstanceNumber>,
-) -> Result<(), AllocError> {
-    line.push(b'"')?;
-    push_party(alloc, line, set, party, instance)?;
-    Ok(line.push(b'"')?)
+) -> Result<(), AllocError>
+    ensures { OnOk result (row.new.items ≡ row.old.items ++ party_quoted set.now party instance) }
+{
+    row.push(b'"')?;
+    push_party(alloc, row, set, party, instance)?;
+    Ok(row.push(b'"')?)
 }
 
-/// Values behind one another, a comma before each but the first.
-fn push_commaed(alloc: Global, line: &mut Vec<u8>, values: &[Value]) -> Result<(), AllocError> {
-    for (place, value) in values.iter().enumerate() {
-        if 0 < place {
-            line.extend_from_slice(b", ")?;
-        }
-        let text = shown(alloc, Some(*value))?;
-        line.extend_from_slice(&text)?;
+/// A label, and the end of its row.
+fn push_label(row: &mut Vec<u8>, text: &[u8]) -> Result<(), AllocError>
+    ensures { OnOk result (row.new.items ≡ row.old.items ++ labelled text.now) }
+{
+    row.extend_from_slice(b" [label=\"")?;
+    row.extend_from_slice(text)?;
+    Ok(row.extend_from_slice(b"\"];\n")?)
+}
+
+/// Values, a comma before each.
+fn push_more(alloc: Global, text: &mut Vec<u8>, values: &[Value]) -> Result<(), AllocError> {
+    for value in values {
+        text.extend_from_slice(b", ")?;
+        let word = shown(alloc, Some(*value))?;
+        text.extend_from_slice(&word)?;
     }
     Ok(())
 }
 
+/// Values behind one another, a comma before each but the first.
+fn push_commaed(alloc: Global, text: &mut Vec<u8>, values: &[Value]) -> Result<(), AllocError>
+    ensures { OnOk result (text.new.items ≡ text.old.items ++ commaed values.now) }
+{
+    let [first, more @ ..] = values else {
+        return Ok(());
+    };
+    let word = shown(alloc, Some(*first))?;
+    text.extend_from_slice(&word)?;
+    push_more(alloc, text, more)
+}
+
 /// A signal with its values in parentheses; without these, where there are no values.
-fn push_called(
+fn called(
     alloc: Global,
-    line: &mut Vec<u8>,
     set: &Verified,
     signal: SignalNumber,
     values: &[Value],
-) -> Result<(), AllocError> {
-    push_signal(line, set, signal)?;
+) -> Result<Vec<u8>, AllocError>
+    ensures { IfOk result (λ v. v.items ≡ called_text set.now signal.0 values.now) }
+{
+    let mut text = Vec::new(alloc);
+    push_signal(&mut text, set, signal)?;
     if values.is_empty() {
-        return Ok(());
+        return Ok(text);
     }
-    line.push(b'(')?;
-    push_commaed(alloc, line, values)?;
-    Ok(line.push(b')')?)
+    text.push(b'(')?;
+    push_commaed(alloc, &mut text, values)?;
+    text.push(b')')?;
+    Ok(text)
+}
+
+/// The row of a time.
+fn push_clock(alloc: Global, rows: &mut Vec<u8>, clock: u64) -> Result<(), AllocError> {
+    let mut text = Vec::new(alloc);
+    push_number(alloc, &mut text, clock)?;
+    text.extend_from_slice(b" ms")?;
+    rows.extend_from_slice(b"  ---")?;
+    push_label(rows, &text)
 }
 
 /// The row of the time, where it isn't that of the last row.
@@ -96,15 +138,31 @@ fn push_time(
     rows: &mut Vec<u8>,
     last: Option<u64>,
     clock: u64,
-) -> Result<(), AllocError> {
+) -> Result<(), AllocError>
+    ensures { OnOk result (rows.new.items ≡ rows.old.items ++ time_text last clock) }
+{
     match last {
         Some(time) if time == clock => Ok(()),
-        _ => {
-            rows.extend_from_slice(b"  --- [label=\"")?;
-            push_number(alloc, rows, clock)?;
-            Ok(rows.extend_from_slice(b" ms\"];\n")?)
-        }
+        _ => push_clock(alloc, rows, clock),
     }
+}
+
+/// A note or a box of an actor, as a row.
+fn push_beside(
+    alloc: Global,
+    rows: &mut Vec<u8>,
+    set: &Verified,
+    me: ActorName,
+    kind: &str,
+    text: &[u8],
+) -> Result<(), AllocError>
+    ensures { OnOk result (rows.new.items ≡ rows.old.items ++ beside set.now me kind.now text.now) }
+{
+    rows.extend_from_slice(b"  ")?;
+    push_actor_quoted(alloc, rows, set, me)?;
+    rows.extend_from_slice(kind.as_bytes())?;
+    push_actor_quoted(alloc, rows, set, me)?;
+    push_label(rows, text)
 }
 
 /// The arc of a signal that an actor takes, from who sent it.
@@ -115,32 +173,18 @@ fn push_taken(
     me: ActorName,
     signal: SignalNumber,
     job: &Job,
-) -> Result<(), AllocError> {
+) -> Result<(), AllocError>
+    ensures { OnOk result (rows.new.items ≡ rows.old.items ++ taken_text set.now me signal.0 job.now.input.parameters.items job.now.input.sender) }
+{
     let Some(Address { party, instance }) = job.input().sender else {
         return Ok(());
     };
+    let text = called(alloc, set, signal, &job.input().parameters)?;
     rows.extend_from_slice(b"  ")?;
     push_party_quoted(alloc, rows, set, party, instance)?;
     rows.extend_from_slice(b" => ")?;
     push_actor_quoted(alloc, rows, set, me)?;
-    rows.extend_from_slice(b" [label=\"")?;
-    push_called(alloc, rows, set, signal, &job.input().parameters)?;
-    Ok(rows.extend_from_slice(b"\"];\n")?)
-}
-
-/// What a note or a box of an actor begins with.
-fn push_beside(
-    alloc: Global,
-    rows: &mut Vec<u8>,
-    set: &Verified,
-    me: ActorName,
-    kind: &str,
-) -> Result<(), AllocError> {
-    rows.extend_from_slice(b"  ")?;
-    push_actor_quoted(alloc, rows, set, me)?;
-    rows.extend_from_slice(kind.as_bytes())?;
-    push_actor_quoted(alloc, rows, set, me)?;
-    Ok(rows.extend_from_slice(b" [label=\"")?)
+    push_label(rows, &text)
 }
 
 /// The note of a timer that an actor takes.
@@ -151,9 +195,10 @@ fn push_run_out(
     me: ActorName,
     timer: TimerNumber,
 ) -> Result<(), AllocError> {
-    push_beside(alloc, rows, set, me, " note ")?;
-    push_timer(rows, set, me.process, timer)?;
-    Ok(rows.extend_from_slice(b" runs out\"];\n")?)
+    let mut text = Vec::new(alloc);
+    push_timer(&mut text, set, me.process, timer)?;
+    text.extend_from_slice(b" runs out")?;
+    push_beside(alloc, rows, set, me, " note ", &text)
 }
 
 /// What a turn took: an arc for a signal, a note for a timer, nothing for START.
@@ -163,7 +208,9 @@ fn push_came(
     set: &Verified,
     me: ActorName,
     job: &Job,
-) -> Result<(), AllocError> {
+) -> Result<(), AllocError>
+    ensures { OnOk result (rows.new.items ≡ rows.old.items ++ came_text set.now me job.now job.now.place) }
+{
     match job.place() {
         Place::Start => Ok(()),
         Place::State(state) => match set.trigger(me.process, state, job.input_number()) {
@@ -182,17 +229,21 @@ fn push_box(
     me: ActorName,
     place: Place,
     end: End,
-) -> Result<(), AllocError> {
+) -> Result<(), AllocError>
+    ensures { OnOk result (rows.new.items ≡ rows.old.items ++ box_text set.now me place end) }
+{
     if stays_in(place, end) {
         return Ok(());
     }
-    push_beside(alloc, rows, set, me, " abox ")?;
-    push_end(rows, set, me.process, end)?;
-    Ok(rows.extend_from_slice(b"\"];\n")?)
+    let mut text = Vec::new(alloc);
+    push_end(&mut text, set, me.process, end)?;
+    push_beside(alloc, rows, set, me, " abox ", &text)
 }
 
 /// Who gets a signal of an actor, with the instance that is meant.
-fn receiver_of(set: &Verified, me: ActorName, receiver: Address) -> Address {
+fn receiver_of(set: &Verified, me: ActorName, receiver: Address) -> Address
+    ensures { result ≡ receiver_of set.now me receiver.party receiver.instance }
+{
     match receiver.party {
         Party::Environment => receiver,
         Party::Process(process) => match receiver.instance {
@@ -202,40 +253,63 @@ fn receiver_of(set: &Verified, me: ActorName, receiver: Address) -> Address {
     }
 }
 
-/// The arc of a signal that goes out, with an arrow or the sign of a loss.
+/// Whether an output has an arc where it goes out: it is lost, or goes to the environment. Any other is drawn where it is taken.
+fn is_arc(party: Party, is_lost: bool) -> bool
+    ensures { result ≡ is_arc party is_lost }
+{
+    match party {
+        Party::Environment => true,
+        Party::Process(_) => is_lost,
+    }
+}
+
+/// The sign of an arc, or of one that is lost.
+fn arrow_of<'a>(is_lost: bool) -> &'a str
+    ensures { result.now ≡ arrow_of is_lost }
+{
+    if is_lost { " -x " } else { " => " }
+}
+
+/// The arc of a signal that goes out.
 fn push_sent(
     alloc: Global,
     rows: &mut Vec<u8>,
     set: &Verified,
     me: ActorName,
     sending: &Sending,
-    arrow: &str,
-) -> Result<(), AllocError> {
+    is_lost: bool,
+) -> Result<(), AllocError>
+    ensures { OnOk result (rows.new.items ≡ rows.old.items ++ sent_text set.now me sending.now
+        (receiver_of set.now me sending.now.receiver.party sending.now.receiver.instance) (arrow_of is_lost)) }
+{
     let to = receiver_of(set, me, sending.receiver);
+    let text = called(alloc, set, sending.signal, &sending.parameters)?;
     rows.extend_from_slice(b"  ")?;
     push_actor_quoted(alloc, rows, set, me)?;
-    rows.extend_from_slice(arrow.as_bytes())?;
+    rows.extend_from_slice(arrow_of(is_lost).as_bytes())?;
     push_party_quoted(alloc, rows, set, to.party, to.instance)?;
-    rows.extend_from_slice(b" [label=\"")?;
-    push_called(alloc, rows, set, sending.signal, &sending.parameters)?;
-    Ok(rows.extend_from_slice(b"\"];\n")?)
+    push_label(rows, &text)
 }
 
-/// What is drawn of the output at a place: an arc where it is lost or goes to ENV, and else nothing, since it is drawn where it is taken.
+/// What is drawn of an effect where it goes out.
 fn push_output(
     alloc: Global,
     rows: &mut Vec<u8>,
     set: &Verified,
     me: ActorName,
-    sending: &Sending,
     is_lost: bool,
-) -> Result<(), AllocError> {
-    if is_lost {
-        return push_sent(alloc, rows, set, me, sending, " -x ");
-    }
-    match sending.receiver.party {
-        Party::Environment => push_sent(alloc, rows, set, me, sending, " => "),
-        Party::Process(_) => Ok(()),
+    effect: &Effect,
+) -> Result<(), AllocError>
+    ensures { OnOk result (rows.new.items ≡ rows.old.items ++ out_text set.now me is_lost effect.now) }
+{
+    match effect {
+        Effect::Output(sending) => {
+            if is_arc(sending.receiver.party, is_lost) {
+                return push_sent(alloc, rows, set, me, sending, is_lost);
+            }
+            Ok(())
+        }
+        Effect::Set(_, _) | Effect::Reset(_) => Ok(()),
     }
 }
 
@@ -247,17 +321,17 @@ fn push_outputs(
     me: ActorName,
     effects: &[Effect],
     lost: &[Lost],
-) -> Result<(), AllocError> {
+) -> Result<(), AllocError>
+    ensures { OnOk result (rows.new.items ≡ rows.old.items ++ outs_text set.now me lost.now 0 effects.now) }
+{
     for (place, effect) in effects.iter().enumerate() {
-        if let Effect::Output(sending) = effect {
-            let is_lost = loss_at(lost, place).is_some();
-            push_output(alloc, rows, set, me, sending, is_lost)?;
-        }
+        let is_lost = loss_at(lost, place).is_some();
+        push_output(alloc, rows, set, me, is_lost, effect)?;
     }
     Ok(())
 }
 
-/// `set` or `reset` with the timer of an effect, if it is one.
+/// `set` or `reset` with the timer of an effect, if it is one. A deadline past 2^64 would be told as 2^64 - 1, but the clock ends before.
 fn push_timing(
     alloc: Global,
     text: &mut Vec<u8>,
@@ -288,7 +362,9 @@ fn timings(
     process: ProcessNumber,
     clock: u64,
     effects: &[Effect],
-) -> Result<Vec<u8>, AllocError> {
+) -> Result<Vec<u8>, AllocError>
+    ensures { IfOk result (λ v. v.items ≡ stacked (flat_map (timing_of set.now process.0 clock) effects.now)) }
+{
     let mut text = Vec::new(alloc);
     for effect in effects {
         let is_output = matches!(effect, Effect::Output(_));
@@ -308,18 +384,20 @@ fn push_timers(
     clock: u64,
     me: ActorName,
     effects: &[Effect],
-) -> Result<(), AllocError> {
+) -> Result<(), AllocError>
+    ensures { OnOk result (rows.new.items ≡ rows.old.items ++ note_of set.now me (flat_map (timing_of set.now me.process.0 clock) effects.now)) }
+{
     let text = timings(alloc, set, me.process, clock, effects)?;
     if text.is_empty() {
         return Ok(());
     }
-    push_beside(alloc, rows, set, me, " note ")?;
-    rows.extend_from_slice(&text)?;
-    Ok(rows.extend_from_slice(b"\"];\n")?)
+    push_beside(alloc, rows, set, me, " note ", &text)
 }
 
 /// Whether an actor is among others.
-fn has(actors: &[ActorName], actor: ActorName) -> bool {
+fn has(actors: &[ActorName], actor: ActorName) -> bool
+    ensures { result ≡ list_any (λ it. same_actor it actor) actors.now }
+{
     actors.iter().any(|it| it.same(actor))
 }
 
@@ -329,7 +407,9 @@ fn push_named(
     text: &mut Vec<u8>,
     set: &Verified,
     actor: ActorName,
-) -> Result<(), AllocError> {
+) -> Result<(), AllocError>
+    ensures { OnOk result (text.new.items ≡ text.old.items ++ head_of (sender_text set.now actor)) }
+{
     push_actor_quoted(alloc, text, set, actor)?;
     text.extend_from_slice(b" [label=")?;
     push_actor_quoted(alloc, text, set, actor)?;
@@ -338,7 +418,10 @@ fn push_named(
 
 impl Chart {
     /// A chart without rows, in which these turns are to be drawn.
-    pub fn new(alloc: Global, cut: Cut) -> Chart {
+    pub fn new(alloc: Global, cut: Cut) -> Chart
+        ensures cut { result.cut ≡ cut }
+        ensures none { (d : Draft) → Charts d [] result }
+    {
         Chart {
             cut,
             clock: None,
@@ -378,9 +461,8 @@ impl Chart {
         sending: &Sending,
         is_lost: bool,
     ) -> Result<(), AllocError> {
-        let to = receiver_of(set, me, sending.receiver);
-        if is_lost || to.party == Party::Environment {
-            return self.enter_as(to);
+        if is_arc(sending.receiver.party, is_lost) {
+            return self.enter_as(receiver_of(set, me, sending.receiver));
         }
         Ok(())
     }
@@ -401,12 +483,10 @@ impl Chart {
     }
 
     /// The rows of a turn.
-    fn push_rows(
-        &mut self,
-        alloc: Global,
-        set: &Verified,
-        ended: &Ended,
-    ) -> Result<(), AllocError> {
+    fn push_rows(&mut self, alloc: Global, set: &Verified, ended: &Ended) -> Result<(), AllocError>
+        ensures rows { OnOk result ((t : TurnEnd) → IsEnd ended.now t → self.new.rows.items ≡ self.old.rows.items ++ (time_text self.old.clock t.clock ++ row_text set.now t)) }
+        ensures same { OnOk result (self.new ≡ record self.old { rows = self.new.rows }) }
+    {
         let (clock, me, job) = (ended.clock, ended.me, ended.done.job());
         let (end, effects) = (ended.report.end, ended.done.effects());
         let rows = &mut self.rows;
@@ -427,7 +507,10 @@ impl Chart {
         alloc: Global,
         set: &Verified,
         ended: &Ended,
-    ) -> Result<(), AllocError> {
+    ) -> Result<(), AllocError>
+        ensures drawn { OnOk result ((ts : List TurnEnd) (t : TurnEnd) → IsEnd ended.now t → Charts set.now ts self.old → Charts set.now (ts ++ t ∷ []) self.new) }
+        ensures cut { OnOk result (self.new.cut ≡ self.old.cut) }
+    {
         let job = ended.done.job();
         let number = job.turn();
         if number < self.cut.first || self.cut.last < number {
@@ -501,7 +584,9 @@ impl Chart {
     /// # Errors
     ///
     /// Where there is no memory.
-    pub(crate) fn text(&self, alloc: Global, set: &Verified) -> Result<Vec<u8>, AllocError> {
+    pub(crate) fn text(&self, alloc: Global, set: &Verified) -> Result<Vec<u8>, AllocError>
+        ensures { IfOk result (λ v. (ts : List TurnEnd) → Charts set.now ts self.now → v.items ≡ chart_text set.now self.now.cut ts) }
+    {
         let names = self.names(alloc, set)?;
         let mut text = Vec::from_slice(alloc, b"msc {\n  width=\"")?;
         push_number(alloc, &mut text, COLUMN * self.columns())?;

@@ -5,7 +5,7 @@ use Rattle.turn_code.specs.declared.draft.Draft.{Draft}
 use Rattle.turn_code.specs.declared.input.Place.{Place}
 use Rattle.turn_code.specs.declared.input.Place.TheVariants.{Start, State as AtState}
 use Rattle.turn_code.specs.declared.numbers.StateNumber.{StateNumber}
-use Rattle.turn_machine.specs.Turn.{Turn}
+use Rattle.turn_machine.specs.Turn.{Turn, outcome_of}
 use Rattle.input_port.specs.declared.queue.Item.{Item}
 use Rattle.actor_machine.specs.Core.{Core, names_in}
 use Rattle.actor_machine.specs.Looking.{item_at}
@@ -20,6 +20,7 @@ use Rattle.actor_machine.specs.declared.event.Event.TheVariants as event
 use Rattle.actor_machine.specs.declared.reply.Report.{Report}
 use Rattle.script_seen.specs.Told.{outcome_by, stepped}
 use Rattle.script_seen.specs.Traced.{since, are_in_step}
+use Rattle.script_seen.specs.declared.turns.Ended.{Ended}
 
 -- a turn that ended: at which tick, whose it was, what it was, how it ran, and what came of it
 pub record TurnEnd : Type 0 where
@@ -28,6 +29,14 @@ pub record TurnEnd : Type 0 where
   pub turn : Turn
   pub outcome : Outcome
   pub report : Report
+
+-- what is handed to a watcher is this turn
+pub record IsEnd (e : Ended) (t : TurnEnd) : Type 0 where
+  pub clock : e.clock ≡ t.clock
+  pub me : e.me ≡ t.me
+  pub turn : e.done ≡ t.turn
+  pub outcome : outcome_of e.done ≡ Some t.outcome
+  pub report : e.report ≡ t.report
 
 -- what an actor threw away in a state
 pub record Throw : Type 0 where
@@ -39,10 +48,25 @@ pub data Notice : Type 0 where
   ends : TurnEnd → Notice
   throws : Throw → Notice
 
+-- the turns, and what was thrown away, each in their order
+abbrev pub turns_in : List Notice → List TurnEnd
+turns_in [] = []
+turns_in (ends t ∷ ns) = t ∷ turns_in ns
+turns_in (throws x ∷ ns) = turns_in ns
+
+abbrev pub throws_in : List Notice → List Throw
+throws_in [] = []
+throws_in (ends t ∷ ns) = throws_in ns
+throws_in (throws x ∷ ns) = x ∷ throws_in ns
+
 abbrev pub end_noticed : Core → ℕ → Option ActorName → Option Turn → Option Outcome → List Notice
 end_noticed w n (Some me) (Some t) (Some o) =
     ends (record {
-      clock = w.timers.clock; me = me; turn = t; outcome = o; report = report_of n me o w;
+      clock = w.timers.clock;
+      me = me;
+      turn = t;
+      outcome = o;
+      report = report_of n me o w;
     }) ∷ []
 end_noticed w n (Some me) (Some t) None = []
 end_noticed w n (Some me) None o = []
