@@ -44,6 +44,10 @@ impl TracedEnd {
 }
 
 impl LineTerminal for TracedEnd {
+    ghost use Rattle.line_play.specs.LinkActs.{link_acts};
+
+    ghost acts = { λ old act new. link_acts old.end.terminal act new.end.terminal };
+
     fn unit_out(&mut self) -> io::Result<Option<Unit>> {
         let unit = self.end.unit_out()?;
         self.follow()?;
