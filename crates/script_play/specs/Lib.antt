@@ -1,6 +1,2 @@
-pub mod Captured
-pub mod Charted
-pub mod Covered
 pub mod Played
-pub mod Thrown
 pub mod Traced
