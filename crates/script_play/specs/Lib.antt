@@ -1,2 +1,7 @@
+pub mod Captured
+pub mod Charted
+pub mod Covered
+pub mod Lcov
 pub mod Played
+pub mod Thrown
 pub mod Traced

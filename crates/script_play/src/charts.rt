@@ -1,4 +1,11 @@
 //! A chart of turns, in the language of mscgen.
+ghost use Rattle.std.specs.Prelude.{◌≡◌, ◌++◌, ◌∷◌, [], List, OnOk, IfOk};
+ghost use Rattle.std.specs.List.{flat_map, list_any};
+ghost use Rattle.turn_code.specs.declared.draft.Draft.{Draft};
+ghost use Rattle.actor_machine.specs.Names.{same_actor};
+ghost use Rattle.script_lines.specs.Replies.{sender_text};
+ghost use Rattle.script_seen.specs.Watched.{TurnEnd, IsEnd};
+ghost use Rattle.script_play.specs.Charted.{labelled, actor_quoted, party_quoted, commaed, called_text, time_text, beside, taken_text, came_text, box_text, receiver_of, sent_text, is_arc, arrow_of, out_text, outs_text, timing_of, stacked, note_of, head_of, row_text, chart_text, Charts};
 
 use script_seen::{
     ActorName, Ended, Job, Lost, delay_of, is_dull, loss_at, meant, push_actor, push_end,
@@ -43,6 +50,7 @@ fn push_actor_quoted(
     set: &Verified,
     actor: ActorName,
 ) -> Result<(), AllocError>
+    ensures { OnOk result (row.new.items ≡ row.old.items ++ actor_quoted set.now actor) }
 {
     row.push(b'"')?;
     push_actor(alloc, row, set, actor)?;
@@ -57,6 +65,7 @@ fn push_party_quoted(
     party: Party,
     instance: Option<InstanceNumber>,
 ) -> Result<(), AllocError>
+    ensures { OnOk result (row.new.items ≡ row.old.items ++ party_quoted set.now party instance) }
 {
     row.push(b'"')?;
     push_party(alloc, row, set, party, instance)?;
@@ -65,6 +74,7 @@ fn push_party_quoted(
 
 /// A label, and the end of its row.
 fn push_label(row: &mut Vec<u8>, text: &[u8]) -> Result<(), AllocError>
+    ensures { OnOk result (row.new.items ≡ row.old.items ++ labelled text.now) }
 {
     row.extend_from_slice(b" [label=\"")?;
     row.extend_from_slice(text)?;
@@ -83,6 +93,7 @@ fn push_more(alloc: Global, text: &mut Vec<u8>, values: &[Value]) -> Result<(), 
 
 /// Values behind one another, a comma before each but the first.
 fn push_commaed(alloc: Global, text: &mut Vec<u8>, values: &[Value]) -> Result<(), AllocError>
+    ensures { OnOk result (text.new.items ≡ text.old.items ++ commaed values.now) }
 {
     let [first, more @ ..] = values else {
         return Ok(());
@@ -99,6 +110,7 @@ fn called(
     signal: SignalNumber,
     values: &[Value],
 ) -> Result<Vec<u8>, AllocError>
+    ensures { IfOk result (λ v. v.items ≡ called_text set.now signal.0 values.now) }
 {
     let mut text = Vec::new(alloc);
     push_signal(&mut text, set, signal)?;
@@ -127,6 +139,7 @@ fn push_time(
     last: Option<u64>,
     clock: u64,
 ) -> Result<(), AllocError>
+    ensures { OnOk result (rows.new.items ≡ rows.old.items ++ time_text last clock) }
 {
     match last {
         Some(time) if time == clock => Ok(()),
@@ -143,6 +156,7 @@ fn push_beside(
     kind: &str,
     text: &[u8],
 ) -> Result<(), AllocError>
+    ensures { OnOk result (rows.new.items ≡ rows.old.items ++ beside set.now me kind.now text.now) }
 {
     rows.extend_from_slice(b"  ")?;
     push_actor_quoted(alloc, rows, set, me)?;
@@ -160,6 +174,7 @@ fn push_taken(
     signal: SignalNumber,
     job: &Job,
 ) -> Result<(), AllocError>
+    ensures { OnOk result (rows.new.items ≡ rows.old.items ++ taken_text set.now me signal.0 job.now.input.parameters.items job.now.input.sender) }
 {
     let Some(Address { party, instance }) = job.input().sender else {
         return Ok(());
@@ -194,6 +209,7 @@ fn push_came(
     me: ActorName,
     job: &Job,
 ) -> Result<(), AllocError>
+    ensures { OnOk result (rows.new.items ≡ rows.old.items ++ came_text set.now me job.now job.now.place) }
 {
     match job.place() {
         Place::Start => Ok(()),
@@ -214,6 +230,7 @@ fn push_box(
     place: Place,
     end: End,
 ) -> Result<(), AllocError>
+    ensures { OnOk result (rows.new.items ≡ rows.old.items ++ box_text set.now me place end) }
 {
     if stays_in(place, end) {
         return Ok(());
@@ -225,6 +242,7 @@ fn push_box(
 
 /// Who gets a signal of an actor, with the instance that is meant.
 fn receiver_of(set: &Verified, me: ActorName, receiver: Address) -> Address
+    ensures { result ≡ receiver_of set.now me receiver.party receiver.instance }
 {
     match receiver.party {
         Party::Environment => receiver,
@@ -237,6 +255,7 @@ fn receiver_of(set: &Verified, me: ActorName, receiver: Address) -> Address
 
 /// Whether an output has an arc where it goes out: it is lost, or goes to the environment. Any other is drawn where it is taken.
 fn is_arc(party: Party, is_lost: bool) -> bool
+    ensures { result ≡ is_arc party is_lost }
 {
     match party {
         Party::Environment => true,
@@ -246,6 +265,7 @@ fn is_arc(party: Party, is_lost: bool) -> bool
 
 /// The sign of an arc, or of one that is lost.
 fn arrow_of<'a>(is_lost: bool) -> &'a str
+    ensures { result.now ≡ arrow_of is_lost }
 {
     if is_lost { " -x " } else { " => " }
 }
@@ -259,6 +279,8 @@ fn push_sent(
     sending: &Sending,
     is_lost: bool,
 ) -> Result<(), AllocError>
+    ensures { OnOk result (rows.new.items ≡ rows.old.items ++ sent_text set.now me sending.now
+        (receiver_of set.now me sending.now.receiver.party sending.now.receiver.instance) (arrow_of is_lost)) }
 {
     let to = receiver_of(set, me, sending.receiver);
     let text = called(alloc, set, sending.signal, &sending.parameters)?;
@@ -278,6 +300,7 @@ fn push_output(
     is_lost: bool,
     effect: &Effect,
 ) -> Result<(), AllocError>
+    ensures { OnOk result (rows.new.items ≡ rows.old.items ++ out_text set.now me is_lost effect.now) }
 {
     match effect {
         Effect::Output(sending) => {
@@ -299,6 +322,7 @@ fn push_outputs(
     effects: &[Effect],
     lost: &[Lost],
 ) -> Result<(), AllocError>
+    ensures { OnOk result (rows.new.items ≡ rows.old.items ++ outs_text set.now me lost.now 0 effects.now) }
 {
     for (place, effect) in effects.iter().enumerate() {
         let is_lost = loss_at(lost, place).is_some();
@@ -339,6 +363,7 @@ fn timings(
     clock: u64,
     effects: &[Effect],
 ) -> Result<Vec<u8>, AllocError>
+    ensures { IfOk result (λ v. v.items ≡ stacked (flat_map (timing_of set.now process.0 clock) effects.now)) }
 {
     let mut text = Vec::new(alloc);
     for effect in effects {
@@ -360,6 +385,7 @@ fn push_timers(
     me: ActorName,
     effects: &[Effect],
 ) -> Result<(), AllocError>
+    ensures { OnOk result (rows.new.items ≡ rows.old.items ++ note_of set.now me (flat_map (timing_of set.now me.process.0 clock) effects.now)) }
 {
     let text = timings(alloc, set, me.process, clock, effects)?;
     if text.is_empty() {
@@ -370,6 +396,7 @@ fn push_timers(
 
 /// Whether an actor is among others.
 fn has(actors: &[ActorName], actor: ActorName) -> bool
+    ensures { result ≡ list_any (λ it. same_actor it actor) actors.now }
 {
     actors.iter().any(|it| it.same(actor))
 }
@@ -381,6 +408,7 @@ fn push_named(
     set: &Verified,
     actor: ActorName,
 ) -> Result<(), AllocError>
+    ensures { OnOk result (text.new.items ≡ text.old.items ++ head_of (sender_text set.now actor)) }
 {
     push_actor_quoted(alloc, text, set, actor)?;
     text.extend_from_slice(b" [label=")?;
@@ -391,6 +419,8 @@ fn push_named(
 impl Chart {
     /// A chart without rows, in which these turns are to be drawn.
     pub fn new(alloc: Global, cut: Cut) -> Chart
+        ensures cut { result.cut ≡ cut }
+        ensures none { (d : Draft) → Charts d [] result }
     {
         Chart {
             cut,
@@ -454,6 +484,8 @@ impl Chart {
 
     /// The rows of a turn.
     fn push_rows(&mut self, alloc: Global, set: &Verified, ended: &Ended) -> Result<(), AllocError>
+        ensures rows { OnOk result ((t : TurnEnd) → IsEnd ended.now t → self.new.rows.items ≡ self.old.rows.items ++ (time_text self.old.clock t.clock ++ row_text set.now t)) }
+        ensures same { OnOk result (self.new ≡ record self.old { rows = self.new.rows }) }
     {
         let (clock, me, job) = (ended.clock, ended.me, ended.done.job());
         let (end, effects) = (ended.report.end, ended.done.effects());
@@ -476,6 +508,8 @@ impl Chart {
         set: &Verified,
         ended: &Ended,
     ) -> Result<(), AllocError>
+        ensures drawn { OnOk result ((ts : List TurnEnd) (t : TurnEnd) → IsEnd ended.now t → Charts set.now ts self.old → Charts set.now (ts ++ t ∷ []) self.new) }
+        ensures cut { OnOk result (self.new.cut ≡ self.old.cut) }
     {
         let job = ended.done.job();
         let number = job.turn();
@@ -551,6 +585,7 @@ impl Chart {
     ///
     /// Where there is no memory.
     pub(crate) fn text(&self, alloc: Global, set: &Verified) -> Result<Vec<u8>, AllocError>
+        ensures { IfOk result (λ v. (ts : List TurnEnd) → Charts set.now ts self.now → v.items ≡ chart_text set.now self.now.cut ts) }
     {
         let names = self.names(alloc, set)?;
         let mut text = Vec::from_slice(alloc, b"msc {\n  width=\"")?;

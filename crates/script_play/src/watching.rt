@@ -1,4 +1,8 @@
 //! The command `play` with what is told of its run at the end: a chart, what was thrown away, or what of the text was taken.
+ghost use Rattle.script_seen.specs.Watched.{turns_in, throws_in};
+ghost use Rattle.script_play.specs.Charted.{Charts};
+ghost use Rattle.script_play.specs.Thrown.{CountsThrown};
+ghost use Rattle.script_play.specs.Covered.{Covers};
 
 use crate::charts::{Chart, Cut};
 use crate::coverage::Taken;
@@ -33,6 +37,8 @@ pub enum Wanted<'a> {
 }
 
 impl Watcher for Chart {
+    ghost knows = { λ d ns c. Charts d (turns_in ns) c };
+
     fn end(&mut self, alloc: Global, set: &Verified, ended: &Ended) -> io::Result<()> {
         Ok(self.draw(alloc, set, ended)?)
     }
@@ -43,6 +49,8 @@ impl Watcher for Chart {
 }
 
 impl Watcher for Thrown {
+    ghost knows = { λ d ns t. CountsThrown (throws_in ns) t };
+
     fn end(&mut self, _alloc: Global, _set: &Verified, _ended: &Ended) -> io::Result<()> {
         Ok(())
     }
@@ -62,6 +70,8 @@ struct Covering<'a, 'b> {
 }
 
 impl Watcher for Covering<'_, '_> {
+    ghost knows = { λ d ns c. Covers c.block.now (turns_in ns) c.taken };
+
     fn end(&mut self, _alloc: Global, _set: &Verified, ended: &Ended) -> io::Result<()> {
         let number = usize::from(ended.done.job().process().0);
         let Some(process) = self.block.tables().get(number) else {

@@ -11,3 +11,4 @@ pub use Rattle.script_group.specs.TermRuns
 pub use Rattle.script_links.specs.GroupScripts
 pub use Rattle.script_links.specs.TermScripts
 pub use Rattle.script_links.specs.resend_store_types
+pub mod Watched

@@ -1,4 +1,7 @@
 //! Who watches what happens to a link as a script runs.
+ghost use Rattle.std.specs.Prelude.{◌≡◌, ◌++◌, ◌∷◌, [], List, Some, OnOk};
+ghost use Rattle.turn_code.specs.declared.draft.Draft.{Draft};
+ghost use Rattle.script_seen.specs.Watched.{Notice, TurnEnd, IsEnd, ends, skip_noticed};
 
 use crate::tracing::{Tracer, lost};
 use crate::turns::Ended;
@@ -10,19 +13,24 @@ use turn_check::Verified;
 
 /// Who is told of each turn that ends on a link, and of each signal that is thrown away there.
 pub trait Watcher {
+    // whether it was told these notices of a link of a set, one after another
+    ghost knows: { Draft → List Notice → Self → Type 0 };
+
     /// A turn ended.
     ///
     /// # Errors
     ///
     /// Where there is no memory.
-    fn end(&mut self, alloc: Global, set: &Verified, ended: &Ended) -> io::Result<()>;
+    fn end(&mut self, alloc: Global, set: &Verified, ended: &Ended) -> io::Result<()>
+        ensures { OnOk result ((ns : List Notice) (t : TurnEnd) → IsEnd ended.now t → knows set.now ns self.old → knows set.now (ns ++ ends t ∷ []) self.new) };
 
     /// An actor throws away the first item that waits for it and isn't saved.
     ///
     /// # Errors
     ///
     /// Where there is no memory.
-    fn throw(&mut self, alloc: Global, set: &Verified, actor: &Actor) -> io::Result<()>;
+    fn throw(&mut self, alloc: Global, set: &Verified, actor: &Actor) -> io::Result<()>
+        ensures { OnOk result ((ns : List Notice) → knows set.now ns self.old → knows set.now (ns ++ skip_noticed set.now (Some actor.now)) self.new) };
 }
 
 impl Tracer {
