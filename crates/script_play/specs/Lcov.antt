@@ -1,6 +1,6 @@
 -- What of a text was taken, in the format of lcov (geninfo's tracefiles): transitions are functions,
 -- answers of DECISIONs branches.
-use Rattle.std.specs.Prelude.{ℕ, ◌+◌, ◌==◌, nat_lt, Bool, true, false, List, [], ◌∷◌, ◌++◌, length, map}
+use Rattle.std.specs.Prelude.{ℕ, zero, suc, ◌+◌, ◌==◌, nat_lt, Bool, true, false, List, [], ◌∷◌, ◌++◌, length, map}
 use Rattle.std.specs.Prelude.{take, count_by, max, Option, None, Some, codes, if◌then◌else◌, filter}
 use Rattle.std.specs.Prelude.{unwrap_or, option_map, slice_get}
 use Rattle.std.specs.List.{flat_map, list_any}
@@ -10,6 +10,7 @@ use Rattle.sdl_sound.specs.Plain.{answer, PlainConnection, PlainInput, PlainProc
 use Rattle.sdl_sound.specs.TableNames.{number_of, signal_names, states_of, timers_of}
 use Rattle.sdl_tables.specs.Names.{Input, inputs_by_state, input_parts, processes_of}
 use Rattle.sdl_tables.specs.Names.{Identifier}
+use Rattle.turn_code.specs.declared.numbers.StateNumber.{StateNumber}
 use Rattle.turn_code.specs.declared.input.Place.{Place}
 use Rattle.turn_code.specs.declared.input.Place.TheVariants.{Start, State as AtState}
 use Rattle.script_seen.specs.Watched.{TurnEnd}
@@ -95,14 +96,16 @@ input_name b p q i =
     ++ codes "/" ++ declared b p i.stimulus.name
 
 -- the inputs of state q from input n on
-abbrev pub rows_in : PlainBlock → PlainProcess → List TurnEnd → ℕ → StateNumber → ℕ → List Input → List Row
+abbrev pub rows_in :
+    PlainBlock → PlainProcess → List TurnEnd → ℕ → StateNumber → ℕ → List Input → List Row
 rows_in b p ts k q n [] = []
 rows_in b p ts k q n (i ∷ is) =
     record { at = i.at; name = input_name b p q.0 i; turns = turns_of k (AtState q) n ts }
     ∷ rows_in b p ts k q (n + 1) is
 
 -- those of states from state q on
-abbrev pub rows_from : PlainBlock → PlainProcess → List TurnEnd → ℕ → ℕ → List (List Input) → List Row
+abbrev pub rows_from :
+    PlainBlock → PlainProcess → List TurnEnd → ℕ → ℕ → List (List Input) → List Row
 rows_from b p ts k q [] = []
 rows_from b p ts k q (is ∷ more) =
     rows_in b p ts k (record { 0 = q }) 0 is ++ rows_from b p ts k (q + 1) more
@@ -173,7 +176,7 @@ begins_on text ks line = list_any (λ k. line_at text k == line) ks
 
 -- the lines from one on, so many
 abbrev pub lines_from : ℕ → ℕ → List ℕ
-lines_from line 0 = []
+lines_from line zero = []
 lines_from line (suc n) = line ∷ lines_from (line + 1) n
 
 abbrev pub lines_of : List ℕ → List ℕ → List ℕ
