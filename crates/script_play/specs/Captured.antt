@@ -1,6 +1,7 @@
 -- What a capture of a terminal's script has: the units that go out and those that come in without
 -- error, in the order of its commands, each at the tick before its command.
-use Rattle.std.specs.Prelude.{◌≡◌, ℕ, zero, suc, ◌+◌, ◌*◌, ◌-◌, Bool, true, false, List, [], ◌∷◌, ◌++◌}
+use Rattle.std.specs.Prelude.{◌≡◌, ℕ, zero, suc, ◌+◌, ◌*◌, ◌-◌, Bool, true, false, List, [], ◌∷◌}
+use Rattle.std.specs.Prelude.{◌++◌}
 use Rattle.std.specs.Prelude.{length, take, Option, None, Some}
 use Rattle.std.specs.Io.KnownBytes.{Appends}
 use Rattle.actor_machine.specs.Ledger.{state_of}
@@ -68,7 +69,8 @@ pub data Sends (link at : ℕ) : ℕ → Term → List Seen → Term → List Se
       → Sends link at n (behind_next t) mid u last
       → Sends link at (suc n) t seen u last
 
--- Commands were obeyed from a terminal on: the terminal now, the octets that came in so far, and the
+-- Commands were obeyed from a terminal on: the terminal now, the octets that came in so far, and
+-- the
 -- units that were seen, the newest first.
 pub data Goes (keeps : Bool) (first : Term) :
     List PlainTermSaid → Term → List ℕ → List Seen → Type 0 where

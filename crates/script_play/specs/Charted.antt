@@ -1,5 +1,6 @@
 -- A chart of turns, in the language of mscgen.
-use Rattle.std.specs.Prelude.{ℕ, ◌+◌, ◌*◌, ◌==◌, nat_le, Bool, true, false, not, ◌&&◌, ◌||◌, List, [], ◌∷◌}
+use Rattle.std.specs.Prelude.{ℕ, ◌+◌, ◌*◌, ◌==◌, nat_le, Bool, true, false, not, ◌&&◌, ◌||◌, List}
+use Rattle.std.specs.Prelude.{[], ◌∷◌}
 use Rattle.std.specs.Prelude.{◌++◌, length, Option, None, Some, is_some, codes, map, filter}
 use Rattle.std.specs.Prelude.{if◌then◌else◌, is_empty, ◌≡◌, ◌≤◌, count_by}
 use Rattle.std.specs.List.{flat_map, list_any}

@@ -1,6 +1,8 @@
--- What of a text turns take: which transitions, and in these which statements and answers. A turn's way
+-- What of a text turns take: which transitions, and in these which statements and answers. A turn's
+-- way
 -- is that of what its transition means (sdl_meaning's `Act`), step by step.
-use Rattle.std.specs.Prelude.{◌≡◌, ◌<◌, ℕ, zero, suc, ◌==◌, nat_eq, Bool, true, false, ◌&&◌, List, [], ◌∷◌, ◌++◌}
+use Rattle.std.specs.Prelude.{◌≡◌, ◌<◌, ℕ, zero, suc, ◌==◌, nat_eq, Bool, true, false, ◌&&◌, List}
+use Rattle.std.specs.Prelude.{[], ◌∷◌, ◌++◌}
 use Rattle.std.specs.Prelude.{length, Option, None, Some, slice_get, if◌then◌else◌, count_by, map}
 use Rattle.std.specs.List.{flat_map}
 use Rattle.sdl_meaning.specs.Act.{perform, value_of, try_ranges, find_truth, is_truth, choose, pick}
@@ -64,7 +66,8 @@ asked false (Int x) by_integer by_truth = by_integer x
 asked false (Truth b) by_integer by_truth = []
 
 abbrev mutual
-  -- a transition from some statement on: `join` says what a JOIN means, `goes` what is taken behind it
+  -- a transition from some statement on: `join` says what a JOIN means, `goes` what is taken behind
+  -- it
   pub passes :
       Scope → (List ℕ → Progress → Outcome (Unit {0})) → (List ℕ → Progress → List Taken)
       → Option Address → Text → Progress → List Taken

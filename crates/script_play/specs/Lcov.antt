@@ -1,6 +1,8 @@
--- What of a text was taken, in the format of lcov (geninfo's tracefiles): transitions are functions,
+-- What of a text was taken, in the format of lcov (geninfo's tracefiles): transitions are
+-- functions,
 -- answers of DECISIONs branches.
-use Rattle.std.specs.Prelude.{ℕ, zero, suc, ◌+◌, ◌==◌, nat_lt, Bool, true, false, List, [], ◌∷◌, ◌++◌, length, map}
+use Rattle.std.specs.Prelude.{ℕ, zero, suc, ◌+◌, ◌==◌, nat_lt, Bool, true, false, List, [], ◌∷◌}
+use Rattle.std.specs.Prelude.{◌++◌, length, map}
 use Rattle.std.specs.Prelude.{take, count_by, max, Option, None, Some, codes, if◌then◌else◌, filter}
 use Rattle.std.specs.Prelude.{unwrap_or, option_map, slice_get}
 use Rattle.std.specs.List.{flat_map, list_any}
@@ -14,7 +16,8 @@ use Rattle.turn_code.specs.declared.numbers.StateNumber.{StateNumber}
 use Rattle.turn_code.specs.declared.input.Place.{Place}
 use Rattle.turn_code.specs.declared.input.Place.TheVariants.{Start, State as AtState}
 use Rattle.script_seen.specs.Watched.{TurnEnd}
-use Rattle.script_play.specs.Covered.{Taken, action_place, end_place, taken_in, times, others, turns_of}
+use Rattle.script_play.specs.Covered.{Taken, action_place, end_place, taken_in, times, others}
+use Rattle.script_play.specs.Covered.{turns_of}
 
 -- ---- what stands in a text
 

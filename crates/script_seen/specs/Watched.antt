@@ -1,5 +1,6 @@
 -- What a watcher of a link is told of a run: the turns that end, and what is thrown away.
-use Rattle.std.specs.Prelude.{◌≡◌, ◌≤◌, ◌+◌, ℕ, List, [], ◌∷◌, ◌++◌, length, Option, None, Some, slice_get, true}
+use Rattle.std.specs.Prelude.{◌≡◌, ◌≤◌, ◌+◌, ℕ, List, [], ◌∷◌, ◌++◌, length, Option, None, Some}
+use Rattle.std.specs.Prelude.{slice_get, true}
 use Rattle.turn_code.specs.Outcome.{Outcome}
 use Rattle.turn_code.specs.declared.draft.Draft.{Draft}
 use Rattle.turn_code.specs.declared.input.Place.{Place}
@@ -124,7 +125,8 @@ pub record IsWatched {S : Type 0} (d : Draft) (first : Core) (B : List S → Led
   pub are : Notices d first B commands place now notices
   pub holds : P notices
 
--- so were those in front of one of these commands, an expectation that fails: M says so of it behind
+-- so were those in front of one of these commands, an expectation that fails: M says so of it
+-- behind
 -- those
 pub record IsWatchedInPart {S : Type 0} (d : Draft) (first : Core)
     (B : List S → Ledger → Type 0) (M : List S → S → Type 0) (commands : List S)
