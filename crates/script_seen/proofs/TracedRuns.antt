@@ -212,9 +212,9 @@ term_traced_part every keeps lines t items i x begun now new tracer within is sa
 
 -- what is told is kept where one of the commands asks for it
 pub term_written : (keeps : Bool) (t : Term) (commands : List PlainTermSaid) (old new : Option (List ℕ)) → keeps ≡ asks_told commands
-    → (now : Term) × (last : Option (List ℕ)) × IsTermRun keeps t commands old new now last → IsTermWritten commands old new t
-term_written keeps t commands old new same (now, last, run) =
-    let K : Bool → Type 0 = λ k. IsTermRun k t commands old new now last in record { now = now; last = last; run = subst K same run }
+    → ((now : Term) × (last : Option (List ℕ)) × IsTermRun keeps t commands old new now last) → IsTermWritten commands old new t
+term_written keeps t commands old new same r =
+    let K : Bool → Type 0 = λ k. IsTermRun k t commands old new r.0 r.1 in record { now = r.0; last = r.1; run = subst K same r.2 }
 
 pub term_failed : (keeps : Bool) (t : Term) (commands : List PlainTermSaid) (old new : Option (List ℕ)) → keeps ≡ asks_told commands
     → IsTermMissed keeps commands old new t → IsTermFailed commands old new t
