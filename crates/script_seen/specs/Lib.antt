@@ -3,6 +3,7 @@ pub mod Kinds
 pub mod Told
 pub mod Traced
 pub mod TracedKinds
+pub mod TracedGroups
 pub mod Following
 pub use Rattle.script_group.specs.GroupRuns
 pub use Rattle.script_group.specs.Lines
