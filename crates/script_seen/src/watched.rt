@@ -1,6 +1,10 @@
 //! Scripts as they run, with a watcher.
-ghost use Rattle.std.specs.Prelude.{◌≡◌, ◌⊎◌};
-ghost use Rattle.script_lines.specs.Scripts.{AreInRange};
+ghost use Rattle.std.specs.Prelude.{◌≡◌, ◌⊎◌, [], map};
+ghost use Rattle.script_lines.specs.Scripts.{AreInRange, plain_script};
+ghost use Rattle.script_links.specs.TermScripts.{plain_term_said, asks_told};
+ghost use Rattle.script_group.specs.Played.{first_book, IsWritten, IsMissed};
+ghost use Rattle.script_group.specs.TermRuns.{IsTermWritten, IsTermFailed, IsOfNew, LacksName};
+ghost use Rattle.script_seen.specs.WatchedKinds.{IsBookWatched, IsBookWatchedInPart, IsTermWatched, IsTermWatchedInPart};
 
 use crate::traced_books::open_tracer as open_book_tracer;
 use crate::traced_terminals::open_tracer;
@@ -74,6 +78,15 @@ pub fn watch_book<N: Watcher, W: Write, E: Write>(
     errors: &mut E,
 ) -> u8
     requires { AreInRange script.now.settings }
+    ensures held { result ≡ 0
+        → IsWritten (first_book set.now script.now.settings) (plain_script script.now).commands (W.contents writer.old) (W.contents writer.new) }
+    ensures missed { result ≡ 1
+        → IsMissed (first_book set.now script.now.settings) (plain_script script.now).commands (W.contents writer.old) (W.contents writer.new) }
+    ensures watched { result ≡ 0 → N.knows set.now [] watcher.old
+        → IsBookWatched (first_book set.now script.now.settings) (plain_script script.now).commands (λ ns. N.knows set.now ns watcher.new) }
+    ensures in_part { result ≡ 1 → N.knows set.now [] watcher.old
+        → IsBookWatchedInPart (first_book set.now script.now.settings) (plain_script script.now).commands (λ ns. N.knows set.now ns watcher.new) }
+    ensures status { (result ≡ 0) ⊎ (result ≡ 1) ⊎ (result ≡ 4) }
 {
     match watch_link(alloc, set, script, watcher, writer, errors) {
         Ok(status) => status,
@@ -134,7 +147,20 @@ pub fn watch_terminal<N: Watcher, W: Write>(
     script: &TermScript<'_>,
     watcher: &mut N,
     writer: &mut W,
-) -> u8 {
+) -> u8
+    ensures held { result ≡ 0
+        → IsOfNew set.now usual script.now.head (IsTermWritten (map plain_term_said script.now.commands.items) (W.contents writer.old) (W.contents writer.new)) }
+    ensures missed { result ≡ 1
+        → IsOfNew set.now usual script.now.head (IsTermFailed (map plain_term_said script.now.commands.items) (W.contents writer.old) (W.contents writer.new)) }
+    ensures watched { result ≡ 0 → N.knows set.now [] watcher.old
+        → IsOfNew set.now usual script.now.head (λ t. IsTermWatched (asks_told (map plain_term_said script.now.commands.items)) t
+        (map plain_term_said script.now.commands.items) (λ ns. N.knows set.now ns watcher.new)) }
+    ensures in_part { result ≡ 1 → N.knows set.now [] watcher.old
+        → IsOfNew set.now usual script.now.head (λ t. IsTermWatchedInPart (asks_told (map plain_term_said script.now.commands.items)) t
+        (map plain_term_said script.now.commands.items) (λ ns. N.knows set.now ns watcher.new)) }
+    ensures refused { result ≡ 2 → LacksName set.now (W.contents writer.old) (W.contents writer.new) }
+    ensures status { (result ≡ 0) ⊎ (result ≡ 1) ⊎ (result ≡ 2) ⊎ (result ≡ 4) }
+{
     let limits = script.head.limits_over(usual);
     match Terminal::of_set_within(alloc, limits, script.head.mode, set) {
         Ok(terminal) => match watch_new(alloc, set, terminal, script, watcher, writer) {

@@ -1,7 +1,12 @@
 //! Who watches what happens to a link as a script runs.
-ghost use Rattle.std.specs.Prelude.{◌≡◌, ◌++◌, ◌∷◌, [], List, Some, OnOk};
+ghost use Rattle.std.specs.Prelude.{◌≡◌, ◌≤◌, ◌++◌, ◌∷◌, [], List, Some, OnOk, true};
 ghost use Rattle.turn_code.specs.declared.draft.Draft.{Draft};
-ghost use Rattle.script_seen.specs.Watched.{Notice, TurnEnd, IsEnd, ends, skip_noticed};
+ghost use Rattle.actor_machine.specs.Ledger.{next, state_of};
+ghost use Rattle.actor_machine.specs.declared.event.Event.TheVariants as event;
+ghost use Rattle.script_seen.specs.Following.{IsStep};
+ghost use Rattle.script_seen.specs.Traced.{since, are_in_step};
+ghost use Rattle.script_seen.specs.Watched.{Notice, TurnEnd, IsEnd, ends, skip_noticed, noticed, noticed_in};
+ghost use Rattle.script_seen.specs.WatchedKinds.{IsMoved};
 
 use crate::tracing::{Tracer, lost};
 use crate::turns::Ended;
@@ -40,7 +45,11 @@ impl Tracer {
         alloc: Global,
         actor: u16,
         watcher: &mut N,
-    ) -> io::Result<()> {
+    ) -> io::Result<()>
+        ensures step { OnOk result (IsStep self.old (event.Skip actor) self.new) }
+        ensures knows { OnOk result ((ns : List Notice) → N.knows self.old.again.set ns watcher.old
+            → N.knows self.old.again.set (ns ++ noticed self.old.again.set (state_of self.old.again) (event.Skip actor)) watcher.new) }
+    {
         let Some(found) = self.again.state().actors().get(usize::from(actor)) else {
             return Err(lost());
         };
@@ -57,7 +66,11 @@ impl Tracer {
         alloc: Global,
         actor: u16,
         watcher: &mut N,
-    ) -> io::Result<()> {
+    ) -> io::Result<()>
+        ensures step { OnOk result (IsStep self.old (event.Finish actor) self.new) }
+        ensures knows { OnOk result ((ns : List Notice) → N.knows self.old.again.set ns watcher.old
+            → N.knows self.old.again.set (ns ++ noticed self.old.again.set (state_of self.old.again) (event.Finish actor)) watcher.new) }
+    {
         let ended = self.end(actor)?;
         watcher.end(alloc, self.again.set(), &ended)
     }
@@ -68,7 +81,11 @@ impl Tracer {
         alloc: Global,
         event: &Event,
         watcher: &mut N,
-    ) -> io::Result<()> {
+    ) -> io::Result<()>
+        ensures step { OnOk result (IsStep self.old event.now self.new) }
+        ensures knows { OnOk result ((ns : List Notice) → N.knows self.old.again.set ns watcher.old
+            → N.knows self.old.again.set (ns ++ noticed self.old.again.set (state_of self.old.again) event.now) watcher.new) }
+    {
         match event {
             Event::Skip(actor) => self.skip_watched(alloc, *actor, watcher),
             Event::Finish(actor) => self.finish_watched(alloc, *actor, watcher),
@@ -89,7 +106,13 @@ impl Tracer {
         alloc: Global,
         book: &Book,
         watcher: &mut N,
-    ) -> io::Result<()> {
+    ) -> io::Result<()>
+        ensures first { OnOk result (book.now.first ≤ next self.old.again) }
+        ensures moved { OnOk result (IsMoved self.old (since (next self.old.again) book.now) self.new) }
+        ensures knows { OnOk result ((ns : List Notice) → N.knows self.old.again.set ns watcher.old
+            → N.knows self.old.again.set (ns ++ noticed_in self.old.again.set (state_of self.old.again) (since (next self.old.again) book.now)) watcher.new) }
+        ensures in_step { OnOk result (are_in_step (state_of self.new.again) (state_of book.now) ≡ true) }
+    {
         self.catch_up(book)?;
         let journal = book.journal();
         let done = self.again.journal().len();

@@ -1,0 +1,79 @@
+-- What the status of `play` says of what is told at the end of a run, and of a capture.
+use Rattle.std.specs.Prelude.{◌≡◌, ℕ, Bool, List, [], Option, Some, Ok, IsUtf8}
+use Rattle.std.specs.Io.KnownBytes.{Appends}
+use Rattle.turn_code.specs.declared.draft.Draft.{Draft}
+use Rattle.sdl_sound.specs.Plain.{PlainBlock}
+use Rattle.script_seen.specs.resend_store_types.messages.RoundLimits.{RoundLimits}
+use Rattle.script_seen.specs.TermScripts.{PlainAnyScript, book, terminal, asks_told}
+use Rattle.script_seen.specs.GroupScripts.{PlainPlayScript, other, group, play_script_of}
+use Rattle.script_seen.specs.Played.{first_book}
+use Rattle.script_seen.specs.TermRuns.{IsOfNew}
+use Rattle.script_seen.specs.Watched.{Notice, turns_in, throws_in}
+use Rattle.script_seen.specs.WatchedKinds.{IsBookWatched, IsBookWatchedInPart, IsTermWatched}
+use Rattle.script_seen.specs.WatchedKinds.{IsTermWatchedInPart}
+use Rattle.script_play.specs.Captured.{IsCaptured}
+use Rattle.script_play.specs.Charted.{chart_text}
+use Rattle.script_play.specs.Lcov.{lcov_text}
+use Rattle.script_play.specs.Thrown.{thrown_text}
+use Rattle.script_play.specs.declared.watching.Wanted.{Wanted}
+use Rattle.script_play.specs.declared.watching.Wanted.TheVariants.{Chart, Thrown, Coverage}
+
+-- what is told of what happened: text is that of the set, and b its block
+abbrev pub told_of : Wanted → List ℕ → PlainBlock → Draft → List Notice → List ℕ
+told_of (Chart cut) text b d ns = chart_text d cut (turns_in ns)
+told_of Thrown text b d ns = thrown_text d (throws_in ns)
+told_of (Coverage name) text b d ns = lcov_text name.now text b (turns_in ns)
+
+-- what was written grew by that
+abbrev pub IsTold :
+    Wanted → List ℕ → PlainBlock → Draft → Option (List ℕ) → Option (List ℕ) → List Notice → Type 0
+IsTold wanted text b d old new ns = Appends old new (told_of wanted text b d ns)
+
+-- of all commands of a script; of a link set nothing is told
+abbrev pub IsOtherTold :
+    RoundLimits → Draft → PlainAnyScript → (List Notice → Type 0) → Type 0
+IsOtherTold usual d (book s) P = IsBookWatched (first_book d s.settings) s.commands P
+IsOtherTold usual d (terminal s) P =
+    IsOfNew d usual s.head (λ t. IsTermWatched (asks_told s.commands) t s.commands P)
+
+abbrev pub AreTold : RoundLimits → Draft → PlainPlayScript → (List Notice → Type 0) → Type 0
+AreTold usual d (other s) P = IsOtherTold usual d s P
+AreTold usual d (group s) P = ⊥
+
+-- of those in front of an expectation that failed
+abbrev pub IsOtherToldInPart :
+    RoundLimits → Draft → PlainAnyScript → (List Notice → Type 0) → Type 0
+IsOtherToldInPart usual d (book s) P = IsBookWatchedInPart (first_book d s.settings) s.commands P
+IsOtherToldInPart usual d (terminal s) P =
+    IsOfNew d usual s.head (λ t. IsTermWatchedInPart (asks_told s.commands) t s.commands P)
+
+abbrev pub AreToldInPart :
+    RoundLimits → Draft → PlainPlayScript → (List Notice → Type 0) → Type 0
+AreToldInPart usual d (other s) P = IsOtherToldInPart usual d s P
+AreToldInPart usual d (group s) P = ⊥
+
+-- the bytes are a script, and what is wanted is told of its run
+pub record IsPlayTold (usual : RoundLimits) (wanted : Wanted) (text : List ℕ) (b : PlainBlock)
+    (old new : Option (List ℕ)) (d : Draft) (bytes : List ℕ) : Type 0 where
+  pub utf8 : IsUtf8 bytes
+  pub script : PlainPlayScript
+  pub reads : play_script_of bytes ≡ Ok script
+  pub told : AreTold usual d script (IsTold wanted text b d old new)
+
+-- so up to an expectation that failed
+pub record IsPlayToldInPart (usual : RoundLimits) (wanted : Wanted) (text : List ℕ)
+    (b : PlainBlock) (old new : Option (List ℕ)) (d : Draft) (bytes : List ℕ) : Type 0 where
+  pub utf8 : IsUtf8 bytes
+  pub script : PlainPlayScript
+  pub reads : play_script_of bytes ≡ Ok script
+  pub told : AreToldInPart usual d script (IsTold wanted text b d old new)
+
+-- ---- captures
+
+-- a terminal's script is captured; a book script has no units
+abbrev pub IsOtherCaptured :
+    RoundLimits → Bool → Draft → PlainAnyScript → Option (List ℕ) → Option (List ℕ) → Type 0
+IsOtherCaptured usual every d (book s) old new = ⊥
+IsOtherCaptured usual every d (terminal s) old new =
+    IsOfNew d usual s.head
+    (λ t. IsCaptured every (asks_told s.commands) t s.commands old new)
