@@ -51,6 +51,7 @@ class Taken:
         self.text = text
         entities = P(text, lex(text)).block()
         self.transitions, self.decisions, self.begun = {}, {}, set()
+        self.printed = {it.lower(): it for it in (line.split(" budget ")[0] for line in check(text)[:-1])}
         for it in entities:
             if it[0] == "process":
                 self.process(it[1])
@@ -63,7 +64,7 @@ class Taken:
 
     def process(self, parsed):
         (name, _), _, (at, start), states, connections, _ = parsed
-        self.transitions[name.lower(), "START", None] = (f"{name} START", at)
+        self.transitions[name.lower(), "START", None] = (self.printed[f"{name} START".lower()], at)
         self.body(start)
         for names, clauses in states:
             for it in clauses:
@@ -71,7 +72,7 @@ class Taken:
                     for state in names:
                         for (signal, _), _ in it[2]:
                             key = name.lower(), lo(state), signal.lower()
-                            self.transitions[key] = (f"{name} {state[0]}/{signal}", it[1])
+                            self.transitions[key] = (self.printed[f"{name} {state[0]}/{signal}".lower()], it[1])
                     self.body(it[3])
         for _, _, body in connections:
             self.body(body)

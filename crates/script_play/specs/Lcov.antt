@@ -162,10 +162,13 @@ branch_lines text xs a number place (n ∷ ns) =
     branch_line text a.at number place (times a.at xs) n
     ++ branch_lines text xs a number (place + 1) ns
 
-abbrev pub branches_text : List ℕ → List Taken → ℕ → List Asked → List ℕ
-branches_text text xs number [] = []
-branches_text text xs number (a ∷ as) =
-    branch_lines text xs a number 0 (takings xs a) ++ branches_text text xs (number + 1) as
+-- a DECISION's number is how many stand before it in the text
+abbrev pub number_in : List Asked → Asked → ℕ
+number_in as a = count_by (λ (b : Asked). nat_lt b.at a.at) as
+
+abbrev pub branches_text : List ℕ → List Taken → List Asked → List ℕ
+branches_text text xs as =
+    flat_map (λ (a : Asked). branch_lines text xs a (number_in as a) 0 (takings xs a)) as
 
 -- how often a line was taken: as what was taken most of what begins on it
 abbrev pub line_times : List ℕ → List Taken → ℕ → List ℕ → ℕ
@@ -198,7 +201,7 @@ lines_text text xs ks =
 abbrev pub lcov_text : List ℕ → List ℕ → PlainBlock → List TurnEnd → List ℕ
 lcov_text name text b ts =
     codes "TN:scripts\nSF:" ++ name ++ codes "\n" ++ rows_text text (rows_of b ts 0 ps)
-    ++ branches_text text xs 0 as ++ codes "BRF:" ++ decimal (length (flat_map (takings xs) as))
+    ++ branches_text text xs as ++ codes "BRF:" ++ decimal (length (flat_map (takings xs) as))
     ++ codes "\nBRH:" ++ decimal (count_by (nat_lt 0) (flat_map (takings xs) as)) ++ codes "\n"
     ++ lines_text text xs (flat_map process_places ps) ++ codes "end_of_record\n"
   where

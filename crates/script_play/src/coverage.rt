@@ -120,6 +120,7 @@ impl Walk<'_, '_> {
     }
 
     /// A DECISION is asked. The end of the transition, if it has come to it.
+    #[cycle(walking)]
     fn decide(&mut self, decision: &Decision) -> Option<End> {
         self.taken.begun.take(decision.at);
         let value = self.evaluate(&decision.question)?;
@@ -137,6 +138,7 @@ impl Walk<'_, '_> {
     }
 
     /// A statement. The end of the transition, if it has come to it.
+    #[cycle(walking)]
     fn state(&mut self, statement: &Statement) -> Option<End> {
         match statement {
             Statement::Act(action) => {
@@ -148,6 +150,7 @@ impl Walk<'_, '_> {
     }
 
     /// A transition, or a body of a DECISION. Its end, if it has come to it.
+    #[cycle(walking)]
     fn walk(&mut self, transition: &Transition) -> Option<End> {
         for statement in &transition.statements {
             if let Some(end) = self.state(statement) {

@@ -21,16 +21,23 @@ struct Mark {
     times: u64,
 }
 
+/// An answer of the DECISION at a place: which it is, ELSE last, how often the DECISION was asked, and the answer taken.
+#[derive(Clone, Copy)]
+struct Branch {
+    at: u32,
+    answer: u64,
+    asked: u64,
+    times: u64,
+}
+
 /// A report on its way.
 #[derive(Drop)]
 struct Report {
     rows: Vec<Row>,
     marks: Vec<Mark>,
-    /// The lines of branches, each a DECISION's answer.
-    branches: Vec<u8>,
-    decisions: u64,
-    answers: u64,
-    taken: u64,
+    /// Where the DECISIONs stand.
+    decisions: Vec<u32>,
+    branches: Vec<Branch>,
 }
 
 /// The number of the line of each of a text's places, from 1; one number more for its end.
@@ -118,83 +125,49 @@ impl Report {
         Ok(self.marks.push(Mark { at, times })?)
     }
 
-    /// The line of an answer of the DECISION that is being walked.
-    fn branch(
-        &mut self,
-        alloc: Global,
-        line: u64,
-        number: u64,
-        answer: u64,
-        asked: u64,
-        times: u64,
-    ) -> Result<(), AllocError> {
-        self.answers = self.answers.saturating_add(1);
-        if 0 < times {
-            self.taken = self.taken.saturating_add(1);
-        }
-        if 0 < asked {
-            return push_numbers(
-                alloc,
-                &mut self.branches,
-                "BRDA:",
-                &[line, number, answer, times],
-            );
-        }
-        self.branches.extend_from_slice(b"BRDA:")?;
-        push_number(alloc, &mut self.branches, line)?;
-        self.branches.push(b',')?;
-        push_number(alloc, &mut self.branches, number)?;
-        self.branches.push(b',')?;
-        push_number(alloc, &mut self.branches, answer)?;
-        Ok(self.branches.extend_from_slice(b",-\n")?)
-    }
-
     /// A DECISION with its answers.
-    fn decision(
-        &mut self,
-        alloc: Global,
-        lines: &[u32],
-        taken: &Taken,
-        decision: &Decision,
-    ) -> Result<(), AllocError> {
-        let asked = taken.times(decision.at);
-        let (line, number) = (line_at(lines, decision.at), self.decisions);
-        self.decisions = number.saturating_add(1);
-        self.mark(decision.at, asked)?;
+    #[cycle(reporting)]
+    fn decision(&mut self, taken: &Taken, decision: &Decision) -> Result<(), AllocError> {
+        let (at, asked) = (decision.at, taken.times(decision.at));
+        self.mark(at, asked)?;
+        self.decisions.push(at)?;
         let mut place: u64 = 0;
         for answer in &decision.answers {
-            let times = taken.times(answer.at);
-            self.branch(alloc, line, number, place, asked, times)?;
+            self.branches.push(Branch {
+                at,
+                answer: place,
+                asked,
+                times: taken.times(answer.at),
+            })?;
             place = place.saturating_add(1);
         }
         if decision.otherwise.is_some() {
-            let times = taken.others(decision.at);
-            self.branch(alloc, line, number, place, asked, times)?;
+            self.branches.push(Branch {
+                at,
+                answer: place,
+                asked,
+                times: taken.others(at),
+            })?;
         }
         for answer in &decision.answers {
-            self.transition(alloc, lines, taken, &answer.body)?;
+            self.transition(taken, &answer.body)?;
         }
         match &decision.otherwise {
-            Some(body) => self.transition(alloc, lines, taken, body),
+            Some(body) => self.transition(taken, body),
             None => Ok(()),
         }
     }
 
     /// A transition, or a body of a DECISION.
-    fn transition(
-        &mut self,
-        alloc: Global,
-        lines: &[u32],
-        taken: &Taken,
-        transition: &Transition,
-    ) -> Result<(), AllocError> {
+    #[cycle(reporting)]
+    fn transition(&mut self, taken: &Taken, transition: &Transition) -> Result<(), AllocError> {
         for statement in &transition.statements {
             match statement {
                 Statement::Act(action) => {
                     let at = action_place(action);
                     self.mark(at, taken.times(at))?;
                 }
-                Statement::Decide(decision) => self.decision(alloc, lines, taken, decision)?,
+                Statement::Decide(decision) => self.decision(taken, decision)?,
             }
         }
         match &transition.end {
@@ -234,7 +207,6 @@ impl Report {
     fn process(
         &mut self,
         alloc: Global,
-        lines: &[u32],
         signals: &NameTable,
         taken: &Taken,
         number: usize,
@@ -248,14 +220,14 @@ impl Report {
             turns: taken.turns(ProcessNumber(number as u8), Place::Start, 0),
         })?;
         self.mark(start.at, taken.times(start.at))?;
-        self.transition(alloc, lines, taken, &start.transition)?;
+        self.transition(taken, &start.transition)?;
         self.inputs(alloc, signals, taken, number, process)?;
         for part in process.parts() {
             self.mark(part.at, taken.times(part.at))?;
-            self.transition(alloc, lines, taken, &part.transition)?;
+            self.transition(taken, &part.transition)?;
         }
         for connection in &process.process().connections {
-            self.transition(alloc, lines, taken, &connection.transition)?;
+            self.transition(taken, &connection.transition)?;
         }
         Ok(())
     }
@@ -288,6 +260,49 @@ impl Report {
         }
         push_numbers(alloc, text, "FNF:", &[self.rows.len() as u64])?;
         push_numbers(alloc, text, "FNH:", &[self.hit()])
+    }
+
+    /// The number of the DECISION at a place, from 0 in the order of the text.
+    fn number_of(&self, at: u32) -> u64 {
+        self.decisions.iter().filter(|other| **other < at).count() as u64
+    }
+
+    /// The line of an answer: a dash where its DECISION was never asked.
+    fn push_branch(
+        &self,
+        alloc: Global,
+        text: &mut Vec<u8>,
+        lines: &[u32],
+        branch: &Branch,
+    ) -> Result<(), AllocError> {
+        text.extend_from_slice(b"BRDA:")?;
+        push_number(alloc, text, line_at(lines, branch.at))?;
+        text.push(b',')?;
+        push_number(alloc, text, self.number_of(branch.at))?;
+        text.push(b',')?;
+        push_number(alloc, text, branch.answer)?;
+        text.push(b',')?;
+        if branch.asked == 0 {
+            text.push(b'-')?;
+        } else {
+            push_number(alloc, text, branch.times)?;
+        }
+        Ok(text.push(b'\n')?)
+    }
+
+    /// The lines of all answers.
+    fn push_branches(
+        &self,
+        alloc: Global,
+        text: &mut Vec<u8>,
+        lines: &[u32],
+    ) -> Result<(), AllocError> {
+        for branch in &self.branches {
+            self.push_branch(alloc, text, lines, branch)?;
+        }
+        let hit = self.branches.iter().filter(|branch| 0 < branch.times).count();
+        push_numbers(alloc, text, "BRF:", &[self.branches.len() as u64])?;
+        push_numbers(alloc, text, "BRH:", &[hit as u64])
     }
 
     /// How often each line was taken on which something begins: as often as what was taken there most. None for other lines.
@@ -349,21 +364,17 @@ pub(crate) fn lcov_text(
     let mut report = Report {
         rows: Vec::new(alloc),
         marks: Vec::new(alloc),
+        decisions: Vec::new(alloc),
         branches: Vec::new(alloc),
-        decisions: 0,
-        answers: 0,
-        taken: 0,
     };
     for (number, process) in block.tables().iter().enumerate() {
-        report.process(alloc, &lines, block.signals(), taken, number, process)?;
+        report.process(alloc, block.signals(), taken, number, process)?;
     }
     let mut out = Vec::from_slice(alloc, b"TN:scripts\nSF:")?;
     out.extend_from_slice(name.as_bytes())?;
     out.push(b'\n')?;
     report.push_rows(alloc, &mut out, &lines)?;
-    out.extend_from_slice(&report.branches)?;
-    push_numbers(alloc, &mut out, "BRF:", &[report.answers])?;
-    push_numbers(alloc, &mut out, "BRH:", &[report.taken])?;
+    report.push_branches(alloc, &mut out, &lines)?;
     report.push_lines(alloc, &mut out, &lines)?;
     out.extend_from_slice(b"end_of_record\n")?;
     Ok(out)
