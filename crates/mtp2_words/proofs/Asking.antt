@@ -1,6 +1,6 @@
 -- What the words of a command's matches ask for, by what single words say.
 use Rattle.std.proofs.Common.{◌≡◌, ◌∙◌, ℕ, ◌+◌, ◌<◌, [], ◌∷◌, ◌++◌, Bor, map, take, length, get_or, List, Option, Some, None, Result, Ok, Err, IfOk, IsNone, IfSome, IsSomeAnd, refl, sym, ap, subst, inl, inr, is_some, option_map, option_and_then, box_value, codes, Bool}
-use Rattle.std.proofs.lemmas.Option.{none-some, same_Some}
+use Rattle.std.proofs.lemmas.Option.{IfSome_then, none-some, same_Some}
 use Rattle.std.proofs.lemmas.List.{take_more, map-append}
 use Rattle.plain_laws.proofs.Pairwise.{zip_push}
 use Rattle.clap.specs.Words.{Row, Text, all_of, found_of, matched_of, raw_values, rows_of, subcommand_name_of, subcommand_rows_of}
@@ -12,8 +12,10 @@ use Rattle.mtp2_words.specs.Ends.{IsEndOf}
 use Rattle.mtp2_words.specs.declared.ends.LineEnd.{LineEnd}
 use Rattle.mtp2_words.specs.declared.ends.LineWords.{LineWords}
 use Rattle.mtp2_words.specs.Words.{command_of, workers_of, AreStdin, IsNamed, IsDiff, IsOwnNamed, IsPlay, IsPrint, IsSoak, IsSource, NamesNone, says_true}
+use Rattle.mtp2_words.specs.Seeing.{IsSeenBy}
 use Rattle.mtp2_words.specs.declared.seeing.Seeing.{Seeing}
-use Rattle.mtp2_words.specs.Asked.{Given, given_by, given_in, AreAllAsked, AreNamed, AreBothStdin, AreUnderIds, AsksEnd, AreSeen, AreBothSeen, AskBoth, AsksNothing, IsAsked, IsAskedBy, IsNoPlay, IsNoPrint, IsNoSoak, SaysNothing, AreTwoStdin, AsksDiff, AsksDraw, IsNoDiff}
+use Rattle.mtp2_words.specs.declared.seeing.SeeingWords.{SeeingWords}
+use Rattle.mtp2_words.specs.Asked.{Given, given_by, given_in, AreAllAsked, AreNamed, AreBothStdin, AreUnderIds, AsksEnd, AreSeenUnder, AsksSeen, SaysNoSeeing, AsksNothing, IsAsked, IsAskedBy, IsNoPlay, IsNoPrint, IsNoSoak, SaysNothing, AreTwoStdin, AsksDiff, AsksDraw, IsNoDiff}
 use Rattle.mtp2_words.specs.declared.words.Named.{Named}
 use Rattle.mtp2_words.specs.declared.words.Request.{Request}
 use Rattle.mtp2_words.specs.declared.words.Request.TheVariants.{Check, Play, Soak, Line, Frame, Draw, Print, Diff}
@@ -46,41 +48,29 @@ both_words : (given : Given) (set_word script_word : Text) → Some set_word ≡
     → AreBothStdin given → AreStdin set_word script_word
 both_words given set_word script_word e f b = (same_Some set_word _ (e ∙ b.set_is), same_Some script_word _ (f ∙ b.script_is))
 
--- a word is there where what is read of it is there
-there : (o : Option (Bor Text)) → is_some (option_map (λ w. w.now) o) ≡ is_some o
-there None = refl
-there (Some w) = refl
+-- what is to be seen is asked for by options
+pub sees : (given : Given) (words : SeeingWords) (o : Option Seeing) → AreSeenUnder given words → IfSome o (IsSeenBy words) → IfSome o (AsksSeen given)
+sees given words o under h = IfSome_then o h (λ seen s. record { words = words; under_ids = under; seen_is = s })
 
--- --echo and --trace are what is seen
-both_seen : (given : Given) (seen : Seeing) → AreSeen given seen → AskBoth given → AreBothSeen seen
-both_seen given seen a b = record {
-  echo_is = sym a.echo ∙ b.echo_is;
-  trace_is = sym (there seen.trace) ∙ (ap is_some (sym a.trace) ∙ b.trace_is);
-}
-
-pub ask_both : (given : Given) (seen : Seeing) → AreSeen given seen → AreBothSeen seen → IsNoPlay given
-ask_both given seen a b = inr (inr (inr (record {
-  echo_is = a.echo ∙ b.echo_is;
-  trace_is = ap is_some a.trace ∙ (there seen.trace ∙ b.trace_is);
-})))
+pub sees_nothing : (given : Given) → SaysNoSeeing given → IsNoPlay given
+sees_nothing given n = inr (inr (inr n))
 
 pub plays : (given : Given) (set_word script_word : Text) (wanted : Seeing) (request : Request) → Some set_word ≡ given (codes "SET")
-    → Some script_word ≡ given (codes "SCRIPT") → AreSeen given wanted → (AreBothSeen wanted → ⊥) → IsPlay set_word script_word wanted request
+    → Some script_word ≡ given (codes "SCRIPT") → AsksSeen given wanted → IsPlay set_word script_word wanted request
     → IsAsked given request
-plays given set_word script_word wanted (Check sets) e f a apart h = absurd h
-plays given set_word script_word wanted (Play set script seen) e f a apart h = record {
+plays given set_word script_word wanted (Check sets) e f a h = absurd h
+plays given set_word script_word wanted (Play set script seen) e f a h = record {
   set_is = some_word (given (codes "SET")) set_word (IsNamed set) e h.0.set_is;
   script_is = some_word (given (codes "SCRIPT")) script_word (IsSource script) f h.0.script_is;
   one_input = λ b. h.0.one_input (both_words given set_word script_word e f b);
-  seen_is = let P : Seeing → Type 0 = λ s. AreSeen given s in subst P (sym h.1) a;
-  one_is_seen = λ b. apart (both_seen given wanted a b);
+  asks_seen = let P : Seeing → Type 0 = λ s. AsksSeen given s in subst P (sym h.1) a;
 }
-plays given set_word script_word wanted (Soak script workers) e f a apart h = absurd h
-plays given set_word script_word wanted (Line set end) e f a apart h = absurd h
-plays given set_word script_word wanted (Frame octets) e f a apart h = absurd h
-plays given set_word script_word wanted (Draw set process states) e f a apart h = absurd h
-plays given set_word script_word wanted (Print set) e f a apart h = absurd h
-plays given set_word script_word wanted (Diff old new) e f a apart h = absurd h
+plays given set_word script_word wanted (Soak script workers) e f a h = absurd h
+plays given set_word script_word wanted (Line set end) e f a h = absurd h
+plays given set_word script_word wanted (Frame octets) e f a h = absurd h
+plays given set_word script_word wanted (Draw set process states) e f a h = absurd h
+plays given set_word script_word wanted (Print set) e f a h = absurd h
+plays given set_word script_word wanted (Diff old new) e f a h = absurd h
 
 pub is_play : (set_word script_word : Text) (wanted : Seeing) (request : Request) → IsPlay set_word script_word wanted request → command_of request ≡ codes "play"
 is_play set_word script_word wanted (Check sets) h = absurd h

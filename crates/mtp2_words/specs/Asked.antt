@@ -1,7 +1,7 @@
 -- What the words of a command line ask for, by the ids under which they stand in its matches, and
 -- why they ask for nothing.
 use Rattle.std.specs.Prelude.{◌≡◌, ◌⊎◌, ℕ, Bool, true, List, Option, Some, None, IsSomeAnd}
-use Rattle.std.specs.Prelude.{option_map, option_and_then, is_some, codes}
+use Rattle.std.specs.Prelude.{option_map, option_and_then, codes}
 use Rattle.std.specs.List.{AllZip}
 use Rattle.clap.specs.Words.{Row, Text, all_of, first_of, first_value, found_of}
 use Rattle.clap.specs.declared.parser.matches.ArgMatches.{ArgMatches}
@@ -10,7 +10,9 @@ use Rattle.mtp2_words.specs.declared.ends.LineEnd.{LineEnd}
 use Rattle.mtp2_words.specs.declared.ends.LineWords.{LineWords}
 use Rattle.mtp2_words.specs.Words.{command_of, says_true, workers_of, IsNamed, IsOwnNamed}
 use Rattle.mtp2_words.specs.Words.{IsSource, IsText, NamesNone}
+use Rattle.mtp2_words.specs.Seeing.{IsSeenBy, IsNoSeeing}
 use Rattle.mtp2_words.specs.declared.seeing.Seeing.{Seeing}
+use Rattle.mtp2_words.specs.declared.seeing.SeeingWords.{SeeingWords}
 use Rattle.mtp2_words.specs.declared.words.Named.{Named}
 use Rattle.mtp2_words.specs.declared.words.Source.{Source}
 use Rattle.mtp2_words.specs.declared.words.Request.{Request}
@@ -36,31 +38,37 @@ pub record AreBothStdin (given : Given) : Type 0 where
   pub set_is : given (codes "SET") ≡ Some (codes "stdin")
   pub script_is : given (codes "SCRIPT") ≡ Some (codes "stdin")
 
--- this of a run is seen beside its replies, by the options that are there
-pub record AreSeen (given : Given) (seen : Seeing) : Type 0 where
-  pub echo : says_true (given (codes "echo")) ≡ seen.echo
-  pub trace : given (codes "trace") ≡ option_map (λ w. w.now) seen.trace
-  pub every : says_true (given (codes "every")) ≡ seen.every
+-- each word of what is to be seen stands under its id
+pub record AreSeenUnder (given : Given) (words : SeeingWords) : Type 0 where
+  pub echo : says_true (given (codes "echo")) ≡ words.echo
+  pub every : says_true (given (codes "every")) ≡ words.every
+  pub trace : given (codes "trace") ≡ option_map (λ w. w.now) words.trace
+  pub chart : given (codes "chart") ≡ option_map (λ w. w.now) words.chart
+  pub turns : given (codes "turns") ≡ option_map (λ w. w.now) words.turns
+  pub coverage : given (codes "coverage") ≡ option_map (λ w. w.now) words.coverage
+  pub thrown : given (codes "thrown") ≡ option_map (λ w. w.now) words.thrown
+  pub capture : given (codes "capture") ≡ option_map (λ w. w.now) words.capture
 
--- the lines of commands and a trace
-pub record AreBothSeen (seen : Seeing) : Type 0 where
-  pub echo_is : seen.echo ≡ true
-  pub trace_is : is_some seen.trace ≡ true
+-- what of a run is to be seen, by the options that are there
+pub record AsksSeen (given : Given) (seen : Seeing) : Type 0 where
+  pub words : SeeingWords
+  pub under_ids : AreSeenUnder given words
+  pub seen_is : IsSeenBy words seen
 
--- --echo and --trace are there
-pub record AskBoth (given : Given) : Type 0 where
-  pub echo_is : says_true (given (codes "echo")) ≡ true
-  pub trace_is : is_some (given (codes "trace")) ≡ true
+-- options are there, and say nothing: more is asked for than is had at a time, or turns are named
+-- without a chart, or are none
+pub record SaysNoSeeing (given : Given) : Type 0 where
+  pub words : SeeingWords
+  pub under_ids : AreSeenUnder given words
+  pub none : IsNoSeeing words
 
--- `play`: the set that SET names, and the script that SCRIPT names; standard input isn't both, nor
--- are --echo and --trace both there
+-- `play`: the set that SET names, and the script that SCRIPT names; standard input isn't both
 pub record AsksPlay (given : Given) (set : Named) (script : Source) (seen : Seeing) :
     Type 0 where
   pub set_is : IsSomeAnd (given (codes "SET")) (IsNamed set)
   pub script_is : IsSomeAnd (given (codes "SCRIPT")) (IsSource script)
   pub one_input : AreBothStdin given → ⊥
-  pub seen_is : AreSeen given seen
-  pub one_is_seen : AskBoth given → ⊥
+  pub asks_seen : AsksSeen given seen
 
 -- `soak`: the script that SCRIPT names, and as many workers as --workers says
 pub record AsksSoak (given : Given) (script : Source) (workers : ℕ) : Type 0 where
@@ -77,10 +85,11 @@ pub record AreUnderIds (given : Given) (words : LineWords) : Type 0 where
   pub bits : given (codes "bits") ≡ option_map (λ w. w.now) words.bits
   pub ahead : given (codes "ahead") ≡ option_map (λ w. w.now) words.ahead
   pub capture : given (codes "capture") ≡ option_map (λ w. w.now) words.capture
+  pub trace : given (codes "trace") ≡ option_map (λ w. w.now) words.trace
   pub every : says_true (given (codes "every")) ≡ words.every
 
--- the end of a link that MODE, --n1, --n2, --orders, --reports, --bits, --ahead, --capture and
--- --every say
+-- the end of a link that MODE, --n1, --n2, --orders, --reports, --bits, --ahead, --capture, --trace
+-- and --every say
 pub record AsksEnd (given : Given) (end : LineEnd) : Type 0 where
   pub words : LineWords
   pub under_ids : AreUnderIds given words
@@ -159,11 +168,11 @@ IsAskedBy (Some entered) request =
 abbrev pub IsNoCheck : Given → Type 0
 IsNoCheck given = given (codes "SET") ≡ None
 
--- `play`: no SET or no SCRIPT, standard input for both, or --echo and --trace
+-- `play`: no SET or no SCRIPT, standard input for both, or options that say nothing
 abbrev pub IsNoPlay : Given → Type 0
 IsNoPlay given =
     (given (codes "SET") ≡ None)
-    ⊎ ((given (codes "SCRIPT") ≡ None) ⊎ (AreBothStdin given ⊎ AskBoth given))
+    ⊎ ((given (codes "SCRIPT") ≡ None) ⊎ (AreBothStdin given ⊎ SaysNoSeeing given))
 
 -- `soak`: no SCRIPT, or no --workers that says how many
 abbrev pub IsNoSoak : Given → Type 0

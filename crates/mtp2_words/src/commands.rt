@@ -1,7 +1,7 @@
 //! The commands of the program, and the words that they take.
 ghost use Rattle.std.specs.Prelude.{◌≡◌, IfOk, false};
 ghost use Rattle.clap.specs.Words.{rule_of, new_app, new_rule, app_of};
-ghost use Rattle.mtp2_words.specs.Commands.{plain_word, option_word, flag_word, check_command, play_command, soak_command, line_begun, line_command, frame_command, draw_command, diff_command, text_command, play_begun, with_seeing_options, all_commands, program_begun, with_line_options, with_limit_options, with_capture_options, has_globals, IsCommand};
+ghost use Rattle.mtp2_words.specs.Commands.{plain_word, option_word, flag_word, check_command, play_command, soak_command, line_begun, line_command, frame_command, draw_command, diff_command, text_command, play_begun, with_seeing_options, with_told_options, all_commands, program_begun, with_line_options, with_limit_options, with_capture_options, has_globals, IsCommand};
 
 use clap::{Arg, ArgAction, Command};
 use std::alloc::{AllocError, Global};
@@ -147,7 +147,9 @@ fn with_seeing_options<'a>(alloc: Global, command: Command<'a>) -> Result<Comman
 }
 
 /// The options that say what of a run is told at its end.
-fn with_told_options<'a>(alloc: Global, command: Command<'a>) -> Result<Command<'a>, AllocError> {
+fn with_told_options<'a>(alloc: Global, command: Command<'a>) -> Result<Command<'a>, AllocError>
+    ensures { has_globals command.entry ≡ false → IfOk result (IsCommand (with_told_options (app_of command.entry))) }
+{
     let chart = option_word(
         alloc,
         "chart",

@@ -1,6 +1,7 @@
 //! What of a run is to be seen beside its replies.
-use crate::flags::is_given;
-use clap::ArgMatches;
+ghost use Rattle.std.specs.Prelude.{◌≡◌, IfSome, IsNone, option_map};
+ghost use Rattle.mtp2_words.specs.Seeing.{ALL_TURNS, IsTurnsWord, SayNoTurns, AreTurns, IsSight, asked_of, one_if, IsSeenBy, IsNoSeeing};
+
 use script_links::count;
 
 /// What of a run goes to a file, and to which one.
@@ -40,6 +41,27 @@ pub struct Seeing<'a> {
     pub turns: Turns,
 }
 
+/// The words that say it.
+#[derive(Clone, Copy)]
+pub struct SeeingWords<'a> {
+    /// Whether the lines of commands are asked for.
+    pub echo: bool,
+    /// Whether what has no effect is, and every unit.
+    pub every: bool,
+    /// A file or a FIFO for a trace.
+    pub trace: Option<&'a str>,
+    /// A file or a FIFO for a chart.
+    pub chart: Option<&'a str>,
+    /// Two numbers with two dots between them: which turns are drawn, all where nothing is said.
+    pub turns: Option<&'a str>,
+    /// A file or a FIFO for what of the text was taken.
+    pub coverage: Option<&'a str>,
+    /// A file or a FIFO for what was thrown away.
+    pub thrown: Option<&'a str>,
+    /// A file or a FIFO for a capture.
+    pub capture: Option<&'a str>,
+}
+
 /// All turns.
 const ALL: Turns = Turns {
     first: 0,
@@ -47,12 +69,12 @@ const ALL: Turns = Turns {
 };
 
 /// The turns that a word names: two numbers with two dots between them.
-fn turns_named(word: &str) -> Option<Turns> {
+fn turns_named(word: &str) -> Option<Turns>
+    ensures some { IfSome result (IsTurnsWord word.now) }
+    ensures none { IsNone result → SayNoTurns word.now }
+{
     let (first, more) = word.split_once('.')?;
-    let (between, last) = more.split_once('.')?;
-    if !between.is_empty() {
-        return None;
-    }
+    let last = more.strip_prefix('.')?;
     let first = count(first)?;
     let last = count(last)?;
     Some(Turns {
@@ -62,62 +84,73 @@ fn turns_named(word: &str) -> Option<Turns> {
 }
 
 /// The turns that a word names, all where there is none.
-fn turns_of(word: Option<&str>) -> Option<Turns> {
+fn turns_of(word: Option<&str>) -> Option<Turns>
+    ensures some { IfSome result (AreTurns (option_map (λ w. w.now) word.entry)) }
+    ensures none { IsNone result → IfSome (option_map (λ w. w.now) word.entry) SayNoTurns }
+{
     match word {
         Some(word) => turns_named(word),
         None => Some(ALL),
     }
 }
 
-/// What goes to a file, by the matches of `play`.
-fn sight_of<'a>(given: &ArgMatches<'a>) -> Option<Sight<'a>> {
-    if let Some(path) = given.get_str("trace") {
+/// What goes to a file, where at most one thing is to.
+fn sight_of<'a>(words: &SeeingWords<'a>) -> Option<Sight<'a>>
+    ensures { IsSight words.now result }
+{
+    if let Some(path) = words.trace {
         return Some(Sight::Trace(path));
     }
-    if let Some(path) = given.get_str("chart") {
+    if let Some(path) = words.chart {
         return Some(Sight::Chart(path));
     }
-    if let Some(path) = given.get_str("coverage") {
+    if let Some(path) = words.coverage {
         return Some(Sight::Coverage(path));
     }
-    if let Some(path) = given.get_str("thrown") {
+    if let Some(path) = words.thrown {
         return Some(Sight::Thrown(path));
     }
-    match given.get_str("capture") {
+    match words.capture {
         Some(path) => Some(Sight::Capture(path)),
         None => None,
     }
 }
 
 /// One where a word is there, else none.
-fn one_if(word: Option<&str>) -> u8 {
+fn one_if(word: Option<&str>) -> u8
+    ensures { result ≡ one_if word.entry }
+{
     u8::from(word.is_some())
 }
 
-/// How many things are asked to be seen that aren't had together.
-fn asked(given: &ArgMatches<'_>) -> u8 {
-    u8::from(is_given(given.get_str("echo")))
-        + one_if(given.get_str("trace"))
-        + one_if(given.get_str("chart"))
-        + one_if(given.get_str("coverage"))
-        + one_if(given.get_str("thrown"))
-        + one_if(given.get_str("capture"))
+/// How many things are asked for of which one is had at a time.
+fn asked(words: &SeeingWords<'_>) -> u8
+    ensures { result ≡ asked_of words.now }
+{
+    u8::from(words.echo)
+        + one_if(words.trace)
+        + one_if(words.chart)
+        + one_if(words.coverage)
+        + one_if(words.thrown)
+        + one_if(words.capture)
 }
 
-/// What of a run is to be seen, by the matches of `play`; none where more is asked than is had together, or `--turns` is without a chart or says
-/// no turns.
-pub(crate) fn seen_of<'a>(given: &ArgMatches<'a>) -> Option<Seeing<'a>> {
-    if 1 < asked(given) {
+/// What of a run is to be seen, by words; none where more is asked for than is had at a time, or `--turns` is without a chart or says no turns.
+pub fn seeing<'a>(words: &SeeingWords<'a>) -> Option<Seeing<'a>>
+    ensures some { IfSome result (IsSeenBy words.now) }
+    ensures none { IsNone result → IsNoSeeing words.now }
+{
+    if 1 < asked(words) {
         return None;
     }
-    let turns = turns_of(given.get_str("turns"))?;
-    if given.get_str("turns").is_some() && given.get_str("chart").is_none() {
+    if words.turns.is_some() && words.chart.is_none() {
         return None;
     }
+    let turns = turns_of(words.turns)?;
     Some(Seeing {
-        echo: is_given(given.get_str("echo")),
-        sight: sight_of(given),
-        every: is_given(given.get_str("every")),
+        echo: words.echo,
+        sight: sight_of(words),
+        every: words.every,
         turns,
     })
 }

@@ -15,6 +15,7 @@ words c = record {
   bits = c.get_str-6.result;
   ahead = c.get_str-7.result;
   capture = c.get_str-8.result;
+  trace = c.get_str-9.result;
   every = c.is_given.result;
 }
 
@@ -28,7 +29,8 @@ under_ids c = record {
   bits = sym c.get_str-6.ensures;
   ahead = sym c.get_str-7.ensures;
   capture = sym c.get_str-8.ensures;
-  every = ap says_true (sym c.get_str-9.ensures) ∙ sym c.is_given.ensures;
+  trace = sym c.get_str-9.ensures;
+  every = ap says_true (sym c.get_str-10.ensures) ∙ sym c.is_given.ensures;
 }
 
 pub returns-clause-some : goal.returns-clause-some

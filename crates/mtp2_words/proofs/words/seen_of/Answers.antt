@@ -1,0 +1,36 @@
+use Rattle.std.proofs.Common.{sym, ap, ◌∙◌}
+use Rattle.mtp2_words.specs.Words.{says_true}
+use Rattle.mtp2_words.specs.declared.seeing.SeeingWords.{SeeingWords}
+use Rattle.mtp2_words.specs.Asked.{given_by, AreSeenUnder}
+use Rattle.mtp2_words.proofs.Asking.{sees}
+use Rattle.mtp2_words.proofs.words.seen_of.Goals as goal
+
+abbrev words : goal.After-seeing → SeeingWords
+words c = record {
+  echo = c.is_given.result;
+  every = c.is_given-2.result;
+  trace = c.get_str-3.result;
+  chart = c.get_str-4.result;
+  turns = c.get_str-5.result;
+  coverage = c.get_str-6.result;
+  thrown = c.get_str-7.result;
+  capture = c.get_str-8.result;
+}
+
+under_ids : (c : goal.After-seeing) → AreSeenUnder (given_by c.args.given.now) (words c)
+under_ids c = record {
+  echo = ap says_true (sym c.get_str.ensures) ∙ sym c.is_given.ensures;
+  every = ap says_true (sym c.get_str-2.ensures) ∙ sym c.is_given-2.ensures;
+  trace = sym c.get_str-3.ensures;
+  chart = sym c.get_str-4.ensures;
+  turns = sym c.get_str-5.ensures;
+  coverage = sym c.get_str-6.ensures;
+  thrown = sym c.get_str-7.ensures;
+  capture = sym c.get_str-8.ensures;
+}
+
+pub returns-clause-some : goal.returns-clause-some
+returns-clause-some c = sees (given_by c.args.given.now) (words c) c.seeing.result (under_ids c) c.seeing.ensures.some
+
+pub returns-clause-none : goal.returns-clause-none
+returns-clause-none c = λ n. record { words = words c; under_ids = under_ids c; none = c.seeing.ensures.none n }
