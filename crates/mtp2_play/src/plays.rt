@@ -38,6 +38,7 @@ fn wanted<'a>(sight: Sight<'_>, turns: Turns, text: &'a str) -> Wanted<'a> {
 }
 
 /// Runs a script that comes from a reader on a set.
+#[tactic(auto, using(crate::proofs::Known::played, crate::proofs::Known::in_part, crate::proofs::Known::not_run))]
 fn play_on<H: Eprint, S: Read + Drop, T: Read + Drop, F: Write, W: Write>(
     alloc: Global,
     teller: &Teller<'_, H>,
@@ -48,6 +49,9 @@ fn play_on<H: Eprint, S: Read + Drop, T: Read + Drop, F: Write, W: Write>(
     watch: &mut Watch<'_, F>,
     writer: &mut W,
 ) -> u8
+    ensures held { result ≡ 0 → IsOnSet (given S.remaining set) None (IsPlayed (usual_limits_of named.now) watch.old.echo (W.contents writer.old) (W.contents writer.new)) }
+    ensures missed { result ≡ 1 → IsOnSet (given S.remaining set) None (IsPlayedInPart (usual_limits_of named.now) watch.old.echo (W.contents writer.old) (W.contents writer.new)) }
+    ensures refused { result ≡ 2 → IsRefused (given S.remaining set) None (W.contents writer.old) (W.contents writer.new) }
     ensures status { (result ≡ 0) ⊎ (result ≡ 1) ⊎ (result ≡ 2) ⊎ (result ≡ 4) }
 {
     let usual = named.usual_limits();
@@ -55,6 +59,7 @@ fn play_on<H: Eprint, S: Read + Drop, T: Read + Drop, F: Write, W: Write>(
     let errors = &mut teller.errors();
     match &mut watch.sight {
         None => play(alloc, set, usual, name, script, echo, writer, errors),
+        Some(_) if echo => play(alloc, set, usual, name, script, echo, writer, errors),
         Some((Sight::Trace(_), out)) => play_traced(
             alloc, set, usual, name, script, every, out, writer, errors,
         ),

@@ -2,7 +2,10 @@
 use Rattle.std.specs.Prelude.{◌≡◌, ℕ, Bool, List, [], Option, Some, Ok, IsUtf8}
 use Rattle.std.specs.Io.KnownBytes.{Appends}
 use Rattle.turn_code.specs.declared.draft.Draft.{Draft}
+use Rattle.sdl_lex.specs.declared.lexemes.Token.{Token}
 use Rattle.sdl_sound.specs.Plain.{PlainBlock}
+use Rattle.turn_verify.specs.Loaded.{IsRead}
+use Rattle.script_check.specs.Checked.{IsGiven, IsSetOf}
 use Rattle.script_seen.specs.resend_store_types.messages.RoundLimits.{RoundLimits}
 use Rattle.script_seen.specs.TermScripts.{PlainAnyScript, book, terminal, asks_told}
 use Rattle.script_seen.specs.GroupScripts.{PlainPlayScript, other, group, play_script_of}
@@ -77,3 +80,31 @@ IsOtherCaptured usual every d (book s) old new = ⊥
 IsOtherCaptured usual every d (terminal s) old new =
     IsOfNew d usual s.head
     (λ t. IsCaptured every (asks_told s.commands) t s.commands old new)
+
+abbrev pub AreCaptured :
+    RoundLimits → Bool → Draft → PlainPlayScript → Option (List ℕ) → Option (List ℕ) → Type 0
+AreCaptured usual every d (other s) old new = IsOtherCaptured usual every d s old new
+AreCaptured usual every d (group s) old new = Unit {0}
+
+-- the bytes are a script, whose links are captured (nothing is said of those of a set)
+pub record IsPlayCaptured (usual : RoundLimits) (every : Bool) (old new : Option (List ℕ))
+    (d : Draft) (bytes : List ℕ) : Type 0 where
+  pub utf8 : IsUtf8 bytes
+  pub script : PlainPlayScript
+  pub reads : play_script_of bytes ≡ Ok script
+  pub captured : AreCaptured usual every d script old new
+
+-- ---- on a text
+
+-- the bytes of the set are a text that reads as a block and is accepted, and P holds of these, of
+-- their set and of the bytes of the script
+pub record IsOnText (set script : Option (List ℕ))
+    (P : List ℕ → PlainBlock → Draft → List ℕ → Type 0) : Type 0 where
+  pub text : List ℕ
+  pub is_text : IsGiven set (λ bytes. bytes ≡ text)
+  pub tokens : List Token
+  pub block : PlainBlock
+  pub reads : IsRead text tokens block
+  pub draft : Draft
+  pub is_set : IsSetOf text draft
+  pub of_script : IsGiven script (P text block draft)

@@ -1,4 +1,9 @@
 //! The command `play` with a capture of the units that go out and come in.
+ghost use Rattle.std.specs.Prelude.{◌≡◌, ◌⊎◌, IfSome, false};
+ghost use Rattle.script_check.specs.Checked.{given, IsAccepted};
+ghost use Rattle.script_play.specs.Played.{IsOnSet, IsPlayed, IsPlayedInPart, IsRefused};
+ghost use Rattle.script_play.specs.Seen.{IsPlayCaptured};
+
 use crate::playing::{explain, explain_length, refuse_script};
 use arrayvec::ArrayVec;
 use line_streams::{Deframer, Repeats, Seen, ended, header, record};
@@ -435,7 +440,18 @@ pub fn play_captured<S: Read + Drop, R: Read + Drop, W: Write, T: Write, E: Writ
     out: &mut T,
     writer: &mut W,
     errors: &mut E,
-) -> u8 {
+) -> u8
+    ensures accepted { (result ≡ 0) ⊎ (result ≡ 1) → IfSome (given S.remaining set) IsAccepted }
+    ensures held { result ≡ 0
+        → IsOnSet (given S.remaining set) (R.remaining script) (IsPlayed usual false (W.contents writer.old) (W.contents writer.new)) }
+    ensures missed { result ≡ 1
+        → IsOnSet (given S.remaining set) (R.remaining script) (IsPlayedInPart usual false (W.contents writer.old) (W.contents writer.new)) }
+    ensures captured { result ≡ 0
+        → IsOnSet (given S.remaining set) (R.remaining script) (IsPlayCaptured usual every (T.contents out.old) (T.contents out.new)) }
+    ensures refused { result ≡ 2
+        → IsRefused (given S.remaining set) (R.remaining script) (W.contents writer.old) (W.contents writer.new) }
+    ensures status { (result ≡ 0) ⊎ (result ≡ 1) ⊎ (result ≡ 2) ⊎ (result ≡ 4) }
+{
     let set = find_set(alloc, set);
     let read = read_text(alloc, &mut script);
     match set {

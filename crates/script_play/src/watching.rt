@@ -1,4 +1,8 @@
 //! The command `play` with what is told of its run at the end: a chart, what was thrown away, or what of the text was taken.
+ghost use Rattle.std.specs.Prelude.{◌≡◌, ◌⊎◌, IfSome, false};
+ghost use Rattle.script_check.specs.Checked.{given, IsAccepted};
+ghost use Rattle.script_play.specs.Played.{IsOnSet, IsPlayed, IsPlayedInPart, IsRefused};
+ghost use Rattle.script_play.specs.Seen.{IsOnText, IsPlayTold, IsPlayToldInPart};
 ghost use Rattle.script_seen.specs.Watched.{turns_in, throws_in};
 ghost use Rattle.script_play.specs.Charted.{Charts};
 ghost use Rattle.script_play.specs.Thrown.{CountsThrown};
@@ -280,7 +284,20 @@ pub fn play_watched<S: Read + Drop, R: Read + Drop, W: Write, T: Write, E: Write
     out: &mut T,
     writer: &mut W,
     errors: &mut E,
-) -> u8 {
+) -> u8
+    ensures accepted { (result ≡ 0) ⊎ (result ≡ 1) → IfSome (given S.remaining set) IsAccepted }
+    ensures held { result ≡ 0
+        → IsOnSet (given S.remaining set) (R.remaining script) (IsPlayed usual false (W.contents writer.old) (W.contents writer.new)) }
+    ensures missed { result ≡ 1
+        → IsOnSet (given S.remaining set) (R.remaining script) (IsPlayedInPart usual false (W.contents writer.old) (W.contents writer.new)) }
+    ensures told { result ≡ 0
+        → IsOnText (given S.remaining set) (R.remaining script) (λ text b. IsPlayTold usual wanted text b (T.contents out.old) (T.contents out.new)) }
+    ensures in_part { result ≡ 1
+        → IsOnText (given S.remaining set) (R.remaining script) (λ text b. IsPlayToldInPart usual wanted text b (T.contents out.old) (T.contents out.new)) }
+    ensures refused { result ≡ 2
+        → IsRefused (given S.remaining set) (R.remaining script) (W.contents writer.old) (W.contents writer.new) }
+    ensures status { (result ≡ 0) ⊎ (result ≡ 1) ⊎ (result ≡ 2) ⊎ (result ≡ 4) }
+{
     match set {
         SetWord::Text(mut reader) => {
             let of_set = read_text(alloc, &mut reader);
