@@ -16,7 +16,7 @@ import sys
 sys.path += map(str, pathlib.Path(__file__).resolve().parents[1].glob("*"))
 
 from plain_play import Refused
-from plain_term import COMMANDS, MORE, ROOT, SETS, Terminal, command, do, shown
+from plain_term import COMMANDS, MEASURES, MORE, ROOT, SETS, Terminal, command, do, shown
 from plain_play import BadLine, number
 from plain_units import FLAG, bits_of, check_octets, octets_of, stuffed
 
@@ -114,7 +114,7 @@ def said(lines):
             if words[1:2] == ["ok"] and len(words) > 2:
                 at = max(at, int(words[0]))
                 yield at, " ".join(words[2:])
-            elif not words[1:] or words[1] not in {"in", "down", "far", "message", "state", "value", "cleared", "told", "accepted", "retrieve", "refused", "lost"}:
+            elif not words[1:] or words[1] not in {"in", "down", "far", "message", "state", "value", "cleared", "told", "accepted", "retrieve", "measure", "refused", "lost"}:
                 yield at, " ".join(words)
         elif words[0] == "at" and len(words) == 2 and words[1].isdigit():
             at = max(at, int(words[1]))
@@ -125,6 +125,8 @@ def said(lines):
 def obeyed(end, order):
     """The lines that an order is answered."""
     words = order.split(" ")
+    if words == ["measure"]:
+        return [f"ok {order}", *(f"{order} {name} {end.counts[name]}" for name in MEASURES)]
     try:
         if len(words) == 1 and words[0] in {**COMMANDS, **MORE}:
             words = ["command", words[0]]
@@ -133,7 +135,9 @@ def obeyed(end, order):
             do(end, word, *rest)
         elif word == "msu":
             end.sender.put(rest[0])
-        elif word in ("told", "accepted", "retrieve"):
+        elif word == "measure" and rest == ["reset"]:
+            do(end, word, *rest)
+        elif word in ("told", "accepted", "retrieve", "measure"):
             return [f"ok {order}", f"{order} {do(end, word, *rest)[0]}"]
         elif word == "state":
             actor = end.book.actor(rest[0])
@@ -150,9 +154,9 @@ def obeyed(end, order):
     return [f"ok {order}"]
 
 
-def run(text, cyclic, octets, orders, say):
-    """Has a terminal speak on a line, and gives the octets that go out."""
-    end, voice, out, orders = End(text, cyclic), Voice(), bytearray(), list(orders)
+def run(text, cyclic, octets, orders, say, end=None):
+    """Has a terminal speak on a line, a new one where none is given, and gives the octets that go out."""
+    end, voice, out, orders = end or End(text, cyclic), Voice(), bytearray(), list(orders)
     for count, octet in enumerate(octets):
         out.append(voice.octet(end))
         end.line_in([octet])
@@ -172,6 +176,13 @@ def run(text, cyclic, octets, orders, say):
             for line in [*obeyed(end, order), *told(end)]:
                 say(f"{now} {line}")
     return bytes(out)
+
+
+def measured(text, cyclic, octets, orders):
+    """What a terminal measured on a line up to its end, as `--measures` has it."""
+    end = End(text, cyclic)
+    run(text, cyclic, octets, orders, lambda _: None, end)
+    return "".join(f"{name} {end.counts[name]}\n" for name in MEASURES)
 
 
 # The lives.

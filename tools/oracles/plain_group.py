@@ -22,6 +22,8 @@ from plain_play import LONGEST, number
 TEXT = ROOT / "examples" / "standard.sdl"
 OWN, OTHER = 1, 2
 COO, COA, ECO, ECA = 0x11, 0x21, 0x12, 0x22
+# What stands behind the label of a message that is bound to a link, by its service indicator and heading: how many octets, or None for a pattern.
+BOUND = {(0, COO): 1, (0, COA): 1, (0, ECO): 0, (0, ECA): 0, (0, 0x51): 1, (0, 0x61): 1, (0, 0x17): 0, (1, 0x11): None, (1, 0x21): None}
 PATIENCE, MOST_KEPT, MOST_UNSURE = 1400, 1151, 2**64 - 1
 
 
@@ -41,6 +43,19 @@ def labelled(destination, origin, selection, rest):
 def selection_of(message):
     """The selection of a message, which begins with its service information octet."""
     return label_of(message[1:])[2]
+
+
+def is_bound(message, own, peer):
+    """Whether a message, from its service information octet on, belongs to its link alone and goes from one point to the other."""
+    if len(message) < 6 or label_of(message[1:])[:2] != (peer, own):
+        return False
+    indicator, heading, rest = message[0] % 16, message[5], message[6:]
+    if (indicator, heading) not in BOUND:
+        return False
+    octets = BOUND[indicator, heading]
+    if octets is None:
+        return 2 <= len(rest) <= 16 and rest[0] // 16 == len(rest) - 1
+    return len(rest) == octets
 
 
 def changeover_in(sif):
@@ -66,12 +81,21 @@ class Link(Terminal):
         self.changing, self.told, self.answered, self.waited, self.out = False, None, False, 0, False
         # Behind the beginning of its last changeover: whether there was one, and the ticks since it last came into service then.
         self.had_one, self.since = False, None
+        self.points = OWN, OTHER
+
+    def is_own(self, message):
+        """Whether a message is bound to this link."""
+        return is_bound(message, *self.points)
 
     def clear(self):
         """A link set obeys no Clear: what its links keep is level 3's."""
 
     def hear(self, sender, signal, values):
         super().hear(sender, signal, values)
+        if signal == "Fresh":
+            if self.told is not None:
+                self.told -= sum(self.is_own(it) for it in self.sender.all[self.sender.acknowledged : self.told])
+            self.sender.all[self.sender.acknowledged :] = [it for it in self.held() if not self.is_own(it)]
         if signal in ("InServiceNow", "Down"):
             self.serves = signal == "InServiceNow"
             self.came = self.came or self.serves
@@ -92,8 +116,12 @@ class Link(Terminal):
     def sent(self):
         return self.sender.sent - self.sender.acknowledged
 
+    def unknown(self):
+        """How many of those that are sent aren't the link's own."""
+        return sum(not self.is_own(it) for it in self.held()[: self.sent()])
+
     def holds(self, selection):
-        return any(selection_of(it) == selection for it in self.held())
+        return any(selection_of(it) == selection and not self.is_own(it) for it in self.held())
 
     def hold(self):
         """No message goes or comes until both directions begin anew, and not before the hand of a changeover that goes on was taken out."""
@@ -129,8 +157,8 @@ class Link(Terminal):
             return "K1 NoLink"
         if self.out or (not self.answered and self.waited < PATIENCE):
             return "K2 Waiting"
-        if self.known() is None and self.sent():
-            return f"K4 Unsure {self.sent()}"
+        if self.known() is None and self.unknown():
+            return f"K4 Unsure {self.unknown()}"
         return None
 
     def hand_out(self):
@@ -142,7 +170,7 @@ class Link(Terminal):
         sender.sent = sender.again = sender.turn = sender.acknowledged
         sender.forced = False
         self.out, self.stays_held = True, False
-        return hand
+        return [it for it in hand if not self.is_own(it)]
 
     def takes(self, messages):
         if len(self.held()) + len(messages) > MOST_KEPT:
@@ -157,6 +185,8 @@ class Group:
     def __init__(self, links, own=OWN, peer=OTHER):
         self.links, self.table, self.unsure = links, [None] * 16, 0
         self.own, self.peer = own, peer
+        for link in links:
+            link.points = own, peer
 
     def link(self, at):
         if at >= len(self.links):
@@ -237,7 +267,16 @@ class Group:
             self.see(link)
         return lines
 
+    def send_by(self, at, octets):
+        """Takes a message that is bound to a link."""
+        link = self.link(at)
+        if not link.is_able():
+            raise Refused("K1 NoLink")
+        link.takes([octets])
+
     def send(self, octets):
+        if is_bound(octets, self.own, self.peer):
+            raise Refused("K5 Bound")
         at = self.table[selection_of(octets)]
         if at is None:
             raise Refused("K1 NoLink")
@@ -293,7 +332,7 @@ class Group:
             raise Refused(why)
         if why is None or why == "K2 Waiting":
             raise Refused("K2 Waiting")
-        self.unsure = min(MOST_UNSURE, self.unsure + link.sent())
+        self.unsure = min(MOST_UNSURE, self.unsure + link.unknown())
         return link.hand_out()
 
     def divert(self, at, hand):
@@ -350,11 +389,13 @@ def command(words):
         return word, number(rest[0])
     if word == "send" and len(rest) == 1 and 5 <= len(octets_in(rest[0])) <= 273:
         return word, octets_in(rest[0])
+    if word == "bound" and len(rest) == 1 and is_bound(octets_in(rest[0]), OWN, OTHER):
+        return word, octets_in(rest[0])
     if word == "message" and len(rest) == 1:
         return word, octets_in(rest[0])
     if word == "admit" and rest in (["yes"], ["no"]):
         return word, rest == ["yes"]
-    if word in ("send", "msu"):
+    if word in ("send", "bound", "msu"):
         raise BadLine
     return terminal_command(words)
 
@@ -384,6 +425,8 @@ class Player:
             return do(group.link(at), word, *rest)
         elif word == "send":
             group.send(rest[0])
+        elif word == "bound":
+            group.send_by(at, rest[0])
         elif word == "admit":
             group.admit(at, rest[0])
         elif word == "rebalance":

@@ -15,6 +15,7 @@ states of all processes; among the wanted lines they stand for what is printed, 
 import pathlib
 import re
 import sys
+from collections import Counter
 
 sys.path += map(str, pathlib.Path(__file__).resolve().parents[1].glob("*"))
 
@@ -40,6 +41,12 @@ SORTS = {
     "AckSeen": "BOOLEAN", "Unit": "INTEGER", "Take": "BOOLEAN", "Line": "INTEGER", "Withhold": "BOOLEAN", "Down": "INTEGER", "Deliver": "BOOLEAN",
     "Odd": "INTEGER", "Counting": "BOOLEAN",
 }
+# What is measured (Q.752), in the order in which it is printed; the times are ticks.
+MEASURES = """service_time failures stops alignment_failures error_failures far_failures t1_failures number_failures t7_failures t6_failures
+errored_units errored_octets nacks_received nacks_sent octets_sent octets_repeated octets_received messages_sent messages_received
+far_outages far_outage_time outages outage_time busy busy_time far_busy far_busy_time rounds_n1 rounds_n2 aborted_periods""".split()
+# Why a link went down, by the number that is told; 0 is a stop.
+CAUSES = dict(enumerate("alignment error far t1 number t7 t6".split(), 1))
 # What a text may have besides.
 OPTIONAL = "ENV/Deliver RC/Odd ENV/Clear ENV/Cleared LSC/Flush LSC/Continue CC/Overload AERM/Counting SUERM/Counting".split()
 
@@ -70,15 +77,26 @@ class Terminal:
         self.deliver, self.behind_odd, self.spare, self.cleared, self.left, self.keeps = True, False, 0, 0, False, False
         # Whether octets are counted, as that was told last.
         self.counting = True
+        # What Q.752 asks for; and how it is with the link.
+        self.counts = self.line.counts = self.sender.counts = self.receiver.counts = Counter()
+        self.in_service = self.far_out = self.far_busy = False
 
     def rebase(self):
         if self.book.journal - self.book.events < 32768:
             self.book.events = 0
 
+    def periods(self):
+        """Cp of initial alignment control, where the text has it: aborted proving periods of this alignment."""
+        value = next((it.variables.get("cp") for it in self.book.actors if it.process.name.lower() == "iac"), None)
+        return None if isinstance(value, bool) else value
+
     def rest(self):
         for _ in range(10000):
+            before = self.periods()
             if not self.turn():
                 return
+            if None not in (before, self.periods()) and before < self.periods():
+                self.counts["aborted_periods"] += 1
             while self.book.ring:
                 try:
                     self.hear(*self.book.take_env())
@@ -105,6 +123,7 @@ class Terminal:
 
     def hear(self, _, signal, values):
         """What an actor says to the terminal."""
+        self.measure(signal, values)
         if signal == "Fresh":
             self.sender.fresh()
             self.receiver.fresh()
@@ -128,13 +147,33 @@ class Terminal:
         elif values[0] in (0, 1, 2, 3, 4, 8, 9):
             self.kind, self.busy = values[0], False
 
+    def measure(self, signal, values):
+        """What a signal tells Q.752's measurements."""
+        if signal == "Down" and values:
+            self.counts["failures" if values[0] else "stops"] += 1
+            if values[0] in CAUSES:
+                self.counts[CAUSES[values[0]] + "_failures"] += 1
+        elif signal == "RemoteOut" and not self.far_out:
+            self.counts["far_outages"] += 1
+        elif signal == "Line" and values[0] == 4 and self.kind != 4:
+            self.counts["outages"] += 1
+        elif signal == "Withhold" and values[0] and self.withheld is None:
+            self.counts["busy"] += 1
+        if signal in ("InServiceNow", "Down"):
+            self.in_service = signal == "InServiceNow"
+        if signal in ("RemoteOut", "RemoteBack", "Down"):
+            self.far_out = signal == "RemoteOut"
+        # Messages go out no more, or begin anew.
+        if signal in ("Down", "Fresh") or signal == "Line" and values[0] in (0, 1, 2, 3, 4, 8):
+            self.far_busy = False
+
     def clear(self):
         """Nothing waits and nothing is unacknowledged any more; the next new message has the number behind the last acknowledged one."""
         out, sender = self.sender.sent - self.sender.acknowledged, self.sender
         self.spare, self.cleared = out or self.spare, self.cleared + len(sender.all) - sender.acknowledged
         del sender.all[sender.acknowledged :]
         sender.sent = sender.again = sender.turn = sender.acknowledged
-        sender.forced, self.left = False, True
+        sender.forced, self.left, self.far_busy = False, True, False
 
     def offer(self, actor, signal, *values):
         """An offer for a unit: it doesn't matter whether it was refused."""
@@ -152,6 +191,11 @@ class Terminal:
     def tick(self, ticks):
         self.rebase()
         due = self.book.advance(ticks)
+        so = {
+            "service_time": self.in_service, "far_outage_time": self.far_out, "outage_time": self.kind == 4, "busy_time": self.withheld is not None,
+            "far_busy_time": self.far_busy,
+        }
+        self.counts.update({name: ticks for name, holds in so.items() if holds})
         self.rest()
         return due
 
@@ -181,6 +225,10 @@ class Terminal:
             self.offer("SUERM", "Errored")
             return
         head, status, message = unit
+        # The far side is congested from its SIB on, where messages are out and more may go.
+        if status == 5 and self.kind == 9 and self.sender.sent > self.sender.acknowledged and not self.far_busy:
+            self.far_busy = True
+            self.counts["far_busy"] += 1
         if status is None and self.take and "RC/Odd" in self.names:
             return self.judged(head, message)
         count, bad = self.stored(head, message) if status is None and self.take else (0, False)
@@ -241,7 +289,10 @@ class Terminal:
         else:
             accepted = self.receiver.on_unit(head["fsn"], head["fib"], message is not None)
             fault = "indicator" if accepted is None else None
-            self.messages += [message] if accepted else []
+            if accepted:
+                self.messages.append(message)
+                self.counts.update(messages_received=1, octets_received=len(message))
+        self.far_busy = self.far_busy and not count
         return count or 0, self.remember(fault)
 
     def backward(self):
@@ -339,6 +390,8 @@ def command(words):
         return "line", framed(octets_of_words(rest))
     if len(rest) != 1:
         raise BadLine
+    if word == "measure" and rest[0] in [*MEASURES, "reset"]:
+        return word, rest[0]
     if word in ("tick", "out"):
         return word, number(rest[0])
     if word == "errors":
@@ -409,7 +462,7 @@ def retrieved(terminal, behind):
     del sender.all[sender.acknowledged + (0 if behind is None else count) :]
     sender.acknowledged = len(sender.all)
     sender.sent = sender.again = sender.turn = sender.acknowledged
-    sender.forced = False
+    sender.forced = terminal.far_busy = False
     if out:
         terminal.offer("TXC", "AckSeen", False)
     return handed
@@ -422,6 +475,11 @@ def do(terminal, word, *rest):
         return [told(terminal)]
     if word == "accepted":
         return [f"ok {terminal.receiver.last}"]
+    if word == "measure" and rest[0] == "reset":
+        terminal.counts.clear()
+        return ["ok"]
+    if word == "measure":
+        return [f"ok {terminal.counts[rest[0]]}"]
     if word == "retrieve":
         return [f"ok {retrieved(terminal, rest[0])}"]
     if word == "lines":

@@ -1,4 +1,7 @@
-"""Signal units, the line and the stores of Q.703, plainly and on whole lists: what the terminals of plain_term.py stand on."""
+"""Signal units, the line and the stores of Q.703, plainly and on whole lists: what the terminals of plain_term.py stand on. Each counts what Q.752 asks
+of it, by name."""
+from collections import Counter
+
 from plain_turn import Refused
 
 GENERATOR = 1 << 16 | 1 << 12 | 1 << 5 | 1
@@ -72,6 +75,7 @@ class Line:
 
     def __init__(self):
         self.bits, self.content, self.counting, self.counted = [], None, True, 0
+        self.counts = Counter()
 
     def ends(self, flag):
         return self.bits[-len(flag) :] == flag
@@ -83,6 +87,7 @@ class Line:
         if self.counting:
             self.counted += 1
             if self.counted % 128 == 0:
+                self.counts["errored_octets"] += 1
                 events.append(None)
         if self.ends(FLAG):
             end, self.content = self.content, len(self.bits)
@@ -96,6 +101,8 @@ class Line:
         inside = unstuffed(bits)
         unit = decoded(octets_of(inside)) if len(inside) % 8 == 0 and stuffed(inside) == bits else None
         was, self.counting = self.counting, self.counting and unit is None
+        if unit is None and not was:
+            self.counts["errored_units"] += 1
         return [unit] if unit or not was else []
 
     def is_long(self):
@@ -115,6 +122,7 @@ class Sender:
         self.cyclic, self.all, self.fib, self.forced = cyclic, [], 1, False
         self.limits = messages, octets
         self.origin = self.acknowledged = self.sent = self.again = self.turn = 0
+        self.counts = Counter()
 
     def put(self, message):
         if len(self.all) - self.sent >= 1024:
@@ -134,22 +142,33 @@ class Sender:
 
     def next_unit(self):
         if self.forced and self.again == self.sent:
-            self.forced = self.is_limit_reached()
-            self.again = self.acknowledged if self.forced else self.sent
+            self.end_round()
         if self.again < self.sent:
             self.again += 1
-            return self.numbered(self.again - 1)
+            return self.repeated(self.again - 1)
         if self.sent < len(self.all) and self.sent - self.acknowledged < 127:
             self.sent += 1
-            self.forced = self.is_limit_reached()
-            self.again = self.acknowledged if self.forced else self.sent
+            self.end_round()
+            self.counts["messages_sent"] += 1
+            self.counts["octets_sent"] += len(self.all[self.sent - 1])
             return self.numbered(self.sent - 1)
         if self.cyclic and self.acknowledged < self.sent:
             place, self.turn = self.turn, self.turn + 1
             if self.turn == self.sent:
                 self.turn = self.acknowledged
-            return self.numbered(place)
+            return self.repeated(place)
         return self.idle()
+
+    def repeated(self, place):
+        self.counts["octets_repeated"] += len(self.all[place])
+        return self.numbered(place)
+
+    def end_round(self):
+        """Begins a round of forced retransmission, where a limit is reached."""
+        self.forced = self.is_limit_reached()
+        self.again = self.acknowledged if self.forced else self.sent
+        if self.forced:
+            self.counts["rounds_n1" if self.sent - self.acknowledged >= self.limits[0] else "rounds_n2"] += 1
 
     def on_back(self, bsn, bib):
         """How many messages are acknowledged, None where the number is none that can be."""
@@ -160,6 +179,7 @@ class Sender:
         self.again, self.turn = max(self.again, self.acknowledged), max(self.turn, self.acknowledged)
         if not self.cyclic and bib != self.fib:
             self.fib, self.again = bib, self.acknowledged
+            self.counts["nacks_received"] += 1
         return count
 
     def fresh(self):
@@ -169,7 +189,7 @@ class Sender:
 
 class Receiver:
     def __init__(self, cyclic):
-        self.cyclic = cyclic
+        self.cyclic, self.counts = cyclic, Counter()
         self.fresh()
 
     def fresh(self):
@@ -189,4 +209,5 @@ class Receiver:
             return True
         if not self.cyclic and fsn != self.last:
             self.bib, self.asked = 1 - self.bib, True
+            self.counts["nacks_sent"] += 1
         return False

@@ -3,7 +3,7 @@ ghost use Rattle.std.specs.Prelude.{◌≡◌, ◌==◌, ◌++◌, IfOk, OnOk, c
 ghost use Rattle.std.specs.List.{flat_map};
 ghost use Rattle.draw_diff.specs.Ways.{alone_process, lines_in, ways_in};
 
-use crate::walk::push_alone_process;
+use crate::alone::push_alone_process;
 use std::alloc::{AllocError, Global};
 use turn_code::{Draft, DraftProcess};
 

@@ -1,6 +1,7 @@
 //! What two sets of processes differ in, by their names: what they declare, and which of their transitions mean something else.
 #![tactic(auto)]
 
+mod alone;
 mod comparing;
 mod counts;
 mod items;

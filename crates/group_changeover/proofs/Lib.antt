@@ -3,3 +3,4 @@ pub mod Equal
 mod Keeping
 pub mod Lists
 mod Moving
+pub mod Unbound

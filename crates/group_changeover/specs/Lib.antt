@@ -1,3 +1,4 @@
+pub mod Bound
 pub mod Changeovers
 pub mod Labels
 pub mod Laws

@@ -3,6 +3,8 @@ use Rattle.std.specs.Prelude.{ℕ, List, ◌++◌, codes}
 use Rattle.std.specs.Fmt.{decimal}
 use Rattle.group_changeover.specs.declared.errors.SendError.{SendError}
 use Rattle.group_changeover.specs.declared.errors.SendError.TheVariants as send
+use Rattle.group_changeover.specs.declared.errors.BindError.{BindError}
+use Rattle.group_changeover.specs.declared.errors.BindError.TheVariants as bind
 use Rattle.group_changeover.specs.declared.errors.FailError.{FailError}
 use Rattle.group_changeover.specs.declared.errors.FailError.TheVariants as fail
 use Rattle.group_changeover.specs.declared.errors.RetrieveError.{RetrieveError}
@@ -17,14 +19,16 @@ use Rattle.group_changeover.specs.declared.errors.LinkError.{LinkError}
 use Rattle.group_changeover.specs.declared.errors.LinkError.TheVariants as link
 use Rattle.group_changeover.specs.declared.errors.LineError.{LineError}
 use Rattle.group_changeover.specs.declared.errors.LineError.TheVariants as line
-use Rattle.group_changeover.specs.declared.errors.CommandError.{CommandError}
-use Rattle.group_changeover.specs.declared.errors.CommandError.TheVariants as command
-use Rattle.actor_machine.specs.Printed.{refusal_text}
 
 abbrev pub send_error_text : SendError → List ℕ
+send_error_text send.Bound = codes "K5 Bound"
 send_error_text send.NoLink = codes "K1 NoLink"
 send_error_text send.Waiting = codes "K2 Waiting"
 send_error_text send.Full = codes "E1 Full"
+
+abbrev pub bind_error_text : BindError → List ℕ
+bind_error_text bind.NoLink = codes "K1 NoLink"
+bind_error_text bind.Full = codes "E1 Full"
 
 abbrev pub fail_error_text : FailError → List ℕ
 fail_error_text fail.NoLink = codes "K1 NoLink"
@@ -55,9 +59,3 @@ link_error_text link.NoLink = codes "K1 NoLink"
 abbrev pub line_error_text : LineError → List ℕ
 line_error_text line.NoLink = codes "K1 NoLink"
 line_error_text line.NoMemory = codes "out of memory"
-
-abbrev pub command_error_text : CommandError → List ℕ
-command_error_text command.NoLink = codes "K1 NoLink"
-command_error_text command.Waiting = codes "K2 Waiting"
-command_error_text (command.Refused refusal) = refusal_text refusal
-command_error_text command.NoMemory = codes "out of memory"

@@ -1,20 +1,30 @@
 //! Why a call of a link set is refused.
 
 ghost use Rattle.std.specs.Prelude.{Some};
-ghost use Rattle.group_changeover.specs.Printed.{send_error_text, fail_error_text, retrieve_error_text, abandon_error_text, divert_fault_text, rebalance_error_text, link_error_text, line_error_text, command_error_text};
+ghost use Rattle.group_changeover.specs.Printed.{send_error_text, bind_error_text, fail_error_text, retrieve_error_text, abandon_error_text, divert_fault_text, rebalance_error_text, link_error_text, line_error_text};
 
-use actor_machine::Refusal;
 use std::fmt;
 use thiserror::Error;
 
 /// Why a message isn't taken.
 #[derive(Clone, Copy, Debug, PartialEq, Eq, Error)]
 pub enum SendError {
+    /// It is bound to a link, which has to be named.
+    Bound,
     /// Its selection has no link, or that link isn't in changeover and is out of service, held or not admitted.
     NoLink,
     /// Its link is in changeover.
     Waiting,
     /// 1,024 messages or more wait with its link.
+    Full,
+}
+
+/// Why a message that is bound to a link isn't taken.
+#[derive(Clone, Copy, Debug, PartialEq, Eq, Error)]
+pub enum BindError {
+    /// There is no such link, or it is out of service or held.
+    NoLink,
+    /// It holds 1,151 messages.
     Full,
 }
 
@@ -85,26 +95,25 @@ pub enum LineError {
     NoMemory,
 }
 
-/// Why a command isn't given to a link.
-#[derive(Clone, Copy, Debug, PartialEq, Eq, Error)]
-pub enum CommandError {
-    /// There is no such link.
-    NoLink,
-    /// It is Start, and the messages of a changeover aren't handed out yet.
-    Waiting,
-    /// The terminal's refusal.
-    Refused(Refusal),
-    /// There is no memory to make room in the terminal's journal.
-    NoMemory,
-}
-
 impl fmt::Display for SendError {
     ghost output = { λ e. Some (send_error_text e) };
 
     fn fmt<W: fmt::Write>(&self, f: &mut fmt::Formatter<W>) -> fmt::Result {
         f.write_str(match self {
+            Self::Bound => "K5 Bound",
             Self::NoLink => "K1 NoLink",
             Self::Waiting => "K2 Waiting",
+            Self::Full => "E1 Full",
+        })
+    }
+}
+
+impl fmt::Display for BindError {
+    ghost output = { λ e. Some (bind_error_text e) };
+
+    fn fmt<W: fmt::Write>(&self, f: &mut fmt::Formatter<W>) -> fmt::Result {
+        f.write_str(match self {
+            Self::NoLink => "K1 NoLink",
             Self::Full => "E1 Full",
         })
     }
@@ -186,18 +195,5 @@ impl fmt::Display for LineError {
             Self::NoLink => "K1 NoLink",
             Self::NoMemory => "out of memory",
         })
-    }
-}
-
-impl fmt::Display for CommandError {
-    ghost output = { λ e. Some (command_error_text e) };
-
-    fn fmt<W: fmt::Write>(&self, f: &mut fmt::Formatter<W>) -> fmt::Result {
-        match self {
-            Self::NoLink => f.write_str("K1 NoLink"),
-            Self::Waiting => f.write_str("K2 Waiting"),
-            Self::Refused(refusal) => f.write_str(refusal.name()),
-            Self::NoMemory => f.write_str("out of memory"),
-        }
     }
 }

@@ -3,6 +3,7 @@
 #![tactic(auto)]
 
 mod availability;
+mod bound;
 mod changeover;
 mod errors;
 mod labels;
@@ -12,9 +13,10 @@ mod sharing;
 mod table;
 
 pub use availability::{Answer, Availability, Behind, Changing, SELECTIONS, T2};
+pub use bound::{Points, leave_out};
 pub use changeover::{Changeover, Kind, read_changeover};
 pub use errors::{
-    AbandonError, CommandError, DivertFault, FailError, LineError, LinkError, RebalanceError,
+    AbandonError, BindError, DivertFault, FailError, LineError, LinkError, RebalanceError,
     RetrieveError, SendError,
 };
 pub use labels::{Label, label_of};

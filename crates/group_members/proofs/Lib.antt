@@ -5,4 +5,5 @@ pub mod Fronts
 pub mod Opening
 pub mod Passing
 pub mod Refusing
+pub mod Renewing
 pub mod Turning

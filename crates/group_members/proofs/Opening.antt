@@ -3,11 +3,11 @@ use Rattle.std.proofs.Common.{◌≡◌, ℕ, ◌+◌, ◌<◌, ◌||◌, zero, 
 use Rattle.std.specs.Prelude.{if◌then◌else◌, slice_get}
 use Rattle.std.specs.List.{list_any}
 use Rattle.resend_store.specs.declared.messages.Msu.{Msu}
-use Rattle.group_changeover.specs.Sharing.{is_on}
+use Rattle.group_changeover.specs.declared.bound.Points.{Points}
 use Rattle.group_members.specs.OneLink.{held}
 use Rattle.std.proofs.lemmas.List.{drop_more, append-nil}
 use Rattle.group_members.specs.declared.link.Link.{Link}
-use Rattle.group_members.specs.Moving.{is_open, places_from, open_links, on_by, holds}
+use Rattle.group_members.specs.Moving.{is_open, places_from, open_links, is_unbound_on, on_by, holds}
 
 one_by : (b : Bool) (n : ℕ) (ls rest : List ℕ) → (if b then n ∷ rest else rest) ≡ (if b then n ∷ [] else []) ++ rest
 one_by true n ls rest = refl
@@ -54,24 +54,24 @@ rest_not : (a b : Bool) → (a || b) ≡ false → b ≡ false
 rest_not true b e = let f : true ≡ false = e in cc
 rest_not false b e = e
 
-any_at : (s : ℕ) (ms : List Msu) (i : ℕ) → on_by s (slice_get ms i) ≡ true → list_any (is_on s) ms ≡ true
-any_at s [] i e = let f : false ≡ true = e in cc
-any_at s (m ∷ ms) zero e = or_first (is_on s m) (list_any (is_on s) ms) e
-any_at s (m ∷ ms) (suc i) e = or_true (is_on s m) (list_any (is_on s) ms) (any_at s ms i e)
+any_at : (p : Points) (s : ℕ) (ms : List Msu) (i : ℕ) → on_by p s (slice_get ms i) ≡ true → list_any (is_unbound_on p s) ms ≡ true
+any_at p s [] i e = let f : false ≡ true = e in cc
+any_at p s (m ∷ ms) zero e = or_first (is_unbound_on p s m) (list_any (is_unbound_on p s) ms) e
+any_at p s (m ∷ ms) (suc i) e = or_true (is_unbound_on p s m) (list_any (is_unbound_on p s) ms) (any_at p s ms i e)
 
-none_more : (s : ℕ) (ms : List Msu) (i : ℕ) → on_by s (slice_get ms i) ≡ false → list_any (is_on s) (take i ms) ≡ false → list_any (is_on s) (take (suc i) ms) ≡ false
-none_more s [] i e none = none_here i
+none_more : (p : Points) (s : ℕ) (ms : List Msu) (i : ℕ) → on_by p s (slice_get ms i) ≡ false → list_any (is_unbound_on p s) (take i ms) ≡ false → list_any (is_unbound_on p s) (take (suc i) ms) ≡ false
+none_more p s [] i e none = none_here i
   where
-    none_here : (j : ℕ) → list_any (is_on s) (take (suc j) []) ≡ false
+    none_here : (j : ℕ) → list_any (is_unbound_on p s) (take (suc j) []) ≡ false
     none_here j = refl
-none_more s (m ∷ ms) zero e none = neither (is_on s m) false e refl
-none_more s (m ∷ ms) (suc i) e none =
-    neither (is_on s m) (list_any (is_on s) (take (suc i) ms)) (first_not (is_on s m) (list_any (is_on s) (take i ms)) none)
-    (none_more s ms i e (rest_not (is_on s m) (list_any (is_on s) (take i ms)) none))
+none_more p s (m ∷ ms) zero e none = neither (is_unbound_on p s m) false e refl
+none_more p s (m ∷ ms) (suc i) e none =
+    neither (is_unbound_on p s m) (list_any (is_unbound_on p s) (take (suc i) ms)) (first_not (is_unbound_on p s m) (list_any (is_unbound_on p s) (take i ms)) none)
+    (none_more p s ms i e (rest_not (is_unbound_on p s m) (list_any (is_unbound_on p s) (take i ms)) none))
 
-pub held_here : (s : ℕ) (k : Link) (i : ℕ) (b : Bool) → b ≡ true → b ≡ on_by s (slice_get (held k) i) → true ≡ holds s k
+pub held_here : (s : ℕ) (k : Link) (i : ℕ) (b : Bool) → b ≡ true → b ≡ on_by k.points s (slice_get (held k) i) → true ≡ holds s k
 unfolding holds
-held_here s k i b e is = sym (any_at s (held k) i (sym is ∙ e))
+held_here s k i b e is = sym (any_at k.points s (held k) i (sym is ∙ e))
 
-pub held_none : (s : ℕ) (ms : List Msu) (i : ℕ) (b : Bool) → b ≡ false → b ≡ on_by s (slice_get ms i) → list_any (is_on s) (take i ms) ≡ false → list_any (is_on s) (take (i + 1) ms) ≡ false
-held_none s ms i b e is none = let step : i + 1 ≡ suc i = omega arith in rw step (none_more s ms i (sym is ∙ e) none)
+pub held_none : (p : Points) (s : ℕ) (ms : List Msu) (i : ℕ) (b : Bool) → b ≡ false → b ≡ on_by p s (slice_get ms i) → list_any (is_unbound_on p s) (take i ms) ≡ false → list_any (is_unbound_on p s) (take (i + 1) ms) ≡ false
+held_none p s ms i b e is none = let step : i + 1 ≡ suc i = omega arith in rw step (none_more p s ms i (sym is ∙ e) none)

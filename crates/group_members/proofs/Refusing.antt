@@ -8,7 +8,7 @@ use Rattle.group_changeover.specs.Saying.{count_in}
 use Rattle.group_members.specs.declared.link.Link.{Link}
 use Rattle.group_changeover.specs.declared.errors.RetrieveError.{RetrieveError}
 use Rattle.group_changeover.specs.declared.errors.RetrieveError.TheVariants as retrieve
-use Rattle.group_members.specs.OneLink.{window, unsure_by, retrieve_fault, retrieve_fault_by, retrieve_fault_in, but_memory}
+use Rattle.group_members.specs.OneLink.{unknown, unsure_by, retrieve_fault, retrieve_fault_by, retrieve_fault_in, but_memory}
 
 unsure_some : (n : ℕ) (b : Bool) → (if b then None else Some (retrieve.Unsure n)) ≡ Some retrieve.NoMemory → ⊥
 unsure_some n true e = none_some e
@@ -23,7 +23,7 @@ never_by false false n None e = unsure_some n (n == 0) e
 never_in : (k : Link) (o : Option Changing) → retrieve_fault_by k o ≡ Some retrieve.NoMemory → ⊥
 unfolding retrieve_fault_in
 never_in k None e = cc
-never_in k (Some c) e = never_by (is_some c.retrieval) (not (is_some c.answer) && nat_lt c.waited T2) (window k).sent (count_in c.answer) e
+never_in k (Some c) e = never_by (is_some c.retrieval) (not (is_some c.answer) && nat_lt c.waited T2) (unknown k) (count_in c.answer) e
 
 told_by : (k : Link) (f : RetrieveError) → retrieve_fault k ≡ Some f → but_memory f ≡ Some f
 unfolding retrieve_fault

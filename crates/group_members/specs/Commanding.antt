@@ -1,6 +1,7 @@
 -- A command to the terminal of a link.
 use Rattle.std.specs.Prelude.{◌≡◌, ◌&&◌, Bool, true, false, not, if◌then◌else◌, Option, Some, None}
-use Rattle.std.specs.Prelude.{is_some}
+use Rattle.std.specs.Prelude.{ℕ, List, is_some, codes}
+use Rattle.actor_machine.specs.Printed.{refusal_text}
 use Rattle.actor_machine.specs.Ledger.{ask}
 use Rattle.actor_machine.specs.Step.{Says}
 use Rattle.actor_machine.specs.declared.reply.Refusal.{Refusal}
@@ -13,8 +14,8 @@ use Rattle.link_term.specs.Term.{with_processes}
 use Rattle.link_term.specs.Kept.{Keeps}
 use Rattle.group_changeover.specs.declared.availability.Availability.{Availability}
 use Rattle.group_changeover.specs.declared.availability.Changing.{Changing}
-use Rattle.group_changeover.specs.declared.errors.CommandError.{CommandError}
-use Rattle.group_changeover.specs.declared.errors.CommandError.TheVariants as error
+use Rattle.group_members.specs.declared.commanding.CommandError.{CommandError}
+use Rattle.group_members.specs.declared.commanding.CommandError.TheVariants as error
 use Rattle.group_members.specs.declared.link.Link.{Link}
 use Rattle.group_members.specs.OneLink.{is_serving}
 
@@ -51,6 +52,7 @@ started command k =
 
 -- The terminal took it.
 pub record Commanded (command : Command) (old new : Link) : Type 0 where
+  pub points : new.points ≡ old.points
   pub free : is_barred command old ≡ false
   pub answer :
       let t = tidied old.terminal.processes
@@ -63,6 +65,7 @@ pub record Commanded (command : Command) (old new : Link) : Type 0 where
 
 -- The terminal refused it: nothing changed, but that there may be room in its journal now.
 pub record Refused (command : Command) (refusal : Refusal) (old new : Link) : Type 0 where
+  pub points : new.points ≡ old.points
   pub free : is_barred command old ≡ false
   pub answer :
       let t = tidied old.terminal.processes
@@ -80,6 +83,12 @@ pub record Lacks (command : Command) (old new : Link) : Type 0 where
   pub free : is_barred command old ≡ false
   pub low : is_low old.terminal.processes ≡ true
   pub same : new ≡ old
+
+abbrev pub command_error_text : CommandError → List ℕ
+command_error_text error.NoLink = codes "K1 NoLink"
+command_error_text error.Waiting = codes "K2 Waiting"
+command_error_text (error.Refused refusal) = refusal_text refusal
+command_error_text error.NoMemory = codes "out of memory"
 
 -- what a link makes of a command, by why it isn't done
 abbrev pub Commands : Command → Option CommandError → Link → Link → Type 0

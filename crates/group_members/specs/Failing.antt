@@ -2,7 +2,6 @@
 -- out.
 use Rattle.std.specs.Prelude.{ℕ, if◌then◌else◌, List, [], length, Option, Some, None}
 use Rattle.resend_store.specs.declared.messages.Msu.{Msu}
-use Rattle.resend_store.specs.Window.{unacknowledged}
 use Rattle.link_transceiver.specs.declared.signals.Hold.TheVariants as hold
 use Rattle.group_changeover.specs.declared.availability.Availability.{Availability}
 use Rattle.group_changeover.specs.declared.changeover.Kind.{Kind}
@@ -15,8 +14,8 @@ use Rattle.group_members.specs.declared.link.Link.{Link}
 use Rattle.group_changeover.specs.declared.errors.FailError.{FailError}
 use Rattle.group_changeover.specs.declared.errors.FailError.TheVariants as fail
 use Rattle.group_members.specs.OneLink.{window, accepted_at, is_changing, with_availability}
-use Rattle.group_members.specs.OneLink.{count_told, accepted_of, lacking, hands_out, with_hold}
-use Rattle.group_members.specs.OneLink.{hold_by}
+use Rattle.group_members.specs.OneLink.{count_told, accepted_of, unknown, handed_by, hands_out}
+use Rattle.group_members.specs.OneLink.{with_hold, hold_by}
 
 abbrev pub fail_fault_of : Link → Option FailError
 fail_fault_of k = if is_changing k then Some fail.Waiting else None
@@ -62,15 +61,15 @@ handed k = hands_out (accepted_of k) k
 
 abbrev pub messages_by : (Link → Option ℕ) → Option Link → List Msu
 messages_by f None = []
-messages_by f (Some k) = lacking (window k) (f k)
+messages_by f (Some k) = handed_by k (f k)
 
 abbrev pub given_up : Link → Link
 given_up k = hands_out None k
 
--- how many of its messages are sent and not acknowledged
+-- how many of its messages are sent and not acknowledged, those that are bound to it left out
 abbrev pub sent_by : Option Link → ℕ
 sent_by None = 0
-sent_by (Some k) = length (unacknowledged (window k))
+sent_by (Some k) = unknown k
 
 abbrev pub none_known : Link → Option ℕ
 none_known k = None

@@ -8,6 +8,8 @@ use Rattle.resend_store.specs.Limits.{MOST_KEPT}
 use Rattle.link_term.specs.Term.{Term, term_with_transceiver}
 use Rattle.group_changeover.specs.declared.availability.Changing.{Changing}
 use Rattle.group_changeover.specs.Sharing.{is_on, of, off, counts_of, pick}
+use Rattle.group_changeover.specs.Bound.{is_bound}
+use Rattle.group_changeover.specs.declared.bound.Points.{Points}
 use Rattle.group_changeover.specs.Availability.{with_retrieval, ended}
 use Rattle.group_changeover.specs.Limits.{SELECTIONS}
 use Rattle.group_members.specs.declared.link.Link.{Link}
@@ -81,13 +83,16 @@ abbrev pub is_own : ℕ → List ℕ → Bool
 is_own l [] = false
 is_own l (t ∷ ts) = t == l
 
-abbrev pub on_by : ℕ → Option Msu → Bool
-on_by s None = false
-on_by s (Some m) = is_on s m
+abbrev pub is_unbound_on : Points → ℕ → Msu → Bool
+is_unbound_on p s m = not (is_bound p m) && is_on s m
 
--- whether a link holds messages of a selection
+abbrev pub on_by : Points → ℕ → Option Msu → Bool
+on_by p s None = false
+on_by p s (Some m) = is_unbound_on p s m
+
+-- whether a link holds messages of a selection, those that are bound to it left out
 unfoldable pub holds : ℕ → Link → Bool
-holds s k = list_any (is_on s) (held k)
+holds s k = list_any (is_unbound_on k.points s) (held k)
 
 abbrev pub holds_at : ℕ → Option Link → Bool
 holds_at s None = false

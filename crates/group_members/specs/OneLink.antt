@@ -1,11 +1,11 @@
 -- One link of a set: its terminal, and what is marked there.
 use Rattle.std.specs.Prelude.{ℕ, ◌==◌, ◌&&◌, ◌||◌, nat_le, min, Bool, true, false, not}
-use Rattle.std.specs.Prelude.{if◌then◌else◌, List, [], length}
-use Rattle.std.specs.Prelude.{drop, Option, Some, None, is_some, Result, Ok, Err}
+use Rattle.std.specs.Prelude.{if◌then◌else◌, List, [], length, take}
+use Rattle.std.specs.Prelude.{drop, filter, Option, Some, None, is_some, Result, Ok, Err}
 use Rattle.resend_store.specs.declared.messages.Msu.{Msu}
-use Rattle.resend_store.specs.Limits.{MOST_WAITING}
+use Rattle.resend_store.specs.Limits.{MOST_WAITING, MOST_KEPT}
 use Rattle.resend_store.specs.Numbers.{plus}
-use Rattle.resend_store.specs.Window.{Window, waiting, with_put, count_by}
+use Rattle.resend_store.specs.Window.{Window, unacknowledged, waiting, with_put, count_by}
 use Rattle.link_transceiver.specs.TransceiverState.{is_held}
 use Rattle.link_transceiver.specs.declared.signals.LineKind.{LineKind}
 use Rattle.link_transceiver.specs.declared.signals.LineKind.TheVariants as kind
@@ -16,11 +16,15 @@ use Rattle.link_term.specs.Kept.{window_of}
 use Rattle.group_changeover.specs.declared.availability.Availability.{Availability}
 use Rattle.group_changeover.specs.declared.availability.Changing.{Changing}
 use Rattle.group_changeover.specs.Sharing.{counts_of}
+use Rattle.group_changeover.specs.Bound.{is_bound, unbound}
+use Rattle.group_changeover.specs.declared.bound.Points.{Points}
 use Rattle.group_changeover.specs.Availability.{with_retrieval}
 use Rattle.group_changeover.specs.Saying.{is_out, is_waiting, count_in}
 use Rattle.group_members.specs.declared.link.Link.{Link}
 use Rattle.group_changeover.specs.declared.errors.SendError.{SendError}
 use Rattle.group_changeover.specs.declared.errors.SendError.TheVariants as send
+use Rattle.group_changeover.specs.declared.errors.BindError.{BindError}
+use Rattle.group_changeover.specs.declared.errors.BindError.TheVariants as bind
 use Rattle.group_changeover.specs.declared.errors.RetrieveError.{RetrieveError}
 use Rattle.group_changeover.specs.declared.errors.RetrieveError.TheVariants as retrieve
 use Rattle.group_changeover.specs.declared.errors.AbandonError.{AbandonError}
@@ -38,6 +42,10 @@ window k = window_of k.terminal
 -- what it holds: the unacknowledged first, then the unsent
 abbrev pub held : Link → List Msu
 held k = (window k).kept
+
+-- those that aren't bound to it
+abbrev pub messages : Link → List Msu
+messages k = unbound k.points (held k)
 
 abbrev pub is_serving : Link → Bool
 is_serving k = k.terminal.processes.transceiver.in_service
@@ -125,6 +133,14 @@ put_fault k =
 unfoldable pub puts : Msu → Link → Link
 puts m k = with_window (with_put (window k) m) k
 
+-- ---- a message that is bound to it
+
+-- K1 out of service or held, E1 where it holds as many as it may
+unfoldable pub bind_fault : Link → Option BindError
+bind_fault k =
+    if carries k then (if nat_le MOST_KEPT (length (held k)) then Some bind.Full else None)
+    else Some bind.NoLink
+
 -- ---- its messages for a changeover
 
 -- How many of the messages that are kept a number acknowledges: none is known where that would be
@@ -142,12 +158,24 @@ abbrev pub unsure_by : ℕ → Option ℕ → Option RetrieveError
 unsure_by sent (Some n) = None
 unsure_by sent None = if sent == 0 then None else Some (retrieve.Unsure sent)
 
+-- how many are sent of those that aren't bound to it
+unfoldable pub unknown : Link → ℕ
+unknown k = length (unbound k.points (unacknowledged (window k)))
+
+abbrev pub bound_by : Points → Option Msu → Bool
+bound_by p None = false
+bound_by p (Some m) = is_bound p m
+
+-- of the first so many that it holds, those that are bound to it
+abbrev pub bound_among : Link → ℕ → List Msu
+bound_among k n = filter (is_bound k.points) (take n (held k))
+
 -- K2 while its retrieval is out, and before an answer for as long as is waited; then K4
 unfoldable pub retrieve_fault_in : Link → Changing → Option RetrieveError
 retrieve_fault_in k c =
     if is_out c then Some retrieve.Waiting
     else (if is_waiting c then Some retrieve.Waiting
-    else unsure_by (window k).sent (count_in c.answer))
+    else unsure_by (unknown k) (count_in c.answer))
 
 -- K1 where no changeover goes on
 abbrev pub retrieve_fault_by : Link → Option Changing → Option RetrieveError
@@ -169,6 +197,10 @@ accepted_of k = accepted_in k.availability.changing
 abbrev pub lacking : Window → Option ℕ → List Msu
 lacking w (Some n) = drop n w.kept
 lacking w None = waiting w
+
+-- Those that are bound to it are left out.
+abbrev pub handed_by : Link → Option ℕ → List Msu
+handed_by k n = unbound k.points (lacking (window k) n)
 
 -- how many of those that are sent are acknowledged by that
 abbrev pub acknowledged_by : Window → Option ℕ → ℕ
@@ -196,7 +228,7 @@ emptied_behind n t =
 -- until its directions begin anew.
 unfoldable pub hands_out : Option ℕ → Link → Link
 hands_out n k =
-    with_availability (with_retrieval (counts_of (lacking (window k) n)) k.availability)
+    with_availability (with_retrieval (counts_of (handed_by k n)) k.availability)
     (with_hold hold.UntilAnew (with_window (left_empty (window k) n) k))
 
 -- K2 unless K4 would be answered. K1 where no changeover goes on.

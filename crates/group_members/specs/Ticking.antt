@@ -47,7 +47,7 @@ first_refusal n (k ∷ ks) = first_some (tick_refusal n k.terminal.processes) (f
 -- They pass at its terminal, and a changeover that goes on there has gone on for longer.
 abbrev pub passed : ℕ → Link → Link
 passed n k =
-    record {
+    record k {
       terminal = with_processes k.terminal (offered (Advance n) k.terminal.processes);
       availability = waits n k.availability;
     }

@@ -1,12 +1,40 @@
 //! Commands to a link.
-ghost use Rattle.std.specs.Prelude.{◌≡◌, ◌<◌, length};
-ghost use Rattle.group_members.specs.Commanding.{is_start, is_barred, starts_anew, Commands};
+ghost use Rattle.std.specs.Prelude.{◌≡◌, ◌<◌, length, Some};
+ghost use Rattle.group_members.specs.Commanding.{command_error_text, is_start, is_barred, starts_anew, Commands};
 ghost use Rattle.group_members.specs.Doing.{AtLink};
 ghost use Rattle.group_members.specs.OneLink.{fault_of};
 
 use crate::link::Link;
-use group_changeover::CommandError;
+use actor_machine::Refusal;
 use link_term::{CallError, Command};
+use std::fmt;
+use thiserror::Error;
+
+/// Why a command isn't given to a link.
+#[derive(Clone, Copy, Debug, PartialEq, Eq, Error)]
+pub enum CommandError {
+    /// There is no such link.
+    NoLink,
+    /// It is Start, and the messages of a changeover aren't handed out yet.
+    Waiting,
+    /// The terminal's refusal.
+    Refused(Refusal),
+    /// There is no memory to make room in the terminal's journal.
+    NoMemory,
+}
+
+impl fmt::Display for CommandError {
+    ghost output = { λ e. Some (command_error_text e) };
+
+    fn fmt<W: fmt::Write>(&self, f: &mut fmt::Formatter<W>) -> fmt::Result {
+        match self {
+            Self::NoLink => f.write_str("K1 NoLink"),
+            Self::Waiting => f.write_str("K2 Waiting"),
+            Self::Refused(refusal) => f.write_str(refusal.name()),
+            Self::NoMemory => f.write_str("out of memory"),
+        }
+    }
+}
 
 fn is_start(command: Command) -> bool
     ensures { result ≡ is_start command }

@@ -1,12 +1,15 @@
 //! What a link does by its terminal.
 ghost use Rattle.std.specs.List.{list_any};
-ghost use Rattle.std.specs.Prelude.{◌≡◌, ◌||◌, map, ◌<◌, length, slice_get, true, IfOk, OnErr, Err};
+ghost use Rattle.std.specs.Prelude.{◌≡◌, ◌||◌, map, ◌<◌, ◌≤◌, length, slice_get, true, IfOk, OnErr, Err};
 ghost use Rattle.link_term.specs.Machine.{is_low};
+ghost use Rattle.link_term.specs.Kept.{window_of};
 ghost use Rattle.group_members.specs.Links.{change};
-ghost use Rattle.group_members.specs.Doing.{AtLink, Listened, Spoken, Sent, Reported, low_at, asked, came_first, came_by, marked_served, admits_first, admits_at, admits_by};
+ghost use Rattle.group_members.specs.OneLink.{accepted_of};
+ghost use Rattle.group_members.specs.Doing.{AtLink, Listened, Spoken, Sent, Reported, low_at, how_many, leaves_out, anew, without_bound_at, without_bound, asked, came_first, came_by, marked_served, admits_first, admits_at, admits_by};
 
 use crate::link::Link;
-use link_term::Report;
+use group_changeover::Points;
+use link_term::{Report, Terminal};
 use std::alloc::AllocError;
 use su_octets::Unit;
 
@@ -22,11 +25,42 @@ impl Link {
         first
     }
 
-    /// Looks whether it came into service since this was last asked. Whether it may have selections for the first time.
+    /// How many of the messages that it holds the far side told of.
+    fn told(&self) -> usize
+        ensures { result ≡ how_many (accepted_of self.now) }
+    {
+        match self.accepted() {
+            Some(count) => count,
+            None => 0,
+        }
+    }
+
+    /// The messages that are bound to it and wait leave.
+    fn leaves_out(&mut self)
+        ensures { self.new ≡ leaves_out self.old }
+    {
+        let sent = self.bound_among(self.terminal.sent());
+        let gone = self.bound_among(self.told()).saturating_sub(sent);
+        drop_bound(&mut self.terminal, self.points);
+        self.availability = self.availability.fewer(gone);
+    }
+
+    /// They leave where its directions began anew since that was last asked.
+    fn renew(&mut self)
+        ensures { self.new ≡ anew self.old }
+    {
+        if self.terminal.began_anew() {
+            self.leaves_out();
+        }
+    }
+
+    /// Looks whether its directions began anew, and whether it came into service, since that was last asked. Whether it may have selections for the
+    /// first time.
     fn see(&mut self) -> bool
         ensures first { result ≡ came_first self.old }
         ensures link { self.new ≡ asked self.old }
     {
+        self.renew();
         if self.terminal.came_into_service() {
             self.availability = self.availability.serves();
         }
@@ -71,6 +105,33 @@ impl Link {
         ensures { Reported result self.old self.new }
     {
         self.terminal.report()
+    }
+}
+
+/// Drops the message at a place that waits, where it is bound to a link.
+fn drop_bound_at(terminal: &mut Terminal, points: Points, place: usize)
+    requires waits { (window_of terminal.old).sent ≤ place }
+    requires there { place < length (window_of terminal.old).kept }
+    ensures { terminal.new ≡ without_bound_at points place terminal.old }
+{
+    let bound = match terminal.held_at(place) {
+        Some(msu) => points.is_bound(msu),
+        None => false,
+    };
+    if bound {
+        terminal.drop_waiting(place);
+    }
+}
+
+/// Drops the messages that wait and are bound to a link.
+fn drop_bound(terminal: &mut Terminal, points: Points)
+    ensures { terminal.new ≡ without_bound points terminal.old }
+{
+    let sent = terminal.sent();
+    let mut place = terminal.held();
+    while place > sent {
+        place -= 1;
+        drop_bound_at(terminal, points, place);
     }
 }
 

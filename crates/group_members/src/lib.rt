@@ -12,16 +12,16 @@ mod open;
 mod tables;
 mod ticking;
 
-pub use commanding::command_at;
+pub use commanding::{CommandError, command_at};
 pub use doing::{admit_at, listen_at, see_all, see_at, send_at, speak_at, tell_at};
 pub use ending::{end_at, end_table, keep_at, retrieval_of};
 pub use group_changeover::{
-    AbandonError, CommandError, DivertFault, FailError, LineError, LinkError, RebalanceError,
+    AbandonError, BindError, DivertFault, FailError, LineError, LinkError, RebalanceError,
     RetrieveError, SendError,
 };
 pub use link::Link;
 pub use link_term::{CallError, Command, LinkStatus, Mode, Msu, Report, Terminal};
-pub use links::{abandon_at, fail_at, hear_at, heard_at, put_at, retrieve_at};
+pub use links::{abandon_at, bind_at, fail_at, hear_at, heard_at, put_at, retrieve_at};
 pub use moving::divert_all;
 pub use new::all_fresh;
 pub use open::{able_links, anew_links, takers};

@@ -1,14 +1,15 @@
 //! One link of a set.
-ghost use Rattle.std.specs.Prelude.{◌≡◌, ◌≤◌, All, drop, length, IfSome, IfOk, OnOk, OnErr, Some, None};
+ghost use Rattle.std.specs.Prelude.{◌≡◌, ◌+◌, ◌≤◌, All, drop, length, slice_get, IfSome, IfOk, OnOk, OnErr, Some, None};
 ghost use Rattle.resend_store.specs.Messages.{IsMessage};
 ghost use Rattle.group_changeover.specs.Changeovers.{IsKind};
 ghost use Rattle.link_term.specs.Kept.{window_of};
 ghost use Rattle.group_changeover.specs.Saying.{count_in};
 ghost use Rattle.group_members.specs.Failing.{fail_fault_of, changeover_begins_at, order_of, count_heard, replies, hears};
-ghost use Rattle.group_members.specs.OneLink.{fault_of, carries, shares, gives_messages, is_own_out, has_outage, put_fault, puts, window, count_of, hold_by, unsure_by, retrieve_fault, retrieve_refusal, accepted_of, lacking, emptied_behind, hands_out, abandon_fault, abandon_refusal};
+ghost use Rattle.group_members.specs.OneLink.{fault_of, carries, shares, gives_messages, is_own_out, has_outage, put_fault, puts, bind_fault, bound_by, bound_among, unknown, window, held, count_of, hold_by, unsure_by, retrieve_fault, retrieve_refusal, accepted_of, lacking, handed_by, emptied_behind, hands_out, abandon_fault, abandon_refusal};
 
 use group_changeover::{
-    AbandonError, Availability, Changing, FailError, Kind, RetrieveError, SendError, counts_of,
+    AbandonError, Availability, BindError, Changing, FailError, Kind, Points, RetrieveError,
+    SendError, counts_of, leave_out,
 };
 use link_term::{Hold, LineKind, Msu, Terminal};
 use std::alloc::AllocError;
@@ -17,6 +18,8 @@ use std::collections::VecDeque;
 /// A terminal, and what is marked there.
 #[derive(Drop)]
 pub struct Link {
+    /// The points between which it lies.
+    pub points: Points,
     pub terminal: Terminal,
     pub availability: Availability,
 }
@@ -151,6 +154,64 @@ impl Link {
         }
     }
 
+    /// Takes a message that is bound to it.
+    #[tactic(auto, unfolding(crate::specs::OneLink::bind_fault, crate::specs::OneLink::puts))]
+    pub(crate) fn bind(&mut self, msu: Msu) -> Result<(), BindError>
+        requires { 2 ≤ length msu.sif.items }
+        ensures fault { fault_of result ≡ bind_fault self.old }
+        ensures ok { OnOk result (self.new ≡ puts msu self.old) }
+        ensures err { OnErr result (self.new ≡ self.old) }
+    {
+        if !self.carries() {
+            return Err(BindError::NoLink);
+        }
+        match self.terminal.put_diverted(msu) {
+            Ok(()) => Ok(()),
+            Err(_) => Err(BindError::Full),
+        }
+    }
+
+    /// Whether the message that it holds at a place is bound to it.
+    fn is_bound_at(&self, place: usize) -> bool
+        ensures { result ≡ bound_by self.now.points (slice_get (held self.now) place) }
+    {
+        match self.terminal.held_at(place) {
+            Some(msu) => self.points.is_bound(msu),
+            None => false,
+        }
+    }
+
+    /// 1 where that is so, else 0.
+    #[tactic(auto, using(crate::proofs::Renewing::one_more, crate::proofs::Renewing::none_more))]
+    fn one_bound(&self, place: usize) -> usize
+        ensures more { length (bound_among self.now (place + 1)) ≡ length (bound_among self.now place) + result }
+        ensures within { result ≤ 1 }
+    {
+        if self.is_bound_at(place) { 1 } else { 0 }
+    }
+
+    /// How many of the first so many messages that it holds are bound to it.
+    pub(crate) fn bound_among(&self, count: usize) -> usize
+        ensures value { result ≡ length (bound_among self.now count) }
+        ensures within { result ≤ count }
+    {
+        let mut bound = 0;
+        for place in 0..count {
+            bound += self.one_bound(place);
+        }
+        bound
+    }
+
+    /// How many are sent of those that aren't bound to it.
+    #[tactic(auto, using(crate::proofs::Renewing::unknown_is))]
+    pub(crate) fn unknown(&self) -> usize
+        ensures { result ≡ unknown self.now }
+    {
+        let _window = self.terminal.held();
+        let sent = self.terminal.sent();
+        sent - self.bound_among(sent)
+    }
+
     /// How many of the messages that are kept a number acknowledges, where they are no more than are sent.
     fn count_of(&self, fsn: u8) -> Option<usize>
         ensures { result ≡ count_of (window self.now) fsn }
@@ -175,12 +236,12 @@ impl Link {
 
     /// Why it isn't known which of those that were sent have arrived.
     fn unsure(&self, changing: Changing) -> Option<RetrieveError>
-        ensures { result ≡ unsure_by (window self.now).sent (count_in changing.answer) }
+        ensures { result ≡ unsure_by (unknown self.now) (count_in changing.answer) }
     {
         if changing.count().is_some() {
             return None;
         }
-        let sent = self.terminal.sent();
+        let sent = self.unknown();
         if sent == 0 {
             None
         } else {
@@ -207,7 +268,7 @@ impl Link {
 
     /// How many of the messages that are kept the far side accepted, where it told that.
     #[tactic(auto, unfolding(crate::specs::OneLink::accepted_of))]
-    fn accepted(&self) -> Option<usize>
+    pub(crate) fn accepted(&self) -> Option<usize>
         ensures { result ≡ accepted_of self.now }
     {
         match self.availability.changing {
@@ -219,13 +280,14 @@ impl Link {
     /// Hands out its messages.
     #[tactic(auto, unfolding(crate::specs::OneLink::hands_out))]
     fn hand_out(&mut self, accepted: Option<usize>) -> Result<VecDeque<Msu>, AllocError>
-        ensures messages { IfOk result (λ messages. messages.items ≡ lacking (window self.old) accepted) }
+        ensures messages { IfOk result (λ messages. messages.items ≡ handed_by self.old accepted) }
         ensures whole { IfOk result (λ messages. All IsMessage messages.items) }
         ensures ok { OnOk result (self.new ≡ hands_out accepted self.old) }
         ensures err { OnErr result (self.new ≡ self.old) }
     {
         match take_out(&mut self.terminal, accepted) {
-            Ok(messages) => {
+            Ok(mut messages) => {
+                leave_out(self.points, &mut messages);
                 self.terminal.hold(Hold::UntilAnew);
                 self.availability = self.availability.with_retrieval(counts_of(&messages));
                 Ok(messages)
@@ -237,7 +299,7 @@ impl Link {
     /// Hands out what the far side may lack.
     pub(crate) fn retrieve(&mut self) -> Result<VecDeque<Msu>, RetrieveError>
         ensures fault { retrieve_refusal result ≡ retrieve_fault self.old }
-        ensures messages { IfOk result (λ messages. messages.items ≡ lacking (window self.old) (accepted_of self.old)) }
+        ensures messages { IfOk result (λ messages. messages.items ≡ handed_by self.old (accepted_of self.old)) }
         ensures whole { IfOk result (λ messages. All IsMessage messages.items) }
         ensures ok { OnOk result (self.new ≡ hands_out (accepted_of self.old) self.old) }
         ensures err { OnErr result (self.new ≡ self.old) }
@@ -256,7 +318,7 @@ impl Link {
     #[tactic(auto, unfolding(crate::specs::OneLink::abandon_fault))]
     pub(crate) fn abandon(&mut self) -> Result<VecDeque<Msu>, AbandonError>
         ensures fault { abandon_refusal result ≡ abandon_fault self.old }
-        ensures messages { IfOk result (λ messages. messages.items ≡ lacking (window self.old) None) }
+        ensures messages { IfOk result (λ messages. messages.items ≡ handed_by self.old None) }
         ensures whole { IfOk result (λ messages. All IsMessage messages.items) }
         ensures ok { OnOk result (self.new ≡ hands_out None self.old) }
         ensures err { OnErr result (self.new ≡ self.old) }

@@ -2,12 +2,14 @@
 ghost use Rattle.std.specs.Prelude.{◌≡◌, ◌<◌, ◌≤◌, All, length, slice_get, IfSome, IfOk, OnOk, OnErr, Some, None};
 ghost use Rattle.resend_store.specs.Messages.{IsMessage};
 ghost use Rattle.group_changeover.specs.Changeovers.{IsKind};
-ghost use Rattle.group_members.specs.OneLink.{fault_of, put_fault, puts, accepted_of, retrieve_fault, retrieve_refusal, abandon_fault, abandon_refusal};
+ghost use Rattle.group_members.specs.OneLink.{fault_of, put_fault, puts, bind_fault, accepted_of, retrieve_fault, retrieve_refusal, abandon_fault, abandon_refusal};
 ghost use Rattle.group_members.specs.Links.{change, fault_at, read_at};
 ghost use Rattle.group_members.specs.Failing.{changeover_begins_at, fail_fault_of, heard_at, hears, replies_at, order_of, handed, given_up, messages_by, none_known, sent_by};
 
 use crate::link::Link;
-use group_changeover::{AbandonError, FailError, Hearing, Kind, RetrieveError, SendError};
+use group_changeover::{
+    AbandonError, BindError, FailError, Hearing, Kind, RetrieveError, SendError,
+};
 use link_term::Msu;
 use std::collections::VecDeque;
 
@@ -28,6 +30,25 @@ pub fn put_at(links: &mut [Link], at: usize, msu: Msu) -> Result<(), SendError>
         links[at].put(msu)
     } else {
         Err(SendError::NoLink)
+    }
+}
+
+/// Takes a message that is bound to the link at a place.
+///
+/// # Errors
+///
+/// `K1 NoLink` where there is no such link, or it is out of service or held, `E1 Full` where it holds 1,151 messages. Nothing changes then.
+#[tactic(auto, unfolding(crate::specs::Links::change))]
+pub fn bind_at(links: &mut [Link], at: usize, msu: Msu) -> Result<(), BindError>
+    requires { 2 ≤ length msu.sif.items }
+    ensures fault { fault_of result ≡ fault_at BindError.NoLink bind_fault (slice_get links.old at) }
+    ensures ok { OnOk result (links.new ≡ change links.old at (puts msu)) }
+    ensures err { OnErr result (links.new ≡ links.old) }
+{
+    if at < links.len() {
+        links[at].bind(msu)
+    } else {
+        Err(BindError::NoLink)
     }
 }
 
@@ -113,12 +134,9 @@ pub fn abandon_at(links: &mut [Link], at: usize) -> Result<(VecDeque<Msu>, usize
     ensures err { OnErr result (links.new ≡ links.old) }
 {
     if at < links.len() {
-        let held = links[at].terminal.held();
+        let sent = links[at].unknown();
         match links[at].abandon() {
-            Ok(messages) => {
-                let sent = held - messages.len();
-                Ok((messages, sent))
-            }
+            Ok(messages) => Ok((messages, sent)),
             Err(fault) => Err(fault),
         }
     } else {

@@ -3,17 +3,19 @@ ghost use Rattle.std.specs.Prelude.{◌≡◌, ◌<◌, ◌≤◌, [], map, vec_
 ghost use Rattle.group_members.specs.New.{fresh};
 
 use crate::link::Link;
-use group_changeover::{Availability, Behind};
+use group_changeover::{Availability, Behind, Points};
 use link_term::{Hold, Terminal};
 
 /// A link over a terminal.
-fn fresh(mut terminal: Terminal) -> Link
-    ensures { result ≡ fresh terminal }
+fn fresh(points: Points, mut terminal: Terminal) -> Link
+    ensures { result ≡ fresh points terminal }
 {
     let _came = terminal.came_into_service();
+    let _began = terminal.began_anew();
     terminal.hold(Hold::Free);
     let served = terminal.in_service();
     Link {
+        points,
         terminal,
         availability: Availability {
             served,
@@ -27,13 +29,13 @@ fn fresh(mut terminal: Terminal) -> Link
 }
 
 /// Links over terminals, for which there is room.
-pub fn all_fresh(terminals: Vec<Terminal>, mut links: Vec<Link>) -> Vec<Link>
+pub fn all_fresh(points: Points, terminals: Vec<Terminal>, mut links: Vec<Link>) -> Vec<Link>
     requires empty { links.items ≡ [] }
     requires room { vec_len terminals ≤ vec_capacity links }
-    ensures { result.items ≡ map fresh terminals.items }
+    ensures { result.items ≡ map (fresh points) terminals.items }
 {
     for terminal in terminals {
-        links.push_reserved(fresh(terminal));
+        links.push_reserved(fresh(points, terminal));
     }
     links
 }

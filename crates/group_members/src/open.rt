@@ -143,12 +143,12 @@ pub fn takers(links: &[Link], at: usize) -> ArrayVec<usize, 16>
     }
 }
 
-/// Whether the message that a link holds at a place has a selection.
+/// Whether the message that a link holds at a place isn't bound to it and has a selection.
 fn is_on(link: &Link, place: usize, selection: u8) -> bool
-    ensures { result ≡ on_by selection (slice_get (held link.now) place) }
+    ensures { result ≡ on_by link.now.points selection (slice_get (held link.now) place) }
 {
     match link.terminal.held_at(place) {
-        Some(msu) => selection_of(msu) == selection,
+        Some(msu) => !link.points.is_bound(msu) && selection_of(msu) == selection,
         None => false,
     }
 }

@@ -1,5 +1,8 @@
 -- What is told, part behind part.
-use Rattle.std.proofs.Common.{◌≡◌, ℕ, ◌+◌, ◌/◌, ◌%◌, Bool, true, false, List, [], ◌++◌, Option, None, Some, refl, sym, ◌∙◌, subst, append-nil}
+use Rattle.std.proofs.Common.{◌≡◌, ℕ, ◌+◌, ◌/◌, ◌%◌, ◌<◌, Bool, true, false, List, [], ◌∷◌, ◌++◌, length, take, ap, Option, None, Some, refl, sym, ◌∙◌, subst, append-nil}
+use Rattle.std.proofs.lemmas.List.{take_more, flat_map_more}
+use Rattle.std.specs.List.{flat_map}
+use lib.ListN.{get_or}
 use Rattle.std.specs.Prelude.{codes, IsTrue}
 use Rattle.std.specs.Io.KnownBytes.{Appends}
 use Rattle.std.proofs.KnownBytes.{Appends-nil, Appends-trans}
@@ -15,6 +18,17 @@ moved x y is P h = subst P is h
 
 pub not_both : (b : Bool) → b ≡ false → IsTrue b → ⊥
 not_both b denied shown = absurd (let e : false ≡ true = sym denied ∙ shown in cc)
+
+-- one line more
+pub lines_more : {X : Type 0} (f : X → List ℕ) (items : List X) (i : ℕ) (x : X) (text : List ℕ) (a b c : Option (List ℕ))
+    → i < length items → x ≡ get_or items i x → text ≡ f x → Appends a b (flat_map f (take i items)) → Appends b c text
+    → Appends a c (flat_map f (take (i + 1) items))
+lines_more f items i x text a b c within is printed before line =
+    subst (Appends a c)
+    (ap (λ (l : List ℕ). flat_map f (take i items) ++ l) printed
+    ∙ (flat_map_more f [] (take i items) x
+    ∙ ap (flat_map f) (ap (λ y. take i items ++ y ∷ []) is ∙ sym (take_more items i x within))))
+    (Appends-trans a b c _ _ before line)
 
 pub told_none : {T : Type 0} (acts : T → Act → T → Type 0) (now : ℕ) (t : T) (old : Option (List ℕ)) → Told (λ bytes. Tells acts now t bytes t) old old
 told_none acts now t old = record { bytes = []; are = nothing; appends = Appends-nil old }

@@ -1,10 +1,11 @@
 -- Orders, with the milliseconds before which they aren't obeyed.
 use Rattle.std.specs.Prelude.{◌≡◌, ℕ, ◌<◌, ◌≤◌, List, [], ◌∷◌, ◌++◌, Option, None, Some, codes}
-use Rattle.std.specs.Prelude.{string_bytes}
+use Rattle.std.specs.Prelude.{String, string_bytes}
+use Rattle.std.specs.List.{flat_map}
 use Rattle.std.specs.Fmt.{decimal}
 use Rattle.line_filter.specs.Acts.{Act, reported, obeyed}
 use Rattle.line_filter.specs.declared.terminal.Answer.{Answer}
-use Rattle.line_filter.specs.declared.terminal.Answer.TheVariants.{Done, Said, Refused}
+use Rattle.line_filter.specs.declared.terminal.Answer.TheVariants.{Done, Said, Listed, Refused}
 
 pub record Timed : Type 0 where
   pub at : ℕ
@@ -29,10 +30,16 @@ NoneIsDue now (Some (o ∷ os)) (Some left) = (left ≡ o ∷ os) × (now < o.at
 abbrev pub told : ℕ → List ℕ → List ℕ
 told now text = (decimal now ++ 32 ∷ text) ++ 10 ∷ []
 
+-- a line that an order asked for
+abbrev pub listed : {Z : Type 0} → ℕ → List ℕ → String Z → List ℕ
+listed now order line = told now (order ++ 32 ∷ string_bytes line)
+
 -- the lines of an order that was obeyed, or refused
 abbrev pub answered : ℕ → List ℕ → Answer → List ℕ
 answered now order Done = told now (codes "ok " ++ order)
 answered now order (Said text) = told now (codes "ok " ++ order) ++ told now (string_bytes text)
+answered now order (Listed lines) =
+    told now (codes "ok " ++ order) ++ flat_map (listed now order) lines.items
 answered now order (Refused text) = told now (codes "refused " ++ string_bytes text)
 
 abbrev pub QUIT : List ℕ

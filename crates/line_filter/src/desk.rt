@@ -1,7 +1,8 @@
 //! A terminal on a line, its orders, and where it tells what becomes of it.
 ghost use Rattle.std.specs.Prelude.{◌≡◌, ◌↔◌, ℕ, ◌+◌, ◌/◌, ◌++◌, ◌∷◌, [], IfOk, OnOk, IsTrue};
 ghost use Rattle.std.specs.Io.KnownBytes.{Appends};
-ghost use Rattle.line_filter.specs.Orders.{QUIT, TellsAll, Obeys, told, answered};
+ghost use Rattle.std.specs.List.{flat_map};
+ghost use Rattle.line_filter.specs.Orders.{QUIT, TellsAll, Obeys, told, listed, answered};
 ghost use Rattle.line_filter.specs.Runs.{OCTETS, Exchanges, ObeysAll, Minds, Behind, Steps};
 ghost use Rattle.line_filter.specs.Desks.{state_of, Told};
 
@@ -55,6 +56,22 @@ fn tell_all<T: LineTerminal, P: Write>(
     Err(io::Error::from(ErrorKind::Other))
 }
 
+/// Tells lines that an order asked for.
+fn tell_lines<P: Write>(
+    alloc: Global,
+    now: u64,
+    order: &str,
+    lines: &[String],
+    reports: &mut P,
+) -> io::Result<()>
+    ensures { OnOk result (Appends (P.contents reports.old) (P.contents reports.new) (flat_map (listed now order.now) lines.now)) }
+{
+    for line in lines {
+        write_line(alloc, reports, &format_args!("{now} {order} {line}"))?;
+    }
+    Ok(())
+}
+
 /// Tells what an order was answered.
 fn tell_answer<P: Write>(
     alloc: Global,
@@ -70,6 +87,10 @@ fn tell_answer<P: Write>(
         Answer::Said(text) => {
             write_line(alloc, reports, &format_args!("{now} ok {order}"))?;
             write_line(alloc, reports, &format_args!("{now} {text}"))
+        }
+        Answer::Listed(lines) => {
+            write_line(alloc, reports, &format_args!("{now} ok {order}"))?;
+            tell_lines(alloc, now, order, lines, reports)
         }
         Answer::Refused(text) => {
             write_line(alloc, reports, &format_args!("{now} refused {text}"))

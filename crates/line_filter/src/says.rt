@@ -66,6 +66,7 @@ fn is_report(word: &str) -> bool
         || word == "told"
         || word == "accepted"
         || word == "retrieve"
+        || word == "measure"
         || word == "refused"
         || word == "lost"
 }

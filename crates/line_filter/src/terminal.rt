@@ -14,6 +14,8 @@ pub enum Answer {
     Done,
     /// It was obeyed, and this is what it asked for.
     Said(String),
+    /// It was obeyed, and these are the lines that it asked for, each behind the order's words.
+    Listed(Vec<String>),
     /// It was refused: the code of that, and its name. Nothing changed.
     Refused(String),
 }

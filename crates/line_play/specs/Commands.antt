@@ -4,8 +4,9 @@ use Rattle.std.specs.Prelude.{Some, option_and_then}
 use Rattle.script_links.specs.Orders.{order_of}
 use Rattle.script_links.specs.declared.orders.Order.{Order}
 use Rattle.script_links.specs.TermCommands.{PlainTermCommand, order, unit, units, errors, line, msu}
-use Rattle.script_links.specs.TermCommands.{out, ticks, told, accepted, retrieving, state, shown}
-use Rattle.script_links.specs.TermCommands.{expected, term_command_of}
+use Rattle.script_links.specs.TermCommands.{out, ticks, told, accepted, retrieving, measuring}
+use Rattle.script_links.specs.TermCommands.{counting_aborted, resetting, state, shown, expected}
+use Rattle.script_links.specs.TermCommands.{term_command_of}
 
 -- of a script's commands those that leave the line and its time alone
 abbrev pub is_on_line : PlainTermCommand → Bool
@@ -20,6 +21,9 @@ is_on_line (ticks n) = false
 is_on_line told = true
 is_on_line accepted = true
 is_on_line (retrieving behind) = true
+is_on_line (measuring measure) = true
+is_on_line counting_aborted = true
+is_on_line resetting = true
 is_on_line (state process) = true
 is_on_line (shown process variable) = true
 is_on_line (expected text) = false
@@ -37,6 +41,9 @@ is_question (ticks n) = false
 is_question told = true
 is_question accepted = true
 is_question (retrieving behind) = true
+is_question (measuring measure) = true
+is_question counting_aborted = true
+is_question resetting = false
 is_question (state process) = true
 is_question (shown process variable) = true
 is_question (expected text) = false

@@ -1,6 +1,7 @@
 pub mod Commands
 pub mod Lines
 pub mod LinkActs
+pub mod Measured
 pub mod Opening
 pub mod Told
 pub use Rattle.line_filter.specs.Filters

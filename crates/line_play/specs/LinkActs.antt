@@ -1,5 +1,7 @@
 -- What a signalling link terminal does on a line.
-use Rattle.std.specs.Prelude.{◌≡◌, ℕ, true, List, [], ◌∷◌, Option, None, Some, option_map}
+use Rattle.std.specs.Prelude.{◌≡◌, ℕ, Bool, true, false, List, [], ◌∷◌, Option, None, Some, map}
+use Rattle.std.specs.Prelude.{option_map, codes, string_bytes}
+use Rattle.std.specs.Str.{bytes_eq}
 use Rattle.su_octets.specs.declared.units.Unit as units
 use Rattle.script_lines.specs.Words.{words_of}
 use Rattle.actor_machine.specs.declared.event.Event.TheVariants.{Advance}
@@ -12,7 +14,9 @@ use Rattle.script_terminal.specs.TermAnswers.{next_of, behind_next, behind_clear
 use Rattle.script_terminal.specs.Told.{report_text}
 use Rattle.line_filter.specs.Acts.{Act, asked, heard, passed, reported as told, obeyed}
 use Rattle.line_filter.specs.declared.terminal.Answer.{Answer}
+use Rattle.line_filter.specs.declared.terminal.Answer.TheVariants as answer
 use Rattle.line_play.specs.Commands.{is_question, line_command_of}
+use Rattle.line_play.specs.Measured.{measured_lines}
 use Rattle.line_play.specs.Told.{IsAnswerOf, IsBadLine}
 
 -- it was asked for its next unit
@@ -57,10 +61,33 @@ abbrev pub ObeysBy : Option PlainTermCommand → Term → List ℕ → Answer �
 ObeysBy None t order answer u = Refuses t answer u
 ObeysBy (Some command) t order answer u = ObeysOne command t order answer u
 
+-- whether words ask for all that was measured
+abbrev pub asks_all : List (List ℕ) → Bool
+asks_all [] = false
+asks_all (word ∷ []) = bytes_eq word (codes "measure")
+asks_all (word ∷ next ∷ more) = false
+
+-- the lines of an answer are these
+abbrev pub AreListed : List (List ℕ) → Answer → Type 0
+AreListed lines answer.Done = ⊥
+AreListed lines (answer.Said text) = ⊥
+AreListed lines (answer.Listed listed) = map string_bytes listed.items ≡ lines
+AreListed lines (answer.Refused why) = ⊥
+
+-- all that was measured is told, and nothing changes
+pub record Lists (t : Term) (answer : Answer) (u : Term) : Type 0 where
+  pub listed : AreListed (measured_lines t) answer
+  pub same : u ≡ t
+
+abbrev pub ObeysWords : Bool → List (List ℕ) → Term → List ℕ → Answer → Term → Type 0
+ObeysWords true words t order answer u = Lists t answer u
+ObeysWords false words t order answer u = ObeysBy (line_command_of words) t order answer u
+
 -- how a terminal changes by what it does
 abbrev pub link_acts : Term → Act → Term → Type 0
 link_acts t (asked unit) u = Gives t unit u
 link_acts t (heard octet) u = Hears t octet u
 link_acts t passed u = Passes t u
 link_acts t (told text) u = Tells t text u
-link_acts t (obeyed order answer) u = ObeysBy (line_command_of (words_of order)) t order answer u
+link_acts t (obeyed order answer) u =
+    ObeysWords (asks_all (words_of order)) (words_of order) t order answer u

@@ -12,9 +12,11 @@ IsAnswerOf true order line answer.Done = ⊥
 IsAnswerOf true order line (answer.Said text) =
     (string_bytes text ≡ order ++ 32 ∷ line) × ((why : List ℕ) → line ≡ codes "refused " ++ why → ⊥)
 IsAnswerOf false order line (answer.Said text) = ⊥
+IsAnswerOf question order line (answer.Listed lines) = ⊥
 
 -- what reads as no order
 abbrev pub IsBadLine : Answer → Type 0
 IsBadLine answer.Done = ⊥
 IsBadLine (answer.Said text) = ⊥
+IsBadLine (answer.Listed lines) = ⊥
 IsBadLine (answer.Refused why) = string_bytes why ≡ codes "X1 BadLine"

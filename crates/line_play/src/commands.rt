@@ -18,6 +18,9 @@ fn is_on_line(command: &TermCommand<'_>) -> bool
         | TermCommand::Told
         | TermCommand::Accepted
         | TermCommand::Retrieve(_)
+        | TermCommand::Measure(_)
+        | TermCommand::Aborted
+        | TermCommand::Reset
         | TermCommand::State(_)
         | TermCommand::Value(_, _) => true,
         TermCommand::Unit(_)
@@ -38,9 +41,12 @@ pub fn is_question(command: &TermCommand<'_>) -> bool
         TermCommand::Told
         | TermCommand::Accepted
         | TermCommand::Retrieve(_)
+        | TermCommand::Measure(_)
+        | TermCommand::Aborted
         | TermCommand::State(_)
         | TermCommand::Value(_, _) => true,
         TermCommand::Order(_)
+        | TermCommand::Reset
         | TermCommand::Msu(_)
         | TermCommand::Unit(_)
         | TermCommand::Units(_, _)

@@ -3,6 +3,7 @@
 
 mod commands;
 mod link_end;
+mod measured;
 mod opening;
 mod running;
 mod texts;
@@ -10,6 +11,7 @@ mod texts;
 pub use commands::line_command;
 pub use line_filter::{Bits, Desk, MOST_AHEAD};
 pub use link_end::LinkEnd;
+pub use measured::measured_lines;
 pub use opening::new_terminal;
 pub use running::{link_desk, run_link};
 pub use script_check::SetWord;

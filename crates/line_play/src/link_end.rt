@@ -1,11 +1,12 @@
 //! A signalling link terminal at the end of a line.
-ghost use Rattle.std.specs.Prelude.{IfOk, OnOk, option_map, string_bytes};
+ghost use Rattle.std.specs.Prelude.{◌≡◌, IfOk, OnOk, option_map, string_bytes};
 ghost use Rattle.script_lines.specs.Lines.{texts};
 ghost use Rattle.script_links.specs.TermCommands.{plain_term_command};
 ghost use Rattle.line_play.specs.Commands.{line_command_of};
-ghost use Rattle.line_play.specs.LinkActs.{link_acts, Hears, Passes, Tells, ObeysOne, ObeysBy};
+ghost use Rattle.line_play.specs.LinkActs.{link_acts, Hears, Passes, Tells, ObeysOne, ObeysBy, asks_all, AreListed, Lists, ObeysWords};
 
 use crate::commands::{is_question, line_command};
+use crate::measured::measured_lines;
 use crate::texts::{answer_of, bad_line};
 use line_filter::{Answer, LineTerminal};
 use script_lines::words_in;
@@ -75,8 +76,8 @@ fn obey_command(
     answer_of(alloc, is_question(command), order, &line)
 }
 
-/// Does what the words of an order say.
-fn obey_words(
+/// Does what the words of an order say, of which nothing asks for all that was measured.
+fn obey_one(
     alloc: Global,
     terminal: &mut Terminal,
     order: &str,
@@ -88,6 +89,32 @@ fn obey_words(
         Some(command) => obey_command(alloc, terminal, order, &command),
         None => Ok(bad_line(alloc)?),
     }
+}
+
+/// Whether words ask for all that was measured.
+fn asks_all(words: &[&str]) -> bool
+    ensures { result ≡ asks_all (texts words.now) }
+{
+    match words {
+        [word] => *word == "measure",
+        _ => false,
+    }
+}
+
+/// Does what the words of an order say.
+fn obey_words(
+    alloc: Global,
+    terminal: &mut Terminal,
+    order: &str,
+    words: &[&str],
+) -> io::Result<Answer>
+    ensures { IfOk result (λ a. ObeysWords (asks_all (texts words.now)) (texts words.now) terminal.old order.now a terminal.new) }
+{
+    if asks_all(words) {
+        let lines = measured_lines(alloc, terminal)?;
+        return Ok(Answer::Listed(lines));
+    }
+    obey_one(alloc, terminal, order, words)
 }
 
 impl LineTerminal for LinkEnd {

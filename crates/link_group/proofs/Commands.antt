@@ -2,8 +2,8 @@
 use Rattle.std.proofs.Common.{◌≡◌, ℕ, zero, suc, List, [], ◌∷◌, Option, Some, None, slice_set, refl, sym, ap, ◌∙◌, subst}
 use Rattle.std.specs.Prelude.{slice_get}
 use Rattle.link_processes.specs.declared.commands.Command.{Command}
-use Rattle.group_changeover.specs.declared.errors.CommandError.{CommandError}
-use Rattle.group_changeover.specs.declared.errors.CommandError.TheVariants as error
+use Rattle.group_members.specs.declared.commanding.CommandError.{CommandError}
+use Rattle.group_members.specs.declared.commanding.CommandError.TheVariants as error
 use Rattle.group_members.specs.declared.link.Link.{Link}
 use Rattle.group_members.specs.Doing.{AtLink}
 use Rattle.group_members.specs.Commanding.{Commands, Commanded, Barred, Refused, Lacks}

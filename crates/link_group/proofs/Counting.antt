@@ -9,12 +9,14 @@ use Rattle.group_members.specs.Term.{Term}
 use Rattle.group_changeover.specs.declared.changeover.Changeover.{Changeover}
 use Rattle.group_changeover.specs.declared.errors.DivertFault.{DivertFault}
 use Rattle.group_members.specs.declared.link.Link.{Link}
+use Rattle.group_members.specs.OneLink.{unknown}
 use Rattle.group_members.specs.Failing.{hears as heard_at, sent_by}
 use Rattle.group_members.specs.Links.{change}
 use Rattle.group_members.specs.Moving.{Diversion}
 use Rattle.group_members.specs.Doing.{asked, came_by, came_first, admits_at, admits_by}
 use Rattle.group_members.specs.Ticking.{passed}
-use Rattle.link_group.specs.Set.{LinkSet, sent}
+use Rattle.link_group.specs.Set.{LinkSet, sent, bound_at}
+use Rattle.group_changeover.specs.Bound.{unbound}
 use Rattle.link_group.specs.Changing.{is_for, after_failure, after_message, after_retrieve, after_abandon}
 use Rattle.link_group.specs.Diverting.{diverted, after_by, after_divert}
 use Rattle.link_group.specs.Placing.{placed_anew, rebalanced}
@@ -22,7 +24,7 @@ use Rattle.link_group.specs.Lines.{seen, all_seen, after_admission, ByLink, Alon
 use Rattle.link_group.specs.Ticks.{with_room, after_ticks}
 use Rattle.link_group.specs.New.{new_set}
 use Rattle.link_group.specs.Laws.{unsure_in, UnsureAreCounted}
-use Rattle.link_group.specs.Reached.{Gone, acknowledged, unsure, unacknowledged_at, told_front, Reached, opens, sends, fails, hears, retrieves, abandons, diverts, rebalances, listens, speaks, gives, reports, commands, refuses, ticks, makes_room, lacks_room, admits}
+use Rattle.link_group.specs.Reached.{Gone, acknowledged, unsure, unacknowledged_at, told_front, Reached, opens, sends, binds, fails, hears, retrieves, abandons, diverts, rebalances, listens, speaks, gives, reports, commands, refuses, ticks, makes_room, lacks_room, admits}
 
 -- ---- messages that have left
 
@@ -57,6 +59,7 @@ so_many_more most count n gone ms e is =
     ap (λ (x : ℕ). min most (x + n)) e ∙ capped most n (unsure_in gone) (unsure_in (gone ++ unsure ms)) all
 
 sent_is : (o : Option Link) → sent_by o ≡ length (unacknowledged_at o)
+unfolding unknown
 sent_is None = refl
 sent_is (Some k) = refl
 
@@ -111,6 +114,10 @@ sent_same : (c : LinkSet) (m : Msu) → (sent c m).unsure ≡ c.unsure
 unfolding sent
 sent_same c m = refl
 
+bound_same : (c : LinkSet) (l : ℕ) (m : Msu) → (bound_at c l m).unsure ≡ c.unsure
+unfolding bound_at
+bound_same c l m = refl
+
 failed_same : (c : LinkSet) (l : ℕ) → (after_failure c l).unsure ≡ c.unsure
 unfolding after_failure
 failed_same c l = refl
@@ -143,6 +150,7 @@ given_up c l gone e =
 counted : (c : LinkSet) (retrievals : ℕ → List Msu) (accepted : List Msu) (gone : List Gone) → Reached c retrievals accepted gone → Counts c gone
 counted _ _ _ _ (opens own peer ts unused) = new_none own peer ts
 counted _ _ _ _ (sends c retrievals accepted gone m r free small) = sent_same c m ∙ counted c retrievals accepted gone r
+counted _ _ _ _ (binds c retrievals accepted gone l m r free bound) = bound_same c l m ∙ counted c retrievals accepted gone r
 counted _ _ _ _ (fails c retrievals accepted gone l r free) = failed_same c l ∙ counted c retrievals accepted gone r
 counted _ _ _ _ (hears c retrievals accepted gone m r) = heard_same c m ∙ counted c retrievals accepted gone r
 counted _ _ _ _ (retrieves c retrievals accepted gone l r free) =
@@ -151,7 +159,7 @@ counted _ _ _ _ (abandons c retrievals accepted gone l r free) = given_up c l go
 counted _ _ _ _ (diverts c retrievals accepted gone l r own) = after_same c l (retrievals l) ∙ counted c retrievals accepted gone r
 counted _ _ _ _ (rebalances c retrievals accepted gone r free) = rebalanced_same c ∙ counted c retrievals accepted gone r
 counted _ _ _ _ (listens c d retrievals accepted gone l octets taken r did) =
-    link_same _ l c d did ∙ none_more c.unsure MOST gone did.at.was.took.gone (counted c retrievals accepted gone r)
+    link_same _ l c d did ∙ none_more c.unsure MOST gone (unbound did.at.before.points did.at.was.took.gone) (counted c retrievals accepted gone r)
 counted _ _ _ _ (speaks c d retrievals accepted gone l units octets r did) = link_same _ l c d did ∙ counted c retrievals accepted gone r
 counted _ _ _ _ (gives c d retrievals accepted gone l unit r did) = link_same _ l c d did ∙ counted c retrievals accepted gone r
 counted _ _ _ _ (reports c d retrievals accepted gone l report r did) = link_same _ l c d did ∙ counted c retrievals accepted gone r

@@ -11,17 +11,19 @@ use Rattle.group_changeover.specs.Laws.{StepsKeepPlaces}
 use Rattle.group_changeover.specs.Limits.{SELECTIONS}
 use Rattle.group_changeover.specs.Places.{Diverts}
 use Rattle.group_changeover.specs.Sharing.{selection_of, is_on, of, off, entry_by, link_of, pick}
+use Rattle.group_changeover.specs.declared.bound.Points.{Points}
 use Rattle.group_changeover.proofs.Equal.{Same, same}
+use Rattle.group_changeover.proofs.Unbound.{IsUnbound, unbound-append, unbound-all}
 use Rattle.group_changeover.proofs.Lists.{of-off, of-off_other}
 use Rattle.group_changeover.specs.declared.errors.DivertFault.{DivertFault}
 use Rattle.group_members.specs.declared.link.Link.{Link}
-use Rattle.group_members.specs.OneLink.{held}
+use Rattle.group_members.specs.OneLink.{held, messages}
 use Rattle.group_members.specs.Moving.{retrieval_by, term_takes, takes_on, Diversion, take_fault, move_fault_by, move_fault, moved_by, moved, Diverted, goes_on, moves}
-use Rattle.link_group.specs.Set.{LinkSet}
+use Rattle.link_group.specs.Set.{LinkSet, points_of}
 use Rattle.link_group.specs.Laws.{held_by, held_at, places_of}
 use Rattle.link_group.specs.Reached.{Gone, with_retrieval_of}
 use Rattle.link_group.proofs.Calling.{retrieval_here, retrieval_other}
-use Rattle.link_group.proofs.Fitting.{IsSmall, FitsAvailability, FitsLink, FitsAt, Fits, fits_change}
+use Rattle.link_group.proofs.Fitting.{IsSmall, FitsAvailability, FitsLink, FitsAt, Fits, fits_there, fits_change}
 use Rattle.link_group.proofs.Getting.{set_here, set_other, change_here, change_other}
 use Rattle.link_group.proofs.Staying.{Stays}
 
@@ -46,19 +48,26 @@ pub record Moving (c : LinkSet) (retrievals : ℕ → List Msu) (accepted : List
   pub stays : Stays (within c d) (with_retrieval_of retrievals l d.rest) accepted gone
   pub out : IsOut (slice_get d.links l)
 
-pub takes_held : (ms : List Msu) (k : Link) → held (takes_on ms k) ≡ held k ++ ms
+pub takes_held : (p : Points) (ms : List Msu) (k : Link) → All (IsUnbound p) ms → k.points ≡ p → messages (takes_on ms k) ≡ messages k ++ ms
 unfolding takes_on term_takes
-takes_held ms k = refl
+takes_held p ms k free same =
+    unbound-append k.points (held k) ms ∙ ap (λ (xs : List Msu). messages k ++ xs) (unbound-all k.points ms (subst (λ (q : Points). All (IsUnbound q) ms) (sym same) free))
+
+takes_points : (ms : List Msu) (k : Link) → (takes_on ms k).points ≡ k.points
+unfolding takes_on
+takes_points ms k = refl
 
 pub takes_availability : (ms : List Msu) (k : Link) → (takes_on ms k).availability ≡ k.availability
 unfolding takes_on
 takes_availability ms k = refl
 
-pub fits_takes : (ms old : List Msu) (k : Link) → All IsSmall ms → FitsLink k old → FitsLink (takes_on ms k) old
-fits_takes ms old k small fits = record {
+pub fits_takes : (p : Points) (ms old : List Msu) (k : Link) → All IsSmall ms → All (IsUnbound p) ms → FitsLink p k old → FitsLink p (takes_on ms k) old
+fits_takes p ms old k small free fits = record {
   availability = subst (λ m. FitsAvailability m old) (sym (takes_availability ms k)) fits.availability;
-  small = subst (λ (xs : List Msu). All IsSmall xs) (sym (takes_held ms k)) (All-append IsSmall (held k) ms fits.small small);
+  small = subst (λ (xs : List Msu). All IsSmall xs) (sym (takes_held p ms k free fits.points)) (All-append IsSmall (messages k) ms fits.small small);
   small_retrieval = fits.small_retrieval;
+  points = takes_points ms k ∙ fits.points;
+  unbound = fits.unbound;
 }
 
 small_of : (s : ℕ) (ms : List Msu) → All IsSmall ms → All IsSmall (of s ms)
@@ -69,39 +78,60 @@ small_off : (s : ℕ) (ms : List Msu) → All IsSmall ms → All IsSmall (off s 
 unfolding off
 small_off s ms small = All-filter (λ m. not (is_on s m)) IsSmall ms small
 
+free_of : (p : Points) (s : ℕ) (ms : List Msu) → All (IsUnbound p) ms → All (IsUnbound p) (of s ms)
+unfolding of
+free_of p s ms free = All-filter (is_on s) (IsUnbound p) ms free
+
+free_off : (p : Points) (s : ℕ) (ms : List Msu) → All (IsUnbound p) ms → All (IsUnbound p) (off s ms)
+unfolding off
+free_off p s ms free = All-filter (λ m. not (is_on s m)) (IsUnbound p) ms free
+
 pub out_takes : (ms : List Msu) (o : Option Link) (f : Option Link) → IsOut o → f ≡ o → IsOut f
 out_takes ms o f out e = subst (λ (x : Option Link). IsOut x) (sym e) out
 
 -- the retrieval of a link that is out may be any
-fits_other : (o : Option Link) (ms new : List Msu) → IsOut o → All IsSmall new → FitsAt o ms → FitsAt o new
-fits_other None ms new out small fits = absurd out
-fits_other (Some k) ms new out small fits = record {
+fits_other : (p : Points) (o : Option Link) (ms new : List Msu) → IsOut o → All IsSmall new → All (IsUnbound p) new → FitsAt p o ms → FitsAt p o new
+fits_other p None ms new out small free fits = absurd out
+fits_other p (Some k) ms new out small free fits = record {
   availability = record { idle = λ e. absurd (out e); failed = fits.availability.failed };
   small = fits.small;
   small_retrieval = small;
+  points = fits.points;
+  unbound = free;
 }
 
-small_at : (o : Option Link) (ms : List Msu) → IsOut o → FitsAt o ms → All IsSmall ms
-small_at None ms out fits = absurd out
-small_at (Some k) ms out fits = fits.small_retrieval
+small_at : (p : Points) (o : Option Link) (ms : List Msu) → IsOut o → FitsAt p o ms → All IsSmall ms
+small_at p None ms out fits = absurd out
+small_at p (Some k) ms out fits = fits.small_retrieval
 
-retrieved_anew_by : (ks : List Link) (retrievals : ℕ → List Msu) (l j : ℕ) (old new : List Msu) → Same j l → IsOut (slice_get ks l) → All IsSmall new → Fits ks (with_retrieval_of retrievals l old)
-    → FitsAt (slice_get ks j) (with_retrieval_of retrievals l new j)
-retrieved_anew_by ks retrievals l j old new (inl e) out small fits =
-    rw (e, retrieval_here retrievals l new) (fits_other (slice_get ks l) old new out small (subst (λ (ms : List Msu). FitsAt (slice_get ks l) ms) (retrieval_here retrievals l old) (fits l)))
-retrieved_anew_by ks retrievals l j old new (inr other) out small fits =
-    rw (retrieval_other retrievals l j new other) (subst (λ (ms : List Msu). FitsAt (slice_get ks j) ms) (retrieval_other retrievals l j old other) (fits j))
+free_at : (p : Points) (o : Option Link) (ms : List Msu) → IsOut o → FitsAt p o ms → All (IsUnbound p) ms
+free_at p None ms out fits = absurd out
+free_at p (Some k) ms out fits = fits.unbound
+
+retrieved_anew_by : (p : Points) (ks : List Link) (retrievals : ℕ → List Msu) (l j : ℕ) (old new : List Msu) → Same j l → IsOut (slice_get ks l) → All IsSmall new → All (IsUnbound p) new
+    → Fits p ks (with_retrieval_of retrievals l old) → FitsAt p (slice_get ks j) (with_retrieval_of retrievals l new j)
+retrieved_anew_by p ks retrievals l j old new (inl e) out small free fits =
+    rw (e, retrieval_here retrievals l new) (fits_other p (slice_get ks l) old new out small free (subst (λ (ms : List Msu). FitsAt p (slice_get ks l) ms) (retrieval_here retrievals l old) (fits l)))
+retrieved_anew_by p ks retrievals l j old new (inr other) out small free fits =
+    rw (retrieval_other retrievals l j new other) (subst (λ (ms : List Msu). FitsAt p (slice_get ks j) ms) (retrieval_other retrievals l j old other) (fits j))
 
 -- less is retrieved
-pub fits_retrieved_anew : (ks : List Link) (retrievals : ℕ → List Msu) (l : ℕ) (old new : List Msu) → IsOut (slice_get ks l) → All IsSmall new → Fits ks (with_retrieval_of retrievals l old)
-    → Fits ks (with_retrieval_of retrievals l new)
-fits_retrieved_anew ks retrievals l old new out small fits = λ j. retrieved_anew_by ks retrievals l j old new (same j l) out small fits
+pub fits_retrieved_anew : (p : Points) (ks : List Link) (retrievals : ℕ → List Msu) (l : ℕ) (old new : List Msu) → IsOut (slice_get ks l) → All IsSmall new → All (IsUnbound p) new
+    → Fits p ks (with_retrieval_of retrievals l old) → Fits p ks (with_retrieval_of retrievals l new)
+fits_retrieved_anew p ks retrievals l old new out small free fits = λ j. retrieved_anew_by p ks retrievals l j old new (same j l) out small free fits
 
 -- ---- one selection
 
 pub rest_small : (c : LinkSet) (retrievals : ℕ → List Msu) (accepted : List Msu) (gone : List Gone) (l : ℕ) (d : Diversion) → Moving c retrievals accepted gone l d → All IsSmall d.rest
 rest_small c retrievals accepted gone l d m =
-    small_at (slice_get d.links l) d.rest m.out (subst (λ (ms : List Msu). FitsAt (slice_get d.links l) ms) (retrieval_here retrievals l d.rest) (m.stays.fits l))
+    small_at (points_of c) (slice_get d.links l) d.rest m.out
+    (subst (λ (ms : List Msu). FitsAt (points_of c) (slice_get d.links l) ms) (retrieval_here retrievals l d.rest) (m.stays.fits l))
+
+pub rest_free : (c : LinkSet) (retrievals : ℕ → List Msu) (accepted : List Msu) (gone : List Gone) (l : ℕ) (d : Diversion) → Moving c retrievals accepted gone l d
+    → All (IsUnbound (points_of c)) d.rest
+rest_free c retrievals accepted gone l d m =
+    free_at (points_of c) (slice_get d.links l) d.rest m.out
+    (subst (λ (ms : List Msu). FitsAt (points_of c) (slice_get d.links l) ms) (retrieval_here retrievals l d.rest) (m.stays.fits l))
 
 some_of : (ms : List Msu) → (length ms == 0) ≡ false → ms ≡ [] → ⊥
 some_of ms e none = let f : true ≡ false = sym (ap (λ (xs : List Msu). length xs == 0) none) ∙ e in cc
@@ -127,8 +157,10 @@ moves_to laws c retrievals accepted gone l s t d k small able there some m =
     let p = places_of (within c d) (with_retrieval_of retrievals l d.rest) accepted gone in
     let q = places_of (within c e) (with_retrieval_of retrievals l e.rest) accepted gone in
     let here : with_retrieval_of retrievals l d.rest l ≡ d.rest = retrieval_here retrievals l d.rest in
+    let free : All (IsUnbound (points_of c)) d.rest = rest_free c retrievals accepted gone l d m in
+    let fit : FitsLink (points_of c) k (with_retrieval_of retrievals l d.rest t) = fits_there (points_of c) d.links (with_retrieval_of retrievals l d.rest) t k m.stays.fits there in
     let held_t : held_at (within c e) t ≡ held_at (within c d) t ++ ms =
-    ap held_by (change_here (takes_on ms) d.links t (Some k) there) ∙ takes_held ms k ∙ ap (λ (o : Option Link). held_by o ++ ms) (sym there) in
+    ap held_by (change_here (takes_on ms) d.links t (Some k) there) ∙ takes_held (points_of c) ms k (free_of (points_of c) s d.rest free) fit.points ∙ ap (λ (o : Option Link). held_by o ++ ms) (sym there) in
     let table : s < length d.table = subst (λ (n : ℕ). s < n) (sym m.stays.table) small in
     let step : Diverts s l t p q = record {
       other = λ x. able.other (sym x);
@@ -147,9 +179,9 @@ moves_to laws c retrievals accepted gone l s t d k small able there some m =
     record {
       stays = record {
         places = laws.diverted s l t p q small m.stays.places step;
-        fits = fits_change (takes_on ms) d.links (with_retrieval_of retrievals l (off s d.rest)) t
-            (fits_retrieved_anew d.links retrievals l d.rest (off s d.rest) m.out (small_off s d.rest all) m.stays.fits)
-            (λ x here f. fits_takes ms (with_retrieval_of retrievals l (off s d.rest) t) x (small_of s d.rest all) f);
+        fits = fits_change (points_of c) (takes_on ms) d.links (with_retrieval_of retrievals l (off s d.rest)) t
+            (fits_retrieved_anew (points_of c) d.links retrievals l d.rest (off s d.rest) m.out (small_off s d.rest all) (free_off (points_of c) s d.rest free) m.stays.fits)
+            (λ x here f. fits_takes (points_of c) ms (with_retrieval_of retrievals l (off s d.rest) t) x (small_of s d.rest all) (free_of (points_of c) s d.rest free) f);
         table = length_set d.table s (Some t) ∙ m.stays.table;
       };
       out = subst (λ (o : Option Link). IsOut o) (sym (change_other (takes_on ms) d.links t l (λ x. able.other (sym x)))) m.out;

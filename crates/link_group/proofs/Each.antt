@@ -1,5 +1,6 @@
 -- Over every list of calls each message stands in its one place.
 use Rattle.std.proofs.Common.{◌≡◌, ℕ, ◌-◌, Bool, true, false, List, [], length, Option, Some, None, refl, sym, ap, ◌∙◌, subst}
+use Rattle.std.proofs.lemmas.List.Elements.{All-nil}
 use Rattle.std.specs.Prelude.{All, if◌then◌else◌, slice_get, get_or, option_map}
 use Rattle.std.proofs.lemmas.Option.{slice_get-map, slice_get_within, get_or_from_slice_get}
 use Rattle.resend_store.specs.declared.messages.Msu.{Msu}
@@ -12,38 +13,43 @@ use Rattle.group_members.specs.Term.{Term, with_processes}
 use Rattle.group_changeover.specs.declared.availability.Availability.{Availability}
 use Rattle.group_changeover.specs.Laws.{StepsKeepPlaces}
 use Rattle.group_members.specs.declared.link.Link.{Link}
-use Rattle.group_members.specs.OneLink.{held}
+use Rattle.group_members.specs.OneLink.{held, messages}
+use Rattle.group_changeover.specs.declared.bound.Points.{Points}
+use Rattle.group_changeover.specs.Bound.{unbound}
+use Rattle.group_changeover.proofs.Unbound.{IsUnbound, unbound-nil}
 use Rattle.group_members.specs.Commanding.{starts_anew, started, Commanded, Refused}
 use Rattle.group_members.specs.Doing.{Listened, Spoken, Sent, Reported}
 use Rattle.group_members.specs.New.{IsUnused, fresh}
-use Rattle.link_group.specs.New.{new_set}
+use Rattle.link_group.specs.New.{points, new_set}
 use Rattle.link_group.specs.Set.{LinkSet}
 use Rattle.link_group.specs.Laws.{held_by, EachInOnePlace}
-use Rattle.link_group.specs.Reached.{Gone, Reached, opens, sends, fails, hears, retrieves, abandons, diverts, rebalances, listens, speaks, gives, reports, commands, refuses, ticks, makes_room, lacks_room, admits}
-use Rattle.link_group.proofs.Calling.{stays_sent, stays_retrieved, stays_abandoned}
+use Rattle.link_group.specs.Reached.{Gone, Reached, opens, sends, binds, fails, hears, retrieves, abandons, diverts, rebalances, listens, speaks, gives, reports, commands, refuses, ticks, makes_room, lacks_room, admits}
+use Rattle.link_group.proofs.Calling.{stays_sent, stays_bound, stays_retrieved, stays_abandoned}
 use Rattle.link_group.proofs.EndingLaws.{stays_diverted}
 use Rattle.link_group.proofs.Fitting.{IsSmall, none_small, FitsAt, fits_fewer}
 use Rattle.link_group.proofs.PlacingLaws.{stays_rebalanced}
 use Rattle.link_group.proofs.Staying.{Stays}
-use Rattle.link_group.proofs.Working.{stays_failed, stays_heard, stays_admitted, link_works, link_keeps, alone_keeps, transceiver_tidied, stays_roomy, stays_ticked, stays_lacking}
+use Rattle.link_group.proofs.Working.{stays_failed, stays_heard, stays_admitted, part_messages, link_works, link_keeps, alone_keeps, transceiver_tidied, stays_roomy, stays_ticked, stays_lacking}
 
 -- ---- a new set
 
-unused_held : (ts : List Term) (l : ℕ) (t : Term) → All IsUnused ts → slice_get ts l ≡ Some t → held (fresh t) ≡ []
-unused_held ts l t unused e =
+unused_held : (p : Points) (ts : List Term) (l : ℕ) (t : Term) → All IsUnused ts → slice_get ts l ≡ Some t → messages (fresh p t) ≡ []
+unused_held p ts l t unused e =
     let here : get_or ts l t ≡ t = get_or_from_slice_get ts l t t e in
-    subst (λ (x : Term). (window_of x).kept ≡ []) here (unused l t (slice_get_within ts l t e))
+    ap (unbound p) (subst (λ (x : Term). (window_of x).kept ≡ []) here (unused l t (slice_get_within ts l t e))) ∙ unbound-nil p
 
-new_held : (ts : List Term) (l : ℕ) (o : Option Term) → All IsUnused ts → slice_get ts l ≡ o → held_by (option_map fresh o) ≡ []
-new_held ts l None unused e = refl
-new_held ts l (Some t) unused e = unused_held ts l t unused e
+new_held : (p : Points) (ts : List Term) (l : ℕ) (o : Option Term) → All IsUnused ts → slice_get ts l ≡ o → held_by (option_map (fresh p) o) ≡ []
+new_held p ts l None unused e = refl
+new_held p ts l (Some t) unused e = unused_held p ts l t unused e
 
-new_fits : (ts : List Term) (l : ℕ) (o : Option Term) → All IsUnused ts → slice_get ts l ≡ o → FitsAt (option_map fresh o) []
-new_fits ts l None unused e = refl
-new_fits ts l (Some t) unused e = record {
+new_fits : (p : Points) (ts : List Term) (l : ℕ) (o : Option Term) → All IsUnused ts → slice_get ts l ≡ o → FitsAt p (option_map (fresh p) o) []
+new_fits p ts l None unused e = refl
+new_fits p ts l (Some t) unused e = record {
   availability = record { idle = λ x. refl; failed = λ x. let f : false ≡ true = x in cc };
-  small = subst (λ (xs : List Msu). All IsSmall xs) (sym (unused_held ts l t unused e)) none_small;
+  small = subst (λ (xs : List Msu). All IsSmall xs) (sym (unused_held p ts l t unused e)) none_small;
   small_retrieval = none_small;
+  points = refl;
+  unbound = All-nil (IsUnbound p);
 }
 
 stays_new : (laws : StepsKeepPlaces) (own peer : ℕ) (ts : List Term) → All IsUnused ts → Stays (new_set own peer ts) (λ l. []) [] []
@@ -52,10 +58,10 @@ stays_new laws own peer ts unused = record {
   places = laws.first _ (record {
     accepted = refl;
     gone = refl;
-    held = λ l. ap held_by (slice_get-map fresh ts l) ∙ new_held ts l (slice_get ts l) unused refl;
+    held = λ l. ap held_by (slice_get-map (fresh (points own peer)) ts l) ∙ new_held (points own peer) ts l (slice_get ts l) unused refl;
     retrieval = λ l. refl;
   });
-  fits = λ l. rw (slice_get-map fresh ts l) (new_fits ts l (slice_get ts l) unused refl);
+  fits = λ l. rw (slice_get-map (fresh (points own peer)) ts l) (new_fits (points own peer) ts l (slice_get ts l) unused refl);
   table = refl;
 }
 
@@ -83,6 +89,7 @@ refused_held k new e = sym (ap (λ (t : Term). (window_of t).kept) e ∙ ap (λ 
 stays_reached : (laws : StepsKeepPlaces) (law : KeptLaw) (c : LinkSet) (retrievals : ℕ → List Msu) (accepted : List Msu) (gone : List Gone) → Reached c retrievals accepted gone → Stays c retrievals accepted gone
 stays_reached laws law _ _ _ _ (opens own peer ts unused) = stays_new laws own peer ts unused
 stays_reached laws law _ _ _ _ (sends c retrievals accepted gone m r free small) = stays_sent laws c retrievals accepted gone m (stays_reached laws law c retrievals accepted gone r) free small
+stays_reached laws law _ _ _ _ (binds c retrievals accepted gone l m r free bound) = stays_bound laws c retrievals accepted gone l m (stays_reached laws law c retrievals accepted gone r) bound
 stays_reached laws law _ _ _ _ (fails c retrievals accepted gone l r free) = stays_failed laws c retrievals accepted gone l (stays_reached laws law c retrievals accepted gone r)
 stays_reached laws law _ _ _ _ (hears c retrievals accepted gone m r) = stays_heard laws c retrievals accepted gone m (stays_reached laws law c retrievals accepted gone r)
 stays_reached laws law _ _ _ _ (retrieves c retrievals accepted gone l r free) = stays_retrieved laws c retrievals accepted gone l (stays_reached laws law c retrievals accepted gone r) free
@@ -91,29 +98,30 @@ stays_reached laws law _ _ _ _ (diverts c retrievals accepted gone l r own) = st
 stays_reached laws law _ _ _ _ (rebalances c retrievals accepted gone r free) = stays_rebalanced laws c retrievals accepted gone (stays_reached laws law c retrievals accepted gone r) free
 stays_reached laws law _ _ _ _ (listens c d retrievals accepted gone l octets taken r did) =
     let was = did.at.was in
-    link_works laws (Listened octets taken) c d retrievals accepted gone l was.took.gone (stays_reached laws law c retrievals accepted gone r) did was.took.loses.kept
+    link_works laws (Listened octets taken) c d retrievals accepted gone l (unbound did.at.before.points was.took.gone) (stays_reached laws law c retrievals accepted gone r) did
+    (part_messages did.at.before did.at.after was.took.gone was.points was.took.loses.kept) was.points
     (λ ms x. rw was.availability (fits_fewer (length (held did.at.before) - length (held did.at.after)) did.at.before.availability ms x))
 stays_reached laws law _ _ _ _ (speaks c d retrievals accepted gone l units octets r did) =
     let was = did.at.was in
-    link_keeps laws (Spoken units octets) c d retrievals accepted gone l (stays_reached laws law c retrievals accepted gone r) did (sym was.sends.kept)
+    link_keeps laws (Spoken units octets) c d retrievals accepted gone l (stays_reached laws law c retrievals accepted gone r) did (sym was.sends.kept) was.points
     (same_changing did.at.after.availability did.at.before.availability was.availability) (same_failed did.at.after.availability did.at.before.availability was.availability)
 stays_reached laws law _ _ _ _ (gives c d retrievals accepted gone l unit r did) =
     let was = did.at.was in
-    link_keeps laws (Sent unit) c d retrievals accepted gone l (stays_reached laws law c retrievals accepted gone r) did (sym was.sends.kept)
+    link_keeps laws (Sent unit) c d retrievals accepted gone l (stays_reached laws law c retrievals accepted gone r) did (sym was.sends.kept) was.points
     (same_changing did.at.after.availability did.at.before.availability was.availability) (same_failed did.at.after.availability did.at.before.availability was.availability)
 stays_reached laws law _ _ _ _ (reports c d retrievals accepted gone l report r did) =
     let was = did.at.was in
-    link_keeps laws (Reported report) c d retrievals accepted gone l (stays_reached laws law c retrievals accepted gone r) did (sym (ap (λ (w : Window). w.kept) was.same))
+    link_keeps laws (Reported report) c d retrievals accepted gone l (stays_reached laws law c retrievals accepted gone r) did (sym (ap (λ (w : Window). w.kept) was.same)) was.points
     (same_changing did.at.after.availability did.at.before.availability was.availability) (same_failed did.at.after.availability did.at.before.availability was.availability)
 stays_reached laws law _ _ _ _ (commands c d retrievals accepted gone l command r did) =
     let was = did.at.was in
     let before : Link = did.at.before in
-    link_keeps laws (Commanded command) c d retrievals accepted gone l (stays_reached laws law c retrievals accepted gone r) did was.keeps.kept
+    link_keeps laws (Commanded command) c d retrievals accepted gone l (stays_reached laws law c retrievals accepted gone r) did was.keeps.kept was.points
     (same_changing did.at.after.availability (started command before) was.availability ∙ started_changing (starts_anew command before) before.availability)
     (same_failed did.at.after.availability (started command before) was.availability ∙ started_failed (starts_anew command before) before.availability)
 stays_reached laws law _ _ _ _ (refuses c d retrievals accepted gone l command refusal r did) =
     let was = did.at.was in
-    alone_keeps laws (Refused command refusal) c d retrievals accepted gone l (stays_reached laws law c retrievals accepted gone r) did (refused_held did.at.before did.at.after was.terminal)
+    alone_keeps laws (Refused command refusal) c d retrievals accepted gone l (stays_reached laws law c retrievals accepted gone r) did (refused_held did.at.before did.at.after was.terminal) was.points
     (same_changing did.at.after.availability did.at.before.availability was.availability) (same_failed did.at.after.availability did.at.before.availability was.availability)
 stays_reached laws law _ _ _ _ (ticks c retrievals accepted gone n r) = stays_ticked laws law c retrievals accepted gone n (stays_reached laws law c retrievals accepted gone r)
 stays_reached laws law _ _ _ _ (makes_room c retrievals accepted gone r) = stays_roomy laws c retrievals accepted gone (stays_reached laws law c retrievals accepted gone r)

@@ -1,8 +1,9 @@
 -- The end of a diversion.
 use Rattle.std.proofs.Common.{◌≡◌, ◌≢◌, ℕ, ◌+◌, ◌==◌, ◌&&◌, ◌||◌, zero, suc, Bool, true, false, not, List, [], ◌∷◌, ◌++◌, Option, Some, None, length, refl, sym, ap, ◌∙◌, subst, inl, inr, arith}
-use Rattle.std.specs.Prelude.{◌⊎◌, is_some, if◌then◌else◌, slice_get}
+use Rattle.std.specs.Prelude.{◌⊎◌, All, is_some, if◌then◌else◌, slice_get}
 use Rattle.std.proofs.lemmas.Bool.Decides.{eqb_tells}
 use Rattle.std.proofs.lemmas.List.{append-nil, nil_from_length}
+use Rattle.std.proofs.lemmas.List.Elements.{All-nil}
 use Rattle.plain_laws.proofs.Options.{none_some, some_none}
 use Rattle.plain_laws.proofs.Truths.{and_first, and_second, by_test}
 use Rattle.resend_store.specs.declared.messages.Msu.{Msu}
@@ -15,15 +16,17 @@ use Rattle.group_changeover.specs.Places.{standing}
 use Rattle.group_changeover.specs.Sharing.{counts_of, link_of, pick}
 use Rattle.group_changeover.specs.declared.errors.DivertFault.{DivertFault}
 use Rattle.group_members.specs.declared.link.Link.{Link}
+use Rattle.group_changeover.specs.declared.bound.Points.{Points}
+use Rattle.group_changeover.proofs.Unbound.{IsUnbound}
 use Rattle.group_members.specs.OneLink.{shares}
 use Rattle.group_members.specs.Links.{change}
 use Rattle.group_members.specs.Moving.{retrieval_by, retrieval_of, is_so_out, is_still, is_open, places_from, open_links, others, own_place, way, first_some, takers, is_own, holds_at, takes_on, Diversion, division, Diverted, moves, back_fault, back, gives_back, hands_over, ends_on, ends_at, keeps_at}
-use Rattle.link_group.specs.Set.{LinkSet}
+use Rattle.link_group.specs.Set.{LinkSet, points_of}
 use Rattle.link_group.specs.Diverting.{Owns, diverted, after_by, after_divert}
 use Rattle.link_group.specs.Laws.{held_by, held_at, places_of}
 use Rattle.link_group.specs.Reached.{Gone, messages_gone, with_retrieval_of, left_by, left_to_divert}
 use Rattle.link_group.proofs.Calling.{retrieval_here, retrieval_other, no_retrieval}
-use Rattle.link_group.proofs.Diverting.{within, IsOut, IsOther, Others, Moving, Gone_on, takes_held, takes_availability, fits_takes, rest_small, fits_retrieved_anew, moves_stay, all_gone}
+use Rattle.link_group.proofs.Diverting.{within, IsOut, IsOther, Others, Moving, Gone_on, takes_held, takes_availability, fits_takes, rest_small, rest_free, fits_retrieved_anew, moves_stay, all_gone}
 use Rattle.link_group.proofs.Fitting.{none_small, FitsAvailability, FitsLink, FitsAt, Fits, fits_there, fits_change}
 use Rattle.link_group.proofs.Getting.{change_here, change_other, held_changed}
 use Rattle.link_group.proofs.PlacingLaws.{link_at, holds_at_none, nothing, with_first}
@@ -37,7 +40,7 @@ same_retrievals : (laws : StepsKeepPlaces) (c : LinkSet) (retrievals new : ℕ �
 same_retrievals laws c retrievals new accepted gone same stays = record {
   places = laws.placed_anew (places_of c retrievals accepted gone) (places_of c new accepted gone) stays.places
       (record { accepted = refl; gone = refl; held = λ l. refl; retrieval = same; link = λ s lt. inl refl });
-  fits = λ l. subst (λ (ms : List Msu). FitsAt (slice_get c.links l) ms) (sym (same l)) (stays.fits l);
+  fits = λ l. subst (λ (ms : List Msu). FitsAt (points_of c) (slice_get c.links l) ms) (sym (same l)) (stays.fits l);
   table = stays.table;
 }
 
@@ -76,10 +79,10 @@ still_by b k e = turned (is_some k.availability.changing) (and_first (not (is_so
 still : (b outage : Bool) (k : Link) → is_open b outage k ≡ true → is_some k.availability.changing ≡ false
 still b outage k e = still_by b k (and_second (is_so_out outage k) (is_still b k) (and_second (shares k) (is_so_out outage k && is_still b k) e))
 
-open_other : (b outage : Bool) (ks : List Link) (retrievals : ℕ → List Msu) (l t : ℕ) (own k : Link) → Fits ks retrievals → slice_get ks l ≡ Some own → is_some own.availability.changing ≡ true
+open_other : (p : Points) (b outage : Bool) (ks : List Link) (retrievals : ℕ → List Msu) (l t : ℕ) (own k : Link) → Fits p ks retrievals → slice_get ks l ≡ Some own → is_some own.availability.changing ≡ true
     → slice_get ks t ≡ Some k → is_open b outage k ≡ true → IsOther l retrievals t
-open_other b outage ks retrievals l t own k fits there changing here able =
-    let fit : FitsLink k (retrievals t) = fits_there ks retrievals t k fits here in
+open_other p b outage ks retrievals l t own k fits there changing here able =
+    let fit : FitsLink p k (retrievals t) = fits_there p ks retrievals t k fits here in
     let idle : is_some k.availability.changing ≡ false = still b outage k able in
     record {
       other = λ e. let same : own ≡ k = one own k (sym there ∙ ap (slice_get ks) (sym e) ∙ here) in
@@ -90,13 +93,13 @@ open_other b outage ks retrievals l t own k fits there changing here able =
     one : (a b : Link) → Some a ≡ Some b → a ≡ b
     one a b e = cc
 
-able_others : (b outage : Bool) (ks : List Link) (retrievals : ℕ → List Msu) (l : ℕ) (own : Link) → Fits ks retrievals → slice_get ks l ≡ Some own → is_some own.availability.changing ≡ true
+able_others : (p : Points) (b outage : Bool) (ks : List Link) (retrievals : ℕ → List Msu) (l : ℕ) (own : Link) → Fits p ks retrievals → slice_get ks l ≡ Some own → is_some own.availability.changing ≡ true
     → Others l retrievals (open_links b outage ks)
 unfolding open_links
-able_others b outage ks retrievals l own fits there changing = λ i t e.
+able_others p b outage ks retrievals l own fits there changing = λ i t e.
     let r = places_open (is_open b outage) 0 ks i t e in
     let at : t ≡ r.0 = omega (arith, r.2) in
-    open_other b outage ks retrievals l t own r.1 fits there changing (ap (slice_get ks) at ∙ r.3) r.4
+    open_other p b outage ks retrievals l t own r.1 fits there changing (ap (slice_get ks) at ∙ r.3) r.4
 
 -- others, unless the link itself stands first
 abbrev pub OthersOrOwn : ℕ → (ℕ → List Msu) → List ℕ → Type 0
@@ -118,25 +121,25 @@ own_others : (l : ℕ) (retrievals : ℕ → List Msu) (outage : Bool) (o : Opti
 own_others l retrievals outage None = λ e i t h. absurd (none_some h)
 own_others l retrievals outage (Some k) = own_by_test l retrievals (shares k && is_so_out outage k)
 
-both_others : (ks : List Link) (retrievals : ℕ → List Msu) (l : ℕ) (outage : Bool) (own : Link) → Fits ks retrievals → slice_get ks l ≡ Some own → is_some own.availability.changing ≡ true
+both_others : (p : Points) (ks : List Link) (retrievals : ℕ → List Msu) (l : ℕ) (outage : Bool) (own : Link) → Fits p ks retrievals → slice_get ks l ≡ Some own → is_some own.availability.changing ≡ true
     → OthersOrOwn l retrievals (others outage ks)
 unfolding others
-both_others ks retrievals l outage own fits there changing =
-    first_others l retrievals (open_links false outage ks) (open_links true outage ks) (λ e. able_others false outage ks retrievals l own fits there changing)
-    (λ e. able_others true outage ks retrievals l own fits there changing)
+both_others p ks retrievals l outage own fits there changing =
+    first_others l retrievals (open_links false outage ks) (open_links true outage ks) (λ e. able_others p false outage ks retrievals l own fits there changing)
+    (λ e. able_others p true outage ks retrievals l own fits there changing)
 
-way_others : (ks : List Link) (retrievals : ℕ → List Msu) (l : ℕ) (outage : Bool) (own : Link) → Fits ks retrievals → slice_get ks l ≡ Some own → is_some own.availability.changing ≡ true
+way_others : (p : Points) (ks : List Link) (retrievals : ℕ → List Msu) (l : ℕ) (outage : Bool) (own : Link) → Fits p ks retrievals → slice_get ks l ≡ Some own → is_some own.availability.changing ≡ true
     → OthersOrOwn l retrievals (way l outage ks)
 unfolding way
-way_others ks retrievals l outage own fits there changing =
-    first_others l retrievals (others outage ks) (own_place l outage (slice_get ks l)) (both_others ks retrievals l outage own fits there changing) (own_others l retrievals outage (slice_get ks l))
+way_others p ks retrievals l outage own fits there changing =
+    first_others l retrievals (others outage ks) (own_place l outage (slice_get ks l)) (both_others p ks retrievals l outage own fits there changing) (own_others l retrievals outage (slice_get ks l))
 
 -- Where the link itself isn't the one that takes its messages others are, if any does.
-takers_others : (ks : List Link) (retrievals : ℕ → List Msu) (l : ℕ) (own : Link) → Fits ks retrievals → slice_get ks l ≡ Some own → is_some own.availability.changing ≡ true
+takers_others : (p : Points) (ks : List Link) (retrievals : ℕ → List Msu) (l : ℕ) (own : Link) → Fits p ks retrievals → slice_get ks l ≡ Some own → is_some own.availability.changing ≡ true
     → OthersOrOwn l retrievals (takers l ks)
 unfolding takers
-takers_others ks retrievals l own fits there changing =
-    first_others l retrievals (way l false ks) (way l true ks) (way_others ks retrievals l false own fits there changing) (way_others ks retrievals l true own fits there changing)
+takers_others p ks retrievals l own fits there changing =
+    first_others l retrievals (way l false ks) (way l true ks) (way_others p ks retrievals l false own fits there changing) (way_others p ks retrievals l true own fits there changing)
 
 -- ---- whose retrieval it is
 
@@ -150,13 +153,13 @@ pub record Holder (c : LinkSet) (retrievals : ℕ → List Msu) (l : ℕ) : Type
   pub changing : is_some link.availability.changing ≡ true
   pub out : retrieval_by link.availability.changing ≡ None → ⊥
 
-holder_by : (c : LinkSet) (retrievals : ℕ → List Msu) (l : ℕ) (o : Option Link) (counts : List ℕ) → Fits c.links retrievals → slice_get c.links l ≡ o → retrieval_of o ≡ Some counts → Holder c retrievals l
+holder_by : (c : LinkSet) (retrievals : ℕ → List Msu) (l : ℕ) (o : Option Link) (counts : List ℕ) → Fits (points_of c) c.links retrievals → slice_get c.links l ≡ o → retrieval_of o ≡ Some counts → Holder c retrievals l
 holder_by c retrievals l None counts fits there e = absurd (none_some e)
 holder_by c retrievals l (Some k) counts fits there e =
     let out = out_by k.availability.changing counts e in
     record { link = k; there = there; changing = out.0; out = out.1 }
 
-holder : (c : LinkSet) (retrievals : ℕ → List Msu) (l : ℕ) → Fits c.links retrievals → Owns c l (retrievals l) → Holder c retrievals l
+holder : (c : LinkSet) (retrievals : ℕ → List Msu) (l : ℕ) → Fits (points_of c) c.links retrievals → Owns c l (retrievals l) → Holder c retrievals l
 unfolding Owns
 holder c retrievals l fits own = holder_by c retrievals l (slice_get c.links l) (counts_of (retrievals l)) fits refl own
 
@@ -174,17 +177,19 @@ takes_back laws c retrievals accepted gone l d None there out m = absurd out
 takes_back laws c retrievals accepted gone l d (Some k) there out m =
     let e : Diversion = record { links = change d.links l (takes_on d.rest); table = d.table; rest = [] } in
     let now : slice_get (change d.links l (takes_on d.rest)) l ≡ Some (takes_on d.rest k) = change_here (takes_on d.rest) d.links l (Some k) there in
+    let free : All (IsUnbound (points_of c)) d.rest = rest_free c retrievals accepted gone l d m in
+    let fit : FitsLink (points_of c) k (with_retrieval_of retrievals l d.rest l) = fits_there (points_of c) d.links (with_retrieval_of retrievals l d.rest) l k m.stays.fits there in
     let grows : held_at (within c e) l ≡ held_at (within c d) l ++ with_retrieval_of retrievals l d.rest l =
-    ap held_by now ∙ takes_held d.rest k ∙ ap (λ (x : Option Link). held_by x ++ d.rest) (sym there) ∙ ap (λ (x : List Msu). held_at (within c d) l ++ x) (sym (retrieval_here retrievals l d.rest)) in
+    ap held_by now ∙ takes_held (points_of c) d.rest k free fit.points ∙ ap (λ (x : Option Link). held_by x ++ d.rest) (sym there) ∙ ap (λ (x : List Msu). held_at (within c d) l ++ x) (sym (retrieval_here retrievals l d.rest)) in
     record {
       stays = record {
         places = leaves laws l (within c d) (within c e) (with_retrieval_of retrievals l d.rest) (with_retrieval_of retrievals l []) accepted [] gone gone m.stays.places (sym (append-nil (messages_gone gone)))
             (order_back (held_at (within c d) l) (with_retrieval_of retrievals l d.rest l) (held_at (within c e) l) (with_retrieval_of retrievals l [] l) grows (retrieval_here retrievals l []))
             (inl (retrieval_here retrievals l [])) (λ j h. ap held_by (change_other (takes_on d.rest) d.links l j h))
             (λ j h. retrieval_other retrievals l j [] h ∙ sym (retrieval_other retrievals l j d.rest h)) refl;
-        fits = fits_change (takes_on d.rest) d.links (with_retrieval_of retrievals l []) l
-            (fits_retrieved_anew d.links retrievals l d.rest [] m.out none_small m.stays.fits)
-            (λ x here f. fits_takes d.rest (with_retrieval_of retrievals l [] l) x (rest_small c retrievals accepted gone l d m) f);
+        fits = fits_change (points_of c) (takes_on d.rest) d.links (with_retrieval_of retrievals l []) l
+            (fits_retrieved_anew (points_of c) d.links retrievals l d.rest [] m.out none_small (All-nil (IsUnbound (points_of c))) m.stays.fits)
+            (λ x here f. fits_takes (points_of c) d.rest (with_retrieval_of retrievals l [] l) x (rest_small c retrievals accepted gone l d m) free f);
         table = m.stays.table;
       };
       out = out_at (slice_get (change d.links l (takes_on d.rest)) l) (takes_on d.rest k) now (λ x. out (ap (λ (n : Availability). retrieval_by n.changing) (sym (takes_availability d.rest k)) ∙ x));
@@ -239,11 +244,13 @@ end_links : (c : LinkSet) (retrievals : ℕ → List Msu) (accepted : List Msu) 
 end_links c retrievals accepted gone l s ls d None = inl refl
 end_links c retrievals accepted gone l s ls d (Some j) = end_cases c retrievals accepted gone l s j ls d ((j == l) && not (holds_at s (slice_get d.links l))) refl
 
-fits_ends : (k : Link) (ms : List Msu) → ms ≡ [] → FitsLink k ms → FitsLink (ends_at k) ms
-fits_ends k ms none fits = record {
+fits_ends : (p : Points) (k : Link) (ms : List Msu) → ms ≡ [] → FitsLink p k ms → FitsLink p (ends_at k) ms
+fits_ends p k ms none fits = record {
   availability = record { idle = λ e. none; failed = λ e. let f : false ≡ true = e in cc };
   small = fits.small;
   small_retrieval = fits.small_retrieval;
+  points = fits.points;
+  unbound = fits.unbound;
 }
 
 ends : (laws : StepsKeepPlaces) (c : LinkSet) (retrievals : ℕ → List Msu) (accepted : List Msu) (gone : List Gone) (l : ℕ) (d : Diversion) → d.rest ≡ [] → Moving c retrievals accepted gone l d
@@ -252,10 +259,10 @@ ends laws c retrievals accepted gone l d none m =
     let now : Stays (within c d) (with_retrieval_of retrievals l []) accepted gone = subst (λ (ms : List Msu). Stays (within c d) (with_retrieval_of retrievals l ms) accepted gone) none m.stays in
     let ls : List ℕ = takers l c.links in
     record {
-      places = placed laws (within c d) (after_by c l d None) (with_retrieval_of retrievals l []) accepted gone (λ j. held_changed ends_at d.links l j (λ k. refl))
+      places = placed laws (within c d) (after_by c l d None) (with_retrieval_of retrievals l []) accepted gone (λ j. held_changed ends_at d.links l j (λ k e. refl))
           (λ s lt. with_first _ _ (link_of d.table s) _ (link_at (λ r. ends_on ls l (slice_get d.links l) (link_of d.table r) r) s lt)
           (end_links c retrievals accepted gone l s ls d (link_of d.table s))) now.places;
-      fits = fits_change ends_at d.links (with_retrieval_of retrievals l []) l now.fits (λ k e f. fits_ends k (with_retrieval_of retrievals l [] l) (retrieval_here retrievals l []) f);
+      fits = fits_change (points_of c) ends_at d.links (with_retrieval_of retrievals l []) l now.fits (λ k e f. fits_ends (points_of c) k (with_retrieval_of retrievals l [] l) (retrieval_here retrievals l []) f);
       table = refl;
     }
 
@@ -277,7 +284,7 @@ finish : (laws : StepsKeepPlaces) (c : LinkSet) (retrievals : ℕ → List Msu) 
     → (o ≡ None → d.rest ≡ []) → Moving c retrievals accepted gone l d → Stays (after_by c l d o) (with_retrieval_of retrievals l (left_by o d.rest)) accepted gone
 finish laws c retrievals accepted gone l d None whole m = ends laws c retrievals accepted gone l d (whole refl) m
 finish laws c retrievals accepted gone l d (Some fault) whole m =
-    one_changes laws (within c d) (with_retrieval_of retrievals l d.rest) accepted gone l (keeps_at d.rest) (λ k. refl) (λ k ms x. fits_keeps (counts_of d.rest) k.availability ms x) m.stays
+    one_changes laws (within c d) (with_retrieval_of retrievals l d.rest) accepted gone l (keeps_at d.rest) (λ k e. (refl, refl)) (λ k ms x. fits_keeps (counts_of d.rest) k.availability ms x) m.stays
 
 pub stays_diverted : (laws : StepsKeepPlaces) (c : LinkSet) (retrievals : ℕ → List Msu) (accepted : List Msu) (gone : List Gone) (l : ℕ) → Stays c retrievals accepted gone → Owns c l (retrievals l)
     → Stays (after_divert c l (retrievals l)) (with_retrieval_of retrievals l (left_to_divert (diverted c l (retrievals l)))) accepted gone
@@ -295,5 +302,5 @@ stays_diverted laws c retrievals accepted gone l stays own =
     by_test (λ (x : Diverted). Went c retrievals accepted gone l x) (is_own l ls) (gives_back l d (back_fault l d)) (moves ls SELECTIONS 0 d)
     (λ e. gives laws c retrievals accepted gone l d (back_fault l d) start)
     (λ e. all_shared c retrievals accepted gone l (moves ls SELECTIONS 0 d)
-    (moves_stay laws c retrievals accepted gone l SELECTIONS 0 ls d refl (takers_others c.links retrievals l h.link stays.fits h.there h.changing e) (λ r lt. absurd (omega (arith, lt))) start)) in
+    (moves_stay laws c retrievals accepted gone l SELECTIONS 0 ls d refl (takers_others (points_of c) c.links retrievals l h.link stays.fits h.there h.changing e) (λ r lt. absurd (omega (arith, lt))) start)) in
     finish laws c retrievals accepted gone l w.at w.fault went.whole went.moving

@@ -1,6 +1,9 @@
 -- Fields of messages.
-use Rattle.std.proofs.Common.{◌≡◌, ℕ, ◌≤◌, List, [], ◌∷◌, Option, Some, None, length, arith, refl, sym, ap, subst}
-use Rattle.std.specs.Prelude.{◌↔◌, slice_get}
+use Rattle.std.proofs.Common.{◌≡◌, ℕ, ◌≤◌, ◌%◌, Bool, true, false, List, [], ◌∷◌, Option, Some, None, length, drop, arith, refl, sym, ap, subst}
+use Rattle.std.specs.Prelude.{◌↔◌, ◌&&◌, slice_get}
+use Rattle.resend_store.specs.declared.messages.Msu.{Msu}
+use Rattle.group_changeover.specs.declared.bound.Points.{Points}
+use Rattle.group_changeover.specs.Bound.{goes_between, is_content, is_bound_by, is_bound}
 use Rattle.plain_laws.proofs.Options.{none_some, some_none}
 use Rattle.group_changeover.specs.declared.labels.Label.{Label}
 use Rattle.group_changeover.specs.declared.changeover.Changeover.{Changeover}
@@ -19,6 +22,16 @@ long_enough (a ∷ []) l e = absurd (none_some e)
 long_enough (a ∷ b ∷ []) l e = omega arith
 long_enough (a ∷ b ∷ c ∷ []) l e = omega arith
 long_enough (a ∷ b ∷ c ∷ d ∷ others) l e = omega arith
+
+long_by : (p : Points) (octets : List ℕ) (rest : Bool) → (goes_between p (label_in octets) && rest) ≡ true → 2 ≤ length octets
+long_by p [] rest e = let f : false ≡ true = e in cc
+long_by p (a ∷ []) rest e = let f : false ≡ true = e in cc
+long_by p (a ∷ b ∷ []) rest e = omega arith
+long_by p (a ∷ b ∷ c ∷ others) rest e = omega arith
+
+pub long_bound : (p : Points) (m : Msu) → is_bound p m ≡ true → 2 ≤ length m.sif.items
+unfolding is_bound_by
+long_bound p m e = long_by p m.sif.items (is_content (m.sio % 16) (drop 4 m.sif.items)) e
 
 -- ---- the order for a link
 

@@ -10,9 +10,11 @@ use Rattle.group_changeover.specs.declared.availability.Answer.{Answer}
 use Rattle.group_changeover.specs.Limits.{SELECTIONS}
 use Rattle.group_changeover.specs.Availability.{begun_by, changeover_begins, told_by, told_in, told, fewer_in, fewer, waited_in, waits}
 use Rattle.group_changeover.specs.Sharing.{selection_of}
+use Rattle.group_changeover.specs.declared.bound.Points.{Points}
 use Rattle.group_changeover.proofs.Equal.{Same, same}
+use Rattle.group_changeover.proofs.Unbound.{IsUnbound}
 use Rattle.group_members.specs.declared.link.Link.{Link}
-use Rattle.group_members.specs.OneLink.{held}
+use Rattle.group_members.specs.OneLink.{messages}
 use Rattle.group_members.specs.Links.{change}
 use Rattle.group_members.specs.Moving.{retrieval_by}
 use Rattle.link_group.proofs.Getting.{change_here, change_other}
@@ -28,58 +30,61 @@ pub record FitsAvailability (m : Availability) (ms : List Msu) : Type 0 where
   pub idle : retrieval_by m.changing ≡ None → ms ≡ []
   pub failed : is_some m.changing ≡ true → m.failed ≡ true
 
-pub record FitsLink (k : Link) (ms : List Msu) : Type 0 where
+-- All links lie between the same points, and no retrieval has a message that is bound to its link.
+pub record FitsLink (p : Points) (k : Link) (ms : List Msu) : Type 0 where
   pub availability : FitsAvailability k.availability ms
-  pub small : All IsSmall (held k)
+  pub small : All IsSmall (messages k)
   pub small_retrieval : All IsSmall ms
+  pub points : k.points ≡ p
+  pub unbound : All (IsUnbound p) ms
 
-abbrev pub FitsAt : Option Link → List Msu → Type 0
-FitsAt None ms = ms ≡ []
-FitsAt (Some k) ms = FitsLink k ms
+abbrev pub FitsAt : Points → Option Link → List Msu → Type 0
+FitsAt p None ms = ms ≡ []
+FitsAt p (Some k) ms = FitsLink p k ms
 
-abbrev pub Fits : List Link → (ℕ → List Msu) → Type 0
-Fits ks retrievals = (l : ℕ) → FitsAt (slice_get ks l) (retrievals l)
+abbrev pub Fits : Points → List Link → (ℕ → List Msu) → Type 0
+Fits p ks retrievals = (l : ℕ) → FitsAt p (slice_get ks l) (retrievals l)
 
-pub fits_there : (ks : List Link) (retrievals : ℕ → List Msu) (l : ℕ) (k : Link) → Fits ks retrievals → slice_get ks l ≡ Some k → FitsLink k (retrievals l)
-fits_there ks retrievals l k fits e = subst (λ (o : Option Link). FitsAt o (retrievals l)) e (fits l)
+pub fits_there : (p : Points) (ks : List Link) (retrievals : ℕ → List Msu) (l : ℕ) (k : Link) → Fits p ks retrievals → slice_get ks l ≡ Some k → FitsLink p k (retrievals l)
+fits_there p ks retrievals l k fits e = subst (λ (o : Option Link). FitsAt p o (retrievals l)) e (fits l)
 
 -- ---- one link changes, or all do
 
-change_at : (f : Link → Link) (o : Option Link) (ms : List Msu) → ((k : Link) → o ≡ Some k → FitsLink (f k) ms) → (o ≡ None → ms ≡ []) → FitsAt (option_map f o) ms
-change_at f None ms some none = none refl
-change_at f (Some k) ms some none = some k refl
+change_at : (p : Points) (f : Link → Link) (o : Option Link) (ms : List Msu) → ((k : Link) → o ≡ Some k → FitsLink p (f k) ms) → (o ≡ None → ms ≡ []) → FitsAt p (option_map f o) ms
+change_at p f None ms some none = none refl
+change_at p f (Some k) ms some none = some k refl
 
-change_by : (f : Link → Link) (ks : List Link) (retrievals : ℕ → List Msu) (ms : List Msu) (l j : ℕ) (new : ℕ → List Msu) → Same j l → Fits ks retrievals
+change_by : (p : Points) (f : Link → Link) (ks : List Link) (retrievals : ℕ → List Msu) (ms : List Msu) (l j : ℕ) (new : ℕ → List Msu) → Same j l → Fits p ks retrievals
     → ((i : ℕ) → (i ≡ l → ⊥) → new i ≡ retrievals i) → new l ≡ ms
-    → ((k : Link) → slice_get ks l ≡ Some k → FitsLink (f k) ms) → (slice_get ks l ≡ None → ms ≡ []) → FitsAt (slice_get (change ks l f) j) (new j)
-change_by f ks retrievals ms l j new (inl e) fits else is some none =
-    let here : FitsAt (slice_get (change ks l f) l) (new l) =
-    rw (change_here f ks l (slice_get ks l) refl, is) (change_at f (slice_get ks l) ms some none) in
-    subst (λ (i : ℕ). FitsAt (slice_get (change ks l f) i) (new i)) (sym e) here
-change_by f ks retrievals ms l j new (inr other) fits else is some none = rw (change_other f ks l j other, else j other) (fits j)
+    → ((k : Link) → slice_get ks l ≡ Some k → FitsLink p (f k) ms) → (slice_get ks l ≡ None → ms ≡ []) → FitsAt p (slice_get (change ks l f) j) (new j)
+change_by p f ks retrievals ms l j new (inl e) fits else is some none =
+    let here : FitsAt p (slice_get (change ks l f) l) (new l) =
+    rw (change_here f ks l (slice_get ks l) refl, is) (change_at p f (slice_get ks l) ms some none) in
+    subst (λ (i : ℕ). FitsAt p (slice_get (change ks l f) i) (new i)) (sym e) here
+change_by p f ks retrievals ms l j new (inr other) fits else is some none = rw (change_other f ks l j other, else j other) (fits j)
 
 -- a link changes, with its retrieval
-pub fits_changed : (f : Link → Link) (ks : List Link) (retrievals new : ℕ → List Msu) (ms : List Msu) (l : ℕ) → Fits ks retrievals
+pub fits_changed : (p : Points) (f : Link → Link) (ks : List Link) (retrievals new : ℕ → List Msu) (ms : List Msu) (l : ℕ) → Fits p ks retrievals
     → ((i : ℕ) → (i ≡ l → ⊥) → new i ≡ retrievals i) → new l ≡ ms
-    → ((k : Link) → slice_get ks l ≡ Some k → FitsLink (f k) ms) → (slice_get ks l ≡ None → ms ≡ []) → Fits (change ks l f) new
-fits_changed f ks retrievals new ms l fits else is some none = λ j. change_by f ks retrievals ms l j new (same j l) fits else is some none
+    → ((k : Link) → slice_get ks l ≡ Some k → FitsLink p (f k) ms) → (slice_get ks l ≡ None → ms ≡ []) → Fits p (change ks l f) new
+fits_changed p f ks retrievals new ms l fits else is some none = λ j. change_by p f ks retrievals ms l j new (same j l) fits else is some none
 
-none_at : (ks : List Link) (retrievals : ℕ → List Msu) (l : ℕ) → Fits ks retrievals → slice_get ks l ≡ None → retrievals l ≡ []
-none_at ks retrievals l fits e = subst (λ (o : Option Link). FitsAt o (retrievals l)) e (fits l)
+none_at : (p : Points) (ks : List Link) (retrievals : ℕ → List Msu) (l : ℕ) → Fits p ks retrievals → slice_get ks l ≡ None → retrievals l ≡ []
+none_at p ks retrievals l fits e = subst (λ (o : Option Link). FitsAt p o (retrievals l)) e (fits l)
 
 -- a link changes, and its retrieval stays
-pub fits_change : (f : Link → Link) (ks : List Link) (retrievals : ℕ → List Msu) (l : ℕ) → Fits ks retrievals
-    → ((k : Link) → slice_get ks l ≡ Some k → FitsLink k (retrievals l) → FitsLink (f k) (retrievals l)) → Fits (change ks l f) retrievals
-fits_change f ks retrievals l fits step =
-    fits_changed f ks retrievals retrievals (retrievals l) l fits (λ i h. refl) refl (λ k e. step k e (fits_there ks retrievals l k fits e)) (none_at ks retrievals l fits)
+pub fits_change : (p : Points) (f : Link → Link) (ks : List Link) (retrievals : ℕ → List Msu) (l : ℕ) → Fits p ks retrievals
+    → ((k : Link) → slice_get ks l ≡ Some k → FitsLink p k (retrievals l) → FitsLink p (f k) (retrievals l)) → Fits p (change ks l f) retrievals
+fits_change p f ks retrievals l fits step =
+    fits_changed p f ks retrievals retrievals (retrievals l) l fits (λ i h. refl) refl (λ k e. step k e (fits_there p ks retrievals l k fits e)) (none_at p ks retrievals l fits)
 
-map_at : (f : Link → Link) (o : Option Link) (ms : List Msu) → ((k : Link) → o ≡ Some k → FitsLink k ms → FitsLink (f k) ms) → FitsAt o ms → FitsAt (option_map f o) ms
-map_at f None ms step fits = fits
-map_at f (Some k) ms step fits = step k refl fits
+map_at : (p : Points) (f : Link → Link) (o : Option Link) (ms : List Msu) → ((k : Link) → o ≡ Some k → FitsLink p k ms → FitsLink p (f k) ms) → FitsAt p o ms → FitsAt p (option_map f o) ms
+map_at p f None ms step fits = fits
+map_at p f (Some k) ms step fits = step k refl fits
 
-pub fits_map : (f : Link → Link) (ks : List Link) (retrievals : ℕ → List Msu) → Fits ks retrievals
-    → ((k : Link) (l : ℕ) → slice_get ks l ≡ Some k → FitsLink k (retrievals l) → FitsLink (f k) (retrievals l)) → Fits (map f ks) retrievals
-fits_map f ks retrievals fits step = λ l. rw (slice_get-map f ks l) (map_at f (slice_get ks l) (retrievals l) (λ k. step k l) (fits l))
+pub fits_map : (p : Points) (f : Link → Link) (ks : List Link) (retrievals : ℕ → List Msu) → Fits p ks retrievals
+    → ((k : Link) (l : ℕ) → slice_get ks l ≡ Some k → FitsLink p k (retrievals l) → FitsLink p (f k) (retrievals l)) → Fits p (map f ks) retrievals
+fits_map p f ks retrievals fits step = λ l. rw (slice_get-map f ks l) (map_at p f (slice_get ks l) (retrievals l) (λ k. step k l) (fits l))
 
 -- ---- marks
 
@@ -148,21 +153,29 @@ fits_waits n m ms fits = record {
 
 -- ---- links that hold the same
 
-pub fits_held : (k new : Link) (ms : List Msu) → FitsAvailability new.availability ms → held new ≡ held k → FitsLink k ms → FitsLink new ms
-fits_held k new ms availability same fits = record {
+-- the same messages, those that are bound to it left out, and the same points
+abbrev pub Alike : Link → Link → Type 0
+Alike new old = (messages new ≡ messages old) × (new.points ≡ old.points)
+
+pub fits_held : (p : Points) (k new : Link) (ms : List Msu) → FitsAvailability new.availability ms → Alike new k → FitsLink p k ms → FitsLink p new ms
+fits_held p k new ms availability same fits = record {
   availability = availability;
-  small = subst (λ (xs : List Msu). All IsSmall xs) (sym same) fits.small;
+  small = subst (λ (xs : List Msu). All IsSmall xs) (sym same.0) fits.small;
   small_retrieval = fits.small_retrieval;
+  points = same.1 ∙ fits.points;
+  unbound = fits.unbound;
 }
 
-rest_small : (left rest : List Msu) → All IsSmall (left ++ rest) → All IsSmall rest
-rest_small [] rest small = small
-rest_small (m ∷ left) rest small = rest_small left rest (All-tail IsSmall m (left ++ rest) small)
+pub back_small : (left rest : List Msu) → All IsSmall (left ++ rest) → All IsSmall rest
+back_small [] rest small = small
+back_small (m ∷ left) rest small = back_small left rest (All-tail IsSmall m (left ++ rest) small)
 
 -- a link that holds what is left of what another holds
-pub less_fits : (k new : Link) (ms left : List Msu) → held k ≡ left ++ held new → FitsAvailability new.availability ms → FitsLink k ms → FitsLink new ms
-less_fits k new ms left parts availability fits = record {
+pub less_fits : (p : Points) (k new : Link) (ms left : List Msu) → messages k ≡ left ++ messages new → new.points ≡ k.points → FitsAvailability new.availability ms → FitsLink p k ms → FitsLink p new ms
+less_fits p k new ms left parts points availability fits = record {
   availability = availability;
-  small = rest_small left (held new) (subst (λ (xs : List Msu). All IsSmall xs) parts fits.small);
+  small = back_small left (messages new) (subst (λ (xs : List Msu). All IsSmall xs) parts fits.small);
   small_retrieval = fits.small_retrieval;
+  points = points ∙ fits.points;
+  unbound = fits.unbound;
 }

@@ -5,7 +5,7 @@ use Rattle.std.proofs.lemmas.Option.{slice_get-map}
 use Rattle.plain_laws.proofs.Options.{none_some}
 use Rattle.group_members.specs.declared.link.Link.{Link}
 use Rattle.group_changeover.proofs.Equal.{Same, same}
-use Rattle.group_members.specs.OneLink.{held}
+use Rattle.group_members.specs.OneLink.{messages}
 use Rattle.group_members.specs.Links.{set_at, change}
 use Rattle.link_group.specs.Laws.{held_by}
 
@@ -44,18 +44,18 @@ change_other f ks l j h = other_by f ks l j (slice_get ks l) h
 
 -- ---- what links hold
 
-held_same : (f : Link → Link) (o : Option Link) → ((k : Link) → held (f k) ≡ held k) → held_by (option_map f o) ≡ held_by o
+held_same : (f : Link → Link) (o : Option Link) → ((k : Link) → o ≡ Some k → messages (f k) ≡ messages k) → held_by (option_map f o) ≡ held_by o
 held_same f None h = refl
-held_same f (Some k) h = h k
+held_same f (Some k) h = h k refl
 
-held_change : (f : Link → Link) (ks : List Link) (l j : ℕ) → Same j l → ((k : Link) → held (f k) ≡ held k) → held_by (slice_get (change ks l f) j) ≡ held_by (slice_get ks j)
+held_change : (f : Link → Link) (ks : List Link) (l j : ℕ) → Same j l → ((k : Link) → slice_get ks l ≡ Some k → messages (f k) ≡ messages k) → held_by (slice_get (change ks l f) j) ≡ held_by (slice_get ks j)
 held_change f ks l j (inl e) h =
     rw e (ap held_by (change_here f ks l (slice_get ks l) refl) ∙ held_same f (slice_get ks l) h)
 held_change f ks l j (inr other) h = ap held_by (change_other f ks l j other)
 
 -- a change of a link that leaves what it holds
-pub held_changed : (f : Link → Link) (ks : List Link) (l j : ℕ) → ((k : Link) → held (f k) ≡ held k) → held_by (slice_get (change ks l f) j) ≡ held_by (slice_get ks j)
+pub held_changed : (f : Link → Link) (ks : List Link) (l j : ℕ) → ((k : Link) → slice_get ks l ≡ Some k → messages (f k) ≡ messages k) → held_by (slice_get (change ks l f) j) ≡ held_by (slice_get ks j)
 held_changed f ks l j h = held_change f ks l j (same j l) h
 
-pub held_mapped : (f : Link → Link) (ks : List Link) (j : ℕ) → ((k : Link) → held (f k) ≡ held k) → held_by (slice_get (map f ks) j) ≡ held_by (slice_get ks j)
-held_mapped f ks j h = ap held_by (slice_get-map f ks j) ∙ held_same f (slice_get ks j) h
+pub held_mapped : (f : Link → Link) (ks : List Link) (j : ℕ) → ((k : Link) → messages (f k) ≡ messages k) → held_by (slice_get (map f ks) j) ≡ held_by (slice_get ks j)
+held_mapped f ks j h = ap held_by (slice_get-map f ks j) ∙ held_same f (slice_get ks j) (λ k e. h k)

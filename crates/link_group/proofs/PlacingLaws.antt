@@ -12,14 +12,16 @@ use Rattle.group_changeover.specs.Laws.{StepsKeepPlaces}
 use Rattle.group_changeover.specs.Limits.{SELECTIONS}
 use Rattle.group_changeover.specs.Places.{standing}
 use Rattle.group_changeover.specs.Sharing.{is_on, of, selections, entry_by, link_of, pick}
+use Rattle.group_changeover.specs.declared.bound.Points.{Points}
 use Rattle.group_changeover.proofs.Equal.{Same, same}
+use Rattle.group_changeover.proofs.Unbound.{none-of}
 use Rattle.group_changeover.proofs.Lists.{of-nil}
 use Rattle.group_changeover.specs.declared.errors.RebalanceError.TheVariants as rebalance
 use Rattle.group_members.specs.declared.link.Link.{Link}
-use Rattle.group_members.specs.OneLink.{held, is_changing}
+use Rattle.group_members.specs.OneLink.{held, messages, is_changing}
 use Rattle.group_members.specs.Moving.{holds, holds_at, able_links, anew_links}
 use Rattle.group_members.specs.Tables.{changing_by, changing_at, held_by_any, or_kept, anew_on, stands_in_way, in_way, any_below, forgiven}
-use Rattle.link_group.specs.Set.{LinkSet}
+use Rattle.link_group.specs.Set.{LinkSet, points_of}
 use Rattle.link_group.specs.Placing.{placed_anew, rebalance_fault, rebalanced}
 use Rattle.link_group.specs.Laws.{held_by, held_at, places_of}
 use Rattle.link_group.specs.Reached.{Gone}
@@ -41,23 +43,14 @@ link_at f s h = ap entry_by (slice_get-map f selections s ∙ ap (option_map f) 
 
 -- ---- none of a selection
 
-none_case : (s : ℕ) (m : Msu) (ms : List Msu) (b : Bool) → is_on s m ≡ b → b ≡ false → of s ms ≡ [] → of s (m ∷ ms) ≡ []
-unfolding of
-none_case s m ms b is off e = ap (λ (x : Bool). cond x (m ∷ of s ms) (of s ms)) (is ∙ off) ∙ e
-
-pub none_on : (s : ℕ) (ms : List Msu) → list_any (is_on s) ms ≡ false → of s ms ≡ []
-none_on s [] e = of-nil s
-none_on s (m ∷ ms) e =
-    none_case s m ms (is_on s m) refl (neither_first (is_on s m) (list_any (is_on s) ms) e) (none_on s ms (neither_second (is_on s m) (list_any (is_on s) ms) e))
-
 any_at : (p : Link → Bool) (ks : List Link) (l : ℕ) (k : Link) → list_any p ks ≡ false → slice_get ks l ≡ Some k → p k ≡ false
 any_at p [] l k e there = absurd (none_some there)
 any_at p (x ∷ ks) zero k e there = let same : x ≡ k = cc in ap p (sym same) ∙ neither_first (p x) (list_any p ks) e
 any_at p (x ∷ ks) (suc l) k e there = any_at p ks l k (neither_second (p x) (list_any p ks) e) there
 
-holds_none : (s : ℕ) (k : Link) → holds s k ≡ false → of s (held k) ≡ []
+holds_none : (s : ℕ) (k : Link) → holds s k ≡ false → of s (messages k) ≡ []
 unfolding holds
-holds_none s k e = none_on s (held k) e
+holds_none s k e = none-of k.points s (held k) e
 
 -- what a link holds of a selection, if it is there
 pub holds_at_none : (s : ℕ) (o : Option Link) → holds_at s o ≡ false → of s (held_by o) ≡ []
@@ -69,9 +62,9 @@ unfolding held_by_any
 held_none s ks l None there e = of-nil s
 held_none s ks l (Some k) there e = holds_none s k (any_at (holds s) ks l k e there)
 
-retrieval_none : (o : Option Link) (ms : List Msu) → changing_by o ≡ false → FitsAt o ms → ms ≡ []
-retrieval_none None ms e fits = fits
-retrieval_none (Some k) ms e fits = fits.availability.idle (no_retrieval k.availability.changing e)
+retrieval_none : (p : Points) (o : Option Link) (ms : List Msu) → changing_by o ≡ false → FitsAt p o ms → ms ≡ []
+retrieval_none p None ms e fits = fits
+retrieval_none p (Some k) ms e fits = fits.availability.idle (no_retrieval k.availability.changing e)
 
 pub nothing : (s : ℕ) (h g : List Msu) → of s h ≡ [] → g ≡ [] → of s h ++ of s g ≡ []
 nothing s h g e f = rw (e, f, of-nil s) refl
@@ -82,7 +75,7 @@ stands_none : (c : LinkSet) (retrievals : ℕ → List Msu) (accepted : List Msu
     → changing_at c.links o ≡ false → held_by_any s c.links ≡ false → standing (places_of c retrievals accepted gone) s o ≡ []
 stands_none c retrievals accepted gone s None stays still none = refl
 stands_none c retrievals accepted gone s (Some l) stays still none =
-    nothing s (held_at c l) (retrievals l) (held_none s c.links l (slice_get c.links l) refl none) (retrieval_none (slice_get c.links l) (retrievals l) still (stays.fits l))
+    nothing s (held_at c l) (retrievals l) (held_none s c.links l (slice_get c.links l) refl none) (retrieval_none (points_of c) (slice_get c.links l) (retrievals l) still (stays.fits l))
 
 anew_cases : (a b : Bool) (was new : Option ℕ) (P : Type 0) → (a ≡ false → b ≡ false → P) → ((if a then was else (if b then was else new)) ≡ was) ⊎ P
 anew_cases true b was new P h = inl refl
@@ -136,18 +129,20 @@ in_way_none : (ks : List Link) (ts : List (Option ℕ)) (ls : List ℕ) (s : ℕ
 unfolding in_way
 in_way_none ks ts ls s e = e
 
-all_idle : (ks : List Link) (retrievals : ℕ → List Msu) → Fits ks retrievals → list_any is_changing ks ≡ false → (l : ℕ) → retrievals l ≡ []
-all_idle ks retrievals fits none l = by (slice_get ks l) refl (fits l)
+all_idle : (p : Points) (ks : List Link) (retrievals : ℕ → List Msu) → Fits p ks retrievals → list_any is_changing ks ≡ false → (l : ℕ) → retrievals l ≡ []
+all_idle p ks retrievals fits none l = by (slice_get ks l) refl (fits l)
   where
-    by : (o : Option Link) → slice_get ks l ≡ o → FitsAt o (retrievals l) → retrievals l ≡ []
+    by : (o : Option Link) → slice_get ks l ≡ o → FitsAt p o (retrievals l) → retrievals l ≡ []
     by None there f = f
     by (Some k) there f = f.availability.idle (no_retrieval k.availability.changing (any_at is_changing ks l k none there))
 
-fits_forgiven : (k : Link) (ms : List Msu) → is_changing k ≡ false → FitsLink k ms → FitsLink (forgiven k) ms
-fits_forgiven k ms still fits = record {
+fits_forgiven : (p : Points) (k : Link) (ms : List Msu) → is_changing k ≡ false → FitsLink p k ms → FitsLink p (forgiven k) ms
+fits_forgiven p k ms still fits = record {
   availability = record { idle = fits.availability.idle; failed = λ e. let f : false ≡ true = sym still ∙ e in cc };
   small = fits.small;
   small_retrieval = fits.small_retrieval;
+  points = fits.points;
+  unbound = fits.unbound;
 }
 
 pub stays_rebalanced : (laws : StepsKeepPlaces) (c : LinkSet) (retrievals : ℕ → List Msu) (accepted : List Msu) (gone : List Gone) → Stays c retrievals accepted gone
@@ -157,12 +152,12 @@ stays_rebalanced laws c retrievals accepted gone stays e =
     let ls : List ℕ = able_links true c.links in
     let first = row_passes (list_any is_changing c.links) rebalance.Waiting _ e in
     let second = row_passes (any_below (in_way c.links c.table ls) SELECTIONS) rebalance.NotEmpty None first.1 in
-    let none : (l : ℕ) → retrievals l ≡ [] = all_idle c.links retrievals stays.fits first.0 in
+    let none : (l : ℕ) → retrievals l ≡ [] = all_idle (points_of c) c.links retrievals stays.fits first.0 in
     record {
       places = placed laws c (rebalanced c) retrievals accepted gone (λ l. held_mapped forgiven c.links l (λ k. refl))
           (λ s lt. with_first _ _ (link_of c.table s) _ (link_at (pick ls) s lt)
           (same_links c retrievals accepted gone s (link_of c.table s) (pick ls s) none
           (in_way_none c.links c.table ls s (below (in_way c.links c.table ls) SELECTIONS s second.0 lt)))) stays.places;
-      fits = fits_map forgiven c.links retrievals stays.fits (λ k l there f. fits_forgiven k (retrievals l) (any_at is_changing c.links l k first.0 there) f);
+      fits = fits_map (points_of c) forgiven c.links retrievals stays.fits (λ k l there f. fits_forgiven (points_of c) k (retrievals l) (any_at is_changing c.links l k first.0 there) f);
       table = refl;
     }

@@ -8,14 +8,14 @@ use Rattle.group_changeover.specs.Limits.{SELECTIONS}
 use Rattle.group_changeover.specs.Laws.{StepsKeepPlaces}
 use Rattle.group_changeover.specs.Places.{standing, OnePlace}
 use Rattle.group_changeover.specs.Sharing.{of, link_of}
-use Rattle.link_group.specs.Set.{LinkSet}
+use Rattle.link_group.specs.Set.{LinkSet, points_of}
 use Rattle.link_group.specs.Laws.{held_at, places_of}
 use Rattle.link_group.specs.Reached.{Gone, acknowledged, messages_gone}
 use Rattle.link_group.proofs.Fitting.{Fits}
 
 pub record Stays (c : LinkSet) (retrievals : ℕ → List Msu) (accepted : List Msu) (gone : List Gone) : Type 0 where
   pub places : OnePlace (places_of c retrievals accepted gone)
-  pub fits : Fits c.links retrievals
+  pub fits : Fits (points_of c) c.links retrievals
   pub table : length c.table ≡ SELECTIONS
 
 -- ---- messages that have left

@@ -16,41 +16,44 @@ use Rattle.group_changeover.specs.declared.availability.Availability.{Availabili
 use Rattle.group_changeover.specs.Laws.{StepsKeepPlaces}
 use Rattle.group_changeover.specs.Availability.{changeover_begins, serves}
 use Rattle.group_changeover.specs.Saying.{is_late, is_order, begun_by_message, is_held_by, answer_after}
+use Rattle.group_changeover.specs.declared.bound.Points.{Points}
+use Rattle.group_changeover.specs.Bound.{unbound}
 use Rattle.group_changeover.proofs.Equal.{same}
+use Rattle.group_changeover.proofs.Unbound.{unbound-append, unbound-behind}
 use Rattle.group_members.specs.declared.link.Link.{Link}
-use Rattle.group_members.specs.OneLink.{held, with_hold, hold_by}
+use Rattle.group_members.specs.OneLink.{held, messages, window, with_hold, hold_by}
 use Rattle.group_members.specs.Links.{set_at, change}
 use Rattle.group_members.specs.Failing.{changeover_begins_at, count_heard, marked, hears}
 use Rattle.group_members.specs.Term.{term_with_transceiver}
-use Rattle.group_members.specs.Doing.{came, came_first, marked_served, asked, came_by, admits_at, admits_by, AtLink}
+use Rattle.group_members.specs.Doing.{began, unbegun, leaves_out, anew, bound_told, came, came_first, marked_served, asked_of, asked, came_by, admits_at, admits_by, AtLink}
 use Rattle.group_members.specs.Ticking.{roomy, passed}
-use Rattle.link_group.specs.Set.{LinkSet}
+use Rattle.link_group.specs.Set.{LinkSet, points_of}
 use Rattle.link_group.specs.Changing.{after_failure, is_for, after_message}
 use Rattle.link_group.specs.Placing.{placed_anew}
 use Rattle.link_group.specs.Lines.{seen, all_seen, after_admission, ByLink, Alone}
 use Rattle.link_group.specs.Ticks.{with_room, after_ticks, NoRoom}
 use Rattle.link_group.specs.Laws.{held_by, held_at}
 use Rattle.link_group.specs.Reached.{Gone, acknowledged}
-use Rattle.link_group.proofs.Fitting.{FitsAvailability, FitsLink, FitsAt, fits_there, fits_change, fits_map, fits_alike, fits_begins, fits_told, fits_waits, fits_held, less_fits}
+use Rattle.link_group.proofs.Fitting.{FitsAvailability, FitsLink, FitsAt, Alike, fits_there, fits_change, fits_map, fits_alike, fits_begins, fits_told, fits_fewer, fits_waits, fits_held, less_fits}
 use Rattle.link_group.proofs.Getting.{change_here, change_other, held_changed, held_mapped}
 use Rattle.link_group.proofs.PlacingLaws.{stays_placed}
 use Rattle.link_group.proofs.Staying.{Stays, gone_marked, gone_none, quiet, leaves}
 
 -- ---- links change, and none of their messages moves
 
-pub one_changes : (laws : StepsKeepPlaces) (c : LinkSet) (retrievals : ℕ → List Msu) (accepted : List Msu) (gone : List Gone) (l : ℕ) (f : Link → Link) → ((k : Link) → held (f k) ≡ held k)
+pub one_changes : (laws : StepsKeepPlaces) (c : LinkSet) (retrievals : ℕ → List Msu) (accepted : List Msu) (gone : List Gone) (l : ℕ) (f : Link → Link) → ((k : Link) → slice_get c.links l ≡ Some k → Alike (f k) k)
     → ((k : Link) (ms : List Msu) → FitsAvailability k.availability ms → FitsAvailability (f k).availability ms) → Stays c retrievals accepted gone → Stays (record c { links = change c.links l f }) retrievals accepted gone
 one_changes laws c retrievals accepted gone l f same availability stays = record {
-  places = quiet laws c (record c { links = change c.links l f }) retrievals accepted gone (λ j. held_changed f c.links l j same) refl stays.places;
-  fits = fits_change f c.links retrievals l stays.fits (λ k e x. fits_held k (f k) (retrievals l) (availability k (retrievals l) x.availability) (same k) x);
+  places = quiet laws c (record c { links = change c.links l f }) retrievals accepted gone (λ j. held_changed f c.links l j (λ k e. (same k e).0)) refl stays.places;
+  fits = fits_change (points_of c) f c.links retrievals l stays.fits (λ k e x. fits_held (points_of c) k (f k) (retrievals l) (availability k (retrievals l) x.availability) (same k e) x);
   table = stays.table;
 }
 
-all_change : (laws : StepsKeepPlaces) (c : LinkSet) (retrievals : ℕ → List Msu) (accepted : List Msu) (gone : List Gone) (f : Link → Link) → ((k : Link) → held (f k) ≡ held k)
+all_change : (laws : StepsKeepPlaces) (c : LinkSet) (retrievals : ℕ → List Msu) (accepted : List Msu) (gone : List Gone) (f : Link → Link) → ((k : Link) → Alike (f k) k)
     → ((k : Link) (ms : List Msu) → FitsAvailability k.availability ms → FitsAvailability (f k).availability ms) → Stays c retrievals accepted gone → Stays (record c { links = map f c.links }) retrievals accepted gone
 all_change laws c retrievals accepted gone f same availability stays = record {
-  places = quiet laws c (record c { links = map f c.links }) retrievals accepted gone (λ j. held_mapped f c.links j same) refl stays.places;
-  fits = fits_map f c.links retrievals stays.fits (λ k l e x. fits_held k (f k) (retrievals l) (availability k (retrievals l) x.availability) (same k) x);
+  places = quiet laws c (record c { links = map f c.links }) retrievals accepted gone (λ j. held_mapped f c.links j (λ k. (same k).0)) refl stays.places;
+  fits = fits_map (points_of c) f c.links retrievals stays.fits (λ k l e x. fits_held (points_of c) k (f k) (retrievals l) (availability k (retrievals l) x.availability) (same k) x);
   table = stays.table;
 }
 
@@ -58,7 +61,7 @@ all_change laws c retrievals accepted gone f same availability stays = record {
 
 pub stays_failed : (laws : StepsKeepPlaces) (c : LinkSet) (retrievals : ℕ → List Msu) (accepted : List Msu) (gone : List Gone) (l : ℕ) → Stays c retrievals accepted gone → Stays (after_failure c l) retrievals accepted gone
 unfolding after_failure
-stays_failed laws c retrievals accepted gone l stays = one_changes laws c retrievals accepted gone l changeover_begins_at (λ k. refl) (λ k ms x. fits_begins k.availability ms x) stays
+stays_failed laws c retrievals accepted gone l stays = one_changes laws c retrievals accepted gone l changeover_begins_at (λ k e. (refl, refl)) (λ k ms x. fits_begins k.availability ms x) stays
 
 fits_heard : (what : Kind) (k : Link) (ms : List Msu) → FitsAvailability k.availability ms → FitsAvailability (hears what k).availability ms
 fits_heard what k ms fits =
@@ -66,42 +69,59 @@ fits_heard what k ms fits =
     (by_test (λ (m : Availability). FitsAvailability m ms) (is_order what && not (is_late k.availability)) (changeover_begins k.availability) k.availability
     (λ e. fits_begins k.availability ms fits) (λ e. fits))
 
-held_heard : (what : Kind) (k : Link) → held (hears what k) ≡ held k
+held_heard : (what : Kind) (k : Link) → Alike (hears what k) k
 held_heard what k =
-    by_test (λ (x : Link). held x ≡ held k) (is_held_by what k.availability) (with_hold (hold_by (marked what k).changing) k) k (λ e. refl) (λ e. refl)
+    by_test (λ (x : Link). Alike x k) (is_held_by what k.availability) (with_hold (hold_by (marked what k).changing) k) k (λ e. (refl, refl)) (λ e. (refl, refl))
 
 pub stays_heard : (laws : StepsKeepPlaces) (c : LinkSet) (retrievals : ℕ → List Msu) (accepted : List Msu) (gone : List Gone) (m : Option Changeover) → Stays c retrievals accepted gone
     → Stays (after_message c m) retrievals accepted gone
 stays_heard laws c retrievals accepted gone None stays = stays
 stays_heard laws c retrievals accepted gone (Some m) stays =
     by_test (λ (x : LinkSet). Stays x retrievals accepted gone) (is_for c m) (record c { links = change c.links m.label.sls (hears m.kind) }) c
-    (λ e. one_changes laws c retrievals accepted gone m.label.sls (hears m.kind) (held_heard m.kind) (fits_heard m.kind) stays) (λ e. stays)
+    (λ e. one_changes laws c retrievals accepted gone m.label.sls (hears m.kind) (λ k there. held_heard m.kind k) (fits_heard m.kind) stays) (λ e. stays)
 
 -- ---- a link comes into service
 
 -- a link that was looked at, with these marks
 abbrev asked_with : Link → Availability → Link
 asked_with k m =
-    marked_served (record { terminal = term_with_transceiver k.terminal (record k.terminal.processes.transceiver { came = false }); availability = m })
+    marked_served (record k { terminal = term_with_transceiver k.terminal (record k.terminal.processes.transceiver { came = false }); availability = m })
 
-fits_asked : (k : Link) (ms : List Msu) → FitsAvailability k.availability ms → FitsAvailability (asked k).availability ms
-fits_asked k ms fits =
+fits_anew : (k : Link) (ms : List Msu) → FitsAvailability k.availability ms → FitsAvailability (anew k).availability ms
+fits_anew k ms fits =
+    by_test (λ (x : Link). FitsAvailability x.availability ms) (began k) (leaves_out (unbegun k)) (unbegun k)
+    (λ e. fits_fewer (bound_told (unbegun k)) k.availability ms fits) (λ e. fits)
+
+fits_asked_of : (k : Link) (ms : List Msu) → FitsAvailability k.availability ms → FitsAvailability (asked_of k).availability ms
+fits_asked_of k ms fits =
     by_test (λ (m : Availability). FitsAvailability (asked_with k m).availability ms) (came k) (serves k.availability) k.availability
     (λ e. fits_alike k.availability (asked_with k (serves k.availability)).availability ms refl refl fits)
     (λ e. fits_alike k.availability (asked_with k k.availability).availability ms refl refl fits)
+
+fits_asked : (k : Link) (ms : List Msu) → FitsAvailability k.availability ms → FitsAvailability (asked k).availability ms
+fits_asked k ms fits = fits_asked_of (anew k) ms (fits_anew k ms fits)
+
+-- What isn't bound to it stays as its directions begin anew.
+anew_alike : (k : Link) → Alike (anew k) k
+anew_alike k =
+    by_test (λ (x : Link). Alike x k) (began k) (leaves_out (unbegun k)) (unbegun k)
+    (λ e. (unbound-behind k.points (window k).sent (held k), refl)) (λ e. (refl, refl))
+
+asked_alike : (k : Link) → Alike (asked k) k
+asked_alike k = anew_alike k
 
 stays_seen : (laws : StepsKeepPlaces) (c : LinkSet) (retrievals : ℕ → List Msu) (accepted : List Msu) (gone : List Gone) (l : ℕ) → Stays c retrievals accepted gone → Stays (seen l c) retrievals accepted gone
 unfolding seen
 stays_seen laws c retrievals accepted gone l stays =
     let d : LinkSet = record c { links = change c.links l asked } in
-    let looked : Stays d retrievals accepted gone = one_changes laws c retrievals accepted gone l asked (λ k. refl) fits_asked stays in
+    let looked : Stays d retrievals accepted gone = one_changes laws c retrievals accepted gone l asked (λ k e. asked_alike k) fits_asked stays in
     by_test (λ (x : LinkSet). Stays x retrievals accepted gone) (came_by (slice_get c.links l)) (placed_anew d) d (λ e. stays_placed laws d retrievals accepted gone looked) (λ e. looked)
 
 stays_all_seen : (laws : StepsKeepPlaces) (c : LinkSet) (retrievals : ℕ → List Msu) (accepted : List Msu) (gone : List Gone) → Stays c retrievals accepted gone → Stays (all_seen c) retrievals accepted gone
 unfolding all_seen
 stays_all_seen laws c retrievals accepted gone stays =
     let d : LinkSet = record c { links = map asked c.links } in
-    let looked : Stays d retrievals accepted gone = all_change laws c retrievals accepted gone asked (λ k. refl) fits_asked stays in
+    let looked : Stays d retrievals accepted gone = all_change laws c retrievals accepted gone asked asked_alike fits_asked stays in
     by_test (λ (x : LinkSet). Stays x retrievals accepted gone) (list_any came_first c.links) (placed_anew d) d (λ e. stays_placed laws d retrievals accepted gone looked) (λ e. looked)
 
 -- ---- level 3 admits a link
@@ -112,7 +132,7 @@ unfolding after_admission
 stays_admitted laws c retrievals accepted gone l way stays =
     let d : LinkSet = record c { links = change c.links l (admits_at way) } in
     let said : Stays d retrievals accepted gone =
-    one_changes laws c retrievals accepted gone l (admits_at way) (λ k. refl) (λ k ms x. fits_alike k.availability (admits_at way k).availability ms refl refl x) stays in
+    one_changes laws c retrievals accepted gone l (admits_at way) (λ k e. (refl, refl)) (λ k ms x. fits_alike k.availability (admits_at way k).availability ms refl refl x) stays in
     by_test (λ (x : LinkSet). Stays x retrievals accepted gone) (admits_by way (slice_get c.links l)) (placed_anew d) d (λ e. stays_placed laws d retrievals accepted gone said) (λ e. said)
 
 -- ---- a call of one terminal
@@ -129,19 +149,19 @@ order_left : (h x g left before after : List Msu) → h ≡ before → before �
 order_left h x g left before after e loses is = rw (e, loses, is) refl
 
 one_works : (laws : StepsKeepPlaces) (c : LinkSet) (retrievals : ℕ → List Msu) (accepted : List Msu) (gone : List Gone) (l : ℕ) (before after : Link) (left : List Msu) → Stays c retrievals accepted gone
-    → slice_get c.links l ≡ Some before → held before ≡ left ++ held after → ((ms : List Msu) → FitsAvailability before.availability ms → FitsAvailability after.availability ms)
+    → slice_get c.links l ≡ Some before → messages before ≡ left ++ messages after → after.points ≡ before.points → ((ms : List Msu) → FitsAvailability before.availability ms → FitsAvailability after.availability ms)
     → Stays (record c { links = change c.links l (λ k. after) }) retrievals accepted (gone ++ acknowledged left)
-one_works laws c retrievals accepted gone l before after left stays there kept alike =
+one_works laws c retrievals accepted gone l before after left stays there kept points alike =
     let d : LinkSet = record c { links = change c.links l (λ k. after) } in
-    let here : held_at c l ≡ held before = ap held_by there in
-    let now : held_at d l ≡ held after = ap held_by (change_here (λ k. after) c.links l (Some before) there) in
-    let fits : FitsLink before (retrievals l) = fits_there c.links retrievals l before stays.fits there in
+    let here : held_at c l ≡ messages before = ap held_by there in
+    let now : held_at d l ≡ messages after = ap held_by (change_here (λ k. after) c.links l (Some before) there) in
+    let fits : FitsLink (points_of c) before (retrievals l) = fits_there (points_of c) c.links retrievals l before stays.fits there in
     record {
       places = leaves laws l c d retrievals retrievals accepted left gone (gone ++ acknowledged left) stays.places (gone_marked false gone left)
-          (order_left (held_at c l) (retrievals l) (held_at d l) left (held before) (held after) here kept now)
+          (order_left (held_at c l) (retrievals l) (held_at d l) left (messages before) (messages after) here kept now)
           (apart_by (held_at c l) (retrievals l) (held_at d l) left (here ∙ kept ∙ ap (λ (x : List Msu). left ++ x) (sym now)) (stays.places.alone l))
           (λ j h. ap held_by (change_other (λ k. after) c.links l j h)) (λ j h. refl) refl;
-      fits = fits_change (λ k. after) c.links retrievals l stays.fits (λ k e x. less_fits before after (retrievals l) left kept (alike (retrievals l) fits.availability) fits);
+      fits = fits_change (points_of c) (λ k. after) c.links retrievals l stays.fits (λ k e x. less_fits (points_of c) before after (retrievals l) left kept points (alike (retrievals l) fits.availability) fits);
       table = stays.table;
     }
 
@@ -151,33 +171,41 @@ same_set c ks new l before after there is = ap (λ (xs : List Link). record c { 
 
 -- whatever it did, some of what it held left from the front, and no mark of a changeover changed
 pub alone_works : (laws : StepsKeepPlaces) (did : Link → Link → Type 0) (c : LinkSet) (retrievals : ℕ → List Msu) (accepted : List Msu) (gone : List Gone) (l : ℕ) (new : List Link) (left : List Msu)
-    → Stays c retrievals accepted gone → (at : AtLink did l c.links new) → held at.before ≡ left ++ held at.after
+    → Stays c retrievals accepted gone → (at : AtLink did l c.links new) → messages at.before ≡ left ++ messages at.after → at.after.points ≡ at.before.points
     → ((ms : List Msu) → FitsAvailability at.before.availability ms → FitsAvailability at.after.availability ms) → Stays (record c { links = new }) retrievals accepted (gone ++ acknowledged left)
-alone_works laws did c retrievals accepted gone l new left stays at kept alike =
+alone_works laws did c retrievals accepted gone l new left stays at kept points alike =
     subst (λ (x : LinkSet). Stays x retrievals accepted (gone ++ acknowledged left)) (same_set c c.links new l at.before at.after at.there at.links)
-    (one_works laws c retrievals accepted gone l at.before at.after left stays at.there kept alike)
+    (one_works laws c retrievals accepted gone l at.before at.after left stays at.there kept points alike)
 
 pub link_works : (laws : StepsKeepPlaces) (did : Link → Link → Type 0) (c d : LinkSet) (retrievals : ℕ → List Msu) (accepted : List Msu) (gone : List Gone) (l : ℕ) (left : List Msu)
-    → Stays c retrievals accepted gone → (by : ByLink did l c d) → held by.at.before ≡ left ++ held by.at.after
+    → Stays c retrievals accepted gone → (by : ByLink did l c d) → messages by.at.before ≡ left ++ messages by.at.after → by.at.after.points ≡ by.at.before.points
     → ((ms : List Msu) → FitsAvailability by.at.before.availability ms → FitsAvailability by.at.after.availability ms) → Stays d retrievals accepted (gone ++ acknowledged left)
-link_works laws did c d retrievals accepted gone l left stays by kept alike =
+link_works laws did c d retrievals accepted gone l left stays by kept points alike =
     subst (λ (x : LinkSet). Stays x retrievals accepted (gone ++ acknowledged left)) (sym by.set)
-    (stays_seen laws (record c { links = by.links }) retrievals accepted (gone ++ acknowledged left) l (alone_works laws did c retrievals accepted gone l by.links left stays by.at kept alike))
+    (stays_seen laws (record c { links = by.links }) retrievals accepted (gone ++ acknowledged left) l (alone_works laws did c retrievals accepted gone l by.links left stays by.at kept points alike))
+
+-- those that left, and those that stay
+pub part_messages : (a b : Link) (left : List Msu) → b.points ≡ a.points → held a ≡ left ++ held b → messages a ≡ unbound a.points left ++ messages b
+part_messages a b left points e =
+    ap (unbound a.points) e ∙ unbound-append a.points left (held b) ∙ ap (λ (p : Points). unbound a.points left ++ unbound p (held b)) (sym points)
+
+same_messages : (a b : Link) → b.points ≡ a.points → held a ≡ held b → messages a ≡ messages b
+same_messages a b points e = ap (unbound a.points) e ∙ ap (λ (p : Points). unbound p (held b)) (sym points)
 
 -- none left
 pub alone_keeps : (laws : StepsKeepPlaces) (did : Link → Link → Type 0) (c d : LinkSet) (retrievals : ℕ → List Msu) (accepted : List Msu) (gone : List Gone) (l : ℕ) → Stays c retrievals accepted gone
-    → (by : Alone did l c d) → held by.at.before ≡ held by.at.after → by.at.after.availability.changing ≡ by.at.before.availability.changing → by.at.after.availability.failed ≡ by.at.before.availability.failed
+    → (by : Alone did l c d) → held by.at.before ≡ held by.at.after → by.at.after.points ≡ by.at.before.points → by.at.after.availability.changing ≡ by.at.before.availability.changing → by.at.after.availability.failed ≡ by.at.before.availability.failed
     → Stays d retrievals accepted gone
-alone_keeps laws did c d retrievals accepted gone l stays by kept changing failed =
+alone_keeps laws did c d retrievals accepted gone l stays by kept points changing failed =
     subst (λ (x : LinkSet). Stays x retrievals accepted gone) (sym by.set)
     (subst (λ (g : List Gone). Stays (record c { links = by.links }) retrievals accepted g) (gone_none gone)
-    (alone_works laws did c retrievals accepted gone l by.links [] stays by.at kept (λ ms x. fits_alike by.at.before.availability by.at.after.availability ms changing failed x)))
+    (alone_works laws did c retrievals accepted gone l by.links [] stays by.at (same_messages by.at.before by.at.after points kept) points (λ ms x. fits_alike by.at.before.availability by.at.after.availability ms changing failed x)))
 
 pub link_keeps : (laws : StepsKeepPlaces) (did : Link → Link → Type 0) (c d : LinkSet) (retrievals : ℕ → List Msu) (accepted : List Msu) (gone : List Gone) (l : ℕ) → Stays c retrievals accepted gone
-    → (by : ByLink did l c d) → held by.at.before ≡ held by.at.after → by.at.after.availability.changing ≡ by.at.before.availability.changing → by.at.after.availability.failed ≡ by.at.before.availability.failed
+    → (by : ByLink did l c d) → held by.at.before ≡ held by.at.after → by.at.after.points ≡ by.at.before.points → by.at.after.availability.changing ≡ by.at.before.availability.changing → by.at.after.availability.failed ≡ by.at.before.availability.failed
     → Stays d retrievals accepted gone
-link_keeps laws did c d retrievals accepted gone l stays by kept changing failed =
-    subst (λ (g : List Gone). Stays d retrievals accepted g) (gone_none gone) (link_works laws did c d retrievals accepted gone l [] stays by kept (λ ms x. fits_alike by.at.before.availability by.at.after.availability ms changing failed x))
+link_keeps laws did c d retrievals accepted gone l stays by kept points changing failed =
+    subst (λ (g : List Gone). Stays d retrievals accepted g) (gone_none gone) (link_works laws did c d retrievals accepted gone l [] stays by (same_messages by.at.before by.at.after points kept) points (λ ms x. fits_alike by.at.before.availability by.at.after.availability ms changing failed x))
 
 -- ---- ticks
 
@@ -189,11 +217,11 @@ pub transceiver_tidied : (t : Processes) → (tidied t).transceiver ≡ t.transc
 unfolding tidied
 transceiver_tidied t = transceiver_by t (is_low t)
 
-held_roomy : (k : Link) → held (roomy k) ≡ held k
-held_roomy k = ap (λ h. h.sender.kept) (transceiver_tidied k.terminal.processes)
+held_roomy : (k : Link) → Alike (roomy k) k
+held_roomy k = (ap (λ h. unbound k.points h.sender.kept) (transceiver_tidied k.terminal.processes), refl)
 
-held_passed : (law : KeptLaw) (n : ℕ) (k : Link) → held (passed n k) ≡ held k
-held_passed law n k = sym (law.events (Advance n) k.terminal.processes).kept
+held_passed : (law : KeptLaw) (n : ℕ) (k : Link) → Alike (passed n k) k
+held_passed law n k = (ap (unbound k.points) (sym (law.events (Advance n) k.terminal.processes).kept), refl)
 
 pub stays_roomy : (laws : StepsKeepPlaces) (c : LinkSet) (retrievals : ℕ → List Msu) (accepted : List Msu) (gone : List Gone) → Stays c retrievals accepted gone
     → Stays (record c { links = with_room c.links }) retrievals accepted gone
@@ -221,13 +249,13 @@ part_at f (k ∷ ks) (suc n) (suc j) = part_at f ks n j
 
 held_part : (new old : Option Link) → PartOf roomy new old → held_by new ≡ held_by old
 held_part new None (inl e) = ap held_by e
-held_part new (Some k) (inl e) = ap held_by e ∙ held_roomy k
+held_part new (Some k) (inl e) = ap held_by e ∙ (held_roomy k).0
 held_part new old (inr e) = ap held_by e
 
-fits_part : (new old : Option Link) (ms : List Msu) → PartOf roomy new old → FitsAt old ms → FitsAt new ms
-fits_part new None ms (inl e) fits = subst (λ (o : Option Link). FitsAt o ms) (sym e) fits
-fits_part new (Some k) ms (inl e) fits = subst (λ (o : Option Link). FitsAt o ms) (sym e) (fits_held k (roomy k) ms fits.availability (held_roomy k) fits)
-fits_part new old ms (inr e) fits = subst (λ (o : Option Link). FitsAt o ms) (sym e) fits
+fits_part : (p : Points) (new old : Option Link) (ms : List Msu) → PartOf roomy new old → FitsAt p old ms → FitsAt p new ms
+fits_part p new None ms (inl e) fits = subst (λ (o : Option Link). FitsAt p o ms) (sym e) fits
+fits_part p new (Some k) ms (inl e) fits = subst (λ (o : Option Link). FitsAt p o ms) (sym e) (fits_held p k (roomy k) ms fits.availability (held_roomy k) fits)
+fits_part p new old ms (inr e) fits = subst (λ (o : Option Link). FitsAt p o ms) (sym e) fits
 
 pub stays_lacking : (laws : StepsKeepPlaces) (c d : LinkSet) (retrievals : ℕ → List Msu) (accepted : List Msu) (gone : List Gone) → Stays c retrievals accepted gone → NoRoom c d → Stays d retrievals accepted gone
 stays_lacking laws c d retrievals accepted gone stays none =
@@ -236,7 +264,7 @@ stays_lacking laws c d retrievals accepted gone stays none =
     let e : LinkSet = record c { links = none.links } in
     let now : Stays e retrievals accepted gone = record {
       places = quiet laws c e retrievals accepted gone (λ j. held_part (slice_get none.links j) (slice_get c.links j) (at j)) refl stays.places;
-      fits = λ j. fits_part (slice_get none.links j) (slice_get c.links j) (retrievals j) (at j) (stays.fits j);
+      fits = λ j. fits_part (points_of c) (slice_get none.links j) (slice_get c.links j) (retrievals j) (at j) (stays.fits j);
       table = stays.table;
     } in
     subst (λ (x : LinkSet). Stays x retrievals accepted gone) (sym none.set) now

@@ -5,15 +5,15 @@ use Rattle.resend_store.specs.declared.messages.Msu.{Msu}
 use Rattle.group_changeover.specs.Places.{Places, OnePlace}
 use Rattle.group_changeover.specs.Sharing.{link_of}
 use Rattle.group_members.specs.declared.link.Link.{Link}
-use Rattle.group_members.specs.OneLink.{held}
+use Rattle.group_members.specs.OneLink.{messages}
 use Rattle.link_group.specs.Set.{LinkSet}
 use Rattle.link_group.specs.Reached.{Gone, messages_gone, Reached}
 
 abbrev pub held_by : Option Link → List Msu
 held_by None = []
-held_by (Some k) = held k
+held_by (Some k) = messages k
 
--- what a link holds, nothing where it isn't there
+-- what a link holds, those that are bound to it left out; nothing where it isn't there
 abbrev pub held_at : LinkSet → ℕ → List Msu
 held_at c l = held_by (slice_get c.links l)
 

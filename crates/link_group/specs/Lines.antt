@@ -5,8 +5,8 @@ use Rattle.group_members.specs.declared.link.Link.{Link}
 use Rattle.link_group.specs.Set.{LinkSet}
 use Rattle.group_members.specs.Links.{change}
 use Rattle.link_processes.specs.declared.commands.Command.{Command}
-use Rattle.group_changeover.specs.declared.errors.CommandError.{CommandError}
-use Rattle.group_changeover.specs.declared.errors.CommandError.TheVariants as error
+use Rattle.group_members.specs.declared.commanding.CommandError.{CommandError}
+use Rattle.group_members.specs.declared.commanding.CommandError.TheVariants as error
 use Rattle.group_members.specs.Commanding.{Barred, Refused, Lacks}
 use Rattle.link_group.specs.Placing.{placed_anew}
 use Rattle.group_members.specs.Doing.{AtLink, asked, came_first, came_by, admits_at, admits_by}

@@ -19,7 +19,8 @@ use Rattle.group_members.specs.New.{IsUnused}
 use Rattle.group_members.specs.Moving.{Diverted}
 use Rattle.group_members.specs.Doing.{Listened, Spoken, Sent, Reported}
 use Rattle.group_members.specs.Commanding.{Commanded, Refused}
-use Rattle.link_group.specs.Set.{LinkSet, send_fault, sent}
+use Rattle.group_changeover.specs.Bound.{is_bound, unbound}
+use Rattle.link_group.specs.Set.{LinkSet, points_of, send_fault, sent, bind_fault_at, bound_at}
 use Rattle.link_group.specs.Changing.{fail_fault, after_failure, after_message, retrieve_fault_at}
 use Rattle.link_group.specs.Changing.{after_retrieve, messages_for, abandon_fault_at, after_abandon}
 use Rattle.link_group.specs.Changing.{unsent_at}
@@ -54,11 +55,11 @@ first_of (Some n) ms = take n ms
 -- those that the far side told of
 abbrev pub told_front : Option Link → List Msu
 told_front None = []
-told_front (Some k) = first_of (accepted_of k) (held k)
+told_front (Some k) = unbound k.points (first_of (accepted_of k) (held k))
 
 abbrev pub unacknowledged_at : Option Link → List Msu
 unacknowledged_at None = []
-unacknowledged_at (Some k) = unacknowledged (window k)
+unacknowledged_at (Some k) = unbound k.points (unacknowledged (window k))
 
 abbrev pub left_by : Option DivertFault → List Msu → List Msu
 left_by None ms = []
@@ -78,6 +79,12 @@ pub data Reached : LinkSet → (ℕ → List Msu) → List Msu → List Gone →
       → Reached c retrievals accepted gone
       → send_fault c m ≡ None → selection_of m < SELECTIONS
       → Reached (sent c m) retrievals (accepted ++ m ∷ []) gone
+  -- a message that is bound to a link is none of those that were accepted
+  binds : (c : LinkSet) (retrievals : ℕ → List Msu) (accepted : List Msu) (gone : List Gone)
+      (l : ℕ) (m : Msu)
+      → Reached c retrievals accepted gone
+      → bind_fault_at c l ≡ None → is_bound (points_of c) m ≡ true
+      → Reached (bound_at c l m) retrievals accepted gone
   fails : (c : LinkSet) (retrievals : ℕ → List Msu) (accepted : List Msu) (gone : List Gone) (l : ℕ)
       → Reached c retrievals accepted gone
       → fail_fault c l ≡ None → Reached (after_failure c l) retrievals accepted gone
@@ -112,7 +119,8 @@ pub data Reached : LinkSet → (ℕ → List Msu) → List Msu → List Gone →
       → List Msu) (accepted : List Msu) (gone : List Gone) (l : ℕ) (octets : List ℕ) (taken : ℕ)
       → Reached c retrievals accepted gone
       → (did : ByLink (Listened octets taken) l c d)
-      → Reached d retrievals accepted (gone ++ acknowledged did.at.was.took.gone)
+      → Reached d retrievals accepted
+      (gone ++ acknowledged (unbound did.at.before.points did.at.was.took.gone))
   speaks : (c d : LinkSet) (retrievals : ℕ
       → List Msu) (accepted : List Msu) (gone : List Gone) (l units : ℕ) (octets : List ℕ)
       → Reached c retrievals accepted gone

@@ -1,11 +1,15 @@
 -- A set of links between two signalling points.
-use Rattle.std.specs.Prelude.{ℕ, List, Option, Some, None, slice_get}
+use Rattle.std.specs.Prelude.{ℕ, if◌then◌else◌, List, Option, Some, None, slice_get}
 use Rattle.resend_store.specs.declared.messages.Msu.{Msu}
 use Rattle.group_changeover.specs.Sharing.{selection_of, link_of}
+use Rattle.group_changeover.specs.Bound.{is_bound}
+use Rattle.group_changeover.specs.declared.bound.Points.{Points}
 use Rattle.group_members.specs.declared.link.Link.{Link}
 use Rattle.group_changeover.specs.declared.errors.SendError.{SendError}
 use Rattle.group_changeover.specs.declared.errors.SendError.TheVariants as send
-use Rattle.group_members.specs.OneLink.{put_fault, puts}
+use Rattle.group_changeover.specs.declared.errors.BindError.{BindError}
+use Rattle.group_changeover.specs.declared.errors.BindError.TheVariants as bind
+use Rattle.group_members.specs.OneLink.{put_fault, puts, bind_fault}
 use Rattle.group_members.specs.Links.{change, fault_at}
 
 pub record LinkSet : Type 0 where
@@ -24,9 +28,14 @@ abbrev pub send_fault_by : List Link → Option ℕ → Option SendError
 send_fault_by ks None = Some send.NoLink
 send_fault_by ks (Some l) = fault_at send.NoLink put_fault (slice_get ks l)
 
--- K1 where its selection has no link, else what that link answers
+abbrev pub points_of : LinkSet → Points
+points_of c = record { own = c.own; peer = c.peer }
+
+-- K5 where it is bound to a link; K1 where its selection has no link, else what that link answers
 unfoldable pub send_fault : LinkSet → Msu → Option SendError
-send_fault c m = send_fault_by c.links (link_of c.table (selection_of m))
+send_fault c m =
+    if is_bound (points_of c) m then Some send.Bound
+    else send_fault_by c.links (link_of c.table (selection_of m))
 
 abbrev pub change_by : List Link → Option ℕ → (Link → Link) → List Link
 change_by ks None f = ks
@@ -35,3 +44,12 @@ change_by ks (Some l) f = change ks l f
 -- It waits behind all others with the link of its selection.
 unfoldable pub sent : LinkSet → Msu → LinkSet
 sent c m = record c { links = change_by c.links (link_of c.table (selection_of m)) (puts m) }
+
+-- ---- a message that is bound to a link
+
+unfoldable pub bind_fault_at : LinkSet → ℕ → Option BindError
+bind_fault_at c l = fault_at bind.NoLink bind_fault (slice_get c.links l)
+
+-- It waits there behind all others.
+unfoldable pub bound_at : LinkSet → ℕ → Msu → LinkSet
+bound_at c l m = record c { links = change c.links l (puts m) }

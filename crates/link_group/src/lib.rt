@@ -19,8 +19,8 @@ pub use ending::DivertError;
 pub use group::{Group, Sif};
 pub use group_changeover::{Answer, Counts, Hearing, Label};
 pub use group_members::{
-    AbandonError, CallError, Command, CommandError, DivertFault, FailError, LineError, LinkError,
-    LinkStatus, Mode, Msu, RebalanceError, Report, RetrieveError, SendError, Terminal,
+    AbandonError, BindError, CallError, Command, CommandError, DivertFault, FailError, LineError,
+    LinkError, LinkStatus, Mode, Msu, RebalanceError, Report, RetrieveError, SendError, Terminal,
 };
 pub use laws::{each_message_stands_in_one_place, unsure_messages_are_counted};
 pub use retrievals::{Ended, Retrievals};

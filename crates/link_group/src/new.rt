@@ -5,6 +5,7 @@ ghost use Rattle.group_members.specs.New.{IsUnused};
 ghost use Rattle.link_group.specs.New.{new_set};
 
 use crate::group::Group;
+use group_changeover::Points;
 use group_members::{Terminal, able_links, all_fresh, table_of};
 use std::alloc::Global;
 
@@ -34,7 +35,7 @@ impl Group {
             Ok(links) => links,
             Err(_) => return Err(terminals),
         };
-        let links = all_fresh(terminals, links);
+        let links = all_fresh(Points { own, peer }, terminals, links);
         let table = table_of(able_links(links.as_slice(), false).as_slice());
         Ok(Group {
             own,

@@ -1,20 +1,21 @@
 //! Messages to send, and messages of a changeover.
-ghost use Rattle.std.specs.Prelude.{◌≡◌, Option, Some, OnOk, OnErr, IfOk, ◌<◌};
+ghost use Rattle.std.specs.Prelude.{◌≡◌, true, Option, Some, OnOk, OnErr, IfOk, ◌<◌};
 ghost use Rattle.group_changeover.specs.Limits.{SELECTIONS};
 ghost use Rattle.group_changeover.specs.Sharing.{selection_of};
 ghost use Rattle.group_changeover.specs.Labels.{label_in, IsLabel};
 ghost use Rattle.group_changeover.specs.Changeovers.{Says};
 ghost use Rattle.group_changeover.specs.declared.changeover.Changeover.{Changeover as PlainChangeover};
 ghost use Rattle.group_members.specs.OneLink.{fault_of, retrieve_refusal, abandon_refusal};
-ghost use Rattle.link_group.specs.Set.{send_fault, sent};
+ghost use Rattle.group_changeover.specs.Bound.{is_bound};
+ghost use Rattle.link_group.specs.Set.{points_of, send_fault, sent, bind_fault_at, bound_at};
 ghost use Rattle.link_group.specs.Changing.{fail_fault, after_failure, order_at, is_for, IsReply, IsRead, after_message, hearing_of, reply_to, retrieve_fault_at, after_retrieve, messages_for, abandon_fault_at, after_abandon, unsent_at};
 
 use crate::group::{Group, Sif, sif_of};
 use crate::retrieved::Retrieved;
-use group_changeover::{Changeover, Hearing, Label, read_changeover, selection_of};
+use group_changeover::{Changeover, Hearing, Label, Points, read_changeover, selection_of};
 use group_members::{
-    AbandonError, FailError, Msu, RetrieveError, SendError, abandon_at, fail_at, hear_at, heard_at,
-    put_at, retrieve_at,
+    AbandonError, BindError, FailError, Msu, RetrieveError, SendError, abandon_at, bind_at,
+    fail_at, hear_at, heard_at, put_at, retrieve_at,
 };
 
 /// What a message that came was, and the field of the answer to send.
@@ -31,8 +32,9 @@ impl Group {
     ///
     /// # Errors
     ///
-    /// `K1 NoLink` where its selection has no link, or that link isn't in changeover and is out of service, held or not admitted, `K2 Waiting`
-    /// where that link is in changeover, `E1 Full` where as many wait there as may. Nothing changes then.
+    /// `K5 Bound` where it is bound to a link: [`Group::send_by`] takes it. `K1 NoLink` where its selection has no link, or that link isn't in
+    /// changeover and is out of service, held or not admitted, `K2 Waiting` where that link is in changeover, `E1 Full` where as many wait there as
+    /// may. Nothing changes then.
     #[tactic(auto, using(crate::proofs::Fields::long_enough), unfolding(crate::specs::Set::send_fault, crate::specs::Set::sent))]
     pub fn send(&mut self, label: Label, msu: Msu) -> Result<(), SendError>
         requires { label_in msu.sif.items ≡ Some label }
@@ -41,10 +43,43 @@ impl Group {
         ensures err { OnErr result (self.new ≡ self.old) }
         ensures within { selection_of msu < SELECTIONS }
     {
-        match self.table.link_of(selection_of(&msu)) {
+        let selection = selection_of(&msu);
+        if self.is_bound(&msu) {
+            return Err(SendError::Bound);
+        }
+        match self.table.link_of(selection) {
             Some(at) => put_at(self.links.as_mut_slice(), at, msu),
             None => Err(SendError::NoLink),
         }
+    }
+
+    /// Whether a message is bound to a link, and goes from this point to the other: one of the four of changeover, a changeback declaration or its
+    /// acknowledgement, traffic restart allowed (service indicator 0; Q.704, 15.4 to 15.6), or a test of the link or its acknowledgement (service
+    /// indicator 1; Q.707).
+    pub fn is_bound(&self, msu: &Msu) -> bool
+        ensures { result ≡ is_bound (points_of self.now) msu.now }
+    {
+        let points = Points {
+            own: self.own,
+            peer: self.peer,
+        };
+        points.is_bound(msu)
+    }
+
+    /// Takes a message that is bound to a link. It waits there behind all others, and leaves by an acknowledgement, as the link's directions begin
+    /// anew, or as its messages are retrieved or given up; no other link gets it.
+    ///
+    /// # Errors
+    ///
+    /// `K1 NoLink` where the link isn't there, is out of service or held, `E1 Full` where it holds 1,151 messages. Nothing changes then.
+    #[tactic(auto, using(crate::proofs::Fields::long_bound), unfolding(crate::specs::Set::bind_fault_at, crate::specs::Set::bound_at))]
+    pub fn send_by(&mut self, link: usize, msu: Msu) -> Result<(), BindError>
+        requires { is_bound (points_of self.old) msu ≡ true }
+        ensures fault { fault_of result ≡ bind_fault_at self.old link }
+        ensures ok { OnOk result (self.new ≡ bound_at self.old link msu) }
+        ensures err { OnErr result (self.new ≡ self.old) }
+    {
+        bind_at(self.links.as_mut_slice(), link, msu)
     }
 
     /// A link fails: its changeover begins. The field of the order to send for it, by another link (Q.704, changeover).

@@ -21,12 +21,13 @@ use Rattle.link_transceiver.specs.declared.signals.EnvSignal.{EnvSignal}
 use Rattle.link_transceiver.specs.TransceiverState.{TransceiverState}
 use Rattle.link_transceiver.specs.Effects.{effect, clears}
 use Rattle.link_transceiver.specs.Judging.{judged}
+use Rattle.link_transceiver.specs.Measuring.{error_counted, octets_counted}
 use Rattle.link_transceiver.specs.Going.{gone}
 use Rattle.link_transceiver.specs.Offers.{error_offers, acknowledgement_seen, counting_offers}
 use Rattle.link_transceiver.specs.Laws.{HandsOutInOrder, KeepsUnacknowledged, Loses, Told, Came, Went, accepted_of, acknowledged_of, is_accepted}
 use Rattle.link_processes.specs.declared.processes.Processes.{Processes}
 use Rattle.link_processes.specs.Offering.{told_by, offer_event}
-use Rattle.link_processes.specs.Machine.{with_book, with_transceiver, Step, repeated, heeds, heard, taken_reply, taken_answer, one_taken, emptied, moved_by, moved, rested, offered, all_offered, unit_taken, error_taken, is_news, counting_told, told_of, sent_by, sent, none_out, handed_out, buffers_emptied}
+use Rattle.link_processes.specs.Machine.{with_book, with_transceiver, Step, repeated, heeds, heard, taken_reply, taken_answer, one_taken, emptied, turned, moved_by, moved, rested, offered, all_offered, with_measures, timed, unit_measured, unit_taken, error_taken, octets_taken, out_measured, calm_measured, is_news, counting_told, told_of, sent_by, sent, none_out, handed_out, buffers_emptied}
 use Rattle.link_processes.specs.Laws.{MessagesLaw, KeptLaw}
 
 -- a relation between transceivers that holds over each signal, holds over all that takes signals alone
@@ -67,14 +68,14 @@ module _ (R : TransceiverState → TransceiverState → Type 0) (same : (h : Tra
   unfolding emptied
   emptied_keeps t = repeated_keeps one_taken one_keeps (length (state_of t.book).ring.items) t
 
-  turn_keeps : (t : Processes) (x : Turn) → R t.transceiver (moved_by t x).processes.transceiver
-  turn_keeps t Made = emptied_keeps t
-  turn_keeps t Blocked = same t.transceiver
-  turn_keeps t Idle = same t.transceiver
+  turn_keeps : (t : Processes) (b : Ledger) (x : Turn) → R t.transceiver (moved_by t b x).processes.transceiver
+  turn_keeps t b Made = emptied_keeps (turned t b)
+  turn_keeps t b Blocked = same t.transceiver
+  turn_keeps t b Idle = same t.transceiver
 
   moved_keeps : (t : Processes) → R t.transceiver (moved t).processes.transceiver
   unfolding moved
-  moved_keeps t = turn_keeps (with_book t (least_turn t.book).book) (least_turn t.book).turn
+  moved_keeps t = turn_keeps t (least_turn t.book).book (least_turn t.book).turn
 
   rested_keeps : (t : Processes) → R t.transceiver (rested t).transceiver
   unfolding rested
@@ -82,7 +83,7 @@ module _ (R : TransceiverState → TransceiverState → Type 0) (same : (h : Tra
 
   pub offered_keeps : (e : Event) (t : Processes) → R t.transceiver (offered e t).transceiver
   unfolding offered
-  offered_keeps e t = rested_keeps (with_book t (ask t.book e).book)
+  offered_keeps e t = rested_keeps (with_book (timed e t) (ask t.book e).book)
 
   pub all_keeps : (os : List Offer) (t : Processes) → R t.transceiver (all_offered os t).transceiver
   unfolding all_offered
@@ -93,11 +94,15 @@ module _ (R : TransceiverState → TransceiverState → Type 0) (same : (h : Tra
 
   pub unit_keeps : (u : Unit) (t : Processes) → R (judged t.transceiver u).transceiver (unit_taken u t).transceiver
   unfolding unit_taken
-  unit_keeps u t = all_keeps (judged t.transceiver u).offers (with_transceiver t (judged t.transceiver u).transceiver)
+  unit_keeps u t = all_keeps (judged t.transceiver u).offers (with_transceiver (unit_measured u t) (judged t.transceiver u).transceiver)
 
   pub error_keeps : (t : Processes) → R t.transceiver (error_taken t).transceiver
   unfolding error_taken
-  error_keeps t = all_keeps error_offers t
+  error_keeps t = all_keeps error_offers (with_measures t (error_counted t.measures))
+
+  pub octets_keep : (t : Processes) → R t.transceiver (octets_taken t).transceiver
+  unfolding octets_taken
+  octets_keep t = all_keeps error_offers (with_measures t (octets_counted t.measures))
 
   either_keeps : (b : Bool) (x y : Processes) (h : TransceiverState) → R h x.transceiver → R h y.transceiver → R h (if b then x else y).transceiver
   either_keeps true x y h p q = p
@@ -119,7 +124,7 @@ module _ (R : TransceiverState → TransceiverState → Type 0) (same : (h : Tra
 
   pub sent_keeps : (t : Processes) → R (gone t.transceiver).transceiver (sent t).processes.transceiver
   unfolding sent
-  sent_keeps t = by_keeps (with_transceiver t (gone t.transceiver).transceiver) (gone t.transceiver).out
+  sent_keeps t = by_keeps (with_transceiver (out_measured t) (gone t.transceiver).transceiver) (gone t.transceiver).out
 
 -- ---- what waits to be handed out
 
@@ -163,6 +168,7 @@ messages_law law = record {
   offers = all_keeps SameMessages messages_same messages_joined (told_messages law);
   units = units_messages law;
   errors = error_keeps SameMessages messages_same messages_joined (told_messages law);
+  octets = octets_keep SameMessages messages_same messages_joined (told_messages law);
   counting = counting_keeps SameMessages messages_same messages_joined (told_messages law);
   sends = λ t. sent_keeps SameMessages messages_same messages_joined (told_messages law) t ∙ went_messages law t.transceiver;
   few = λ u t. few_more (length (unit_taken u t).transceiver.messages) (length t.transceiver.messages) (length (accepted_of t.transceiver u))
@@ -203,11 +209,11 @@ told_none law o t none =
 handed_none : KeepsUnacknowledged → (accepted : Option ℕ) (t : Processes) → (handed_out accepted t).transceiver.sender.kept ≡ []
 unfolding handed_out
 handed_none law accepted t =
-    told_none law (none_out (nat_lt 0 t.transceiver.sender.sent)) (with_transceiver t (record t.transceiver { sender = without_kept t.transceiver.sender accepted })) refl
+    told_none law (none_out (nat_lt 0 t.transceiver.sender.sent)) (with_transceiver (calm_measured t) (record t.transceiver { sender = without_kept t.transceiver.sender accepted })) refl
 
 emptied_none : KeepsUnacknowledged → (t : Processes) → (buffers_emptied t).transceiver.sender.kept ≡ []
 unfolding buffers_emptied clears
-emptied_none law t = told_none law (Some (acknowledgement_seen false)) (with_transceiver t (clears t.transceiver)) refl
+emptied_none law t = told_none law (Some (acknowledgement_seen false)) (with_transceiver (calm_measured t) (clears t.transceiver)) refl
 
 pub kept_law : KeepsUnacknowledged → KeptLaw
 kept_law law = record {
@@ -216,6 +222,7 @@ kept_law law = record {
   units = λ u t. loss_stays (acknowledged_of t.transceiver u) t.transceiver.sender (judged t.transceiver u).transceiver.sender (unit_taken u t).transceiver.sender
       (law.on_unit t.transceiver u) (unit_keeps LosesNone no_loss no_loss_joined law.on_signal u t);
   errors = error_keeps LosesNone no_loss no_loss_joined law.on_signal;
+  octets = octets_keep LosesNone no_loss no_loss_joined law.on_signal;
   counting = counting_keeps LosesNone no_loss no_loss_joined law.on_signal;
   sends = λ t. sym (sent_keeps LosesNone no_loss no_loss_joined law.on_signal t).kept ∙ law.unit_out t.transceiver;
   one_sent = λ t. one_sent (length {A = Msu} []) (sent t).processes.transceiver.sender.sent (gone t.transceiver).transceiver.sender.sent t.transceiver.sender.sent

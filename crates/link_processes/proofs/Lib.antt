@@ -1,4 +1,5 @@
 pub mod Actors
+pub mod Counts
 pub mod Having
 pub mod Keeping
 pub mod Optional

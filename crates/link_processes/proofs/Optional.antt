@@ -12,7 +12,7 @@ use Rattle.link_processes.specs.declared.words.OptionName.TheVariants as option
 use Rattle.link_processes.specs.declared.words.ProcessName.{ProcessName}
 
 -- a name stands first at one place
-first_once : (names : List (List ℕ)) (m n : ℕ) (name : List ℕ) → IsFirst names m name → IsFirst names n name → m ≡ n
+pub first_once : (names : List (List ℕ)) (m n : ℕ) (name : List ℕ) → IsFirst names m name → IsFirst names n name → m ≡ n
 first_once names m n name first second =
     elim (cases_order m n) [
       | inl same ↦ same

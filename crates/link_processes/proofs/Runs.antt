@@ -6,7 +6,7 @@ use Rattle.actor_book.specs.declared.turn.Turn.TheVariants.{Made, Blocked, Idle}
 use Rattle.actor_book.specs.Turns.{MOST_TURNS, Tried, tried, least_turn}
 use Rattle.actor_book.specs.Laws.{IsLeast, IsTurn, of_least, of_none, StaysLaw, TurnLaw}
 use Rattle.link_processes.specs.declared.processes.Processes.{Processes}
-use Rattle.link_processes.specs.Machine.{Step, repeated, with_book, emptied, moved_by, moved, rested}
+use Rattle.link_processes.specs.Machine.{Step, repeated, with_book, emptied, turned, moved_by, moved, rested}
 use Rattle.link_processes.specs.Laws.{IsRun, spent, none_can, blocked, goes, RestLaw}
 use Rattle.actor_book.proofs.Leasts.{blocked_not_made}
 
@@ -19,17 +19,17 @@ module _ (stays : StaysLaw) (k : ℕ) (later : Processes → Processes) (runs : 
   after s = cond s.goes (later s.processes) s.processes
 
   by_turn : (t : Processes) (n : ℕ) (x : Turn) → IsLeast t.book n → (tried n t.book).turn ≡ x
-      → IsRun (suc k) t (after (moved_by (with_book t (tried n t.book).book) x))
+      → IsRun (suc k) t (after (moved_by t (tried n t.book).book x))
   unfolding after
   by_turn t n Made l e =
-      goes k t (later (emptied (with_book t (tried n t.book).book))) n l e (runs (emptied (with_book t (tried n t.book).book)))
+      goes k t (later (emptied (turned t (tried n t.book).book))) n l e (runs (emptied (turned t (tried n t.book).book)))
   by_turn t n Blocked l e =
       let same : (tried n t.book).book ≡ t.book = stays n t.book (λ h. blocked_not_made (sym e ∙ h)) in
       let P : Processes → Type 0 = λ u. IsRun (suc k) t u in
       subst P (with_same t (tried n t.book).book same) (blocked (suc k) t n l e)
   by_turn t n Idle l e = absurd (l.can e)
 
-  by_tried : (t : Processes) (x : Tried) → IsTurn t.book x → IsRun (suc k) t (after (moved_by (with_book t x.book) x.turn))
+  by_tried : (t : Processes) (x : Tried) → IsTurn t.book x → IsRun (suc k) t (after (moved_by t x.book x.turn))
   unfolding after
   by_tried t _ (of_least n l) = by_turn t n (tried n t.book).turn l refl
   by_tried t _ (of_none none) = none_can (suc k) t none

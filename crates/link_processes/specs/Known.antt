@@ -9,7 +9,7 @@ use Rattle.turn_code.specs.declared.draft.Draft.{Draft}
 use Rattle.turn_code.specs.declared.value.Sort.{Sort}
 use Rattle.turn_code.specs.declared.value.Sort.TheVariants.{Integer, Boolean}
 use Rattle.actor_machine.specs.Names.{named, actors_of, place_of}
-use Rattle.turn_check.specs.Named.{process_names, signal_names, IsFirst}
+use Rattle.turn_check.specs.Named.{process_names, signal_names, variable_names, IsFirst}
 use Rattle.link_processes.specs.declared.words.ProcessName.{ProcessName}
 use Rattle.link_processes.specs.declared.words.ProcessName.TheVariants as process
 use Rattle.link_processes.specs.declared.words.SignalName.{SignalName}
@@ -22,6 +22,7 @@ use Rattle.link_processes.specs.declared.names.Options.{Options}
 use Rattle.link_processes.specs.declared.names.Orders.{Orders}
 use Rattle.link_processes.specs.declared.names.Outputs.{Outputs}
 use Rattle.link_processes.specs.declared.names.Parties.{Parties}
+use Rattle.link_processes.specs.declared.names.Periods.{Periods}
 
 abbrev pub process_word : ProcessName → List ℕ
 process_word process.Lsc = codes "LSC"
@@ -190,9 +191,29 @@ pub record AreOptions (d : Draft) (x : Options) : Type 0 where
   pub odd : IsOption d x.odd option.Odd
   pub counting : IsOption d x.counting option.Counting
 
+-- ---- the count of aborted proving periods
+
+-- the number of no actor
+abbrev pub NO_ACTOR : ℕ
+NO_ACTOR = 65535
+
+-- The first variable Cp of the first instance of the first process IAC (Q.703, figure 9: the
+-- aborted
+-- proving periods of the alignment under way); case is ignored.
+pub record IsCount (d : Draft) (x : Periods) : Type 0 where
+  pub process : ℕ
+  pub called : IsFirst (process_names d) process (codes "IAC")
+  pub number : place_of (named process 1) (actors_of d.processes) ≡ Some x.actor
+  pub variable : IsFirst (variable_names d process) x.variable.0 (codes "cp")
+
+-- that variable, where the set has it; where it hasn't the number is that of no actor
+abbrev pub ArePeriods : Draft → Periods → Type 0
+ArePeriods d x = IsCount d x ⊎ (((y : Periods) → IsCount d y → ⊥) × (x.actor ≡ NO_ACTOR))
+
 pub record AreNames (d : Draft) (n : Names) : Type 0 where
   pub parties : AreParties d n.parties
   pub orders : AreOrders d n.orders
   pub notices : AreNotices d n.notices
   pub outputs : AreOutputs d n.outputs
   pub options : AreOptions d n.options
+  pub periods : ArePeriods d n.periods

@@ -7,9 +7,9 @@ use Rattle.actor_book.specs.Laws.{IsLeast, NoneCan}
 use Rattle.link_transceiver.specs.declared.offers.Offer.{Offer}
 use Rattle.link_transceiver.specs.Laws.{Loses, accepted_of, acknowledged_of}
 use Rattle.link_processes.specs.declared.processes.Processes.{Processes}
-use Rattle.link_processes.specs.Machine.{with_book, emptied, rested, offered, all_offered}
-use Rattle.link_processes.specs.Machine.{unit_taken, error_taken, counting_told, sent, handed_out}
-use Rattle.link_processes.specs.Machine.{buffers_emptied}
+use Rattle.link_processes.specs.Machine.{turned, emptied, rested, offered, all_offered}
+use Rattle.link_processes.specs.Machine.{unit_taken, error_taken, octets_taken, counting_told, sent}
+use Rattle.link_processes.specs.Machine.{handed_out, buffers_emptied}
 use Rattle.actor_machine.specs.declared.event.Event.{Event}
 
 -- Up to so many turns, each of the least actor that can, come one after another, and behind each
@@ -21,7 +21,7 @@ pub data IsRun : ℕ → Processes → Processes → Type 0 where
   blocked : (k : ℕ) (t : Processes) (n : ℕ) → IsLeast t.book n → (tried n t.book).turn ≡ Blocked
       → IsRun k t t
   goes : (k : ℕ) (t u : Processes) (n : ℕ) → IsLeast t.book n → (tried n t.book).turn ≡ Made
-      → IsRun k (emptied (with_book t (tried n t.book).book)) u → IsRun (suc k) t u
+      → IsRun k (emptied (turned t (tried n t.book).book)) u → IsRun (suc k) t u
 
 abbrev pub RestLaw : Type 0
 RestLaw = (t : Processes) → IsRun MOST_TURNS t (rested t)
@@ -39,6 +39,7 @@ pub record MessagesLaw : Type 0 where
       → (unit_taken u t).transceiver.messages
       ≡ t.transceiver.messages ++ accepted_of t.transceiver u
   pub errors : (t : Processes) → (error_taken t).transceiver.messages ≡ t.transceiver.messages
+  pub octets : (t : Processes) → (octets_taken t).transceiver.messages ≡ t.transceiver.messages
   pub counting :
       (on : Bool) (t : Processes)
       → (counting_told on t).transceiver.messages ≡ t.transceiver.messages
@@ -60,6 +61,7 @@ pub record KeptLaw : Type 0 where
       → Loses (acknowledged_of t.transceiver u) t.transceiver.sender
       (unit_taken u t).transceiver.sender
   pub errors : (t : Processes) → Loses [] t.transceiver.sender (error_taken t).transceiver.sender
+  pub octets : (t : Processes) → Loses [] t.transceiver.sender (octets_taken t).transceiver.sender
   pub counting :
       (on : Bool) (t : Processes)
       → Loses [] t.transceiver.sender (counting_told on t).transceiver.sender

@@ -1,8 +1,10 @@
 -- What a terminal does: each call is one of these steps, on the history of its actors and what it
 -- keeps beside them.
 use Rattle.std.specs.Prelude.{ℕ, zero, suc, ◌&&◌, not, Bool, true, false, nat_lt, cond}
-use Rattle.std.specs.Prelude.{if◌then◌else◌}
+use Rattle.std.specs.Prelude.{if◌then◌else◌, ℤ, int_lt, slice_get}
 use Rattle.std.specs.Prelude.{Option, Some, None, List, [], ◌∷◌, length}
+use Rattle.turn_code.specs.declared.value.Value.{Value}
+use Rattle.turn_code.specs.declared.value.Value.TheVariants as value
 use Rattle.resend_store.specs.Window.{emptied as without_kept}
 use Rattle.su_octets.specs.declared.units.Unit.{Unit}
 use Rattle.actor_machine.specs.Ledger.{Ledger, runs, state_of, refusal_by, ask, room, rebased}
@@ -15,15 +17,27 @@ use Rattle.actor_machine.specs.declared.reply.Reply.{Reply}
 use Rattle.actor_machine.specs.declared.reply.Reply.TheVariants as reply
 use Rattle.actor_book.specs.declared.turn.Turn.{Turn}
 use Rattle.actor_book.specs.declared.turn.Turn.TheVariants.{Made, Blocked, Idle}
+use Rattle.actor_book.specs.Shown.{variable_of}
 use Rattle.actor_book.specs.Turns.{MOST_TURNS, least_turn}
 use Rattle.link_transceiver.specs.declared.offers.Offer.{Offer}
 use Rattle.link_transceiver.specs.declared.offers.UnitOut.{UnitOut}
 use Rattle.link_transceiver.specs.declared.signals.EnvSignal.{EnvSignal}
 use Rattle.link_transceiver.specs.TransceiverState.{TransceiverState}
+use Rattle.link_transceiver.specs.declared.glances.Glance.{Glance}
+use Rattle.link_transceiver.specs.declared.measures.Measures.{Measures}
 use Rattle.link_transceiver.specs.Effects.{effect, clears}
 use Rattle.link_transceiver.specs.Judging.{Judged, judged}
 use Rattle.link_transceiver.specs.Going.{gone}
+use Rattle.link_transceiver.specs.Measuring.{glance, seen_of, calmed, passed, signal_counted}
+use Rattle.link_transceiver.specs.Measuring.{
+  error_counted,
+  octets_counted,
+  came_counted,
+  went_counted,
+}
+use Rattle.link_transceiver.specs.Measuring.{more_if, reset}
 use Rattle.link_transceiver.specs.Offers.{error_offers, acknowledgement_seen, counting_offers}
+use Rattle.link_processes.specs.declared.names.Names.{Names}
 use Rattle.link_processes.specs.declared.processes.Processes.{Processes}
 use Rattle.link_processes.specs.Known.{is_there}
 use Rattle.link_processes.specs.Offering.{told_by, offer_event}
@@ -33,6 +47,9 @@ with_book t b = record t { book = b }
 
 abbrev pub with_transceiver : Processes → TransceiverState → Processes
 with_transceiver t h = record t { transceiver = h }
+
+abbrev pub with_measures : Processes → Measures → Processes
+with_measures t m = record t { measures = m }
 
 -- the terminal after a step, and whether another step may follow
 pub record Step : Type 0 where
@@ -44,15 +61,26 @@ unfoldable pub repeated : (Processes → Step) → ℕ → Processes → Process
 repeated f zero t = t
 repeated f (suc k) t = cond (f t).goes (repeated f k (f t).processes) (f t).processes
 
+-- All counts begin anew. That the far side is congested is no count, and stays.
+abbrev pub all_reset : Processes → Processes
+all_reset t = record t { measures = reset t.measures; aborted = 0 }
+
 -- ---- what the actors tell the environment
 
 abbrev pub heeds : Option EnvSignal → TransceiverState → TransceiverState
 heeds None h = h
 heeds (Some s) h = effect s h
 
--- a signal of the environment is heeded
+abbrev pub signals_counted : Option EnvSignal → TransceiverState → Measures → Measures
+signals_counted None h m = m
+signals_counted (Some s) h m = signal_counted s (glance h) m
+
+-- a signal of the environment is counted, and heeded
 unfoldable pub heard : Emitted → Processes → Processes
-heard x t = with_transceiver t (heeds (told_by t.names x) t.transceiver)
+heard x t =
+    with_transceiver
+    (with_measures t (signals_counted (told_by t.names x) t.transceiver t.measures))
+    (heeds (told_by t.names x) t.transceiver)
 
 abbrev pub taken_reply : Processes → Ledger → Reply → Step
 taken_reply t b (reply.Taken x) = record { processes = heard x (with_book t b); goes = true }
@@ -70,16 +98,45 @@ one_taken t = taken_answer t (ask t.book TakeEnv).book (ask t.book TakeEnv).answ
 unfoldable pub emptied : Processes → Processes
 emptied t = repeated one_taken (length (state_of t.book).ring.items) t
 
+-- ---- proving periods
+
+-- Cp of initial alignment control (Q.703, figure 9), where the text has it and it is set: how many
+-- proving periods of the alignment under way were aborted
+abbrev pub periods_of : Names → Ledger → Option Value
+periods_of n b =
+    variable_of (slice_get (state_of b).actors n.periods.actor) n.periods.variable.0
+
+abbrev pub is_past : ℤ → Option Value → Bool
+is_past before None = false
+is_past before (Some (value.Int after)) = int_lt before after
+is_past before (Some (value.Bool after)) = false
+
+-- whether a number grew
+abbrev pub grew : Option Value → Option Value → Bool
+grew None after = false
+grew (Some (value.Int before)) after = is_past before after
+grew (Some (value.Bool before)) after = false
+
+-- a proving period was aborted where Cp grew; it is counted
+abbrev pub periods_counted : Option Value → Processes → Processes
+periods_counted before t =
+    record t { aborted = more_if (grew before (periods_of t.names t.book)) 1 t.aborted }
+
+-- the book is as a turn left it
+abbrev pub turned : Processes → Ledger → Processes
+turned t b = periods_counted (periods_of t.names t.book) (with_book t b)
+
 -- ---- a rest
 
-abbrev pub moved_by : Processes → Turn → Step
-moved_by t Made = record { processes = emptied t; goes = true }
-moved_by t Blocked = record { processes = t; goes = false }
-moved_by t Idle = record { processes = t; goes = false }
+abbrev pub moved_by : Processes → Ledger → Turn → Step
+moved_by t b Made = record { processes = emptied (turned t b); goes = true }
+moved_by t b Blocked = record { processes = with_book t b; goes = false }
+moved_by t b Idle = record { processes = with_book t b; goes = false }
 
--- the least actor that can has a turn, and what waits for the environment then is taken
+-- the least actor that can has a turn, a proving period that is aborted in it is counted, and what
+-- waits for the environment then is taken
 unfoldable pub moved : Processes → Step
-moved t = moved_by (with_book t (least_turn t.book).book) (least_turn t.book).turn
+moved t = moved_by t (least_turn t.book).book (least_turn t.book).turn
 
 -- one turn after another, until none can have one, the journal has no room for it, or there were as
 -- many as a rest has at most
@@ -88,10 +145,18 @@ rested t = repeated moved MOST_TURNS t
 
 -- ---- offers
 
+-- ticks that pass are counted, as the terminal is before them
+abbrev pub ticks_counted : Event → TransceiverState → Measures → Measures
+ticks_counted (Advance n) h m = passed n (glance h) m
+ticks_counted _ h m = m
+
+abbrev pub timed : Event → Processes → Processes
+timed e t = with_measures t (ticks_counted e t.transceiver t.measures)
+
 -- an event of the book, and a rest behind it; a refused one leaves the book, and the rest is made
 -- all the same
 unfoldable pub offered : Event → Processes → Processes
-offered e t = rested (with_book t (ask t.book e).book)
+offered e t = rested (with_book (timed e t) (ask t.book e).book)
 
 -- offers in their order, each with a rest behind it
 unfoldable pub all_offered : List Offer → Processes → Processes
@@ -103,13 +168,24 @@ all_offered (o ∷ os) t = all_offered os (offered (offer_event t.names o) t)
 abbrev pub noted_by : Processes → Judged → Processes
 noted_by t j = all_offered j.offers (with_transceiver t j.transceiver)
 
+-- what a unit that comes adds to what is measured
+abbrev pub unit_measured : Unit → Processes → Processes
+unit_measured u t =
+    with_measures t
+    (came_counted (glance t.transceiver) (seen_of u) (glance (judged t.transceiver u).transceiver)
+    t.measures)
+
 -- a unit without errors came: all that the stores make of it, then what is offered because of it
 unfoldable pub unit_taken : Unit → Processes → Processes
-unit_taken u t = noted_by t (judged t.transceiver u)
+unit_taken u t = noted_by (unit_measured u t) (judged t.transceiver u)
 
--- one with errors came, or sixteen octets without one
+-- one with errors came
 unfoldable pub error_taken : Processes → Processes
-error_taken t = all_offered error_offers t
+error_taken t = all_offered error_offers (with_measures t (error_counted t.measures))
+
+-- sixteen octets came without one
+unfoldable pub octets_taken : Processes → Processes
+octets_taken t = all_offered error_offers (with_measures t (octets_counted t.measures))
 
 -- what came of a request for a unit
 pub record Sent : Type 0 where
@@ -124,9 +200,22 @@ abbrev pub sent_by : Processes → Option UnitOut → Sent
 sent_by t None = record { processes = t; unit = None }
 sent_by t (Some out) = record { processes = told_of out.offer t; unit = Some out.unit }
 
+-- what a unit that goes out adds to what is measured, if one does
+abbrev pub out_counted : Glance → Option UnitOut → Glance → Measures → Measures
+out_counted before None after m = m
+out_counted before (Some out) after m = went_counted before (seen_of out.unit) after m
+
+abbrev pub out_measured : Processes → Processes
+out_measured t =
+    with_measures t
+    (out_counted (glance t.transceiver) (gone t.transceiver).out
+    (glance (gone t.transceiver).transceiver) t.measures)
+
 -- what goes out next, with what is offered then
 unfoldable pub sent : Processes → Sent
-sent t = sent_by (with_transceiver t (gone t.transceiver).transceiver) (gone t.transceiver).out
+sent t =
+    sent_by (with_transceiver (out_measured t) (gone t.transceiver).transceiver)
+    (gone t.transceiver).out
 
 -- ---- retrieval
 
@@ -135,12 +224,16 @@ abbrev pub none_out : Bool → Option Offer
 none_out true = Some (acknowledgement_seen false)
 none_out false = None
 
+-- no message is out, so the far side's congestion doesn't count any more
+abbrev pub calm_measured : Processes → Processes
+calm_measured t = with_measures t (calmed t.measures)
+
 -- what the far side may lack was handed out: nothing is kept, and where messages were out it is
 -- told that none is
 unfoldable pub handed_out : Option ℕ → Processes → Processes
 handed_out accepted t =
     told_of (none_out (nat_lt 0 t.transceiver.sender.sent))
-    (with_transceiver t
+    (with_transceiver (calm_measured t)
     (record t.transceiver { sender = without_kept t.transceiver.sender accepted }))
 
 -- ---- buffers that are emptied
@@ -149,7 +242,7 @@ handed_out accepted t =
 unfoldable pub buffers_emptied : Processes → Processes
 buffers_emptied t =
     offered (offer_event t.names (acknowledgement_seen false))
-    (with_transceiver t (clears t.transceiver))
+    (with_transceiver (calm_measured t) (clears t.transceiver))
 
 -- where an actor asked for that
 unfoldable pub clear_obeyed : Processes → Processes

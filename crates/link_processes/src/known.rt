@@ -1,14 +1,17 @@
 //! The numbers that a terminal's names have in its set.
-ghost use Rattle.std.specs.Prelude.{◌≡◌, All, IfOk, IfErr};
-ghost use Rattle.link_processes.specs.Known.{IsProcess, IsActor, IsSignal, AreParties, AreOrders, AreNotices, AreOutputs, IsOption, AreOptions, AreNames};
+ghost use Rattle.std.specs.Prelude.{◌≡◌, All, IfOk, IfErr, IfSome, IfNone};
+ghost use Rattle.link_processes.specs.Known.{IsProcess, IsActor, IsSignal, AreParties, AreOrders, AreNotices, AreOutputs, IsOption, AreOptions, IsCount, ArePeriods, AreNames};
+ghost use Rattle.link_processes.specs.declared.names.Periods.{Periods as PlainPeriods};
 ghost use Rattle.link_processes.specs.Wanted.{wanted, Has, HasSignals, HasProcesses, IsFirstLacking};
 
-use crate::names::{NO_SIGNAL, Names, Notices, Options, Orders, Outputs, Parties};
+use crate::names::{
+    NO_ACTOR, NO_SIGNAL, Names, Notices, Options, Orders, Outputs, Parties, Periods,
+};
 use crate::wanted::{Wanted, all_wanted, first_lacking, touched};
 use crate::words::{OptionName, ProcessName, SignalName};
 use actor_machine::first_of;
 use turn_check::Verified;
-use turn_code::{ProcessNumber, SignalNumber};
+use turn_code::{ProcessNumber, SignalNumber, VariableNumber};
 
 /// The number of a process, which the set has.
 fn process(set: &Verified, name: ProcessName) -> ProcessNumber
@@ -131,6 +134,34 @@ fn options(set: &Verified) -> Options
     }
 }
 
+/// Where the set counts aborted proving periods, if it does.
+fn periods_in(set: &Verified) -> Option<Periods>
+    ensures found { IfSome result (IsCount set.now) }
+    ensures none { IfNone result ((x : PlainPeriods) → IsCount set.now x → ⊥) }
+{
+    let Some(process) = set.process_of("IAC") else {
+        return None;
+    };
+    let Some(variable) = set.variable_of(process, "cp") else {
+        return None;
+    };
+    let actor = first_of(set, process);
+    Some(Periods { actor, variable })
+}
+
+/// Where the set counts aborted proving periods.
+fn periods(set: &Verified) -> Periods
+    ensures { ArePeriods set.now result }
+{
+    match periods_in(set) {
+        Some(periods) => periods,
+        None => Periods {
+            actor: NO_ACTOR,
+            variable: VariableNumber(0),
+        },
+    }
+}
+
 impl Names {
     /// The numbers that the names of a terminal have in a set, which has all of them, with the parameters and the routes that a terminal
     /// knows; case is ignored.
@@ -151,6 +182,7 @@ impl Names {
                 notices: notices(set),
                 outputs: outputs(set),
                 options: options(set),
+                periods: periods(set),
             }),
         }
     }

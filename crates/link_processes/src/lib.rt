@@ -15,7 +15,9 @@ mod words;
 pub use actor_book::{Book, Limits};
 pub use commands::Command;
 pub use laws::{accepted_messages_wait_in_order, rests_are_runs, unacknowledged_messages_stay};
-pub use names::{NO_SIGNAL, Names, Notices, Options, Orders, Outputs, Parties, is_there};
+pub use names::{
+    NO_ACTOR, NO_SIGNAL, Names, Notices, Options, Orders, Outputs, Parties, Periods, is_there,
+};
 pub use processes::{LOW, Processes};
 pub use wanted::Wanted;
 pub use words::{OptionName, ProcessName, SignalName};

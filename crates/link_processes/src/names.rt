@@ -6,7 +6,7 @@ ghost use Rattle.link_processes.specs.Offering.{number_of, notice_signal, notice
 use actor_machine::Emitted;
 use arrayvec::ArrayVec;
 use link_transceiver::{EnvSignal, Notice, Party};
-use turn_code::{SignalNumber, Value};
+use turn_code::{SignalNumber, Value, VariableNumber};
 
 /// The actors that the environment sends signals to, by number: the first instance of each process.
 #[derive(Clone, Copy, PartialEq, Eq, Debug)]
@@ -76,8 +76,19 @@ pub struct Options {
     pub counting: SignalNumber,
 }
 
+/// Where a set counts the aborted proving periods of the alignment under way: Cp of initial alignment control (Q.703, figure 9), the variable
+/// `cp` of the first instance of IAC. The actor is [`NO_ACTOR`] where it has none.
+#[derive(Clone, Copy, PartialEq, Eq, Debug)]
+pub struct Periods {
+    pub actor: u16,
+    pub variable: VariableNumber,
+}
+
 /// The number of no signal: a set has 128 at most.
 pub const NO_SIGNAL: u8 = 255;
+
+/// The number of no actor: a set has 128 at most.
+pub const NO_ACTOR: u16 = 65_535;
 
 /// All numbers that a terminal knows of its set.
 #[derive(Clone, Copy, PartialEq, Eq, Debug)]
@@ -87,6 +98,7 @@ pub struct Names {
     pub notices: Notices,
     pub outputs: Outputs,
     pub options: Options,
+    pub periods: Periods,
 }
 
 /// Whether a text has the signal that it may have.

@@ -1,5 +1,5 @@
 //! A terminal's actors, and what it keeps beside them.
-ghost use Rattle.std.specs.Prelude.{◌≡◌, ◌+◌, ◌<◌, ◌≤◌, ◌↔◌, [], true, false, length, All, None, Some, Err, IfOk, OnOk, OnErr, IfErr, IfSome};
+ghost use Rattle.std.specs.Prelude.{◌≡◌, ◌+◌, ◌<◌, ◌≤◌, ◌↔◌, [], true, false, length, drop, All, None, Some, Err, IfOk, OnOk, OnErr, IfErr, IfSome};
 ghost use Rattle.resend_store.specs.Messages.{IsMessage};
 ghost use Rattle.resend_store.specs.Window.{retrieved, count_known};
 ghost use Rattle.su_octets.specs.Whole.{IsWhole};
@@ -11,14 +11,16 @@ ghost use Rattle.link_transceiver.specs.Laws.{Loses};
 ghost use Rattle.link_transceiver.specs.Limits.{KEPT_MESSAGES};
 ghost use Rattle.link_processes.specs.Known.{is_there};
 ghost use Rattle.link_processes.specs.Offering.{command_event, offer_event};
-ghost use Rattle.link_processes.specs.Machine.{with_book, with_transceiver, heard, rested, offered, all_offered, noted_by, unit_taken, error_taken, told_of, none_out, handed_out, buffers_emptied, clear_obeyed, to_clear, differs, counting_told, sent, tidied, is_low, tick_refusal};
+ghost use Rattle.link_processes.specs.Machine.{with_book, with_transceiver, heard, rested, offered, all_offered, noted_by, unit_taken, error_taken, octets_taken, told_of, none_out, handed_out, buffers_emptied, clear_obeyed, to_clear, differs, counting_told, sent, tidied, is_low, tick_refusal};
 
 use crate::commands::{Command, command_number, command_signal};
 use crate::laws::{accepted_messages_wait_in_order, unacknowledged_messages_stay};
 use crate::names::{Names, actor_of, is_there, notice_signal, notice_values};
 use actor_book::Book;
 use actor_machine::Refusal;
-use link_transceiver::{Notice, Offer, Party, Transceiver, UnitOut, counting_offers, error_offers};
+use link_transceiver::{
+    Measures, Notice, Offer, Party, Transceiver, UnitOut, counting_offers, error_offers, seen_of,
+};
 use resend_store::{Msu, RetrieveError};
 use std::alloc::AllocError;
 use std::collections::VecDeque;
@@ -37,6 +39,10 @@ pub struct Processes {
     pub names: Names,
     /// Whether octets are counted, as that was told last.
     pub counting: bool,
+    /// What was measured.
+    pub measures: Measures,
+    /// How many proving periods were aborted: 2^64 - 1 where that many were or more.
+    pub aborted: u64,
 }
 
 /// Whether it is otherwise.
@@ -88,6 +94,8 @@ impl Processes {
         unacknowledged_messages_stay();
         match self.book.advance(ticks) {
             Ok(passed) => {
+                let before = self.transceiver.glance();
+                self.measures.pass(ticks, &before);
                 self.rest();
                 Ok(passed.due)
             }
@@ -142,10 +150,23 @@ impl Processes {
         let sent = self.transceiver.sent();
         match self.transceiver.retrieve(accepted) {
             Ok(messages) => {
+                self.measures.calm();
                 self.tell_none_out(sent > 0);
                 Ok(messages)
             }
             Err(why) => Err(why),
+        }
+    }
+
+    /// How many messages go as the buffers are emptied: all that are kept, where an actor asked for that since it was last done, else none.
+    pub fn to_clear(&self) -> usize
+        ensures value { result ≡ to_clear self.now }
+        ensures within { result ≤ length self.now.transceiver.sender.kept }
+    {
+        if self.transceiver.is_to_clear() {
+            self.transceiver.held()
+        } else {
+            0
         }
     }
 
@@ -155,7 +176,9 @@ impl Processes {
     pub fn obey_clear(&mut self) -> usize
         ensures count { result ≡ to_clear self.old }
         ensures processes { self.new ≡ clear_obeyed self.old }
+        ensures kept { self.new.transceiver.sender.kept ≡ drop result self.old.transceiver.sender.kept }
     {
+        unacknowledged_messages_stay();
         if !self.transceiver.is_to_clear() {
             return 0;
         }
@@ -170,6 +193,7 @@ impl Processes {
         ensures { self.new ≡ buffers_emptied self.old }
     {
         self.transceiver.clear();
+        self.measures.calm();
         self.offer(Offer {
             to: Party::Txc,
             notice: Notice::AckSeen(false),
@@ -218,17 +242,33 @@ impl Processes {
         ensures few { length self.new.transceiver.messages ≤ length self.old.transceiver.messages + 1 }
     {
         accepted_messages_wait_in_order();
+        let before = self.transceiver.glance();
+        let seen = seen_of(&unit);
         let offers = self.transceiver.on_unit(unit);
+        let after = self.transceiver.glance();
+        self.measures.on_unit(&before, seen, &after);
         self.offer_all(offers.as_slice());
     }
 
-    /// Takes a unit with errors, or sixteen octets without a unit.
+    /// Takes a unit with errors.
     #[tactic(auto, unfolding(crate::specs::Machine::error_taken))]
     pub fn take_error(&mut self)
         ensures processes { self.new ≡ error_taken self.old }
         ensures messages { self.new.transceiver.messages ≡ self.old.transceiver.messages }
     {
         accepted_messages_wait_in_order();
+        self.measures.on_error();
+        self.offer_all(&error_offers());
+    }
+
+    /// Takes sixteen octets without a unit.
+    #[tactic(auto, unfolding(crate::specs::Machine::octets_taken))]
+    pub fn take_sixteen(&mut self)
+        ensures processes { self.new ≡ octets_taken self.old }
+        ensures messages { self.new.transceiver.messages ≡ self.old.transceiver.messages }
+    {
+        accepted_messages_wait_in_order();
+        self.measures.on_octets();
         self.offer_all(&error_offers());
     }
 
@@ -242,8 +282,11 @@ impl Processes {
         ensures whole { IfSome result IsWhole }
     {
         unacknowledged_messages_stay();
+        let before = self.transceiver.glance();
         match self.transceiver.unit_out() {
             Some(UnitOut { unit, offer }) => {
+                let after = self.transceiver.glance();
+                self.measures.on_sent(&before, seen_of(&unit), &after);
                 self.tell(offer);
                 Some(unit)
             }

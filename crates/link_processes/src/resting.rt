@@ -1,11 +1,34 @@
 //! How the actors come to rest, and what they tell the environment.
 ghost use Rattle.std.specs.Prelude.{◌≡◌};
-ghost use Rattle.link_processes.specs.Machine.{heard, one_taken, emptied, moved, rested};
+ghost use Rattle.link_processes.specs.Machine.{heard, one_taken, emptied, is_past, grew, periods_of, periods_counted, moved, rested};
 
 use crate::names::told_by;
 use crate::processes::Processes;
 use actor_book::{REST, Turn, one_turn};
 use actor_machine::Emitted;
+use turn_code::Value;
+
+/// Whether a value is a number past this one.
+fn is_past(before: i32, after: Option<Value>) -> bool
+    ensures { result ≡ is_past before after }
+{
+    match after {
+        Some(Value::Int(number)) => before < number,
+        Some(Value::Bool(_)) => false,
+        None => false,
+    }
+}
+
+/// Whether a number grew.
+fn grew(before: Option<Value>, after: Option<Value>) -> bool
+    ensures { result ≡ grew before after }
+{
+    match before {
+        Some(Value::Int(number)) => is_past(number, after),
+        Some(Value::Bool(_)) => false,
+        None => false,
+    }
+}
 
 impl Processes {
     /// Heeds what an actor told the environment.
@@ -14,6 +37,8 @@ impl Processes {
         ensures { self.new ≡ heard emitted.now self.old }
     {
         if let Some(signal) = told_by(&self.names, emitted) {
+            let before = self.transceiver.glance();
+            self.measures.on_signal(signal, &before);
             self.transceiver.on_signal(signal);
         }
     }
@@ -43,14 +68,34 @@ impl Processes {
         }
     }
 
-    /// The least actor that can has a turn, and what waits for the environment then is taken. Whether there was one.
+    /// Cp of initial alignment control (Q.703, figure 9), where the text has it and it is set.
+    fn periods(&self) -> Option<Value>
+        ensures { result ≡ periods_of self.now.names self.now.book }
+    {
+        let periods = &self.names.periods;
+        self.book.variable(periods.actor, periods.variable)
+    }
+
+    /// Counts an aborted proving period, where Cp grew.
+    fn count_periods(&mut self, before: Option<Value>)
+        ensures { self.new ≡ periods_counted before self.old }
+    {
+        if grew(before, self.periods()) {
+            self.aborted = self.aborted.saturating_add(1);
+        }
+    }
+
+    /// The least actor that can has a turn; a proving period that was aborted in it is counted, and what waits for the environment then is taken.
+    /// Whether there was a turn.
     #[tactic(auto, unfolding(crate::specs::Machine::moved))]
     fn step(&mut self) -> bool
         ensures goes { result ≡ (moved self.old).goes }
         ensures processes { self.new ≡ (moved self.old).processes }
     {
+        let before = self.periods();
         match one_turn(&mut self.book) {
             Turn::Made => {
+                self.count_periods(before);
                 self.empty_ring();
                 true
             }

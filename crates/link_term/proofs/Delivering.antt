@@ -7,7 +7,7 @@ use Rattle.bit_line.specs.declared.events.LineEvent.{LineEvent}
 use Rattle.actor_machine.specs.Ledger.{rebased}
 use Rattle.link_transceiver.specs.TransceiverState.{TransceiverState}
 use Rattle.link_processes.specs.declared.processes.Processes.{Processes}
-use Rattle.link_processes.specs.Machine.{with_book, tidied, is_low, error_taken, counting_told}
+use Rattle.link_processes.specs.Machine.{with_book, tidied, is_low, error_taken, octets_taken, counting_told}
 use Rattle.link_processes.specs.Laws.{MessagesLaw}
 use Rattle.link_term.specs.Hearing.{Reads, as_unit, as_error, AreTaken, nothing, unit, errored, sixteen, silent, octet}
 use Rattle.link_term.specs.Laws.{accepted_read, accepted_taken, accepted_along, Delivers}
@@ -37,7 +37,7 @@ module _ (law : MessagesLaw) where
   taken_delivers _ _ _ (errored left t v taken) =
       taken_delivers left (error_taken t) v taken ∙ ap (λ (ms : List Msu). ms ++ accepted_taken taken) (law.errors t)
   taken_delivers _ _ _ (sixteen left t v taken) =
-      taken_delivers left (error_taken t) v taken ∙ ap (λ (ms : List Msu). ms ++ accepted_taken taken) (law.errors t)
+      taken_delivers left (octets_taken t) v taken ∙ ap (λ (ms : List Msu). ms ++ accepted_taken taken) (law.octets t)
 
   pub delivers : Delivers
   delivers _ _ _ _ _ _ (silent bits all t) = sym (append-nil t.transceiver.messages)

@@ -9,7 +9,7 @@ use Rattle.bit_line.proofs.EventLaws.{stands_events}
 use Rattle.link_transceiver.specs.TransceiverState.{TransceiverState}
 use Rattle.link_transceiver.specs.Laws.{Loses}
 use Rattle.link_processes.specs.declared.processes.Processes.{Processes}
-use Rattle.link_processes.specs.Machine.{error_taken, counting_told, sent, tidied}
+use Rattle.link_processes.specs.Machine.{error_taken, octets_taken, counting_told, sent, tidied}
 use Rattle.link_processes.specs.Laws.{KeptLaw}
 use Rattle.link_term.specs.Hearing.{Reads, as_unit, as_error, AreTaken, nothing, unit, errored, sixteen, silent, octet, Heard}
 use Rattle.link_term.specs.Kept.{window_of, Took, Sends}
@@ -49,8 +49,8 @@ module _ (law : KeptLaw) where
       losses_joined [] (acknowledged_taken taken) t.transceiver.sender (error_taken t).transceiver.sender v.transceiver.sender (law.errors t)
       (taken_loses left (error_taken t) v taken)
   taken_loses _ _ _ (sixteen left t v taken) =
-      losses_joined [] (acknowledged_taken taken) t.transceiver.sender (error_taken t).transceiver.sender v.transceiver.sender (law.errors t)
-      (taken_loses left (error_taken t) v taken)
+      losses_joined [] (acknowledged_taken taken) t.transceiver.sender (octets_taken t).transceiver.sender v.transceiver.sender (law.octets t)
+      (taken_loses left (octets_taken t) v taken)
 
   pub stays_kept : StaysKept
   stays_kept _ _ _ _ _ _ (silent bits all t) = no_loss t.transceiver.sender

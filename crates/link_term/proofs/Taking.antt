@@ -7,7 +7,7 @@ use Rattle.bit_line.specs.declared.events.LineEvent.{LineEvent}
 use Rattle.bit_line.specs.declared.events.LineEvent.TheVariants as event
 use Rattle.link_transceiver.specs.TransceiverState.{TransceiverState}
 use Rattle.link_processes.specs.declared.processes.Processes.{Processes}
-use Rattle.link_processes.specs.Machine.{unit_taken, error_taken, counting_told, tidied}
+use Rattle.link_processes.specs.Machine.{unit_taken, error_taken, octets_taken, counting_told, tidied}
 use Rattle.link_transceiver.specs.Limits.{KEPT_MESSAGES}
 use Rattle.link_term.specs.Hearing.{Reads, as_unit, as_error, AreTaken, nothing, unit, errored, sixteen}
 use Rattle.link_term.proofs.Delivering.{tidied_transceiver}
@@ -33,7 +33,7 @@ taken_errored e left t u v h same taken =
     let Q : Processes → Type 0 = λ x. AreTaken left x v in
     subst P (sym h) (errored left t v (subst Q same taken))
 
-pub taken_sixteen : (e : LineEvent) (left : List LineEvent) (t u v : Processes) → e ≡ event.SixteenOctets → u ≡ error_taken t → AreTaken left u v
+pub taken_sixteen : (e : LineEvent) (left : List LineEvent) (t u v : Processes) → e ≡ event.SixteenOctets → u ≡ octets_taken t → AreTaken left u v
     → AreTaken (e ∷ left) t v
 taken_sixteen e left t u v h same taken =
     let P : LineEvent → Type 0 = λ x. AreTaken (x ∷ left) t v in

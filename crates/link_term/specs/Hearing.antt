@@ -8,7 +8,8 @@ use Rattle.bit_line.specs.Events.{AreEvents, IsCounting}
 use Rattle.bit_line.specs.declared.events.LineEvent.{LineEvent}
 use Rattle.bit_line.specs.declared.events.LineEvent.TheVariants as event
 use Rattle.link_processes.specs.declared.processes.Processes.{Processes}
-use Rattle.link_processes.specs.Machine.{unit_taken, error_taken, counting_told, tidied}
+use Rattle.link_processes.specs.Machine.{unit_taken, error_taken, octets_taken, counting_told}
+use Rattle.link_processes.specs.Machine.{tidied}
 use Rattle.link_transceiver.specs.Limits.{KEPT_MESSAGES}
 use Rattle.link_term.specs.Term.{Term}
 
@@ -28,7 +29,7 @@ pub data AreTaken : List LineEvent → Processes → Processes → Type 0 where
       → AreTaken (event.Unit (record { items = octets }) ∷ left) t v
   errored : (left : List LineEvent) (t v : Processes) → AreTaken left (error_taken t) v
       → AreTaken (event.Errored ∷ left) t v
-  sixteen : (left : List LineEvent) (t v : Processes) → AreTaken left (error_taken t) v
+  sixteen : (left : List LineEvent) (t v : Processes) → AreTaken left (octets_taken t) v
       → AreTaken (event.SixteenOctets ∷ left) t v
 
 -- Octets, each of which finds room for a message: room is made in the journal where it is needed,

@@ -8,6 +8,7 @@ use Rattle.resend_store.specs.declared.messages.Mode.{Mode}
 use Rattle.actor_machine.specs.Kept.{opened_book}
 use Rattle.resend_store.specs.declared.messages.RoundLimits.{RoundLimits}
 use Rattle.resend_store.specs.Messages.{usual_limits}
+use Rattle.link_transceiver.specs.Measuring.{no_measures}
 use Rattle.link_transceiver.specs.TransceiverState.{TransceiverState, first_within}
 use Rattle.link_processes.specs.declared.names.Names.{Names}
 use Rattle.link_processes.specs.Known.{AreNames, is_there}
@@ -33,8 +34,8 @@ first_over names limits mode =
     record (first_within limits mode) { odd = is_there names.options.odd }
 
 -- The set has all that a terminal wants of it, each by its number. No actor has begun, nothing is
--- kept, nothing came and nothing went, and octets are counted. These are the limits of forced
--- retransmission.
+-- kept, nothing came and nothing went, octets are counted, and nothing is measured. These are the
+-- limits of forced retransmission.
 pub record IsOverWithin (d : Draft) (limits : RoundLimits) (mode : Mode) (t : Term)
     : Type 0 where
   pub has : All (Has d) wanted
@@ -42,6 +43,8 @@ pub record IsOverWithin (d : Draft) (limits : RoundLimits) (mode : Mode) (t : Te
   pub book : t.processes.book ≡ opened_book d PORT ENVIRONMENT JOURNAL
   pub transceiver : t.processes.transceiver ≡ first_over t.processes.names limits mode
   pub counting : t.processes.counting ≡ true
+  pub measures : t.processes.measures ≡ no_measures
+  pub aborted : t.processes.aborted ≡ 0
   pub line : Stands [] t.line
   pub sending : Gave [] [] t.sending
 

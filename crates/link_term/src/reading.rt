@@ -38,7 +38,7 @@ fn take_event(processes: &mut Processes, event: &LineEvent)
             take_octets(processes, octets.as_slice());
         }
         LineEvent::Errored => processes.take_error(),
-        LineEvent::SixteenOctets => processes.take_error(),
+        LineEvent::SixteenOctets => processes.take_sixteen(),
     }
 }
 

@@ -1,21 +1,22 @@
 //! The terminal.
-ghost use Rattle.std.specs.Prelude.{◌≡◌, ◌↔◌, ◌<◌, ◌≤◌, [], IsTrue, true, false, length, All, IfOk, OnOk, OnErr, IfSome, Err, slice_get};
+ghost use Rattle.std.specs.Prelude.{◌≡◌, ◌↔◌, ◌<◌, ◌≤◌, [], IsTrue, true, false, length, drop, All, IfOk, OnOk, OnErr, IfSome, Err, slice_get};
 ghost use Rattle.std.specs.Option.{option_copied};
 ghost use Rattle.resend_store.specs.Messages.{IsMessage};
 ghost use Rattle.resend_store.specs.Window.{IsWindow, waiting, with_put, retrieved, emptied, count_known, last_acknowledged, without_at};
 ghost use Rattle.bit_line.specs.Deframing.{Stands};
 ghost use Rattle.bit_line.specs.Stuffers.{Gave};
 ghost use Rattle.link_term.specs.Opening.{first_over};
+ghost use Rattle.link_transceiver.specs.Measuring.{no_measures};
 ghost use Rattle.link_transceiver.specs.Reporting.{reported};
 ghost use Rattle.resend_store.specs.Limits.{MOST_WAITING, MOST_KEPT};
 ghost use Rattle.link_transceiver.specs.Limits.{KEPT_MESSAGES};
 ghost use Rattle.link_term.specs.Kept.{window_of};
 ghost use Rattle.link_term.specs.Term.{with_processes, term_with_transceiver};
-ghost use Rattle.link_processes.specs.Machine.{handed_out, clear_obeyed, to_clear};
+ghost use Rattle.link_processes.specs.Machine.{handed_out, clear_obeyed, to_clear, all_reset};
 
 use bit_line::{Deframer, Stuffer};
 use link_processes::{Book, Names, Processes, is_there};
-use link_transceiver::{Hold, LineKind, Report, Transceiver};
+use link_transceiver::{Hold, LineKind, Measures, Report, Transceiver};
 use resend_store::{Mode, Msu, PutError, RetrieveError, RoundLimits};
 use std::alloc::{AllocError, Global};
 use std::collections::VecDeque;
@@ -57,7 +58,7 @@ impl Terminal {
         limits: RoundLimits,
         mode: Mode,
     ) -> Result<Terminal, AllocError>
-        ensures processes { IfOk result (λ t. t.processes ≡ record { book = book; transceiver = first_over names limits mode; names = names; counting = true }) }
+        ensures processes { IfOk result (λ t. t.processes ≡ record { book = book; transceiver = first_over names limits mode; names = names; counting = true; measures = no_measures; aborted = 0 }) }
         ensures line { IfOk result (λ t. Stands [] t.line) }
         ensures sending { IfOk result (λ t. Gave [] [] t.sending) }
     {
@@ -70,6 +71,8 @@ impl Terminal {
                 transceiver,
                 names,
                 counting: true,
+                measures: Measures::new(),
+                aborted: 0,
             },
             line: Deframer::new(),
             sending: Stuffer::new(),
@@ -138,6 +141,14 @@ impl Terminal {
         self.processes.retrieve(accepted)
     }
 
+    /// How many messages `obey_clear` would take now: all that are kept, where the text asked for that since it was last called, else none.
+    pub fn to_clear(&self) -> usize
+        ensures value { result ≡ to_clear self.now.processes }
+        ensures within { result ≤ length (window_of self.now).kept }
+    {
+        self.processes.to_clear()
+    }
+
     /// Empties the buffers, where the text asked for that by Clear since this was last called (Q.703, figure 13): what waits and what is
     /// unacknowledged goes, the next new message has the number behind the last that was acknowledged, and the actors are told that no message is
     /// out. How many messages went.
@@ -147,6 +158,7 @@ impl Terminal {
     pub fn obey_clear(&mut self) -> usize
         ensures count { result ≡ to_clear self.old.processes }
         ensures terminal { self.new ≡ with_processes self.old (clear_obeyed self.old.processes) }
+        ensures kept { (window_of self.new).kept ≡ drop result (window_of self.old).kept }
     {
         self.processes.obey_clear()
     }
@@ -156,6 +168,30 @@ impl Terminal {
         ensures { result ≡ self.now.processes.transceiver.cleared }
     {
         self.processes.transceiver.cleared()
+    }
+
+    /// What was measured (Q.752) since the terminal was made, or that was last reset. Each call adds to it what the definitions of link_transceiver say
+    /// (`signal_counted`, `passed`, `came_counted`, `went_counted`, ..).
+    pub fn measures(&self) -> Measures
+        ensures { result ≡ self.now.processes.measures }
+    {
+        self.processes.measures
+    }
+
+    /// How many proving periods were aborted (Q.703, 10.3) since the terminal was made, or that was last reset: turns in which Cp of initial
+    /// alignment control grew, the variable `cp` of IAC; 0 where the text has none. It stays at 2^64 - 1.
+    pub fn aborted(&self) -> u64
+        ensures { result ≡ self.now.processes.aborted }
+    {
+        self.processes.aborted
+    }
+
+    /// All counts begin anew.
+    pub fn reset_measures(&mut self)
+        ensures { self.new ≡ with_processes self.old (all_reset self.old.processes) }
+    {
+        self.processes.measures.reset();
+        self.processes.aborted = 0;
     }
 
     /// What is to be handed out next: messages first, then what was told of the link, each in order.

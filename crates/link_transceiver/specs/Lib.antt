@@ -6,5 +6,6 @@ pub mod Inside
 pub mod Judging
 pub mod Laws
 pub mod Limits
+pub mod Measuring
 pub mod Offers
 pub mod Reporting

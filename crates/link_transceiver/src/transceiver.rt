@@ -386,7 +386,7 @@ fn is_busy(number: i32) -> bool
 
 /// What the number says is to go out.
 #[tactic(auto, unfolding(crate::specs::Effects::kind_named))]
-fn kind_named(number: i32) -> Option<LineKind>
+pub(crate) fn kind_named(number: i32) -> Option<LineKind>
     ensures { result ≡ kind_named number }
 {
     match u8::try_from(number) {

@@ -2,3 +2,4 @@ mod Failing
 mod InTurn
 mod Known
 mod Speaking
+mod Written

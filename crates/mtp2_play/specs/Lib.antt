@@ -1,3 +1,4 @@
+pub mod Measured
 pub mod Printed
 pub mod Served
 pub mod Sets

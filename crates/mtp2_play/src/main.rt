@@ -12,6 +12,7 @@ mod captures;
 mod checks;
 mod differences;
 mod lines;
+mod measuring;
 mod pictures;
 mod plays;
 mod running;

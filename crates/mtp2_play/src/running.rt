@@ -9,6 +9,7 @@ ghost use Rattle.line_streams.specs.Known.{known_of};
 ghost use Rattle.mtp2_words.specs.Limits.{usual_limits_of};
 ghost use Rattle.mtp2_play.specs.Spoken.{AreOrdered, Spoke, SpokeOver, Begun, BegunOver, IsUntouched};
 
+use crate::measuring::write_measures;
 use crate::traces::TracedEnd;
 use line_filter::{LineOrders, Orders, Voice, run_line};
 use line_play::{Desk, LinkEnd, MOST_AHEAD, SetWord, Terminal, link_desk, new_terminal, run_link};
@@ -17,7 +18,7 @@ use mtp2_words::{LineEnd, Named};
 use plain_text::{Errors, FAILED, HELD, Teller, write_line};
 use script_play::open_tracer;
 use std::alloc::Global;
-use std::fs::File;
+use std::fs::{self, File};
 use std::io::{self, Read, Write};
 use std::rt::Files;
 use std::thread::Threads;
@@ -28,6 +29,8 @@ use std::time::Clock;
 struct Streams<'a, H: Eprint> {
     orders: LineOrders<OrderStream>,
     reports: ReportStream<Errors<'a, H>>,
+    /// Where measurements go, if somewhere.
+    measures: Option<File>,
 }
 
 /// Tells by its name that something couldn't be opened.
@@ -38,7 +41,42 @@ fn told<H: Eprint>(teller: &Teller<'_, H>, path: Option<&str>, error: io::Error)
     error
 }
 
-/// Opens what orders come from, and where reports go. What can't be opened is told by its name.
+/// Makes a file anew, if one is named. One that can't be made is told by its name.
+fn create<H: Files<File = File> + Eprint>(
+    host: &H,
+    teller: &Teller<'_, H>,
+    path: Option<&str>,
+) -> io::Result<Option<File>> {
+    match path {
+        Some(path) => match fs::create(host, path) {
+            Ok(file) => Ok(Some(file)),
+            Err(error) => Err(told(teller, Some(path), error)),
+        },
+        None => Ok(None),
+    }
+}
+
+/// Writes what was measured, where that goes somewhere.
+fn end_measures(alloc: Global, file: Option<File>, terminal: &Terminal) -> io::Result<()> {
+    match file {
+        Some(mut file) => write_measures(alloc, &mut file, terminal),
+        None => Ok(()),
+    }
+}
+
+/// The status of a run, which is 4 where what was measured couldn't be written.
+fn status_of(status: u8, measured: io::Result<()>) -> u8
+    requires { (status ≡ 0) ⊎ (status ≡ 4) }
+    ensures zero { result ≡ 0 → status ≡ 0 }
+    ensures status { (result ≡ 0) ⊎ (result ≡ 4) }
+{
+    match measured {
+        Ok(()) => status,
+        Err(_) => FAILED,
+    }
+}
+
+/// Opens what orders come from, where reports go and where measurements go. What can't be opened is told by its name.
 fn open_streams<'a, H: Files<File = File> + Threads + Eprint + AllocGlobal>(
     host: &'a H,
     teller: &Teller<'_, H>,
@@ -56,9 +94,11 @@ fn open_streams<'a, H: Files<File = File> + Threads + Eprint + AllocGlobal>(
         Ok(reports) => reports,
         Err(error) => return Err(told(teller, end.reports, error)),
     };
+    let measures = create(host, teller, end.measures)?;
     Ok(Streams {
         orders: LineOrders::new(alloc, orders),
         reports,
+        measures,
     })
 }
 
@@ -104,7 +144,14 @@ fn speak<H: Files<File = File> + Threads + Eprint + Clock + AllocGlobal, R: Read
         (record { read = R.remaining reader.new; written = W.contents writer.new }) }
     ensures status { (result ≡ 0) ⊎ (result ≡ 4) }
 {
-    let Ok(Streams { orders, reports }) = open_streams(host, teller, end) else {
+    let Ok(
+        Streams {
+            orders,
+            reports,
+            measures,
+        },
+    ) = open_streams(host, teller, end)
+    else {
         return FAILED;
     };
     if let Some(path) = end.trace {
@@ -114,9 +161,10 @@ fn speak<H: Files<File = File> + Threads + Eprint + Clock + AllocGlobal, R: Read
     }
     let mut desk = link_desk(terminal, orders, reports);
     let status = serve(host.alloc(), end, &mut desk, reader, writer);
+    let measured = end_measures(host.alloc(), measures, &desk.terminal.terminal);
     let now = desk.millisecond();
     match desk.reports.end(host, now) {
-        Ok(()) => status,
+        Ok(()) => status_of(status, measured),
         Err(_) => FAILED,
     }
 }

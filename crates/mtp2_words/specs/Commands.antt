@@ -87,9 +87,15 @@ with_capture_options command =
     (with_rule (with_rule command (option_word (codes "capture"))) (option_word (codes "trace")))
     (flag_word (codes "every"))
 
+-- a command with the option that says where measurements go
+abbrev pub with_measures_option : App → App
+with_measures_option command = with_rule command (option_word (codes "measures"))
+
 -- `line MODE`, with all options
 abbrev pub line_command : App
-line_command = with_capture_options (with_limit_options (with_line_options line_begun))
+line_command =
+    with_measures_option
+    (with_capture_options (with_limit_options (with_line_options line_begun)))
 
 -- `frame HEX`
 abbrev pub frame_command : App

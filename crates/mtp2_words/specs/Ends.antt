@@ -59,6 +59,7 @@ pub record IsEndOf (words : LineWords) (end : LineEnd) : Type 0 where
   pub capture_is : option_map (λ w. w.now) end.capture ≡ option_map (λ w. w.now) words.capture
   pub trace_is : option_map (λ w. w.now) end.trace ≡ option_map (λ w. w.now) words.trace
   pub every_is : end.every ≡ words.every
+  pub measures_are : option_map (λ w. w.now) end.measures ≡ option_map (λ w. w.now) words.measures
 
 -- N1 or N2 is a word that says no limit of the error correction
 pub record HasNoLimit (words : LineWords) : Type 0 where

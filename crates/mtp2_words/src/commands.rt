@@ -1,7 +1,7 @@
 //! The commands of the program, and the words that they take.
 ghost use Rattle.std.specs.Prelude.{◌≡◌, IfOk, false};
 ghost use Rattle.clap.specs.Words.{rule_of, new_app, new_rule, app_of};
-ghost use Rattle.mtp2_words.specs.Commands.{plain_word, option_word, flag_word, check_command, play_command, soak_command, line_begun, line_command, frame_command, draw_command, diff_command, text_command, play_begun, with_seeing_options, with_told_options, all_commands, program_begun, with_line_options, with_limit_options, with_capture_options, has_globals, IsCommand};
+ghost use Rattle.mtp2_words.specs.Commands.{plain_word, option_word, flag_word, check_command, play_command, soak_command, line_begun, line_command, frame_command, draw_command, diff_command, text_command, play_begun, with_seeing_options, with_told_options, all_commands, program_begun, with_line_options, with_limit_options, with_capture_options, with_measures_option, has_globals, IsCommand};
 
 use clap::{Arg, ArgAction, Command};
 use std::alloc::{AllocError, Global};
@@ -117,7 +117,7 @@ fn play_begun<'a>(alloc: Global) -> Result<Command<'a>, AllocError>
         alloc,
         "play",
         "Runs a script on a set of processes, or on one end of a signalling link or of a set of links",
-        "First lines: ports N (1 to 64), env N (1 to 1024), journal N (16 to 65536).\nCommands: offer P SIG v.., begin P, finish P, skip P, tick N, env, rest, flood N P SIG v.., state P, value P x, expect TEXT.\nA script may begin with terminal basic, terminal cyclic or terminal cyclic N1 N2 (1 to 127 messages, 300 to 8192 octets): then one end of a link runs on the set, with the commands\ncommand W (power, start, stop, emergency, calm, outage, back, busy, free, flush, continue, overload), unit HEX, units N HEX, errors N, line HEX, msu HEX, out N, tick N,\ntold, accepted, retrieve, retrieve N, state P, value P x, expect TEXT. A unit may be HEX, or words as out prints them (of an MSU sio HEX sif HEX).\nWith group basic N or group cyclic N (1 to 16) one end of N links runs, with command, unit, line, out, tick, state, value and expect of link L behind on L, and\nsend HEX, fail, message HEX, retrieve, abandon, divert, rebalance, table, held, unsure, link, admit yes, admit no.\nPrints a line for each command but on and expect, and for each unit that goes out; one that is refused prints refused CODE Name (B1 to B12, W1, W2, E1, K1 to K4), and the run goes on.\nExits with 0, or 1 after failed line N where an expect failed, 2 after refused CODE Name where the set or the script is refused\n(F1, L1 to L3, P1, P2, S1 to S11, X1; X2 NoName NAME where the set lacks a name that a terminal wants), 4 where memory, a file, a read or a write fails.",
+        "First lines: ports N (1 to 64), env N (1 to 1024), journal N (16 to 65536).\nCommands: offer P SIG v.., begin P, finish P, skip P, tick N, env, rest, flood N P SIG v.., state P, value P x, expect TEXT.\nA script may begin with terminal basic, terminal cyclic or terminal cyclic N1 N2 (1 to 127 messages, 300 to 8192 octets): then one end of a link runs on the set, with the commands\ncommand W (power, start, stop, emergency, calm, outage, back, busy, free, flush, continue, overload), unit HEX, units N HEX, errors N, line HEX, msu HEX, out N, tick N,\ntold, accepted, retrieve, retrieve N, measure NAME, measure reset, state P, value P x, expect TEXT. A unit may be HEX, or words as out prints them (of an MSU sio HEX sif HEX).\nWith group basic N or group cyclic N (1 to 16) one end of N links runs, with command, unit, line, out, tick, state, value and expect of link L behind on L, and\nsend HEX, fail, message HEX, retrieve, abandon, divert, rebalance, table, held, unsure, link, admit yes, admit no.\nPrints a line for each command but on and expect, and for each unit that goes out; one that is refused prints refused CODE Name (B1 to B12, W1, W2, E1, K1 to K4), and the run goes on.\nExits with 0, or 1 after failed line N where an expect failed, 2 after refused CODE Name where the set or the script is refused\n(F1, L1 to L3, P1, P2, S1 to S11, X1; X2 NoName NAME where the set lacks a name that a terminal wants), 4 where memory, a file, a read or a write fails.",
     )
     .arg(set)?
     .arg(script)
@@ -295,6 +295,19 @@ fn with_capture_options<'a>(alloc: Global, command: Command<'a>) -> Result<Comma
     command.arg(capture)?.arg(trace)?.arg(every)
 }
 
+/// The option that says where measurements go.
+fn with_measures_option<'a>(alloc: Global, command: Command<'a>) -> Result<Command<'a>, AllocError>
+    ensures { has_globals command.entry ≡ false → IfOk result (IsCommand (with_measures_option (app_of command.entry))) }
+{
+    let measures = option_word(
+        alloc,
+        "measures",
+        "PATH",
+        "A file for what was measured, NAME N a line, written at the end of the run",
+    );
+    command.arg(measures)
+}
+
 /// The command `line`, without what its end does on its line.
 fn line_begun<'a>(alloc: Global) -> Result<Command<'a>, AllocError>
     ensures { IfOk result (IsCommand line_begun) }
@@ -310,7 +323,7 @@ fn line_begun<'a>(alloc: Global) -> Result<Command<'a>, AllocError>
         alloc,
         "line",
         "Puts one end of a signalling link on a channel of 64 kbit/s: line octets come on standard input and go to standard output",
-        "Writes one octet for each that it reads; 8 octets are a millisecond, and no clock is read. Orders: power, start, stop, emergency, calm,\noutage, back, busy, free, flush, continue, overload, msu HEX, told, accepted, retrieve, retrieve N, at MS (what follows waits until that millisecond), state P, value P x, quit; # begins a comment,\nand a report MS ok ORDER is obeyed as at MS and that order. Reports, each behind its millisecond: in service, down R, far out,\nfar back, cleared, message HEX, state P S, value P x V, told TEXT, accepted ok N, retrieve ok N, ok ORDER, refused CODE Name, lost N (what a FIFO had no room for).\nUnits that a capture's FIFO had no room for are told at the end on standard error: MS lost N capture.\nExits with 0 at the end of input or after quit, 2 after refused CODE Name on standard error where the text is refused, 4 where memory,\na file, a read or a write fails.",
+        "Writes one octet for each that it reads; 8 octets are a millisecond, and no clock is read. Orders: power, start, stop, emergency, calm,\noutage, back, busy, free, flush, continue, overload, msu HEX, told, accepted, retrieve, retrieve N, measure, measure NAME, measure reset, at MS (what follows waits until that millisecond), state P, value P x, quit; # begins a comment,\nand a report MS ok ORDER is obeyed as at MS and that order. Reports, each behind its millisecond: in service, down R, far out,\nfar back, cleared, message HEX, state P S, value P x V, told TEXT, accepted ok N, retrieve ok N, measure NAME ok N, measure NAME N, ok ORDER, refused CODE Name, lost N (what a FIFO had no room for).\nUnits that a capture's FIFO had no room for are told at the end on standard error: MS lost N capture.\nExits with 0 at the end of input or after quit, 2 after refused CODE Name on standard error where the text is refused, 4 where memory,\na file, a read or a write fails.",
     )
     .arg(mode)?
     .arg(text)
@@ -321,7 +334,8 @@ fn line_command<'a>(alloc: Global) -> Result<Command<'a>, AllocError>
     ensures { IfOk result (IsCommand line_command) }
 {
     let command = with_limit_options(alloc, with_line_options(alloc, line_begun(alloc)?)?)?;
-    with_capture_options(alloc, command)
+    let captured = with_capture_options(alloc, command)?;
+    with_measures_option(alloc, captured)
 }
 
 /// The command `frame`.

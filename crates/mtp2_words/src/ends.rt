@@ -30,6 +30,8 @@ pub struct LineEnd<'a> {
     pub trace: Option<&'a str>,
     /// Whether every unit is captured, and what has no effect traced; else repeats, and what has none, are left out.
     pub every: bool,
+    /// Where its measurements go at the end of the run; nowhere, where nothing is said.
+    pub measures: Option<&'a str>,
 }
 
 /// The words that say it.
@@ -55,6 +57,8 @@ pub struct LineWords<'a> {
     pub trace: Option<&'a str>,
     /// Whether every unit is captured, and what has no effect traced.
     pub every: bool,
+    /// A file for measurements.
+    pub measures: Option<&'a str>,
 }
 
 impl LineEnd<'_> {
@@ -133,5 +137,6 @@ pub fn line_end<'a>(words: &LineWords<'a>) -> Option<LineEnd<'a>>
         capture: words.capture,
         trace: words.trace,
         every: words.every,
+        measures: words.measures,
     })
 }

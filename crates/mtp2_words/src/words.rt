@@ -177,6 +177,7 @@ fn line_of<'a>(given: &ArgMatches<'a>) -> Option<LineEnd<'a>>
         capture: given.get_str("capture"),
         trace: given.get_str("trace"),
         every: is_given(given.get_str("every")),
+        measures: given.get_str("measures"),
     })
 }
 

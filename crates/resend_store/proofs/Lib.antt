@@ -3,6 +3,7 @@ pub mod Delivery
 pub mod Given
 pub mod InOrder
 pub mod InTurn
+pub mod Naming
 pub mod Nexts
 pub mod Removing
 pub mod Sent

@@ -2,6 +2,7 @@ pub mod Exchange
 pub mod Hearings
 pub mod Intake
 pub mod Limits
+pub mod MeasureNames
 pub mod Messages
 pub mod Numbers
 pub mod Printed

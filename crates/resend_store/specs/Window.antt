@@ -1,7 +1,20 @@
 -- What a sender keeps, and what each of its calls makes of it (Q.703: basic error correction, and
 -- error correction by preventive cyclic retransmission).
-use Rattle.std.specs.Prelude.{◌≡◌, ℕ, ◌+◌, ◌-◌, ◌<◌, ◌≤◌, ◌==◌, ◌&&◌, nat_lt, min, Bool, true}
-use Rattle.std.specs.Prelude.{false, if◌then◌else◌, List, [], ◌∷◌, ◌++◌, length, take, drop, All}
+use Rattle.std.specs.Prelude.{◌≡◌, ℕ, ◌+◌, ◌-◌, ◌<◌, ◌≤◌, ◌==◌, ◌&&◌, nat_lt, nat_le, min}
+use Rattle.std.specs.Prelude.{
+  Bool,
+  true,
+  false,
+  if◌then◌else◌,
+  List,
+  [],
+  ◌∷◌,
+  ◌++◌,
+  length,
+  take,
+  drop,
+  All,
+}
 use Rattle.std.specs.Prelude.{Option, Some, None, slice_get}
 use Rattle.resend_store.specs.declared.messages.Msu.{Msu}
 use Rattle.resend_store.specs.declared.messages.Mode.{Mode}
@@ -97,6 +110,14 @@ may_send w = nat_lt w.sent (length w.kept) && nat_lt w.sent MOST_UNACKNOWLEDGED
 -- Whether the unacknowledged messages have to go again without being asked for.
 abbrev pub at_limit : Window → Bool
 at_limit w = reaches_limit w.limits (unacknowledged w)
+
+-- of a round of forced retransmission under way so many messages are still to go
+abbrev pub round_left : Window → Option ℕ
+round_left w = if w.forced then Some w.again else None
+
+-- Whether so many messages are unacknowledged that their number alone forces retransmission.
+abbrev pub reaches_number : Window → Bool
+reaches_number w = nat_le w.limits.messages w.sent
 
 -- What a call to send gives: the unit, and what is kept then.
 pub record Sending : Type 0 where

@@ -3,6 +3,7 @@
 #![tactic(auto)]
 
 mod laws;
+mod measures;
 mod messages;
 mod numbers;
 mod receiving;
@@ -14,6 +15,7 @@ pub use laws::{
     accepted_units_are_in_turn, kept_window_stands_for_all_messages,
     messages_are_delivered_in_order, new_messages_go_out_in_order, retrieval_completes_delivery,
 };
+pub use measures::{Measure, all_measures, measure_named};
 pub use messages::{
     FORCED_MESSAGES, FORCED_OCTETS, LEAST_FORCED_OCTETS, MAX_KEPT, MAX_UNACKNOWLEDGED, MAX_WAITING,
     Mode, Msu, Outgoing, RoundLimits, USUAL_LIMITS, Verdict,

@@ -4,7 +4,7 @@ ghost use Rattle.std.specs.Option.{option_copied};
 ghost use Rattle.resend_store.specs.Limits.{MOST_KEPT, MOST_UNACKNOWLEDGED, MOST_WAITING};
 ghost use Rattle.resend_store.specs.Messages.{IsMessage};
 ghost use Rattle.resend_store.specs.Steps.{settled, gives};
-ghost use Rattle.resend_store.specs.Window.{IsWindow, waiting, start, start_within, with_put, may_send, unit_at, fill_in, repeats, sends_new, cycles, next, count_by, without, after_back, retrieved, count_known, emptied, without_at, refreshed};
+ghost use Rattle.resend_store.specs.Window.{IsWindow, waiting, start, start_within, with_put, may_send, unit_at, fill_in, repeats, sends_new, cycles, next, count_by, without, after_back, retrieved, count_known, emptied, without_at, refreshed, round_left, reaches_number};
 
 use crate::messages::{
     MAX_KEPT, MAX_UNACKNOWLEDGED, MAX_WAITING, Mode, Msu, Outgoing, RoundLimits, USUAL_LIMITS,
@@ -107,6 +107,20 @@ impl Sender {
         ensures within { result < 2 }
     {
         self.fib
+    }
+
+    /// How many messages of a round of forced retransmission are still to go; none where no round is under way.
+    pub fn round_left(&self) -> Option<u8>
+        ensures { result ≡ round_left self.now }
+    {
+        if self.forced { Some(self.again) } else { None }
+    }
+
+    /// Whether so many messages are unacknowledged that their number alone forces retransmission.
+    pub fn reaches_number(&self) -> bool
+        ensures { result ≡ reaches_number self.now }
+    {
+        self.store.sent() >= self.limits.messages
     }
 
     /// Takes a message to send, with a field of 2 octets or more. It waits behind all others.

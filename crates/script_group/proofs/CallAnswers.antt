@@ -10,23 +10,24 @@ use Rattle.script_terminal.specs.link_term_types.answers.CallError.TheVariants a
 use Rattle.group_changeover.specs.declared.changeover.Changeover.{Changeover}
 use Rattle.su_octets.specs.Bits.{AreOctets}
 use Rattle.group_changeover.specs.Changeovers.{Says}
-use Rattle.link_group.specs.Set.{LinkSet, send_fault, sent}
+use Rattle.link_group.specs.Set.{LinkSet, send_fault, sent, bind_fault_at, bound_at}
 use Rattle.link_group.specs.Changing.{fail_fault, after_failure, order_at, IsReply}
 use Rattle.link_group.specs.Commanding.{Commanded}
 use Rattle.link_group.specs.Lines.{ByLink, IsCommandError, after_admission}
 use Rattle.link_group.specs.Placing.{rebalance_fault, rebalanced}
-use Rattle.link_group.specs.Printed.{send_error_text, fail_error_text, rebalance_error_text}
+use Rattle.link_group.specs.Printed.{send_error_text, bind_error_text, fail_error_text, rebalance_error_text}
 use Rattle.link_group.specs.Ticking.{all_due}
 use Rattle.link_group.specs.Ticks.{with_room, tick_fault, after_ticks, IsTickError}
-use Rattle.link_group.specs.group_changeover_types.errors.CommandError.{CommandError}
-use Rattle.link_group.specs.group_changeover_types.errors.CommandError.TheVariants as barring
+use Rattle.link_group.specs.group_members_types.commanding.CommandError.{CommandError}
+use Rattle.link_group.specs.group_members_types.commanding.CommandError.TheVariants as barring
 use Rattle.link_group.specs.group_changeover_types.errors.LinkError.{LinkError}
 use Rattle.link_group.specs.group_changeover_types.errors.LinkError.TheVariants as linking
 use Rattle.link_group.specs.group_changeover_types.errors.SendError.{SendError}
+use Rattle.link_group.specs.group_changeover_types.errors.BindError.{BindError}
 use Rattle.link_group.specs.group_changeover_types.errors.FailError.{FailError}
 use Rattle.link_group.specs.group_changeover_types.errors.RebalanceError.{RebalanceError}
 use Rattle.script_terminal.specs.TermAnswers.{IsMessageOf, IsRefusedLine}
-use Rattle.script_group.specs.GroupAnswers.{NO_LINK, said_by, set_by, octets_line, IsTold, IsBarredLine, Passes, IsSent, Fails, IsReplied, Rebalances, Admits}
+use Rattle.script_group.specs.GroupAnswers.{NO_LINK, said_by, set_by, octets_line, IsTold, IsBarredLine, Passes, IsSent, IsBoundTo, Fails, IsReplied, Rebalances, Admits}
 use Rattle.script_group.specs.GroupAnswers as answers
 
 -- ---- lines
@@ -108,6 +109,28 @@ sent_why octets c d m e text are is fault makes =
       octets_are = are;
       says = says_why send_error_text (send_fault c m) e text is fault;
       makes = makes_none (send_fault c m) e d (sent c m) c makes fault;
+    }
+
+-- ---- messages that are bound to a link
+
+pub bound_ok : (octets : List ℕ) (l : ℕ) (c d : LinkSet) (m : Msu) (text : List ℕ) → IsMessageOf octets m → text ≡ codes "ok" → None ≡ bind_fault_at c l
+    → d ≡ bound_at c l m → IsBoundTo octets l c text d
+bound_ok octets l c d m text is_message is fault makes =
+    record {
+      msu = m;
+      octets_are = is_message;
+      says = says_ok bind_error_text (bind_fault_at c l) text is fault;
+      makes = makes_ok (bind_fault_at c l) d (bound_at c l m) c makes fault;
+    }
+
+pub bound_why : (octets : List ℕ) (l : ℕ) (c d : LinkSet) (m : Msu) (e : BindError) (text : List ℕ) → IsMessageOf octets m
+    → text ≡ codes "refused " ++ bind_error_text e → Some e ≡ bind_fault_at c l → d ≡ c → IsBoundTo octets l c text d
+bound_why octets l c d m e text is_message is fault makes =
+    record {
+      msu = m;
+      octets_are = is_message;
+      says = says_why bind_error_text (bind_fault_at c l) e text is fault;
+      makes = makes_none (bind_fault_at c l) e d (bound_at c l m) c makes fault;
     }
 
 -- ---- changeover

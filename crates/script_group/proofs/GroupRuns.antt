@@ -157,6 +157,7 @@ obeys_one (code.State p) t u text no_expect no_on no_out answers = record { text
 obeys_one (code.Value p x) t u text no_expect no_on no_out answers = record { text = text; one = refl; answers = answers }
 obeys_one (code.Send x) t u text no_expect no_on no_out answers = record { text = text; one = refl; answers = answers }
 obeys_one (code.Message x) t u text no_expect no_on no_out answers = record { text = text; one = refl; answers = answers }
+obeys_one (code.Bound x) t u text no_expect no_on no_out answers = record { text = text; one = refl; answers = answers }
 obeys_one (code.Admit way) t u text no_expect no_on no_out answers = record { text = text; one = refl; answers = answers }
 obeys_one (code.Own w) t u text no_expect no_on no_out answers = record { text = text; one = refl; answers = answers }
 obeys_one (code.Out n) t u text no_expect no_on no_out answers = absurd (no_out n refl)

@@ -6,7 +6,7 @@ use Rattle.link_transceiver.specs.declared.signals.Report.{Report}
 use Rattle.link_group.specs.group_members_types.link.Link.{Link}
 use Rattle.link_group.specs.Set.{LinkSet}
 use Rattle.link_group.specs.Links.{change, set_at}
-use Rattle.link_group.specs.Doing.{Reported, asked, came_by}
+use Rattle.link_group.specs.Doing.{Reported, asked, asked_of, began, unbegun, leaves_out, came_by}
 use Rattle.link_group.specs.Lines.{ByLink, seen}
 use Rattle.link_group.specs.Placing.{placed_anew}
 use Rattle.plain_laws.proofs.Places.{get_set_same}
@@ -49,6 +49,14 @@ link_behind did l c d by_link =
     ap (λ (x : LinkSet). slice_get x.links l) by_link.set
     ∙ (ap (λ ks. slice_get ks l) (seen_links l (record c { links = by_link.links })) ∙ change_there asked by_link.links l by_link.at.after there)
 
+-- what is asked of a link behind a call leaves its reports
+asked_case : (k : Link) (b : Bool) → reports (asked_of (if b then leaves_out (unbegun k) else unbegun k)).terminal.processes.transceiver ≡ reports k.terminal.processes.transceiver
+asked_case k true = refl
+asked_case k false = refl
+
+reports_asked : (k : Link) → reports (asked k).terminal.processes.transceiver ≡ reports k.terminal.processes.transceiver
+reports_asked k = asked_case k (began k)
+
 pub fewer_left : (l : ℕ) (c d : LinkSet) (r : Report) → ByLink (Reported (Some r)) l c d → reports_at l d < reports_at l c
 fewer_left l c d r by_link =
     let k : Link = by_link.at.before in
@@ -56,7 +64,7 @@ fewer_left l c d r by_link =
     let less : reports j.terminal.processes.transceiver < reports k.terminal.processes.transceiver =
     fewer_reports k.terminal j.terminal (Some r) refl by_link.at.was.report_is by_link.at.was.terminal in
     let before : reports_at l c ≡ reports k.terminal.processes.transceiver = ap reports_by by_link.at.there in
-    let after : reports_at l d ≡ reports j.terminal.processes.transceiver = ap reports_by (link_behind (Reported (Some r)) l c d by_link) in
+    let after : reports_at l d ≡ reports j.terminal.processes.transceiver = ap reports_by (link_behind (Reported (Some r)) l c d by_link) ∙ reports_asked j in
     omega (arith, less, before, after)
 
 -- by what was handed out

@@ -16,8 +16,8 @@ use Rattle.group_changeover.specs.declared.changeover.Changeover.{Changeover}
 use Rattle.su_octets.specs.Bits.{AreOctets}
 use Rattle.group_changeover.specs.Changeovers.{Says}
 use Rattle.link_group.specs.group_members_types.link.Link.{Link}
-use Rattle.link_group.specs.group_changeover_types.errors.CommandError.{CommandError}
-use Rattle.link_group.specs.group_changeover_types.errors.CommandError.TheVariants as barring
+use Rattle.link_group.specs.group_members_types.commanding.CommandError.{CommandError}
+use Rattle.link_group.specs.group_members_types.commanding.CommandError.TheVariants as barring
 use Rattle.link_group.specs.group_changeover_types.errors.FailError.{FailError}
 use Rattle.link_group.specs.group_changeover_types.errors.RetrieveError.{RetrieveError}
 use Rattle.link_group.specs.group_changeover_types.errors.AbandonError.{AbandonError}
@@ -25,7 +25,7 @@ use Rattle.link_group.specs.group_changeover_types.errors.AbandonError.TheVarian
 use Rattle.link_group.specs.group_changeover_types.errors.DivertFault.{DivertFault}
 use Rattle.link_group.specs.declared.retrieved.Kept.{Kept}
 use Rattle.link_group.specs.declared.retrievals.Retrievals.{Retrievals}
-use Rattle.link_group.specs.Set.{LinkSet, send_fault, sent}
+use Rattle.link_group.specs.Set.{LinkSet, send_fault, sent, bind_fault_at, bound_at}
 use Rattle.link_group.specs.Changing.{fail_fault, after_failure, order_at, IsRead, after_message}
 use Rattle.link_group.specs.Changing.{reply_to, retrieve_fault_at, after_retrieve, messages_for}
 use Rattle.link_group.specs.Changing.{abandon_fault_at, after_abandon, unsent_at}
@@ -40,7 +40,8 @@ use Rattle.link_group.specs.Ticking.{all_due}
 use Rattle.link_group.specs.Ticks.{with_room, tick_fault, after_ticks}
 use Rattle.link_group.specs.Reading.{held_count, sent_count}
 use Rattle.link_group.specs.Stating.{state_of}
-use Rattle.link_group.specs.Printed.{send_error_text, fail_error_text, retrieve_error_text}
+use Rattle.link_group.specs.Printed.{send_error_text, bind_error_text, fail_error_text}
+use Rattle.link_group.specs.Printed.{retrieve_error_text}
 use Rattle.link_group.specs.Printed.{abandon_error_text, divert_fault_text, rebalance_error_text}
 use Rattle.script_links.specs.declared.words.GroupWord.{GroupWord}
 use Rattle.script_links.specs.declared.words.GroupWord.TheVariants as words
@@ -191,6 +192,13 @@ pub record IsSent (octets : List ℕ) (c : LinkSet) (text : List ℕ) (d : LinkS
   pub octets_are : IsMessageOf octets msu
   pub says : text ≡ said_by send_error_text (send_fault c msu)
   pub makes : d ≡ set_by (send_fault c msu) (sent c msu) c
+
+pub record IsBoundTo (octets : List ℕ) (l : ℕ) (c : LinkSet) (text : List ℕ) (d : LinkSet) :
+    Type 0 where
+  pub msu : Msu
+  pub octets_are : IsMessageOf octets msu
+  pub says : text ≡ said_by bind_error_text (bind_fault_at c l)
+  pub makes : d ≡ set_by (bind_fault_at c l) (bound_at c l msu) c
 
 -- a changeover begins, and the octets of the order for it are printed
 pub data Fails (l : ℕ) (c : LinkSet) : List ℕ → LinkSet → Type 0 where
@@ -368,6 +376,7 @@ Answers (commands.expected said) p text q = (text ≡ []) × (q ≡ p)
 Answers (commands.on l) p text q = (text ≡ []) × (q ≡ p)
 Answers (commands.sending octets) p text q = OnSet (IsSent octets p.set) p text q
 Answers (commands.message octets) p text q = OnSet (IsHeard octets p.set) p text q
+Answers (commands.bound octets) p text q = OnSet (IsBoundTo octets p.on p.set) p text q
 Answers (commands.admitting way) p text q = OnSet (Admits way p.on p.set) p text q
 Answers (commands.own word) p text q = WordAnswers word p text q
 

@@ -3,7 +3,7 @@ ghost use Rattle.std.specs.Prelude.{IfOk};
 ghost use Rattle.script_links.specs.GroupCommands.{plain_group_command};
 ghost use Rattle.script_group.specs.GroupAnswers.{at, WordAnswers, Answers};
 
-use crate::calls::{admit, fail, hear, rebalance, send, tell, tick};
+use crate::calls::{admit, bind, fail, hear, rebalance, send, tell, tick};
 use crate::lines::{take_line, take_unit};
 use crate::retrievals::{abandon, divert, retrieve};
 use crate::shown::{held, link_is, state, table, unsure, value};
@@ -52,6 +52,7 @@ pub(crate) fn answer(
         GroupCommand::State(process) => state(alloc, group, link, process),
         GroupCommand::Value(process, variable) => value(alloc, group, link, process, variable),
         GroupCommand::Send(octets) => send(alloc, group, octets),
+        GroupCommand::Bound(octets) => bind(alloc, group, link, octets),
         GroupCommand::Message(octets) => hear(alloc, group, octets),
         GroupCommand::Admit(way) => admit(alloc, group, link, *way),
         GroupCommand::Own(word) => word_answer(alloc, group, retrievals, link, *word),

@@ -3,7 +3,7 @@ ghost use Rattle.std.specs.Prelude.{◌≡◌, Option, IfOk};
 ghost use Rattle.group_changeover.specs.declared.changeover.Changeover.{Changeover as PlainChangeover};
 ghost use Rattle.link_group.specs.Changing.{IsRead, IsReply, after_message, reply_to};
 ghost use Rattle.script_terminal.specs.TermAnswers.{command_of, IsRefusedLine};
-ghost use Rattle.script_group.specs.GroupAnswers.{IsTold, Passes, IsSent, Fails, IsHeard, Admits, Rebalances, IsBarredLine};
+ghost use Rattle.script_group.specs.GroupAnswers.{IsTold, Passes, IsSent, IsBoundTo, Fails, IsHeard, Admits, Rebalances, IsBarredLine};
 
 use crate::saying::{done, no_link, octets_law, octets_line, refused};
 use group_changeover::label_of;
@@ -71,6 +71,28 @@ pub(crate) fn send(alloc: Global, group: &mut Group, octets: &[u8]) -> Result<Ve
         return Err(AllocError);
     };
     match group.send(label, msu) {
+        Ok(()) => done(alloc),
+        Err(error) => refused(alloc, &error),
+    }
+}
+
+/// `bound HEX`. Octets that are no message of that kind would be told as want of memory, but none comes here: a script with such a line is refused
+/// as it is read.
+pub(crate) fn bind(
+    alloc: Global,
+    group: &mut Group,
+    link: usize,
+    octets: &[u8],
+) -> Result<Vec<u8>, AllocError>
+    ensures { IfOk result (λ v. IsBoundTo octets.now link group.old v.items group.new) }
+{
+    let Some(msu) = message(octets) else {
+        return Err(AllocError);
+    };
+    if !group.is_bound(&msu) {
+        return Err(AllocError);
+    }
+    match group.send_by(link, msu) {
         Ok(()) => done(alloc),
         Err(error) => refused(alloc, &error),
     }

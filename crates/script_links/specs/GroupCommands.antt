@@ -3,6 +3,8 @@ use Rattle.std.specs.Prelude.{ℕ, Bool, true, false, nat_le, ◌&&◌, if◌the
 use Rattle.std.specs.Prelude.{length, Option}
 use Rattle.std.specs.Prelude.{None, Some, option_map, option_and_then, codes}
 use Rattle.std.specs.Str.{bytes_eq}
+use Rattle.group_changeover.specs.Bound.{is_bound_by}
+use Rattle.group_changeover.specs.declared.bound.Points.{Points}
 use Rattle.script_lines.specs.Numbers.{count_of}
 use Rattle.script_links.specs.Octets.{octets_of}
 use Rattle.script_links.specs.TermCommands.{PlainTermCommand, term_command_of}
@@ -28,6 +30,7 @@ pub data PlainGroupCommand : Type 0 where
   expected : List ℕ → PlainGroupCommand
   on : ℕ → PlainGroupCommand
   sending : List ℕ → PlainGroupCommand
+  bound : List ℕ → PlainGroupCommand
   message : List ℕ → PlainGroupCommand
   admitting : Bool → PlainGroupCommand
   own : GroupWord → PlainGroupCommand
@@ -43,6 +46,7 @@ plain_group_command (code.Value process variable) = shown process.now variable.n
 plain_group_command (code.Expect text) = expected text.items
 plain_group_command (code.On l) = on l
 plain_group_command (code.Send octets) = sending octets.items
+plain_group_command (code.Bound octets) = bound octets.items
 plain_group_command (code.Message octets) = message octets.items
 plain_group_command (code.Admit way) = admitting way
 plain_group_command (code.Own word) = own word
@@ -59,6 +63,21 @@ as_sending octets = if is_labelled octets then Some (sending octets) else None
 
 abbrev pub sending_by : Option (List ℕ) → Option PlainGroupCommand
 sending_by octets = option_and_then as_sending octets
+
+-- the points of a script's set
+abbrev pub points : Points
+points = record { own = 1; peer = 2 }
+
+-- octets of a message that is bound to a link
+abbrev pub is_bound_message : List ℕ → Bool
+is_bound_message [] = false
+is_bound_message (sio ∷ sif) = is_bound_by points sio sif
+
+abbrev pub as_bound : List ℕ → Option PlainGroupCommand
+as_bound octets = if is_bound_message octets then Some (bound octets) else None
+
+abbrev pub binding_by : Option (List ℕ) → Option PlainGroupCommand
+binding_by octets = option_and_then as_bound octets
 
 abbrev pub way_of : List ℕ → Option Bool
 way_of word =
@@ -79,6 +98,9 @@ shared_of (terminal.ticks n) = Some (ticks n)
 shared_of terminal.told = None
 shared_of terminal.accepted = None
 shared_of (terminal.retrieving behind) = None
+shared_of (terminal.measuring measure) = None
+shared_of terminal.counting_aborted = None
+shared_of terminal.resetting = None
 shared_of (terminal.state process) = Some (state process)
 shared_of (terminal.shown process variable) = Some (shown process variable)
 shared_of (terminal.expected text) = Some (expected text)
@@ -111,6 +133,7 @@ group_word_of word =
 abbrev pub group_verb_text : GroupVerb → List ℕ
 group_verb_text verbs.On = codes "on"
 group_verb_text verbs.Send = codes "send"
+group_verb_text verbs.Bound = codes "bound"
 group_verb_text verbs.Message = codes "message"
 group_verb_text verbs.Admit = codes "admit"
 
@@ -121,12 +144,14 @@ group_verb_among word (verb ∷ more) =
 
 unfoldable pub group_verb_of : List ℕ → Option GroupVerb
 group_verb_of word =
-    group_verb_among word (verbs.On ∷ verbs.Send ∷ verbs.Message ∷ verbs.Admit ∷ [])
+    group_verb_among word
+    (verbs.On ∷ verbs.Send ∷ verbs.Bound ∷ verbs.Message ∷ verbs.Admit ∷ [])
 
 -- what the word behind it reads as
 abbrev pub by_group_verb : GroupVerb → List ℕ → Option PlainGroupCommand
 by_group_verb verbs.On word = option_map on (count_of word)
 by_group_verb verbs.Send word = sending_by (octets_of word)
+by_group_verb verbs.Bound word = binding_by (octets_of word)
 by_group_verb verbs.Message word = option_map message (octets_of word)
 by_group_verb verbs.Admit word = option_map admitting (way_of word)
 

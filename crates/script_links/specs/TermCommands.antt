@@ -7,6 +7,8 @@ use Rattle.script_lines.specs.Commands.{PlainCommand, command_of, call, tick, va
 use Rattle.script_lines.specs.Commands.{flood, env, rest}
 use Rattle.script_lines.specs.declared.verbs.Call.{Call}
 use Rattle.script_lines.specs.declared.verbs.Call.TheVariants.{Begin, Finish, Skip, State}
+use Rattle.resend_store.specs.MeasureNames.{measure_named}
+use Rattle.resend_store.specs.declared.measures.Measure.{Measure}
 use Rattle.script_links.specs.Orders.{order_of}
 use Rattle.script_links.specs.Octets.{octets_of, is_unit, is_message}
 use Rattle.script_links.specs.UnitWords.{number_to, unit_of_words}
@@ -30,6 +32,9 @@ pub data PlainTermCommand : Type 0 where
   told : PlainTermCommand
   accepted : PlainTermCommand
   retrieving : Option ℕ → PlainTermCommand
+  measuring : Measure → PlainTermCommand
+  counting_aborted : PlainTermCommand
+  resetting : PlainTermCommand
   state : List ℕ → PlainTermCommand
   shown : List ℕ → List ℕ → PlainTermCommand
   expected : List ℕ → PlainTermCommand
@@ -46,6 +51,9 @@ plain_term_command (code.Tick n) = ticks n
 plain_term_command code.Told = told
 plain_term_command code.Accepted = accepted
 plain_term_command (code.Retrieve behind) = retrieving behind
+plain_term_command (code.Measure measure) = measuring measure
+plain_term_command code.Aborted = counting_aborted
+plain_term_command code.Reset = resetting
 plain_term_command (code.State process) = state process.now
 plain_term_command (code.Value process variable) = shown process.now variable.now
 plain_term_command (code.Expect text) = expected text.items
@@ -63,6 +71,9 @@ is_told (ticks n) = false
 is_told told = true
 is_told accepted = false
 is_told (retrieving behind) = false
+is_told (measuring measure) = false
+is_told counting_aborted = false
+is_told resetting = false
 is_told (state process) = false
 is_told (shown process variable) = false
 is_told (expected text) = false
@@ -90,6 +101,17 @@ units_by (Some n) octets = option_and_then (where_so is_unit (units n)) octets
 
 abbrev pub msu_by : Option (List ℕ) → Option PlainTermCommand
 msu_by octets = option_and_then (where_so is_message msu) octets
+
+-- the name of the count of aborted proving periods
+abbrev pub ABORTED : List ℕ
+ABORTED = codes "aborted_periods"
+
+-- a measurement, or that all counts begin anew
+abbrev pub measure_by : List ℕ → Option PlainTermCommand
+measure_by word =
+    if bytes_eq word (codes "reset") then Some resetting
+    else (if bytes_eq word ABORTED then Some counting_aborted
+    else option_map measuring (measure_named word))
 
 -- ---- those that it has in common with a book
 
@@ -119,6 +141,7 @@ term_verb_text verbs.Msu = codes "msu"
 term_verb_text verbs.Out = codes "out"
 term_verb_text verbs.Errors = codes "errors"
 term_verb_text verbs.Retrieve = codes "retrieve"
+term_verb_text verbs.Measure = codes "measure"
 
 -- the first of these verbs that has the text
 abbrev pub term_verb_among : List ℕ → List TermVerb → Option TermVerb
@@ -130,7 +153,7 @@ unfoldable pub term_verb_of : List ℕ → Option TermVerb
 term_verb_of word =
     term_verb_among word
     (verbs.Order ∷ verbs.Unit ∷ verbs.Line ∷ verbs.Msu ∷ verbs.Out ∷ verbs.Errors ∷ verbs.Retrieve
-    ∷ [])
+    ∷ verbs.Measure ∷ [])
 
 -- what the word behind it reads as
 abbrev pub by_term_verb : TermVerb → List ℕ → Option PlainTermCommand
@@ -141,6 +164,7 @@ by_term_verb verbs.Msu word = msu_by (octets_of word)
 by_term_verb verbs.Out word = option_map out (count_of word)
 by_term_verb verbs.Errors word = option_map errors (times_of word)
 by_term_verb verbs.Retrieve word = option_map (λ n. retrieving (Some n)) (number_to 127 word)
+by_term_verb verbs.Measure word = measure_by word
 
 abbrev pub by_first : Option TermVerb → List ℕ → Option PlainTermCommand → Option PlainTermCommand
 by_first (Some verb) word as_shared = by_term_verb verb word

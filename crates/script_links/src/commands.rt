@@ -5,13 +5,14 @@ ghost use Rattle.script_lines.specs.Commands.{command_of};
 ghost use Rattle.script_lines.specs.Numbers.{count_of};
 ghost use Rattle.script_links.specs.Octets.{octets_of};
 ghost use Rattle.script_links.specs.Orders.{order_of};
-ghost use Rattle.script_links.specs.TermCommands.{plain_term_command, unit_by, units_by, units_of, unit_octets_of, words_of, msu_by, times_of, asked_of, shared_call, shared_of, by_term_verb, term_command_of, order, line, out, errors, retrieving};
+ghost use Rattle.script_links.specs.TermCommands.{plain_term_command, unit_by, units_by, units_of, unit_octets_of, words_of, msu_by, measure_by, times_of, asked_of, shared_call, shared_of, by_term_verb, term_command_of, order, line, out, errors, retrieving};
 ghost use Rattle.script_links.specs.UnitWords.{number_to, unit_of_words};
 
 use crate::octets::{is_message, is_unit, octets_in};
 use crate::orders::{Order, order_in};
 use crate::unit_words::{number_in, unit_in_words};
 use crate::verbs::{TermVerb, term_verb_in};
+use resend_store::{Measure, measure_named};
 use script_lines::{Call, Command, command_in, count};
 use std::alloc::{AllocError, Global};
 
@@ -43,6 +44,12 @@ pub enum TermCommand<'a> {
     Accepted,
     /// `retrieve N`, `retrieve`: the messages behind this number, or those that never were sent, are handed out. The number is 127 at most.
     Retrieve(Option<u8>),
+    /// `measure NAME`: what was counted is printed.
+    Measure(Measure),
+    /// `measure aborted_periods`: how many proving periods were aborted is printed.
+    Aborted,
+    /// `measure reset`: all counts begin anew.
+    Reset,
     /// `state P`: the state of P is printed.
     State(&'a str),
     /// `value P x`: the value of variable x of P is printed.
@@ -148,6 +155,22 @@ fn retrieve_in<'a>(word: &str) -> Option<TermCommand<'a>>
     }
 }
 
+/// `measure NAME`, `measure aborted_periods`, `measure reset`.
+fn measure_in<'a>(word: &str) -> Option<TermCommand<'a>>
+    ensures { option_map plain_term_command result ≡ measure_by word.now }
+{
+    if word == "reset" {
+        return Some(TermCommand::Reset);
+    }
+    if word == "aborted_periods" {
+        return Some(TermCommand::Aborted);
+    }
+    match measure_named(word) {
+        Some(measure) => Some(TermCommand::Measure(measure)),
+        None => None,
+    }
+}
+
 /// A word that stands alone.
 fn asked_in<'a>(word: &str) -> Option<TermCommand<'a>>
     ensures { option_map plain_term_command result ≡ asked_of word.now }
@@ -235,6 +258,7 @@ fn command_by<'a>(
         TermVerb::Out => Ok(out_in(word)),
         TermVerb::Errors => Ok(errors_in(word)),
         TermVerb::Retrieve => Ok(retrieve_in(word)),
+        TermVerb::Measure => Ok(measure_in(word)),
     }
 }
 

@@ -4,14 +4,18 @@ ghost use Rattle.script_lines.specs.Lines.{texts};
 ghost use Rattle.script_lines.specs.Numbers.{count_of};
 ghost use Rattle.script_links.specs.Octets.{octets_of};
 ghost use Rattle.script_links.specs.TermCommands.{term_command_of};
-ghost use Rattle.script_links.specs.GroupCommands.{plain_group_command, on, message, admitting, way_of, own, sending_by, by_group_verb, shared_of, group_word_of, group_command_of};
+ghost use Rattle.script_links.specs.GroupCommands.{plain_group_command, on, message, admitting, way_of, own, sending_by, is_bound_message, binding_by, by_group_verb, shared_of, group_word_of, group_command_of};
 
 use crate::commands::{TermCommand, term_command_in};
 use crate::octets::octets_in;
 use crate::orders::Order;
 use crate::words::{GroupVerb, GroupWord, group_verb_in, group_word_in};
+use group_changeover::Points;
 use script_lines::count;
 use std::alloc::{AllocError, Global};
+
+/// The points of a script's set.
+const POINTS: Points = Points { own: 1, peer: 2 };
 
 /// A command of a link set's script. Processes and variables are words: what they name is for the run to say. 'The link' is the one that the
 /// last `on` named, 0 before any.
@@ -38,6 +42,8 @@ pub enum GroupCommand<'a> {
     /// `send HEX`: a message is to go out on the link of its selection. Its service information octet and its signalling information field,
     /// which begins with a label: 5 to 273 octets.
     Send(Vec<u8>),
+    /// `bound HEX`: a message that is bound to the link is to go out on it. Its service information octet and its signalling information field.
+    Bound(Vec<u8>),
     /// `message HEX`: the signalling information field of a message of changeover came in.
     Message(Vec<u8>),
     /// `admit yes`, `admit no`: the link is admitted to selections and to what other links hand out, or is no longer.
@@ -64,6 +70,29 @@ fn send_in<'a>(alloc: Global, word: &str) -> Result<Option<GroupCommand<'a>>, Al
         Some(octets) if 5 <= octets.len() && octets.len() <= 273 => {
             Ok(Some(GroupCommand::Send(octets)))
         }
+        _ => Ok(None),
+    }
+}
+
+/// Whether octets are a message that is bound to a link.
+fn is_bound_message(octets: &[u8]) -> bool
+    ensures { result ≡ is_bound_message octets.now }
+{
+    match octets {
+        [sio, sif @ ..] => POINTS.binds(*sio, sif),
+        [] => false,
+    }
+}
+
+/// `bound HEX`.
+pub(crate) fn bound_in<'a>(
+    alloc: Global,
+    word: &str,
+) -> Result<Option<GroupCommand<'a>>, AllocError>
+    ensures { IfOk result (λ r. option_map plain_group_command r ≡ binding_by (octets_of word.now)) }
+{
+    match octets_in(alloc, word)? {
+        Some(octets) if is_bound_message(&octets) => Ok(Some(GroupCommand::Bound(octets))),
         _ => Ok(None),
     }
 }
@@ -113,6 +142,7 @@ fn command_by<'a>(
     match verb {
         GroupVerb::On => Ok(on_in(word)),
         GroupVerb::Send => send_in(alloc, word),
+        GroupVerb::Bound => bound_in(alloc, word),
         GroupVerb::Message => message_in(alloc, word),
         GroupVerb::Admit => Ok(admit_in(word)),
     }
@@ -133,6 +163,7 @@ fn shared_in<'a>(alloc: Global, words: &[&'a str]) -> Result<Option<GroupCommand
         TermCommand::Out(units) => Ok(Some(GroupCommand::Out(units))),
         TermCommand::Tick(ticks) => Ok(Some(GroupCommand::Tick(ticks))),
         TermCommand::Told | TermCommand::Accepted | TermCommand::Retrieve(_) => Ok(None),
+        TermCommand::Measure(_) | TermCommand::Aborted | TermCommand::Reset => Ok(None),
         TermCommand::State(process) => Ok(Some(GroupCommand::State(process))),
         TermCommand::Value(process, variable) => Ok(Some(GroupCommand::Value(process, variable))),
         TermCommand::Expect(text) => Ok(Some(GroupCommand::Expect(text))),

@@ -1,5 +1,6 @@
 //! Why a line is none of a script that `play` runs, for a person to read.
 
+use crate::group_commands::bound_in;
 use crate::heads::{head_in, term_head_in};
 use crate::octets::octets_in;
 use crate::orders::{mode_named, order_in};
@@ -7,6 +8,7 @@ use crate::reasons::PlayFault;
 use crate::unit_words::unit_in_words;
 use crate::verbs::{TermVerb, term_verb_in};
 use crate::words::{GroupVerb, group_verb_in, group_word_in};
+use resend_store::measure_named;
 use script_lines::{
     Call, LineFault, MANY, Verb, book_line_fault, lines_in, number_fault, verb_fault, verb_in,
     words_fault,
@@ -111,6 +113,7 @@ fn behind_term_verb<'a>(
         TermVerb::Out => Ok(of_line(number_fault(next, 0, MOST))),
         TermVerb::Errors => Ok(of_line(number_fault(next, 1, MOST_TIMES))),
         TermVerb::Retrieve => Ok(of_line(number_fault(next, 0, 127))),
+        TermVerb::Measure => Ok(measure_fault(next)),
     }
 }
 
@@ -160,12 +163,36 @@ fn own_fault<'a>(
     Ok(Some(PlayFault::Line(LineFault::NoCommand { word, script })))
 }
 
+/// Why a word is no measurement.
+fn measure_fault<'a>(word: &'a str) -> Option<PlayFault<'a>> {
+    if word == "reset" || word == "aborted_periods" || measure_named(word).is_some() {
+        None
+    } else {
+        Some(PlayFault::NoMeasure { word })
+    }
+}
+
 /// Why a word is neither `yes` nor `no`.
 fn way_fault<'a>(word: &'a str) -> Option<PlayFault<'a>> {
     if word == "yes" || word == "no" {
         None
     } else {
         Some(PlayFault::NoWay { word })
+    }
+}
+
+/// Why the word behind `bound` is no message that is bound to a link.
+fn bound_fault<'a>(
+    alloc: Global,
+    word: &'a str,
+    next: &'a str,
+) -> Result<Option<PlayFault<'a>>, AllocError> {
+    if let Some(fault) = octets_fault(alloc, word, next, 6, 22)? {
+        return Ok(Some(fault));
+    }
+    match bound_in(alloc, next)? {
+        Some(_) => Ok(None),
+        None => Ok(Some(PlayFault::NotBound { word })),
     }
 }
 
@@ -179,6 +206,7 @@ fn behind_group_verb<'a>(
     match verb {
         GroupVerb::On => Ok(of_line(number_fault(next, 0, MOST))),
         GroupVerb::Send => octets_fault(alloc, word, next, 5, 273),
+        GroupVerb::Bound => bound_fault(alloc, word, next),
         GroupVerb::Message => octets_fault(alloc, word, next, 0, MANY),
         GroupVerb::Admit => Ok(way_fault(next)),
     }
@@ -224,6 +252,7 @@ fn is_terminals(word: &str) -> bool {
         || word == "told"
         || word == "accepted"
         || word == "retrieve"
+        || word == "measure"
 }
 
 /// Why the words of a line are none of a terminal's script, behind its first line.

@@ -40,6 +40,14 @@ pub enum PlayFault<'a> {
     NoUnit {
         word: &'a str,
     },
+    /// The word is no measurement.
+    NoMeasure {
+        word: &'a str,
+    },
+    /// The octets behind the word are no message that is bound to a link.
+    NotBound {
+        word: &'a str,
+    },
     /// The word is neither `yes` nor `no`.
     NoWay {
         word: &'a str,
@@ -75,6 +83,16 @@ impl fmt::Display for PlayFault<'_> {
             Self::NoUnit { word } => write!(
                 f,
                 "'{word}' wants pairs of hexadecimal digits, or FISU, LSSU or MSU with bsn N bib B fsn N fib B and status NAME, or sio HEX sif HEX",
+            ),
+            Self::NoMeasure { word } => {
+                write!(
+                    f,
+                    "'{word}' is neither reset nor a measurement of docs/links.md"
+                )
+            }
+            Self::NotBound { word } => write!(
+                f,
+                "'{word}' wants a message of changeover or changeback, a traffic restart or a test of the link, from point 1 to point 2",
             ),
             Self::NoWay { word } => write!(f, "'{word}' is neither yes nor no"),
         }

@@ -19,6 +19,8 @@ pub enum TermVerb {
     Errors,
     /// `retrieve`.
     Retrieve,
+    /// `measure`.
+    Measure,
 }
 
 /// The command that a word begins, in this case alone.
@@ -33,6 +35,7 @@ pub fn term_verb_in(word: &str) -> Option<TermVerb>
         "out" => Some(TermVerb::Out),
         "errors" => Some(TermVerb::Errors),
         "retrieve" => Some(TermVerb::Retrieve),
+        "measure" => Some(TermVerb::Measure),
         _ => None,
     }
 }

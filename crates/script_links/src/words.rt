@@ -32,6 +32,8 @@ pub enum GroupVerb {
     On,
     /// `send`.
     Send,
+    /// `bound`.
+    Bound,
     /// `message`.
     Message,
     /// `admit`.
@@ -63,6 +65,7 @@ pub fn group_verb_in(word: &str) -> Option<GroupVerb>
     match word {
         "on" => Some(GroupVerb::On),
         "send" => Some(GroupVerb::Send),
+        "bound" => Some(GroupVerb::Bound),
         "message" => Some(GroupVerb::Message),
         "admit" => Some(GroupVerb::Admit),
         _ => None,

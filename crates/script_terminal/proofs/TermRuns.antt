@@ -175,6 +175,9 @@ obeys_one keeps (code.Tick n) t u text no_expect no_out answers = record { text 
 obeys_one keeps code.Told t u text no_expect no_out answers = record { text = text; one = refl; answers = answers }
 obeys_one keeps code.Accepted t u text no_expect no_out answers = record { text = text; one = refl; answers = answers }
 obeys_one keeps (code.Retrieve n) t u text no_expect no_out answers = record { text = text; one = refl; answers = answers }
+obeys_one keeps (code.Measure m) t u text no_expect no_out answers = record { text = text; one = refl; answers = answers }
+obeys_one keeps code.Aborted t u text no_expect no_out answers = record { text = text; one = refl; answers = answers }
+obeys_one keeps code.Reset t u text no_expect no_out answers = record { text = text; one = refl; answers = answers }
 obeys_one keeps (code.State p) t u text no_expect no_out answers = record { text = text; one = refl; answers = answers }
 obeys_one keeps (code.Value p x) t u text no_expect no_out answers = record { text = text; one = refl; answers = answers }
 obeys_one keeps (code.Expect x) t u text no_expect no_out answers = absurd (no_expect x refl)

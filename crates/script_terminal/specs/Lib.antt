@@ -5,11 +5,15 @@ pub mod UnitLines
 pub use Rattle.link_term.specs.Hearing
 pub use Rattle.link_term.specs.Kept
 pub use Rattle.link_term.specs.Machine
+pub use Rattle.link_term.specs.MeasureNames
+pub use Rattle.link_term.specs.Measuring
 pub use Rattle.link_term.specs.Opening
 pub use Rattle.link_term.specs.Term
 pub use Rattle.link_term.specs.Wanted
 pub use Rattle.link_term.specs.declared as link_term_types
 pub use Rattle.link_term.specs.link_processes_types
+pub use Rattle.link_term.specs.link_transceiver_types
+pub use Rattle.link_term.specs.resend_store_types
 pub use Rattle.script_book.specs.Answers
 pub use Rattle.script_book.specs.Lines
 pub use Rattle.script_book.specs.Played

@@ -16,8 +16,11 @@ use Rattle.actor_machine.specs.declared.event.Event.TheVariants.{Advance}
 use Rattle.actor_machine.specs.declared.reply.Reply.{Reply}
 use Rattle.actor_machine.specs.declared.reply.Reply.TheVariants as reply
 use Rattle.link_transceiver.specs.Limits.{KEPT_MESSAGES}
+use Rattle.link_transceiver.specs.Measuring.{count_of}
+use Rattle.resend_store.specs.declared.measures.Measure.{Measure}
 use Rattle.link_transceiver.specs.Reporting.{reported}
 use Rattle.link_term.specs.Machine.{Sent, offered, sent, tidied, is_low, handed_out, clear_obeyed}
+use Rattle.link_term.specs.Machine.{all_reset}
 use Rattle.link_term.specs.Offering.{command_event}
 use Rattle.link_term.specs.link_processes_types.commands.Command.{Command}
 use Rattle.link_term.specs.link_processes_types.commands.Command.TheVariants as command
@@ -29,8 +32,8 @@ use Rattle.link_term.specs.declared.answers.CallError.TheVariants.{Refused, NoMe
 use Rattle.script_links.specs.declared.orders.Order.{Order}
 use Rattle.script_links.specs.declared.orders.Order.TheVariants as word
 use Rattle.script_links.specs.TermCommands.{PlainTermCommand, order, unit, units, errors, line, msu}
-use Rattle.script_links.specs.TermCommands.{out, ticks, told, accepted, retrieving, state, shown}
-use Rattle.script_links.specs.TermCommands.{expected}
+use Rattle.script_links.specs.TermCommands.{out, ticks, told, accepted, retrieving, measuring}
+use Rattle.script_links.specs.TermCommands.{counting_aborted, resetting, state, shown, expected}
 use Rattle.script_book.specs.Refused.{refused_text}
 use Rattle.script_book.specs.Answers.{answer_text, actor_named, state_line, value_line}
 use Rattle.script_terminal.specs.Told.{told_line}
@@ -191,6 +194,20 @@ pub data Retrieves (behind : Option ℕ) (t : Term) : List ℕ → Term → Type
       < count_known t.processes.transceiver.sender behind
       → Retrieves behind t (codes "refused E2 BadAck") t
 
+-- ---- measurements
+
+-- what was counted
+abbrev pub measure_line : Measure → Term → List ℕ
+measure_line measure t = codes "ok " ++ decimal (count_of measure t.processes.measures)
+
+-- how many proving periods were aborted
+abbrev pub aborted_line : Term → List ℕ
+aborted_line t = codes "ok " ++ decimal t.processes.aborted
+
+-- all counts begin anew
+abbrev pub behind_reset : Term → Term
+behind_reset t = with_processes t (all_reset t.processes)
+
 -- ---- units that go out
 
 -- the buffers are emptied, where the text asked for that
@@ -235,6 +252,9 @@ Does keeps (ticks n) t text u = IsAsked (Advance n) t text u
 Does keeps told t text u = Tells t text u
 Does keeps accepted t text u = (text ≡ accepted_line t) × (u ≡ t)
 Does keeps (retrieving behind) t text u = Retrieves behind t text u
+Does keeps (measuring measure) t text u = (text ≡ measure_line measure t) × (u ≡ t)
+Does keeps counting_aborted t text u = (text ≡ aborted_line t) × (u ≡ t)
+Does keeps resetting t text u = (text ≡ codes "ok") × (u ≡ behind_reset t)
 Does keeps (state process) t text u =
     (text ≡ state_line t.processes.book (actor_named t.processes.book process)) × (u ≡ t)
 Does keeps (shown process variable) t text u =

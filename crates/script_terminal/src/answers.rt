@@ -1,15 +1,15 @@
 //! What is printed for each command of a terminal's script.
-ghost use Rattle.std.specs.Prelude.{◌≡◌, ◌<◌, IfOk, IfSome, IsNone, IsTrue, codes, length};
+ghost use Rattle.std.specs.Prelude.{◌≡◌, ◌<◌, IfOk, OnOk, IfSome, IsNone, IsTrue, codes, length};
 ghost use Rattle.actor_machine.specs.declared.event.Event.TheVariants.{Advance};
 ghost use Rattle.link_term.specs.Offering.{command_event};
 ghost use Rattle.script_links.specs.TermCommands.{plain_term_command};
-ghost use Rattle.script_terminal.specs.TermAnswers.{command_of, IsAsked, IsRefusedLine, IsMessageOf, AreNoMessage, IsPut, accepted_line, Tells, IsRetrieveLine, Retrieves, Does, Answers};
+ghost use Rattle.script_terminal.specs.TermAnswers.{command_of, IsAsked, IsRefusedLine, IsMessageOf, AreNoMessage, IsPut, accepted_line, Tells, measure_line, aborted_line, behind_reset, IsRetrieveLine, Retrieves, Does, Answers};
 
 use crate::hearing::{receive, take};
 use crate::orders::command_of;
 use crate::told::report_text;
 use arrayvec::ArrayVec;
-use link_term::{CallError, Msu, PutError, RetrieveError, Terminal};
+use link_term::{CallError, Measure, Msu, PutError, RetrieveError, Terminal};
 use script_book::{refused_line, state_line, text_line, value_line};
 use script_links::{Order, TermCommand};
 use std::alloc::{AllocError, Global};
@@ -156,6 +156,32 @@ fn retrieve(
     }
 }
 
+/// `measure NAME`: what was counted.
+fn measured(alloc: Global, terminal: &Terminal, measure: Measure) -> Result<Vec<u8>, AllocError>
+    ensures { IfOk result (λ v. v.items ≡ measure_line measure terminal.now) }
+{
+    let measures = terminal.measures();
+    let count = measures.count(measure);
+    text_line(alloc, &format_args!("ok {count}"))
+}
+
+/// `measure aborted_periods`: how many proving periods were aborted.
+fn aborted(alloc: Global, terminal: &Terminal) -> Result<Vec<u8>, AllocError>
+    ensures { IfOk result (λ v. v.items ≡ aborted_line terminal.now) }
+{
+    let count = terminal.aborted();
+    text_line(alloc, &format_args!("ok {count}"))
+}
+
+/// `measure reset`: all counts begin anew.
+fn reset(alloc: Global, terminal: &mut Terminal) -> Result<Vec<u8>, AllocError>
+    ensures text { IfOk result (λ v. v.items ≡ codes "ok") }
+    ensures terminal { OnOk result (terminal.new ≡ behind_reset terminal.old) }
+{
+    terminal.reset_measures();
+    Vec::from_slice(alloc, b"ok")
+}
+
 /// The line that a command prints, but for `out` and `expect`, for which there is none. Unless it `keeps` what the terminal tells, that is
 /// dropped behind a unit and behind octets of the line.
 fn done(
@@ -177,6 +203,9 @@ fn done(
         TermCommand::Told => told(alloc, terminal),
         TermCommand::Accepted => accepted(alloc, terminal),
         TermCommand::Retrieve(behind) => retrieve(alloc, terminal, *behind),
+        TermCommand::Measure(measure) => measured(alloc, terminal, *measure),
+        TermCommand::Aborted => aborted(alloc, terminal),
+        TermCommand::Reset => reset(alloc, terminal),
         TermCommand::State(process) => state_line(alloc, terminal.book(), process),
         TermCommand::Value(process, variable) => {
             value_line(alloc, terminal.book(), process, variable)

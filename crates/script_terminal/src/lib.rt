@@ -9,7 +9,7 @@ mod told;
 mod unit_line;
 
 pub use answers::{answer, message};
-pub use link_term::{Mode, OpenError, RoundLimits, Terminal};
+pub use link_term::{Measure, Measures, Mode, OpenError, RoundLimits, Terminal, all_measures};
 pub use orders::command_of;
 pub use script_book::{
     FAILED, HELD, MISSED, Player, Printer, open_player, play_book, refuse, refused_line,

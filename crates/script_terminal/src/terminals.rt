@@ -143,6 +143,9 @@ fn is_told(said: &TermSaid<'_>) -> bool
         | TermCommand::Tick(_)
         | TermCommand::Accepted
         | TermCommand::Retrieve(_)
+        | TermCommand::Measure(_)
+        | TermCommand::Aborted
+        | TermCommand::Reset
         | TermCommand::State(_)
         | TermCommand::Value(_, _)
         | TermCommand::Expect(_) => false,

@@ -4,8 +4,9 @@ use crate::calls::{Stopped, pass, serves, speak, tell};
 use crate::far_end::{FarEnd, fill_in, status};
 use crate::keeping::{Given, Went, divert, give_up, hand_out};
 use crate::messages::{Way, message, place_of};
+use arrayvec::ArrayVec;
 use group_changeover::label_of;
-use link_group::{Command, Group, LineError, Retrievals};
+use link_group::{Command, Group, LineError, Msu, Retrievals};
 use std::alloc::AllocError;
 use su_octets::Unit;
 
@@ -180,6 +181,48 @@ fn write_sif(text: &mut String, sif: &[u8]) -> Result<(), AllocError> {
     text.push_str("\n")
 }
 
+/// The message of a field of changeover.
+fn order_of(sif: &[u8]) -> Msu {
+    let mut field = ArrayVec::new();
+    let _fits = field.try_extend_from_slice(sif).is_ok();
+    Msu {
+        sio: 0x80,
+        sif: field,
+    }
+}
+
+/// Gives a set a message of changeover without a link, and writes why it isn't taken.
+fn give_bound(text: &mut String, group: &mut Group, sif: &[u8]) -> Result<(), AllocError> {
+    let msu = order_of(sif);
+    let Some(label) = label_of(&msu) else {
+        return Ok(());
+    };
+    match group.send(label, msu) {
+        Ok(()) => text.push_str("taken\n"),
+        Err(error) => writeln!(text, "send: {error}"),
+    }
+}
+
+/// Gives a link a message of changeover, and writes whether it is taken.
+fn bind(text: &mut String, group: &mut Group, link: usize, sif: &[u8]) -> Result<(), AllocError> {
+    let msu = order_of(sif);
+    if !group.is_bound(&msu) {
+        return text.push_str("not bound\n");
+    }
+    match group.send_by(link, msu) {
+        Ok(()) => writeln!(text, "bound to link {link}"),
+        Err(error) => writeln!(text, "send_by: {error}"),
+    }
+}
+
+/// The order for the first link goes by the second.
+fn order(text: &mut String, group: &mut Group, sif: &[u8]) -> Result<(), AllocError> {
+    write_sif(text, sif)?;
+    give_bound(text, group, sif)?;
+    bind(text, group, 0, sif)?;
+    bind(text, group, 1, sif)
+}
+
 /// Writes whether messages were handed out.
 fn write_given(text: &mut String, given: Given) -> Result<(), AllocError> {
     match given {
@@ -212,7 +255,7 @@ pub fn change_over(
     retrievals: &mut Retrievals,
 ) -> Result<(), Stopped> {
     match group.fail(0) {
-        Ok(sif) => write_sif(text, sif.as_slice())?,
+        Ok(sif) => order(text, group, sif.as_slice())?,
         Err(error) => writeln!(text, "fail: {error}")?,
     }
     give(text, group, 0, 132)?;
@@ -230,7 +273,7 @@ pub fn change_over(
     Ok(())
 }
 
-/// The second link fails too, with three messages sent, and it isn't known there which came.
+/// The second link fails too, with the order and two messages sent, and it isn't known there which came.
 pub fn give_them_up(
     text: &mut String,
     group: &mut Group,

@@ -3,7 +3,7 @@ use Rattle.std.proofs.Common.{◌≡◌, ℕ, Option, Some, None, refl, sym, ap,
 use Rattle.std.specs.Prelude.{IsSome, Ok, Err, option_map, slice_get}
 use Rattle.std.proofs.lemmas.Bool.{false≢true}
 use Rattle.std.proofs.lemmas.Option.{none-some}
-use Rattle.turn_machine.specs.Rooms.{Lying, Begun}
+use Rattle.turn_machine.specs.Rooms.{Lying}
 use Rattle.turn_machine.specs.Turn.{Turn}
 use Rattle.actor_machine.specs.declared.name.ActorName.{ActorName}
 use Rattle.actor_machine.specs.Core.{names_in}
@@ -41,7 +41,7 @@ begun_named link b r (moved.Begun (Ok x)) = λ ok n t lies out. subst (λ (l : L
 begun_named link b r (moved.Begun (Err x)) = λ ok. absurd (false≢true ok)
 begun_named link b r (moved.Skipped answer) = tt
 begun_named link b r (moved.Finished answer) = tt
-begun_named link b r (moved.Turned answer) = tt
+begun_named link b r (moved.Turned turns) = tt
 
 -- ---- a step
 
@@ -50,7 +50,7 @@ step_named b c r l (move.Begin n) (moved.Begun (Ok x)) name moves begun = λ ok.
 step_named b c r l (move.Begin n) (moved.Begun (Err x)) name moves begun = λ ok. absurd (false≢true ok)
 step_named b c r l (move.Skip n) (moved.Begun answer) name moves begun = absurd moves
 step_named b c r l move.Finish (moved.Begun answer) name moves begun = absurd moves
-step_named b c r l (move.Turn n) (moved.Begun answer) name moves begun = absurd moves
+step_named b c r l (move.Turns most) (moved.Begun answer) name moves begun = absurd moves
 step_named b c r l s (moved.Skipped answer) name moves begun = tt
 step_named b c r l s (moved.Finished answer) name moves begun = tt
-step_named b c r l s (moved.Turned answer) name moves begun = tt
+step_named b c r l s (moved.Turned turns) name moves begun = tt

@@ -7,14 +7,14 @@ use Rattle.actor_machine.specs.Refusals.{refuses}
 use Rattle.turn_pool.specs.Turns.{move_of}
 
 -- an actor that isn't there does nothing
-past : (looked : Bool) (b : Ledger) (n : ℕ) → length (state_of b).actors ≤ n → move_of looked b n ≡ None
+past : (b : Ledger) (n : ℕ) → length (state_of b).actors ≤ n → move_of b n ≡ None
 unfolding refuses
-past looked b n many = rw (slice_get_past (state_of b).actors n many) refl
+past b n many = rw (slice_get_past (state_of b).actors n many) refl
 
-at : (looked : Bool) (b : Ledger) (m n : ℕ) (t : Bool) → nat_lt n m ≡ t → ((k : ℕ) → k < m → move_of looked b k ≡ None) → length (state_of b).actors ≤ m → move_of looked b n ≡ None
-at looked b m n true is first few = first n (ltb-true n m is)
-at looked b m n false is first few = let from : m ≤ n = ltb-false n m is in past looked b n (omega (arith, few, from))
+at : (b : Ledger) (m n : ℕ) (t : Bool) → nat_lt n m ≡ t → ((k : ℕ) → k < m → move_of b k ≡ None) → length (state_of b).actors ≤ m → move_of b n ≡ None
+at b m n true is first few = first n (ltb-true n m is)
+at b m n false is first few = let from : m ≤ n = ltb-false n m is in past b n (omega (arith, few, from))
 
 -- where none of the first m can do anything, and there are no more, no actor can
-pub all_of : (looked : Bool) (b : Ledger) (m : ℕ) → ((n : ℕ) → n < m → move_of looked b n ≡ None) → length (state_of b).actors ≤ m → (n : ℕ) → move_of looked b n ≡ None
-all_of looked b m first few n = at looked b m n (nat_lt n m) refl first few
+pub all_of : (b : Ledger) (m : ℕ) → ((n : ℕ) → n < m → move_of b n ≡ None) → length (state_of b).actors ≤ m → (n : ℕ) → move_of b n ≡ None
+all_of b m first few n = at b m n (nat_lt n m) refl first few

@@ -3,7 +3,6 @@ use Rattle.std.specs.Prelude.{◌≡◌, ◌↔◌, ℕ, Result, Ok, Err, IsOk}
 use Rattle.turn_code.specs.declared.draft.Trigger.{Trigger}
 use Rattle.turn_machine.specs.Rooms.{Lying, Free}
 use Rattle.actor_machine.specs.Ledger.{Ledger, ask}
-use Rattle.actor_machine.specs.Step.{Says}
 use Rattle.actor_machine.specs.declared.event.Event.TheVariants.{Begin, Skip}
 use Rattle.actor_machine.specs.declared.reply.Refusal.{Refusal}
 use Rattle.actor_machine.specs.declared.reply.Refusal.TheVariants.{Stranger}
@@ -11,7 +10,7 @@ use Rattle.actor_machine.specs.declared.reply.Report.{Report}
 use Rattle.actor_machine.specs.declared.reply.Reply.TheVariants as reply
 use Rattle.actor_book.specs.Answered.{answer_by}
 use Rattle.actor_book.specs.Roomed.{BeginsThere, BeginsNone, IsOutThere, EndsThere}
-use Rattle.actor_book.specs.Whole.{HasTurned, turned}
+use Rattle.actor_book.specs.Turns.{rests}
 use Rattle.actor_book.specs.declared.rooms.RoomRefusal.{RoomRefusal}
 use Rattle.turn_pool.specs.declared.moves.Move.{Move}
 use Rattle.turn_pool.specs.declared.moves.Move.TheVariants as move
@@ -53,37 +52,27 @@ pub record FinishesIn (b : Ledger) (r : Lying) (answer : Result Report Refusal) 
   pub taken : IsOk answer ↔ IsOutThere b r
   pub ends : EndsIn b r answer c s
 
--- an actor has a whole turn: the book and the report are those of a beginning and then of an end by
--- the set's own code, within the budget of the turn's certificate
-pub record EndsWhole (b : Ledger) (actor : ℕ) (report : Report) (c : Ledger) : Type 0 where
-  pub book : c ≡ (turned b actor).book
-  pub answers : (turned b actor).answer ≡ Says (reply.Finished report)
-  pub took : HasTurned b actor report.count
-
--- it is refused as a beginning is, and then nothing changes
-pub record BeginsNot (b : Ledger) (actor : ℕ) (refusal : Refusal) (c : Ledger) : Type 0 where
-  pub same : c ≡ b
-  pub answers : (ask b (Begin actor)).answer ≡ Says (reply.Refused refusal)
-
-abbrev pub WholeTurn : Ledger → ℕ → Result Report Refusal → Ledger → Type 0
-WholeTurn b actor (Ok report) c = EndsWhole b actor report c
-WholeTurn b actor (Err refusal) c = BeginsNot b actor refusal c
+-- actors have whole turns or throw items away, one after another, at most so many: those of a rest,
+-- each the least actor's that can, and fewer only where a rest ends early
+pub record HasTurns (b : Ledger) (most n : ℕ) (c : Ledger) : Type 0 where
+  pub turns : n ≡ (rests most b).turns
+  pub book : c ≡ (rests most b).book
 
 -- one step of a worker on a book with its room, and what it gives
 abbrev pub Moves : Ledger → Lying → Move → Moved → Ledger → Lying → Type 0
 Moves b r (move.Begin actor) (moved.Begun answer) c s = BeginsIn b r actor answer c s
 Moves b r (move.Begin actor) (moved.Skipped answer) c s = ⊥
 Moves b r (move.Begin actor) (moved.Finished answer) c s = ⊥
-Moves b r (move.Begin actor) (moved.Turned answer) c s = ⊥
+Moves b r (move.Begin actor) (moved.Turned turns) c s = ⊥
 Moves b r (move.Skip actor) (moved.Begun answer) c s = ⊥
 Moves b r (move.Skip actor) (moved.Skipped answer) c s = Skips b actor answer c × (s ≡ r)
 Moves b r (move.Skip actor) (moved.Finished answer) c s = ⊥
-Moves b r (move.Skip actor) (moved.Turned answer) c s = ⊥
+Moves b r (move.Skip actor) (moved.Turned turns) c s = ⊥
 Moves b r move.Finish (moved.Begun answer) c s = ⊥
 Moves b r move.Finish (moved.Skipped answer) c s = ⊥
 Moves b r move.Finish (moved.Finished answer) c s = FinishesIn b r answer c s
-Moves b r move.Finish (moved.Turned answer) c s = ⊥
-Moves b r (move.Turn actor) (moved.Begun answer) c s = ⊥
-Moves b r (move.Turn actor) (moved.Skipped answer) c s = ⊥
-Moves b r (move.Turn actor) (moved.Finished answer) c s = ⊥
-Moves b r (move.Turn actor) (moved.Turned answer) c s = WholeTurn b actor answer c × (s ≡ r)
+Moves b r move.Finish (moved.Turned turns) c s = ⊥
+Moves b r (move.Turns most) (moved.Begun answer) c s = ⊥
+Moves b r (move.Turns most) (moved.Skipped answer) c s = ⊥
+Moves b r (move.Turns most) (moved.Finished answer) c s = ⊥
+Moves b r (move.Turns most) (moved.Turned turns) c s = HasTurns b most turns c × (s ≡ r)

@@ -1,8 +1,9 @@
 -- What a worker's steps count, and how a turn that it began ends.
-use Rattle.std.specs.Prelude.{◌≡◌, ◌<◌, ◌≤◌, ◌+◌, ℕ, Bool, true, false, Result, Ok, Err}
-use Rattle.turn_machine.specs.Rooms.{Lying, ran}
+use Rattle.std.specs.Prelude.{◌≡◌, ◌≤◌, ◌+◌, ◌*◌, ℕ, Result, Ok, Err}
+use Rattle.turn_machine.specs.Rooms.{Lying}
 use Rattle.actor_machine.specs.Ledger.{Ledger}
 use Rattle.turn_pool.specs.Moves.{Moves}
+use Rattle.turn_pool.specs.declared.moves.Move.{Move}
 use Rattle.turn_pool.specs.declared.moves.Move.TheVariants as move
 use Rattle.turn_pool.specs.declared.moves.Moved.{Moved}
 use Rattle.turn_pool.specs.declared.moves.Moved.TheVariants as moved
@@ -12,28 +13,31 @@ abbrev pub made : {A E : Type 0} → Result A E → ℕ → ℕ
 made (Ok x) n = n
 made (Err x) n = 0
 
--- how many events a step adds to a journal
-abbrev pub events_of : Moved → ℕ
-events_of (moved.Begun answer) = made answer 1
-events_of (moved.Skipped answer) = made answer 1
-events_of (moved.Finished answer) = made answer 1
-events_of (moved.Turned answer) = made answer 2
+-- what so many turns and skips count, each one event or two
+abbrev pub HasCounted : ℕ → ℕ → ℕ → Type 0
+HasCounted steps before after = (before + steps ≤ after) × (after ≤ before + 2 * steps)
 
-abbrev pub is_accepted : {A E : Type 0} → Result A E → Bool
-is_accepted (Ok x) = true
-is_accepted (Err x) = false
+-- what a step counts
+abbrev pub Counts : Moved → ℕ → ℕ → Type 0
+Counts (moved.Begun answer) before after = after ≡ before + made answer 1
+Counts (moved.Skipped answer) before after = after ≡ before + made answer 1
+Counts (moved.Finished answer) before after = after ≡ before + made answer 1
+Counts (moved.Turned turns) before after = HasCounted turns before after
 
--- whether a step was taken: it began a turn, had a whole one, threw an item away, or ended one
-abbrev pub is_step : Moved → Bool
-is_step (moved.Begun answer) = is_accepted answer
-is_step (moved.Skipped answer) = is_accepted answer
-is_step (moved.Finished answer) = is_accepted answer
-is_step (moved.Turned answer) = is_accepted answer
+-- how many turns and skips there were: it began a turn, threw an item away, ended a turn, or had so
+-- many whole ones
+abbrev pub steps_of : Moved → ℕ
+steps_of (moved.Begun answer) = made answer 1
+steps_of (moved.Skipped answer) = made answer 1
+steps_of (moved.Finished answer) = made answer 1
+steps_of (moved.Turned turns) = turns
 
--- what was counted where a step was taken, one event or two, and where none was
-abbrev pub HasCounted : Bool → ℕ → ℕ → Type 0
-HasCounted true before after = (before < after) × (after ≤ before + 2)
-HasCounted false before after = after ≡ before
+-- how many there can be at most
+abbrev pub most_of : Move → ℕ
+most_of (move.Begin n) = 1
+most_of (move.Skip n) = 1
+most_of move.Finish = 1
+most_of (move.Turns most) = most
 
 -- what was counted by the end of a turn that a step began, if it began one
 abbrev pub CountsEnd : Moved → ℕ → ℕ → Type 0
@@ -41,7 +45,7 @@ CountsEnd (moved.Begun (Ok x)) before after = (before ≤ after) × (after ≤ b
 CountsEnd (moved.Begun (Err x)) before after = after ≡ before
 CountsEnd (moved.Skipped answer) before after = after ≡ before
 CountsEnd (moved.Finished answer) before after = after ≡ before
-CountsEnd (moved.Turned answer) before after = after ≡ before
+CountsEnd (moved.Turned turns) before after = after ≡ before
 
 -- what lay in the room was handed to some book, which took it or not
 pub record IsHanded (r : Lying) (answer : Moved) (s : Lying) : Type 0 where

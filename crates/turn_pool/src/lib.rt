@@ -5,6 +5,7 @@
 mod closed;
 mod fault;
 mod gate;
+mod hand;
 mod links;
 mod moves;
 mod pool;
@@ -14,6 +15,7 @@ mod seats;
 mod serving;
 mod shift;
 mod slot;
+mod steps;
 mod totals;
 mod worker;
 

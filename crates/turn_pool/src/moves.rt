@@ -3,7 +3,7 @@
 ghost use Rattle.std.specs.Prelude.{◌≡◌, ◌+◌};
 ghost use Rattle.actor_machine.specs.Ledger.{next};
 ghost use Rattle.turn_pool.specs.Moves.{Moves};
-ghost use Rattle.turn_pool.specs.Steps.{events_of};
+ghost use Rattle.turn_pool.specs.Steps.{Counts};
 
 use crate::slot::Slot;
 use crate::totals::{Seat, Totals};
@@ -21,8 +21,9 @@ pub enum Move {
     Skip(u16),
     /// An actor ends the turn that it has out, which ran in the worker's room.
     Finish,
-    /// An actor has a whole turn, from its beginning to its end.
-    Turn(u16),
+    /// Actors have whole turns, each from its beginning to its end, or throw items away, one after another, at most so many: each the
+    /// least that can.
+    Turns(usize),
 }
 
 /// What the book answered.
@@ -34,8 +35,8 @@ pub enum Moved {
     Skipped(Result<Trigger, Refusal>),
     /// How the turn ended.
     Finished(Result<Report, Refusal>),
-    /// How the whole turn ended.
-    Turned(Result<Report, Refusal>),
+    /// How many whole turns and skips there were.
+    Turned(usize),
 }
 
 /// One step of a worker on a link that it is lent, with the account and its room. Each event of the journal is counted on the
@@ -50,12 +51,12 @@ pub fn work<L: Ledger>(
     ensures moves { Moves slot.old.book room.old step result slot.new.book room.new }
     ensures link { slot.new.number ≡ slot.old.number }
     ensures seat { seat.new + next slot.old.book ≡ seat.old + next slot.new.book }
-    ensures counted { seat.new ≡ seat.old + events_of result }
+    ensures counted { Counts result seat.old seat.new }
 {
     match step {
         Move::Begin(actor) => Moved::Begun(slot.begin(seat, totals, room, actor)),
         Move::Skip(actor) => Moved::Skipped(slot.skip(seat, totals, actor)),
         Move::Finish => Moved::Finished(slot.finish(seat, totals, room)),
-        Move::Turn(actor) => Moved::Turned(slot.turn(seat, totals, actor)),
+        Move::Turns(most) => Moved::Turned(slot.turns(seat, totals, most)),
     }
 }

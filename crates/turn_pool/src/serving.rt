@@ -1,6 +1,6 @@
 //! Serving: threads work on the books of links while a client uses them.
 
-ghost use Rattle.std.specs.Prelude.{◌≡◌, ◌+◌, All, Err, IsOk, IfOk, IfErr, sum, sum_by, vec_len};
+ghost use Rattle.std.specs.Prelude.{◌≡◌, ◌≤◌, ◌<◌, ◌+◌, ◌*◌, ◌^◌, [], All, Err, IsOk, IfOk, IfErr, sum, sum_by, vec_len, vec_capacity};
 ghost use Rattle.actor_machine.specs.Ledger.{next};
 ghost use Rattle.turn_pool.specs.Serves.{AreServed, CountsFinishes, HandsBack};
 ghost use Rattle.turn_pool.specs.declared.fault.PoolFault.TheVariants.{NoWorkers};
@@ -12,17 +12,65 @@ use crate::links::{put_all_away, take_all_out};
 use crate::pool::Pool;
 use crate::room::Room;
 use crate::shift::{Ended, Shift, drive};
+use crate::slot::Slot;
 use crate::totals::Totals;
 use actor_book::Book;
 use std::alloc::Global;
 use std::marker::Brand;
-use std::sync::Wait;
 use std::sync::atomic::AtomicBool;
-use std::sync::ledger::{Blank, Ledger};
+use std::sync::ledger::{Blank, Ledger, Share};
+use std::sync::{Mutex, Wait};
 use std::thread::Threads;
 
 /// The most links, and the most workers, that a pool has.
 const MOST: usize = 16;
+
+/// Puts books under locks, each with its share of a new account: the pool, and the rest of the account.
+fn put_under_locks<'r, R: Wait, L: Ledger>(
+    rt: &'r R,
+    blank: Blank,
+    links: Vec<Book>,
+    slots: Vec<Mutex<Slot<L>>>,
+) -> (Pool<'r, R, L>, Share<L>)
+    requires name { blank.name ≡ L.name }
+    requires parts { blank.parts ≡ L.parts }
+    requires many { vec_len links < blank.parts }
+    requires few { vec_len links ≤ 16 }
+    requires empty { vec_len slots ≡ 0 }
+    requires room { vec_len links ≤ vec_capacity slots }
+    ensures len { vec_len result.0.links ≡ vec_len links }
+    ensures all { result.0.totals.total.parts ≡ blank.parts }
+    ensures parts { result.1.parts + vec_len links ≡ blank.parts }
+    ensures amount { result.1.amount + vec_len links * 2 ^ 57 ≡ 2 ^ 61 + sum_by next links.items }
+{
+    let (totals, mut rest) = Totals::<L>::open(blank);
+    let pool = Pool {
+        rt,
+        links: put_all_away(links, slots, &mut rest),
+        totals,
+        closing: AtomicBool::new(false),
+    };
+    (pool, rest)
+}
+
+/// Takes the books of a pool out from under their locks, as all other parts of the account have come back.
+fn take_apart<R: Wait, L: Ledger>(
+    pool: Pool<'_, R, L>,
+    books: Vec<Book>,
+    mut rest: Share<L>,
+) -> Vec<Book>
+    requires empty { books.items ≡ [] }
+    requires room { vec_len pool.links ≤ vec_capacity books }
+    requires parts { rest.parts + vec_len pool.links ≡ pool.totals.total.parts }
+    ensures len { vec_len result ≡ vec_len pool.entry.links }
+    ensures amount { 2 ^ 61 + sum_by next result.items ≡ rest.amount + vec_len pool.entry.links * 2 ^ 57 }
+    ensures finishes { All CountsFinishes result.items }
+{
+    let Pool { links, totals, .. } = pool;
+    let books = take_all_out(links, books, &mut rest);
+    totals.audit(&mut rest);
+    books
+}
 
 /// Serves under an account of its own, of which each link, each worker, the client and this function have a part.
 fn serve_by<R: Threads + Wait + Sync, L: Ledger + Send + Sync, G: Gate + Sync, C: Client>(
@@ -53,26 +101,18 @@ fn serve_by<R: Threads + Wait + Sync, L: Ledger + Send + Sync, G: Gate + Sync, C
         handles,
         workers: counts,
     } = room;
-    let (totals, mut rest) = Totals::<L>::open(blank);
-    let pool = Pool {
-        rt,
-        links: put_all_away(links, slots, &mut rest),
-        totals,
-        closing: AtomicBool::new(false),
-    };
+    let (pool, rest) = put_under_locks::<R, L>(rt, blank, links, slots);
     let shift = Shift {
         rest,
         handles,
         workers: counts,
     };
     let Ended {
-        mut rest,
+        rest,
         workers,
         client,
     } = drive(&pool, gate, client, workers, shift);
-    let Pool { links, totals, .. } = pool;
-    let books = take_all_out(links, books, &mut rest);
-    totals.audit(&mut rest);
+    let books = take_apart(pool, books, rest);
     match client {
         Some(client) => Ok(Closed {
             books,

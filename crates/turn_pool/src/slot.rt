@@ -7,12 +7,13 @@ ghost use Rattle.actor_machine.specs.declared.event.Event.{Event as PlainEvent};
 ghost use Rattle.actor_machine.specs.declared.event.Event.TheVariants.{Offer as Offered, Advance, TakeEnv};
 ghost use Rattle.actor_machine.specs.declared.reply.Reply.TheVariants as reply;
 ghost use Rattle.actor_book.specs.Answered.{answer_by};
-ghost use Rattle.turn_pool.specs.Moves.{BeginsIn, Skips, FinishesIn, WholeTurn};
-ghost use Rattle.turn_pool.specs.Steps.{made};
+ghost use Rattle.actor_book.specs.Turns.{rests};
+ghost use Rattle.turn_pool.specs.Moves.{BeginsIn, Skips, FinishesIn, HasTurns};
+ghost use Rattle.turn_pool.specs.Steps.{HasCounted, made};
 
 use crate::receipt::Receipt;
 use crate::totals::{Seat, Totals};
-use actor_book::{Book, Emitted, Event, Refusal, Report, RoomRefusal};
+use actor_book::{Book, Emitted, Event, Refusal, Report, RoomRefusal, Turn, one_turn};
 use actor_machine::laws::place_law;
 use std::alloc::AllocError;
 use std::marker::Model;
@@ -52,6 +53,21 @@ fn newest(book: &Book) -> Option<Event>
         Some(event) => Some(event.copy()),
         None => None,
     }
+}
+
+/// Actors of a book have turns or throw items away, one after another, at most so many, each the least that can. How many there were.
+fn turns_of(book: &mut Book, most: usize) -> usize
+    ensures turns { result ≡ (rests most book.old).turns }
+    ensures book { book.new ≡ (rests most book.old).book }
+{
+    for turns in 0..most {
+        match one_turn(book) {
+            Turn::Made => {}
+            Turn::Blocked => return turns,
+            Turn::Idle => return turns,
+        }
+    }
+    most
 }
 
 impl<L: Ledger> Slot<L> {
@@ -248,21 +264,18 @@ impl<L: Ledger> Slot<L> {
         Ok(report)
     }
 
-    /// A worker has a whole turn of an actor. Both its events are counted.
-    pub(crate) fn turn(
-        &mut self,
-        seat: &mut Seat<L>,
-        totals: &Totals<L>,
-        actor: u16,
-    ) -> Result<Report, Refusal>
-        ensures turns { WholeTurn self.old.book actor result self.new.book }
+    /// A worker has whole turns of actors, or throws their items away, one after another, at most so many, each of the least actor that can.
+    /// All their events are counted. How many turns and skips there were.
+    pub(crate) fn turns(&mut self, seat: &mut Seat<L>, totals: &Totals<L>, most: usize) -> usize
+        ensures turns { HasTurns self.old.book most result self.new.book }
         ensures link { self.new.number ≡ self.old.number }
         ensures seat { seat.new + next self.old.book ≡ seat.old + next self.new.book }
-        ensures counted { seat.new ≡ seat.old + made result 2 }
+        ensures counted { HasCounted result seat.old seat.new }
     {
-        let report = self.book.turn(actor)?;
-        let _place = self.book.next();
-        totals.count(&mut self.share, seat, 2);
-        Ok(report)
+        let before = self.book.next();
+        let turns = turns_of(&mut self.book, most);
+        let after = self.book.next();
+        totals.count(&mut self.share, seat, after - before);
+        turns
     }
 }

@@ -6,5 +6,5 @@ use Rattle.group_members.proofs.new.all_fresh.Given as goal
 abbrev pub invariant-loop-terminal : goal.invariant-loop-terminal
 invariant-loop-terminal l =
     let left = l.terminal-iterator in
-    (l.links.items ++ map fresh (into_iter_items left) ≡ map fresh l.fn.terminals.items)
+    (l.links.items ++ map (fresh l.points) (into_iter_items left) ≡ map (fresh l.points) l.fn.terminals.items)
     × (vec_len l.links + into_iter_len left ≤ vec_capacity l.links)

@@ -7,4 +7,4 @@ pub returns-then-is_on : goal.returns-then-is_on
 returns-then-is_on c = held_here c.args.selection c.args.link.now c.loop-place.place c.is_on.result (search rules) c.is_on.ensures
 
 pub loop-place-preserved : goal.loop-place-preserved
-loop-place-preserved c = held_none c.args.selection (held c.args.link.now) c.loop-place.place c.is_on.result (search rules) c.is_on.ensures c.loop-place.invariant
+loop-place-preserved c = held_none c.args.link.now.points c.args.selection (held c.args.link.now) c.loop-place.place c.is_on.result (search rules) c.is_on.ensures c.loop-place.invariant

@@ -12,5 +12,5 @@ returns-in-Errored-clause-taken c v left taken =
 
 pub returns-in-SixteenOctets-clause-taken : goal.returns-in-SixteenOctets-clause-taken
 returns-in-SixteenOctets-clause-taken c v left taken =
-    taken_sixteen c.args.event.now left c.args.processes.now c.take_error-in-SixteenOctets.new.self v c.in-SixteenOctets.is
-    c.take_error-in-SixteenOctets.ensures.processes taken
+    taken_sixteen c.args.event.now left c.args.processes.now c.take_sixteen.new.self v c.in-SixteenOctets.is
+    c.take_sixteen.ensures.processes taken

@@ -17,6 +17,7 @@ words c = record {
   capture = c.get_str-8.result;
   trace = c.get_str-9.result;
   every = c.is_given.result;
+  measures = c.get_str-11.result;
 }
 
 under_ids : (c : goal.After-line_end) → AreUnderIds (given_by c.args.given.now) (words c)
@@ -31,6 +32,7 @@ under_ids c = record {
   capture = sym c.get_str-8.ensures;
   trace = sym c.get_str-9.ensures;
   every = ap says_true (sym c.get_str-10.ensures) ∙ sym c.is_given.ensures;
+  measures = sym c.get_str-11.ensures;
 }
 
 pub returns-clause-some : goal.returns-clause-some

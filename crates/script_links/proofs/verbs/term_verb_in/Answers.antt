@@ -32,6 +32,10 @@ pub returns-in-retrieve : goal.returns-in-retrieve
 unfolding term_verb_of
 returns-in-retrieve c = rw c.in-retrieve.is refl
 
+pub returns-in-measure : goal.returns-in-measure
+unfolding term_verb_of
+returns-in-measure c = rw c.in-measure.is refl
+
 -- a word that is none of these
 no_verb : (word : List ℕ)
     → word ≢ codes "command"
@@ -41,9 +45,10 @@ no_verb : (word : List ℕ)
     → word ≢ codes "out"
     → word ≢ codes "errors"
     → word ≢ codes "retrieve"
+    → word ≢ codes "measure"
     → None ≡ term_verb_of word
 unfolding term_verb_of
-no_verb word n_command n_unit n_line n_msu n_out n_errors n_retrieve =
+no_verb word n_command n_unit n_line n_msu n_out n_errors n_retrieve n_measure =
     rw (
       bytes_ne word (codes "command") n_command,
       bytes_ne word (codes "unit") n_unit,
@@ -52,8 +57,9 @@ no_verb word n_command n_unit n_line n_msu n_out n_errors n_retrieve =
       bytes_ne word (codes "out") n_out,
       bytes_ne word (codes "errors") n_errors,
       bytes_ne word (codes "retrieve") n_retrieve,
+      bytes_ne word (codes "measure") n_measure,
     ) refl
 
 pub returns-in_default : goal.returns-in_default
 returns-in_default c = no_verb c.args.word.now c.in_default.not-command c.in_default.not-unit c.in_default.not-line c.in_default.not-msu c.in_default.not-out c.in_default.not-errors
-    c.in_default.not-retrieve
+    c.in_default.not-retrieve c.in_default.not-measure

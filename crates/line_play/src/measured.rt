@@ -1,0 +1,51 @@
+//! What a terminal has measured, as lines.
+ghost use Rattle.std.specs.Prelude.{◌≡◌, IfOk, map, string_bytes};
+ghost use Rattle.line_play.specs.Measured.{measured_line, aborted_line, measured_lines};
+
+use script_terminal::{Measure, Measures, Terminal, all_measures};
+use std::alloc::{AllocError, Global};
+
+/// The line of a measurement.
+fn measured_line(alloc: Global, measures: &Measures, measure: Measure) -> Result<String, AllocError>
+    ensures { IfOk result (λ line. string_bytes line ≡ measured_line measures.now measure) }
+{
+    let name = measure.word();
+    let count = measures.count(measure);
+    format!(in alloc; "{name} {count}")
+}
+
+/// The line of proving periods that were aborted.
+fn aborted_line(alloc: Global, terminal: &Terminal) -> Result<String, AllocError>
+    ensures { IfOk result (λ line. string_bytes line ≡ aborted_line terminal.now) }
+{
+    let count = terminal.aborted();
+    format!(in alloc; "aborted_periods {count}")
+}
+
+/// The lines of these measurements.
+fn lines_of(alloc: Global, measures: &Measures, all: &[Measure]) -> Result<Vec<String>, AllocError>
+    ensures { IfOk result (λ lines. map string_bytes lines.items ≡ map (measured_line measures.now) all.now) }
+{
+    let mut lines = Vec::new(alloc);
+    for measure in all {
+        let line = measured_line(alloc, measures, *measure)?;
+        lines.push(line)?;
+    }
+    Ok(lines)
+}
+
+/// All that a terminal has measured (Q.752), `NAME N` a line, in the order of the names.
+///
+/// # Errors
+///
+/// Where there is no memory.
+pub fn measured_lines(alloc: Global, terminal: &Terminal) -> Result<Vec<String>, AllocError>
+    ensures { IfOk result (λ lines. map string_bytes lines.items ≡ measured_lines terminal.now) }
+{
+    let measures = terminal.measures();
+    let all = all_measures();
+    let mut lines = lines_of(alloc, &measures, &all)?;
+    let last = aborted_line(alloc, terminal)?;
+    lines.push(last)?;
+    Ok(lines)
+}

@@ -1,0 +1,47 @@
+//! How a worker reaches the links of its pool.
+
+ghost use Rattle.std.specs.Prelude.{◌≡◌, ◌≤◌, IfNone, vec_len};
+
+use crate::pool::Pool;
+use crate::slot::Slot;
+use std::marker::PhantomData;
+use std::sync::ledger::Ledger;
+use std::sync::{MutexGuard, Wait};
+
+/// A worker's hand. By it alone it locks links, and while it holds a lock its hand isn't open.
+#[derive(Drop)]
+pub(crate) struct Hand<'p, 'r, R: Wait, L: Ledger> {
+    pool: &'p Pool<'r, R, L>,
+}
+
+/// That a worker holds no lock, for as long as this lives.
+#[derive(Drop)]
+pub(crate) struct Open<'a> {
+    marker: PhantomData<&'a ()>,
+}
+
+impl<'p, 'r, R: Wait, L: Ledger> Hand<'p, 'r, R, L> {
+    /// The hand of a worker that holds no lock yet.
+    pub(crate) fn new(pool: &'p Pool<'r, R, L>) -> Hand<'p, 'r, R, L>
+        ensures { result.pool.now ≡ pool.now }
+    {
+        Hand { pool }
+    }
+
+    /// Locks a link, if there is such a one: the hand is in use until the lock is given back.
+    pub(crate) fn lock(&mut self, link: usize) -> Option<MutexGuard<'_, Slot<L>>>
+        ensures { IfNone result (vec_len self.old.pool.now.links ≤ link) }
+    {
+        match self.pool.links.get(link) {
+            Some(held) => Some(held.lock(self.pool.rt)),
+            None => None,
+        }
+    }
+
+    /// The hand holds no lock, since it can be looked at, and takes none while this lives.
+    pub(crate) fn open(&self) -> Open<'_> {
+        Open {
+            marker: PhantomData,
+        }
+    }
+}

@@ -1,0 +1,308 @@
+//! What a worker does on one link.
+
+ghost use Rattle.std.specs.Prelude.{◌≡◌, ◌≤◌, ◌+◌, true, IfSome, IfNone, vec_len};
+ghost use Rattle.turn_machine.specs.Rooms.{HasRun, IsToRun, ran};
+ghost use Rattle.turn_pool.specs.Moves.{Moves};
+ghost use Rattle.turn_pool.specs.declared.moves.Move.TheVariants.{Finish};
+ghost use Rattle.turn_pool.specs.Steps.{most_of, steps_of, Counts, HasCounted, CountsEnd, IsHanded};
+ghost use Rattle.turn_pool.specs.Turns.{move_by, IsStepBy, IsAnswerBy, IsNext, IsChosen, told_of, told_there, told, NamesBegun, IsNamed, NoneToRun, LeavesToRun};
+
+use crate::gate::{Gate, JobName};
+use crate::hand::{Hand, Open};
+use crate::moves::{Move, Moved, work};
+use crate::slot::Slot;
+use crate::totals::{Seat, Totals};
+use actor_book::{Book, Refusal};
+use std::sync::Wait;
+use std::sync::ledger::Ledger;
+use turn_machine::{Room, Work};
+
+/// What an actor does, where a gate looks, whose turn is refused for this reason, or for none.
+fn move_at(actor: u16, refusal: Option<Refusal>) -> Option<Move>
+    ensures value { result ≡ move_by actor refusal }
+    ensures way { IfSome result (IsStepBy true) }
+    ensures few { IfSome result (λ step. most_of step ≤ 1) }
+{
+    match refusal {
+        None => Some(Move::Begin(actor)),
+        Some(Refusal::SkipFirst) => Some(Move::Skip(actor)),
+        Some(_) => None,
+    }
+}
+
+/// What the least actor of a link that can do something does, where a gate looks; nothing on a link whose journal is full.
+fn next_step(book: &Book) -> Option<Move>
+    ensures next { IsNext book.now result }
+    ensures way { IfSome result (IsStepBy true) }
+    ensures few { IfSome result (λ step. most_of step ≤ 1) }
+{
+    if book.room() == 0 {
+        return None;
+    }
+    let set = book.set();
+    let link = book.state();
+    let there = link.actors();
+    let count = there.len();
+    for actor in 0..count as u16 {
+        match move_at(actor, link.begin_refusal(set, actor)) {
+            Some(step) => return Some(step),
+            None => {}
+        }
+    }
+    None
+}
+
+/// What a worker does on a link: the next step where a gate looks, and else up to so many whole turns and skips.
+fn chosen(book: &Book, looked: bool, most: usize) -> Option<Move>
+    requires { 1 ≤ most }
+    ensures next { IsChosen looked most book.now result }
+    ensures way { IfSome result (IsStepBy looked) }
+    ensures few { IfSome result (λ step. most_of step ≤ most) }
+{
+    if looked {
+        next_step(book)
+    } else {
+        Some(Move::Turns(most))
+    }
+}
+
+/// What a gate is told of a turn: the link where it is out, what its actor is called there, and the turn's number.
+fn name_of(link: usize, book: &Book, work: &Work) -> Option<JobName>
+    ensures { result ≡ told_of link book.now work.now }
+{
+    match book.name_of(work.actor()) {
+        Some(actor) => Some(JobName {
+            link,
+            actor,
+            turn: work.turn(),
+        }),
+        None => None,
+    }
+}
+
+/// What a gate is told of the turn that lies in a room and is to run.
+fn name_there(link: usize, book: &Book, room: &Room) -> Option<JobName>
+    ensures { result ≡ told_there link book.now room.now }
+{
+    match room.begun() {
+        Some(work) => name_of(link, book, work),
+        None => None,
+    }
+}
+
+/// What a gate is told of a worker's step, where that began a turn.
+fn name_in(link: usize, book: &Book, room: &Room, moved: &Moved) -> Option<JobName>
+    ensures value { result ≡ told link book.now room.now moved.now }
+    ensures begun { NamesBegun book.now room.now moved.now result }
+{
+    told_in(link, book, room, moved)
+}
+
+/// The same, where nothing is known of the turn.
+fn told_in(link: usize, book: &Book, room: &Room, moved: &Moved) -> Option<JobName>
+    ensures { result ≡ told link book.now room.now moved.now }
+{
+    match moved {
+        Moved::Begun(begun) => match begun {
+            Ok(_) => name_there(link, book, room),
+            Err(_) => None,
+        },
+        Moved::Skipped(_) => None,
+        Moved::Finished(_) => None,
+        Moved::Turned(_) => None,
+    }
+}
+
+/// Does one step on a link that is lent: what the book answered, and what a gate is told of a turn that began.
+fn step_on<L: Ledger>(
+    slot: &mut Slot<L>,
+    seat: &mut Seat<L>,
+    totals: &Totals<L>,
+    room: &mut Room,
+    link: usize,
+    step: Move,
+) -> (Moved, Option<JobName>)
+    ensures moves { Moves slot.old.book room.old step result.0 slot.new.book room.new }
+    ensures value { result.1 ≡ told link slot.new.book room.new result.0 }
+    ensures named { IsNamed result.0 result.1 }
+    ensures counted { Counts result.0 seat.old seat.new }
+    ensures few { steps_of result.0 ≤ most_of step }
+{
+    let moved = work(slot, seat, totals, room, step);
+    let name = name_in(link, slot.book(), room, &moved);
+    (moved, name)
+}
+
+/// Does a step on a link that is lent, with a room where no turn is to run: where that began one it lies there then and is to run, else none is.
+fn step_by<L: Ledger>(
+    slot: &mut Slot<L>,
+    seat: &mut Seat<L>,
+    totals: &Totals<L>,
+    room: &mut Room,
+    link: usize,
+    looked: bool,
+    step: Move,
+) -> (Moved, Option<JobName>)
+    requires way { IsStepBy looked step }
+    requires none { NoneToRun room.old }
+    ensures way { IsAnswerBy looked result.0 }
+    ensures named { IsNamed result.0 result.1 }
+    ensures begun { LeavesToRun result.0 room.new }
+    ensures counted { Counts result.0 seat.old seat.new }
+    ensures few { steps_of result.0 ≤ most_of step }
+{
+    step_on(slot, seat, totals, room, link, step)
+}
+
+/// Does one step on a link, under its lock, if an actor there can do something: what the book answered, and what a gate is told of a turn that
+/// began. Where the gate looks turns begin, and where it doesn't there are whole ones, at most so many.
+fn step<R: Wait, L: Ledger, G: Gate>(
+    hand: &mut Hand<'_, '_, R, L>,
+    totals: &Totals<L>,
+    gate: &G,
+    seat: &mut Seat<L>,
+    room: &mut Room,
+    link: usize,
+    most: usize,
+) -> Option<(Moved, Option<JobName>)>
+    requires none { NoneToRun room.old }
+    requires some { 1 ≤ most }
+    ensures way { IfSome result (λ r. IsAnswerBy (G.looking gate.now) r.0) }
+    ensures named { IfSome result (λ r. IsNamed r.0 r.1) }
+    ensures begun { IfSome result (λ r. LeavesToRun r.0 room.new) }
+    ensures none { IfNone result (NoneToRun room.new) }
+    ensures counted { IfSome result (λ r. Counts r.0 seat.old seat.new) }
+    ensures few { IfSome result (λ r. steps_of r.0 ≤ most) }
+    ensures same { IfNone result (seat.new ≡ seat.old) }
+{
+    let looked = gate.looks();
+    let mut slot = hand.lock(link)?;
+    let step = chosen(slot.book(), looked, most)?;
+    Some(step_by(&mut slot, seat, totals, room, link, looked, step))
+}
+
+/// Hands the turn that ran in a room to a link that is lent: its end, which is accepted where the turn is out there.
+fn end_on<L: Ledger>(
+    slot: &mut Slot<L>,
+    seat: &mut Seat<L>,
+    totals: &Totals<L>,
+    room: &mut Room,
+) -> Moved
+    requires { HasRun room.old }
+    ensures moves { Moves slot.old.book room.old Finish result slot.new.book room.new }
+    ensures none { NoneToRun room.new }
+    ensures least { seat.old ≤ seat.new }
+    ensures most { seat.new ≤ seat.old + 1 }
+{
+    work(slot, seat, totals, room, Move::Finish)
+}
+
+/// Hands the turn that ran in a room to its link. What that answered, where there is such a link.
+fn end<R: Wait, L: Ledger>(
+    hand: &mut Hand<'_, '_, R, L>,
+    totals: &Totals<L>,
+    seat: &mut Seat<L>,
+    room: &mut Room,
+    link: usize,
+) -> Option<Moved>
+    requires { HasRun room.old }
+    ensures handed { IfSome result (λ answer. IsHanded room.old answer room.new) }
+    ensures nowhere { IfNone result ((room.new ≡ room.old) × (vec_len hand.old.pool.now.links ≤ link)) }
+    ensures none { NoneToRun room.new }
+    ensures least { seat.old ≤ seat.new }
+    ensures most { seat.new ≤ seat.old + 1 }
+{
+    match hand.lock(link) {
+        Some(mut slot) => Some(end_on(&mut slot, seat, totals, room)),
+        None => None,
+    }
+}
+
+/// Tells the gate of the turn that lies in a room, and runs it, while the worker holds no lock: none is in reach here either.
+fn run_open<G: Gate>(_open: &Open<'_>, gate: &G, room: &mut Room, name: JobName)
+    requires { IsToRun room.old }
+    ensures ran { room.new ≡ ran room.old }
+    ensures has { HasRun room.new }
+{
+    gate.enter(name);
+    room.run();
+}
+
+/// Runs the turn that lies in a room with no lock held, and hands it to its link. What that answered, where there is such a link.
+fn run_there<R: Wait, L: Ledger, G: Gate>(
+    hand: &mut Hand<'_, '_, R, L>,
+    totals: &Totals<L>,
+    gate: &G,
+    seat: &mut Seat<L>,
+    room: &mut Room,
+    name: JobName,
+) -> Option<Moved>
+    requires { IsToRun room.old }
+    ensures handed { IfSome result (λ answer. IsHanded (ran room.old) answer room.new) }
+    ensures nowhere { IfNone result ((room.new ≡ ran room.old) × (vec_len hand.old.pool.now.links ≤ name.link)) }
+    ensures none { NoneToRun room.new }
+    ensures least { seat.old ≤ seat.new }
+    ensures most { seat.new ≤ seat.old + 1 }
+{
+    let open = hand.open();
+    run_open(&open, gate, room, name);
+    let ended = end(hand, totals, seat, room, name.link);
+    gate.leave(name);
+    ended
+}
+
+/// Runs the turn that a step began, where it began one. How many turns and skips the step made.
+fn follow<R: Wait, L: Ledger, G: Gate>(
+    hand: &mut Hand<'_, '_, R, L>,
+    totals: &Totals<L>,
+    gate: &G,
+    seat: &mut Seat<L>,
+    room: &mut Room,
+    moved: Moved,
+    name: Option<JobName>,
+) -> usize
+    requires named { IsNamed moved name }
+    requires begun { LeavesToRun moved room.old }
+    ensures none { NoneToRun room.new }
+    ensures value { result ≡ steps_of moved }
+    ensures counted { CountsEnd moved seat.old seat.new }
+{
+    match moved {
+        Moved::Begun(Ok(_)) => match name {
+            Some(name) => {
+                let _ended = run_there(hand, totals, gate, seat, room, name);
+                1
+            }
+            None => unreachable!(),
+        },
+        Moved::Begun(Err(_)) => 0,
+        Moved::Skipped(Ok(_)) => 1,
+        Moved::Skipped(Err(_)) => 0,
+        Moved::Finished(Ok(_)) => 1,
+        Moved::Finished(Err(_)) => 0,
+        Moved::Turned(turns) => turns,
+    }
+}
+
+/// Lets actors of a link do something, if one can: where the gate looks one of them, whose turn is run and ended if it began one, and else at
+/// most so many. How many turns and skips there were.
+pub(crate) fn turns<R: Wait, L: Ledger, G: Gate>(
+    hand: &mut Hand<'_, '_, R, L>,
+    totals: &Totals<L>,
+    gate: &G,
+    seat: &mut Seat<L>,
+    room: &mut Room,
+    link: usize,
+    most: usize,
+) -> usize
+    requires none { NoneToRun room.old }
+    requires some { 1 ≤ most }
+    ensures none { NoneToRun room.new }
+    ensures counted { HasCounted result seat.old seat.new }
+    ensures few { result ≤ most }
+{
+    match step(hand, totals, gate, seat, room, link, most) {
+        Some((moved, name)) => follow(hand, totals, gate, seat, room, moved, name),
+        None => 0,
+    }
+}
