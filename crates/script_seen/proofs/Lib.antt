@@ -5,3 +5,6 @@ mod Tellings
 mod Tracings
 mod ShownRuns
 mod TracedRuns
+mod Noticing
+mod Watchings
+mod WatchedRuns

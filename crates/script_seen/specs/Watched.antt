@@ -20,8 +20,9 @@ use Rattle.actor_machine.specs.declared.event.Event.{Event}
 use Rattle.actor_machine.specs.declared.event.Event.TheVariants as event
 use Rattle.actor_machine.specs.declared.reply.Report.{Report}
 use Rattle.script_seen.specs.Told.{outcome_by, stepped}
-use Rattle.script_seen.specs.Traced.{since, are_in_step}
+use Rattle.script_seen.specs.Traced.{since, are_in_step, IsAt}
 use Rattle.script_seen.specs.declared.turns.Ended.{Ended}
+use Rattle.script_seen.specs.declared.tracing.Tracer.{Tracer}
 
 -- a turn that ended: at which tick, whose it was, what it was, how it ran, and what came of it
 pub record TurnEnd : Type 0 where
@@ -125,9 +126,19 @@ pub record IsWatched {S : Type 0} (d : Draft) (first : Core) (B : List S → Led
   pub are : Notices d first B commands place now notices
   pub holds : P notices
 
+-- so far these commands were obeyed, and P is what a watcher is that was told what happened; a
+-- tracer stands where their book does
+pub record IsWatching {S : Type 0} (d : Draft) (first : Core) (B : List S → Ledger → Type 0)
+    (commands : List S) (P : List Notice → Type 0) (t : Tracer) : Type 0 where
+  pub place : ℕ
+  pub now : Core
+  pub notices : List Notice
+  pub are : Notices d first B commands place now notices
+  pub is_at : IsAt d place now t
+  pub holds : P notices
+
 -- so were those in front of one of these commands, an expectation that fails: M says so of it
--- behind
--- those
+-- behind those
 pub record IsWatchedInPart {S : Type 0} (d : Draft) (first : Core)
     (B : List S → Ledger → Type 0) (M : List S → S → Type 0) (commands : List S)
     (P : List Notice → Type 0) : Type 0 where

@@ -8,7 +8,7 @@ use Rattle.script_links.specs.TermScripts.{PlainTermSaid}
 use Rattle.script_group.specs.Term.{Term}
 use Rattle.script_seen.specs.Following.{Agree}
 use Rattle.script_seen.specs.TracedKinds.{BookBehind, BookMisses, TermBehind, TermMisses, book_in}
-use Rattle.script_seen.specs.Watched.{Notice, IsWatched, IsWatchedInPart}
+use Rattle.script_seen.specs.Watched.{Notice, IsWatching, IsWatched, IsWatchedInPart}
 use Rattle.script_seen.specs.declared.tracing.Tracer.{Tracer}
 
 -- these events happened to a tracer, of which nothing is written
@@ -22,12 +22,21 @@ pub record IsMoved (old : Tracer) (es : List Event) (new : Tracer) : Type 0 wher
   pub agree : Agree old → Agree new
 
 -- P is what a watcher is, behind what it was told of a run
+abbrev pub BookWatching :
+    Ledger → List PlainSaid → (List Notice → Type 0) → Tracer → Type 0
+BookWatching b commands P t = IsWatching b.set (state_of b) (BookBehind b) commands P t
+
 abbrev pub IsBookWatched : Ledger → List PlainSaid → (List Notice → Type 0) → Type 0
 IsBookWatched b commands P = IsWatched b.set (state_of b) (BookBehind b) commands P
 
 abbrev pub IsBookWatchedInPart : Ledger → List PlainSaid → (List Notice → Type 0) → Type 0
 IsBookWatchedInPart b commands P =
     IsWatchedInPart b.set (state_of b) (BookBehind b) (BookMisses b) commands P
+
+abbrev pub TermWatching :
+    Bool → Term → List PlainTermSaid → (List Notice → Type 0) → Tracer → Type 0
+TermWatching keeps t commands P tracer =
+    IsWatching (book_in t).set (state_of (book_in t)) (TermBehind keeps t) commands P tracer
 
 abbrev pub IsTermWatched :
     Bool → Term → List PlainTermSaid → (List Notice → Type 0) → Type 0

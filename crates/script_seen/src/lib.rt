@@ -14,7 +14,8 @@ mod traced_groups;
 mod traced_terminals;
 mod tracing;
 mod turns;
-mod watched;
+mod watched_books;
+mod watched_terminals;
 mod watching;
 
 pub use actor_machine::{Actor, ActorName, Lost};
@@ -43,5 +44,6 @@ pub use traced_terminals::{open_tracer, trace_terminal};
 pub use tracing::Tracer;
 pub use turn_machine::{Done, Job};
 pub use turns::{Ended, is_dull, loss_at, stays_in};
-pub use watched::{watch_book, watch_terminal};
+pub use watched_books::watch_book;
+pub use watched_terminals::watch_terminal;
 pub use watching::Watcher;

@@ -72,7 +72,16 @@ impl Tracer {
             → N.knows self.old.again.set (ns ++ noticed self.old.again.set (state_of self.old.again) (event.Finish actor)) watcher.new) }
     {
         let ended = self.end(actor)?;
-        watcher.end(alloc, self.again.set(), &ended)
+        watcher.end(alloc, self.again.set(), &ended)?;
+        Ok(())
+    }
+
+    /// An event happens that no watcher is told of.
+    fn happen_unwatched(&mut self, alloc: Global, event: &Event) -> io::Result<()>
+        ensures { OnOk result (IsStep self.old event.now self.new) }
+    {
+        let _text = self.happen(alloc, event)?;
+        Ok(())
     }
 
     /// An event happens, and a watcher is told.
@@ -89,11 +98,28 @@ impl Tracer {
         match event {
             Event::Skip(actor) => self.skip_watched(alloc, *actor, watcher),
             Event::Finish(actor) => self.finish_watched(alloc, *actor, watcher),
-            Event::Offer(_) | Event::Begin(_) | Event::Advance(_) | Event::TakeEnv => {
-                let _text = self.happen(alloc, event)?;
-                Ok(())
-            }
+            Event::Offer(_) => self.happen_unwatched(alloc, event),
+            Event::Begin(_) => self.happen_unwatched(alloc, event),
+            Event::Advance(_) => self.happen_unwatched(alloc, event),
+            Event::TakeEnv => self.happen_unwatched(alloc, event),
         }
+    }
+
+    /// Events happen one after another, and a watcher is told.
+    fn watch_all<N: Watcher>(
+        &mut self,
+        alloc: Global,
+        events: &[Event],
+        watcher: &mut N,
+    ) -> io::Result<()>
+        ensures moved { OnOk result (IsMoved self.old events.now self.new) }
+        ensures knows { OnOk result ((ns : List Notice) → N.knows self.old.again.set ns watcher.old
+            → N.knows self.old.again.set (ns ++ noticed_in self.old.again.set (state_of self.old.again) events.now) watcher.new) }
+    {
+        for event in events {
+            self.happen_watched(alloc, event, watcher)?;
+        }
+        Ok(())
     }
 
     /// Has what has happened to a book since happen here too, and tells a watcher.
@@ -119,9 +145,7 @@ impl Tracer {
         if journal.len() < done {
             return Err(lost());
         }
-        for event in &journal[done..] {
-            self.happen_watched(alloc, event, watcher)?;
-        }
+        self.watch_all(alloc, &journal[done..], watcher)?;
         if !self.is_in_step(book) {
             return Err(lost());
         }

@@ -1,0 +1,192 @@
+-- What a watcher is told of single events, and of events one after another.
+use Rattle.std.proofs.Common.{◌≡◌, ◌∙◌, ℕ, ◌+◌, ◌-◌, ◌<◌, ◌≤◌, List, [], ◌∷◌, ◌++◌, length, take, drop, get_or, append-nil, append_assoc, Option, Some, arith, refl, sym, ap, subst}
+use Rattle.std.specs.Prelude.{slice_get}
+use Rattle.std.proofs.lemmas.List.{take_all, take_more, length-append}
+use Rattle.turn_code.specs.Outcome.{Outcome}
+use Rattle.turn_code.specs.declared.draft.Draft.{Draft}
+use Rattle.turn_machine.specs.Turn.{Turn, outcome_of}
+use Rattle.actor_machine.proofs.Replays.{replay_more}
+use Rattle.actor_machine.specs.Core.{Core, names_in}
+use Rattle.actor_machine.specs.Ledger.{Ledger, runs, replay, next, state_of, turn_at}
+use Rattle.actor_machine.specs.Step.{report_of}
+use Rattle.actor_machine.specs.declared.actor.Actor.{Actor}
+use Rattle.actor_machine.specs.declared.name.ActorName.{ActorName}
+use Rattle.actor_machine.specs.declared.event.Event.{Event}
+use Rattle.actor_machine.specs.declared.event.Event.TheVariants as event
+use Rattle.actor_machine.specs.declared.event.Offer.{Offer}
+use Rattle.tick_wheel.specs.Turning.{timers_of}
+use Rattle.script_seen.specs.Told.{stepped, outcome_by}
+use Rattle.script_seen.specs.Traced.{since}
+use Rattle.script_seen.specs.Following.{Agree, IsStep, IsCaughtUp, IsEnded}
+use Rattle.script_seen.specs.Watched.{Notice, TurnEnd, IsEnd, ends, end_noticed, skip_noticed, noticed, noticed_in}
+use Rattle.script_seen.specs.WatchedKinds.{IsMoved}
+use Rattle.script_seen.specs.declared.turns.Ended.{Ended}
+use Rattle.script_seen.specs.declared.tracing.Tracer.{Tracer}
+
+-- ---- single events
+
+pub noticed_offer : (d : Draft) (w : Core) (o : Offer) → noticed d w (event.Offer o) ≡ []
+unfolding noticed
+noticed_offer d w o = refl
+
+pub noticed_begin : (d : Draft) (w : Core) (n : ℕ) → noticed d w (event.Begin n) ≡ []
+unfolding noticed
+noticed_begin d w n = refl
+
+pub noticed_advance : (d : Draft) (w : Core) (k : ℕ) → noticed d w (event.Advance k) ≡ []
+unfolding noticed
+noticed_advance d w k = refl
+
+pub noticed_take : (d : Draft) (w : Core) → noticed d w event.TakeEnv ≡ []
+unfolding noticed
+noticed_take d w = refl
+
+noticed_skip : (d : Draft) (w : Core) (n : ℕ) → skip_noticed d (slice_get w.actors n) ≡ noticed d w (event.Skip n)
+unfolding noticed
+noticed_skip d w n = refl
+
+-- the turn that ended
+abbrev pub turn_end : Ledger → ℕ → ActorName → Turn → Outcome → TurnEnd
+turn_end b n me t o = record {
+  clock = (state_of b).timers.clock;
+  me = me;
+  turn = t;
+  outcome = o;
+  report = report_of n me o (state_of b);
+}
+
+ended_is : (b : Ledger) (n : ℕ) (me : Option ActorName) (t : Option Turn) (name : ActorName) (turn : Turn) (o : Outcome) → me ≡ Some name → t ≡ Some turn
+    → outcome_of turn ≡ Some o → end_noticed (state_of b) n me t (outcome_by t) ≡ ends (turn_end b n name turn o) ∷ []
+ended_is b n me t name turn o called out ran =
+    let M : Option ActorName → Type 0 = λ m. end_noticed (state_of b) n m t (outcome_by t) ≡ ends (turn_end b n name turn o) ∷ [] in
+    let T : Option Turn → Type 0 = λ x. end_noticed (state_of b) n (Some name) x (outcome_by x) ≡ ends (turn_end b n name turn o) ∷ [] in
+    let O : Option Outcome → Type 0 = λ x. end_noticed (state_of b) n (Some name) (Some turn) x ≡ ends (turn_end b n name turn o) ∷ [] in
+    subst M (sym called) (subst T (sym out) (subst O (sym ran) refl))
+
+noticed_finish : (b : Ledger) (n : ℕ) (name : ActorName) (turn : Turn) (o : Outcome) → slice_get (names_in (state_of b).actors) n ≡ Some name
+    → turn_at b.set n (slice_get (state_of b).actors n) ≡ Some turn → outcome_of turn ≡ Some o
+    → noticed b.set (state_of b) (event.Finish n) ≡ ends (turn_end b n name turn o) ∷ []
+unfolding noticed
+noticed_finish b n name turn o called out ran =
+    ended_is b n (slice_get (names_in (state_of b).actors) n) (turn_at b.set n (slice_get (state_of b).actors n)) name turn o called out ran
+
+-- ---- what a watcher knows behind them: K before, L behind
+
+pub knows_skip : (K L : Draft → List Notice → Type 0) (b : Ledger) (n : ℕ) (x : Draft) (a : Actor) → x ≡ b.set → slice_get (state_of b).actors n ≡ Some a
+    → ((ns : List Notice) → K x ns → L x (ns ++ skip_noticed x (Some a))) → (ns : List Notice) → K b.set ns
+    → L b.set (ns ++ noticed b.set (state_of b) (event.Skip n))
+knows_skip K L b n x a same is told ns k =
+    let D : Draft → Type 0 = λ y. (ms : List Notice) → K y ms → L y (ms ++ skip_noticed y (Some a)) in
+    let N : List Notice → Type 0 = λ ms. L b.set (ns ++ ms) in
+    subst N (ap (skip_noticed b.set) (sym is) ∙ noticed_skip b.set (state_of b) n) (subst D same told ns k)
+
+pub knows_finish : (K L : Draft → List Notice → Type 0) (b : Ledger) (n : ℕ) (x : Draft) (e : Ended) → x ≡ b.set → IsEnded b n e
+    → ((ns : List Notice) (t : TurnEnd) → IsEnd e t → K x ns → L x (ns ++ ends t ∷ [])) → (ns : List Notice) → K b.set ns
+    → L b.set (ns ++ noticed b.set (state_of b) (event.Finish n))
+knows_finish K L b n x e same ended told ns k =
+    let t : TurnEnd = turn_end b n e.me e.done ended.outcome in
+    let is_end : IsEnd e t = record { clock = ended.clock; me = refl; turn = refl; outcome = ended.ran; report = ended.report } in
+    let D : Draft → Type 0 = λ y. (ms : List Notice) (s : TurnEnd) → IsEnd e s → K y ms → L y (ms ++ ends s ∷ []) in
+    let N : List Notice → Type 0 = λ ms. L b.set (ns ++ ms) in
+    subst N (sym (noticed_finish b n e.me e.done ended.outcome ended.named ended.turn ended.ran)) (subst D same told ns t is_end k)
+
+-- of an event of which it isn't told
+pub knows_none : (K : Draft → List Notice → Type 0) (d : Draft) (none ns : List Notice) → none ≡ [] → K d ns → K d (ns ++ none)
+knows_none K d none ns is k =
+    let N : List Notice → Type 0 = λ ms. K d ms in
+    subst N (sym (append-nil ns) ∙ ap (λ (ms : List Notice). ns ++ ms) (sym is)) k
+
+-- ---- events, one after another
+
+pub record Watches (K L : Draft → List Notice → Type 0) (t : Tracer) (es : List Event) (u : Tracer) : Type 0 where
+  pub moved : IsMoved t es u
+  pub knows : (ns : List Notice) → K t.again.set ns → L t.again.set (ns ++ noticed_in t.again.set (state_of t.again) es)
+
+none_in : (d : Draft) (w : Core) → noticed_in d w [] ≡ []
+unfolding noticed_in
+none_in d w = refl
+
+pub watches_begins : (K : Draft → List Notice → Type 0) (t : Tracer) → Watches K K t [] t
+watches_begins K t = record {
+  moved = record { set = refl; every = refl; place = omega arith; state = refl; agree = λ agree. agree };
+  knows = λ ns k. knows_none K t.again.set (noticed_in t.again.set (state_of t.again) []) ns (none_in t.again.set (state_of t.again)) k;
+}
+
+noticed_more : (d : Draft) (w : Core) (es : List Event) (e : Event) → noticed_in d w (es ++ e ∷ []) ≡ noticed_in d w es ++ noticed d (replay d (runs d) w es) e
+unfolding noticed_in
+noticed_more d w [] e = append-nil (noticed d w e)
+noticed_more d w (x ∷ es) e =
+    ap (λ (ns : List Notice). noticed d w x ++ ns) (noticed_more d (stepped d w x).to es e)
+    ∙ sym (append_assoc (noticed d w x) (noticed_in d (stepped d w x).to es) (noticed d (replay d (runs d) (stepped d w x).to es) e))
+
+length_more : {A : Type 0} (xs : List A) (x : A) → length (xs ++ x ∷ []) ≡ length xs + 1
+length_more xs x = length-append xs (x ∷ [])
+
+moved_more : (t u v : Tracer) (es : List Event) (e : Event) → IsMoved t es u → IsStep u e v → IsMoved t (es ++ e ∷ []) v
+moved_more t u v es e m s =
+    let d : Draft = t.again.set in
+    let D : Draft → Type 0 = λ x. state_of v.again ≡ (stepped x (state_of u.again) e).to in
+    let W : Core → Type 0 = λ x. state_of v.again ≡ (stepped d x e).to in
+    record {
+      set = s.set ∙ m.set;
+      every = s.every ∙ m.every;
+      place = omega (arith, s.place, m.place, length_more es e);
+      state = subst W m.state (subst D m.set s.state) ∙ sym (replay_more d (runs d) (state_of t.again) es e);
+      agree = λ agree. s.agree (m.agree agree);
+    }
+
+watches_more : (K L M : Draft → List Notice → Type 0) (t u v : Tracer) (es : List Event) (e : Event) → Watches K L t es u → IsStep u e v
+    → ((ns : List Notice) → L u.again.set ns → M u.again.set (ns ++ noticed u.again.set (state_of u.again) e)) → Watches K M t (es ++ e ∷ []) v
+watches_more K L M t u v es e w s told =
+    let d : Draft = t.again.set in
+    let x : Core = state_of t.again in
+    let D : Draft → Type 0 = λ y. (ms : List Notice) → L y ms → M y (ms ++ noticed y (state_of u.again) e) in
+    let W : Core → Type 0 = λ y. (ms : List Notice) → L d ms → M d (ms ++ noticed d y e) in
+    let N : List Notice → Type 0 = λ ms. M d ms in
+    let more : (ms : List Notice) → L d ms → M d (ms ++ noticed d (replay d (runs d) x es) e) = subst W w.moved.state (subst D w.moved.set told) in
+    record {
+      moved = moved_more t u v es e w.moved s;
+      knows = λ ns k.
+          subst N
+          (append_assoc ns (noticed_in d x es) (noticed d (replay d (runs d) x es) e) ∙ ap (λ (ms : List Notice). ns ++ ms) (sym (noticed_more d x es e)))
+          (more (ns ++ noticed_in d x es) (w.knows ns k));
+    }
+
+-- one event more of a list
+pub watches_on : (K L M : Draft → List Notice → Type 0) (t u v : Tracer) (items : List Event) (i : ℕ) (x : Event) → i < length items → x ≡ get_or items i x
+    → Watches K L t (take i items) u → IsStep u x v
+    → ((ns : List Notice) → L u.again.set ns → M u.again.set (ns ++ noticed u.again.set (state_of u.again) x)) → Watches K M t (take (i + 1) items) v
+watches_on K L M t u v items i x within is w s told =
+    let P : List Event → Type 0 = λ es. Watches K M t es v in
+    subst P (sym (take_more items i x within ∙ ap (λ y. take i items ++ y ∷ []) (sym is))) (watches_more K L M t u v (take i items) x w s told)
+
+-- all events of a list
+pub watches_all : (K L : Draft → List Notice → Type 0) (t u : Tracer) (items : List Event) (i : ℕ) → length items ≤ i → Watches K L t (take i items) u
+    → Watches K L t items u
+watches_all K L t u items i over w = let P : List Event → Type 0 = λ es. Watches K L t es u in subst P (take_all i items over) w
+
+-- from where the journal began anew
+watches_from : (K L : Draft → List Notice → Type 0) (b : Ledger) (t m u : Tracer) (es : List Event) → IsCaughtUp b t m → Watches K L m es u → Watches K L t es u
+watches_from K L b t m u es k w =
+    let agrees : Agree t → Agree m = λ agree. ap (λ x. timers_of x) k.wheel ∙ (agree ∙ ap (λ (x : Core). x.timers) (sym k.state)) in
+    let S : Draft → Type 0 = λ d. state_of u.again ≡ replay d (runs d) (state_of t.again) es in
+    let W : Core → Type 0 = λ x. state_of u.again ≡ replay m.again.set (runs m.again.set) x es in
+    let D : Draft → Type 0 = λ d. (ns : List Notice) → K d ns → L d (ns ++ noticed_in d (state_of t.again) es) in
+    let V : Core → Type 0 = λ x. (ns : List Notice) → K m.again.set ns → L m.again.set (ns ++ noticed_in m.again.set x es) in
+    record {
+      moved = record {
+        set = w.moved.set ∙ k.set;
+        every = w.moved.every ∙ k.every;
+        place = omega (arith, w.moved.place, k.place);
+        state = subst S k.set (subst W k.state w.moved.state);
+        agree = λ agree. w.moved.agree (agrees agree);
+      };
+      knows = subst D k.set (subst V k.state w.knows);
+    }
+
+pub watches_since : (K L : Draft → List Notice → Type 0) (b : Ledger) (t m u : Tracer) (done : ℕ) (es : List Event) → IsCaughtUp b t m
+    → done ≡ length m.again.journal → es ≡ drop done b.journal → Watches K L m es u → Watches K L t (since (next t.again) b) u
+watches_since K L b t m u done es k e is w =
+    let place : done ≡ next t.again - b.first = omega (arith, e, k.first, k.place) in
+    let P : List Event → Type 0 = λ xs. Watches K L t xs u in
+    subst P (is ∙ ap (λ n. drop n b.journal) place) (watches_from K L b t m u es k w)
