@@ -1,26 +1,33 @@
 -- What is traced of a run of a link set's script: of each command what messages of changeover said by
 -- it, and what happened on each link.
-use Rattle.std.specs.Prelude.{◌≡◌, ◌≤◌, ◌+◌, ℕ, Bool, true, false, ◌&&◌, List, [], ◌∷◌, ◌++◌, length}
-use Rattle.std.specs.Prelude.{Option, None, Some, codes, map, All}
+use Rattle.std.specs.Prelude.{◌≡◌, ◌≤◌, ◌+◌, ℕ, Bool, true, false, List, [], ◌∷◌, ◌++◌, length}
+use Rattle.std.specs.Prelude.{Option, None, Some, codes, map, take, drop, unwrap_or, bytes_eq, All}
+use Rattle.std.specs.Prelude.{if◌then◌else◌}
 use Rattle.std.specs.Io.KnownBytes.{Appends}
 use Rattle.std.specs.Fmt.{decimal}
 use Rattle.turn_code.specs.declared.draft.Draft.{Draft}
+use Rattle.plain_limits.specs.Limits.{MOST_PORT, MOST_ENVIRONMENT, MOST_JOURNAL}
 use Rattle.actor_machine.specs.Core.{Core}
+use Rattle.actor_machine.specs.Kept.{opened_book}
 use Rattle.actor_machine.specs.Ledger.{Ledger, runs, replay, state_of}
-use Rattle.group_changeover.specs.Changeovers.{Reads, Says}
+use Rattle.group_changeover.specs.Changeovers.{Reads}
 use Rattle.group_changeover.specs.declared.changeover.Changeover.{Changeover}
 use Rattle.group_changeover.specs.declared.changeover.Kind.{Kind}
 use Rattle.group_changeover.specs.declared.changeover.Kind.TheVariants as kind
 use Rattle.script_links.specs.GroupCommands.{PlainGroupCommand}
 use Rattle.script_links.specs.GroupCommands as group
 use Rattle.script_links.specs.GroupScripts.{PlainGroupSaid}
+use Rattle.script_links.specs.declared.heads.GroupHead.{GroupHead}
 use Rattle.script_links.specs.declared.words.GroupWord.{GroupWord}
 use Rattle.script_links.specs.declared.words.GroupWord.TheVariants as words
 use Rattle.script_lines.specs.Lines.{PlainLine}
-use Rattle.script_group.specs.GroupAnswers.{Playing, Obeys, octets_line}
+use Rattle.script_links.specs.Octets.{octets_of}
+use Rattle.script_group.specs.GroupAnswers.{Playing, Obeys}
+use Rattle.script_group.specs.TermRuns.{latest}
 use Rattle.script_group.specs.Lines.{line_of}
 use Rattle.script_seen.specs.Kinds.{group_line}
-use Rattle.script_seen.specs.Traced.{since, told_text, are_in_step, IsFront}
+use Rattle.script_seen.specs.Traced.{since, told_text, are_in_step, IsFront, IsAt}
+use Rattle.script_seen.specs.declared.tracing.Tracer.{Tracer}
 
 -- ---- commands
 
@@ -47,6 +54,7 @@ group_only_asks (group.shown process variable) = true
 group_only_asks (group.expected text) = true
 group_only_asks (group.on link) = true
 group_only_asks (group.sending octets) = false
+group_only_asks (group.bound octets) = false
 group_only_asks (group.message octets) = false
 group_only_asks (group.admitting way) = false
 group_only_asks (group.own word) = word_only_asks word
@@ -66,27 +74,37 @@ kind_text kind.EmergencyAcknowledgement link = codes "ECA link " ++ decimal link
 abbrev pub message_line : ℕ → List ℕ → Changeover → List ℕ
 message_line clock way m = line_of (decimal clock ++ way ++ kind_text m.kind m.label.sls)
 
--- octets that came in: a line where they are a message of changeover
-pub data IsHeardTold (clock : ℕ) (octets : List ℕ) : List ℕ → Type 0 where
+-- octets that went this way: a line where they are a message of changeover, else none
+pub data IsMessageTold (clock : ℕ) (way octets : List ℕ) : List ℕ → Type 0 where
   is_one : (m : Changeover) → Reads octets m
-      → IsHeardTold clock octets (message_line clock (codes " heard ") m)
-  is_none : ((m : Changeover) → Reads octets m → ⊥) → IsHeardTold clock octets []
+      → IsMessageTold clock way octets (message_line clock way m)
+  is_none : ((m : Changeover) → Reads octets m → ⊥) → IsMessageTold clock way octets []
 
--- the line that was printed: a line where it has the octets of a message of changeover
-pub data IsSaidTold (clock : ℕ) (printed : List ℕ) : List ℕ → Type 0 where
-  says_one : (m : Changeover) (sif : List ℕ) → Says sif m → printed ≡ octets_line sif
-      → IsSaidTold clock printed (message_line clock (codes " said ") m)
-  says_none : ((m : Changeover) (sif : List ℕ) → Says sif m → printed ≡ octets_line sif → ⊥)
-      → IsSaidTold clock printed []
+-- the octets of a line `ok HEX`; none where the line is another
+abbrev pub said_octets : List ℕ → List ℕ
+said_octets line =
+    if bytes_eq (take 3 line) (codes "ok ") then unwrap_or (octets_of (drop 3 line)) [] else []
 
--- what is told of messages by a command that printed these lines
-abbrev pub IsChangeoverTold : ℕ → PlainGroupCommand → List (List ℕ) → List ℕ → Type 0
-IsChangeoverTold clock (group.message octets) (printed ∷ []) text =
-    (heard said : List ℕ) → IsHeardTold clock octets heard → IsSaidTold clock printed said
-    → text ≡ heard ++ said
-IsChangeoverTold clock (group.own words.Fail) (printed ∷ []) text =
-    IsSaidTold clock printed text
-IsChangeoverTold clock c lines text = text ≡ []
+abbrev pub IsHeardTold : ℕ → List ℕ → List ℕ → Type 0
+IsHeardTold clock octets text = IsMessageTold clock (codes " heard ") octets text
+
+-- what the line that was printed says
+abbrev pub IsSaidTold : ℕ → List ℕ → List ℕ → Type 0
+IsSaidTold clock line text = IsMessageTold clock (codes " said ") (said_octets line) text
+
+pub record AreBothTold (clock : ℕ) (octets line text : List ℕ) : Type 0 where
+  pub heard : List ℕ
+  pub said : List ℕ
+  pub is_heard : IsHeardTold clock octets heard
+  pub is_said : IsSaidTold clock line said
+  pub are : text ≡ heard ++ said
+
+-- what is told of messages by a command behind which this line was printed last: of one that came in, and
+-- of the order or the answer that goes out
+abbrev pub IsChangeoverTold : ℕ → PlainGroupCommand → Option (List ℕ) → List ℕ → Type 0
+IsChangeoverTold clock (group.message octets) (Some line) text = AreBothTold clock octets line text
+IsChangeoverTold clock (group.own words.Fail) (Some line) text = IsSaidTold clock line text
+IsChangeoverTold clock c last text = text ≡ []
 
 -- ---- links
 
@@ -137,33 +155,102 @@ abbrev pub clock_in : List Ledger → ℕ
 clock_in [] = 0
 clock_in (b ∷ bs) = (state_of b).timers.clock
 
+-- where a link begins of which nothing is told
+abbrev pub reached_at : Ledger → Reached
+reached_at b = record { place = 0; core = state_of b }
+
+-- a tracer came there
+abbrev pub IsAtLink : Draft → Reached → Tracer → Type 0
+IsAtLink d r t = IsAt d r.place r.core t
+
+pub data AreAtLinks (every : Bool) (d : Draft) : List Reached → List Tracer → Type 0 where
+  none : AreAtLinks every d [] []
+  more : (r : Reached) (t : Tracer) (rs : List Reached) (ts : List Tracer)
+      → t.every ≡ every → IsAtLink d r t → AreAtLinks every d rs ts
+      → AreAtLinks every d (r ∷ rs) (t ∷ ts)
+
+-- the book of a link's terminal that has just been opened over a set
+abbrev pub IsNewBook : Draft → Ledger → Type 0
+IsNewBook d b = b ≡ opened_book d MOST_PORT MOST_ENVIRONMENT MOST_JOURNAL
+
+-- as many links as a script's first line says, all of them new
+pub record AreNewLinks (d : Draft) (head : GroupHead) (p : Playing) : Type 0 where
+  pub number : length (books_of p) ≡ head.links
+  pub new : All (IsNewBook d) (books_of p)
+
 -- ---- the trace
 
-pub data Traces (every : Bool) (lines : List PlainLine) (d : Draft) (first : Playing)
-    (starts : List Reached) :
-    List PlainGroupSaid → Playing → List Reached → List ℕ → Type 0 where
-  begins : Traces every lines d first starts [] first starts []
-  more : {commands : List PlainGroupSaid} {p : Playing} {rs : List Reached} {text : List ℕ}
-      (said : PlainGroupSaid) (front told : List ℕ) (printed : List (List ℕ)) (q : Playing)
-      → Traces every lines d first starts commands p rs text
+-- What is told of a command that was obeyed: its line, what messages said, and what happened on
+-- each link, where they had come so far.
+pub record IsToldBehind (every : Bool) (lines : List PlainLine) (d : Draft)
+    (said : PlainGroupSaid) (q : Playing) (last : Option (List ℕ)) (rs : List Reached)
+    (old new : Option (List ℕ)) (tracers : List Tracer) : Type 0 where
+  pub front : List ℕ
+  pub told : List ℕ
+  pub is_front : IsFront (group_only_asks said.command) lines (group_line said) front
+  pub is_told : IsChangeoverTold (clock_in (books_of q)) said.command last told
+  pub reached : AreReached d rs (books_of q)
+  pub are_at : AreAtLinks every d (all_reach d rs (books_of q)) tracers
+  pub written : Appends old new (front ++ (told ++ links_text every d 0 rs (books_of q)))
+
+-- What is traced of commands in their order, from a set on: the set now, the line printed last, how
+-- far each link is told, and the text. Each command's line is in front, behind it what messages said, and
+-- then what happened on each link.
+pub data Traces (every : Bool) (lines : List PlainLine) (d : Draft) (first : Playing) :
+    List PlainGroupSaid → Playing → Option (List ℕ) → List Reached → List ℕ → Type 0 where
+  begins :
+      Traces every lines d first [] first None (map reached_at (books_of first)) []
+  more : {commands : List PlainGroupSaid} {p : Playing} {last : Option (List ℕ)}
+      {rs : List Reached} {text : List ℕ} (said : PlainGroupSaid) (front told : List ℕ)
+      (printed : List (List ℕ)) (q : Playing)
+      → Traces every lines d first commands p last rs text
       → IsFront (group_only_asks said.command) lines (group_line said) front
       → Obeys said.command p printed q
-      → IsChangeoverTold (clock_in (books_of q)) said.command printed told
+      → IsChangeoverTold (clock_in (books_of q)) said.command (latest last printed) told
       → AreReached d rs (books_of q)
-      → Traces every lines d first starts (commands ++ said ∷ []) q (all_reach d rs (books_of q))
+      → Traces every lines d first (commands ++ said ∷ []) q (latest last printed)
+      (all_reach d rs (books_of q))
       (text ++ (front ++ (told ++ links_text every d 0 rs (books_of q))))
   holds : {commands : List PlainGroupSaid} {p : Playing} {rs : List Reached} {text : List ℕ}
-      (said : PlainGroupSaid) (expectation : List ℕ)
+      {expectation : List ℕ} (said : PlainGroupSaid)
       → said.command ≡ group.expected expectation
-      → Traces every lines d first starts commands p rs text
-      → Traces every lines d first starts (commands ++ said ∷ []) p rs text
+      → Traces every lines d first commands p (Some expectation) rs text
+      → Traces every lines d first (commands ++ said ∷ []) p (Some expectation) rs text
 
--- all commands are traced
-pub record IsGroupTraced (every : Bool) (lines : List PlainLine) (d : Draft) (first : Playing)
-    (starts : List Reached) (commands : List PlainGroupSaid) (old new : Option (List ℕ)) :
-    Type 0 where
-  pub now : Playing
+-- so far these commands are traced, and what is written grew by that
+pub record IsGroupTracing (every : Bool) (lines : List PlainLine) (d : Draft) (first : Playing)
+    (commands : List PlainGroupSaid) (old new : Option (List ℕ)) (now : Playing)
+    (last : Option (List ℕ)) (tracers : List Tracer) : Type 0 where
   pub reached : List Reached
   pub text : List ℕ
-  pub traces : Traces every lines d first starts commands now reached text
+  pub traces : Traces every lines d first commands now last reached text
+  pub are_at : AreAtLinks every d reached tracers
   pub written : Appends old new text
+
+-- all commands are traced
+pub record IsGroupTraced (every : Bool) (lines : List PlainLine) (d : Draft)
+    (commands : List PlainGroupSaid) (old new : Option (List ℕ)) (first : Playing) : Type 0 where
+  pub now : Playing
+  pub last : Option (List ℕ)
+  pub reached : List Reached
+  pub text : List ℕ
+  pub traces : Traces every lines d first commands now last reached text
+  pub written : Appends old new text
+
+-- so are those in front of one of these commands, an expectation that names another line than the one that was
+-- printed last
+pub record IsGroupTracedInPart (every : Bool) (lines : List PlainLine) (d : Draft)
+    (commands : List PlainGroupSaid) (old new : Option (List ℕ)) (first : Playing) : Type 0 where
+  pub before : List PlainGroupSaid
+  pub said : PlainGroupSaid
+  pub after : List PlainGroupSaid
+  pub stands : commands ≡ before ++ said ∷ after
+  pub now : Playing
+  pub last : Option (List ℕ)
+  pub reached : List Reached
+  pub text : List ℕ
+  pub traces : Traces every lines d first before now last reached text
+  pub written : Appends old new text
+  pub expectation : List ℕ
+  pub expects : said.command ≡ group.expected expectation
+  pub other : last ≡ Some expectation → ⊥
