@@ -1,5 +1,6 @@
 mod Failing
 mod InTurn
 mod Known
+mod Mapped
 mod Speaking
 mod Written

@@ -18,6 +18,7 @@ mod plays;
 mod running;
 mod sets;
 mod texts;
+mod traced;
 mod traces;
 
 use crate::captures::{capture_of, end_capture};

@@ -1,12 +1,14 @@
 //! What the words of the program's command line ask for.
 #![tactic(auto)]
 
+mod arguments;
 mod commands;
 mod ends;
 mod flags;
 mod limits;
 mod says;
 mod seeing;
+mod sights;
 mod words;
 
 pub use clap::Error;

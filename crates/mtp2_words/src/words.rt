@@ -2,7 +2,7 @@
 ghost use Rattle.std.specs.Prelude.{◌≡◌, ◌⊎◌, Some, None, [], true, map, string_bytes, IfSome, IfOk, IfErr, IsNone, option_map, codes};
 ghost use Rattle.clap.specs.Words.{fault_of, found_of, kind_of, rows_of, subcommand_name_of, subcommand_of, subcommand_rows_of, takes};
 ghost use Rattle.mtp2_words.specs.Words.{IsDiff, command_of, workers_of, IsNamed, IsSource, AreStdin, IsPrint, NamesNone, IsPlay, IsSoak, IsTextNamed, IsText};
-ghost use Rattle.mtp2_words.specs.Asked.{given_by, AreAllAsked, AreNamed, AsksEnd, AsksNothing, AsksSeen, SaysNoSeeing, IsAsked, IsAskedBy, IsNoCheck, IsNoFrame, IsNoLine, IsNoPlay, IsNoPrint, IsNoSoak, SaysNoEnd, SaysNothing, IsNoDiff, IsNoDraw};
+ghost use Rattle.mtp2_words.specs.Asked.{given_by, AreAllAsked, AreNamed, AsksEnd, AsksNothing, IsAsked, IsAskedBy, IsNoCheck, IsNoFrame, IsNoLine, IsNoPlay, IsNoPrint, IsNoSoak, SaysNoEnd, SaysNothing, IsNoDiff, IsNoDraw};
 ghost use Rattle.mtp2_words.specs.Commands.{all_commands};
 ghost use Rattle.mtp2_words.specs.TurnedDown.{IsTurnedDown};
 
@@ -10,7 +10,8 @@ use crate::commands::all_commands;
 use crate::ends::{LineEnd, LineWords, line_end};
 use crate::flags::is_given;
 use crate::says::{are_stdin, complaint_of, workers_of};
-use crate::seeing::{Seeing, SeeingWords, seeing};
+use crate::seeing::Seeing;
+use crate::sights::seen_of;
 use clap::error::ErrorKind;
 use clap::{ArgMatches, Error};
 use std::alloc::{AllocError, Global};
@@ -218,23 +219,6 @@ fn checked<'a>(alloc: Global, given: &ArgMatches<'a>) -> Result<Option<Request<'
         }
         None => Ok(None),
     }
-}
-
-/// What of a run is to be seen, by the matches of `play`.
-fn seen_of<'a>(given: &ArgMatches<'a>) -> Option<Seeing<'a>>
-    ensures some { IfSome result (AsksSeen (given_by given.now)) }
-    ensures none { IsNone result → SaysNoSeeing (given_by given.now) }
-{
-    seeing(&SeeingWords {
-        echo: is_given(given.get_str("echo")),
-        every: is_given(given.get_str("every")),
-        trace: given.get_str("trace"),
-        chart: given.get_str("chart"),
-        turns: given.get_str("turns"),
-        coverage: given.get_str("coverage"),
-        thrown: given.get_str("thrown"),
-        capture: given.get_str("capture"),
-    })
 }
 
 /// What the matches of `play` ask for.

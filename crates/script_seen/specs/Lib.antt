@@ -14,3 +14,4 @@ pub use Rattle.script_links.specs.TermScripts
 pub use Rattle.script_links.specs.resend_store_types
 pub mod Watched
 pub mod WatchedKinds
+pub mod TracedActs

@@ -3,7 +3,7 @@ use Rattle.mtp2_words.specs.Words.{says_true}
 use Rattle.mtp2_words.specs.declared.seeing.SeeingWords.{SeeingWords}
 use Rattle.mtp2_words.specs.Asked.{given_by, AreSeenUnder}
 use Rattle.mtp2_words.proofs.Asking.{sees}
-use Rattle.mtp2_words.proofs.words.seen_of.Goals as goal
+use Rattle.mtp2_words.proofs.sights.seen_of.Goals as goal
 
 abbrev words : goal.After-seeing → SeeingWords
 words c = record {
