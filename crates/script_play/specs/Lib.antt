@@ -1,4 +1,5 @@
 pub mod Captured
+pub mod CapturedSets
 pub mod Charted
 pub mod Covered
 pub mod Lcov

@@ -10,11 +10,13 @@ use Rattle.script_seen.specs.resend_store_types.messages.RoundLimits.{RoundLimit
 use Rattle.script_seen.specs.TermScripts.{PlainAnyScript, book, terminal, asks_told}
 use Rattle.script_seen.specs.GroupScripts.{PlainPlayScript, other, group, play_script_of}
 use Rattle.script_seen.specs.Played.{first_book}
+use Rattle.script_seen.specs.GroupRuns.{IsOfNewSet}
 use Rattle.script_seen.specs.TermRuns.{IsOfNew}
 use Rattle.script_seen.specs.Watched.{Notice, turns_in, throws_in}
 use Rattle.script_seen.specs.WatchedKinds.{IsBookWatched, IsBookWatchedInPart, IsTermWatched}
 use Rattle.script_seen.specs.WatchedKinds.{IsTermWatchedInPart}
-use Rattle.script_play.specs.Captured.{IsCaptured}
+use Rattle.script_play.specs.Captured.{IsCaptured, IsCapturedInPart}
+use Rattle.script_play.specs.CapturedSets.{IsSetCaptured, IsSetCapturedInPart}
 use Rattle.script_play.specs.Charted.{chart_text}
 use Rattle.script_play.specs.Lcov.{lcov_text}
 use Rattle.script_play.specs.Thrown.{thrown_text}
@@ -81,18 +83,42 @@ IsOtherCaptured usual every d (terminal s) old new =
     IsOfNew d usual s.head
     (λ t. IsCaptured every (asks_told s.commands) t s.commands old new)
 
+-- so is one of a set of links
 abbrev pub AreCaptured :
     RoundLimits → Bool → Draft → PlainPlayScript → Option (List ℕ) → Option (List ℕ) → Type 0
 AreCaptured usual every d (other s) old new = IsOtherCaptured usual every d s old new
-AreCaptured usual every d (group s) old new = Unit {0}
+AreCaptured usual every d (group s) old new =
+    IsOfNewSet d usual s.head (IsSetCaptured every s.commands old new)
 
--- the bytes are a script, whose links are captured (nothing is said of those of a set)
+-- up to an expectation that failed
+abbrev pub IsOtherCapturedInPart :
+    RoundLimits → Bool → Draft → PlainAnyScript → Option (List ℕ) → Option (List ℕ) → Type 0
+IsOtherCapturedInPart usual every d (book s) old new = ⊥
+IsOtherCapturedInPart usual every d (terminal s) old new =
+    IsOfNew d usual s.head
+    (λ t. IsCapturedInPart every (asks_told s.commands) t s.commands old new)
+
+abbrev pub AreCapturedInPart :
+    RoundLimits → Bool → Draft → PlainPlayScript → Option (List ℕ) → Option (List ℕ) → Type 0
+AreCapturedInPart usual every d (other s) old new = IsOtherCapturedInPart usual every d s old new
+AreCapturedInPart usual every d (group s) old new =
+    IsOfNewSet d usual s.head (IsSetCapturedInPart every s.commands old new)
+
+-- the bytes are a script, whose links are captured
 pub record IsPlayCaptured (usual : RoundLimits) (every : Bool) (old new : Option (List ℕ))
     (d : Draft) (bytes : List ℕ) : Type 0 where
   pub utf8 : IsUtf8 bytes
   pub script : PlainPlayScript
   pub reads : play_script_of bytes ≡ Ok script
   pub captured : AreCaptured usual every d script old new
+
+-- so up to an expectation that failed
+pub record IsPlayCapturedInPart (usual : RoundLimits) (every : Bool) (old new : Option (List ℕ))
+    (d : Draft) (bytes : List ℕ) : Type 0 where
+  pub utf8 : IsUtf8 bytes
+  pub script : PlainPlayScript
+  pub reads : play_script_of bytes ≡ Ok script
+  pub captured : AreCapturedInPart usual every d script old new
 
 -- ---- on a text
 

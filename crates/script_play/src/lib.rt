@@ -1,6 +1,9 @@
 //! The command `play`: a script, run on a set of processes, or on a terminal.
 #![tactic(auto)]
 
+mod captured_groups;
+mod captured_plays;
+mod captured_terminals;
 mod capturing;
 mod charts;
 mod coverage;
@@ -11,7 +14,7 @@ mod tracing;
 mod values;
 mod watching;
 
-pub use capturing::play_captured;
+pub use captured_plays::play_captured;
 pub use charts::Cut;
 pub use playing::play;
 pub use script_seen::{Tracer, open_tracer, order_front};

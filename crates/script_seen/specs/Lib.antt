@@ -15,3 +15,10 @@ pub use Rattle.script_links.specs.resend_store_types
 pub mod Watched
 pub mod WatchedKinds
 pub mod TracedActs
+pub use Rattle.script_group.specs.Doing
+pub use Rattle.script_group.specs.GroupAnswers
+pub use Rattle.script_group.specs.Set
+pub use Rattle.script_group.specs.SetLines
+pub use Rattle.script_group.specs.Term
+pub use Rattle.script_group.specs.TermAnswers
+pub use Rattle.script_group.specs.UnitLines

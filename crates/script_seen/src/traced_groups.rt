@@ -151,7 +151,7 @@ fn trace_one<T: Write>(
     tracer: &mut Tracer,
     trace: &mut T,
 ) -> io::Result<()>
-    ensures { OnOk result ((d : Draft) (r : Reached) → IsAtLink d r tracer.old → (b : Ledger) × (slice_get (books_of (playing_of player.now)) link ≡ Some b)
+    ensures traced { OnOk result ((d : Draft) (r : Reached) → IsAtLink d r tracer.old → (b : Ledger) × (slice_get (books_of (playing_of player.now)) link ≡ Some b)
         × IsReached d r b × IsAtLink d (reach d r b) tracer.new
         × Appends (T.contents trace.old) (T.contents trace.new) (under_name link (told_text tracer.old.every d r.core (since r.place b)))) }
     ensures every { OnOk result (tracer.new.every ≡ tracer.old.every) }
