@@ -9,7 +9,7 @@ usage: tools/oracles/plain_trace.py SET SCRIPT [--every]      prints the trace o
 
 SET and SCRIPT are as plain_term.py has them; the status is that of the script. Lines of a trace, behind the ticks gone by:
 
-    > COMMAND                                               a line of the script, but for state, value and expect
+    > COMMAND                                               a line of the script, but for state, value, measure NAME and expect
     T offer ACTOR SIG v ..
     T due ACTOR TIMER
     T skip ACTOR STATE/SIG v .. from SENDER                 with --every; a timer has no sender
@@ -219,7 +219,8 @@ class Seen:
         self.names = {(it[1][0][0].lower(), lo(name)): name[0] for it in P(text, lex(text)).block() if it[0] == "process" for part in it[1][1] if part[0] != "timer" for name in part[1]}
 
     def command(self, text):
-        if text.split(" ")[0] not in ("state", "value", "expect"):
+        asks = text.split(" ")[0] in ("state", "value", "measure", "expect") and text != "measure reset"
+        if not asks:
             self.lines.append(f"> {text}")
 
     def tell(self, kind, clock, actor, what):
@@ -380,12 +381,16 @@ def run_group(text, script, seen, say, usual):
 def seen_of(text, script, every=False, say=lambda line: None, usual=()):
     """What is seen of a script on a text, and the status; with these N1 and N2 where a terminal's script says none."""
     seen = SeenBook.seen = Seen(text, every)
+    plain = plain_play.Turn, plain_term.Book
     plain_play.Turn, plain_term.Book = SeenTurn, SeenBook
-    if plain_group.head(script) is not None:
-        return seen, run_group(text, script, seen, say, usual)
-    if plain_term.is_terminal(script):
-        return seen, run_terminal(text, script, seen, say, usual)
-    return seen, run_book(text, script, seen, say)
+    try:
+        if plain_group.head(script) is not None:
+            return seen, run_group(text, script, seen, say, usual)
+        if plain_term.is_terminal(script):
+            return seen, run_terminal(text, script, seen, say, usual)
+        return seen, run_book(text, script, seen, say)
+    finally:
+        plain_play.Turn, plain_term.Book = plain
 
 
 def main(given):

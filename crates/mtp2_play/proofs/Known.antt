@@ -1,9 +1,10 @@
 -- What holds of bytes of which something may be known holds of some bytes.
-use Rattle.std.proofs.Common.{subst, ◌≡◌, ℕ, Bool, inl, inr, List, Option, None, Some, rules}
+use Rattle.std.proofs.Common.{subst, sym, ◌≡◌, ℕ, Bool, false, inl, inr, List, Option, None, Some, rules}
 use Rattle.script_check.specs.Checked.{given, IsGiven, PrintsCosts, PrintsRefusal}
 use Rattle.script_check.specs.declared.sets.SetWord.{SetWord}
 use Rattle.script_check.specs.declared.sets.SetWord.TheVariants.{Standard as standard_set, Q703 as q703_set, Monitors as monitors_set, Text}
 use Rattle.script_play.specs.Played.{IsOnSet, IsPlayed, IsPlayedInPart, IsNotRun, IsRefused, set_refused, script_refused}
+use Rattle.script_play.specs.Traced.{IsPlayTraced, IsPlayTracedInPart}
 use Rattle.pool_soak.specs.Findings.{IsSoaked, IsSoakedInVain, IsTurnedDown}
 use Rattle.line_filter.specs.Filters.{Line}
 use Rattle.line_play.specs.Opening.{IsNoSet}
@@ -82,6 +83,29 @@ pub in_part : (usual wanted : RoundLimits) (echo : Bool) (set script old new : O
 in_part usual wanted echo set script old new same s =
     let Q : RoundLimits → Type 0 = λ l. IsOnSet set None (IsPlayedInPart l echo old new) in
     subst Q same (record { draft = s.draft; is_set = s.is_set; of_script = some_bytes script (IsPlayedInPart usual echo old new s.draft) s.of_script })
+
+-- what goes to a trace
+pub traced : (usual wanted : RoundLimits) (every : Bool) (set script old new : Option (List ℕ)) → usual ≡ wanted
+    → IsOnSet set script (IsPlayTraced usual every old new) → IsOnSet set None (IsPlayTraced wanted every old new)
+traced usual wanted every set script old new same s =
+    let Q : RoundLimits → Type 0 = λ l. IsOnSet set None (IsPlayTraced l every old new) in
+    subst Q same (record { draft = s.draft; is_set = s.is_set; of_script = some_bytes script (IsPlayTraced usual every old new s.draft) s.of_script })
+
+pub traced_in_part : (usual wanted : RoundLimits) (every : Bool) (set script old new : Option (List ℕ)) → usual ≡ wanted
+    → IsOnSet set script (IsPlayTracedInPart usual every old new) → IsOnSet set None (IsPlayTracedInPart wanted every old new)
+traced_in_part usual wanted every set script old new same s =
+    let Q : RoundLimits → Type 0 = λ l. IsOnSet set None (IsPlayTracedInPart l every old new) in
+    subst Q same (record { draft = s.draft; is_set = s.is_set; of_script = some_bytes script (IsPlayTracedInPart usual every old new s.draft) s.of_script })
+
+-- it goes without the lines of commands
+pub without_lines : (usual : RoundLimits) (echo : Bool) (set old new : Option (List ℕ)) → echo ≡ false → IsOnSet set None (IsPlayed usual false old new)
+    → IsOnSet set None (IsPlayed usual echo old new)
+without_lines usual echo set old new without s = let E : Bool → Type 0 = λ e. IsOnSet set None (IsPlayed usual e old new) in subst E (sym without) s
+
+pub without_lines_in_part : (usual : RoundLimits) (echo : Bool) (set old new : Option (List ℕ)) → echo ≡ false
+    → IsOnSet set None (IsPlayedInPart usual false old new) → IsOnSet set None (IsPlayedInPart usual echo old new)
+without_lines_in_part usual echo set old new without s =
+    let E : Bool → Type 0 = λ e. IsOnSet set None (IsPlayedInPart usual e old new) in subst E (sym without) s
 
 not_run_in : (set script old new : Option (List ℕ)) → IsOnSet set script (IsNotRun old new) → IsOnSet set None (IsNotRun old new)
 not_run_in set script old new s = record { draft = s.draft; is_set = s.is_set; of_script = some_bytes script (IsNotRun old new s.draft) s.of_script }

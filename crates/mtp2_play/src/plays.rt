@@ -1,7 +1,9 @@
 //! The command `play` from its files to the exit status.
-ghost use Rattle.std.specs.Prelude.{◌≡◌, ◌⊎◌, None};
+ghost use Rattle.std.specs.Prelude.{◌≡◌, ◌⊎◌, None, false};
 ghost use Rattle.script_check.specs.Checked.{given};
 ghost use Rattle.script_play.specs.Played.{IsOnSet, IsPlayed, IsPlayedInPart, IsRefused};
+ghost use Rattle.script_play.specs.Seen.{IsPlayCaptured, IsPlayCapturedInPart, IsPlayTold, IsPlayToldInPart};
+ghost use Rattle.script_play.specs.Traced.{IsPlayTraced, IsPlayTracedInPart};
 ghost use Rattle.mtp2_words.specs.Limits.{usual_limits_of};
 ghost use Rattle.mtp2_play.specs.Printed.{IsPlayedOn};
 
@@ -15,6 +17,13 @@ use std::fs;
 use std::io::{Read, Write};
 use std::rt::Runtime;
 
+/// What goes to a file, and the file.
+#[derive(Drop)]
+struct Seen<'a, F> {
+    sight: Sight<'a>,
+    out: F,
+}
+
 /// What of a script's run is seen beside its replies: whether the lines of commands are, what goes to which file, and whether what has no effect
 /// does too.
 #[derive(Drop)]
@@ -22,23 +31,162 @@ struct Watch<'a, F> {
     echo: bool,
     every: bool,
     turns: Turns,
-    sight: Option<(Sight<'a>, F)>,
+    sight: Option<Seen<'a, F>>,
 }
 
-/// What is told at the end of a run.
-fn wanted<'a>(sight: Sight<'_>, turns: Turns, text: &'a str) -> Wanted<'a> {
+/// Runs a script that comes from a reader on a set, with a trace.
+#[tactic(auto, using(crate::proofs::Known::played, crate::proofs::Known::in_part, crate::proofs::Known::traced, crate::proofs::Known::traced_in_part, crate::proofs::Known::not_run))]
+fn trace_on<H: Eprint, S: Read + Drop, T: Read + Drop, F: Write, W: Write>(
+    alloc: Global,
+    teller: &Teller<'_, H>,
+    set: SetWord<S>,
+    named: &Named<'_>,
+    name: &str,
+    script: T,
+    every: bool,
+    trace: &mut F,
+    writer: &mut W,
+) -> u8
+    ensures held { result ≡ 0 → IsOnSet (given S.remaining set) None (IsPlayed (usual_limits_of named.now) false (W.contents writer.old) (W.contents writer.new)) }
+    ensures missed { result ≡ 1 → IsOnSet (given S.remaining set) None (IsPlayedInPart (usual_limits_of named.now) false (W.contents writer.old) (W.contents writer.new)) }
+    ensures traced { result ≡ 0 → IsOnSet (given S.remaining set) None (IsPlayTraced (usual_limits_of named.now) every (F.contents trace.old) (F.contents trace.new)) }
+    ensures in_part { result ≡ 1 → IsOnSet (given S.remaining set) None (IsPlayTracedInPart (usual_limits_of named.now) every (F.contents trace.old) (F.contents trace.new)) }
+    ensures refused { result ≡ 2 → IsRefused (given S.remaining set) None (W.contents writer.old) (W.contents writer.new) }
+    ensures status { (result ≡ 0) ⊎ (result ≡ 1) ⊎ (result ≡ 2) ⊎ (result ≡ 4) }
+{
+    let usual = named.usual_limits();
+    play_traced(
+        alloc,
+        set,
+        usual,
+        name,
+        script,
+        every,
+        trace,
+        writer,
+        &mut teller.errors(),
+    )
+}
+
+/// Runs a script that comes from a reader on a set, with a capture.
+#[tactic(auto, using(crate::proofs::Known::played, crate::proofs::Known::in_part, crate::proofs::Known::captured, crate::proofs::Known::captured_in_part, crate::proofs::Known::not_run))]
+fn capture_on<H: Eprint, S: Read + Drop, T: Read + Drop, F: Write, W: Write>(
+    alloc: Global,
+    teller: &Teller<'_, H>,
+    set: SetWord<S>,
+    named: &Named<'_>,
+    name: &str,
+    script: T,
+    every: bool,
+    capture: &mut F,
+    writer: &mut W,
+) -> u8
+    ensures held { result ≡ 0 → IsOnSet (given S.remaining set) None (IsPlayed (usual_limits_of named.now) false (W.contents writer.old) (W.contents writer.new)) }
+    ensures missed { result ≡ 1 → IsOnSet (given S.remaining set) None (IsPlayedInPart (usual_limits_of named.now) false (W.contents writer.old) (W.contents writer.new)) }
+    ensures captured { result ≡ 0 → IsOnSet (given S.remaining set) None (IsPlayCaptured (usual_limits_of named.now) every (F.contents capture.old) (F.contents capture.new)) }
+    ensures in_part { result ≡ 1 → IsOnSet (given S.remaining set) None (IsPlayCapturedInPart (usual_limits_of named.now) every (F.contents capture.old) (F.contents capture.new)) }
+    ensures refused { result ≡ 2 → IsRefused (given S.remaining set) None (W.contents writer.old) (W.contents writer.new) }
+    ensures status { (result ≡ 0) ⊎ (result ≡ 1) ⊎ (result ≡ 2) ⊎ (result ≡ 4) }
+{
+    let usual = named.usual_limits();
+    play_captured(
+        alloc,
+        set,
+        usual,
+        name,
+        script,
+        every,
+        capture,
+        writer,
+        &mut teller.errors(),
+    )
+}
+
+/// Runs a script that comes from a reader on a set, of which this is told at its end.
+#[tactic(auto, using(crate::proofs::Known::played, crate::proofs::Known::in_part, crate::proofs::Known::told, crate::proofs::Known::told_in_part, crate::proofs::Known::not_run))]
+fn watch_on<H: Eprint, S: Read + Drop, T: Read + Drop, F: Write, W: Write>(
+    alloc: Global,
+    teller: &Teller<'_, H>,
+    set: SetWord<S>,
+    named: &Named<'_>,
+    name: &str,
+    script: T,
+    wanted: Wanted<'_>,
+    out: &mut F,
+    writer: &mut W,
+) -> u8
+    ensures held { result ≡ 0 → IsOnSet (given S.remaining set) None (IsPlayed (usual_limits_of named.now) false (W.contents writer.old) (W.contents writer.new)) }
+    ensures missed { result ≡ 1 → IsOnSet (given S.remaining set) None (IsPlayedInPart (usual_limits_of named.now) false (W.contents writer.old) (W.contents writer.new)) }
+    ensures told { result ≡ 0 → IsOnSet (given S.remaining set) None (IsPlayTold (usual_limits_of named.now) wanted (F.contents out.old) (F.contents out.new)) }
+    ensures in_part { result ≡ 1 → IsOnSet (given S.remaining set) None (IsPlayToldInPart (usual_limits_of named.now) wanted (F.contents out.old) (F.contents out.new)) }
+    ensures refused { result ≡ 2 → IsRefused (given S.remaining set) None (W.contents writer.old) (W.contents writer.new) }
+    ensures status { (result ≡ 0) ⊎ (result ≡ 1) ⊎ (result ≡ 2) ⊎ (result ≡ 4) }
+{
+    let usual = named.usual_limits();
+    play_watched(
+        alloc,
+        set,
+        usual,
+        name,
+        script,
+        wanted,
+        out,
+        writer,
+        &mut teller.errors(),
+    )
+}
+
+/// Runs a script that comes from a reader on a set, of which something goes to a file.
+fn see_on<H: Eprint, S: Read + Drop, T: Read + Drop, F: Write, W: Write>(
+    alloc: Global,
+    teller: &Teller<'_, H>,
+    set: SetWord<S>,
+    named: &Named<'_>,
+    name: &str,
+    script: T,
+    sight: Sight<'_>,
+    every: bool,
+    turns: Turns,
+    out: &mut F,
+    writer: &mut W,
+) -> u8
+    ensures held { result ≡ 0 → IsOnSet (given S.remaining set) None (IsPlayed (usual_limits_of named.now) false (W.contents writer.old) (W.contents writer.new)) }
+    ensures missed { result ≡ 1 → IsOnSet (given S.remaining set) None (IsPlayedInPart (usual_limits_of named.now) false (W.contents writer.old) (W.contents writer.new)) }
+    ensures refused { result ≡ 2 → IsRefused (given S.remaining set) None (W.contents writer.old) (W.contents writer.new) }
+    ensures status { (result ≡ 0) ⊎ (result ≡ 1) ⊎ (result ≡ 2) ⊎ (result ≡ 4) }
+{
     match sight {
-        Sight::Coverage(_) => Wanted::Coverage(text),
-        Sight::Thrown(_) => Wanted::Thrown,
-        _ => Wanted::Chart(Cut {
-            first: turns.first,
-            last: turns.last,
-        }),
+        Sight::Trace(_) => trace_on(alloc, teller, set, named, name, script, every, out, writer),
+        Sight::Capture(_) => {
+            capture_on(alloc, teller, set, named, name, script, every, out, writer)
+        }
+        Sight::Chart(_) => {
+            let wanted = Wanted::Chart(Cut {
+                first: turns.first,
+                last: turns.last,
+            });
+            watch_on(alloc, teller, set, named, name, script, wanted, out, writer)
+        }
+        Sight::Coverage(_) => {
+            let wanted = Wanted::Coverage(name);
+            watch_on(alloc, teller, set, named, name, script, wanted, out, writer)
+        }
+        Sight::Thrown(_) => watch_on(
+            alloc,
+            teller,
+            set,
+            named,
+            name,
+            script,
+            Wanted::Thrown,
+            out,
+            writer,
+        ),
     }
 }
 
-/// Runs a script that comes from a reader on a set.
-#[tactic(auto, using(crate::proofs::Known::played, crate::proofs::Known::in_part, crate::proofs::Known::not_run))]
+/// Runs a script that comes from a reader on a set, and sees it: where the lines of its commands are shown nothing goes to a file.
+#[tactic(auto, using(crate::proofs::Known::played, crate::proofs::Known::in_part, crate::proofs::Known::not_run, crate::proofs::Known::without_lines, crate::proofs::Known::without_lines_in_part))]
 fn play_on<H: Eprint, S: Read + Drop, T: Read + Drop, F: Write, W: Write>(
     alloc: Global,
     teller: &Teller<'_, H>,
@@ -56,26 +204,32 @@ fn play_on<H: Eprint, S: Read + Drop, T: Read + Drop, F: Write, W: Write>(
 {
     let usual = named.usual_limits();
     let (echo, every, turns) = (watch.echo, watch.every, watch.turns);
-    let errors = &mut teller.errors();
-    match &mut watch.sight {
-        None => play(alloc, set, usual, name, script, echo, writer, errors),
-        Some(_) if echo => play(alloc, set, usual, name, script, echo, writer, errors),
-        Some((Sight::Trace(_), out)) => play_traced(
-            alloc, set, usual, name, script, every, out, writer, errors,
-        ),
-        Some((Sight::Capture(_), out)) => play_captured(
-            alloc, set, usual, name, script, every, out, writer, errors,
-        ),
-        Some((sight, out)) => play_watched(
+    let mut errors = teller.errors();
+    if echo {
+        return play(
             alloc,
             set,
             usual,
             name,
             script,
-            wanted(*sight, turns, name),
-            out,
+            echo,
             writer,
-            errors,
+            &mut errors,
+        );
+    }
+    match &mut watch.sight {
+        Some(Seen { sight, out }) => see_on(
+            alloc, teller, set, named, name, script, *sight, every, turns, out, writer,
+        ),
+        None => play(
+            alloc,
+            set,
+            usual,
+            name,
+            script,
+            echo,
+            writer,
+            &mut errors,
         ),
     }
 }
@@ -227,18 +381,18 @@ pub(crate) fn run_play<R: Runtime + AllocGlobal, H: Eprint, W: Write>(
     ensures printed { IsPlayedOn set.entry seen.now.echo result (W.contents writer.old) (W.contents writer.new) }
     ensures status { (result ≡ 0) ⊎ (result ≡ 1) ⊎ (result ≡ 2) ⊎ (result ≡ 4) }
 {
+    let sight = match seen.sight {
+        Some(sight) => match fs::create(rt, path_of(sight)) {
+            Ok(out) => Some(Seen { sight, out }),
+            Err(error) => return teller.fail(path_of(sight), &error),
+        },
+        None => None,
+    };
     let mut watch = Watch {
         echo: seen.echo,
         every: seen.every,
         turns: seen.turns,
-        sight: None,
+        sight,
     };
-    if let Some(sight) = seen.sight {
-        let path = path_of(sight);
-        match fs::create(rt, path) {
-            Ok(file) => watch.sight = Some((sight, file)),
-            Err(error) => return teller.fail(path, &error),
-        }
-    }
     run_watched(rt, teller, set, script, &mut watch, writer)
 }

@@ -143,8 +143,8 @@ fn trace_text<W: Write, T: Write, E: Write>(
 }
 
 /// Runs a script as `play` does without the lines of its commands, and traces it: to `trace` goes each command's line of the script, but of
-/// `state`, `value` and `expect`, and behind it a line for each event that happened by it, as the journal of its actors has them. Where `every`
-/// says so, signals that are thrown away have a line too, and turns that keep their state and have no effect.
+/// `state`, `value`, `measure NAME` and `expect`, and behind it a line for each event that happened by it, as the journal of its actors has them.
+/// Where `every` says so, signals that are thrown away have a line too, and turns that keep their state and have no effect.
 ///
 /// Gives the exit status, as `play` does: 4 where a write to `trace` fails too, where more happens by one command of a terminal than its journal
 /// holds, and for a script of a link set, which has no trace.

@@ -37,9 +37,9 @@ are_in_step w v =
     && ((w.finishes == v.finishes) && (w.instructions == v.instructions)))
 
 -- What is traced of commands in their order, from a state of the link of a set on. B says which
--- book there is behind commands; how many events had happened, and the state, stand behind these. Each
--- command's line is in front of what is told of the events that its journal has since, none of
--- which is lost; behind them the state is in step with that of the book.
+-- book there is behind commands; how many events had happened, and the state, stand behind these.
+-- Each command's line is in front of what is told of the events that its journal has since, none
+-- of which is lost; behind them the state is in step with that of the book.
 pub data Traces {S : Type 0} (every : Bool) (lines : List PlainLine) (line : S → ℕ)
     (asks : S → Bool) (d : Draft) (first : Core) (B : List S → Ledger → Type 0) :
     List S → ℕ → Core → List ℕ → Type 0 where

@@ -35,7 +35,11 @@ fn only_asks(command: &TermCommand<'_>) -> bool
     ensures { result ≡ term_only_asks (plain_term_command command.now) }
 {
     match command {
-        TermCommand::State(_) | TermCommand::Value(_, _) | TermCommand::Expect(_) => true,
+        TermCommand::Measure(_)
+        | TermCommand::Aborted
+        | TermCommand::State(_)
+        | TermCommand::Value(_, _)
+        | TermCommand::Expect(_) => true,
         TermCommand::Order(_)
         | TermCommand::Unit(_)
         | TermCommand::Units(_, _)
@@ -46,7 +50,8 @@ fn only_asks(command: &TermCommand<'_>) -> bool
         | TermCommand::Tick(_)
         | TermCommand::Told
         | TermCommand::Accepted
-        | TermCommand::Retrieve(_) => false,
+        | TermCommand::Retrieve(_)
+        | TermCommand::Reset => false,
     }
 }
 
