@@ -4,7 +4,9 @@ use Rattle.script_check.specs.Checked.{given, IsGiven, PrintsCosts, PrintsRefusa
 use Rattle.script_check.specs.declared.sets.SetWord.{SetWord}
 use Rattle.script_check.specs.declared.sets.SetWord.TheVariants.{Standard as standard_set, Q703 as q703_set, Monitors as monitors_set, Text}
 use Rattle.script_play.specs.Played.{IsOnSet, IsPlayed, IsPlayedInPart, IsNotRun, IsRefused, set_refused, script_refused}
+use Rattle.script_play.specs.Seen.{IsOnText, IsPlayCaptured, IsPlayCapturedInPart, IsPlayTold, IsPlayToldInPart}
 use Rattle.script_play.specs.Traced.{IsPlayTraced, IsPlayTracedInPart}
+use Rattle.script_play.specs.declared.watching.Wanted.{Wanted}
 use Rattle.pool_soak.specs.Findings.{IsSoaked, IsSoakedInVain, IsTurnedDown}
 use Rattle.line_filter.specs.Filters.{Line}
 use Rattle.line_play.specs.Opening.{IsNoSet}
@@ -96,6 +98,46 @@ pub traced_in_part : (usual wanted : RoundLimits) (every : Bool) (set script old
 traced_in_part usual wanted every set script old new same s =
     let Q : RoundLimits → Type 0 = λ l. IsOnSet set None (IsPlayTracedInPart l every old new) in
     subst Q same (record { draft = s.draft; is_set = s.is_set; of_script = some_bytes script (IsPlayTracedInPart usual every old new s.draft) s.of_script })
+
+-- what goes to a capture
+pub captured : (usual wanted : RoundLimits) (every : Bool) (set script old new : Option (List ℕ)) → usual ≡ wanted
+    → IsOnSet set script (IsPlayCaptured usual every old new) → IsOnSet set None (IsPlayCaptured wanted every old new)
+captured usual wanted every set script old new same s =
+    let Q : RoundLimits → Type 0 = λ l. IsOnSet set None (IsPlayCaptured l every old new) in
+    subst Q same (record { draft = s.draft; is_set = s.is_set; of_script = some_bytes script (IsPlayCaptured usual every old new s.draft) s.of_script })
+
+pub captured_in_part : (usual wanted : RoundLimits) (every : Bool) (set script old new : Option (List ℕ)) → usual ≡ wanted
+    → IsOnSet set script (IsPlayCapturedInPart usual every old new) → IsOnSet set None (IsPlayCapturedInPart wanted every old new)
+captured_in_part usual wanted every set script old new same s =
+    let Q : RoundLimits → Type 0 = λ l. IsOnSet set None (IsPlayCapturedInPart l every old new) in
+    subst Q same (record { draft = s.draft; is_set = s.is_set; of_script = some_bytes script (IsPlayCapturedInPart usual every old new s.draft) s.of_script })
+
+-- what is told at the end of a run
+pub told : (usual limits : RoundLimits) (wanted : Wanted) (set script old new : Option (List ℕ)) → usual ≡ limits
+    → IsOnText set script (λ text b. IsPlayTold usual wanted text b old new) → IsOnText set None (λ text b. IsPlayTold limits wanted text b old new)
+told usual limits wanted set script old new same s =
+    let Q : RoundLimits → Type 0 = λ l. IsOnText set None (λ text b. IsPlayTold l wanted text b old new) in
+    subst Q same
+    (record {
+      text = s.text;
+      is_known = s.is_known;
+      draft = s.draft;
+      is_set = s.is_set;
+      of_script = some_bytes script (IsPlayTold usual wanted s.text s.is_set.loaded.block old new s.draft) s.of_script;
+    })
+
+pub told_in_part : (usual limits : RoundLimits) (wanted : Wanted) (set script old new : Option (List ℕ)) → usual ≡ limits
+    → IsOnText set script (λ text b. IsPlayToldInPart usual wanted text b old new) → IsOnText set None (λ text b. IsPlayToldInPart limits wanted text b old new)
+told_in_part usual limits wanted set script old new same s =
+    let Q : RoundLimits → Type 0 = λ l. IsOnText set None (λ text b. IsPlayToldInPart l wanted text b old new) in
+    subst Q same
+    (record {
+      text = s.text;
+      is_known = s.is_known;
+      draft = s.draft;
+      is_set = s.is_set;
+      of_script = some_bytes script (IsPlayToldInPart usual wanted s.text s.is_set.loaded.block old new s.draft) s.of_script;
+    })
 
 -- it goes without the lines of commands
 pub without_lines : (usual : RoundLimits) (echo : Bool) (set old new : Option (List ℕ)) → echo ≡ false → IsOnSet set None (IsPlayed usual false old new)

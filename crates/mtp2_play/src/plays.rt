@@ -2,7 +2,7 @@
 ghost use Rattle.std.specs.Prelude.{◌≡◌, ◌⊎◌, None, false};
 ghost use Rattle.script_check.specs.Checked.{given};
 ghost use Rattle.script_play.specs.Played.{IsOnSet, IsPlayed, IsPlayedInPart, IsRefused};
-ghost use Rattle.script_play.specs.Seen.{IsPlayCaptured, IsPlayCapturedInPart, IsPlayTold, IsPlayToldInPart};
+ghost use Rattle.script_play.specs.Seen.{IsOnText, IsPlayCaptured, IsPlayCapturedInPart, IsPlayTold, IsPlayToldInPart};
 ghost use Rattle.script_play.specs.Traced.{IsPlayTraced, IsPlayTracedInPart};
 ghost use Rattle.mtp2_words.specs.Limits.{usual_limits_of};
 ghost use Rattle.mtp2_play.specs.Printed.{IsPlayedOn};
@@ -117,8 +117,10 @@ fn watch_on<H: Eprint, S: Read + Drop, T: Read + Drop, F: Write, W: Write>(
 ) -> u8
     ensures held { result ≡ 0 → IsOnSet (given S.remaining set) None (IsPlayed (usual_limits_of named.now) false (W.contents writer.old) (W.contents writer.new)) }
     ensures missed { result ≡ 1 → IsOnSet (given S.remaining set) None (IsPlayedInPart (usual_limits_of named.now) false (W.contents writer.old) (W.contents writer.new)) }
-    ensures told { result ≡ 0 → IsOnSet (given S.remaining set) None (IsPlayTold (usual_limits_of named.now) wanted (F.contents out.old) (F.contents out.new)) }
-    ensures in_part { result ≡ 1 → IsOnSet (given S.remaining set) None (IsPlayToldInPart (usual_limits_of named.now) wanted (F.contents out.old) (F.contents out.new)) }
+    ensures told { result ≡ 0
+        → IsOnText (given S.remaining set) None (λ text b. IsPlayTold (usual_limits_of named.now) wanted text b (F.contents out.old) (F.contents out.new)) }
+    ensures in_part { result ≡ 1
+        → IsOnText (given S.remaining set) None (λ text b. IsPlayToldInPart (usual_limits_of named.now) wanted text b (F.contents out.old) (F.contents out.new)) }
     ensures refused { result ≡ 2 → IsRefused (given S.remaining set) None (W.contents writer.old) (W.contents writer.new) }
     ensures status { (result ≡ 0) ⊎ (result ≡ 1) ⊎ (result ≡ 2) ⊎ (result ≡ 4) }
 {

@@ -46,9 +46,13 @@ party_quoted d p k = quoted (party_text d p k)
 
 -- ---- signals
 
+-- values, a comma before each
+abbrev pub more_values : List Value → List ℕ
+more_values vs = flat_map (λ x. codes ", " ++ value_text x) vs
+
 abbrev pub commaed : List Value → List ℕ
 commaed [] = []
-commaed (v ∷ vs) = value_text v ++ flat_map (λ x. codes ", " ++ value_text x) vs
+commaed (v ∷ vs) = value_text v ++ more_values vs
 
 -- a signal with its values in parentheses; without these, where there are none
 abbrev pub called_text : Draft → ℕ → List Value → List ℕ
@@ -57,11 +61,13 @@ called_text d s (v ∷ vs) = signal_text d s ++ codes "(" ++ commaed (v ∷ vs) 
 
 -- ---- rows of a turn
 
+abbrev pub clock_text : ℕ → List ℕ
+clock_text clock = codes "  ---" ++ labelled (decimal clock ++ codes " ms")
+
 -- the row of the time, where it isn't that of the row before
 abbrev pub time_text : Option ℕ → ℕ → List ℕ
-time_text None clock = codes "  ---" ++ labelled (decimal clock ++ codes " ms")
-time_text (Some last) clock =
-    if last == clock then [] else codes "  ---" ++ labelled (decimal clock ++ codes " ms")
+time_text None clock = clock_text clock
+time_text (Some last) clock = if last == clock then [] else clock_text clock
 
 -- a note or a box of an actor
 abbrev pub beside : Draft → ActorName → List ℕ → List ℕ → List ℕ
@@ -75,12 +81,16 @@ taken_text d me s vs (Some a) =
     codes "  " ++ party_quoted d a.party a.instance ++ codes " => " ++ actor_quoted d me
     ++ labelled (called_text d s vs)
 
+-- the note of a timer that an actor takes
+abbrev pub run_out_text : Draft → ActorName → ℕ → List ℕ
+run_out_text d me x =
+    beside d me (codes " note ") (timer_text d me.process.0 x ++ codes " runs out")
+
 abbrev pub trigger_text : Draft → ActorName → Turn → Option Trigger → List ℕ
 trigger_text d me t None = []
 trigger_text d me t (Some (trigger.Signal s)) =
     taken_text d me s.0 t.input.parameters.items t.input.sender
-trigger_text d me t (Some (trigger.Timer x)) =
-    beside d me (codes " note ") (timer_text d me.process.0 x.0 ++ codes " runs out")
+trigger_text d me t (Some (trigger.Timer x)) = run_out_text d me x.0
 
 -- what a turn took: nothing at START
 abbrev pub came_text : Draft → ActorName → Turn → Place → List ℕ
@@ -260,6 +270,19 @@ pub record IsDrawn (d : Draft) (ts : List TurnEnd) (c : Chart) : Type 0 where
       (x : ActorName)
       → list_any (λ y. same_actor y x) c.actors.items ≡ list_any (is_in d x) ts
   pub once : (x : ActorName) → count_by (λ y. same_actor y x) c.actors.items ≤ 1
+
+-- these actors take part too, and the environment where it does
+pub record TakesPart (P : ActorName → Bool) (outside : Bool) (old new : Chart) : Type 0 where
+  pub actors :
+      (x : ActorName)
+      → list_any (λ y. same_actor y x) new.actors.items
+      ≡ (list_any (λ y. same_actor y x) old.actors.items || P x)
+  pub once : ((x : ActorName) → count_by (λ y. same_actor y x) old.actors.items ≤ 1)
+      → (x : ActorName) → count_by (λ y. same_actor y x) new.actors.items ≤ 1
+  pub environment : new.environment ≡ (old.environment || outside)
+  pub rows : new.rows ≡ old.rows
+  pub clock : new.clock ≡ old.clock
+  pub cut : new.cut ≡ old.cut
 
 -- what it has of all turns that ended so far
 abbrev pub Charts : Draft → List TurnEnd → Chart → Type 0

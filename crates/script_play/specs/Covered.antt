@@ -1,13 +1,15 @@
 -- What of a text turns take: which transitions, and in these which statements and answers. A turn's
 -- way
 -- is that of what its transition means (sdl_meaning's `Act`), step by step.
-use Rattle.std.specs.Prelude.{◌≡◌, ◌<◌, ℕ, zero, suc, ◌==◌, nat_eq, Bool, true, false, ◌&&◌, List}
+use Rattle.std.specs.Prelude.{◌≡◌, ◌+◌, ℕ, zero, suc, ◌==◌, Bool, true, ◌&&◌, List}
 use Rattle.std.specs.Prelude.{[], ◌∷◌, ◌++◌}
-use Rattle.std.specs.Prelude.{length, Option, None, Some, slice_get, if◌then◌else◌, count_by, map}
+use Rattle.std.specs.Prelude.{length, Option, None, Some, slice_get, if◌then◌else◌, count_by}
+use Rattle.std.specs.Prelude.{unwrap_or, false}
 use Rattle.std.specs.List.{flat_map}
 use Rattle.sdl_meaning.specs.Act.{perform, value_of, try_ranges, find_truth, is_truth, choose, pick}
-use Rattle.sdl_meaning.specs.Act.{decide, join_in, act, take_places, scope_of}
-use Rattle.sdl_meaning.specs.Outcomes.{Scope, Outcome, goes_on, over, then_do}
+use Rattle.sdl_meaning.specs.Act.{decide, follow, join_in, Act, take_places, scope_of}
+use Rattle.sdl_meaning.specs.Outcomes.{Scope, Ending, at_end, in_trouble, Outcome, goes_on}
+use Rattle.sdl_meaning.specs.Outcomes.{over}
 use Rattle.sdl_sound.specs.Longest.{Piece, start_piece, input_piece}
 use Rattle.sdl_sound.specs.Plain.{Text, falls, ends, does, decides, Choice, nothing_else, otherwise}
 use Rattle.sdl_sound.specs.Plain.{answer, PlainAction, task, output, set_timer, reset_timer}
@@ -16,7 +18,7 @@ use Rattle.sdl_sound.specs.TableNames.{connection_named}
 use Rattle.sdl_sound.specs.sdl_ast_types.tree.End.{End}
 use Rattle.sdl_sound.specs.sdl_ast_types.tree.End.TheVariants.{NextState, Stop, Join}
 use Rattle.sdl_tables.specs.Names.{Input, inputs_by_state}
-use Rattle.turn_code.specs.Run.{Progress, tick, begun}
+use Rattle.turn_code.specs.Run.{Progress, tick, begun, Ran, ended, got_stuck}
 use Rattle.turn_code.specs.declared.input.Address.{Address}
 use Rattle.turn_code.specs.declared.input.Input as given
 use Rattle.turn_code.specs.declared.input.Place.{Place}
@@ -28,6 +30,7 @@ use Rattle.script_seen.specs.Watched.{TurnEnd}
 use Rattle.sdl_ast.specs.Views.{block_of}
 use Rattle.sdl_tables.specs.Names.{processes_of}
 use Rattle.sdl_ast.specs.declared.tree.Block.{Block}
+use Rattle.script_play.specs.declared.coverage.Places.{Places}
 use Rattle.script_play.specs.declared.coverage.Turns.{Turns}
 use Rattle.script_play.specs.declared.coverage.Taken.{Taken as Known}
 
@@ -120,13 +123,16 @@ followed c sender (suc n) x s =
     entered (connection_named c.process x)
     (λ t. passes c (join_in c sender) (followed c sender n) sender t s)
 
--- a turn of a transition, which stands at this place
-abbrev pub taken_by : Scope → ℕ → Piece → given.Input → List Taken
-taken_by c k q x =
-    at k
-    ∷ behind (take_places c x.parameters.items 0 q.places (begun x)) (λ _ s.
+-- what a turn of a transition takes in its text, and in those to which it joins
+abbrev pub passed : Scope → Piece → given.Input → List Taken
+passed c q x =
+    behind (take_places c x.parameters.items 0 q.places (begun x)) (λ _ s.
     passes c (join_in c x.sender) (followed c x.sender (length c.process.connections))
     x.sender q.text s)
+
+-- a turn of a transition, which stands at this place
+abbrev pub taken_by : Scope → ℕ → Piece → given.Input → List Taken
+taken_by c k q x = at k ∷ passed c q x
 
 abbrev pub taken_input : Scope → Option Input → given.Input → List Taken
 taken_input c None x = []
@@ -176,6 +182,40 @@ abbrev pub is_of : ℕ → Place → ℕ → TurnEnd → Bool
 is_of p s n t =
     (t.me.process.0 == p) && (is_place t.turn.place s && (t.turn.input_number == n))
 
+-- ---- turns that ended
+
+-- a transition's meaning on an input is an end
+abbrev pub HasEnded : Ran → Type 0
+HasEnded (ended e s) = Unit {0}
+HasEnded (got_stuck trouble) = ⊥
+
+abbrev pub IsAnEnd : Ending → Type 0
+IsAnEnd (at_end e) = Unit {0}
+IsAnEnd (in_trouble trouble) = ⊥
+
+abbrev pub ComesToEnd : {A : Type 0} → Outcome A → Type 0
+ComesToEnd (goes_on x s) = ⊥
+ComesToEnd (over e s) = IsAnEnd e
+
+-- what a JOIN goes on with, where at most so many are followed
+abbrev pub join_by : Scope → Option Address → ℕ → List ℕ → Progress → Outcome (Unit {0})
+join_by c sender n x s = follow c sender n x s
+
+abbrev pub InputEnded : Scope → Option Input → given.Input → Type 0
+InputEnded c None x = ⊥
+InputEnded c (Some i) x = HasEnded (Act c (input_piece i) x)
+
+abbrev pub EndedAt : Scope → Place → ℕ → given.Input → Type 0
+EndedAt c Start n x = HasEnded (Act c (start_piece c.process) x)
+EndedAt c (AtState q) n x =
+    InputEnded c (input_at (slice_get (inputs_by_state c.process) q.0) n) x
+
+-- a turn's transition means an end on its input
+abbrev pub MeansEnded : Scope → Turn → Type 0
+MeansEnded c t = EndedAt c t.place t.input_number t.input
+
+-- ---- what is known of it
+
 -- as they are counted
 abbrev pub known_turns : List Turns → ℕ → Place → ℕ → ℕ
 known_turns [] p s n = 0
@@ -186,16 +226,25 @@ known_turns (t ∷ ts) p s n =
 abbrev pub turns_of : ℕ → Place → ℕ → List TurnEnd → ℕ
 turns_of p s n ts = count_by (is_of p s n) ts
 
--- what is known of what turns took of a block; a place of 2^64 passes is past any run
+-- each place has this count, unless a count is past what is kept
+abbrev pub CountsPlaces : (ℕ → ℕ) → Places → Type 0
+CountsPlaces f p =
+    p.over ≡ false → (k : ℕ) → unwrap_or (slice_get p.times.items k) 0 ≡ f k
+
+-- one more at a place
+abbrev pub one_more : ℕ → (ℕ → ℕ) → ℕ → ℕ
+one_more at f k = if k == at then f k + 1 else f k
+
+-- what was taken so far
+pub record Counts (xs : List Taken) (c : Known) : Type 0 where
+  pub begun : CountsPlaces (λ k. times k xs) c.begun
+  pub others : CountsPlaces (λ k. others k xs) c.others
+
+abbrev pub CountsTurns : List TurnEnd → Known → Type 0
+CountsTurns ts c =
+    (p n : ℕ) (s : Place) → known_turns c.turns.items p s n ≡ turns_of p s n ts
+
+-- what is known of what turns took of a block
 pub record Covers (b : Block) (ts : List TurnEnd) (c : Known) : Type 0 where
-  pub turns :
-      (p n : ℕ) (s : Place)
-      → known_turns c.turns.items p s n ≡ turns_of p s n ts
-  pub begun :
-      (k : ℕ) → k < length c.begun.times.items
-      → slice_get c.begun.times.items k
-      ≡ Some (times k (taken_in (block_of b) (processes_of (block_of b)) ts))
-  pub others :
-      (k : ℕ) → k < length c.others.times.items
-      → slice_get c.others.times.items k
-      ≡ Some (others k (taken_in (block_of b) (processes_of (block_of b)) ts))
+  pub turns : CountsTurns ts c
+  pub counts : Counts (taken_in (block_of b) (processes_of (block_of b)) ts) c

@@ -1,7 +1,7 @@
 -- What of a text was taken, in the format of lcov (geninfo's tracefiles): transitions are
 -- functions,
 -- answers of DECISIONs branches.
-use Rattle.std.specs.Prelude.{ℕ, zero, suc, ◌+◌, ◌==◌, nat_lt, Bool, true, false, List, [], ◌∷◌}
+use Rattle.std.specs.Prelude.{◌≡◌, ◌≤◌, ℕ, zero, suc, ◌+◌, ◌==◌, nat_lt, Bool, true, false, List, [], ◌∷◌}
 use Rattle.std.specs.Prelude.{◌++◌, length, map}
 use Rattle.std.specs.Prelude.{take, count_by, max, Option, None, Some, codes, if◌then◌else◌, filter}
 use Rattle.std.specs.Prelude.{unwrap_or, option_map, slice_get}
@@ -73,8 +73,9 @@ texts_of p =
 
 abbrev pub process_places : PlainProcess → List ℕ
 process_places p =
-    p.start.at ∷ (map (λ (i : PlainInput). i.at) (input_parts p)
-    ++ flat_map places_in (texts_of p))
+    (p.start.at ∷ places_in p.start.text)
+    ++ (flat_map (λ (i : PlainInput). i.at ∷ places_in i.text) (input_parts p)
+    ++ flat_map (λ (c : PlainConnection). places_in c.text) p.connections)
 
 -- ---- functions
 
@@ -83,14 +84,18 @@ pub record Row : Type 0 where
   pub name : List ℕ
   pub turns : ℕ
 
+abbrev pub named_as : Option ℕ → List Identifier → Option (List ℕ)
+named_as None ids = None
+named_as (Some n) ids = option_map (λ (i : Identifier). i.name) (slice_get ids n)
+
+-- the name of a signal or timer as it is declared
 abbrev pub declared : PlainBlock → PlainProcess → Identifier → List ℕ
 declared b p id =
     unwrap_or (named_as (number_of (signal_names b) id.name) (signal_names b))
     (unwrap_or (named_as (number_of (timers_of p) id.name) (timers_of p)) id.name)
-  where
-    named_as : Option ℕ → List Identifier → Option (List ℕ)
-    named_as None ids = None
-    named_as (Some n) ids = option_map (λ (i : Identifier). i.name) (slice_get ids n)
+
+abbrev pub start_name : PlainProcess → List ℕ
+start_name p = p.name.name ++ codes " START"
 
 abbrev pub input_name : PlainBlock → PlainProcess → ℕ → Input → List ℕ
 input_name b p q i =
@@ -116,7 +121,7 @@ rows_from b p ts k q (is ∷ more) =
 -- START, and the inputs of each state; of process k
 abbrev pub process_rows : PlainBlock → List TurnEnd → ℕ → PlainProcess → List Row
 process_rows b ts k p =
-    record { at = p.start.at; name = p.name.name ++ codes " START"; turns = turns_of k Start 0 ts }
+    record { at = p.start.at; name = start_name p; turns = turns_of k Start 0 ts }
     ∷ rows_from b p ts k 0 (inputs_by_state p)
 
 abbrev pub rows_of : PlainBlock → List TurnEnd → ℕ → List PlainProcess → List Row
@@ -129,8 +134,15 @@ rows_of b ts k (p ∷ ps) = process_rows b ts k p ++ rows_of b ts (k + 1) ps
 abbrev pub line_at : List ℕ → ℕ → ℕ
 line_at text place = count_by (λ (o : ℕ). o == 10) (take place text) + 1
 
-abbrev pub numbers_line : List ℕ → ℕ → List ℕ → List ℕ
-numbers_line word n rest = word ++ decimal n ++ rest ++ codes "\n"
+-- the number of the line of each place of a text, and of its end
+pub record AreLines (text lines : List ℕ) : Type 0 where
+  pub number : length lines ≡ length text + 1
+  pub are : (k : ℕ) → k ≤ length text → slice_get lines k ≡ Some (line_at text k)
+
+-- numbers with commas between them, and the end of the line
+abbrev pub numbers_text : List ℕ → List ℕ
+numbers_text [] = codes "\n"
+numbers_text (n ∷ ns) = decimal n ++ flat_map (λ m. codes "," ++ decimal m) ns ++ codes "\n"
 
 abbrev pub row_line : List ℕ → List ℕ → ℕ → List ℕ
 row_line name word n = word ++ decimal n ++ codes "," ++ name ++ codes "\n"
@@ -197,17 +209,19 @@ lines_text text xs ks =
     ++ decimal (count_by (λ line. nat_lt 0 (line_times text xs line ks)) (lines_of text ks))
     ++ codes "\n"
 
--- what turns took of the text of a block, in a file of this name
-abbrev pub lcov_text : List ℕ → List ℕ → PlainBlock → List TurnEnd → List ℕ
-lcov_text name text b ts =
-    codes "TN:scripts\nSF:" ++ name ++ codes "\n" ++ rows_text text (rows_of b ts 0 ps)
+-- the DECISIONs of processes
+abbrev pub all_asked : List PlainProcess → List Asked
+all_asked ps = flat_map (λ p. flat_map asked_in (texts_of p)) ps
+
+-- what was taken of the text of a block, in a file of this name
+abbrev pub report_text : List ℕ → List ℕ → List Row → List Taken → List Asked → List ℕ → List ℕ
+report_text name text rows xs as places =
+    codes "TN:scripts\nSF:" ++ name ++ codes "\n" ++ rows_text text rows
     ++ branches_text text xs as ++ codes "BRF:" ++ decimal (length (flat_map (takings xs) as))
     ++ codes "\nBRH:" ++ decimal (count_by (nat_lt 0) (flat_map (takings xs) as)) ++ codes "\n"
-    ++ lines_text text xs (flat_map process_places ps) ++ codes "end_of_record\n"
-  where
-    ps : List PlainProcess
-    ps = processes_of b
-    xs : List Taken
-    xs = taken_in b ps ts
-    as : List Asked
-    as = flat_map (λ p. flat_map asked_in (texts_of p)) ps
+    ++ lines_text text xs places ++ codes "end_of_record\n"
+
+abbrev pub lcov_text : List ℕ → List ℕ → PlainBlock → List TurnEnd → List ℕ
+lcov_text name text b ts =
+    report_text name text (rows_of b ts 0 (processes_of b)) (taken_in b (processes_of b) ts)
+    (all_asked (processes_of b)) (flat_map process_places (processes_of b))

@@ -1,10 +1,9 @@
 -- What the status of `play` says of what is told at the end of a run, and of a capture.
-use Rattle.std.specs.Prelude.{◌≡◌, ℕ, Bool, List, [], Option, Some, Ok, IsUtf8}
+use Rattle.std.specs.Prelude.{◌≡◌, ℕ, Bool, List, [], Option, IfSome, Result, Ok, Err, IsUtf8}
+use Rattle.std.specs.Global.{Vec}
 use Rattle.std.specs.Io.KnownBytes.{Appends}
 use Rattle.turn_code.specs.declared.draft.Draft.{Draft}
-use Rattle.sdl_lex.specs.declared.lexemes.Token.{Token}
 use Rattle.sdl_sound.specs.Plain.{PlainBlock}
-use Rattle.turn_verify.specs.Loaded.{IsRead}
 use Rattle.script_check.specs.Checked.{IsGiven, IsSetOf}
 use Rattle.script_seen.specs.resend_store_types.messages.RoundLimits.{RoundLimits}
 use Rattle.script_seen.specs.TermScripts.{PlainAnyScript, book, terminal, asks_told}
@@ -33,6 +32,12 @@ told_of (Coverage name) text b d ns = lcov_text name.now text b (turns_in ns)
 abbrev pub IsTold :
     Wanted → List ℕ → PlainBlock → Draft → Option (List ℕ) → Option (List ℕ) → List Notice → Type 0
 IsTold wanted text b d old new ns = Appends old new (told_of wanted text b d ns)
+
+-- what is told was written
+abbrev pub IsToldTo :
+    {E : Type 0} → Result (Vec ℕ) E → Option (List ℕ) → Option (List ℕ) → Type 0
+IsToldTo (Ok text) old new = Appends old new text.items
+IsToldTo (Err error) old new = ⊥
 
 -- of all commands of a script; of a link set nothing is told
 abbrev pub IsOtherTold :
@@ -122,15 +127,12 @@ pub record IsPlayCapturedInPart (usual : RoundLimits) (every : Bool) (old new : 
 
 -- ---- on a text
 
--- the bytes of the set are a text that reads as a block and is accepted, and P holds of these, of
--- their set and of the bytes of the script
+-- the bytes of the set are a text that is accepted, and P holds of these, of their block, of their
+-- set and of the bytes of the script
 pub record IsOnText (set script : Option (List ℕ))
     (P : List ℕ → PlainBlock → Draft → List ℕ → Type 0) : Type 0 where
   pub text : List ℕ
-  pub is_text : IsGiven set (λ bytes. bytes ≡ text)
-  pub tokens : List Token
-  pub block : PlainBlock
-  pub reads : IsRead text tokens block
+  pub is_known : IfSome set (λ all. text ≡ all)
   pub draft : Draft
   pub is_set : IsSetOf text draft
-  pub of_script : IsGiven script (P text block draft)
+  pub of_script : IsGiven script (P text is_set.loaded.block draft)

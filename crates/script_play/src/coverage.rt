@@ -1,13 +1,20 @@
 //! What of a text its turns took: transitions, answers and lines.
-use crate::values::{Variables, answers};
-use arrayvec::ArrayVec;
+ghost use Rattle.std.specs.Prelude.{◌≡◌, ◌∷◌, ◌++◌, ◌||◌, [], ℕ, List, Some, OnOk, IfOk, map, slice_get, false};
+ghost use Rattle.sdl_ast.specs.Views.{action_of, block_of, process_of};
+ghost use Rattle.sdl_ast.specs.declared.tree.Block.{Block};
+ghost use Rattle.sdl_meaning.specs.Act.{scope_of};
+ghost use Rattle.sdl_meaning.specs.Outcomes.{Scope};
+ghost use Rattle.sdl_tables.specs.Names.{inputs_by_state, processes_of};
+ghost use Rattle.sdl_tables.specs.Rows.{rows_inputs};
+ghost use Rattle.script_seen.specs.Watched.{TurnEnd, IsEnd};
+ghost use Rattle.script_play.specs.Covered.{Taken as OneTaken, at, else_of, action_place, end_place, taken_at, times, others, known_turns, one_more, Counts, CountsPlaces, CountsTurns, Covers, MeansEnded};
+
+use crate::ways::pass;
 use script_seen::{Ended, Job};
 use sdl_tables::{InputRow, ProcessTable};
-use sdl_tree::{
-    Action, Connection, Decision, End, Expression, Identifier, Statement, Stimulus, Transition,
-};
+use sdl_tree::{Action, End};
 use std::alloc::{AllocError, Global};
-use turn_code::{Place, ProcessNumber, StateNumber, Value, copied_variables};
+use turn_code::{Place, ProcessNumber, StateNumber};
 
 /// The turns of a transition.
 #[derive(Clone, Copy, PartialEq, Eq, Debug)]
@@ -22,6 +29,8 @@ pub(crate) struct Turns {
 #[derive(Drop)]
 pub(crate) struct Places {
     times: Vec<u64>,
+    /// Whether one was taken so often that no number says it.
+    over: bool,
 }
 
 /// What was taken of a text.
@@ -36,24 +45,35 @@ pub struct Taken {
 
 impl Places {
     /// None of the places of a text of this length was taken.
-    fn new(alloc: Global, length: usize) -> Result<Places, AllocError> {
+    fn new(alloc: Global, length: usize) -> Result<Places, AllocError>
+        ensures { IfOk result (CountsPlaces (λ k. 0)) }
+    {
         let mut times = Vec::new(alloc);
         for _ in 0..length {
             times.push(0)?;
         }
-        Ok(Places { times })
+        Ok(Places { times, over: false })
     }
 
     /// What begins at a place is taken.
-    fn take(&mut self, at: u32) {
+    fn take(&mut self, at: u32)
+        ensures { (f : ℕ → ℕ) → CountsPlaces f self.old → CountsPlaces (one_more at f) self.new }
+    {
         let place = at as usize;
         if place < self.times.len() {
-            self.times[place] = self.times[place].saturating_add(1);
+            match self.times[place].checked_add(1) {
+                Some(times) => self.times[place] = times,
+                None => self.over = true,
+            }
+        } else {
+            self.over = true;
         }
     }
 
     /// How often what begins at a place was taken.
-    pub(crate) fn times(&self, at: u32) -> u64 {
+    fn times(&self, at: u32) -> u64
+        ensures { (f : ℕ → ℕ) → CountsPlaces f self.now → self.now.over ≡ false → result ≡ f at }
+    {
         match self.times.get(at as usize) {
             Some(times) => *times,
             None => 0,
@@ -62,7 +82,9 @@ impl Places {
 }
 
 /// Where an action begins.
-pub(crate) fn action_place(action: &Action) -> u32 {
+pub(crate) fn action_place(action: &Action) -> u32
+    ensures { result ≡ action_place (action_of action.now) }
+{
     match action {
         Action::Task(task) => task.at,
         Action::Output(output) => output.at,
@@ -72,7 +94,9 @@ pub(crate) fn action_place(action: &Action) -> u32 {
 }
 
 /// Where the end of a transition begins.
-pub(crate) fn end_place(end: &End) -> u32 {
+pub(crate) fn end_place(end: &End) -> u32
+    ensures { result ≡ end_place end.now }
+{
     match end {
         End::NextState(next) => next.at,
         End::Stop(at) => *at,
@@ -80,98 +104,11 @@ pub(crate) fn end_place(end: &End) -> u32 {
     }
 }
 
-/// A turn on its way through its text.
-#[derive(Drop)]
-struct Walk<'a, 'b> {
-    taken: &'b mut Taken,
-    process: &'b ProcessTable<'a>,
-    values: ArrayVec<Option<Value>, 32>,
-}
-
-impl Walk<'_, '_> {
-    /// A variable gets a value.
-    fn assign(&mut self, variable: &Identifier, value: Option<Value>) {
-        let Some(number) = self.process.variables().number(variable.name) else {
-            return;
-        };
-        if number < self.values.len() {
-            self.values[number] = value;
-        }
-    }
-
-    /// What an expression comes to now.
-    fn evaluate(&self, expression: &Expression) -> Option<Value> {
-        let variables = Variables {
-            names: self.process.variables(),
-            values: self.values.as_slice(),
-        };
-        variables.evaluate(expression)
-    }
-
-    /// An action is done.
-    fn act(&mut self, action: &Action) {
-        self.taken.begun.take(action_place(action));
-        if let Action::Task(task) = action {
-            for assignment in &task.assignments {
-                let value = self.evaluate(&assignment.value);
-                self.assign(&assignment.variable, value);
-            }
-        }
-    }
-
-    /// A DECISION is asked. The end of the transition, if it has come to it.
-    #[cycle(walking)]
-    fn decide(&mut self, decision: &Decision) -> Option<End> {
-        self.taken.begun.take(decision.at);
-        let value = self.evaluate(&decision.question)?;
-        for answer in &decision.answers {
-            if answers(answer, value) {
-                self.taken.begun.take(answer.at);
-                return self.walk(&answer.body);
-            }
-        }
-        self.taken.others.take(decision.at);
-        match &decision.otherwise {
-            Some(body) => self.walk(body),
-            None => None,
-        }
-    }
-
-    /// A statement. The end of the transition, if it has come to it.
-    #[cycle(walking)]
-    fn state(&mut self, statement: &Statement) -> Option<End> {
-        match statement {
-            Statement::Act(action) => {
-                self.act(action);
-                None
-            }
-            Statement::Decide(decision) => self.decide(decision),
-        }
-    }
-
-    /// A transition, or a body of a DECISION. Its end, if it has come to it.
-    #[cycle(walking)]
-    fn walk(&mut self, transition: &Transition) -> Option<End> {
-        for statement in &transition.statements {
-            if let Some(end) = self.state(statement) {
-                return Some(end);
-            }
-        }
-        let end = transition.end?;
-        self.taken.begun.take(end_place(&end));
-        Some(end)
-    }
-}
-
-/// The connection of a process with this name.
-fn connection_named<'a>(process: &ProcessTable<'a>, name: &Identifier) -> Option<&'a Connection> {
-    let number = process.connectors().number(name.name)?;
-    process.process().connections.get(number)
-}
-
 impl Taken {
     /// Nothing of a text of this length was taken.
-    pub(crate) fn new(alloc: Global, length: usize) -> Result<Taken, AllocError> {
+    pub(crate) fn new(alloc: Global, length: usize) -> Result<Taken, AllocError>
+        ensures { (b : Block) → IfOk result (Covers b []) }
+    {
         let begun = Places::new(alloc, length)?;
         let others = Places::new(alloc, length)?;
         Ok(Taken {
@@ -181,25 +118,6 @@ impl Taken {
         })
     }
 
-    /// A transition has one turn more.
-    fn count(&mut self, job: &Job) -> Result<(), AllocError> {
-        let (process, place, input) = (job.process(), job.place(), job.input_number());
-        match self.number(process, place, input) {
-            Some(number) => {
-                self.turns[number].times = self.turns[number].times.saturating_add(1);
-                Ok(())
-            }
-            None => Ok(
-                self.turns.push(Turns {
-                    process,
-                    place,
-                    input,
-                    times: 1,
-                })?,
-            ),
-        }
-    }
-
     /// Where the turns of a transition are counted, if it had one.
     fn number(&self, process: ProcessNumber, place: Place, input: usize) -> Option<usize> {
         self.turns.iter().position(|it| it.process == process
@@ -207,81 +125,134 @@ impl Taken {
             && it.input == input)
     }
 
+    /// A transition has one turn more.
+    ///
+    /// # Errors
+    ///
+    /// Where there is no memory, or its turns are more than 64 bits count.
+    fn count(&mut self, me: ProcessNumber, job: &Job) -> Result<(), AllocError>
+        ensures { OnOk result ((ts : List TurnEnd) (t : TurnEnd) → t.me.process ≡ me → t.turn ≡ job.now → CountsTurns ts self.old → CountsTurns (ts ++ t ∷ []) self.new) }
+    {
+        let (place, input) = (job.place(), job.input_number());
+        match self.number(me, place, input) {
+            Some(number) => match self.turns[number].times.checked_add(1) {
+                Some(times) => {
+                    self.turns[number].times = times;
+                    Ok(())
+                }
+                None => Err(AllocError),
+            },
+            None => {
+                let turns = Turns {
+                    process: me,
+                    place,
+                    input,
+                    times: 1,
+                };
+                Ok(self.turns.push(turns)?)
+            }
+        }
+    }
+
     /// How many turns a transition had.
-    pub(crate) fn turns(&self, process: ProcessNumber, place: Place, input: usize) -> u64 {
+    pub(crate) fn turns(&self, process: ProcessNumber, place: Place, input: usize) -> u64
+        ensures { result ≡ known_turns self.now.turns.items process.0 place input }
+    {
         match self.number(process, place, input) {
             Some(number) => self.turns[number].times,
             None => 0,
         }
     }
 
+    /// What begins at a place is taken.
+    pub(crate) fn take_at(&mut self, place: u32)
+        ensures counts { (xs : List OneTaken) → Counts xs self.old → Counts (xs ++ at place ∷ []) self.new }
+        ensures turns { self.new.turns ≡ self.old.turns }
+    {
+        self.begun.take(place);
+    }
+
+    /// The ELSE of the DECISION at a place is taken.
+    pub(crate) fn take_else(&mut self, place: u32)
+        ensures counts { (xs : List OneTaken) → Counts xs self.old → Counts (xs ++ else_of place ∷ []) self.new }
+        ensures turns { self.new.turns ≡ self.old.turns }
+    {
+        self.others.take(place);
+    }
+
+    /// Whether something was taken so often that no number says it.
+    pub(crate) fn is_over(&self) -> bool
+        ensures { result ≡ self.now.begun.over || self.now.others.over }
+    {
+        self.begun.over || self.others.over
+    }
+
     /// How often what begins at a place was taken.
-    pub(crate) fn times(&self, at: u32) -> u64 {
+    pub(crate) fn times(&self, at: u32) -> u64
+        ensures { (xs : List OneTaken) → Counts xs self.now → self.now.begun.over ≡ false → result ≡ times at xs }
+    {
         self.begun.times(at)
     }
 
     /// How often the ELSE of the DECISION at a place was taken.
-    pub(crate) fn others(&self, at: u32) -> u64 {
+    pub(crate) fn others(&self, at: u32) -> u64
+        ensures { (xs : List OneTaken) → Counts xs self.now → self.now.others.over ≡ false → result ≡ others at xs }
+    {
         self.others.times(at)
     }
 
-    /// A turn goes through a transition of its process.
-    fn go(
+    /// What a turn takes of the text of its process, of which these are the inputs of each state.
+    fn take_text(
         &mut self,
         process: &ProcessTable<'_>,
-        transition: &Transition,
+        inputs: &[Vec<InputRow<'_>>],
         job: &Job,
-        stimulus: Option<&Stimulus>,
-    ) {
-        let mut walk = Walk {
-            taken: self,
-            process,
-            values: copied_variables(&job.input().variables),
-        };
-        if let Some(stimulus) = stimulus {
-            for (number, place) in stimulus.places.iter().enumerate() {
-                if let Some(variable) = place {
-                    let value = job.input().parameters.get(number).copied();
-                    walk.assign(variable, value);
+    )
+        ensures counts { (c : Scope) (xs : List OneTaken) → c.process ≡ process_of process.now → map rows_inputs inputs.now ≡ inputs_by_state (process_of process.now)
+            → MeansEnded c job.now → Counts xs self.old → Counts (xs ++ taken_at c job.now.place job.now.input_number job.now.input) self.new }
+        ensures turns { self.new.turns ≡ self.old.turns }
+    {
+        match job.place() {
+            Place::Start => {
+                let start = &process.process().start;
+                self.take_at(start.at);
+                pass(process, self, &start.transition, &[], job);
+            }
+            Place::State(StateNumber(state)) => {
+                if let Some(rows) = inputs.get(usize::from(state)) {
+                    if let Some(row) = rows.get(job.input_number()) {
+                        self.take_at(row.input.at);
+                        pass(
+                            process,
+                            self,
+                            &row.input.transition,
+                            &row.stimulus.places,
+                            job,
+                        );
+                    }
                 }
             }
-        }
-        let mut end = walk.walk(transition);
-        for _ in 0..process.process().connections.len() {
-            let Some(End::Join(join)) = end else {
-                return;
-            };
-            let Some(connection) = connection_named(process, &join.connector) else {
-                return;
-            };
-            end = walk.walk(&connection.transition);
         }
     }
 
     /// A turn ended, of a process with these inputs of each of its states.
+    ///
+    /// # Errors
+    ///
+    /// Where there is no memory, or a transition has more turns than 64 bits count.
     pub(crate) fn take(
         &mut self,
         process: &ProcessTable<'_>,
         inputs: &[Vec<InputRow<'_>>],
         ended: &Ended,
-    ) -> Result<(), AllocError> {
+    ) -> Result<(), AllocError>
+        ensures { OnOk result ((b : Block) (ts : List TurnEnd) (t : TurnEnd) → IsEnd ended.now t → slice_get (processes_of (block_of b)) t.me.process.0 ≡ Some (process_of process.now)
+            → map rows_inputs inputs.now ≡ inputs_by_state (process_of process.now) → MeansEnded (scope_of (block_of b) (process_of process.now)) t.turn
+            → Covers b ts self.old → Covers b (ts ++ t ∷ []) self.new) }
+    {
         let job = ended.done.job();
-        self.count(job)?;
-        match job.place() {
-            Place::Start => {
-                let start = &process.process().start;
-                self.begun.take(start.at);
-                self.go(process, &start.transition, job, None);
-            }
-            Place::State(StateNumber(state)) => {
-                if let Some(rows) = inputs.get(usize::from(state)) {
-                    if let Some(row) = rows.get(job.input_number()) {
-                        self.begun.take(row.input.at);
-                        self.go(process, &row.input.transition, job, Some(row.stimulus));
-                    }
-                }
-            }
-        }
+        self.count(ended.me.process, job)?;
+        self.take_text(process, inputs, job);
         Ok(())
     }
 }

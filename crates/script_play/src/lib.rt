@@ -5,14 +5,18 @@ mod captured_groups;
 mod captured_plays;
 mod captured_terminals;
 mod capturing;
+mod chart_rows;
 mod charts;
 mod coverage;
 mod lcov;
 mod playing;
+mod report;
 mod thrown;
 mod tracing;
 mod values;
+mod watchers;
 mod watching;
+mod ways;
 
 pub use captured_plays::play_captured;
 pub use charts::Cut;

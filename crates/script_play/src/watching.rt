@@ -1,12 +1,17 @@
 //! The command `play` with what is told of its run at the end: a chart, what was thrown away, or what of the text was taken.
-ghost use Rattle.std.specs.Prelude.{◌≡◌, ◌⊎◌, IfSome, false};
+ghost use Rattle.std.specs.Prelude.{◌≡◌, ◌⊎◌, ℕ, [], List, IfSome, IfOk, false};
+ghost use Rattle.std.specs.Io.KnownBytes.{Appends};
+ghost use Rattle.plain_text.specs.Reading.{Keeps};
+ghost use Rattle.sdl_ast.specs.Views.{block_of};
 ghost use Rattle.script_check.specs.Checked.{given, IsAccepted};
-ghost use Rattle.script_play.specs.Played.{IsOnSet, IsPlayed, IsPlayedInPart, IsRefused};
-ghost use Rattle.script_play.specs.Seen.{IsOnText, IsPlayTold, IsPlayToldInPart};
+ghost use Rattle.script_check.specs.Loaded.{IsLoaded};
+ghost use Rattle.script_seen.specs.GroupScripts.{plain_play_script, IsFit};
 ghost use Rattle.script_seen.specs.Watched.{turns_in, throws_in};
-ghost use Rattle.script_play.specs.Charted.{Charts};
-ghost use Rattle.script_play.specs.Thrown.{CountsThrown};
-ghost use Rattle.script_play.specs.Covered.{Covers};
+ghost use Rattle.script_play.specs.Played.{IsObeyed, IsMissedIn, HasNoTerminal, IsNotRun, IsOnSet, IsPlayed, IsPlayedInPart, IsRefused};
+ghost use Rattle.script_play.specs.Seen.{AreTold, AreToldInPart, IsTold, IsToldTo, IsOnText, IsPlayTold, IsPlayToldInPart};
+ghost use Rattle.script_play.specs.Charted.{chart_text};
+ghost use Rattle.script_play.specs.Lcov.{lcov_text};
+ghost use Rattle.script_play.specs.Thrown.{thrown_text};
 
 use crate::charts::{Chart, Cut};
 use crate::coverage::Taken;
@@ -14,18 +19,19 @@ use crate::lcov::lcov_text;
 use crate::playing::{explain, explain_length, refuse_script};
 use crate::thrown::Thrown;
 use crate::tracing::lacks_trace;
+use crate::watchers::{Covering, all_inputs};
 use plain_text::{TextRead, line_at_limit, read_text};
 use script_check::{MONITORS, Q703, STANDARD, SetWord, find_in, find_set, refuse_set};
 use script_lines::ScriptFault;
 use script_seen::{
-    Actor, AnyScript, Ended, FAILED, HELD, MISSED, PlayScript, RoundLimits, Watcher,
-    play_script_in, refuse, watch_book, watch_terminal,
+    AnyScript, FAILED, HELD, MISSED, PlayScript, RoundLimits, Watcher, play_script_in, refuse,
+    watch_book, watch_terminal,
 };
 use sdl_lex::tokens;
-use sdl_tables::{BlockTable, InputRow};
+use sdl_tables::BlockTable;
 use sdl_tree::parse;
 use std::alloc::{AllocError, Global};
-use std::io::{self, ErrorKind, Read, Write};
+use std::io::{self, Read, Write};
 use std::str;
 use turn_check::Verified;
 
@@ -40,71 +46,6 @@ pub enum Wanted<'a> {
     Coverage(&'a str),
 }
 
-impl Watcher for Chart {
-    ghost knows = { λ d ns c. Charts d (turns_in ns) c };
-
-    fn end(&mut self, alloc: Global, set: &Verified, ended: &Ended) -> io::Result<()> {
-        Ok(self.draw(alloc, set, ended)?)
-    }
-
-    fn throw(&mut self, _alloc: Global, _set: &Verified, _actor: &Actor) -> io::Result<()> {
-        Ok(())
-    }
-}
-
-impl Watcher for Thrown {
-    ghost knows = { λ d ns t. CountsThrown (throws_in ns) t };
-
-    fn end(&mut self, _alloc: Global, _set: &Verified, _ended: &Ended) -> io::Result<()> {
-        Ok(())
-    }
-
-    fn throw(&mut self, _alloc: Global, set: &Verified, actor: &Actor) -> io::Result<()> {
-        Ok(self.throw_away(set, actor)?)
-    }
-}
-
-/// What is taken of a text that has tables.
-#[derive(Drop)]
-struct Covering<'a, 'b> {
-    block: &'b BlockTable<'a>,
-    /// For each process, and each of its states, what it takes.
-    inputs: Vec<Vec<Vec<InputRow<'a>>>>,
-    taken: Taken,
-}
-
-impl Watcher for Covering<'_, '_> {
-    ghost knows = { λ d ns c. Covers c.block.now (turns_in ns) c.taken };
-
-    fn end(&mut self, _alloc: Global, _set: &Verified, ended: &Ended) -> io::Result<()> {
-        let number = usize::from(ended.done.job().process().0);
-        let Some(process) = self.block.tables().get(number) else {
-            return Err(io::Error::from(ErrorKind::Other));
-        };
-        let Some(inputs) = self.inputs.get(number) else {
-            return Err(io::Error::from(ErrorKind::Other));
-        };
-        Ok(self.taken.take(process, inputs, ended)?)
-    }
-
-    fn throw(&mut self, _alloc: Global, _set: &Verified, _actor: &Actor) -> io::Result<()> {
-        Ok(())
-    }
-}
-
-/// What each state of each process takes.
-fn all_inputs<'a>(
-    alloc: Global,
-    block: &BlockTable<'a>,
-) -> Result<Vec<Vec<Vec<InputRow<'a>>>>, AllocError> {
-    let mut all = Vec::new(alloc);
-    for process in block.tables() {
-        let inputs = process.inputs(alloc)?;
-        all.push(inputs)?;
-    }
-    Ok(all)
-}
-
 /// Runs a script, and tells a watcher what happens.
 fn watch_script<N: Watcher, W: Write, E: Write>(
     alloc: Global,
@@ -114,20 +55,31 @@ fn watch_script<N: Watcher, W: Write, E: Write>(
     watcher: &mut N,
     writer: &mut W,
     errors: &mut E,
-) -> u8 {
+) -> u8
+    requires { IsFit script.now }
+    ensures held { result ≡ 0 → IsObeyed usual set.now (plain_play_script script.now) (W.contents writer.old) (W.contents writer.new) }
+    ensures missed { result ≡ 1 → IsMissedIn usual set.now (plain_play_script script.now) (W.contents writer.old) (W.contents writer.new) }
+    ensures watched { result ≡ 0 → N.knows set.now [] watcher.old → AreTold usual set.now (plain_play_script script.now) (λ ns. N.knows set.now ns watcher.new) }
+    ensures in_part { result ≡ 1 → N.knows set.now [] watcher.old → AreToldInPart usual set.now (plain_play_script script.now) (λ ns. N.knows set.now ns watcher.new) }
+    ensures refused { result ≡ 2 → HasNoTerminal set.now (plain_play_script script.now) (W.contents writer.old) (W.contents writer.new) }
+    ensures status { (result ≡ 0) ⊎ (result ≡ 1) ⊎ (result ≡ 2) ⊎ (result ≡ 4) }
+{
     match script {
-        PlayScript::Other(AnyScript::Book(script)) => {
-            watch_book(alloc, set, script, watcher, writer, errors)
-        }
-        PlayScript::Other(AnyScript::Terminal(script)) => {
-            watch_terminal(alloc, set, usual, script, watcher, writer)
-        }
+        PlayScript::Other(script) => match script {
+            AnyScript::Book(script) => watch_book(alloc, set, script, watcher, writer, errors),
+            AnyScript::Terminal(script) => {
+                watch_terminal(alloc, set, usual, script, watcher, writer)
+            }
+        },
         PlayScript::Group(_) => lacks_trace(alloc, errors),
     }
 }
 
 /// Writes what is told of a run that came to its end, or to an expectation that failed. Gives the exit status.
-fn tell<T: Write>(status: u8, told: Result<Vec<u8>, AllocError>, out: &mut T) -> u8 {
+fn tell<T: Write>(status: u8, told: Result<Vec<u8>, AllocError>, out: &mut T) -> u8
+    ensures status { (result ≡ status) ⊎ (result ≡ 4) }
+    ensures told { (result ≡ 0) ⊎ (result ≡ 1) → IsToldTo told (T.contents out.old) (T.contents out.new) }
+{
     if status != HELD && status != MISSED {
         return status;
     }
@@ -138,6 +90,96 @@ fn tell<T: Write>(status: u8, told: Result<Vec<u8>, AllocError>, out: &mut T) ->
         },
         Err(_) => FAILED,
     }
+}
+
+/// Runs a script, and draws a chart of its turns.
+fn draw<W: Write, T: Write, E: Write>(
+    alloc: Global,
+    set: &Verified,
+    usual: RoundLimits,
+    script: &PlayScript<'_>,
+    cut: Cut,
+    out: &mut T,
+    writer: &mut W,
+    errors: &mut E,
+) -> u8
+    requires { IsFit script.now }
+    ensures held { result ≡ 0 → IsObeyed usual set.now (plain_play_script script.now) (W.contents writer.old) (W.contents writer.new) }
+    ensures missed { result ≡ 1 → IsMissedIn usual set.now (plain_play_script script.now) (W.contents writer.old) (W.contents writer.new) }
+    ensures told { result ≡ 0
+        → AreTold usual set.now (plain_play_script script.now) (λ ns. Appends (T.contents out.old) (T.contents out.new) (chart_text set.now cut (turns_in ns))) }
+    ensures in_part { result ≡ 1
+        → AreToldInPart usual set.now (plain_play_script script.now) (λ ns. Appends (T.contents out.old) (T.contents out.new) (chart_text set.now cut (turns_in ns))) }
+    ensures refused { result ≡ 2 → HasNoTerminal set.now (plain_play_script script.now) (W.contents writer.old) (W.contents writer.new) }
+    ensures status { (result ≡ 0) ⊎ (result ≡ 1) ⊎ (result ≡ 2) ⊎ (result ≡ 4) }
+{
+    let mut chart = Chart::new(alloc, cut);
+    let status = watch_script(alloc, set, usual, script, &mut chart, writer, errors);
+    tell(status, chart.text(alloc, set), out)
+}
+
+/// Runs a script, and tells what was thrown away.
+fn tell_thrown<W: Write, T: Write, E: Write>(
+    alloc: Global,
+    set: &Verified,
+    usual: RoundLimits,
+    script: &PlayScript<'_>,
+    out: &mut T,
+    writer: &mut W,
+    errors: &mut E,
+) -> u8
+    requires { IsFit script.now }
+    ensures held { result ≡ 0 → IsObeyed usual set.now (plain_play_script script.now) (W.contents writer.old) (W.contents writer.new) }
+    ensures missed { result ≡ 1 → IsMissedIn usual set.now (plain_play_script script.now) (W.contents writer.old) (W.contents writer.new) }
+    ensures told { result ≡ 0
+        → AreTold usual set.now (plain_play_script script.now) (λ ns. Appends (T.contents out.old) (T.contents out.new) (thrown_text set.now (throws_in ns))) }
+    ensures in_part { result ≡ 1
+        → AreToldInPart usual set.now (plain_play_script script.now) (λ ns. Appends (T.contents out.old) (T.contents out.new) (thrown_text set.now (throws_in ns))) }
+    ensures refused { result ≡ 2 → HasNoTerminal set.now (plain_play_script script.now) (W.contents writer.old) (W.contents writer.new) }
+    ensures status { (result ≡ 0) ⊎ (result ≡ 1) ⊎ (result ≡ 2) ⊎ (result ≡ 4) }
+{
+    let mut thrown = Thrown::new(alloc);
+    let status = watch_script(alloc, set, usual, script, &mut thrown, writer, errors);
+    tell(status, thrown.text(alloc, set), out)
+}
+
+/// Runs a script, and tells what was taken of the text of its set, which has these tables.
+fn cover_block<W: Write, T: Write, E: Write>(
+    alloc: Global,
+    set: &Verified,
+    text: &str,
+    name: &str,
+    block: &BlockTable<'_>,
+    usual: RoundLimits,
+    script: &PlayScript<'_>,
+    out: &mut T,
+    writer: &mut W,
+    errors: &mut E,
+) -> u8
+    requires { IsFit script.now }
+    ensures held { result ≡ 0 → IsObeyed usual set.now (plain_play_script script.now) (W.contents writer.old) (W.contents writer.new) }
+    ensures missed { result ≡ 1 → IsMissedIn usual set.now (plain_play_script script.now) (W.contents writer.old) (W.contents writer.new) }
+    ensures told { result ≡ 0 → (l : IsLoaded text.now set.now) → l.block ≡ block_of block.now
+        → AreTold usual set.now (plain_play_script script.now) (λ ns. Appends (T.contents out.old) (T.contents out.new) (lcov_text name.now text.now l.block (turns_in ns))) }
+    ensures in_part { result ≡ 1 → (l : IsLoaded text.now set.now) → l.block ≡ block_of block.now
+        → AreToldInPart usual set.now (plain_play_script script.now) (λ ns. Appends (T.contents out.old) (T.contents out.new) (lcov_text name.now text.now l.block (turns_in ns))) }
+    ensures refused { result ≡ 2 → HasNoTerminal set.now (plain_play_script script.now) (W.contents writer.old) (W.contents writer.new) }
+    ensures status { (result ≡ 0) ⊎ (result ≡ 1) ⊎ (result ≡ 2) ⊎ (result ≡ 4) }
+{
+    let Ok(inputs) = all_inputs(alloc, block) else {
+        return FAILED;
+    };
+    let Ok(taken) = Taken::new(alloc, text.len()) else {
+        return FAILED;
+    };
+    let mut covering = Covering {
+        block,
+        inputs,
+        taken,
+    };
+    let status = watch_script(alloc, set, usual, script, &mut covering, writer, errors);
+    let told = lcov_text(alloc, name, text, block, &covering.taken);
+    tell(status, told, out)
 }
 
 /// Runs a script, and tells what was taken of the text of its set.
@@ -151,7 +193,17 @@ fn cover<W: Write, T: Write, E: Write>(
     out: &mut T,
     writer: &mut W,
     errors: &mut E,
-) -> u8 {
+) -> u8
+    requires { IsFit script.now }
+    ensures held { result ≡ 0 → IsObeyed usual set.now (plain_play_script script.now) (W.contents writer.old) (W.contents writer.new) }
+    ensures missed { result ≡ 1 → IsMissedIn usual set.now (plain_play_script script.now) (W.contents writer.old) (W.contents writer.new) }
+    ensures told { result ≡ 0 → (l : IsLoaded text.now set.now)
+        → AreTold usual set.now (plain_play_script script.now) (λ ns. Appends (T.contents out.old) (T.contents out.new) (lcov_text name.now text.now l.block (turns_in ns))) }
+    ensures in_part { result ≡ 1 → (l : IsLoaded text.now set.now)
+        → AreToldInPart usual set.now (plain_play_script script.now) (λ ns. Appends (T.contents out.old) (T.contents out.new) (lcov_text name.now text.now l.block (turns_in ns))) }
+    ensures refused { result ≡ 2 → HasNoTerminal set.now (plain_play_script script.now) (W.contents writer.old) (W.contents writer.new) }
+    ensures status { (result ≡ 0) ⊎ (result ≡ 1) ⊎ (result ≡ 2) ⊎ (result ≡ 4) }
+{
     let Ok(tokens) = tokens(alloc, text) else {
         return FAILED;
     };
@@ -161,20 +213,9 @@ fn cover<W: Write, T: Write, E: Write>(
     let Ok(block) = BlockTable::new(alloc, &tree) else {
         return FAILED;
     };
-    let Ok(inputs) = all_inputs(alloc, &block) else {
-        return FAILED;
-    };
-    let Ok(taken) = Taken::new(alloc, text.len()) else {
-        return FAILED;
-    };
-    let mut covering = Covering {
-        block: &block,
-        inputs,
-        taken,
-    };
-    let status = watch_script(alloc, set, usual, script, &mut covering, writer, errors);
-    let told = lcov_text(alloc, name, text, &block, &covering.taken);
-    tell(status, told, out)
+    cover_block(
+        alloc, set, text, name, &block, usual, script, out, writer, errors,
+    )
 }
 
 /// Runs a script on the set of a text, and tells of it what is wanted.
@@ -188,18 +229,20 @@ fn watch_wanted<W: Write, T: Write, E: Write>(
     out: &mut T,
     writer: &mut W,
     errors: &mut E,
-) -> u8 {
+) -> u8
+    requires { IsFit script.now }
+    ensures held { result ≡ 0 → IsObeyed usual set.now (plain_play_script script.now) (W.contents writer.old) (W.contents writer.new) }
+    ensures missed { result ≡ 1 → IsMissedIn usual set.now (plain_play_script script.now) (W.contents writer.old) (W.contents writer.new) }
+    ensures told { result ≡ 0 → (l : IsLoaded text.now set.now)
+        → AreTold usual set.now (plain_play_script script.now) (IsTold wanted text.now l.block set.now (T.contents out.old) (T.contents out.new)) }
+    ensures in_part { result ≡ 1 → (l : IsLoaded text.now set.now)
+        → AreToldInPart usual set.now (plain_play_script script.now) (IsTold wanted text.now l.block set.now (T.contents out.old) (T.contents out.new)) }
+    ensures refused { result ≡ 2 → HasNoTerminal set.now (plain_play_script script.now) (W.contents writer.old) (W.contents writer.new) }
+    ensures status { (result ≡ 0) ⊎ (result ≡ 1) ⊎ (result ≡ 2) ⊎ (result ≡ 4) }
+{
     match wanted {
-        Wanted::Chart(cut) => {
-            let mut chart = Chart::new(alloc, cut);
-            let status = watch_script(alloc, set, usual, script, &mut chart, writer, errors);
-            tell(status, chart.text(alloc, set), out)
-        }
-        Wanted::Thrown => {
-            let mut thrown = Thrown::new(alloc);
-            let status = watch_script(alloc, set, usual, script, &mut thrown, writer, errors);
-            tell(status, thrown.text(alloc, set), out)
-        }
+        Wanted::Chart(cut) => draw(alloc, set, usual, script, cut, out, writer, errors),
+        Wanted::Thrown => tell_thrown(alloc, set, usual, script, out, writer, errors),
         Wanted::Coverage(name) => {
             cover(alloc, set, text, name, usual, script, out, writer, errors)
         }
@@ -217,7 +260,18 @@ fn watch_read<W: Write, T: Write, E: Write>(
     out: &mut T,
     writer: &mut W,
     errors: &mut E,
-) -> u8 {
+) -> u8
+    ensures held { result ≡ 0 → (bytes : List ℕ) → Keeps bytes read.now
+        → IsPlayed usual false (W.contents writer.old) (W.contents writer.new) set.now bytes }
+    ensures missed { result ≡ 1 → (bytes : List ℕ) → Keeps bytes read.now
+        → IsPlayedInPart usual false (W.contents writer.old) (W.contents writer.new) set.now bytes }
+    ensures told { result ≡ 0 → (bytes : List ℕ) → Keeps bytes read.now → (l : IsLoaded text.now set.now)
+        → IsPlayTold usual wanted text.now l.block (T.contents out.old) (T.contents out.new) set.now bytes }
+    ensures in_part { result ≡ 1 → (bytes : List ℕ) → Keeps bytes read.now → (l : IsLoaded text.now set.now)
+        → IsPlayToldInPart usual wanted text.now l.block (T.contents out.old) (T.contents out.new) set.now bytes }
+    ensures refused { result ≡ 2 → (bytes : List ℕ) → Keeps bytes read.now → IsNotRun (W.contents writer.old) (W.contents writer.new) set.now bytes }
+    ensures status { (result ≡ 0) ⊎ (result ≡ 1) ⊎ (result ≡ 2) ⊎ (result ≡ 4) }
+{
     if !read.is_text {
         return refuse(alloc, writer, &"refused F1 NotText");
     }
@@ -226,17 +280,17 @@ fn watch_read<W: Write, T: Write, E: Write>(
         explain_length(alloc, line, errors);
         return refuse_script(alloc, writer, ScriptFault::BadLine(line));
     }
-    let Ok(given) = str::from_utf8(&read.kept) else {
-        return refuse(alloc, writer, &"refused F1 NotText");
-    };
-    match play_script_in(alloc, given) {
-        Ok(script) => watch_wanted(
-            alloc, set, text, usual, &script, wanted, out, writer, errors,
-        ),
-        Err(fault) => {
-            explain(alloc, given, fault, errors);
-            refuse_script(alloc, writer, fault)
-        }
+    match str::from_utf8(&read.kept) {
+        Ok(given) => match play_script_in(alloc, given) {
+            Ok(script) => watch_wanted(
+                alloc, set, text, usual, &script, wanted, out, writer, errors,
+            ),
+            Err(fault) => {
+                explain(alloc, given, fault, errors);
+                refuse_script(alloc, writer, fault)
+            }
+        },
+        Err(_) => refuse(alloc, writer, &"refused F1 NotText"),
     }
 }
 
@@ -251,7 +305,18 @@ fn watch_given<W: Write, T: Write, E: Write>(
     out: &mut T,
     writer: &mut W,
     errors: &mut E,
-) -> u8 {
+) -> u8
+    ensures held { result ≡ 0 → (bytes : List ℕ) → IfOk read (Keeps bytes)
+        → IsPlayed usual false (W.contents writer.old) (W.contents writer.new) set.now bytes }
+    ensures missed { result ≡ 1 → (bytes : List ℕ) → IfOk read (Keeps bytes)
+        → IsPlayedInPart usual false (W.contents writer.old) (W.contents writer.new) set.now bytes }
+    ensures told { result ≡ 0 → (bytes : List ℕ) → IfOk read (Keeps bytes) → (l : IsLoaded text.now set.now)
+        → IsPlayTold usual wanted text.now l.block (T.contents out.old) (T.contents out.new) set.now bytes }
+    ensures in_part { result ≡ 1 → (bytes : List ℕ) → IfOk read (Keeps bytes) → (l : IsLoaded text.now set.now)
+        → IsPlayToldInPart usual wanted text.now l.block (T.contents out.old) (T.contents out.new) set.now bytes }
+    ensures refused { result ≡ 2 → (bytes : List ℕ) → IfOk read (Keeps bytes) → IsNotRun (W.contents writer.old) (W.contents writer.new) set.now bytes }
+    ensures status { (result ≡ 0) ⊎ (result ≡ 1) ⊎ (result ≡ 2) ⊎ (result ≡ 4) }
+{
     match read {
         Ok(read) => watch_read(alloc, set, text, usual, &read, wanted, out, writer, errors),
         Err(_) => FAILED,

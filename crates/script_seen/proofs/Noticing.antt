@@ -1,15 +1,22 @@
 -- What a watcher is told of single events, and of events one after another.
-use Rattle.std.proofs.Common.{◌≡◌, ◌∙◌, ℕ, ◌+◌, ◌-◌, ◌<◌, ◌≤◌, List, [], ◌∷◌, ◌++◌, length, take, drop, get_or, append-nil, append_assoc, Option, Some, arith, refl, sym, ap, subst}
-use Rattle.std.specs.Prelude.{slice_get}
+use Rattle.std.proofs.Common.{◌≡◌, ◌∙◌, ℕ, ◌+◌, ◌-◌, ◌<◌, ◌≤◌, List, [], ◌∷◌, ◌++◌, length, take, drop, get_or, append-nil, append_assoc, Option, None, Some, arith, refl, sym, ap, subst}
+use Rattle.std.specs.Prelude.{slice_get, option_map}
 use Rattle.std.proofs.lemmas.List.{take_all, take_more, length-append}
+use Rattle.std.proofs.lemmas.Option.{same_Some, slice_get-map}
 use Rattle.turn_code.specs.Outcome.{Outcome}
+use Rattle.turn_code.specs.Transitions.{Transition}
 use Rattle.turn_code.specs.declared.draft.Draft.{Draft}
-use Rattle.turn_machine.specs.Turn.{Turn, outcome_of}
+use Rattle.turn_code.specs.declared.numbers.ProcessNumber.{ProcessNumber}
+use Rattle.turn_machine.specs.Turn.{Turn, turn_of, outcome_of}
 use Rattle.actor_machine.proofs.Replays.{replay_more}
 use Rattle.actor_machine.specs.Core.{Core, names_in}
-use Rattle.actor_machine.specs.Ledger.{Ledger, runs, replay, next, state_of, turn_at}
+use Rattle.actor_machine.specs.Fits.{GivenFits, CoreFits}
+use Rattle.actor_machine.specs.Ledger.{Ledger, runs, replay, next, state_of, turn_with, turn_given, turn_at}
 use Rattle.actor_machine.specs.Step.{report_of}
 use Rattle.actor_machine.specs.declared.actor.Actor.{Actor}
+use Rattle.actor_machine.specs.declared.actor.Given.{Given}
+use Rattle.actor_machine.specs.declared.actor.Standing.{Standing}
+use Rattle.actor_machine.specs.declared.actor.Standing.TheVariants.{At, Stopped}
 use Rattle.actor_machine.specs.declared.name.ActorName.{ActorName}
 use Rattle.actor_machine.specs.declared.event.Event.{Event}
 use Rattle.actor_machine.specs.declared.event.Event.TheVariants as event
@@ -18,7 +25,7 @@ use Rattle.tick_wheel.specs.Turning.{timers_of}
 use Rattle.script_seen.specs.Told.{stepped, outcome_by}
 use Rattle.script_seen.specs.Traced.{since}
 use Rattle.script_seen.specs.Following.{Agree, IsStep, IsCaughtUp, IsEnded}
-use Rattle.script_seen.specs.Watched.{Notice, TurnEnd, IsEnd, ends, end_noticed, skip_noticed, noticed, noticed_in}
+use Rattle.script_seen.specs.Watched.{Notice, TurnEnd, IsEnd, IsTurnOf, ends, end_noticed, skip_noticed, noticed, noticed_in}
 use Rattle.script_seen.specs.WatchedKinds.{IsMoved}
 use Rattle.script_seen.specs.declared.turns.Ended.{Ended}
 use Rattle.script_seen.specs.declared.tracing.Tracer.{Tracer}
@@ -70,6 +77,32 @@ unfolding noticed
 noticed_finish b n name turn o called out ran =
     ended_is b n (slice_get (names_in (state_of b).actors) n) (turn_at b.set n (slice_get (state_of b).actors n)) name turn o called out ran
 
+-- ---- the transition that a turn runs
+
+turn_given_fits : (d : Draft) (n : ℕ) (p : ProcessNumber) (s : Standing) (g : Option Given) (t : Turn) → GivenFits d p.0 s g → turn_given d n p s g ≡ Some t
+    → IsTurnOf d p.0 t
+turn_given_fits d n p Stopped g t fits h = absurd (cc)
+turn_given_fits d n p (At s) None t fits h = absurd (cc)
+turn_given_fits d n p (At s) (Some g) t fits h =
+    let T : Option Transition → Type 0 = λ x. turn_with n p s g x ≡ Some t in
+    let made : Turn = turn_of n g.turn p s g.number fits.transition.piece.code fits.transition.piece.certificate g.input in
+    let same : made ≡ t = same_Some made t (subst T fits.there h) in
+    let P : Turn → Type 0 = λ x. IsTurnOf d p.0 x in
+    subst P same (record { fits = fits; code = refl })
+
+turn_fits : (d : Draft) (w : Core) (n : ℕ) (me : ActorName) (t : Turn) (a : Option Actor) → slice_get w.actors n ≡ a → CoreFits d w
+    → option_map (λ (x : Actor). x.name) a ≡ Some me → turn_at d n a ≡ Some t → IsTurnOf d me.process.0 t
+turn_fits d w n me t None there fits named h = absurd (cc)
+turn_fits d w n me t (Some a) there fits named h =
+    let N : ActorName → Type 0 = λ x. IsTurnOf d x.process.0 t in
+    subst N (same_Some a.name me named) (turn_given_fits d n a.name.process a.standing a.given t (fits.each n a there).given h)
+
+pub is_turn_of : (b : Ledger) (n : ℕ) (me : ActorName) (t : Turn) → CoreFits b.set (state_of b) → slice_get (names_in (state_of b).actors) n ≡ Some me
+    → turn_at b.set n (slice_get (state_of b).actors n) ≡ Some t → IsTurnOf b.set me.process.0 t
+is_turn_of b n me t fits named h =
+    turn_fits b.set (state_of b) n me t (slice_get (state_of b).actors n) refl fits
+    (sym (slice_get-map (λ (x : Actor). x.name) (state_of b).actors n) ∙ named) h
+
 -- ---- what a watcher knows behind them: K before, L behind
 
 pub knows_skip : (K L : Draft → List Notice → Type 0) (b : Ledger) (n : ℕ) (x : Draft) (a : Actor) → x ≡ b.set → slice_get (state_of b).actors n ≡ Some a
@@ -80,15 +113,16 @@ knows_skip K L b n x a same is told ns k =
     let N : List Notice → Type 0 = λ ms. L b.set (ns ++ ms) in
     subst N (ap (skip_noticed b.set) (sym is) ∙ noticed_skip b.set (state_of b) n) (subst D same told ns k)
 
-pub knows_finish : (K L : Draft → List Notice → Type 0) (b : Ledger) (n : ℕ) (x : Draft) (e : Ended) → x ≡ b.set → IsEnded b n e
-    → ((ns : List Notice) (t : TurnEnd) → IsEnd e t → K x ns → L x (ns ++ ends t ∷ [])) → (ns : List Notice) → K b.set ns
-    → L b.set (ns ++ noticed b.set (state_of b) (event.Finish n))
-knows_finish K L b n x e same ended told ns k =
+pub knows_finish : (K L : Draft → List Notice → Type 0) (b : Ledger) (n : ℕ) (x : Draft) (e : Ended) → x ≡ b.set → CoreFits b.set (state_of b)
+    → IsEnded b n e → ((ns : List Notice) (t : TurnEnd) → IsEnd e t → IsTurnOf x t.me.process.0 t.turn → K x ns → L x (ns ++ ends t ∷ []))
+    → (ns : List Notice) → K b.set ns → L b.set (ns ++ noticed b.set (state_of b) (event.Finish n))
+knows_finish K L b n x e same fits ended told ns k =
     let t : TurnEnd = turn_end b n e.me e.done ended.outcome in
     let is_end : IsEnd e t = record { clock = ended.clock; me = refl; turn = refl; outcome = ended.ran; report = ended.report } in
-    let D : Draft → Type 0 = λ y. (ms : List Notice) (s : TurnEnd) → IsEnd e s → K y ms → L y (ms ++ ends s ∷ []) in
+    let is_turn : IsTurnOf b.set e.me.process.0 e.done = is_turn_of b n e.me e.done fits ended.named ended.turn in
+    let D : Draft → Type 0 = λ y. (ms : List Notice) (s : TurnEnd) → IsEnd e s → IsTurnOf y s.me.process.0 s.turn → K y ms → L y (ms ++ ends s ∷ []) in
     let N : List Notice → Type 0 = λ ms. L b.set (ns ++ ms) in
-    subst N (sym (noticed_finish b n e.me e.done ended.outcome ended.named ended.turn ended.ran)) (subst D same told ns t is_end k)
+    subst N (sym (noticed_finish b n e.me e.done ended.outcome ended.named ended.turn ended.ran)) (subst D same told ns t is_end is_turn k)
 
 -- of an event of which it isn't told
 pub knows_none : (K : Draft → List Notice → Type 0) (d : Draft) (none ns : List Notice) → none ≡ [] → K d ns → K d (ns ++ none)

@@ -1,6 +1,7 @@
 -- What a watcher of a link is told of a run: the turns that end, and what is thrown away.
 use Rattle.std.specs.Prelude.{◌≡◌, ◌≤◌, ◌+◌, ℕ, List, [], ◌∷◌, ◌++◌, length, Option, None, Some}
 use Rattle.std.specs.Prelude.{slice_get, true}
+use Rattle.turn_code.specs.Fits.{Fits}
 use Rattle.turn_code.specs.Outcome.{Outcome}
 use Rattle.turn_code.specs.declared.draft.Draft.{Draft}
 use Rattle.turn_code.specs.declared.input.Place.{Place}
@@ -39,6 +40,11 @@ pub record IsEnd (e : Ended) (t : TurnEnd) : Type 0 where
   pub turn : e.done ≡ t.turn
   pub outcome : outcome_of e.done ≡ Some t.outcome
   pub report : e.report ≡ t.report
+
+-- the turn is one of the transitions of a process of a set, on an input that fits it
+pub record IsTurnOf (d : Draft) (process : ℕ) (t : Turn) : Type 0 where
+  pub fits : Fits d process t.place t.input_number t.input
+  pub code : t.code ≡ fits.transition.piece.code
 
 -- what an actor threw away in a state
 pub record Throw : Type 0 where

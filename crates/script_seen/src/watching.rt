@@ -5,12 +5,13 @@ ghost use Rattle.actor_machine.specs.Ledger.{next, state_of};
 ghost use Rattle.actor_machine.specs.declared.event.Event.TheVariants as event;
 ghost use Rattle.script_seen.specs.Following.{IsStep};
 ghost use Rattle.script_seen.specs.Traced.{since, are_in_step};
-ghost use Rattle.script_seen.specs.Watched.{Notice, TurnEnd, IsEnd, ends, skip_noticed, noticed, noticed_in};
+ghost use Rattle.script_seen.specs.Watched.{Notice, TurnEnd, IsEnd, IsTurnOf, ends, skip_noticed, noticed, noticed_in};
 ghost use Rattle.script_seen.specs.WatchedKinds.{IsMoved};
 
 use crate::tracing::{Tracer, lost};
 use crate::turns::Ended;
 use actor_book::Book;
+use actor_machine::laws::fits_law;
 use actor_machine::{Actor, Event};
 use std::alloc::Global;
 use std::io;
@@ -27,7 +28,8 @@ pub trait Watcher {
     ///
     /// Where there is no memory.
     fn end(&mut self, alloc: Global, set: &Verified, ended: &Ended) -> io::Result<()>
-        ensures { OnOk result ((ns : List Notice) (t : TurnEnd) → IsEnd ended.now t → knows set.now ns self.old → knows set.now (ns ++ ends t ∷ []) self.new) };
+        ensures { OnOk result ((ns : List Notice) (t : TurnEnd) → IsEnd ended.now t → IsTurnOf set.now t.me.process.0 t.turn → knows set.now ns self.old
+            → knows set.now (ns ++ ends t ∷ []) self.new) };
 
     /// An actor throws away the first item that waits for it and isn't saved.
     ///
@@ -71,6 +73,8 @@ impl Tracer {
         ensures knows { OnOk result ((ns : List Notice) → N.knows self.old.again.set ns watcher.old
             → N.knows self.old.again.set (ns ++ noticed self.old.again.set (state_of self.old.again) (event.Finish actor)) watcher.new) }
     {
+        self.again.keeps();
+        fits_law();
         let ended = self.end(actor)?;
         watcher.end(alloc, self.again.set(), &ended)?;
         Ok(())

@@ -1,0 +1,372 @@
+//! The rows of a turn in a chart, in the language of mscgen.
+ghost use Rattle.std.specs.Prelude.{◌≡◌, ◌++◌, ◌∷◌, [], OnOk, IfOk};
+ghost use Rattle.std.specs.List.{flat_map};
+ghost use Rattle.script_play.specs.Charted.{labelled, actor_quoted, party_quoted, commaed, more_values, called_text, clock_text, time_text, beside, taken_text, run_out_text, came_text, box_text, receiver_of, sent_text, is_arc, arrow_of, out_text, outs_text, timing_of, stacked, note_of};
+
+use script_seen::{
+    ActorName, Job, Lost, delay_of, loss_at, meant, push_actor, push_end, push_number, push_party,
+    push_signal, push_timer, shown, stays_in,
+};
+use std::alloc::{AllocError, Global};
+use turn_check::Verified;
+use turn_code::{
+    Address, Effect, End, InstanceNumber, Party, Place, ProcessNumber, Sending, SignalNumber,
+    TimerNumber, Trigger, Value,
+};
+
+/// An actor in quotation marks.
+pub(crate) fn push_actor_quoted(
+    alloc: Global,
+    row: &mut Vec<u8>,
+    set: &Verified,
+    actor: ActorName,
+) -> Result<(), AllocError>
+    ensures { OnOk result (row.new.items ≡ row.old.items ++ actor_quoted set.now actor) }
+{
+    row.push(b'"')?;
+    push_actor(alloc, row, set, actor)?;
+    Ok(row.push(b'"')?)
+}
+
+/// ENV or an actor in quotation marks.
+fn push_party_quoted(
+    alloc: Global,
+    row: &mut Vec<u8>,
+    set: &Verified,
+    party: Party,
+    instance: Option<InstanceNumber>,
+) -> Result<(), AllocError>
+    ensures { OnOk result (row.new.items ≡ row.old.items ++ party_quoted set.now party instance) }
+{
+    row.push(b'"')?;
+    push_party(alloc, row, set, party, instance)?;
+    Ok(row.push(b'"')?)
+}
+
+/// A label, and the end of its row.
+fn push_label(row: &mut Vec<u8>, text: &[u8]) -> Result<(), AllocError>
+    ensures { OnOk result (row.new.items ≡ row.old.items ++ labelled text.now) }
+{
+    row.extend_from_slice(b" [label=\"")?;
+    row.extend_from_slice(text)?;
+    Ok(row.extend_from_slice(b"\"];\n")?)
+}
+
+/// Values, a comma before each.
+fn push_more(alloc: Global, text: &mut Vec<u8>, values: &[Value]) -> Result<(), AllocError>
+    ensures { OnOk result (text.new.items ≡ text.old.items ++ more_values values.now) }
+{
+    for value in values {
+        text.extend_from_slice(b", ")?;
+        let word = shown(alloc, Some(*value))?;
+        text.extend_from_slice(&word)?;
+    }
+    Ok(())
+}
+
+/// Values behind one another, a comma before each but the first.
+fn push_commaed(alloc: Global, text: &mut Vec<u8>, values: &[Value]) -> Result<(), AllocError>
+    ensures { OnOk result (text.new.items ≡ text.old.items ++ commaed values.now) }
+{
+    let [first, more @ ..] = values else {
+        return Ok(());
+    };
+    let word = shown(alloc, Some(*first))?;
+    text.extend_from_slice(&word)?;
+    push_more(alloc, text, more)
+}
+
+/// A signal with its values in parentheses; without these, where there are no values.
+fn called(
+    alloc: Global,
+    set: &Verified,
+    signal: SignalNumber,
+    values: &[Value],
+) -> Result<Vec<u8>, AllocError>
+    ensures { IfOk result (λ v. v.items ≡ called_text set.now signal.0 values.now) }
+{
+    let mut text = Vec::new(alloc);
+    push_signal(&mut text, set, signal)?;
+    if values.is_empty() {
+        return Ok(text);
+    }
+    text.push(b'(')?;
+    push_commaed(alloc, &mut text, values)?;
+    text.push(b')')?;
+    Ok(text)
+}
+
+/// The row of a time.
+fn push_clock(alloc: Global, rows: &mut Vec<u8>, clock: u64) -> Result<(), AllocError>
+    ensures { OnOk result (rows.new.items ≡ rows.old.items ++ clock_text clock) }
+{
+    let mut text = Vec::new(alloc);
+    push_number(alloc, &mut text, clock)?;
+    text.extend_from_slice(b" ms")?;
+    rows.extend_from_slice(b"  ---")?;
+    push_label(rows, &text)
+}
+
+/// The row of the time, where it isn't that of the last row.
+pub(crate) fn push_time(
+    alloc: Global,
+    rows: &mut Vec<u8>,
+    last: Option<u64>,
+    clock: u64,
+) -> Result<(), AllocError>
+    ensures { OnOk result (rows.new.items ≡ rows.old.items ++ time_text last clock) }
+{
+    match last {
+        Some(time) if time == clock => Ok(()),
+        _ => push_clock(alloc, rows, clock),
+    }
+}
+
+/// A note or a box of an actor, as a row.
+fn push_beside(
+    alloc: Global,
+    rows: &mut Vec<u8>,
+    set: &Verified,
+    me: ActorName,
+    kind: &str,
+    text: &[u8],
+) -> Result<(), AllocError>
+    ensures { OnOk result (rows.new.items ≡ rows.old.items ++ beside set.now me kind.now text.now) }
+{
+    rows.extend_from_slice(b"  ")?;
+    push_actor_quoted(alloc, rows, set, me)?;
+    rows.extend_from_slice(kind.as_bytes())?;
+    push_actor_quoted(alloc, rows, set, me)?;
+    push_label(rows, text)
+}
+
+/// The arc of a signal that an actor takes, from who sent it.
+fn push_taken(
+    alloc: Global,
+    rows: &mut Vec<u8>,
+    set: &Verified,
+    me: ActorName,
+    signal: SignalNumber,
+    job: &Job,
+) -> Result<(), AllocError>
+    ensures { OnOk result (rows.new.items ≡ rows.old.items ++ taken_text set.now me signal.0 job.now.input.parameters.items job.now.input.sender) }
+{
+    let Some(Address { party, instance }) = job.input().sender else {
+        return Ok(());
+    };
+    let text = called(alloc, set, signal, &job.input().parameters)?;
+    rows.extend_from_slice(b"  ")?;
+    push_party_quoted(alloc, rows, set, party, instance)?;
+    rows.extend_from_slice(b" => ")?;
+    push_actor_quoted(alloc, rows, set, me)?;
+    push_label(rows, &text)
+}
+
+/// The note of a timer that an actor takes.
+fn push_run_out(
+    alloc: Global,
+    rows: &mut Vec<u8>,
+    set: &Verified,
+    me: ActorName,
+    timer: TimerNumber,
+) -> Result<(), AllocError>
+    ensures { OnOk result (rows.new.items ≡ rows.old.items ++ run_out_text set.now me timer.0) }
+{
+    let mut text = Vec::new(alloc);
+    push_timer(&mut text, set, me.process, timer)?;
+    text.extend_from_slice(b" runs out")?;
+    push_beside(alloc, rows, set, me, " note ", &text)
+}
+
+/// What a turn took: an arc for a signal, a note for a timer, nothing for START.
+pub(crate) fn push_came(
+    alloc: Global,
+    rows: &mut Vec<u8>,
+    set: &Verified,
+    me: ActorName,
+    job: &Job,
+) -> Result<(), AllocError>
+    ensures { OnOk result (rows.new.items ≡ rows.old.items ++ came_text set.now me job.now job.now.place) }
+{
+    match job.place() {
+        Place::Start => Ok(()),
+        Place::State(state) => match set.trigger(me.process, state, job.input_number()) {
+            Some(Trigger::Signal(signal)) => push_taken(alloc, rows, set, me, signal, job),
+            Some(Trigger::Timer(timer)) => push_run_out(alloc, rows, set, me, timer),
+            None => Ok(()),
+        },
+    }
+}
+
+/// The box of the state that a turn ends in, where that is another one, or of STOP.
+pub(crate) fn push_box(
+    alloc: Global,
+    rows: &mut Vec<u8>,
+    set: &Verified,
+    me: ActorName,
+    place: Place,
+    end: End,
+) -> Result<(), AllocError>
+    ensures { OnOk result (rows.new.items ≡ rows.old.items ++ box_text set.now me place end) }
+{
+    if stays_in(place, end) {
+        return Ok(());
+    }
+    let mut text = Vec::new(alloc);
+    push_end(&mut text, set, me.process, end)?;
+    push_beside(alloc, rows, set, me, " abox ", &text)
+}
+
+/// Who gets a signal of an actor, with the instance that is meant.
+pub(crate) fn receiver_of(set: &Verified, me: ActorName, receiver: Address) -> Address
+    ensures { result ≡ receiver_of set.now me receiver.party receiver.instance }
+{
+    match receiver.party {
+        Party::Environment => receiver,
+        Party::Process(process) => match receiver.instance {
+            Some(_) => receiver,
+            None => meant(set, me, process).address(),
+        },
+    }
+}
+
+/// Whether an output has an arc where it goes out: it is lost, or goes to the environment. Any other is drawn where it is taken.
+pub(crate) fn is_arc(party: Party, is_lost: bool) -> bool
+    ensures { result ≡ is_arc party is_lost }
+{
+    match party {
+        Party::Environment => true,
+        Party::Process(_) => is_lost,
+    }
+}
+
+/// The sign of an arc, or of one that is lost.
+fn arrow_of<'a>(is_lost: bool) -> &'a str
+    ensures { result.now ≡ arrow_of is_lost }
+{
+    if is_lost { " -x " } else { " => " }
+}
+
+/// The arc of a signal that goes out.
+fn push_sent(
+    alloc: Global,
+    rows: &mut Vec<u8>,
+    set: &Verified,
+    me: ActorName,
+    sending: &Sending,
+    is_lost: bool,
+) -> Result<(), AllocError>
+    ensures { OnOk result (rows.new.items ≡ rows.old.items ++ sent_text set.now me sending.now
+        (receiver_of set.now me sending.now.receiver.party sending.now.receiver.instance) (arrow_of is_lost)) }
+{
+    let to = receiver_of(set, me, sending.receiver);
+    let text = called(alloc, set, sending.signal, &sending.parameters)?;
+    rows.extend_from_slice(b"  ")?;
+    push_actor_quoted(alloc, rows, set, me)?;
+    rows.extend_from_slice(arrow_of(is_lost).as_bytes())?;
+    push_party_quoted(alloc, rows, set, to.party, to.instance)?;
+    push_label(rows, &text)
+}
+
+/// What is drawn of an effect where it goes out.
+fn push_output(
+    alloc: Global,
+    rows: &mut Vec<u8>,
+    set: &Verified,
+    me: ActorName,
+    is_lost: bool,
+    effect: &Effect,
+) -> Result<(), AllocError>
+    ensures { OnOk result (rows.new.items ≡ rows.old.items ++ out_text set.now me is_lost effect.now) }
+{
+    match effect {
+        Effect::Output(sending) => {
+            if is_arc(sending.receiver.party, is_lost) {
+                return push_sent(alloc, rows, set, me, sending, is_lost);
+            }
+            Ok(())
+        }
+        Effect::Set(_, _) | Effect::Reset(_) => Ok(()),
+    }
+}
+
+/// The arcs of a turn's outputs.
+pub(crate) fn push_outputs(
+    alloc: Global,
+    rows: &mut Vec<u8>,
+    set: &Verified,
+    me: ActorName,
+    effects: &[Effect],
+    lost: &[Lost],
+) -> Result<(), AllocError>
+    ensures { OnOk result (rows.new.items ≡ rows.old.items ++ outs_text set.now me lost.now 0 effects.now) }
+{
+    for (place, effect) in effects.iter().enumerate() {
+        let is_lost = loss_at(lost, place).is_some();
+        push_output(alloc, rows, set, me, is_lost, effect)?;
+    }
+    Ok(())
+}
+
+/// `set` or `reset` with the timer of an effect, if it is one. A deadline past 2^64 would be told as 2^64 - 1, but the clock ends before.
+fn push_timing(
+    alloc: Global,
+    text: &mut Vec<u8>,
+    set: &Verified,
+    process: ProcessNumber,
+    clock: u64,
+    effect: &Effect,
+) -> Result<(), AllocError> {
+    match effect {
+        Effect::Output(_) => Ok(()),
+        Effect::Set(timer, ticks) => {
+            text.extend_from_slice(b"set ")?;
+            push_timer(text, set, process, *timer)?;
+            text.extend_from_slice(b" at ")?;
+            push_number(alloc, text, clock.saturating_add(delay_of(*ticks)))
+        }
+        Effect::Reset(timer) => {
+            text.extend_from_slice(b"reset ")?;
+            push_timer(text, set, process, *timer)
+        }
+    }
+}
+
+/// What a turn makes of timers, with the sign of a new line between two.
+fn timings(
+    alloc: Global,
+    set: &Verified,
+    process: ProcessNumber,
+    clock: u64,
+    effects: &[Effect],
+) -> Result<Vec<u8>, AllocError>
+    ensures { IfOk result (λ v. v.items ≡ stacked (flat_map (timing_of set.now process.0 clock) effects.now)) }
+{
+    let mut text = Vec::new(alloc);
+    for effect in effects {
+        let is_output = matches!(effect, Effect::Output(_));
+        if !is_output && !text.is_empty() {
+            text.extend_from_slice(b"\\n")?;
+        }
+        push_timing(alloc, &mut text, set, process, clock, effect)?;
+    }
+    Ok(text)
+}
+
+/// The note of what a turn makes of timers, where it does something to one.
+pub(crate) fn push_timers(
+    alloc: Global,
+    rows: &mut Vec<u8>,
+    set: &Verified,
+    clock: u64,
+    me: ActorName,
+    effects: &[Effect],
+) -> Result<(), AllocError>
+    ensures { OnOk result (rows.new.items ≡ rows.old.items ++ note_of set.now me (flat_map (timing_of set.now me.process.0 clock) effects.now)) }
+{
+    let text = timings(alloc, set, me.process, clock, effects)?;
+    if text.is_empty() {
+        return Ok(());
+    }
+    push_beside(alloc, rows, set, me, " note ", &text)
+}
