@@ -1,6 +1,6 @@
--- What a capture of a link set's script has: of each link the units that go out and those that come in
--- without error, in the order of the commands, each with the number of its link and at the tick before
--- its command.
+-- What a capture of a link set's script has: of each link the units that go out and those that come
+-- in without error, in the order of the commands, each with the number of its link and at the tick
+-- before its command.
 use Rattle.std.specs.Prelude.{◌≡◌, ◌<◌, ◌≤◌, ℕ, zero, suc, ◌*◌, Bool, false, List, [], ◌∷◌, ◌++◌}
 use Rattle.std.specs.Prelude.{length, map, Option, None, Some, slice_get, slice_set}
 use Rattle.std.specs.Io.KnownBytes.{Appends}
@@ -37,9 +37,9 @@ pub data SendsOn (link at : ℕ) : ℕ → LinkSet → List Seen → LinkSet →
       → ByLink (Sent (Some x)) link c m → IsGone link at x seen mid
       → SendsOn link at n m mid d last → SendsOn link at (suc n) c seen d last
 
--- Commands were obeyed from a set on: the set now, the line printed last, the octets that came in so far
--- on each link, and the units that were seen, the newest first. On a link that isn't there nothing comes
--- and nothing goes.
+-- Commands were obeyed from a set on: the set now, the line printed last, the octets that came in
+-- so far on each link, and the units that were seen, the newest first. On a link that isn't there
+-- nothing comes and nothing goes.
 pub data Goes (first : Playing) :
     List PlainGroupSaid → Playing → Option (List ℕ) → List (List ℕ) → List Seen → Type 0 where
   begins : Goes first [] first None (map (λ b. []) (books_of first)) []
@@ -100,7 +100,8 @@ pub record IsSetCapturedInPart (every : Bool) (commands : List PlainGroupSaid)
 -- ---- on its way
 
 -- what is known of each link, the first of them link l
-pub data AreHeard (every : Bool) (seen : List Seen) : ℕ → List (List ℕ) → List LinkSeen → Type 0 where
+pub data AreHeard (every : Bool) (seen : List Seen) :
+    ℕ → List (List ℕ) → List LinkSeen → Type 0 where
   none : (l : ℕ) → AreHeard every seen l [] []
   more : (l : ℕ) (c : List ℕ) (cs : List (List ℕ)) (k : LinkSeen) (ks : List LinkSeen)
       → IsHeard l every c seen k → AreHeard every seen (suc l) cs ks

@@ -1,8 +1,7 @@
 -- What of a text was taken, in the format of lcov (geninfo's tracefiles): transitions are
--- functions,
--- answers of DECISIONs branches.
-use Rattle.std.specs.Prelude.{◌≡◌, ◌≤◌, ℕ, zero, suc, ◌+◌, ◌==◌, nat_lt, Bool, true, false, List, [], ◌∷◌}
-use Rattle.std.specs.Prelude.{◌++◌, length, map}
+-- functions, answers of DECISIONs branches.
+use Rattle.std.specs.Prelude.{◌≡◌, ◌≤◌, ℕ, zero, suc, ◌+◌, ◌==◌, nat_lt, Bool, true, false, List}
+use Rattle.std.specs.Prelude.{[], ◌∷◌, ◌++◌, length, map}
 use Rattle.std.specs.Prelude.{take, count_by, max, Option, None, Some, codes, if◌then◌else◌, filter}
 use Rattle.std.specs.Prelude.{unwrap_or, option_map, slice_get}
 use Rattle.std.specs.List.{flat_map, list_any}

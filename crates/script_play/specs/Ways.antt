@@ -1,5 +1,5 @@
--- The way of a turn through a text: what it takes there, in order, and how it goes on. Only the values of
--- variables have a say in it; what goes out, and what is set, has none.
+-- The way of a turn through a text: what it takes there, in order, and how it goes on. Only the
+-- values of variables have a say in it; what goes out, and what is set, has none.
 use Rattle.std.specs.Prelude.{◌≡◌, ℕ, Bool, true, false, List, [], ◌∷◌, ◌++◌, Option, None}
 use Rattle.std.specs.Prelude.{Some}
 use Rattle.std.specs.Prelude.{if◌then◌else◌}
@@ -34,7 +34,8 @@ left (goes_on x s) = Some s.variables
 left (over e s) = None
 
 -- the variables behind a TASK
-abbrev pub assigned : Scope → List PlainAssignment → List (Option Value) → Option (List (Option Value))
+abbrev pub assigned :
+    Scope → List PlainAssignment → List (Option Value) → Option (List (Option Value))
 assigned c ts vs = left (assign c ts (with_values vs))
 
 abbrev pub behind_action :

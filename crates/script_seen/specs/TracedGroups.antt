@@ -1,5 +1,5 @@
--- What is traced of a run of a link set's script: of each command what messages of changeover said by
--- it, and what happened on each link.
+-- What is traced of a run of a link set's script: of each command what messages of changeover said
+-- by it, and what happened on each link.
 use Rattle.std.specs.Prelude.{◌≡◌, ◌≤◌, ◌+◌, ℕ, Bool, true, false, List, [], ◌∷◌, ◌++◌, length}
 use Rattle.std.specs.Prelude.{Option, None, Some, codes, map, take, drop, unwrap_or, bytes_eq, All}
 use Rattle.std.specs.Prelude.{if◌then◌else◌}
@@ -99,8 +99,8 @@ pub record AreBothTold (clock : ℕ) (octets line text : List ℕ) : Type 0 wher
   pub is_said : IsSaidTold clock line said
   pub are : text ≡ heard ++ said
 
--- what is told of messages by a command behind which this line was printed last: of one that came in, and
--- of the order or the answer that goes out
+-- what is told of messages by a command behind which this line was printed last: of one that came
+-- in, and of the order or the answer that goes out
 abbrev pub IsChangeoverTold : ℕ → PlainGroupCommand → Option (List ℕ) → List ℕ → Type 0
 IsChangeoverTold clock (group.message octets) (Some line) text = AreBothTold clock octets line text
 IsChangeoverTold clock (group.own words.Fail) (Some line) text = IsSaidTold clock line text
@@ -194,8 +194,8 @@ pub record IsToldBehind (every : Bool) (lines : List PlainLine) (d : Draft)
   pub written : Appends old new (front ++ (told ++ links_text every d 0 rs (books_of q)))
 
 -- What is traced of commands in their order, from a set on: the set now, the line printed last, how
--- far each link is told, and the text. Each command's line is in front, behind it what messages said, and
--- then what happened on each link.
+-- far each link is told, and the text. Each command's line is in front, behind it what messages
+-- said, and then what happened on each link.
 pub data Traces (every : Bool) (lines : List PlainLine) (d : Draft) (first : Playing) :
     List PlainGroupSaid → Playing → Option (List ℕ) → List Reached → List ℕ → Type 0 where
   begins :
@@ -237,8 +237,8 @@ pub record IsGroupTraced (every : Bool) (lines : List PlainLine) (d : Draft)
   pub traces : Traces every lines d first commands now last reached text
   pub written : Appends old new text
 
--- so are those in front of one of these commands, an expectation that names another line than the one that was
--- printed last
+-- so are those in front of one of these commands, an expectation that names another line than the
+-- one that was printed last
 pub record IsGroupTracedInPart (every : Bool) (lines : List PlainLine) (d : Draft)
     (commands : List PlainGroupSaid) (old new : Option (List ℕ)) (first : Playing) : Type 0 where
   pub before : List PlainGroupSaid
