@@ -95,10 +95,10 @@ class Voice:
 
 
 def told(end):
-    """What the terminal has to tell: messages first."""
+    """What the terminal has to tell: what a unit led to of the link, and then its message."""
     names = {"InServiceNow": "in service", "Down": "down", "RemoteOut": "far out", "RemoteBack": "far back", "Cleared": "cleared"}
-    lines = [f"message {it.hex().upper()}" for it in end.messages]
-    lines += [" ".join([names[signal], *map(str, values)]) for signal, *values in end.statuses]
+    lines = [" ".join([names[signal], *map(str, values)]) for signal, *values in end.statuses]
+    lines += [f"message {it.hex().upper()}" for it in end.messages]
     end.messages, end.statuses = [], []
     return lines
 

@@ -76,7 +76,7 @@ class Link(Terminal):
     def __init__(self, text, cyclic, *limits):
         super().__init__(text, cyclic, *limits)
         self.serves = self.came = self.served = self.anew = self.failed = self.far_out = False
-        self.admitted = True
+        self.admitted, self.is_to_clear = True, False
         # Its changeover: the place up to which messages were accepted as the other end told, whether any answer came, and ticks since it began.
         self.changing, self.told, self.answered, self.waited, self.out = False, None, False, 0, False
         # Behind the beginning of its last changeover: whether there was one, and the ticks since it last came into service then.
@@ -88,7 +88,20 @@ class Link(Terminal):
         return is_bound(message, *self.points)
 
     def clear(self):
-        """A link set obeys no Clear: what its links keep is level 3's."""
+        """It waits until the command is over, or for the next one."""
+        self.is_to_clear = True
+
+    def obey_clear(self):
+        """Empties the buffers, where the text asked for that. How many messages went that aren't the link's own."""
+        if not self.is_to_clear:
+            return 0
+        went = sum(not self.is_own(it) for it in self.held())
+        super().clear()
+        self.is_to_clear = self.left = False
+        if self.told is not None:
+            self.told = min(self.told, self.sender.acknowledged)
+        self.offer("TXC", "AckSeen", False)
+        return went
 
     def hear(self, sender, signal, values):
         super().hear(sender, signal, values)
@@ -163,12 +176,14 @@ class Link(Terminal):
 
     def hand_out(self):
         """The messages that the other end may lack; without a number those that were never sent."""
-        sender, count = self.sender, self.known()
+        sender, count, were_out = self.sender, self.known(), self.sent() > 0
         hand = sender.all[sender.sent :] if count is None else sender.all[sender.acknowledged + count :]
         sender.acknowledged += count or 0
         del sender.all[sender.acknowledged :]
         sender.sent = sender.again = sender.turn = sender.acknowledged
         sender.forced = False
+        if were_out:
+            self.offer("TXC", "AckSeen", False)
         self.out, self.stays_held = True, False
         return [it for it in hand if not self.is_own(it)]
 
@@ -239,6 +254,7 @@ class Group:
         anew = signal == "StartLink" and not link.serves
         link.command(actor, signal)
         link.anew = link.anew or anew
+        self.unsure = min(MOST_UNSURE, self.unsure + link.obey_clear())
         self.see(link)
 
     def tick(self, ticks):

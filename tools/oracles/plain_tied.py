@@ -97,8 +97,8 @@ class Filter:
 
     def tell_all(self, now):
         here = self.terminal
-        self.told += [f"{now} message {it.hex().upper()}" for it in here.messages]
         self.told += [f"{now} " + (f"down {rest[0]}" if name == "Down" else STATUSES[name]) for name, *rest in here.statuses]
+        self.told += [f"{now} message {it.hex().upper()}" for it in here.messages]
         here.messages, here.statuses = [], []
 
     def mind(self, now):

@@ -52,6 +52,12 @@ unknown_is k sent n whole is so =
     let told : n ≡ length (filter (is_bound k.points) (unacknowledged (window k))) = so ∙ ap (λ (j : ℕ). length (bound_among k j)) is in
     omega (arith, all, long, told, is)
 
+pub unbound_among : (k : Link) (count n : ℕ) → count ≤ length (held k) → n ≡ length (bound_among k count) → count - n ≡ length (unbound k.points (take count (held k)))
+unbound_among k count n within so =
+    let all = both k.points (take count (held k)) in
+    let long : length (take count (held k)) ≡ count = length-take-le count (held k) within in
+    omega (arith, all, long, so)
+
 -- ---- they leave
 
 mid_is : (xs ys : List Msu) (x : Msu) → slice_get ((xs ++ x ∷ []) ++ ys) (length xs) ≡ Some x

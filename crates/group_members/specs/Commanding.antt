@@ -1,23 +1,26 @@
 -- A command to the terminal of a link.
 use Rattle.std.specs.Prelude.{◌≡◌, ◌&&◌, Bool, true, false, not, if◌then◌else◌, Option, Some, None}
-use Rattle.std.specs.Prelude.{ℕ, List, is_some, codes}
+use Rattle.std.specs.Prelude.{ℕ, List, [], ◌++◌, take, is_some, codes}
 use Rattle.actor_machine.specs.Printed.{refusal_text}
 use Rattle.actor_machine.specs.Ledger.{ask}
 use Rattle.actor_machine.specs.Step.{Says}
 use Rattle.actor_machine.specs.declared.reply.Refusal.{Refusal}
 use Rattle.actor_machine.specs.declared.reply.Reply.TheVariants as reply
-use Rattle.link_term.specs.Machine.{is_low, tidied, offered}
+use Rattle.link_term.specs.Machine.{is_low, tidied, offered, clear_obeyed, to_clear}
 use Rattle.link_term.specs.Offering.{command_event}
 use Rattle.link_term.specs.link_processes_types.commands.Command.{Command}
 use Rattle.link_term.specs.link_processes_types.commands.Command.TheVariants as order
-use Rattle.link_term.specs.Term.{with_processes}
-use Rattle.link_term.specs.Kept.{Keeps}
+use Rattle.link_term.specs.Term.{Term, with_processes}
+use Rattle.link_term.specs.Kept.{Keeps, window_of}
+use Rattle.resend_store.specs.declared.messages.Msu.{Msu}
+use Rattle.group_changeover.specs.Availability.{fewer}
+use Rattle.group_changeover.specs.Bound.{unbound}
 use Rattle.group_changeover.specs.declared.availability.Availability.{Availability}
 use Rattle.group_changeover.specs.declared.availability.Changing.{Changing}
 use Rattle.group_members.specs.declared.commanding.CommandError.{CommandError}
 use Rattle.group_members.specs.declared.commanding.CommandError.TheVariants as error
 use Rattle.group_members.specs.declared.link.Link.{Link}
-use Rattle.group_members.specs.OneLink.{is_serving}
+use Rattle.group_members.specs.OneLink.{is_serving, held}
 
 abbrev pub is_start : Command → Bool
 is_start order.Start = true
@@ -45,12 +48,41 @@ is_barred command k = is_start command && is_barred_in k.availability.changing
 abbrev pub starts_anew : Command → Link → Bool
 starts_anew command k = is_start command && not (is_serving k)
 
+abbrev pub marked : Bool → Availability → Availability
+marked anew m = if anew then record m { anew = true } else m
+
 -- A link to which Start is commanded while it is out of service is started anew.
 abbrev pub started : Command → Link → Availability
-started command k =
-    if starts_anew command k then record k.availability { anew = true } else k.availability
+started command k = marked (starts_anew command k) k.availability
 
--- The terminal took it.
+-- the terminal behind it, before buffers are emptied
+abbrev pub behind_command : Command → Term → Term
+behind_command command t =
+    let p = tidied t.processes
+    in with_processes t (offered (command_event p.names command) p)
+
+-- what goes as the text empties the buffers: all that is kept, where it asked for that
+abbrev pub cleared_of : Term → List Msu
+cleared_of t = take (to_clear t.processes) (window_of t).kept
+
+-- The buffers are emptied, where the text asked for that. What the far side told of the messages
+-- that were kept it told of those that are kept still.
+abbrev pub clears : Link → Link
+clears k = record k {
+  terminal = with_processes k.terminal (clear_obeyed k.terminal.processes);
+  availability = fewer (to_clear k.terminal.processes) k.availability;
+}
+
+-- those that aren't bound to the link, which count as unsure
+abbrev pub cleared_by : Command → Link → List Msu
+cleared_by command k = unbound k.points (cleared_of (behind_command command k.terminal))
+
+abbrev pub cleared_at : Command → Option Link → List Msu
+cleared_at command None = []
+cleared_at command (Some k) = cleared_by command k
+
+-- The terminal took it. That takes no message away; behind it the buffers are emptied, where the
+-- text asked for that.
 pub record Commanded (command : Command) (old new : Link) : Type 0 where
   pub points : new.points ≡ old.points
   pub free : is_barred command old ≡ false
@@ -58,10 +90,14 @@ pub record Commanded (command : Command) (old new : Link) : Type 0 where
       let t = tidied old.terminal.processes
       in Says reply.Offered ≡ (ask t.book (command_event t.names command)).answer
   pub terminal :
-      let t = tidied old.terminal.processes
-      in new.terminal ≡ with_processes old.terminal (offered (command_event t.names command) t)
-  pub keeps : Keeps old.terminal new.terminal
-  pub availability : new.availability ≡ started command old
+      let t = behind_command command old.terminal
+      in new.terminal ≡ with_processes t (clear_obeyed t.processes)
+  pub keeps : Keeps old.terminal (behind_command command old.terminal)
+  pub kept :
+      held old ≡ cleared_of (behind_command command old.terminal) ++ held new
+  pub availability :
+      new.availability
+      ≡ fewer (to_clear (behind_command command old.terminal).processes) (started command old)
 
 -- The terminal refused it: nothing changed, but that there may be room in its journal now.
 pub record Refused (command : Command) (refusal : Refusal) (old new : Link) : Type 0 where

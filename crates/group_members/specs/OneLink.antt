@@ -1,17 +1,18 @@
 -- One link of a set: its terminal, and what is marked there.
-use Rattle.std.specs.Prelude.{ℕ, ◌==◌, ◌&&◌, ◌||◌, nat_le, min, Bool, true, false, not}
+use Rattle.std.specs.Prelude.{ℕ, ◌+◌, ◌%◌, ◌==◌, ◌&&◌, ◌||◌, nat_le, min, Bool, true, false, not}
 use Rattle.std.specs.Prelude.{if◌then◌else◌, List, [], length, take}
 use Rattle.std.specs.Prelude.{drop, filter, Option, Some, None, is_some, Result, Ok, Err}
 use Rattle.resend_store.specs.declared.messages.Msu.{Msu}
 use Rattle.resend_store.specs.Limits.{MOST_WAITING, MOST_KEPT}
-use Rattle.resend_store.specs.Numbers.{plus}
 use Rattle.resend_store.specs.Window.{Window, unacknowledged, waiting, with_put, count_by}
+use Rattle.resend_store.specs.Window.{last_acknowledged}
 use Rattle.link_transceiver.specs.TransceiverState.{is_held}
 use Rattle.link_transceiver.specs.declared.signals.LineKind.{LineKind}
 use Rattle.link_transceiver.specs.declared.signals.LineKind.TheVariants as kind
 use Rattle.link_transceiver.specs.declared.signals.Hold.{Hold}
 use Rattle.link_transceiver.specs.declared.signals.Hold.TheVariants as hold
-use Rattle.link_term.specs.Term.{Term, term_with_transceiver}
+use Rattle.link_term.specs.Machine.{handed_out}
+use Rattle.link_term.specs.Term.{Term, term_with_transceiver, with_processes}
 use Rattle.link_term.specs.Kept.{window_of}
 use Rattle.group_changeover.specs.declared.availability.Availability.{Availability}
 use Rattle.group_changeover.specs.declared.availability.Changing.{Changing}
@@ -202,26 +203,16 @@ lacking w None = waiting w
 abbrev pub handed_by : Link → Option ℕ → List Msu
 handed_by k n = unbound k.points (lacking (window k) n)
 
--- how many of those that are sent are acknowledged by that
-abbrev pub acknowledged_by : Window → Option ℕ → ℕ
-acknowledged_by w (Some n) = min n w.sent
-acknowledged_by w None = 0
+-- the number of the last of so many accepted ones that are sent
+abbrev pub number_behind : Window → Option ℕ → Option ℕ
+number_behind w None = None
+number_behind w (Some n) = Some ((last_acknowledged w + min n w.sent) % 128)
 
--- Nothing is kept then, and the numbers go on behind what is acknowledged.
-abbrev pub left_empty : Window → Option ℕ → Window
-left_empty w n = record w {
-  kept = [];
-  sent = 0;
-  first = plus w.first (acknowledged_by w n);
-  again = 0;
-  forced = false;
-  turn = 0;
-}
-
+-- Nothing is kept then, the numbers go on behind what is acknowledged, and where messages were out
+-- its actors are told that none is any more.
 abbrev pub emptied_behind : Option ℕ → Term → Term
 emptied_behind n t =
-    term_with_transceiver t
-    (record t.processes.transceiver { sender = left_empty (window_of t) n })
+    with_processes t (handed_out (number_behind (window_of t) n) t.processes)
 
 -- Messages are handed out, by how many are accepted, or where that isn't known the unsent; of what
 -- is handed out it is kept how many there are of each selection. The link is held no longer than
@@ -229,7 +220,7 @@ emptied_behind n t =
 unfoldable pub hands_out : Option ℕ → Link → Link
 hands_out n k =
     with_availability (with_retrieval (counts_of (handed_by k n)) k.availability)
-    (with_hold hold.UntilAnew (with_window (left_empty (window k) n) k))
+    (with_hold hold.UntilAnew (record k { terminal = emptied_behind n k.terminal }))
 
 -- K2 unless K4 would be answered. K1 where no changeover goes on.
 abbrev pub abandon_by : Option RetrieveError → Option AbandonError

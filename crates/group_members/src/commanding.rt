@@ -1,8 +1,9 @@
 //! Commands to a link.
-ghost use Rattle.std.specs.Prelude.{◌≡◌, ◌<◌, length, Some};
-ghost use Rattle.group_members.specs.Commanding.{command_error_text, is_start, is_barred, starts_anew, Commands};
+ghost use Rattle.std.specs.Prelude.{◌≡◌, ◌<◌, ◌++◌, length, slice_get, Some, IfOk};
+ghost use Rattle.group_members.specs.Commanding.{command_error_text, is_start, is_barred, starts_anew, marked, cleared_of, clears, cleared_by, cleared_at, Commands};
+ghost use Rattle.group_changeover.specs.Bound.{unbound};
 ghost use Rattle.group_members.specs.Doing.{AtLink};
-ghost use Rattle.group_members.specs.OneLink.{fault_of};
+ghost use Rattle.group_members.specs.OneLink.{fault_of, held, with_availability};
 
 use crate::link::Link;
 use actor_machine::Refusal;
@@ -79,8 +80,34 @@ impl Link {
         !self.terminal.in_service()
     }
 
-    fn command(&mut self, command: Command) -> Result<(), CommandError>
-        ensures { Commands command (fault_of result) self.old self.new }
+    /// It is started anew, where that is so.
+    fn mark(&mut self, anew: bool)
+        ensures { self.new ≡ with_availability (marked anew self.old.availability) self.old }
+    {
+        if anew {
+            self.availability.anew = true;
+        }
+    }
+
+    /// Its buffers are emptied, where its text asked for that. How many messages went that aren't bound to it.
+    #[tactic(auto, using(crate::proofs::Renewing::unbound_among))]
+    fn clear(&mut self) -> usize
+        ensures count { result ≡ length (unbound self.old.points (cleared_of self.old.terminal)) }
+        ensures kept { held self.old ≡ cleared_of self.old.terminal ++ held self.new }
+        ensures link { self.new ≡ clears self.old }
+    {
+        let cleared = self.terminal.to_clear();
+        let bound = self.bound_among(cleared);
+        let _cleared = self.terminal.obey_clear();
+        self.availability = self.availability.fewer(cleared);
+        cleared - bound
+    }
+
+    /// A command to its terminal, behind which the buffers are emptied where the text asked for that. How many messages went by it that aren't bound
+    /// to the link.
+    fn command(&mut self, command: Command) -> Result<usize, CommandError>
+        ensures did { Commands command (fault_of result) self.old self.new }
+        ensures cleared { IfOk result (λ count. count ≡ length (cleared_by command self.old)) }
     {
         if self.bars(command) {
             return Err(CommandError::Waiting);
@@ -88,10 +115,8 @@ impl Link {
         let anew = self.starts_anew(command);
         match self.terminal.command(command) {
             Ok(()) => {
-                if anew {
-                    self.availability.anew = true;
-                }
-                Ok(())
+                self.mark(anew);
+                Ok(self.clear())
             }
             Err(CallError::Refused(refusal)) => Err(CommandError::Refused(refusal)),
             Err(CallError::NoMemory) => Err(CommandError::NoMemory),
@@ -99,14 +124,15 @@ impl Link {
     }
 }
 
-/// A command to the link at a place.
+/// A command to the link at a place. How many messages went by it that aren't bound to the link.
 ///
 /// # Errors
 ///
 /// `K2 Waiting` for Start in a changeover whose messages aren't handed out yet: nothing changes. Else those of `Terminal::command`.
-pub fn command_at(links: &mut [Link], at: usize, command: Command) -> Result<(), CommandError>
+pub fn command_at(links: &mut [Link], at: usize, command: Command) -> Result<usize, CommandError>
     requires { at < length links.old }
-    ensures { AtLink (Commands command (fault_of result)) at links.old links.new }
+    ensures did { AtLink (Commands command (fault_of result)) at links.old links.new }
+    ensures cleared { IfOk result (λ count. count ≡ length (cleared_at command (slice_get links.old at))) }
 {
     links[at].command(command)
 }

@@ -57,7 +57,7 @@ fn take_behind(terminal: &mut Terminal, accepted: usize) -> Result<VecDeque<Msu>
     let _window = terminal.held();
     let known = accepted.min(terminal.sent());
     let number = (usize::from(terminal.acknowledged()) + known) % 128;
-    match terminal.retrieve(Some(number as u8)) {
+    match terminal.retrieve_telling(Some(number as u8)) {
         Ok(mut messages) => {
             drop_front(&mut messages, accepted - known);
             Ok(messages)
@@ -76,7 +76,7 @@ fn take_out(terminal: &mut Terminal, accepted: Option<usize>) -> Result<VecDeque
     if let Some(accepted) = accepted {
         return take_behind(terminal, accepted);
     }
-    match terminal.retrieve(None) {
+    match terminal.retrieve_telling(None) {
         Ok(messages) => Ok(messages),
         Err(_) => Err(AllocError),
     }

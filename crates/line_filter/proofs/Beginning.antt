@@ -7,6 +7,7 @@ use Rattle.std.proofs.lemmas.List.{length-map, map-append}
 use Rattle.line_filter.specs.Acts.{Act}
 use Rattle.line_filter.specs.Runs.{State, Runs, begins}
 use Rattle.line_filter.specs.Desks.{Told}
+use Rattle.line_filter.specs.Reporting.{Stand}
 use Rattle.line_filter.specs.Filters.{turned, SILENCE, Goes, Streams, Served, WritesPart, ServesPart, IsBegun}
 use Rattle.line_filter.specs.declared.filter.Bits.{Bits}
 use Rattle.line_filter.proofs.Passing.{runs_joined, none_left}
@@ -63,7 +64,7 @@ part_none acts bits ahead count s read old new writes =
     }
 
 pub part_some : {T : Type 0} (acts : T → Act → T → Type 0) (bits : Bits) (count : ℕ) (s t : State T) (goes_on : Bool) (next : ℕ) (read turned_in given out : List ℕ)
-    (told_before told old new : Option (List ℕ)) → turned_in ≡ map (turned bits) read → out ≡ map (turned bits) given
+    (told_before told : Stand) (old new : Option (List ℕ)) → turned_in ≡ map (turned bits) read → out ≡ map (turned bits) given
     → Told (λ bytes. Goes acts count s turned_in given bytes goes_on next t) told_before told → WritesPart old new out → ServesPart acts bits 0 count s read old new
 part_some acts bits count s t goes_on next read turned_in given out told_before told old new is made goes writes =
     let P : List ℕ → Type 0 = λ l. WritesPart old new l in

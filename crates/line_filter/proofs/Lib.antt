@@ -4,5 +4,6 @@ mod Filling
 mod Leaving
 mod Looking
 mod Passing
+mod Reporting
 mod Saying
 mod Telling

@@ -2,11 +2,13 @@
 use Rattle.std.proofs.Common.{◌≡◌, ℕ, ◌+◌, ◌<◌, Bool, true, false, List, [], ◌∷◌, ◌++◌, length, take, drop, map, Option, refl, sym, ap, ◌∙◌, subst, append_assoc, append-nil, length-append, get_or, set, zero, suc, arith}
 use Rattle.std.specs.Prelude.{replicate}
 use Rattle.std.specs.Io.KnownBytes.{Appends, Consumes, IsAtEnd, Keeps}
-use Rattle.std.proofs.KnownBytes.{Appends-nil, Appends-trans, Consumes-nil, Consumes-trans, Consumes-kept}
+use Rattle.std.proofs.KnownBytes.{Appends-trans, Consumes-nil, Consumes-trans, Consumes-kept}
 use Rattle.std.proofs.lemmas.List.{map-append}
 use Rattle.line_filter.specs.Acts.{Act}
 use Rattle.line_filter.specs.Runs.{State, Steps, Runs, begins, octet}
 use Rattle.line_filter.specs.Desks.{Told}
+use Rattle.line_filter.specs.Reporting.{Stand, TellsLines}
+use Rattle.line_filter.proofs.Reporting.{tells_none, tells_trans}
 use Rattle.line_filter.specs.Filters.{turned, SILENCE, Goes, Serves, Streams, Served, IsOver}
 use Rattle.line_filter.specs.declared.filter.Bits.{Bits}
 
@@ -35,27 +37,27 @@ runs_joined acts count s m xs os bs _ _ _ _ _ first (octet {come} {out} {bytes} 
     (let e : (count + length xs) + length come ≡ count + length (xs ++ come) = omega (arith, length-append xs come) in e) steps))
 
 -- ---- a part of octets
-pub record Passed {T : Type 0} (acts : T → Act → T → Type 0) (count : ℕ) (s : State T) (come before now : List ℕ) (next : ℕ) (t : State T) (old new : Option (List ℕ)) : Type 0 where
+pub record Passed {T : Type 0} (acts : T → Act → T → Type 0) (count : ℕ) (s : State T) (come before now : List ℕ) (next : ℕ) (t : State T) (old new : Stand) : Type 0 where
   pub given : List ℕ
   pub out : now ≡ before ++ given
   pub told : Told (λ bytes. Runs acts count s come given bytes true t) old new
   pub counted : next ≡ count + length come
 
-pub passed_none : {T : Type 0} (acts : T → Act → T → Type 0) (count : ℕ) (s : State T) (out : List ℕ) (old : Option (List ℕ)) → Passed acts count s [] out out count s old old
+pub passed_none : {T : Type 0} (acts : T → Act → T → Type 0) (count : ℕ) (s : State T) (out : List ℕ) (old : Stand) → Passed acts count s [] out out count s old old
 passed_none acts count s out old = record {
   given = [];
   out = sym (append-nil out);
-  told = record { bytes = []; are = begins; appends = Appends-nil old };
+  told = record { bytes = []; are = begins; tells = tells_none old };
   counted = omega arith;
 }
 
-one_more : {T : Type 0} (acts : T → Act → T → Type 0) (count : ℕ) (s t u : State T) (come before now after : List ℕ) (next : ℕ) (old mid new : Option (List ℕ)) (comes gives : ℕ)
+one_more : {T : Type 0} (acts : T → Act → T → Type 0) (count : ℕ) (s t u : State T) (come before now after : List ℕ) (next : ℕ) (old mid new : Stand) (comes gives : ℕ)
     (goes_on : Bool) → (p : Passed acts count s come before now next t old mid) → Told (λ bytes. Steps acts next t comes gives bytes goes_on u) mid new
     → Told (λ bytes. Runs acts count s (come ++ comes ∷ []) (p.given ++ gives ∷ []) bytes goes_on u) old new
 one_more acts count s t u come before now after next old mid new comes gives goes_on p step = record {
   bytes = p.told.bytes ++ step.bytes;
   are = octet comes gives step.bytes goes_on u p.told.are (steps_as acts next (count + length come) t u comes gives step.bytes goes_on p.counted step.are);
-  appends = Appends-trans old mid new p.told.bytes step.bytes p.told.appends step.appends;
+  tells = tells_trans old mid new p.told.bytes step.bytes p.told.tells step.tells;
 }
 
 grown : (before now after given : List ℕ) (gives : ℕ) → now ≡ before ++ given → after ≡ now ++ gives ∷ [] → after ≡ before ++ (given ++ gives ∷ [])
@@ -64,7 +66,7 @@ grown before now after given gives h k = k ∙ (ap (λ l. l ++ gives ∷ []) h �
 longer : (count next now comes : ℕ) (come : List ℕ) → next ≡ count + length come → now ≡ next + 1 → now ≡ count + length (come ++ comes ∷ [])
 longer count next now comes come h k = omega (arith, h, k, length-append come (comes ∷ []))
 
-pub passed_more : {T : Type 0} (acts : T → Act → T → Type 0) (count : ℕ) (s t u : State T) (come more before now after : List ℕ) (next last : ℕ) (old mid new : Option (List ℕ))
+pub passed_more : {T : Type 0} (acts : T → Act → T → Type 0) (count : ℕ) (s t u : State T) (come more before now after : List ℕ) (next last : ℕ) (old mid new : Stand)
     (comes gives : ℕ) → Passed acts count s come before now next t old mid → after ≡ now ++ gives ∷ [] → Told (λ bytes. Steps acts next t comes gives bytes true u) mid new
     → last ≡ next + 1 → more ≡ come ++ comes ∷ [] → Passed acts count s more before after last u old new
 passed_more acts count s t u come more before now after next last old mid new comes gives p out step is same =
@@ -78,7 +80,7 @@ passed_more acts count s t u come more before now after next last old mid new co
     })
 
 -- an order ended the run
-pub passed_ended : {T : Type 0} (acts : T → Act → T → Type 0) (count : ℕ) (s t u : State T) (come octets dropped before now after : List ℕ) (next last : ℕ) (old mid new : Option (List ℕ))
+pub passed_ended : {T : Type 0} (acts : T → Act → T → Type 0) (count : ℕ) (s t u : State T) (come octets dropped before now after : List ℕ) (next last : ℕ) (old mid new : Stand)
     (comes gives : ℕ) → Passed acts count s come before now next t old mid → after ≡ now ++ gives ∷ [] → Told (λ bytes. Steps acts next t comes gives bytes false u) mid new
     → last ≡ next + 1 → octets ≡ (come ++ comes ∷ []) ++ dropped
     → (given : List ℕ) × (after ≡ before ++ given) × Told (λ bytes. Goes acts count s octets given bytes false last u) old new
@@ -96,12 +98,12 @@ passed_ended acts count s t u come octets dropped before now after next last old
           none_dropped = λ h. absurd (let e : false ≡ true = h in cc);
           counted = longer count next last comes come p.counted is;
         };
-        appends = runs.appends;
+        tells = runs.tells;
       },
     )
 
 -- all octets went each way
-pub passed_all : {T : Type 0} (acts : T → Act → T → Type 0) (count : ℕ) (s t : State T) (come octets before now : List ℕ) (next : ℕ) (old new : Option (List ℕ))
+pub passed_all : {T : Type 0} (acts : T → Act → T → Type 0) (count : ℕ) (s t : State T) (come octets before now : List ℕ) (next : ℕ) (old new : Stand)
     → Passed acts count s come before now next t old new → octets ≡ come
     → (given : List ℕ) × (now ≡ before ++ given) × Told (λ bytes. Goes acts count s octets given bytes true next t) old new
 passed_all acts count s t come octets before now next old new p all = (
@@ -110,7 +112,7 @@ passed_all acts count s t come octets before now next old new p all = (
   record {
     bytes = p.told.bytes;
     are = record { come = come; dropped = []; runs = p.told.are; all = all ∙ sym (append-nil come); none_dropped = λ h. refl; counted = p.counted };
-    appends = p.told.appends;
+    tells = p.told.tells;
   },
 )
 
@@ -129,14 +131,14 @@ turned_next f init now i value low is turns =
     ∙ (turned_there f init i low ∙ ap (λ n. map f (take n init) ++ drop n init) (let e : suc i ≡ i + 1 = omega arith in e)))
 
 -- ---- parts of a line
-pub served_one : {T : Type 0} (acts : T → Act → T → Type 0) (bits : Bits) (count : ℕ) (s t : State T) (goes_on : Bool) (next : ℕ) (read turned_in given out : List ℕ) (old new : Option (List ℕ))
+pub served_one : {T : Type 0} (acts : T → Act → T → Type 0) (bits : Bits) (count : ℕ) (s t : State T) (goes_on : Bool) (next : ℕ) (read turned_in given out : List ℕ) (old new : Stand)
     → turned_in ≡ map (turned bits) read → out ≡ map (turned bits) given → Told (λ bytes. Goes acts count s turned_in given bytes goes_on next t) old new
     → Told (λ bytes. Serves acts bits count s read out bytes goes_on next t) old new
 served_one acts bits count s t goes_on next read turned_in given out old new is made goes =
     let P : List ℕ → Type 0 = λ l. Goes acts count s l given goes.bytes goes_on next t in
-    record { bytes = goes.bytes; are = record { out = given; goes = subst P is goes.are; written_is = made }; appends = goes.appends }
+    record { bytes = goes.bytes; are = record { out = given; goes = subst P is goes.are; written_is = made }; tells = goes.tells }
 
-pub served_none : {T : Type 0} (acts : T → Act → T → Type 0) (bits : Bits) (ahead count : ℕ) (s : State T) (read written mid told : Option (List ℕ))
+pub served_none : {T : Type 0} (acts : T → Act → T → Type 0) (bits : Bits) (ahead count : ℕ) (s : State T) (read written mid : Option (List ℕ)) (told : Stand)
     → Appends written mid (replicate ahead SILENCE)
     → Served acts bits ahead count s true count s (record { read = read; written = written; told = told }) (record { read = read; written = mid; told = told })
 served_none acts bits ahead count s read written mid told silence = record {
@@ -150,7 +152,7 @@ served_none acts bits ahead count s read written mid told silence = record {
   };
   consumes = Consumes-nil read;
   appends = let P : List ℕ → Type 0 = λ l. Appends written mid l in subst P (sym (append-nil (replicate ahead SILENCE))) silence;
-  tells = Appends-nil told;
+  tells = tells_none told;
 }
 
 -- a read that gave nothing
@@ -159,7 +161,7 @@ pub served_kept : {T : Type 0} (acts : T → Act → T → Type 0) (bits : Bits)
     → Served acts bits ahead count s goes_on next t old last
 served_kept acts bits ahead count s t goes_on next old new last so_far kept same_written same_told =
     let P : Option (List ℕ) → Type 0 = λ o. Appends old.written o (replicate ahead SILENCE ++ so_far.written) in
-    let Q : Option (List ℕ) → Type 0 = λ o. Appends old.told o so_far.bytes in
+    let Q : Stand → Type 0 = λ o. TellsLines old.told o so_far.bytes in
     record {
       read = so_far.read;
       written = so_far.written;
@@ -207,10 +209,10 @@ served_more {T} acts bits ahead count s m t goes_on next last old new later part
           let Q : List ℕ → Type 0 = λ l. Appends old.written later.written l in
           subst Q (append_assoc (replicate ahead SILENCE) so_far.written written)
           (Appends-trans old.written new.written later.written (replicate ahead SILENCE ++ so_far.written) written so_far.appends appends);
-      tells = Appends-trans old.told new.told later.told so_far.bytes more.bytes so_far.tells more.appends;
+      tells = tells_trans old.told new.told later.told so_far.bytes more.bytes so_far.tells more.tells;
     }
 
-pub steps_on : {T : Type 0} (acts : T → Act → T → Type 0) (count : ℕ) (s t : State T) (comes gives : ℕ) (goes_on is : Bool) (old new : Option (List ℕ)) → goes_on ≡ is
+pub steps_on : {T : Type 0} (acts : T → Act → T → Type 0) (count : ℕ) (s t : State T) (comes gives : ℕ) (goes_on is : Bool) (old new : Stand) → goes_on ≡ is
     → Told (λ bytes. Steps acts count s comes gives bytes goes_on t) old new → Told (λ bytes. Steps acts count s comes gives bytes is t) old new
 steps_on acts count s t comes gives goes_on is old new same told = let P : Bool → Type 0 = λ b. Told (λ bytes. Steps acts count s comes gives bytes b t) old new in subst P same told
 
@@ -220,7 +222,7 @@ pub over_end : {T : Type 0} (acts : T → Act → T → Type 0) (bits : Bits) (a
     → IsOver acts bits ahead count s next t old last
 over_end acts bits ahead count s t next old new last part so_far consumes none end same_written same_told =
     let P : Option (List ℕ) → Type 0 = λ o. Appends old.written o (replicate ahead SILENCE ++ so_far.written) in
-    let Q : Option (List ℕ) → Type 0 = λ o. Appends old.told o so_far.bytes in
+    let Q : Stand → Type 0 = λ o. TellsLines old.told o so_far.bytes in
     let R : List ℕ → Type 0 = λ l. Consumes old.read last.read l in
     record {
       goes_on = true;

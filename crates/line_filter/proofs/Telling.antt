@@ -4,14 +4,14 @@ use Rattle.std.proofs.lemmas.List.{take_more, flat_map_more}
 use Rattle.std.specs.List.{flat_map}
 use lib.ListN.{get_or}
 use Rattle.std.specs.Prelude.{codes, IsTrue}
-use Rattle.std.specs.Io.KnownBytes.{Appends}
-use Rattle.std.proofs.KnownBytes.{Appends-nil, Appends-trans}
 use Rattle.line_filter.specs.Acts.{Act, heard, passed, reported, obeyed}
 use Rattle.line_filter.specs.Speaking.{Gives}
 use Rattle.line_filter.specs.Orders.{Timed, NextIs, NoneIsDue, QUIT, told, answered, Tells, nothing, says, TellsAll, Obeys}
 use Rattle.line_filter.specs.Runs.{OCTETS, State, Exchanges, ObeysDue, no_order, one_order, ObeysAll, Minds, Behind, between, eighth, Steps}
 use Rattle.line_filter.specs.declared.terminal.Answer.{Answer}
 use Rattle.line_filter.specs.Desks.{Told}
+use Rattle.line_filter.specs.Reporting.{Stand, TellsLines}
+use Rattle.line_filter.proofs.Reporting.{tells_none, tells_trans}
 
 pub moved : {A : Type 0} (x y : A) → x ≡ y → (P : A → Type 0) → P x → P y
 moved x y is P h = subst P is h
@@ -20,83 +20,83 @@ pub not_both : (b : Bool) → b ≡ false → IsTrue b → ⊥
 not_both b denied shown = absurd (let e : false ≡ true = sym denied ∙ shown in cc)
 
 -- one line more
-pub lines_more : {X : Type 0} (f : X → List ℕ) (items : List X) (i : ℕ) (x : X) (text : List ℕ) (a b c : Option (List ℕ))
-    → i < length items → x ≡ get_or items i x → text ≡ f x → Appends a b (flat_map f (take i items)) → Appends b c text
-    → Appends a c (flat_map f (take (i + 1) items))
+pub lines_more : {X : Type 0} (f : X → List ℕ) (items : List X) (i : ℕ) (x : X) (text : List ℕ) (a b c : Stand)
+    → i < length items → x ≡ get_or items i x → text ≡ f x → TellsLines a b (flat_map f (take i items)) → TellsLines b c text
+    → TellsLines a c (flat_map f (take (i + 1) items))
 lines_more f items i x text a b c within is printed before line =
-    subst (Appends a c)
+    subst (TellsLines a c)
     (ap (λ (l : List ℕ). flat_map f (take i items) ++ l) printed
     ∙ (flat_map_more f [] (take i items) x
     ∙ ap (flat_map f) (ap (λ y. take i items ++ y ∷ []) is ∙ sym (take_more items i x within))))
-    (Appends-trans a b c _ _ before line)
+    (tells_trans a b c _ _ before line)
 
-pub told_none : {T : Type 0} (acts : T → Act → T → Type 0) (now : ℕ) (t : T) (old : Option (List ℕ)) → Told (λ bytes. Tells acts now t bytes t) old old
-told_none acts now t old = record { bytes = []; are = nothing; appends = Appends-nil old }
+pub told_none : {T : Type 0} (acts : T → Act → T → Type 0) (now : ℕ) (t : T) (old : Stand) → Told (λ bytes. Tells acts now t bytes t) old old
+told_none acts now t old = record { bytes = []; are = nothing; tells = tells_none old }
 
-pub told_more : {T : Type 0} (acts : T → Act → T → Type 0) (now : ℕ) (t u w : T) (old mid new : Option (List ℕ)) (text : List ℕ)
-    → Told (λ bytes. Tells acts now t bytes u) old mid → acts u (reported (Some text)) w → Appends mid new (told now text)
+pub told_more : {T : Type 0} (acts : T → Act → T → Type 0) (now : ℕ) (t u w : T) (old mid new : Stand) (text : List ℕ)
+    → Told (λ bytes. Tells acts now t bytes u) old mid → acts u (reported (Some text)) w → TellsLines mid new (told now text)
     → Told (λ bytes. Tells acts now t bytes w) old new
 told_more acts now t u w old mid new text so_far act more = record {
   bytes = so_far.bytes ++ told now text;
   are = says text w so_far.are act;
-  appends = Appends-trans old mid new so_far.bytes (told now text) so_far.appends more;
+  tells = tells_trans old mid new so_far.bytes (told now text) so_far.tells more;
 }
 
-pub told_all : {T : Type 0} (acts : T → Act → T → Type 0) (now : ℕ) (t u w : T) (old new : Option (List ℕ))
+pub told_all : {T : Type 0} (acts : T → Act → T → Type 0) (now : ℕ) (t u w : T) (old new : Stand)
     → Told (λ bytes. Tells acts now t bytes u) old new → acts u (reported None) w → Told (λ bytes. TellsAll acts now t bytes w) old new
 told_all acts now t u w old new so_far act =
-    record { bytes = so_far.bytes; are = record { last = u; tells = so_far.are; none_left = act }; appends = so_far.appends }
+    record { bytes = so_far.bytes; are = record { last = u; tells = so_far.are; none_left = act }; tells = so_far.tells }
 
-pub told_order : {T : Type 0} (acts : T → Act → T → Type 0) (now : ℕ) (t u w : T) (old mid new : Option (List ℕ)) (order : List ℕ) (answer : Answer)
-    → acts t (obeyed order answer) u → Appends old mid (answered now order answer) → Told (λ bytes. TellsAll acts now u bytes w) mid new
+pub told_order : {T : Type 0} (acts : T → Act → T → Type 0) (now : ℕ) (t u w : T) (old mid new : Stand) (order : List ℕ) (answer : Answer)
+    → acts t (obeyed order answer) u → TellsLines old mid (answered now order answer) → Told (λ bytes. TellsAll acts now u bytes w) mid new
     → Told (λ bytes. Obeys acts now t order bytes w) old new
 told_order acts now t u w old mid new order answer act first rest = record {
   bytes = answered now order answer ++ rest.bytes;
   are = record { answer = answer; middle = u; act = act; more = rest.bytes; tells = rest.are; are = refl };
-  appends = Appends-trans old mid new (answered now order answer) rest.bytes first rest.appends;
+  tells = tells_trans old mid new (answered now order answer) rest.bytes first rest.tells;
 }
 
-pub told_exchange : {T : Type 0} (acts : T → Act → T → Type 0) (now : ℕ) (s t : State T) (asked heard_it : T) (comes gives : ℕ) (old new : Option (List ℕ))
+pub told_exchange : {T : Type 0} (acts : T → Act → T → Type 0) (now : ℕ) (s t : State T) (asked heard_it : T) (comes gives : ℕ) (old new : Stand)
     → Gives acts s.term s.voice gives asked t.voice → acts asked (heard comes) heard_it → Told (λ bytes. TellsAll acts now heard_it bytes t.term) old new
     → t.left ≡ s.left → Told (λ bytes. Exchanges acts now s comes gives bytes t) old new
 told_exchange acts now s t asked heard_it comes gives old new out hears rest same = record {
   bytes = rest.bytes;
   are = record { asked = asked; heard_it = heard_it; out = out; hears = hears; tells = rest.are; orders = same };
-  appends = rest.appends;
+  tells = rest.tells;
 }
 
-pub due_none : {T : Type 0} (acts : T → Act → T → Type 0) (now : ℕ) (t : T) (left : Option (List Timed)) (old : Option (List ℕ))
+pub due_none : {T : Type 0} (acts : T → Act → T → Type 0) (now : ℕ) (t : T) (left : Option (List Timed)) (old : Stand)
     → Told (λ bytes. ObeysDue acts now t left bytes t left) old old
-due_none acts now t left old = record { bytes = []; are = no_order; appends = Appends-nil old }
+due_none acts now t left old = record { bytes = []; are = no_order; tells = tells_none old }
 
-pub due_more : {T : Type 0} (acts : T → Act → T → Type 0) (now : ℕ) (t u w : T) (left fewer last : Option (List Timed)) (old mid new : Option (List ℕ)) (text : List ℕ)
+pub due_more : {T : Type 0} (acts : T → Act → T → Type 0) (now : ℕ) (t u w : T) (left fewer last : Option (List Timed)) (old mid new : Stand) (text : List ℕ)
     → Told (λ bytes. ObeysDue acts now t left bytes u fewer) old mid → NextIs now fewer text last → (text ≡ QUIT → ⊥)
     → Told (λ bytes. Obeys acts now u text bytes w) mid new → Told (λ bytes. ObeysDue acts now t left bytes w last) old new
 due_more acts now t u w left fewer last old mid new text so_far next no_end more = record {
   bytes = so_far.bytes ++ more.bytes;
   are = one_order text more.bytes w last so_far.are next no_end more.are;
-  appends = Appends-trans old mid new so_far.bytes more.bytes so_far.appends more.appends;
+  tells = tells_trans old mid new so_far.bytes more.bytes so_far.tells more.tells;
 }
 
-pub due_over : {T : Type 0} (acts : T → Act → T → Type 0) (now : ℕ) (s t : State T) (fewer : Option (List Timed)) (old new : Option (List ℕ))
+pub due_over : {T : Type 0} (acts : T → Act → T → Type 0) (now : ℕ) (s t : State T) (fewer : Option (List Timed)) (old new : Stand)
     → Told (λ bytes. ObeysDue acts now s.term s.left bytes t.term fewer) old new → NoneIsDue now fewer t.left → t.voice ≡ s.voice
     → Told (λ bytes. ObeysAll acts now s bytes true t) old new
 due_over acts now s t fewer old new so_far none same = record {
   bytes = so_far.bytes;
   are = record { first = so_far.bytes; fewer = fewer; obeys = so_far.are; second = []; ends = (refl, none); voice = same; are = sym (append-nil so_far.bytes) };
-  appends = so_far.appends;
+  tells = so_far.tells;
 }
 
-pub due_ended : {T : Type 0} (acts : T → Act → T → Type 0) (now : ℕ) (s t : State T) (fewer : Option (List Timed)) (old mid new : Option (List ℕ))
+pub due_ended : {T : Type 0} (acts : T → Act → T → Type 0) (now : ℕ) (s t : State T) (fewer : Option (List Timed)) (old mid new : Stand)
     → Told (λ bytes. ObeysDue acts now s.term s.left bytes t.term fewer) old mid → NextIs now fewer QUIT t.left → t.voice ≡ s.voice
-    → Appends mid new (told now (codes "ok quit")) → Told (λ bytes. ObeysAll acts now s bytes false t) old new
+    → TellsLines mid new (told now (codes "ok quit")) → Told (λ bytes. ObeysAll acts now s bytes false t) old new
 due_ended acts now s t fewer old mid new so_far next same more = record {
   bytes = so_far.bytes ++ told now (codes "ok quit");
   are = record { first = so_far.bytes; fewer = fewer; obeys = so_far.are; second = told now (codes "ok quit"); ends = (refl, next); voice = same; are = refl };
-  appends = Appends-trans old mid new so_far.bytes (told now (codes "ok quit")) so_far.appends more;
+  tells = tells_trans old mid new so_far.bytes (told now (codes "ok quit")) so_far.tells more;
 }
 
-pub told_minded : {T : Type 0} (acts : T → Act → T → Type 0) (now : ℕ) (s calm t : State T) (ticked : T) (goes_on : Bool) (old mid new : Option (List ℕ))
+pub told_minded : {T : Type 0} (acts : T → Act → T → Type 0) (now : ℕ) (s calm t : State T) (ticked : T) (goes_on : Bool) (old mid new : Stand)
     → acts s.term passed ticked → Told (λ bytes. TellsAll acts now ticked bytes calm.term) old mid → calm.voice ≡ s.voice → calm.left ≡ s.left
     → Told (λ bytes. ObeysAll acts now calm bytes goes_on t) mid new → Told (λ bytes. Minds acts now s bytes goes_on t) old new
 told_minded acts now s calm t ticked goes_on old mid new tick first voice left second = record {
@@ -113,22 +113,22 @@ told_minded acts now s calm t ticked goes_on old mid new tick first voice left s
     obeys = second.are;
     are = refl;
   };
-  appends = Appends-trans old mid new first.bytes second.bytes first.appends second.appends;
+  tells = tells_trans old mid new first.bytes second.bytes first.tells second.tells;
 }
 
-pub told_step : {T : Type 0} (acts : T → Act → T → Type 0) (count : ℕ) (s m t : State T) (comes gives : ℕ) (goes_on : Bool) (old mid new : Option (List ℕ))
+pub told_step : {T : Type 0} (acts : T → Act → T → Type 0) (count : ℕ) (s m t : State T) (comes gives : ℕ) (goes_on : Bool) (old mid new : Stand)
     → Told (λ bytes. Exchanges acts (count / OCTETS) s comes gives bytes m) old mid → Told (λ bytes. Behind acts (count + 1) m bytes goes_on t) mid new
     → Told (λ bytes. Steps acts count s comes gives bytes goes_on t) old new
 told_step acts count s m t comes gives goes_on old mid new first second = record {
   bytes = first.bytes ++ second.bytes;
   are = record { middle = m; first = first.bytes; exchanges = first.are; second = second.bytes; behind = second.are; are = refl };
-  appends = Appends-trans old mid new first.bytes second.bytes first.appends second.appends;
+  tells = tells_trans old mid new first.bytes second.bytes first.tells second.tells;
 }
 
-pub behind_none : {T : Type 0} (acts : T → Act → T → Type 0) (count : ℕ) (s : State T) (old : Option (List ℕ)) → (count % OCTETS ≡ 0 → ⊥)
+pub behind_none : {T : Type 0} (acts : T → Act → T → Type 0) (count : ℕ) (s : State T) (old : Stand) → (count % OCTETS ≡ 0 → ⊥)
     → Told (λ bytes. Behind acts count s bytes true s) old old
-behind_none acts count s old not = record { bytes = []; are = between not; appends = Appends-nil old }
+behind_none acts count s old not = record { bytes = []; are = between not; tells = tells_none old }
 
-pub behind_minded : {T : Type 0} (acts : T → Act → T → Type 0) (count : ℕ) (s t : State T) (goes_on : Bool) (old new : Option (List ℕ)) → count % OCTETS ≡ 0
+pub behind_minded : {T : Type 0} (acts : T → Act → T → Type 0) (count : ℕ) (s t : State T) (goes_on : Bool) (old new : Stand) → count % OCTETS ≡ 0
     → Told (λ bytes. Minds acts (count / OCTETS) s bytes goes_on t) old new → Told (λ bytes. Behind acts count s bytes goes_on t) old new
-behind_minded acts count s t goes_on old new is minds = record { bytes = minds.bytes; are = eighth is minds.are; appends = minds.appends }
+behind_minded acts count s t goes_on old new is minds = record { bytes = minds.bytes; are = eighth is minds.are; tells = minds.tells }

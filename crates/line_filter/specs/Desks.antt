@@ -1,7 +1,7 @@
 -- What the parts of a run do to a desk, and to what is told.
 use Rattle.std.specs.Prelude.{ℕ, List, Option}
-use Rattle.std.specs.Io.KnownBytes.{Appends}
 use Rattle.line_filter.specs.Orders.{Timed}
+use Rattle.line_filter.specs.Reporting.{Stand, TellsLines}
 use Rattle.line_filter.specs.Runs.{State}
 use Rattle.line_filter.specs.declared.desk.Desk.{Desk}
 
@@ -9,7 +9,7 @@ abbrev pub state_of : {T O P : Type 0} → (O → Option (List Timed)) → Desk 
 state_of left d = record { term = d.terminal; voice = d.voice; left = left d.orders }
 
 -- bytes were told of which R speaks
-pub record Told (R : List ℕ → Type 0) (old new : Option (List ℕ)) : Type 0 where
+pub record Told (R : List ℕ → Type 0) (old new : Stand) : Type 0 where
   pub bytes : List ℕ
   pub are : R bytes
-  pub appends : Appends old new bytes
+  pub tells : TellsLines old new bytes

@@ -4,6 +4,7 @@ use Rattle.std.specs.Prelude.{Option}
 use Rattle.std.specs.Io.KnownBytes.{Appends, Consumes, IsAtEnd}
 use Rattle.std.specs.Int.{w8, reverse_bits}
 use Rattle.line_filter.specs.Acts.{Act}
+use Rattle.line_filter.specs.Reporting.{Stand, TellsLines}
 use Rattle.line_filter.specs.Runs.{State, Runs}
 use Rattle.line_filter.specs.declared.filter.Bits.{Bits}
 use Rattle.line_filter.specs.declared.filter.Bits.TheVariants.{Low, High}
@@ -47,7 +48,7 @@ pub record Serves {T : Type 0} (acts : T → Act → T
 pub record Streams : Type 0 where
   pub read : Option (List ℕ)
   pub written : Option (List ℕ)
-  pub told : Option (List ℕ)
+  pub told : Stand
 
 -- some bytes were read, and what they lead to was written and told behind octets of silence
 pub record Served {T : Type 0} (acts : T → Act → T
@@ -61,7 +62,7 @@ pub record Served {T : Type 0} (acts : T → Act → T
   pub serves : Serves acts bits count s read written bytes goes_on next t
   pub consumes : Consumes old.read new.read read
   pub appends : Appends old.written new.written (replicate ahead SILENCE ++ written)
-  pub tells : Appends old.told new.told bytes
+  pub tells : TellsLines old.told new.told bytes
 
 -- The run is over: all octets went each way, or an order ended it.
 pub record IsOver {T : Type 0} (acts : T → Act → T

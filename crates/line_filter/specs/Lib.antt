@@ -5,6 +5,7 @@ pub mod Inside
 pub mod Laws
 pub mod Orders
 pub mod Reading
+pub mod Reporting
 pub mod Runs
 pub mod Says
 pub mod Speaking

@@ -1,17 +1,18 @@
 //! A terminal on a line, its orders, and where it tells what becomes of it.
-ghost use Rattle.std.specs.Prelude.{◌≡◌, ◌↔◌, ℕ, ◌+◌, ◌/◌, ◌++◌, ◌∷◌, [], IfOk, OnOk, IsTrue};
-ghost use Rattle.std.specs.Io.KnownBytes.{Appends};
+ghost use Rattle.std.specs.Prelude.{◌≡◌, ◌↔◌, ℕ, ◌+◌, ◌/◌, ◌++◌, ◌∷◌, [], IfOk, IfSome, OnOk, IsTrue, codes};
 ghost use Rattle.std.specs.List.{flat_map};
 ghost use Rattle.line_filter.specs.Orders.{QUIT, TellsAll, Obeys, told, listed, answered};
 ghost use Rattle.line_filter.specs.Runs.{OCTETS, Exchanges, ObeysAll, Minds, Behind, Steps};
 ghost use Rattle.line_filter.specs.Desks.{state_of, Told};
+ghost use Rattle.line_filter.specs.Reporting.{TellsLine, TellsLines};
 
 use crate::orders::Orders;
+use crate::reports::Reports;
 use crate::terminal::{Answer, LineTerminal};
 use crate::voice::Voice;
-use plain_text::write_line;
 use std::alloc::Global;
-use std::io::{self, ErrorKind, Write};
+use std::fmt::Display;
+use std::io::{self, ErrorKind};
 
 /// How many octets are a millisecond, on a line of 64 kbit/s.
 const OCTETS: u64 = 8;
@@ -31,21 +32,30 @@ pub struct Desk<T, O, P> {
     pub count: u64,
 }
 
-/// Tells a line, the millisecond first.
-fn tell<P: Write>(alloc: Global, now: u64, text: &str, reports: &mut P) -> io::Result<()>
-    ensures { OnOk result (Appends (P.contents reports.old) (P.contents reports.new) (told now text.now)) }
+/// Tells a line.
+fn tell_line<P: Reports, L: Display>(alloc: Global, reports: &mut P, line: &L) -> io::Result<()>
+    ensures { OnOk result (IfSome (L.output line.now) (λ text. TellsLine (P.stand reports.old) (P.stand reports.new) (text ++ 10 ∷ []))) }
 {
-    write_line(alloc, reports, &format_args!("{now} {text}"))
+    let text = format!(in alloc; "{line}\n")?;
+    reports.tell(text.as_bytes())
+}
+
+/// Tells a line, the millisecond first.
+#[tactic(auto, using(crate::proofs::Reporting::tells_one))]
+fn tell<P: Reports>(alloc: Global, now: u64, text: &str, reports: &mut P) -> io::Result<()>
+    ensures { OnOk result (TellsLines (P.stand reports.old) (P.stand reports.new) (told now text.now)) }
+{
+    tell_line(alloc, reports, &format_args!("{now} {text}"))
 }
 
 /// Tells all that the terminal has to tell.
-fn tell_all<T: LineTerminal, P: Write>(
+fn tell_all<T: LineTerminal, P: Reports>(
     alloc: Global,
     terminal: &mut T,
     now: u64,
     reports: &mut P,
 ) -> io::Result<()>
-    ensures { OnOk result (Told (λ bytes. TellsAll T.acts now terminal.old bytes terminal.new) (P.contents reports.old) (P.contents reports.new)) }
+    ensures { OnOk result (Told (λ bytes. TellsAll T.acts now terminal.old bytes terminal.new) (P.stand reports.old) (P.stand reports.new)) }
 {
     for _told in 0..u64::MAX {
         match terminal.report(alloc)? {
@@ -57,56 +67,71 @@ fn tell_all<T: LineTerminal, P: Write>(
 }
 
 /// Tells lines that an order asked for.
-fn tell_lines<P: Write>(
+fn tell_lines<P: Reports>(
     alloc: Global,
     now: u64,
     order: &str,
     lines: &[String],
     reports: &mut P,
 ) -> io::Result<()>
-    ensures { OnOk result (Appends (P.contents reports.old) (P.contents reports.new) (flat_map (listed now order.now) lines.now)) }
+    ensures { OnOk result (TellsLines (P.stand reports.old) (P.stand reports.new) (flat_map (listed now order.now) lines.now)) }
 {
     for line in lines {
-        write_line(alloc, reports, &format_args!("{now} {order} {line}"))?;
+        tell_line(alloc, reports, &format_args!("{now} {order} {line}"))?;
     }
     Ok(())
 }
 
+/// Tells that an order was obeyed.
+#[tactic(auto, using(crate::proofs::Reporting::tells_one))]
+fn tell_done<P: Reports>(alloc: Global, now: u64, order: &str, reports: &mut P) -> io::Result<()>
+    ensures { OnOk result (TellsLines (P.stand reports.old) (P.stand reports.new) (told now (codes "ok " ++ order.now))) }
+{
+    tell_line(alloc, reports, &format_args!("{now} ok {order}"))
+}
+
+/// Tells why an order was refused.
+#[tactic(auto, using(crate::proofs::Reporting::tells_one))]
+fn tell_refused<P: Reports>(alloc: Global, now: u64, why: &str, reports: &mut P) -> io::Result<()>
+    ensures { OnOk result (TellsLines (P.stand reports.old) (P.stand reports.new) (told now (codes "refused " ++ why.now))) }
+{
+    tell_line(alloc, reports, &format_args!("{now} refused {why}"))
+}
+
 /// Tells what an order was answered.
-fn tell_answer<P: Write>(
+#[tactic(auto, using(crate::proofs::Reporting::tells_trans))]
+fn tell_answer<P: Reports>(
     alloc: Global,
     now: u64,
     order: &str,
     answer: &Answer,
     reports: &mut P,
 ) -> io::Result<()>
-    ensures { OnOk result (Appends (P.contents reports.old) (P.contents reports.new) (answered now order.now answer.now)) }
+    ensures { OnOk result (TellsLines (P.stand reports.old) (P.stand reports.new) (answered now order.now answer.now)) }
 {
     match answer {
-        Answer::Done => write_line(alloc, reports, &format_args!("{now} ok {order}")),
+        Answer::Done => tell_done(alloc, now, order, reports),
         Answer::Said(text) => {
-            write_line(alloc, reports, &format_args!("{now} ok {order}"))?;
-            write_line(alloc, reports, &format_args!("{now} {text}"))
+            tell_done(alloc, now, order, reports)?;
+            tell(alloc, now, text.as_str(), reports)
         }
         Answer::Listed(lines) => {
-            write_line(alloc, reports, &format_args!("{now} ok {order}"))?;
+            tell_done(alloc, now, order, reports)?;
             tell_lines(alloc, now, order, lines, reports)
         }
-        Answer::Refused(text) => {
-            write_line(alloc, reports, &format_args!("{now} refused {text}"))
-        }
+        Answer::Refused(text) => tell_refused(alloc, now, text.as_str(), reports),
     }
 }
 
 /// Obeys an order, and tells what comes of it.
-fn obey<T: LineTerminal, P: Write>(
+fn obey<T: LineTerminal, P: Reports>(
     alloc: Global,
     terminal: &mut T,
     now: u64,
     order: &str,
     reports: &mut P,
 ) -> io::Result<()>
-    ensures { OnOk result (Told (λ bytes. Obeys T.acts now terminal.old order.now bytes terminal.new) (P.contents reports.old) (P.contents reports.new)) }
+    ensures { OnOk result (Told (λ bytes. Obeys T.acts now terminal.old order.now bytes terminal.new) (P.stand reports.old) (P.stand reports.new)) }
 {
     let answer = terminal.obey(alloc, order)?;
     tell_answer(alloc, now, order, &answer, reports)?;
@@ -130,11 +155,11 @@ impl<T, O, P> Desk<T, O, P> {
     }
 }
 
-impl<T: LineTerminal, O: Orders, P: Write> Desk<T, O, P> {
+impl<T: LineTerminal, O: Orders, P: Reports> Desk<T, O, P> {
     /// One octet goes out, and one comes in.
     fn exchange(&mut self, alloc: Global, octet: u8) -> io::Result<u8>
         ensures made { IfOk result (λ gives. Told (λ bytes. Exchanges T.acts (self.old.count / OCTETS) (state_of O.left self.old) octet gives bytes
-            (state_of O.left self.new)) (P.contents self.old.reports) (P.contents self.new.reports)) }
+            (state_of O.left self.new)) (P.stand self.old.reports) (P.stand self.new.reports)) }
         ensures count { self.new.count ≡ self.old.count }
     {
         let out = self.voice.next(&mut self.terminal)?;
@@ -151,7 +176,7 @@ impl<T: LineTerminal, O: Orders, P: Write> Desk<T, O, P> {
     /// Obeys the orders that are due. Whether the run goes on.
     fn obey_due(&mut self, alloc: Global, now: u64) -> io::Result<bool>
         ensures made { IfOk result (λ goes_on. Told (λ bytes. ObeysAll T.acts now (state_of O.left self.old) bytes goes_on (state_of O.left self.new))
-            (P.contents self.old.reports) (P.contents self.new.reports)) }
+            (P.stand self.old.reports) (P.stand self.new.reports)) }
         ensures count { self.new.count ≡ self.old.count }
     {
         for _obeyed in 0..u64::MAX {
@@ -171,7 +196,7 @@ impl<T: LineTerminal, O: Orders, P: Write> Desk<T, O, P> {
     /// A millisecond has passed. Whether the run goes on.
     fn mind(&mut self, alloc: Global, now: u64) -> io::Result<bool>
         ensures made { IfOk result (λ goes_on. Told (λ bytes. Minds T.acts now (state_of O.left self.old) bytes goes_on (state_of O.left self.new))
-            (P.contents self.old.reports) (P.contents self.new.reports)) }
+            (P.stand self.old.reports) (P.stand self.new.reports)) }
         ensures count { self.new.count ≡ self.old.count }
     {
         self.terminal.tick()?;
@@ -183,7 +208,7 @@ impl<T: LineTerminal, O: Orders, P: Write> Desk<T, O, P> {
     /// What comes behind so many octets: each eighth is a millisecond. Whether the run goes on.
     fn go_behind(&mut self, alloc: Global, count: u64) -> io::Result<bool>
         ensures made { IfOk result (λ goes_on. Told (λ bytes. Behind T.acts count (state_of O.left self.old) bytes goes_on (state_of O.left self.new))
-            (P.contents self.old.reports) (P.contents self.new.reports)) }
+            (P.stand self.old.reports) (P.stand self.new.reports)) }
         ensures count { self.new.count ≡ self.old.count }
     {
         if count % OCTETS != 0 {
@@ -197,7 +222,7 @@ impl<T: LineTerminal, O: Orders, P: Write> Desk<T, O, P> {
     pub(crate) fn step(&mut self, alloc: Global, octet: u8, out: &mut Vec<u8>) -> io::Result<bool>
         ensures made { IfOk result (λ goes_on. (gives : ℕ) × (out.new.items ≡ out.old.items ++ gives ∷ [])
             × Told (λ bytes. Steps T.acts self.old.count (state_of O.left self.old) octet gives bytes goes_on (state_of O.left self.new))
-            (P.contents self.old.reports) (P.contents self.new.reports)) }
+            (P.stand self.old.reports) (P.stand self.new.reports)) }
         ensures count { OnOk result (self.new.count ≡ self.old.count + 1) }
     {
         let count = self.count;

@@ -6,6 +6,7 @@ ghost use Rattle.line_filter.specs.Filters.{turned, SILENCE, MOST_AHEAD, Goes, S
 
 use crate::desk::Desk;
 use crate::orders::Orders;
+use crate::reports::Reports;
 use crate::terminal::LineTerminal;
 use crate::writing::write_part;
 use std::alloc::Global;
@@ -50,12 +51,12 @@ impl Bits {
     }
 }
 
-impl<T: LineTerminal, O: Orders, P: Write> Desk<T, O, P> {
+impl<T: LineTerminal, O: Orders, P: Reports> Desk<T, O, P> {
     /// Octets each way, those that go out put behind the others. Whether the run goes on.
     fn pass(&mut self, alloc: Global, octets: &[u8], out: &mut Vec<u8>) -> io::Result<bool>
         ensures { IfOk result (λ goes_on. (given : List ℕ) × (out.new.items ≡ out.old.items ++ given)
             × Told (λ bytes. Goes T.acts self.old.count (state_of O.left self.old) octets.now given bytes goes_on self.new.count (state_of O.left self.new))
-            (P.contents self.old.reports) (P.contents self.new.reports)) }
+            (P.stand self.old.reports) (P.stand self.new.reports)) }
     {
         for octet in octets {
             let goes_on = self.step(alloc, *octet, out)?;
@@ -77,7 +78,7 @@ impl<T: LineTerminal, O: Orders, P: Write> Desk<T, O, P> {
     ) -> io::Result<bool>
         ensures all { IfOk result (λ goes_on. (written : List ℕ) × Appends (W.contents writer.old) (W.contents writer.new) written
             × Told (λ bytes. Serves T.acts bits self.old.count (state_of O.left self.old) part.old written bytes goes_on self.new.count
-            (state_of O.left self.new)) (P.contents self.old.reports) (P.contents self.new.reports)) }
+            (state_of O.left self.new)) (P.stand self.old.reports) (P.stand self.new.reports)) }
         ensures part { ServesPart T.acts bits 0 self.old.count (state_of O.left self.old) part.old (W.contents writer.old) (W.contents writer.new) }
     {
         bits.turn_all(part);
@@ -106,7 +107,7 @@ fn write_ahead<W: Write>(writer: &mut W, ahead: usize) -> io::Result<()>
 ///
 /// Where memory, a read, a write or the terminal fails, or after 2^64 - 1 octets or reads. What is written then is a beginning of that, for
 /// octets that were read.
-pub fn run_line<T: LineTerminal, O: Orders, P: Write, R: Read, W: Write>(
+pub fn run_line<T: LineTerminal, O: Orders, P: Reports, R: Read, W: Write>(
     alloc: Global,
     desk: &mut Desk<T, O, P>,
     bits: Bits,
@@ -116,8 +117,8 @@ pub fn run_line<T: LineTerminal, O: Orders, P: Write, R: Read, W: Write>(
 ) -> io::Result<()>
     requires { ahead ≤ MOST_AHEAD }
     ensures over { OnOk result (IsOver T.acts bits ahead desk.old.count (state_of O.left desk.old) desk.new.count (state_of O.left desk.new)
-        (record { read = R.remaining reader.old; written = W.contents writer.old; told = P.contents desk.old.reports })
-        (record { read = R.remaining reader.new; written = W.contents writer.new; told = P.contents desk.new.reports })) }
+        (record { read = R.remaining reader.old; written = W.contents writer.old; told = P.stand desk.old.reports })
+        (record { read = R.remaining reader.new; written = W.contents writer.new; told = P.stand desk.new.reports })) }
     ensures begun { IsBegun T.acts bits ahead desk.old.count (state_of O.left desk.old)
         (record { read = R.remaining reader.old; written = W.contents writer.old })
         (record { read = R.remaining reader.new; written = W.contents writer.new }) }

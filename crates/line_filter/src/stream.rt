@@ -24,7 +24,8 @@ pub struct LineOrders<R> {
 impl<R: Read> LineOrders<R> {
     /// No line was read.
     pub fn new(alloc: Global, reader: R) -> Self
-        ensures { left_of R.remaining result ≡ option_map orders_of (R.remaining reader) }
+        ensures orders { left_of R.remaining result ≡ option_map orders_of (R.remaining reader) }
+        ensures reader { result.reader ≡ reader }
     {
         LineOrders {
             reader,

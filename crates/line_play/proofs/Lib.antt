@@ -1,2 +1,3 @@
 mod Measures
 mod NoSets
+mod Turning

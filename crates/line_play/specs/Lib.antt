@@ -1,4 +1,5 @@
 pub mod Commands
+pub mod InTurn
 pub mod Lines
 pub mod LinkActs
 pub mod Measured

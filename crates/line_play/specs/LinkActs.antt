@@ -1,18 +1,14 @@
--- What a signalling link terminal does on a line.
+-- What a signalling link terminal does on a line, but for what it tells.
 use Rattle.std.specs.Prelude.{◌≡◌, ℕ, Bool, true, false, List, [], ◌∷◌, Option, None, Some, map}
-use Rattle.std.specs.Prelude.{option_map, codes, string_bytes}
+use Rattle.std.specs.Prelude.{codes, string_bytes}
 use Rattle.std.specs.Str.{bytes_eq}
 use Rattle.su_octets.specs.declared.units.Unit as units
-use Rattle.script_lines.specs.Words.{words_of}
 use Rattle.actor_machine.specs.declared.event.Event.TheVariants.{Advance}
-use Rattle.link_transceiver.specs.Reporting.{reported}
 use Rattle.script_terminal.specs.Machine.{offered, tidied, tick_refusal}
-use Rattle.script_terminal.specs.Term.{Term, with_processes, term_with_transceiver}
+use Rattle.script_terminal.specs.Term.{Term, with_processes}
 use Rattle.script_terminal.specs.Hearing.{Heard}
 use Rattle.script_links.specs.TermCommands.{PlainTermCommand}
 use Rattle.script_terminal.specs.TermAnswers.{next_of, behind_next, behind_clear, Answers}
-use Rattle.script_terminal.specs.Told.{report_text}
-use Rattle.line_filter.specs.Acts.{Act, asked, heard, passed, reported as told, obeyed}
 use Rattle.line_filter.specs.declared.terminal.Answer.{Answer}
 use Rattle.line_filter.specs.declared.terminal.Answer.TheVariants as answer
 use Rattle.line_play.specs.Commands.{is_question, line_command_of}
@@ -39,11 +35,6 @@ after_tick t = behind_clear (with_processes t (offered (Advance 1) (tidied t.pro
 pub record Passes (t u : Term) : Type 0 where
   pub after : u ≡ after_tick t
   pub passes : tick_refusal 1 (tidied t.processes) ≡ None
-
--- what is told next is handed out
-pub record Tells (t : Term) (text : Option (List ℕ)) (u : Term) : Type 0 where
-  pub text_is : text ≡ option_map report_text (reported t.processes.transceiver).report
-  pub after : u ≡ term_with_transceiver t (reported t.processes.transceiver).transceiver
 
 -- an order is obeyed as a script's command is, of which it would print this line
 pub record ObeysOne (command : PlainTermCommand) (t : Term) (order : List ℕ) (answer : Answer)
@@ -82,12 +73,3 @@ pub record Lists (t : Term) (answer : Answer) (u : Term) : Type 0 where
 abbrev pub ObeysWords : Bool → List (List ℕ) → Term → List ℕ → Answer → Term → Type 0
 ObeysWords true words t order answer u = Lists t answer u
 ObeysWords false words t order answer u = ObeysBy (line_command_of words) t order answer u
-
--- how a terminal changes by what it does
-abbrev pub link_acts : Term → Act → Term → Type 0
-link_acts t (asked unit) u = Gives t unit u
-link_acts t (heard octet) u = Hears t octet u
-link_acts t passed u = Passes t u
-link_acts t (told text) u = Tells t text u
-link_acts t (obeyed order answer) u =
-    ObeysWords (asks_all (words_of order)) (words_of order) t order answer u

@@ -7,6 +7,7 @@ mod measured;
 mod opening;
 mod running;
 mod texts;
+mod turns;
 
 pub use commands::line_command;
 pub use line_filter::{Bits, Desk, MOST_AHEAD};

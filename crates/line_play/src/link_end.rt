@@ -3,12 +3,17 @@ ghost use Rattle.std.specs.Prelude.{◌≡◌, IfOk, OnOk, option_map, string_by
 ghost use Rattle.script_lines.specs.Lines.{texts};
 ghost use Rattle.script_links.specs.TermCommands.{plain_term_command};
 ghost use Rattle.line_play.specs.Commands.{line_command_of};
-ghost use Rattle.line_play.specs.LinkActs.{link_acts, Hears, Passes, Tells, ObeysOne, ObeysBy, asks_all, AreListed, Lists, ObeysWords};
+ghost use Rattle.script_lines.specs.Words.{words_of};
+ghost use Rattle.line_play.specs.InTurn.{HandsOut, Tells};
+ghost use Rattle.line_play.specs.LinkActs.{Hears, Passes, ObeysOne, ObeysBy, asks_all, AreListed, Lists, ObeysWords};
+ghost use Rattle.line_play.specs.Lines.{end_acts};
 
 use crate::commands::{is_question, line_command};
 use crate::measured::measured_lines;
 use crate::texts::{answer_of, bad_line};
+use crate::turns::{Turn, next_turn};
 use line_filter::{Answer, LineTerminal};
+use link_transceiver::Report;
 use script_lines::words_in;
 use script_links::TermCommand;
 use script_terminal::{Terminal, answer, report_text};
@@ -21,6 +26,8 @@ use su_octets::Unit;
 pub struct LinkEnd {
     /// The terminal.
     pub terminal: Terminal,
+    /// A message that it handed out, and that is told once what its unit led to of the link is told.
+    pub held: Option<Report>,
 }
 
 /// Hears an octet of the line. Where nothing waits to be told, it takes it unless memory is wanting. Behind it the buffers are emptied where the
@@ -50,11 +57,26 @@ fn pass(terminal: &mut Terminal) -> io::Result<()>
     }
 }
 
-/// What is to be told next.
-fn hand_out(alloc: Global, terminal: &mut Terminal) -> io::Result<Option<String>>
-    ensures { IfOk result (λ text. Tells terminal.old (option_map string_bytes text) terminal.new) }
+/// What is to be handed out next: what a unit led to of the link goes before its message.
+fn next_report(end: &mut LinkEnd) -> Option<Report>
+    ensures { HandsOut end.old result end.new }
 {
-    match terminal.report() {
+    let held = end.held.take();
+    match next_turn(&mut end.terminal, held) {
+        Some(turn) => {
+            let Turn { told, held } = turn;
+            end.held = held;
+            Some(told)
+        }
+        None => None,
+    }
+}
+
+/// What is to be told next.
+fn hand_out(alloc: Global, end: &mut LinkEnd) -> io::Result<Option<String>>
+    ensures { IfOk result (λ text. Tells end.old (option_map string_bytes text) end.new) }
+{
+    match next_report(end) {
         Some(report) => {
             let text = report_text(alloc, &report)?;
             Ok(Some(text))
@@ -117,8 +139,16 @@ fn obey_words(
     obey_one(alloc, terminal, order, words)
 }
 
+/// Does what an order says.
+fn obey_order(alloc: Global, terminal: &mut Terminal, order: &str) -> io::Result<Answer>
+    ensures { IfOk result (λ a. ObeysWords (asks_all (words_of order.now)) (words_of order.now) terminal.old order.now a terminal.new) }
+{
+    let words = words_in(alloc, order)?;
+    obey_words(alloc, terminal, order, &words)
+}
+
 impl LineTerminal for LinkEnd {
-    ghost acts = { λ old act new. link_acts old.terminal act new.terminal };
+    ghost acts = { end_acts };
 
     fn unit_out(&mut self) -> io::Result<Option<Unit>> {
         let unit = self.terminal.unit_out()?;
@@ -135,11 +165,10 @@ impl LineTerminal for LinkEnd {
     }
 
     fn report(&mut self, alloc: Global) -> io::Result<Option<String>> {
-        hand_out(alloc, &mut self.terminal)
+        hand_out(alloc, self)
     }
 
     fn obey(&mut self, alloc: Global, order: &str) -> io::Result<Answer> {
-        let words = words_in(alloc, order)?;
-        obey_words(alloc, &mut self.terminal, order, &words)
+        obey_order(alloc, &mut self.terminal, order)
     }
 }

@@ -5,7 +5,7 @@ ghost use Rattle.line_filter.specs.Filters.{MOST_AHEAD, IsOver, IsBegun};
 ghost use Rattle.line_play.specs.Lines.{IsNewDesk, end_acts};
 
 use crate::link_end::LinkEnd;
-use line_filter::{Bits, Desk, Orders, Voice, run_line};
+use line_filter::{Bits, Desk, Orders, Reports, Voice, run_line};
 use plain_text::{FAILED, HELD};
 use script_terminal::Terminal;
 use std::alloc::Global;
@@ -16,7 +16,10 @@ pub fn link_desk<O, P>(terminal: Terminal, orders: O, reports: P) -> Desk<LinkEn
     ensures { IsNewDesk terminal orders reports result }
 {
     Desk {
-        terminal: LinkEnd { terminal },
+        terminal: LinkEnd {
+            terminal,
+            held: None,
+        },
         voice: Voice::new(),
         orders,
         reports,
@@ -27,7 +30,7 @@ pub fn link_desk<O, P>(terminal: Terminal, orders: O, reports: P) -> Desk<LinkEn
 /// Runs a terminal on its line, to the end of what there is to read or to an order that ends the run: so many octets of 1s go out first,
 /// at most [`line_filter::MOST_AHEAD`]. Gives the exit status: 0, or 4 where memory, a read or a write fails. What is written then is a
 /// beginning of what goes out for octets that were read.
-pub fn run_link<O: Orders, P: Write, R: Read, W: Write>(
+pub fn run_link<O: Orders, P: Reports, R: Read, W: Write>(
     alloc: Global,
     desk: &mut Desk<LinkEnd, O, P>,
     bits: Bits,
@@ -37,8 +40,8 @@ pub fn run_link<O: Orders, P: Write, R: Read, W: Write>(
 ) -> u8
     requires { ahead ≤ MOST_AHEAD }
     ensures over { result ≡ 0 → IsOver end_acts bits ahead desk.old.count (state_of O.left desk.old) desk.new.count (state_of O.left desk.new)
-        (record { read = R.remaining reader.old; written = W.contents writer.old; told = P.contents desk.old.reports })
-        (record { read = R.remaining reader.new; written = W.contents writer.new; told = P.contents desk.new.reports }) }
+        (record { read = R.remaining reader.old; written = W.contents writer.old; told = P.stand desk.old.reports })
+        (record { read = R.remaining reader.new; written = W.contents writer.new; told = P.stand desk.new.reports }) }
     ensures begun { IsBegun end_acts bits ahead desk.old.count (state_of O.left desk.old)
         (record { read = R.remaining reader.old; written = W.contents writer.old })
         (record { read = R.remaining reader.new; written = W.contents writer.new }) }

@@ -1,6 +1,9 @@
 -- Where orders come from, and where reports go.
 use Rattle.std.specs.Prelude.{◌≡◌, ⊤, ℕ, List, [], Option, None, Some}
-use Rattle.line_streams.specs.Departing.{TellsLost}
+use Rattle.rtrb.specs.Ring.{sent}
+use Rattle.std.specs.Io.KnownBytes.{Appends}
+use Rattle.line_filter.specs.Reporting.{Stand, whole, lossy}
+use Rattle.line_streams.specs.Departing.{TellsOn, TellsLost}
 use Rattle.line_streams.specs.declared.opening.OrderStream.{OrderStream}
 use Rattle.line_streams.specs.declared.opening.OrderStream.TheVariants.{Nothing, File as from_file}
 use Rattle.line_streams.specs.declared.opening.OrderStream.TheVariants.{Fifo as from_fifo}
@@ -30,6 +33,26 @@ GoTo None errors stream = stream ≡ Errors errors
 GoTo (Some path) errors (Errors others) = ⊥
 GoTo (Some path) errors (to_file file) = ⊤
 GoTo (Some path) errors (to_fifo departures) = ⊤
+
+-- where reports stand: all go where errors go, or into a file, of which nothing is known; where
+-- nothing may wait for their other side lines may be lost
+abbrev pub stand_of : {E : Type 0} → (E → Option (List ℕ)) → ReportStream E → Stand
+stand_of contents (Errors errors) = whole (contents errors)
+stand_of contents (to_file file) = whole None
+stand_of contents (to_fifo d) = lossy (sent d.outlet.ring) d.outlet.lost
+
+-- a line of reports was told: it is lost only where no room was known for it
+abbrev pub IsReported : {E : Type 0} → (E → Option (List ℕ)) → List ℕ → ReportStream E
+    → ReportStream E → Type 0
+IsReported contents line (Errors old) (Errors new) = Appends (contents old) (contents new) line
+IsReported contents line (Errors old) (to_file file) = ⊥
+IsReported contents line (Errors old) (to_fifo new) = ⊥
+IsReported contents line (to_file old) (Errors new) = ⊥
+IsReported contents line (to_file old) (to_file new) = ⊤
+IsReported contents line (to_file old) (to_fifo new) = ⊥
+IsReported contents line (to_fifo old) (Errors new) = ⊥
+IsReported contents line (to_fifo old) (to_file new) = ⊥
+IsReported contents line (to_fifo old) (to_fifo new) = TellsOn line old.outlet new.outlet
 
 -- Reports are at their end: where nothing may wait for their other side it is told how many are
 -- lost, and else there is nothing to do.

@@ -1,8 +1,7 @@
 -- What taps on the octets of a line have recorded.
-use Rattle.std.specs.Prelude.{◌≡◌, ℕ, List, [], ◌++◌, map, Option, true}
-use Rattle.std.specs.Prelude.{is_none}
+use Rattle.std.specs.Prelude.{◌≡◌, ◌⊎◌, ℕ, ◌<◌, List, [], ◌++◌, length, map, Option}
 use Rattle.std.specs.Io.KnownBytes.{Appends}
-use Rattle.rtrb.specs.Ring.{sent, received, IsPair}
+use Rattle.rtrb.specs.Ring.{sent, received, known_free, IsPair}
 use Rattle.rtrb.specs.declared.producer.Producer.{Producer}
 use Rattle.line_filter.specs.Filters.{turned}
 use Rattle.line_streams.specs.declared.seen.Seen.{Seen}
@@ -11,9 +10,11 @@ use Rattle.line_streams.specs.declared.taps.OutTap.{OutTap}
 use Rattle.line_streams.specs.declared.taps.Plan.{Plan}
 use Rattle.line_streams.specs.Capturing.{Captures, capture_of}
 
--- octets are handed on, all of them
+-- octets are handed on, all of them, or none where there is no room
 abbrev pub Pushes : {A P : Type 0} → List ℕ → Producer ℕ A P → Producer ℕ A P → Type 0
-Pushes octets old new = sent new ≡ sent old ++ octets
+Pushes octets old new =
+    (sent new ≡ sent old ++ octets)
+    ⊎ ((known_free new < length octets) × (sent new ≡ sent old))
 
 -- A tap has captured these octets that went out, behind those that go ahead, and as many that came
 -- in. Behind what a sink had before, it has what a capture has in which these units were seen.
@@ -35,4 +36,3 @@ pub record IsTapped {R W S : Type 0} (plan : Plan) (reader : R) (writer : W) (in
   pub bits : out_tap.bits ≡ plan.bits
   pub link : out_tap.capture.link ≡ plan.link
   pub every : out_tap.capture.repeats.every ≡ plan.every
-  pub no_trouble : is_none out_tap.trouble ≡ true

@@ -1,5 +1,5 @@
 //! What is captured of a line.
-ghost use Rattle.std.specs.Prelude.{◌≡◌, ◌≤◌, ◌+◌, ◌^◌, ◌++◌, ◌∷◌, [], ℕ, List, IfOk, OnErr, option_map};
+ghost use Rattle.std.specs.Prelude.{◌≡◌, ◌++◌, ◌∷◌, [], ℕ, List, IfOk, OnErr, option_map};
 ghost use Rattle.line_streams.specs.Capturing.{Captures, IsUnit, listed};
 ghost use Rattle.line_streams.specs.Repeats.{kept, StandsFor};
 ghost use Rattle.line_streams.specs.declared.seen.Seen.{Seen as OneSeen};
@@ -91,7 +91,6 @@ impl Capture {
             × (kept self.old.repeats.every more ≡ listed k.came ++ (listed k.went ++ kept self.old.repeats.every seen))) }
         ensures every { self.new.repeats.every ≡ self.old.repeats.every }
         ensures err { OnErr result (self.new ≡ self.old) }
-        ensures full { OnErr result (2 ^ 64 ≤ self.old.at + 125) }
     {
         let Some(at) = self.at.checked_add(OCTET) else {
             return Err(io::Error::from(ErrorKind::Other));

@@ -1,5 +1,5 @@
 //! Lines that a thread has go on.
-ghost use Rattle.std.specs.Prelude.{◌≡◌, IfOk, OnOk};
+ghost use Rattle.std.specs.Prelude.{◌≡◌, OnOk};
 ghost use Rattle.rtrb.specs.Ring.{sent};
 ghost use Rattle.line_streams.specs.Departing.{GoesWhole, TellsOn, TellsLost};
 
@@ -47,9 +47,7 @@ impl Departures {
     /// # Errors
     ///
     /// Where there is no memory, no pipe or no thread.
-    pub fn start<R: Files + Threads>(rt: &R, alloc: Global, file: File) -> io::Result<Departures>
-        ensures { IfOk result (λ d. d.outlet.lost ≡ 0) }
-    {
+    pub fn start<R: Files + Threads>(rt: &R, alloc: Global, file: File) -> io::Result<Departures> {
         let (producer, consumer) = RingBuffer::new(alloc, ROOM)?;
         let (reader, writer) = rt.pipe()?;
         let gone = Arc::new(alloc, AtomicU64::new(0))?;
@@ -97,6 +95,21 @@ impl Departures {
         let count = self.outlet.put(self.alloc, line)?;
         self.put = self.put.wrapping_add(count as u64);
         self.wake()?;
+        Ok(())
+    }
+
+    /// Has a line of reports go on whole, or counts it as lost.
+    ///
+    /// # Errors
+    ///
+    /// Where a write of the thread's failed, and as [`Departures::tell`] says.
+    pub fn report(&mut self, line: &[u8]) -> io::Result<()>
+        ensures { OnOk result (TellsOn line.now self.old.outlet self.new.outlet) }
+    {
+        if self.has_failed() {
+            return Err(io::Error::from(ErrorKind::BrokenPipe));
+        }
+        self.tell(line)?;
         Ok(())
     }
 
@@ -184,20 +197,6 @@ impl Departures {
             thread::sleep(rt, Duration::from_millis(1));
             self.tell_lost(now)?;
         }
-        Ok(())
-    }
-}
-
-impl Write for Departures {
-    fn write(&mut self, line: &[u8]) -> io::Result<usize> {
-        if self.has_failed() {
-            return Err(io::Error::from(ErrorKind::BrokenPipe));
-        }
-        self.tell(line)?;
-        Ok(line.len())
-    }
-
-    fn flush(&mut self) -> io::Result<()> {
         Ok(())
     }
 }

@@ -1,9 +1,11 @@
 //! What is opened for orders and for reports.
 ghost use Rattle.std.specs.Prelude.{IfOk, OnOk};
-ghost use Rattle.line_streams.specs.Known.{known_of, ComeFrom, GoTo, EndsTold};
+ghost use Rattle.line_filter.specs.Reporting.{TellsLine};
+ghost use Rattle.line_streams.specs.Known.{known_of, stand_of, ComeFrom, GoTo, IsReported, EndsTold};
 
 use crate::arrivals::Arrivals;
 use crate::departures::Departures;
+use line_filter::Reports;
 use std::alloc::Global;
 use std::fs::{self, File, OpenOptions};
 use std::io::{self, Read, Write};
@@ -74,17 +76,18 @@ pub enum ReportStream<E> {
     Fifo(Departures),
 }
 
-impl<E: Write> Write for ReportStream<E> {
-    fn write(&mut self, line: &[u8]) -> io::Result<usize> {
-        match self {
-            ReportStream::Errors(errors) => errors.write(line),
-            ReportStream::File(file) => file.write(line),
-            ReportStream::Fifo(departures) => departures.write(line),
-        }
-    }
+impl<E: Write> Reports for ReportStream<E> {
+    ghost stand = { stand_of E.contents };
 
-    fn flush(&mut self) -> io::Result<()> {
-        Ok(())
+    fn tell(&mut self, line: &[u8]) -> io::Result<()>
+        ensures line { OnOk result (TellsLine (stand_of E.contents self.old) (stand_of E.contents self.new) line.now) }
+        ensures lost { OnOk result (IsReported E.contents line.now self.old self.new) }
+    {
+        match self {
+            ReportStream::Errors(errors) => errors.write_all(line),
+            ReportStream::File(file) => file.write_all(line),
+            ReportStream::Fifo(departures) => departures.report(line),
+        }
     }
 }
 

@@ -1,5 +1,5 @@
 //! Where records go, each whole.
-ghost use Rattle.std.specs.Prelude.{◌≡◌, IfOk};
+ghost use Rattle.std.specs.Prelude.{◌≡◌};
 ghost use Rattle.line_streams.specs.Known.{lost_of};
 
 use crate::departures::Departures;
@@ -74,9 +74,7 @@ pub fn open_records<R: Files<File = File> + Threads>(
     rt: &R,
     alloc: Global,
     path: &str,
-) -> io::Result<RecordStream>
-    ensures { IfOk result (λ s. lost_of s ≡ 0) }
-{
+) -> io::Result<RecordStream> {
     match rt.metadata(path) {
         Ok(data) if !data.is_file() => {
             let file = open_both(rt, path)?;

@@ -93,24 +93,15 @@ pub fn tap<R: Drop, W: Drop, S: Write + Drop>(
 }
 
 impl<R: Read> InTap<R> {
-    /// Reads octets, which are kept to be captured.
-    ///
-    /// # Errors
-    ///
-    /// Where a read fails, or there is no room for as many octets as are asked for: then nothing is read.
+    /// Reads octets, which are kept to be captured where there is room for all of them; else none of them is.
     fn take(&mut self, part: &mut [u8]) -> io::Result<usize>
         ensures bound { ReadsAtMost result part.new }
         ensures read { ReadConsumes (R.remaining self.old.reader) (R.remaining self.new.reader) result part.new }
         ensures kept { IfOk result (λ n. Pushes (take n part.new) self.old.octets self.new.octets) }
     {
-        if self.octets.slots() < part.len() {
-            return Err(io::Error::from(ErrorKind::Other));
-        }
         let count = self.reader.read(part)?;
-        match self.octets.push_entire_slice(&part[..count]) {
-            Ok(()) => Ok(count),
-            Err(_) => unreachable!(),
-        }
+        let _kept = self.octets.push_entire_slice(&part[..count]);
+        Ok(count)
     }
 }
 

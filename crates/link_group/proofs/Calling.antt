@@ -22,7 +22,8 @@ use Rattle.group_changeover.specs.declared.errors.RetrieveError.{RetrieveError}
 use Rattle.group_changeover.specs.declared.errors.RetrieveError.TheVariants as retrieve
 use Rattle.group_changeover.specs.declared.errors.AbandonError.TheVariants as abandon
 use Rattle.group_members.specs.declared.link.Link.{Link}
-use Rattle.group_members.specs.OneLink.{window, held, messages, handed_by, unknown, is_changing, put_fault, puts, unsure_by, retrieve_fault, retrieve_fault_by, retrieve_fault_in, accepted_in, accepted_of, lacking, hands_out, abandon_by, abandon_fault}
+use Rattle.link_processes.specs.Laws.{KeptLaw}
+use Rattle.group_members.specs.OneLink.{number_behind, window, held, messages, handed_by, unknown, is_changing, put_fault, puts, unsure_by, retrieve_fault, retrieve_fault_by, retrieve_fault_in, accepted_in, accepted_of, lacking, hands_out, abandon_by, abandon_fault}
 use Rattle.group_members.specs.Links.{change, fault_at}
 use Rattle.group_members.specs.Failing.{handed, given_up, messages_by, none_known}
 use Rattle.group_members.specs.Moving.{retrieval_by}
@@ -175,9 +176,9 @@ small_given : (k : Link) (fsn : Option ℕ) → All IsSmall (messages k) → All
 small_given k (Some n) small = small_behind k.points n (held k) small
 small_given k None small = small_behind k.points (window k).sent (held k) small
 
-given_held : (fsn : Option ℕ) (k : Link) → messages (hands_out fsn k) ≡ []
+given_held : (law : KeptLaw) (fsn : Option ℕ) (k : Link) → messages (hands_out fsn k) ≡ []
 unfolding hands_out
-given_held fsn k = unbound-nil k.points
+given_held law fsn k = ap (unbound k.points) (law.retrievals (number_behind (window k) fsn) k.terminal.processes) ∙ unbound-nil k.points
 
 given_same : (fsn : Option ℕ) (k : Link) → (hands_out fsn k).points ≡ k.points
 unfolding hands_out
@@ -187,10 +188,10 @@ given_marks : (fsn : Option ℕ) (k : Link) (ms : List Msu) → is_some k.availa
 unfolding hands_out
 given_marks fsn k ms some fits = fits_given (counts_of (handed_by k fsn)) k.availability ms (handed_by k fsn) some fits
 
-given_fits : (p : Points) (fsn : Option ℕ) (k : Link) (ms : List Msu) → is_some k.availability.changing ≡ true → FitsLink p k ms → FitsLink p (hands_out fsn k) (handed_by k fsn)
-given_fits p fsn k ms some fits = record {
+given_fits : (law : KeptLaw) (p : Points) (fsn : Option ℕ) (k : Link) (ms : List Msu) → is_some k.availability.changing ≡ true → FitsLink p k ms → FitsLink p (hands_out fsn k) (handed_by k fsn)
+given_fits law p fsn k ms some fits = record {
   availability = given_marks fsn k ms some fits.availability;
-  small = subst (λ (xs : List Msu). All IsSmall xs) (sym (given_held fsn k)) none_small;
+  small = subst (λ (xs : List Msu). All IsSmall xs) (sym (given_held law fsn k)) none_small;
   small_retrieval = small_given k fsn fits.small;
   points = given_same fsn k ∙ fits.points;
   unbound = subst (λ (q : Points). All (IsUnbound q) (handed_by k fsn)) fits.points (all-unbound k.points (lacking (window k) fsn));
@@ -202,16 +203,16 @@ order_given h x left ms g new e parts none is = rw (e, none, is) (append-nil h �
 same_link : (a b : Link) → Some a ≡ Some b → a ≡ b
 same_link a b e = cc
 
-give_at : (laws : StepsKeepPlaces) (c : LinkSet) (retrievals : ℕ → List Msu) (accepted : List Msu) (gone more : List Gone) (l unsure : ℕ) (k : Link) (fsn : Option ℕ) (left : List Msu)
+give_at : (laws : StepsKeepPlaces) (law : KeptLaw) (c : LinkSet) (retrievals : ℕ → List Msu) (accepted : List Msu) (gone more : List Gone) (l unsure : ℕ) (k : Link) (fsn : Option ℕ) (left : List Msu)
     (f : Link → Link) → Stays c retrievals accepted gone → slice_get c.links l ≡ Some k → retrieval_by k.availability.changing ≡ None → is_some k.availability.changing ≡ true
     → left ++ handed_by k fsn ≡ messages k → messages_gone more ≡ messages_gone gone ++ left → f k ≡ hands_out fsn k
     → Stays (record c { links = change c.links l f; unsure = unsure }) (with_retrieval_of retrievals l (handed_by k fsn)) accepted more
-give_at laws c retrievals accepted gone more l unsure k fsn left f stays there free some parts marked is =
+give_at laws law c retrievals accepted gone more l unsure k fsn left f stays there free some parts marked is =
     let d : LinkSet = record c { links = change c.links l f; unsure = unsure } in
     let ms : List Msu = handed_by k fsn in
     let fits : FitsLink (points_of c) k (retrievals l) = fits_there (points_of c) c.links retrievals l k stays.fits there in
     let none : retrievals l ≡ [] = fits.availability.idle free in
-    let empty : held_at d l ≡ [] = ap held_by (change_here f c.links l (Some k) there) ∙ ap (λ (x : Link). messages x) is ∙ given_held fsn k in
+    let empty : held_at d l ≡ [] = ap held_by (change_here f c.links l (Some k) there) ∙ ap (λ (x : Link). messages x) is ∙ given_held law fsn k in
     let whole : left ++ ms ≡ held_at c l = parts ∙ ap held_by (sym there) in
     record {
       places = leaves laws l c d retrievals (with_retrieval_of retrievals l ms) accepted left gone more stays.places marked
@@ -219,7 +220,7 @@ give_at laws c retrievals accepted gone more l unsure k fsn left f stays there f
           (λ j h. ap held_by (change_other f c.links l j h)) (λ j h. retrieval_other retrievals l j ms h) refl;
       fits = fits_changed (points_of c) f c.links retrievals (with_retrieval_of retrievals l ms) ms l stays.fits (λ j h. retrieval_other retrievals l j ms h) (retrieval_here retrievals l ms)
           (λ x e. let same : x ≡ k = same_link x k (sym e ∙ there) in
-          subst (λ (y : Link). FitsLink (points_of c) y ms) (sym (ap f same ∙ is)) (given_fits (points_of c) fsn k (retrievals l) some fits))
+          subst (λ (y : Link). FitsLink (points_of c) y ms) (sym (ap f same ∙ is)) (given_fits law (points_of c) fsn k (retrievals l) some fits))
           (λ e. absurd (some_none (sym there ∙ e)));
       table = stays.table;
     }
@@ -260,21 +261,21 @@ told_of : (k : Link) → retrieve_fault k ≡ None → Told k
 unfolding retrieve_fault
 told_of k e = told_by k k.availability.changing refl e
 
-retrieves_by : (laws : StepsKeepPlaces) (c : LinkSet) (retrievals : ℕ → List Msu) (accepted : List Msu) (gone : List Gone) (l : ℕ) (o : Option Link) → Stays c retrievals accepted gone
+retrieves_by : (laws : StepsKeepPlaces) (law : KeptLaw) (c : LinkSet) (retrievals : ℕ → List Msu) (accepted : List Msu) (gone : List Gone) (l : ℕ) (o : Option Link) → Stays c retrievals accepted gone
     → slice_get c.links l ≡ o → fault_at retrieve.NoLink retrieve_fault o ≡ None
     → Stays (record c { links = change c.links l handed }) (with_retrieval_of retrievals l (messages_by accepted_of o)) accepted (gone ++ acknowledged (told_front o))
-retrieves_by laws c retrievals accepted gone l None stays there e = absurd (some_none e)
-retrieves_by laws c retrievals accepted gone l (Some k) stays there e =
+retrieves_by laws law c retrievals accepted gone l None stays there e = absurd (some_none e)
+retrieves_by laws law c retrievals accepted gone l (Some k) stays there e =
     let told : Told k = told_of k e in
     let left : List Msu = unbound k.points (first_of (accepted_of k) (held k)) in
-    give_at laws c retrievals accepted gone (gone ++ acknowledged left) l c.unsure k (accepted_of k) left handed stays there told.0 told.1
+    give_at laws law c retrievals accepted gone (gone ++ acknowledged left) l c.unsure k (accepted_of k) left handed stays there told.0 told.1
     (told_parts k (accepted_of k) told.2) (gone_marked false gone left) refl
 
-pub stays_retrieved : (laws : StepsKeepPlaces) (c : LinkSet) (retrievals : ℕ → List Msu) (accepted : List Msu) (gone : List Gone) (l : ℕ) → Stays c retrievals accepted gone
+pub stays_retrieved : (laws : StepsKeepPlaces) (law : KeptLaw) (c : LinkSet) (retrievals : ℕ → List Msu) (accepted : List Msu) (gone : List Gone) (l : ℕ) → Stays c retrievals accepted gone
     → retrieve_fault_at c l ≡ None
     → Stays (after_retrieve c l) (with_retrieval_of retrievals l (messages_for c l)) accepted (gone ++ acknowledged (told_front (slice_get c.links l)))
 unfolding retrieve_fault_at after_retrieve messages_for
-stays_retrieved laws c retrievals accepted gone l stays e = retrieves_by laws c retrievals accepted gone l (slice_get c.links l) stays refl e
+stays_retrieved laws law c retrievals accepted gone l stays e = retrieves_by laws law c retrievals accepted gone l (slice_get c.links l) stays refl e
 
 -- ---- given up
 
@@ -306,18 +307,18 @@ unknown_of : (k : Link) → abandon_fault k ≡ None → Unknown k
 unfolding abandon_fault
 unknown_of k e = unsure_by_fault k (retrieve_fault k) refl e
 
-abandons_by : (laws : StepsKeepPlaces) (c : LinkSet) (retrievals : ℕ → List Msu) (accepted : List Msu) (gone : List Gone) (l count : ℕ) (o : Option Link) → Stays c retrievals accepted gone
+abandons_by : (laws : StepsKeepPlaces) (law : KeptLaw) (c : LinkSet) (retrievals : ℕ → List Msu) (accepted : List Msu) (gone : List Gone) (l count : ℕ) (o : Option Link) → Stays c retrievals accepted gone
     → slice_get c.links l ≡ o → fault_at abandon.NoLink abandon_fault o ≡ None
     → Stays (record c { links = change c.links l given_up; unsure = count }) (with_retrieval_of retrievals l (messages_by none_known o)) accepted (gone ++ unsure (unacknowledged_at o))
-abandons_by laws c retrievals accepted gone l count None stays there e = absurd (some_none e)
-abandons_by laws c retrievals accepted gone l count (Some k) stays there e =
+abandons_by laws law c retrievals accepted gone l count None stays there e = absurd (some_none e)
+abandons_by laws law c retrievals accepted gone l count (Some k) stays there e =
     let free : Unknown k = unknown_of k e in
     let left : List Msu = unbound k.points (unacknowledged (window k)) in
-    give_at laws c retrievals accepted gone (gone ++ unsure left) l count k None left given_up stays there free.0 free.1
+    give_at laws law c retrievals accepted gone (gone ++ unsure left) l count k None left given_up stays there free.0 free.1
     (sym (cut_at k.points (window k).sent (held k))) (gone_marked true gone left) refl
 
-pub stays_abandoned : (laws : StepsKeepPlaces) (c : LinkSet) (retrievals : ℕ → List Msu) (accepted : List Msu) (gone : List Gone) (l : ℕ) → Stays c retrievals accepted gone
+pub stays_abandoned : (laws : StepsKeepPlaces) (law : KeptLaw) (c : LinkSet) (retrievals : ℕ → List Msu) (accepted : List Msu) (gone : List Gone) (l : ℕ) → Stays c retrievals accepted gone
     → abandon_fault_at c l ≡ None
     → Stays (after_abandon c l) (with_retrieval_of retrievals l (unsent_at c l)) accepted (gone ++ unsure (unacknowledged_at (slice_get c.links l)))
 unfolding abandon_fault_at after_abandon unsent_at
-stays_abandoned laws c retrievals accepted gone l stays e = abandons_by laws c retrievals accepted gone l _ (slice_get c.links l) stays refl e
+stays_abandoned laws law c retrievals accepted gone l stays e = abandons_by laws law c retrievals accepted gone l _ (slice_get c.links l) stays refl e

@@ -20,7 +20,9 @@ use Rattle.group_changeover.specs.Bound.{unbound}
 use Rattle.link_group.specs.Changing.{is_for, after_failure, after_message, after_retrieve, after_abandon}
 use Rattle.link_group.specs.Diverting.{diverted, after_by, after_divert}
 use Rattle.link_group.specs.Placing.{placed_anew, rebalanced}
-use Rattle.link_group.specs.Lines.{seen, all_seen, after_admission, ByLink, Alone}
+use Rattle.link_processes.specs.declared.commands.Command.{Command}
+use Rattle.group_members.specs.Commanding.{cleared_at}
+use Rattle.link_group.specs.Lines.{seen, all_seen, after_admission, ByLink, ByCommand, Alone}
 use Rattle.link_group.specs.Ticks.{with_room, after_ticks}
 use Rattle.link_group.specs.New.{new_set}
 use Rattle.link_group.specs.Laws.{unsure_in, UnsureAreCounted}
@@ -147,6 +149,14 @@ unfolding after_abandon
 given_up c l gone e =
     so_many_more MOST c.unsure (sent_by (slice_get c.links l)) gone (unacknowledged_at (slice_get c.links l)) e (sent_is (slice_get c.links l))
 
+commanded_more : (c d : LinkSet) (gone : List Gone) (l : ℕ) (command : Command) → ByCommand command l c d → Counts c gone
+    → Counts d (gone ++ unsure (cleared_at command (slice_get c.links l)))
+commanded_more c d gone l command did e =
+    let went : List Msu = cleared_at command (slice_get c.links l) in
+    ap (λ (x : LinkSet). x.unsure) did.set
+    ∙ (seen_same l (record c { links = did.links; unsure = min MOST (c.unsure + length went) })
+    ∙ so_many_more MOST c.unsure (length went) gone went e refl)
+
 counted : (c : LinkSet) (retrievals : ℕ → List Msu) (accepted : List Msu) (gone : List Gone) → Reached c retrievals accepted gone → Counts c gone
 counted _ _ _ _ (opens own peer ts unused) = new_none own peer ts
 counted _ _ _ _ (sends c retrievals accepted gone m r free small) = sent_same c m ∙ counted c retrievals accepted gone r
@@ -163,7 +173,7 @@ counted _ _ _ _ (listens c d retrievals accepted gone l octets taken r did) =
 counted _ _ _ _ (speaks c d retrievals accepted gone l units octets r did) = link_same _ l c d did ∙ counted c retrievals accepted gone r
 counted _ _ _ _ (gives c d retrievals accepted gone l unit r did) = link_same _ l c d did ∙ counted c retrievals accepted gone r
 counted _ _ _ _ (reports c d retrievals accepted gone l report r did) = link_same _ l c d did ∙ counted c retrievals accepted gone r
-counted _ _ _ _ (commands c d retrievals accepted gone l command r did) = link_same _ l c d did ∙ counted c retrievals accepted gone r
+counted _ _ _ _ (commands c d retrievals accepted gone l command r did) = commanded_more c d gone l command did (counted c retrievals accepted gone r)
 counted _ _ _ _ (refuses c d retrievals accepted gone l command refusal r did) = alone_same _ l c d did ∙ counted c retrievals accepted gone r
 counted _ _ _ _ (ticks c retrievals accepted gone n r) = ticked_same n c ∙ counted c retrievals accepted gone r
 counted _ _ _ _ (makes_room c retrievals accepted gone r) = counted c retrievals accepted gone r

@@ -1,34 +1,38 @@
 -- Over every list of calls each message stands in its one place.
-use Rattle.std.proofs.Common.{◌≡◌, ℕ, ◌-◌, Bool, true, false, List, [], length, Option, Some, None, refl, sym, ap, ◌∙◌, subst}
+use Rattle.std.proofs.Common.{◌≡◌, ℕ, ◌+◌, ◌-◌, ◌^◌, Bool, true, false, List, [], ◌++◌, length, Option, Some, None, refl, sym, ap, ◌∙◌, subst}
 use Rattle.std.proofs.lemmas.List.Elements.{All-nil}
-use Rattle.std.specs.Prelude.{All, if◌then◌else◌, slice_get, get_or, option_map}
+use Rattle.std.specs.Prelude.{All, min, slice_get, get_or, option_map}
 use Rattle.std.proofs.lemmas.Option.{slice_get-map, slice_get_within, get_or_from_slice_get}
 use Rattle.resend_store.specs.declared.messages.Msu.{Msu}
 use Rattle.resend_store.specs.Window.{Window}
 use Rattle.link_transceiver.specs.TransceiverState.{TransceiverState}
-use Rattle.link_processes.specs.Machine.{tidied}
+use Rattle.link_processes.specs.Machine.{tidied, to_clear}
+use Rattle.link_processes.specs.declared.commands.Command.{Command}
 use Rattle.link_processes.specs.Laws.{KeptLaw}
 use Rattle.group_members.specs.Kept.{window_of}
 use Rattle.group_members.specs.Term.{Term, with_processes}
 use Rattle.group_changeover.specs.declared.availability.Availability.{Availability}
 use Rattle.group_changeover.specs.Laws.{StepsKeepPlaces}
+use Rattle.group_changeover.specs.Places.{OnePlace}
+use Rattle.group_changeover.specs.Sharing.{link_of}
 use Rattle.group_members.specs.declared.link.Link.{Link}
 use Rattle.group_members.specs.OneLink.{held, messages}
 use Rattle.group_changeover.specs.declared.bound.Points.{Points}
 use Rattle.group_changeover.specs.Bound.{unbound}
 use Rattle.group_changeover.proofs.Unbound.{IsUnbound, unbound-nil}
-use Rattle.group_members.specs.Commanding.{starts_anew, started, Commanded, Refused}
+use Rattle.group_members.specs.Commanding.{starts_anew, marked, started, behind_command, cleared_of, cleared_at, Commanded, Refused}
 use Rattle.group_members.specs.Doing.{Listened, Spoken, Sent, Reported}
 use Rattle.group_members.specs.New.{IsUnused, fresh}
 use Rattle.link_group.specs.New.{points, new_set}
 use Rattle.link_group.specs.Set.{LinkSet}
-use Rattle.link_group.specs.Laws.{held_by, EachInOnePlace}
-use Rattle.link_group.specs.Reached.{Gone, Reached, opens, sends, binds, fails, hears, retrieves, abandons, diverts, rebalances, listens, speaks, gives, reports, commands, refuses, ticks, makes_room, lacks_room, admits}
+use Rattle.link_group.specs.Laws.{held_by, held_at, EachInOnePlace}
+use Rattle.link_group.specs.Lines.{ByLink, ByCommand}
+use Rattle.link_group.specs.Reached.{Gone, acknowledged, unsure, messages_gone, Reached, opens, sends, binds, fails, hears, retrieves, abandons, diverts, rebalances, listens, speaks, gives, reports, commands, refuses, ticks, makes_room, lacks_room, admits}
 use Rattle.link_group.proofs.Calling.{stays_sent, stays_bound, stays_retrieved, stays_abandoned}
 use Rattle.link_group.proofs.EndingLaws.{stays_diverted}
-use Rattle.link_group.proofs.Fitting.{IsSmall, none_small, FitsAt, fits_fewer}
+use Rattle.link_group.proofs.Fitting.{IsSmall, none_small, FitsAt, fits_alike, fits_fewer}
 use Rattle.link_group.proofs.PlacingLaws.{stays_rebalanced}
-use Rattle.link_group.proofs.Staying.{Stays}
+use Rattle.link_group.proofs.Staying.{Stays, gone_marked}
 use Rattle.link_group.proofs.Working.{stays_failed, stays_heard, stays_admitted, part_messages, link_works, link_keeps, alone_keeps, transceiver_tidied, stays_roomy, stays_ticked, stays_lacking}
 
 -- ---- a new set
@@ -67,11 +71,11 @@ stays_new laws own peer ts unused = record {
 
 -- ---- a terminal's calls
 
-started_changing : (b : Bool) (m : Availability) → (if b then record m { anew = true } else m).changing ≡ m.changing
+started_changing : (b : Bool) (m : Availability) → (marked b m).changing ≡ m.changing
 started_changing true m = refl
 started_changing false m = refl
 
-started_failed : (b : Bool) (m : Availability) → (if b then record m { anew = true } else m).failed ≡ m.failed
+started_failed : (b : Bool) (m : Availability) → (marked b m).failed ≡ m.failed
 started_failed true m = refl
 started_failed false m = refl
 
@@ -84,6 +88,33 @@ same_failed m n e = ap (λ (x : Availability). x.failed) e
 refused_held : (k new : Link) → new.terminal ≡ with_processes k.terminal (tidied k.terminal.processes) → held k ≡ held new
 refused_held k new e = sym (ap (λ (t : Term). (window_of t).kept) e ∙ ap (λ (h : TransceiverState). h.sender.kept) (transceiver_tidied k.terminal.processes))
 
+-- what has left counts by its messages alone
+restated : (c : LinkSet) (retrievals : ℕ → List Msu) (accepted : List Msu) (gone more : List Gone) → messages_gone gone ≡ messages_gone more
+    → Stays c retrievals accepted gone → Stays c retrievals accepted more
+restated c retrievals accepted gone more same stays = record {
+  places = subst (λ (ms : List Msu). OnePlace (record { accepted = accepted; gone = ms; held = held_at c; retrieval = retrievals; link = link_of c.table })) same stays.places;
+  fits = stays.fits;
+  table = stays.table;
+}
+
+stays_commanded : (laws : StepsKeepPlaces) (c d : LinkSet) (retrievals : ℕ → List Msu) (accepted : List Msu) (gone : List Gone) (l : ℕ) (command : Command)
+    → Stays c retrievals accepted gone → ByCommand command l c d → Stays d retrievals accepted (gone ++ unsure (cleared_at command (slice_get c.links l)))
+stays_commanded laws c d retrievals accepted gone l command stays did =
+    let was = did.at.was in
+    let before : Link = did.at.before in
+    let all : List Msu = cleared_of (behind_command command before.terminal) in
+    let left : List Msu = unbound before.points all in
+    let b : LinkSet = record c { unsure = min (2 ^ 64 - 1) (c.unsure + length (cleared_at command (slice_get c.links l))) } in
+    let by : ByLink (Commanded command) l b d = record { links = did.links; at = did.at; set = did.set } in
+    let first : Stays b retrievals accepted gone = record { places = stays.places; fits = stays.fits; table = stays.table } in
+    let done : Stays d retrievals accepted (gone ++ acknowledged left) =
+    link_works laws (Commanded command) b d retrievals accepted gone l left first by (part_messages before did.at.after all was.points was.kept) was.points
+    (λ ms x. rw was.availability (fits_fewer (to_clear (behind_command command before.terminal).processes) (started command before) ms
+    (fits_alike before.availability (started command before) ms (started_changing (starts_anew command before) before.availability)
+    (started_failed (starts_anew command before) before.availability) x))) in
+    restated d retrievals accepted (gone ++ acknowledged left) (gone ++ unsure (cleared_at command (slice_get c.links l)))
+    (gone_marked false gone left ∙ (sym (gone_marked true gone left) ∙ ap (λ (o : Option Link). messages_gone (gone ++ unsure (cleared_at command o))) (sym did.at.there))) done
+
 -- ---- every list of calls
 
 stays_reached : (laws : StepsKeepPlaces) (law : KeptLaw) (c : LinkSet) (retrievals : ℕ → List Msu) (accepted : List Msu) (gone : List Gone) → Reached c retrievals accepted gone → Stays c retrievals accepted gone
@@ -92,8 +123,8 @@ stays_reached laws law _ _ _ _ (sends c retrievals accepted gone m r free small)
 stays_reached laws law _ _ _ _ (binds c retrievals accepted gone l m r free bound) = stays_bound laws c retrievals accepted gone l m (stays_reached laws law c retrievals accepted gone r) bound
 stays_reached laws law _ _ _ _ (fails c retrievals accepted gone l r free) = stays_failed laws c retrievals accepted gone l (stays_reached laws law c retrievals accepted gone r)
 stays_reached laws law _ _ _ _ (hears c retrievals accepted gone m r) = stays_heard laws c retrievals accepted gone m (stays_reached laws law c retrievals accepted gone r)
-stays_reached laws law _ _ _ _ (retrieves c retrievals accepted gone l r free) = stays_retrieved laws c retrievals accepted gone l (stays_reached laws law c retrievals accepted gone r) free
-stays_reached laws law _ _ _ _ (abandons c retrievals accepted gone l r free) = stays_abandoned laws c retrievals accepted gone l (stays_reached laws law c retrievals accepted gone r) free
+stays_reached laws law _ _ _ _ (retrieves c retrievals accepted gone l r free) = stays_retrieved laws law c retrievals accepted gone l (stays_reached laws law c retrievals accepted gone r) free
+stays_reached laws law _ _ _ _ (abandons c retrievals accepted gone l r free) = stays_abandoned laws law c retrievals accepted gone l (stays_reached laws law c retrievals accepted gone r) free
 stays_reached laws law _ _ _ _ (diverts c retrievals accepted gone l r own) = stays_diverted laws c retrievals accepted gone l (stays_reached laws law c retrievals accepted gone r) own
 stays_reached laws law _ _ _ _ (rebalances c retrievals accepted gone r free) = stays_rebalanced laws c retrievals accepted gone (stays_reached laws law c retrievals accepted gone r) free
 stays_reached laws law _ _ _ _ (listens c d retrievals accepted gone l octets taken r did) =
@@ -114,11 +145,7 @@ stays_reached laws law _ _ _ _ (reports c d retrievals accepted gone l report r 
     link_keeps laws (Reported report) c d retrievals accepted gone l (stays_reached laws law c retrievals accepted gone r) did (sym (ap (λ (w : Window). w.kept) was.same)) was.points
     (same_changing did.at.after.availability did.at.before.availability was.availability) (same_failed did.at.after.availability did.at.before.availability was.availability)
 stays_reached laws law _ _ _ _ (commands c d retrievals accepted gone l command r did) =
-    let was = did.at.was in
-    let before : Link = did.at.before in
-    link_keeps laws (Commanded command) c d retrievals accepted gone l (stays_reached laws law c retrievals accepted gone r) did was.keeps.kept was.points
-    (same_changing did.at.after.availability (started command before) was.availability ∙ started_changing (starts_anew command before) before.availability)
-    (same_failed did.at.after.availability (started command before) was.availability ∙ started_failed (starts_anew command before) before.availability)
+    stays_commanded laws c d retrievals accepted gone l command (stays_reached laws law c retrievals accepted gone r) did
 stays_reached laws law _ _ _ _ (refuses c d retrievals accepted gone l command refusal r did) =
     let was = did.at.was in
     alone_keeps laws (Refused command refusal) c d retrievals accepted gone l (stays_reached laws law c retrievals accepted gone r) did (refused_held did.at.before did.at.after was.terminal) was.points

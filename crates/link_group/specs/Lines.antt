@@ -1,5 +1,6 @@
 -- What a set does by one of its terminals, and what it makes of a link that comes into service.
-use Rattle.std.specs.Prelude.{◌≡◌, ℕ, ◌≤◌, Bool, if◌then◌else◌, List, length, map, slice_get}
+use Rattle.std.specs.Prelude.{◌≡◌, ℕ, ◌+◌, ◌-◌, ◌^◌, min, ◌≤◌, Bool, if◌then◌else◌, List, length}
+use Rattle.std.specs.Prelude.{map, slice_get}
 use Rattle.std.specs.List.{list_any}
 use Rattle.group_members.specs.declared.link.Link.{Link}
 use Rattle.link_group.specs.Set.{LinkSet}
@@ -7,7 +8,7 @@ use Rattle.group_members.specs.Links.{change}
 use Rattle.link_processes.specs.declared.commands.Command.{Command}
 use Rattle.group_members.specs.declared.commanding.CommandError.{CommandError}
 use Rattle.group_members.specs.declared.commanding.CommandError.TheVariants as error
-use Rattle.group_members.specs.Commanding.{Barred, Refused, Lacks}
+use Rattle.group_members.specs.Commanding.{cleared_at, Commanded, Barred, Refused, Lacks}
 use Rattle.link_group.specs.Placing.{placed_anew}
 use Rattle.group_members.specs.Doing.{AtLink, asked, came_first, came_by, admits_at, admits_by}
 
@@ -50,6 +51,19 @@ pub record Alone (did : Link → Link → Type 0) (l : ℕ) (c d : LinkSet) : Ty
   pub set : d ≡ record c { links = links }
 
 -- ---- commands
+
+-- A command to the terminal of the link at a place. What went as its text emptied the buffers
+-- counts as unsure, but for messages that are bound to the link; the count stays at its greatest
+-- value.
+pub record ByCommand (command : Command) (l : ℕ) (c d : LinkSet) : Type 0 where
+  pub links : List Link
+  pub at : AtLink (Commanded command) l c.links links
+  pub set :
+      d
+      ≡ seen l (record c {
+        links = links;
+        unsure = min (2 ^ 64 - 1) (c.unsure + length (cleared_at command (slice_get c.links l)));
+      })
 
 -- Why a command was refused, and what came of it. Nothing changed, but that the journal of a
 -- terminal that refused it may have room now.

@@ -18,7 +18,7 @@ use Rattle.group_members.specs.OneLink.{window, held, accepted_of}
 use Rattle.group_members.specs.New.{IsUnused}
 use Rattle.group_members.specs.Moving.{Diverted}
 use Rattle.group_members.specs.Doing.{Listened, Spoken, Sent, Reported}
-use Rattle.group_members.specs.Commanding.{Commanded, Refused}
+use Rattle.group_members.specs.Commanding.{cleared_at, Refused}
 use Rattle.group_changeover.specs.Bound.{is_bound, unbound}
 use Rattle.link_group.specs.Set.{LinkSet, points_of, send_fault, sent, bind_fault_at, bound_at}
 use Rattle.link_group.specs.Changing.{fail_fault, after_failure, after_message, retrieve_fault_at}
@@ -26,7 +26,7 @@ use Rattle.link_group.specs.Changing.{after_retrieve, messages_for, abandon_faul
 use Rattle.link_group.specs.Changing.{unsent_at}
 use Rattle.link_group.specs.Diverting.{Owns, diverted, after_divert}
 use Rattle.link_group.specs.Placing.{rebalance_fault, rebalanced}
-use Rattle.link_group.specs.Lines.{ByLink, Alone, after_admission}
+use Rattle.link_group.specs.Lines.{ByLink, ByCommand, Alone, after_admission}
 use Rattle.link_group.specs.Ticks.{with_room, after_ticks, NoRoom}
 use Rattle.link_group.specs.New.{new_set}
 
@@ -136,7 +136,8 @@ pub data Reached : LinkSet → (ℕ → List Msu) → List Msu → List Gone →
   commands : (c d : LinkSet) (retrievals : ℕ
       → List Msu) (accepted : List Msu) (gone : List Gone) (l : ℕ) (command : Command)
       → Reached c retrievals accepted gone
-      → ByLink (Commanded command) l c d → Reached d retrievals accepted gone
+      → ByCommand command l c d
+      → Reached d retrievals accepted (gone ++ unsure (cleared_at command (slice_get c.links l)))
   -- the terminal refuses it, and may have made room
   refuses : (c d : LinkSet) (retrievals : ℕ
       → List Msu) (accepted :

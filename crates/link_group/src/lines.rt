@@ -1,8 +1,7 @@
 //! What a set does by one of its terminals.
 ghost use Rattle.std.specs.Prelude.{◌≡◌, ◌↔◌, ◌≤◌, ◌<◌, length, true, slice_get, IfOk, IfErr, OnOk, OnErr, Err};
-ghost use Rattle.link_group.specs.Lines.{ByLink, seen, after_admission, IsCommandError};
+ghost use Rattle.link_group.specs.Lines.{ByLink, ByCommand, seen, after_admission, IsCommandError};
 ghost use Rattle.group_members.specs.Doing.{Listened, Spoken, Sent, Reported, low_at};
-ghost use Rattle.group_members.specs.Commanding.{Commanded};
 
 use crate::group::Group;
 use group_members::{
@@ -123,7 +122,8 @@ impl Group {
         self.see(link);
         Ok(report)
     }
-    /// `Terminal::command` of a link.
+    /// `Terminal::command` of a link, behind which its buffers are emptied where its text asked for that (Q.703, figure 13). What goes then, but for
+    /// messages that are bound to the link, counts as unsure.
     ///
     /// # Errors
     ///
@@ -131,14 +131,15 @@ impl Group {
     /// changes. Else those of `Terminal::command`: nothing changes but that there may be room in its journal.
     pub fn command(&mut self, link: usize, command: Command) -> Result<(), CommandError>
         ensures none { (result ≡ Err CommandError.NoLink) ↔ (length self.old.links ≤ link) }
-        ensures ok { OnOk result (ByLink (Commanded command) link self.old self.new) }
+        ensures ok { OnOk result (ByCommand command link self.old self.new) }
         ensures err { IfErr result (IsCommandError command link self.old self.new) }
     {
         if link >= self.links.len() {
             return Err(CommandError::NoLink);
         }
         match command_at(self.links.as_mut_slice(), link, command) {
-            Ok(()) => {
+            Ok(cleared) => {
+                self.unsure = self.unsure.saturating_add(cleared as u64);
                 self.see(link);
                 Ok(())
             }

@@ -2,5 +2,6 @@ mod Failing
 mod InTurn
 mod Known
 mod Mapped
+mod Serving
 mod Speaking
 mod Written

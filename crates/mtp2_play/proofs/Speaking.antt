@@ -1,5 +1,5 @@
 -- A desk's run is what its terminal spoke.
-use Rattle.std.proofs.Common.{◌≡◌, ◌⊎◌, inl, inr, refl, subst, ℕ, List, Option}
+use Rattle.std.proofs.Common.{◌≡◌, ◌⊎◌, inl, inr, refl, subst, ℕ, List, Option, None}
 use Rattle.std.specs.Prelude.{min}
 use Rattle.line_play.specs.Term.{Term}
 use Rattle.line_filter.specs.Desks.{state_of}
@@ -12,37 +12,46 @@ use Rattle.line_play.specs.Checked.{IsGiven}
 use Rattle.line_play.specs.Lines.{end_acts}
 use Rattle.line_play.specs.Opening.{IsNewOver}
 use Rattle.line_play.specs.declared.link_end.LinkEnd.{LinkEnd}
-use Rattle.mtp2_play.specs.Spoken.{AreOrdered, Spoke, SpokeOver, Begun, BegunOver, IsUntouched}
+use Rattle.line_filter.specs.Reporting.{Stand}
+use Rattle.mtp2_play.specs.Spoken.{AreGiven, ordered_by, SpokeBy, Spoke, SpokeOver, Begun, BegunOver, IsUntouched}
 use Rattle.mtp2_words.specs.Ends.{limits_over}
 use Rattle.mtp2_words.specs.resend_store_types.messages.Mode.{Mode}
 use Rattle.mtp2_words.specs.resend_store_types.messages.RoundLimits.{RoundLimits}
 use Rattle.mtp2_words.specs.declared.ends.LineEnd.{LineEnd}
 
-pub spoke : {A O P : Type 0} (orders : Option A) (left : O → Option (List Timed)) (bits : Bits) (ahead count : ℕ) (old new : Desk LinkEnd O P)
-    (read written told_before read_on written_on told : Option (List ℕ)) → IsSilent old.voice → AreOrdered orders (left old.orders) → old.count ≡ 0
-    → IsOver end_acts bits ahead old.count (state_of left old) count (state_of left new) (record { read = read; written = written; told = told_before })
-    (record { read = read_on; written = written_on; told = told })
-    → Spoke orders old.terminal.terminal bits ahead (record { read = read; written = written }) (record { read = read_on; written = written_on })
-spoke orders left bits ahead count old new read written told_before read_on written_on told silent ordered none over =
-    let before : Streams = record { read = read; written = written; told = told_before } in
-    let after : Streams = record { read = read_on; written = written_on; told = told } in
+pub spoke : {O P : Type 0} (octets : Option (List ℕ)) (left : O → Option (List Timed)) (bits : Bits) (ahead count : ℕ) (old new : Desk LinkEnd O P) (before after : Streams)
+    → old.terminal.held ≡ None → IsSilent old.voice → left old.orders ≡ ordered_by octets → old.count ≡ 0
+    → IsOver end_acts bits ahead old.count (state_of left old) count (state_of left new) before after → SpokeBy octets old.terminal.terminal bits ahead before after
+spoke octets left bits ahead count old new before after free silent ordered none over =
     let P : ℕ → Type 0 = λ n. IsOver end_acts bits ahead n (state_of left old) count (state_of left new) before after in
     record {
       first = state_of left old;
-      is_first = record { is_term = refl; silent = silent; ordered = ordered };
+      is_first = record { is_term = refl; none_held = free; silent = silent; ordered = ordered };
       last = state_of left new;
       count = count;
-      told_before = told_before;
-      told = told;
       over = subst P none over;
     }
 
-pub begun : {A O P : Type 0} (orders : Option A) (left : O → Option (List Timed)) (bits : Bits) (ahead : ℕ) (desk : Desk LinkEnd O P) (old new : Line)
-    → IsSilent desk.voice → AreOrdered orders (left desk.orders) → desk.count ≡ 0 → IsBegun end_acts bits ahead desk.count (state_of left desk) old new
-    → Begun orders desk.terminal.terminal bits ahead old new
-begun orders left bits ahead desk old new silent ordered none h =
+pub begun : {A O P : Type 0} (orders : Option A) (octets : Option (List ℕ)) (left : O → Option (List Timed)) (bits : Bits) (ahead : ℕ) (desk : Desk LinkEnd O P) (old new : Line)
+    → AreGiven orders octets → desk.terminal.held ≡ None → IsSilent desk.voice → left desk.orders ≡ ordered_by octets → desk.count ≡ 0
+    → IsBegun end_acts bits ahead desk.count (state_of left desk) old new → Begun orders desk.terminal.terminal bits ahead old new
+begun orders octets left bits ahead desk old new given free silent ordered none h =
     let P : ℕ → Type 0 = λ n. IsBegun end_acts bits ahead n (state_of left desk) old new in
-    record { first = state_of left desk; is_first = record { is_term = refl; silent = silent; ordered = ordered }; begun = subst P none h }
+    record {
+      octets = octets;
+      given = given;
+      first = state_of left desk;
+      is_first = record { is_term = refl; none_held = free; silent = silent; ordered = ordered };
+      begun = subst P none h;
+    }
+
+-- with orders from where they are named
+pub with_orders : {A : Type 0} (orders : Option A) (octets : Option (List ℕ)) (term : Term) (bits : Bits) (ahead : ℕ) (read written read_on written_on : Option (List ℕ)) (told_before told : Stand)
+    → AreGiven orders octets
+    → SpokeBy octets term bits ahead (record { read = read; written = written; told = told_before }) (record { read = read_on; written = written_on; told = told })
+    → Spoke orders term bits ahead (record { read = read; written = written }) (record { read = read_on; written = written_on })
+with_orders orders octets term bits ahead read written read_on written_on told_before told given by =
+    record { octets = octets; given = given; told_before = told_before; told = told; spoke = by }
 
 -- the terminal that a desk was made of
 pub of_term : {A : Type 0} (orders : Option A) (one other : Term) (bits : Bits) (ahead : ℕ) (old new : Line) → other ≡ one → Spoke orders other bits ahead old new

@@ -8,7 +8,11 @@ use Rattle.mtp2_words.specs.Asked.{IsAskedBy}
 use Rattle.mtp2_words.specs.Commands.{all_commands}
 use Rattle.mtp2_words.specs.TurnedDown.{IsTurnedDown}
 use Rattle.mtp2_words.specs.declared.words.Request.{Request}
-use Rattle.mtp2_play.specs.Printed.{IsAnswered, IsFault}
+use Rattle.mtp2_words.specs.declared.words.Request.TheVariants.{Soak}
+use Rattle.mtp2_words.specs.declared.words.Source.{Source}
+use Rattle.mtp2_play.specs.Printed.{IsAnswered, IsFault, IsStatus}
+use Rattle.mtp2_play.specs.declared.asked.Came.{Came}
+use Rattle.mtp2_play.specs.declared.asked.Came.TheVariants as came
 
 -- the exit status where that is told: 0 for help and the version alone, 3 for a fault of the words
 -- alone, else 4
@@ -31,3 +35,19 @@ pub data ComesTo (words : List Text) (status : ℕ) : Type 0 where
       → IsAnswered request status old new
       → (status ≡ 0) ⊎ (status ≡ 1) ⊎ (status ≡ 2) ⊎ (status ≡ 4) → ComesTo words status
   is_told : (kind : ErrorKind) → IsTurnedDown words kind → IsTold kind status → ComesTo words status
+
+-- they have no fault, and ask that so many workers serve links as a script says
+pub record AsksSoak (words : List Text) (script : Source) (workers : ℕ) : Type 0 where
+  pub taken : fault_of all_commands words ≡ []
+  pub asked : IsAskedBy (subcommand_of all_commands words) (Soak script workers)
+
+-- a request was run, but for `soak`; of that it is known what it asks for
+abbrev pub WasServed : Request → Came → Type 0
+WasServed request (came.Over status) =
+    WasAnswered request status × ((status ≡ 0) ⊎ (status ≡ 1) ⊎ (status ≡ 2) ⊎ (status ≡ 4))
+WasServed request (came.Soak script workers) = request ≡ Soak script workers
+
+-- what they ask for was run, but for `soak`; of that it is known what it asks for
+abbrev pub IsServedBy : List Text → Came → Type 0
+IsServedBy words (came.Over status) = ComesTo words status × IsStatus status
+IsServedBy words (came.Soak script workers) = AsksSoak words script workers

@@ -1,10 +1,12 @@
 -- What one end of a link wrote on its line for what it read there.
-use Rattle.std.specs.Prelude.{◌≡◌, ⊤, ℕ, min, List, [], Option, None, Some}
+use Rattle.std.specs.Prelude.{◌≡◌, ⊤, ℕ, min, List, [], Option, None, Some, option_map}
 use Rattle.line_play.specs.Term.{Term}
 use Rattle.line_filter.specs.Orders.{Timed}
 use Rattle.line_filter.specs.Runs.{State}
 use Rattle.line_filter.specs.Speaking.{IsSilent}
-use Rattle.line_filter.specs.Filters.{MOST_AHEAD, Line, IsOver, IsBegun}
+use Rattle.line_filter.specs.Filters.{MOST_AHEAD, Line, Streams, IsOver, IsBegun}
+use Rattle.line_filter.specs.Reporting.{Stand}
+use Rattle.line_filter.specs.Streams.{orders_of}
 use Rattle.line_filter.specs.declared.filter.Bits.{Bits}
 use Rattle.line_play.specs.Lines.{end_acts}
 use Rattle.line_play.specs.Opening.{IsNewOver}
@@ -13,29 +15,42 @@ use Rattle.mtp2_words.specs.Ends.{limits_over}
 use Rattle.mtp2_words.specs.resend_store_types.messages.RoundLimits.{RoundLimits}
 use Rattle.mtp2_words.specs.declared.ends.LineEnd.{LineEnd}
 
--- where no word names orders, there are none
-abbrev pub AreOrdered : {A : Type 0} → Option A → Option (List Timed) → Type 0
-AreOrdered None left = left ≡ Some []
-AreOrdered (Some path) left = ⊤
+-- where no word names orders, none come; what a path has isn't known
+abbrev pub AreGiven : {A : Type 0} → Option A → Option (List ℕ) → Type 0
+AreGiven None octets = octets ≡ Some []
+AreGiven (Some path) octets = ⊤
 
--- how a terminal's run begins: nothing went out, and by which orders is known where there are none
-pub record IsFirst {A : Type 0} (orders : Option A) (term : Term) (first : State LinkEnd) :
-    Type 0 where
+-- the orders that the whole lines of these octets say, where these are known
+abbrev pub ordered_by : Option (List ℕ) → Option (List Timed)
+ordered_by octets = option_map orders_of octets
+
+-- how a terminal's run begins: nothing went out, nothing waits to be told, and the orders are those
+-- of these octets
+pub record IsFirst (octets : Option (List ℕ)) (term : Term) (first : State LinkEnd) : Type 0 where
   pub is_term : first.term.terminal ≡ term
+  pub none_held : first.term.held ≡ None
   pub silent : IsSilent first.voice
-  pub ordered : AreOrdered orders first.left
+  pub ordered : first.left ≡ ordered_by octets
 
--- a terminal spoke from its first octet to its last: what was written is what it gave for what was
--- read, behind so many octets of silence
-pub record Spoke {A : Type 0} (orders : Option A) (term : Term) (bits : Bits) (ahead : ℕ)
-    (old new : Line) : Type 0 where
+-- A terminal spoke from its first octet to its last, by the orders of these octets. What was
+-- written is what it gave for what was read, behind so many octets of silence, and what was told is
+-- what it had to tell.
+pub record SpokeBy (octets : Option (List ℕ)) (term : Term) (bits : Bits) (ahead : ℕ)
+    (old new : Streams) : Type 0 where
   pub first : State LinkEnd
-  pub is_first : IsFirst orders term first
+  pub is_first : IsFirst octets term first
   pub last : State LinkEnd
   pub count : ℕ
-  pub told_before : Option (List ℕ)
-  pub told : Option (List ℕ)
-  pub over : IsOver end_acts bits ahead 0 first count last
+  pub over : IsOver end_acts bits ahead 0 first count last old new
+
+-- so it did with orders from where they are named, or with none
+pub record Spoke {A : Type 0} (orders : Option A) (term : Term) (bits : Bits) (ahead : ℕ)
+    (old new : Line) : Type 0 where
+  pub octets : Option (List ℕ)
+  pub given : AreGiven orders octets
+  pub told_before : Stand
+  pub told : Stand
+  pub spoke : SpokeBy octets term bits ahead
       (record { read = old.read; written = old.written; told = told_before })
       (record { read = new.read; written = new.written; told = told })
 
@@ -50,8 +65,10 @@ pub record SpokeOver (usual : RoundLimits) (end : LineEnd) (old new : Line) (byt
 -- read, behind so many octets of silence.
 pub record Begun {A : Type 0} (orders : Option A) (term : Term) (bits : Bits) (ahead : ℕ)
     (old new : Line) : Type 0 where
+  pub octets : Option (List ℕ)
+  pub given : AreGiven orders octets
   pub first : State LinkEnd
-  pub is_first : IsFirst orders term first
+  pub is_first : IsFirst octets term first
   pub begun : IsBegun end_acts bits ahead 0 first old new
 
 -- so did a new terminal over the set of these bytes, within the limits that are chosen or these

@@ -5,7 +5,7 @@ ghost use Rattle.mtp2_words.specs.Limits.{usual_limits_of};
 ghost use Rattle.mtp2_play.specs.Sets.{own_text_of};
 ghost use Rattle.mtp2_play.specs.Printed.{IsSpoken};
 
-use crate::running::run_end as run_on;
+use crate::running::run_line as run_on;
 use crate::sets::own_set;
 use line_play::SetWord;
 use mtp2_words::{LineEnd, Named};

@@ -7,11 +7,11 @@ ghost use Rattle.line_play.specs.Checked.{given, IsGiven};
 ghost use Rattle.line_play.specs.Opening.{IsNoSet};
 ghost use Rattle.line_streams.specs.Known.{known_of};
 ghost use Rattle.mtp2_words.specs.Limits.{usual_limits_of};
-ghost use Rattle.mtp2_play.specs.Spoken.{AreOrdered, Spoke, SpokeOver, Begun, BegunOver, IsUntouched};
+ghost use Rattle.mtp2_play.specs.Spoken.{AreGiven, ordered_by, SpokeBy, Spoke, SpokeOver, Begun, BegunOver, IsUntouched};
 
 use crate::measuring::write_measures;
 use crate::traced::{end_trace, serve_traced, traced_desk};
-use line_filter::{LineOrders, Orders};
+use line_filter::{LineOrders, Reports};
 use line_play::{Desk, LinkEnd, MOST_AHEAD, SetWord, Terminal, link_desk, new_terminal, run_link};
 use line_streams::{OrderStream, ReportStream, open_orders, open_records, open_reports};
 use mtp2_words::{LineEnd, Named};
@@ -82,7 +82,8 @@ fn open_streams<'a, H: Files<File = File> + Threads + Eprint + AllocGlobal>(
     teller: &Teller<'_, H>,
     end: &LineEnd<'_>,
 ) -> io::Result<Streams<'a, H>>
-    ensures { IfOk result (λ s. AreOrdered end.now.orders (left_of known_of s.orders)) }
+    ensures given { IfOk result (λ s. AreGiven end.now.orders (known_of s.orders.reader)) }
+    ensures orders { IfOk result (λ s. left_of known_of s.orders ≡ ordered_by (known_of s.orders.reader)) }
 {
     let alloc = host.alloc();
     let orders = match open_orders(host, alloc, end.orders) {
@@ -102,20 +103,22 @@ fn open_streams<'a, H: Files<File = File> + Threads + Eprint + AllocGlobal>(
     })
 }
 
-/// Runs a terminal on its line, behind the octets that go ahead.
-fn serve<O: Orders, P: Write, R: Read, W: Write>(
+/// Runs a terminal on its line, behind the octets that go ahead, by the orders that whole lines say.
+fn serve<O: Read, P: Reports, R: Read, W: Write>(
     alloc: Global,
     end: &LineEnd<'_>,
-    desk: &mut Desk<LinkEnd, O, P>,
+    desk: &mut Desk<LinkEnd, LineOrders<O>, P>,
     reader: &mut R,
     writer: &mut W,
 ) -> u8
+    requires none_held { desk.old.terminal.held ≡ None }
     requires silent { IsSilent desk.old.voice }
-    requires ordered { AreOrdered end.now.orders (O.left desk.old.orders) }
+    requires given { AreGiven end.now.orders (O.remaining desk.old.orders.reader) }
+    requires ordered { left_of O.remaining desk.old.orders ≡ ordered_by (O.remaining desk.old.orders.reader) }
     requires new { desk.old.count ≡ 0 }
-    ensures spoke { result ≡ 0 → Spoke end.now.orders desk.old.terminal.terminal end.now.bits (min end.now.ahead MOST_AHEAD)
-        (record { read = R.remaining reader.old; written = W.contents writer.old })
-        (record { read = R.remaining reader.new; written = W.contents writer.new }) }
+    ensures spoke { result ≡ 0 → SpokeBy (O.remaining desk.old.orders.reader) desk.old.terminal.terminal end.now.bits (min end.now.ahead MOST_AHEAD)
+        (record { read = R.remaining reader.old; written = W.contents writer.old; told = P.stand desk.old.reports })
+        (record { read = R.remaining reader.new; written = W.contents writer.new; told = P.stand desk.new.reports }) }
     ensures begun { Begun end.now.orders desk.old.terminal.terminal end.now.bits (min end.now.ahead MOST_AHEAD)
         (record { read = R.remaining reader.old; written = W.contents writer.old })
         (record { read = R.remaining reader.new; written = W.contents writer.new }) }
@@ -134,7 +137,8 @@ fn speak_plain<H: Files<File = File> + Threads + Eprint + Clock + AllocGlobal, R
     reader: &mut R,
     writer: &mut W,
 ) -> u8
-    requires { AreOrdered end.now.orders (left_of known_of streams.orders) }
+    requires given { AreGiven end.now.orders (known_of streams.orders.reader) }
+    requires ordered { left_of known_of streams.orders ≡ ordered_by (known_of streams.orders.reader) }
     ensures spoke { result ≡ 0 → Spoke end.now.orders terminal end.now.bits (min end.now.ahead MOST_AHEAD)
         (record { read = R.remaining reader.old; written = W.contents writer.old })
         (record { read = R.remaining reader.new; written = W.contents writer.new }) }
@@ -169,7 +173,8 @@ fn speak_traced<H: Files<File = File> + Threads + Eprint + Clock + AllocGlobal, 
     reader: &mut R,
     writer: &mut W,
 ) -> u8
-    requires { AreOrdered end.now.orders (left_of known_of streams.orders) }
+    requires given { AreGiven end.now.orders (known_of streams.orders.reader) }
+    requires ordered { left_of known_of streams.orders ≡ ordered_by (known_of streams.orders.reader) }
     ensures spoke { result ≡ 0 → Spoke end.now.orders terminal end.now.bits (min end.now.ahead MOST_AHEAD)
         (record { read = R.remaining reader.old; written = W.contents writer.old })
         (record { read = R.remaining reader.new; written = W.contents writer.new }) }
@@ -240,7 +245,7 @@ fn speak<H: Files<File = File> + Threads + Eprint + Clock + AllocGlobal, R: Read
 /// terminal wants; 4 where memory, a file, a read or a write fails, of reports too. However it ends, what is written on the line is a beginning
 /// of what the terminal gives for octets that were read. (Tests alone show that a refusal is told on standard error, and that the text of its
 /// processes is read first, then its orders and reports are opened, and then its line.)
-pub fn run_end<
+pub fn run_line<
     H: Files<File = File> + Threads + Eprint + Clock + AllocGlobal,
     S: Read + Drop,
     R: Read,

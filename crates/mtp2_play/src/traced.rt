@@ -1,11 +1,12 @@
 //! One end of a link on its line, with a trace.
-ghost use Rattle.std.specs.Prelude.{◌≡◌, ◌⊎◌, min};
+ghost use Rattle.std.specs.Prelude.{◌≡◌, ◌⊎◌, None, min};
 ghost use Rattle.line_filter.specs.Filters.{MOST_AHEAD};
+ghost use Rattle.line_filter.specs.Reading.{left_of};
 ghost use Rattle.line_filter.specs.Speaking.{IsSilent};
-ghost use Rattle.mtp2_play.specs.Spoken.{AreOrdered, Spoke, Begun};
+ghost use Rattle.mtp2_play.specs.Spoken.{AreGiven, ordered_by, SpokeBy, Begun};
 
 use crate::traces::TracedEnd;
-use line_filter::{Orders, Voice, run_line};
+use line_filter::{LineOrders, Reports, Voice, run_line};
 use line_play::{Desk, LinkEnd, MOST_AHEAD, Terminal};
 use line_streams::RecordStream;
 use mtp2_words::LineEnd;
@@ -25,11 +26,15 @@ pub fn traced_desk<O, P, T>(
     reports: P,
 ) -> Desk<TracedEnd<T>, O, P>
     ensures terminal { result.terminal.end.terminal ≡ terminal }
+    ensures none_held { result.terminal.end.held ≡ None }
     ensures silent { IsSilent result.voice }
     ensures orders { result.orders ≡ orders }
     ensures count { result.count ≡ 0 }
 {
-    let end = LinkEnd { terminal };
+    let end = LinkEnd {
+        terminal,
+        held: None,
+    };
     Desk {
         terminal: TracedEnd::new(alloc, end, tracer, trace),
         voice: Voice::new(),
@@ -40,19 +45,21 @@ pub fn traced_desk<O, P, T>(
 }
 
 /// Runs a terminal on its line, behind the octets that go ahead, and traces what happens.
-pub fn serve_traced<O: Orders, P: Write, T: Write, R: Read, W: Write>(
+pub fn serve_traced<O: Read, P: Reports, T: Write, R: Read, W: Write>(
     alloc: Global,
     end: &LineEnd<'_>,
-    desk: &mut Desk<TracedEnd<T>, O, P>,
+    desk: &mut Desk<TracedEnd<T>, LineOrders<O>, P>,
     reader: &mut R,
     writer: &mut W,
 ) -> u8
+    requires none_held { desk.old.terminal.end.held ≡ None }
     requires silent { IsSilent desk.old.voice }
-    requires ordered { AreOrdered end.now.orders (O.left desk.old.orders) }
+    requires given { AreGiven end.now.orders (O.remaining desk.old.orders.reader) }
+    requires ordered { left_of O.remaining desk.old.orders ≡ ordered_by (O.remaining desk.old.orders.reader) }
     requires new { desk.old.count ≡ 0 }
-    ensures spoke { result ≡ 0 → Spoke end.now.orders desk.old.terminal.end.terminal end.now.bits (min end.now.ahead MOST_AHEAD)
-        (record { read = R.remaining reader.old; written = W.contents writer.old })
-        (record { read = R.remaining reader.new; written = W.contents writer.new }) }
+    ensures spoke { result ≡ 0 → SpokeBy (O.remaining desk.old.orders.reader) desk.old.terminal.end.terminal end.now.bits (min end.now.ahead MOST_AHEAD)
+        (record { read = R.remaining reader.old; written = W.contents writer.old; told = P.stand desk.old.reports })
+        (record { read = R.remaining reader.new; written = W.contents writer.new; told = P.stand desk.new.reports }) }
     ensures begun { Begun end.now.orders desk.old.terminal.end.terminal end.now.bits (min end.now.ahead MOST_AHEAD)
         (record { read = R.remaining reader.old; written = W.contents writer.old })
         (record { read = R.remaining reader.new; written = W.contents writer.new }) }

@@ -46,10 +46,10 @@ impl<W> TracedEnd<W> {
 }
 
 impl<W: Write> LineTerminal for TracedEnd<W> {
-    ghost use Rattle.line_play.specs.LinkActs.{link_acts};
+    ghost use Rattle.line_play.specs.Lines.{end_acts};
     ghost use Rattle.mtp2_play.specs.TracedEnds.{IsActTold};
 
-    ghost acts = { λ old act new. link_acts old.end.terminal act new.end.terminal
+    ghost acts = { λ old act new. end_acts old.end act new.end
         × IsActTold act new.end.terminal old.tracer new.tracer (W.contents old.trace) (W.contents new.trace) };
 
     fn unit_out(&mut self) -> io::Result<Option<Unit>> {

@@ -12,8 +12,7 @@ use Rattle.su_octets.specs.Bits.{AreOctets}
 use Rattle.group_changeover.specs.Changeovers.{Says}
 use Rattle.link_group.specs.Set.{LinkSet, send_fault, sent, bind_fault_at, bound_at}
 use Rattle.link_group.specs.Changing.{fail_fault, after_failure, order_at, IsReply}
-use Rattle.link_group.specs.Commanding.{Commanded}
-use Rattle.link_group.specs.Lines.{ByLink, IsCommandError, after_admission}
+use Rattle.link_group.specs.Lines.{ByCommand, IsCommandError, after_admission}
 use Rattle.link_group.specs.Placing.{rebalance_fault, rebalanced}
 use Rattle.link_group.specs.Printed.{send_error_text, bind_error_text, fail_error_text, rebalance_error_text}
 use Rattle.link_group.specs.Ticking.{all_due}
@@ -52,10 +51,10 @@ told_at e l c d w text said is makes told =
     let Q : LinkSet → Type 0 = λ x. IsTold e l c text x in
     subst Q (sym makes) (subst P (sym is) told)
 
-pub told_taken : (e f : Command) (l : ℕ) (c d : LinkSet) (text : List ℕ) → e ≡ f → text ≡ codes "ok" → ByLink (Commanded e) l c d → IsTold f l c text d
-told_taken e f l c d text same is by_link =
+pub told_taken : (e f : Command) (l : ℕ) (c d : LinkSet) (text : List ℕ) → e ≡ f → text ≡ codes "ok" → ByCommand e l c d → IsTold f l c text d
+told_taken e f l c d text same is by =
     let P : Command → Type 0 = λ x. IsTold x l c text d in
-    subst P same (told_at e l c d d text (codes "ok") is refl (answers.told_taken d by_link))
+    subst P same (told_at e l c d d text (codes "ok") is refl (answers.told_taken d by))
 
 told_error : (e : Command) (l : ℕ) (c d : LinkSet) (text : List ℕ) (x : CommandError) → IsBarredLine x text → IsCommandError e l c d x → IsTold e l c text d
 told_error e l c d text barring.NoLink is was = told_at e l c d c text _ is was.1 (answers.told_nowhere was.0)

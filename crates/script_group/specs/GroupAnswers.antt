@@ -31,10 +31,10 @@ use Rattle.link_group.specs.Changing.{reply_to, retrieve_fault_at, after_retriev
 use Rattle.link_group.specs.Changing.{abandon_fault_at, after_abandon, unsent_at}
 use Rattle.link_group.specs.Diverting.{diverted, after_divert}
 use Rattle.link_group.specs.Placing.{rebalance_fault, rebalanced}
-use Rattle.link_group.specs.Lines.{ByLink, Alone, after_admission}
+use Rattle.link_group.specs.Lines.{ByLink, ByCommand, Alone, after_admission}
 use Rattle.link_group.specs.Moving.{retrieval_of}
 use Rattle.link_group.specs.Doing.{Listened, Sent, Reported}
-use Rattle.link_group.specs.Commanding.{Commanded, Refused, is_barred}
+use Rattle.link_group.specs.Commanding.{Refused, is_barred}
 use Rattle.link_group.specs.OneLink.{but_memory}
 use Rattle.link_group.specs.Ticking.{all_due}
 use Rattle.link_group.specs.Ticks.{with_room, tick_fault, after_ticks}
@@ -105,7 +105,7 @@ pub data IsTold (e : Command) (l : ℕ) (c : LinkSet) : List ℕ → LinkSet →
       → IsTold e l c (codes "refused K2 Waiting") c
   told_refused :
       (r : Refusal) (d : LinkSet) → Alone (Refused e r) l c d → IsTold e l c (refused_text r) d
-  told_taken : (d : LinkSet) → ByLink (Commanded e) l c d → IsTold e l c (codes "ok") d
+  told_taken : (d : LinkSet) → ByCommand e l c d → IsTold e l c (codes "ok") d
 
 -- the line of a refused order; want of memory has none
 abbrev pub IsBarredLine : CommandError → List ℕ → Type 0

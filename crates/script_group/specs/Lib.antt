@@ -10,3 +10,7 @@ pub use Rattle.script_terminal.specs.UnitLines
 pub use Rattle.link_group.specs.Lines as SetLines
 pub use Rattle.link_group.specs.Doing
 pub use Rattle.link_group.specs.Set
+pub use Rattle.link_group.specs.Reading
+pub use Rattle.link_group.specs.Links
+pub use Rattle.link_group.specs.group_members_types
+pub use Rattle.link_group.specs.New

@@ -1,2 +1,4 @@
 mod Refusals
 mod Texts
+mod Capturings
+mod TermCaptures

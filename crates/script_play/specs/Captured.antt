@@ -60,6 +60,12 @@ IsComing (state process) come = come ≡ []
 IsComing (shown process variable) come = come ≡ []
 IsComing (expected text) come = come ≡ []
 
+-- by a command octets come in, or none do; but not where units are asked for, or a line expected
+abbrev pub is_noted : PlainTermCommand → Bool
+is_noted (out n) = false
+is_noted (expected text) = false
+is_noted c = true
+
 -- of octets that come in on a link's line behind others, one by one, these units are seen
 pub data Hears (link at : ℕ) : List ℕ → List ℕ → List Seen → List Seen → Type 0 where
   nothing : (before : List ℕ) (seen : List Seen) → Hears link at before [] seen seen
@@ -78,7 +84,7 @@ pub record IsGone (link at : ℕ) (x : su.Unit) (seen last : List Seen) : Type 0
 
 -- so many units are asked for on a link: those that go out are seen
 pub data Sends (link at : ℕ) : ℕ → Term → List Seen → Term → List Seen → Type 0 where
-  nothing : (t : Term) (seen : List Seen) → Sends link at zero t seen t seen
+  no_more : (t : Term) (seen : List Seen) → Sends link at zero t seen t seen
   silent : (n : ℕ) (t : Term) (seen : List Seen) → (next_of t).unit ≡ None
       → Sends link at (suc n) t seen (behind_next t) seen
   one_goes : (n : ℕ) (t u : Term) (x : su.Unit) (seen mid last : List Seen)
@@ -93,19 +99,19 @@ pub data Sends (link at : ℕ) : ℕ → Term → List Seen → Term → List Se
 pub data Goes (keeps : Bool) (first : Term) :
     List PlainTermSaid → Term → Option (List ℕ) → List ℕ → List Seen → Type 0 where
   begins : Goes keeps first [] first None [] []
-  goes_out : {commands : List PlainTermSaid} {now : Term} {line : Option (List ℕ)}
+  goes_out : {commands : List PlainTermSaid} {now : Term} {printed : Option (List ℕ)}
       {came : List ℕ} {seen : List Seen} (said : PlainTermSaid) (n : ℕ) (lines : List (List ℕ))
       (next : Term) (last : List Seen)
-      → said.command ≡ out n → Goes keeps first commands now line came seen
+      → said.command ≡ out n → Goes keeps first commands now printed came seen
       → Obeys keeps said.command now lines next → Sends 0 (time_of now) n now seen next last
-      → Goes keeps first (commands ++ said ∷ []) next (latest line lines) came last
-  comes_in : {commands : List PlainTermSaid} {now : Term} {line : Option (List ℕ)}
+      → Goes keeps first (commands ++ said ∷ []) next (latest printed lines) came last
+  comes_in : {commands : List PlainTermSaid} {now : Term} {printed : Option (List ℕ)}
       {came : List ℕ} {seen : List Seen} (said : PlainTermSaid) (come : List ℕ)
       (lines : List (List ℕ)) (next : Term) (last : List Seen)
       → ((n : ℕ) → said.command ≡ out n → ⊥) → IsComing said.command come
-      → Goes keeps first commands now line came seen
+      → Goes keeps first commands now printed came seen
       → Obeys keeps said.command now lines next → Hears 0 (time_of now) came come seen last
-      → Goes keeps first (commands ++ said ∷ []) next (latest line lines) (came ++ come) last
+      → Goes keeps first (commands ++ said ∷ []) next (latest printed lines) (came ++ come) last
   holds : {commands : List PlainTermSaid} {now : Term} {came : List ℕ} {seen : List Seen}
       {text : List ℕ} (said : PlainTermSaid)
       → said.command ≡ expected text → Goes keeps first commands now (Some text) came seen
@@ -115,10 +121,10 @@ pub data Goes (keeps : Bool) (first : Term) :
 pub record IsCaptured (every keeps : Bool) (first : Term) (commands : List PlainTermSaid)
     (old new : Option (List ℕ)) : Type 0 where
   pub now : Term
-  pub line : Option (List ℕ)
+  pub printed : Option (List ℕ)
   pub came : List ℕ
   pub seen : List Seen
-  pub goes : Goes keeps first commands now line came seen
+  pub goes : Goes keeps first commands now printed came seen
   pub written : Appends old new (capture_of every seen)
 
 -- so it did by those in front of one of these commands, an expectation that names another line than
@@ -130,14 +136,14 @@ pub record IsCapturedInPart (every keeps : Bool) (first : Term) (commands : List
   pub after : List PlainTermSaid
   pub stands : commands ≡ before ++ said ∷ after
   pub now : Term
-  pub line : Option (List ℕ)
+  pub printed : Option (List ℕ)
   pub came : List ℕ
   pub seen : List Seen
-  pub goes : Goes keeps first before now line came seen
+  pub goes : Goes keeps first before now printed came seen
   pub written : Appends old new (capture_of every seen)
   pub text : List ℕ
   pub expects : said.command ≡ expected text
-  pub other : line ≡ Some text → ⊥
+  pub other : printed ≡ Some text → ⊥
 
 -- ---- on its way
 
@@ -156,9 +162,9 @@ pub record IsCapturing (link : ℕ) (every : Bool) (came : List ℕ) (seen : Lis
 
 -- so far these commands were obeyed, and captured
 pub record IsTermCapturing (every keeps : Bool) (first : Term) (commands : List PlainTermSaid)
-    (old new : Option (List ℕ)) (now : Term) (line : Option (List ℕ)) (l : LinkSeen) :
+    (old new : Option (List ℕ)) (now : Term) (printed : Option (List ℕ)) (l : LinkSeen) :
     Type 0 where
   pub came : List ℕ
   pub seen : List Seen
-  pub goes : Goes keeps first commands now line came seen
+  pub goes : Goes keeps first commands now printed came seen
   pub capturing : IsCapturing 0 every came seen old new l

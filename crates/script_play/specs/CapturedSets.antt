@@ -1,8 +1,8 @@
 -- What a capture of a link set's script has: of each link the units that go out and those that come
 -- in without error, in the order of the commands, each with the number of its link and at the tick
 -- before its command.
-use Rattle.std.specs.Prelude.{◌≡◌, ◌<◌, ◌≤◌, ℕ, zero, suc, ◌*◌, Bool, false, List, [], ◌∷◌, ◌++◌}
-use Rattle.std.specs.Prelude.{length, map, Option, None, Some, slice_get, slice_set}
+use Rattle.std.specs.Prelude.{◌≡◌, ◌<◌, ◌≤◌, ℕ, zero, suc, ◌*◌, Bool, true, false, List, [], ◌∷◌}
+use Rattle.std.specs.Prelude.{◌++◌, length, map, Option, None, Some, slice_get, slice_set}
 use Rattle.std.specs.Io.KnownBytes.{Appends}
 use Rattle.su_octets.specs.declared.units.Unit as su
 use Rattle.line_streams.specs.Capturing.{capture_of}
@@ -28,6 +28,12 @@ IsComing (group.unit octets) come = AreRepeated 1 octets come
 IsComing (group.line octets) come = come ≡ octets
 IsComing c come = come ≡ []
 
+-- by a command octets come in, or none do; but not where units are asked for, or a line expected
+abbrev pub is_noted : PlainGroupCommand → Bool
+is_noted (group.out n) = false
+is_noted (group.expected text) = false
+is_noted c = true
+
 -- so many units are asked for on a link: those that go out are seen
 pub data SendsOn (link at : ℕ) : ℕ → LinkSet → List Seen → LinkSet → List Seen → Type 0 where
   nothing : (c : LinkSet) (seen : List Seen) → SendsOn link at zero c seen c seen
@@ -43,27 +49,27 @@ pub data SendsOn (link at : ℕ) : ℕ → LinkSet → List Seen → LinkSet →
 pub data Goes (first : Playing) :
     List PlainGroupSaid → Playing → Option (List ℕ) → List (List ℕ) → List Seen → Type 0 where
   begins : Goes first [] first None (map (λ b. []) (books_of first)) []
-  goes_out : {commands : List PlainGroupSaid} {now : Playing} {line : Option (List ℕ)}
+  goes_out : {commands : List PlainGroupSaid} {now : Playing} {printed : Option (List ℕ)}
       {came : List (List ℕ)} {seen : List Seen} (said : PlainGroupSaid) (n : ℕ)
       (lines : List (List ℕ)) (next : Playing) (last : List Seen)
       → said.command ≡ group.out n → now.on < length came
-      → Goes first commands now line came seen → Obeys said.command now lines next
+      → Goes first commands now printed came seen → Obeys said.command now lines next
       → SendsOn now.on (set_time now) n now.set seen next.set last
-      → Goes first (commands ++ said ∷ []) next (latest line lines) came last
-  comes_in : {commands : List PlainGroupSaid} {now : Playing} {line : Option (List ℕ)}
+      → Goes first (commands ++ said ∷ []) next (latest printed lines) came last
+  comes_in : {commands : List PlainGroupSaid} {now : Playing} {printed : Option (List ℕ)}
       {came : List (List ℕ)} {seen : List Seen} (said : PlainGroupSaid)
       (before come : List ℕ) (lines : List (List ℕ)) (next : Playing) (last : List Seen)
       → ((n : ℕ) → said.command ≡ group.out n → ⊥) → slice_get came now.on ≡ Some before
       → IsComing said.command come
-      → Goes first commands now line came seen → Obeys said.command now lines next
+      → Goes first commands now printed came seen → Obeys said.command now lines next
       → Hears now.on (set_time now) before come seen last
-      → Goes first (commands ++ said ∷ []) next (latest line lines)
+      → Goes first (commands ++ said ∷ []) next (latest printed lines)
       (slice_set came now.on (before ++ come)) last
-  is_nowhere : {commands : List PlainGroupSaid} {now : Playing} {line : Option (List ℕ)}
+  is_nowhere : {commands : List PlainGroupSaid} {now : Playing} {printed : Option (List ℕ)}
       {came : List (List ℕ)} {seen : List Seen} (said : PlainGroupSaid)
       (lines : List (List ℕ)) (next : Playing) → length came ≤ now.on
-      → Goes first commands now line came seen → Obeys said.command now lines next
-      → Goes first (commands ++ said ∷ []) next (latest line lines) came seen
+      → Goes first commands now printed came seen → Obeys said.command now lines next
+      → Goes first (commands ++ said ∷ []) next (latest printed lines) came seen
   holds : {commands : List PlainGroupSaid} {now : Playing} {came : List (List ℕ)}
       {seen : List Seen} {text : List ℕ} (said : PlainGroupSaid)
       → said.command ≡ group.expected text → Goes first commands now (Some text) came seen
@@ -73,10 +79,10 @@ pub data Goes (first : Playing) :
 pub record IsSetCaptured (every : Bool) (commands : List PlainGroupSaid)
     (old new : Option (List ℕ)) (first : Playing) : Type 0 where
   pub now : Playing
-  pub line : Option (List ℕ)
+  pub printed : Option (List ℕ)
   pub came : List (List ℕ)
   pub seen : List Seen
-  pub goes : Goes first commands now line came seen
+  pub goes : Goes first commands now printed came seen
   pub written : Appends old new (capture_of every seen)
 
 -- so it did by those in front of one of these commands, an expectation that names another line than
@@ -88,14 +94,14 @@ pub record IsSetCapturedInPart (every : Bool) (commands : List PlainGroupSaid)
   pub after : List PlainGroupSaid
   pub stands : commands ≡ before ++ said ∷ after
   pub now : Playing
-  pub line : Option (List ℕ)
+  pub printed : Option (List ℕ)
   pub came : List (List ℕ)
   pub seen : List Seen
-  pub goes : Goes first before now line came seen
+  pub goes : Goes first before now printed came seen
   pub written : Appends old new (capture_of every seen)
   pub text : List ℕ
   pub expects : said.command ≡ group.expected text
-  pub other : line ≡ Some text → ⊥
+  pub other : printed ≡ Some text → ⊥
 
 -- ---- on its way
 
@@ -109,10 +115,10 @@ pub data AreHeard (every : Bool) (seen : List Seen) :
 
 -- so far these commands were obeyed, and captured
 pub record IsSetCapturing (every : Bool) (first : Playing) (commands : List PlainGroupSaid)
-    (old new : Option (List ℕ)) (now : Playing) (line : Option (List ℕ))
+    (old new : Option (List ℕ)) (now : Playing) (printed : Option (List ℕ))
     (links : List LinkSeen) : Type 0 where
   pub came : List (List ℕ)
   pub seen : List Seen
-  pub goes : Goes first commands now line came seen
+  pub goes : Goes first commands now printed came seen
   pub heard : AreHeard every seen 0 came links
   pub written : Appends old new (capture_of every seen)

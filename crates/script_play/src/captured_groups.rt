@@ -1,5 +1,5 @@
 //! Link sets' scripts as they run, with a capture.
-ghost use Rattle.std.specs.Prelude.{◌≡◌, ◌⊎◌, ◌<◌, ◌++◌, ◌∷◌, [], ℕ, Bool, List, Option, None, map, length, IfOk, OnOk, IfSome, true, false};
+ghost use Rattle.std.specs.Prelude.{◌≡◌, ◌⊎◌, ◌<◌, ◌^◌, ◌++◌, ◌∷◌, [], ℕ, Bool, List, Option, None, Some, map, length, slice_get, slice_set, IfOk, OnOk, IfSome, true, false};
 ghost use Rattle.std.specs.Io.KnownBytes.{Appends};
 ghost use Rattle.su_octets.specs.Whole.{IsWhole};
 ghost use Rattle.line_streams.specs.Records.{HEADER};
@@ -15,7 +15,7 @@ ghost use Rattle.script_seen.specs.GroupAnswers.{Playing};
 ghost use Rattle.script_seen.specs.GroupRuns.{playing_of, last_of, HasGivenOut, IsGroupRun, IsGroupWritten, IsGroupMissed, IsGroupMissedBy, IsOfNewSet};
 ghost use Rattle.script_seen.specs.TracedGroups.{books_of, clock_in};
 ghost use Rattle.script_play.specs.Captured.{Hears, IsCapturing};
-ghost use Rattle.script_play.specs.CapturedSets.{IsComing, SendsOn, AreHeard, IsSetCapturing, IsSetCaptured, IsSetCapturedInPart};
+ghost use Rattle.script_play.specs.CapturedSets.{IsComing, is_noted, SendsOn, Goes, AreHeard, IsSetCapturing, IsSetCaptured, IsSetCapturedInPart};
 
 use crate::captured_terminals::line_of;
 use crate::capturing::{LinkSeen, begin, lost, time_of};
@@ -32,7 +32,7 @@ fn new_links(alloc: Global, count: u32, every: bool) -> Result<Vec<LinkSeen>, Al
     ensures { IfOk result (λ v. (bs : List Ledger) → length bs ≡ count → AreHeard every [] 0 (map (λ b. []) bs) v.items) }
 {
     let mut links = Vec::new(alloc);
-    for _ in 0..count {
+    for _link in 0..count {
         links.push(LinkSeen::new(every))?;
     }
     Ok(links)
@@ -78,7 +78,8 @@ fn give_out<T: Write, W: Write>(
     out: &mut T,
     writer: &mut W,
 ) -> io::Result<()>
-    requires { player.old.on < length player.old.group.links }
+    requires there { player.old.on < length player.old.group.links }
+    requires few { player.old.on < 2 ^ 16 }
     ensures given { OnOk result (HasGivenOut player.old.on units (W.contents writer.old) (W.contents writer.new) (last_of player.old) (last_of player.new)
         player.old.group player.new.group) }
     ensures captured { OnOk result ((every : Bool) (came : List ℕ) (ss : List OneSeen) (begun : Option (List ℕ))
@@ -89,7 +90,7 @@ fn give_out<T: Write, W: Write>(
     ensures retrievals { player.new.retrievals ≡ player.old.retrievals }
 {
     let number = player.on as u16;
-    for _ in 0..units {
+    for _unit in 0..units {
         match next_on(alloc, player, writer)? {
             Some(unit) => link.send(number, at, &unit, out)?,
             None => return Ok(()),
@@ -98,7 +99,7 @@ fn give_out<T: Write, W: Write>(
     Ok(())
 }
 
-/// What comes in by a command on the link of this number.
+/// What comes in on the link of this number by a command, by which no unit is asked for, and nothing expected.
 fn note<T: Write>(
     alloc: Global,
     command: &GroupCommand<'_>,
@@ -107,7 +108,8 @@ fn note<T: Write>(
     link: &mut LinkSeen,
     out: &mut T,
 ) -> io::Result<()>
-    ensures { OnOk result ((come : List ℕ) × IsComing (plain_group_command command.now) come
+    ensures noted { OnOk result (is_noted (plain_group_command command.now) ≡ true) }
+    ensures heard { OnOk result ((come : List ℕ) × IsComing (plain_group_command command.now) come
         × ((every : Bool) (came : List ℕ) (ss : List OneSeen) (begun : Option (List ℕ))
         → IsCapturing number every came ss begun (T.contents out.old) link.old
         → (last : List OneSeen) × Hears number at came come ss last × IsCapturing number every (came ++ come) last begun (T.contents out.new) link.new)) }
@@ -115,10 +117,24 @@ fn note<T: Write>(
     match command {
         GroupCommand::Unit(octets) => {
             let line = line_of_unit(alloc, octets)?;
-            link.hear_times(number, at, &line, 1, out)
+            link.hear_times(number, at, &line, 1, out)?;
+            Ok(())
         }
-        GroupCommand::Line(octets) => link.hear(number, at, octets, out),
-        _ => Ok(()),
+        GroupCommand::Line(octets) => {
+            link.hear(number, at, octets, out)?;
+            Ok(())
+        }
+        GroupCommand::Out(_) | GroupCommand::Expect(_) => Err(lost()),
+        GroupCommand::Order(_)
+        | GroupCommand::Tick(_)
+        | GroupCommand::State(_)
+        | GroupCommand::Value(_, _)
+        | GroupCommand::On(_)
+        | GroupCommand::Send(_)
+        | GroupCommand::Bound(_)
+        | GroupCommand::Message(_)
+        | GroupCommand::Admit(_)
+        | GroupCommand::Own(_) => Ok(()),
     }
 }
 
@@ -131,7 +147,21 @@ fn capture_there<T: Write, W: Write>(
     link: &mut LinkSeen,
     out: &mut T,
     writer: &mut W,
-) -> io::Result<bool> {
+) -> io::Result<bool>
+    requires there { player.old.on < length player.old.group.links }
+    requires few { player.old.on < 2 ^ 16 }
+    ensures goes { IfOk result (λ on. on ≡ true → (p : Playing) (before : List PlainGroupSaid) (first : Option (List ℕ))
+        → IsGroupRun p before first (W.contents writer.old) (playing_of player.old) (last_of player.old)
+        → IsGroupRun p (before ++ plain_group_said said.now ∷ []) first (W.contents writer.new) (playing_of player.new) (last_of player.new)) }
+    ensures missed { IfOk result (λ on. on ≡ false → IsGroupMissedBy (plain_group_said said.now) (last_of player.old) (W.contents writer.old) (W.contents writer.new)) }
+    ensures captured { IfOk result (λ on. on ≡ true → (every : Bool) (p : Playing) (before : List PlainGroupSaid) (all : List (List ℕ)) (came : List ℕ) (seen : List OneSeen) (begun : Option (List ℕ))
+        → Goes p before (playing_of player.old) (last_of player.old) all seen → slice_get all player.old.on ≡ Some came
+        → IsCapturing player.old.on every came seen begun (T.contents out.old) link.old
+        → (more : List ℕ) × (last : List OneSeen)
+        × Goes p (before ++ plain_group_said said.now ∷ []) (playing_of player.new) (last_of player.new) (slice_set all player.old.on more) last
+        × IsCapturing player.old.on every more last begun (T.contents out.new) link.new) }
+    ensures uncaptured { IfOk result (λ on. on ≡ false → T.contents out.new ≡ T.contents out.old) }
+{
     let at = time_of(clock_of(player))?;
     match &said.command {
         GroupCommand::Out(units) => {

@@ -9,9 +9,9 @@ ghost use Rattle.script_links.specs.TermScripts.{PlainTermSaid, plain_term_said,
 ghost use Rattle.script_seen.specs.Term.{Term};
 ghost use Rattle.script_seen.specs.TermAnswers.{next_of, behind_next, unit_line};
 ghost use Rattle.script_seen.specs.TermRuns.{last_of, HasPrinted, HasGivenOut, IsTermRun, IsTermWritten, IsTermMissed, IsTermFailed, IsTermMissedBy, IsOfNew, LacksName};
-ghost use Rattle.script_play.specs.Captured.{time_of, IsComing, Hears, Sends, IsCapturing, IsTermCapturing, IsCaptured, IsCapturedInPart};
+ghost use Rattle.script_play.specs.Captured.{time_of, IsComing, is_noted, Hears, Sends, IsCapturing, IsTermCapturing, IsCaptured, IsCapturedInPart};
 
-use crate::capturing::{LinkSeen, begin, time_of};
+use crate::capturing::{LinkSeen, begin, lost, time_of};
 use script_seen::{
     FAILED, HELD, MISSED, RoundLimits, TermCommand, TermPlayer, TermSaid, TermScript, Terminal,
     Unit, asks_told, line_of_unit, new_player, refuse_set, text_line,
@@ -69,7 +69,7 @@ fn give_out<T: Write, W: Write>(
         → (last : List OneSeen) × Sends 0 at units player.old.terminal ss player.new.terminal last
         × IsCapturing 0 every came last begun (T.contents out.new) link.new) }
 {
-    for _ in 0..units {
+    for _unit in 0..units {
         match next_out(alloc, player, writer)? {
             Some(unit) => link.send(0, at, &unit, out)?,
             None => return Ok(()),
@@ -78,7 +78,7 @@ fn give_out<T: Write, W: Write>(
     Ok(())
 }
 
-/// What comes in by a command.
+/// What comes in by a command, by which no unit is asked for, and nothing expected.
 fn note<T: Write>(
     alloc: Global,
     command: &TermCommand<'_>,
@@ -86,7 +86,8 @@ fn note<T: Write>(
     link: &mut LinkSeen,
     out: &mut T,
 ) -> io::Result<()>
-    ensures { OnOk result ((come : List ℕ) × IsComing (plain_term_command command.now) come
+    ensures noted { OnOk result (is_noted (plain_term_command command.now) ≡ true) }
+    ensures heard { OnOk result ((come : List ℕ) × IsComing (plain_term_command command.now) come
         × ((every : Bool) (came : List ℕ) (ss : List OneSeen) (begun : Option (List ℕ))
         → IsCapturing 0 every came ss begun (T.contents out.old) link.old
         → (last : List OneSeen) × Hears 0 at came come ss last × IsCapturing 0 every (came ++ come) last begun (T.contents out.new) link.new)) }
@@ -94,15 +95,34 @@ fn note<T: Write>(
     match command {
         TermCommand::Unit(octets) => {
             let line = line_of_unit(alloc, octets)?;
-            link.hear_times(0, at, &line, 1, out)
+            link.hear_times(0, at, &line, 1, out)?;
+            Ok(())
         }
         TermCommand::Units(times, octets) => {
             let line = line_of_unit(alloc, octets)?;
-            link.hear_times(0, at, &line, *times, out)
+            link.hear_times(0, at, &line, *times, out)?;
+            Ok(())
         }
-        TermCommand::Errors(times) => link.hear_times(0, at, &ERRORED, *times, out),
-        TermCommand::Line(octets) => link.hear(0, at, octets, out),
-        _ => Ok(()),
+        TermCommand::Errors(times) => {
+            link.hear_times(0, at, &ERRORED, *times, out)?;
+            Ok(())
+        }
+        TermCommand::Line(octets) => {
+            link.hear(0, at, octets, out)?;
+            Ok(())
+        }
+        TermCommand::Out(_) | TermCommand::Expect(_) => Err(lost()),
+        TermCommand::Order(_)
+        | TermCommand::Msu(_)
+        | TermCommand::Tick(_)
+        | TermCommand::Told
+        | TermCommand::Accepted
+        | TermCommand::Retrieve(_)
+        | TermCommand::Measure(_)
+        | TermCommand::Aborted
+        | TermCommand::Reset
+        | TermCommand::State(_)
+        | TermCommand::Value(_, _) => Ok(()),
     }
 }
 
@@ -150,9 +170,8 @@ fn capture_each<T: Write, W: Write>(
     out: &mut T,
     writer: &mut W,
 ) -> io::Result<u8>
-    ensures held { IfOk result (λ status. status ≡ 0 → (t : Term) (before : List PlainTermSaid) (first : Option (List ℕ))
-        → IsTermRun keeps t before first (W.contents writer.old) player.old.terminal (last_of player.old)
-        → IsTermRun keeps t (before ++ map plain_term_said commands.now) first (W.contents writer.new) player.new.terminal (last_of player.new)) }
+    ensures held { IfOk result (λ status. status ≡ 0 → last_of player.old ≡ None
+        → (now : Term) × (last : Option (List ℕ)) × IsTermRun keeps player.old.terminal (map plain_term_said commands.now) (W.contents writer.old) (W.contents writer.new) now last) }
     ensures missed { IfOk result (λ status. status ≡ 1 → last_of player.old ≡ None
         → IsTermMissed keeps (map plain_term_said commands.now) (W.contents writer.old) (W.contents writer.new) player.old.terminal) }
     ensures captured { IfOk result (λ status. status ≡ 0 → last_of player.old ≡ None → (every : Bool) (begun : Option (List ℕ))

@@ -1,9 +1,9 @@
 //! What is captured of a link, unit by unit.
-ghost use Rattle.std.specs.Prelude.{◌≡◌, ◌∷◌, ◌++◌, [], ℕ, Bool, List, Option, OnOk, IfOk};
+ghost use Rattle.std.specs.Prelude.{◌≡◌, ◌∷◌, ◌++◌, [], ℕ, Bool, false, List, Option, Some, OnOk, IfOk};
 ghost use Rattle.std.specs.Io.KnownBytes.{Appends};
 ghost use Rattle.su_octets.specs.Frame.{Frame};
 ghost use Rattle.su_octets.specs.Whole.{IsWhole};
-ghost use Rattle.line_streams.specs.Capturing.{without_check};
+ghost use Rattle.line_streams.specs.Capturing.{IsUnit, without_check};
 ghost use Rattle.line_streams.specs.Records.{HEADER};
 ghost use Rattle.line_streams.specs.declared.seen.Seen.{Seen as OneSeen};
 ghost use Rattle.script_play.specs.Captured.{TICK, repeated, Hears, IsGone, IsHeard, IsCapturing};
@@ -78,14 +78,20 @@ impl LinkSeen {
         at: u64,
         octets: ArrayVec<u8, 278>,
         out: &mut T,
-    ) -> io::Result<()> {
+    ) -> io::Result<()>
+        ensures { OnOk result ((every : Bool) (came : List ℕ) (ss : List OneSeen) (begun : Option (List ℕ))
+            → IsCapturing link every came ss begun (T.contents out.old) self.old
+            → (last : List OneSeen) × IsUnit false link at (Some octets.items) ss last
+            × IsCapturing link every came last begun (T.contents out.new) self.new) }
+    {
         let seen = Seen {
             went: false,
             link,
             at,
             octets,
         };
-        self.see(&seen, out)
+        self.see(&seen, out)?;
+        Ok(())
     }
 
     /// An octet comes in on the line.
@@ -96,7 +102,10 @@ impl LinkSeen {
             × IsCapturing link every (came ++ octet ∷ []) last begun (T.contents out.new) self.new) }
     {
         match ended(&mut self.heard, octet) {
-            Some(unit) => self.see_unit(link, at, unit, out),
+            Some(unit) => {
+                self.see_unit(link, at, unit, out)?;
+                Ok(())
+            }
             None => Ok(()),
         }
     }
@@ -134,7 +143,7 @@ impl LinkSeen {
             → (last : List OneSeen) × Hears link at came (repeated times octets.now) ss last
             × IsCapturing link every (came ++ repeated times octets.now) last begun (T.contents out.new) self.new) }
     {
-        for _ in 0..times {
+        for _time in 0..times {
             self.hear(link, at, octets, out)?;
         }
         Ok(())
@@ -160,7 +169,8 @@ impl LinkSeen {
             at,
             octets: octets_of(unit)?,
         };
-        self.see(&seen, out)
+        self.see(&seen, out)?;
+        Ok(())
     }
 }
 

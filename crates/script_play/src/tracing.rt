@@ -53,7 +53,7 @@ fn trace_other<W: Write, T: Write, E: Write>(
     }
 }
 
-/// Tells that a script of a link set has no trace. Gives the exit status.
+/// Tells that of a script of a link set nothing is drawn, covered or counted. Gives the exit status.
 pub(crate) fn lacks_trace<E: Write>(alloc: Global, errors: &mut E) -> u8
     ensures { result ≡ 4 }
 {
@@ -146,8 +146,8 @@ fn trace_text<W: Write, T: Write, E: Write>(
 /// `state`, `value`, `measure NAME` and `expect`, and behind it a line for each event that happened by it, as the journal of its actors has them.
 /// Where `every` says so, signals that are thrown away have a line too, and turns that keep their state and have no effect.
 ///
-/// Gives the exit status, as `play` does: 4 where a write to `trace` fails too, where more happens by one command of a terminal than its journal
-/// holds, and for a script of a link set, which has no trace.
+/// Gives the exit status, as `play` does: 4 where a write to `trace` fails too, and where more happens by one command of a terminal, or on a link of
+/// a set, than its journal holds.
 pub fn play_traced<S: Read + Drop, R: Read + Drop, W: Write, T: Write, E: Write>(
     alloc: Global,
     set: SetWord<S>,

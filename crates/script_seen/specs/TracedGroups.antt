@@ -59,6 +59,10 @@ group_only_asks (group.message octets) = false
 group_only_asks (group.admitting way) = false
 group_only_asks (group.own word) = word_only_asks word
 
+abbrev pub is_expectation : PlainGroupCommand → Bool
+is_expectation (group.expected text) = true
+is_expectation c = false
+
 -- ---- messages of changeover (Q.704, 5 and 15)
 
 -- the heading of a message, and the number that it tells
@@ -143,8 +147,8 @@ all_reach d (r ∷ rs) [] = []
 all_reach d (r ∷ rs) (b ∷ bs) = reach d r b ∷ all_reach d rs bs
 
 pub data AreReached (d : Draft) : List Reached → List Ledger → Type 0 where
-  none : AreReached d [] []
-  more : (r : Reached) (b : Ledger) (rs : List Reached) (bs : List Ledger)
+  none_reached : AreReached d [] []
+  one_reached : (r : Reached) (b : Ledger) (rs : List Reached) (bs : List Ledger)
       → IsReached d r b → AreReached d rs bs → AreReached d (r ∷ rs) (b ∷ bs)
 
 -- the books of the links of a set
@@ -164,8 +168,8 @@ abbrev pub IsAtLink : Draft → Reached → Tracer → Type 0
 IsAtLink d r t = IsAt d r.place r.core t
 
 pub data AreAtLinks (every : Bool) (d : Draft) : List Reached → List Tracer → Type 0 where
-  none : AreAtLinks every d [] []
-  more : (r : Reached) (t : Tracer) (rs : List Reached) (ts : List Tracer)
+  none_at : AreAtLinks every d [] []
+  one_at : (r : Reached) (t : Tracer) (rs : List Reached) (ts : List Tracer)
       → t.every ≡ every → IsAtLink d r t → AreAtLinks every d rs ts
       → AreAtLinks every d (r ∷ rs) (t ∷ ts)
 

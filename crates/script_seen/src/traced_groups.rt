@@ -10,7 +10,7 @@ ghost use Rattle.script_group.specs.TermRuns.{LacksName};
 ghost use Rattle.script_group.specs.GroupAnswers.{Playing};
 ghost use Rattle.script_group.specs.GroupRuns.{playing_of, last_of, IsGroupRun, IsGroupMissedBy, IsGroupWritten, IsGroupMissed, IsOfNewSet};
 ghost use Rattle.script_seen.specs.Traced.{IsFront, since, told_text};
-ghost use Rattle.script_seen.specs.TracedGroups.{word_only_asks, group_only_asks, Reached, reached_at, IsReached, IsAtLink, AreAtLinks, AreReached, reach, all_reach, books_of, clock_in, links_text, under_name, IsSaidTold, IsChangeoverTold, IsNewBook, AreNewLinks, IsToldBehind, IsGroupTracing, IsGroupTraced, IsGroupTracedInPart};
+ghost use Rattle.script_seen.specs.TracedGroups.{word_only_asks, group_only_asks, is_expectation, Reached, reached_at, IsReached, IsAtLink, AreAtLinks, AreReached, reach, all_reach, books_of, clock_in, links_text, under_name, IsSaidTold, IsChangeoverTold, IsNewBook, AreNewLinks, IsToldBehind, IsGroupTracing, IsGroupTraced, IsGroupTracedInPart};
 
 use crate::changeovers::{changeover_text, said_octets};
 use crate::fronts::{first_of, show_line};
@@ -59,6 +59,28 @@ fn only_asks(command: &GroupCommand<'_>) -> bool
     }
 }
 
+/// Whether a command is an expectation.
+fn is_expectation(command: &GroupCommand<'_>) -> bool
+    ensures { result ≡ is_expectation (plain_group_command command.now) }
+{
+    match command {
+        GroupCommand::Expect(_) => true,
+        GroupCommand::Order(_)
+        | GroupCommand::Unit(_)
+        | GroupCommand::Line(_)
+        | GroupCommand::Out(_)
+        | GroupCommand::Tick(_)
+        | GroupCommand::State(_)
+        | GroupCommand::Value(_, _)
+        | GroupCommand::On(_)
+        | GroupCommand::Send(_)
+        | GroupCommand::Bound(_)
+        | GroupCommand::Message(_)
+        | GroupCommand::Admit(_)
+        | GroupCommand::Own(_) => false,
+    }
+}
+
 /// Writes the line of a command, which stands at a place of the lines of a script, but of one that only asks.
 fn show_front<T: Write>(
     alloc: Global,
@@ -86,7 +108,7 @@ fn open_tracers(
     ensures { IfOk result (λ ts. (bs : List Ledger) → length bs ≡ links → All (IsNewBook set.now) bs → AreAtLinks every set.now (map reached_at bs) ts.items) }
 {
     let mut tracers = Vec::new(alloc);
-    for _ in 0..links {
+    for _link in 0..links {
         let tracer = open_tracer(alloc, set, every)?;
         tracers.push(tracer)?;
     }
@@ -143,6 +165,21 @@ fn tell_changeover<T: Write>(
     }
 }
 
+/// Writes what happened on a link behind a line that names it, where anything did.
+fn write_under<T: Write>(alloc: Global, link: usize, text: &[u8], trace: &mut T) -> io::Result<()>
+    ensures { OnOk result (Appends (T.contents trace.old) (T.contents trace.new) (under_name link text.now)) }
+{
+    match text {
+        [] => Ok(()),
+        [_, ..] => {
+            let head = format!(in alloc; "on {link}\n")?;
+            trace.write_all(head.as_bytes())?;
+            trace.write_all(text)?;
+            Ok(())
+        }
+    }
+}
+
 /// What has happened to a link since is traced, behind a line that names it.
 fn trace_one<T: Write>(
     alloc: Global,
@@ -161,12 +198,7 @@ fn trace_one<T: Write>(
     };
     let mut text = Vec::new(alloc);
     tracer.follow(alloc, book, &mut text)?;
-    if text.is_empty() {
-        return Ok(());
-    }
-    let head = format!(in alloc; "on {link}\n")?;
-    trace.write_all(head.as_bytes())?;
-    trace.write_all(&text)?;
+    write_under(alloc, link, &text, trace)?;
     Ok(())
 }
 
@@ -184,8 +216,8 @@ fn trace_links<T: Write>(
     if player.group.len() != tracers.len() {
         return Err(lost());
     }
-    for (link, tracer) in tracers.iter_mut().enumerate() {
-        trace_one(alloc, player, link, tracer, trace)?;
+    for link in 0..tracers.len() {
+        trace_one(alloc, player, link, &mut tracers[link], trace)?;
     }
     Ok(())
 }
@@ -212,7 +244,8 @@ fn trace_behind<T: Write>(
         &player.printer.last,
         trace,
     )?;
-    trace_links(alloc, player, tracers, trace)
+    trace_links(alloc, player, tracers, trace)?;
+    Ok(())
 }
 
 /// Does what a command says, and traces what happens. Whether the run goes on.
@@ -239,13 +272,11 @@ fn trace_next<W: Write, T: Write>(
     if !player.obey(alloc, said, writer)? {
         return Ok(false);
     }
-    match &said.command {
-        GroupCommand::Expect(_) => Ok(true),
-        _ => {
-            trace_behind(alloc, player, said, lines, place, tracers, trace)?;
-            Ok(true)
-        }
+    if is_expectation(&said.command) {
+        return Ok(true);
     }
+    trace_behind(alloc, player, said, lines, place, tracers, trace)?;
+    Ok(true)
 }
 
 /// Does what the commands say, in order, up to an expectation that fails, and traces what happens. Gives the exit status, 0 or 1 where one failed.

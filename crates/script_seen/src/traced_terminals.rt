@@ -136,15 +136,22 @@ fn trace_each<W: Write, T: Write>(
     Ok(HELD)
 }
 
+/// How much the book of a terminal may hold.
+fn terminal_limits() -> Limits
+    ensures { result ≡ record { port = MOST_PORT; env = MOST_ENVIRONMENT; journal = MOST_JOURNAL } }
+{
+    match Limits::new(PORT, ENVIRONMENT, JOURNAL) {
+        Some(limits) => limits,
+        None => unreachable!(),
+    }
+}
+
 /// The tracer of a terminal over a set; whether skips and turns that have no effect are traced too.
 pub fn open_tracer(alloc: Global, set: &Verified, every: bool) -> Result<Tracer, AllocError>
     ensures every { IfOk result (λ t. t.every ≡ every) }
     ensures start { IfOk result (IsAtStart (opened_book set.now MOST_PORT MOST_ENVIRONMENT MOST_JOURNAL)) }
 {
-    let Some(limits) = Limits::new(PORT, ENVIRONMENT, JOURNAL) else {
-        unreachable!();
-    };
-    let tracer = new_tracer(alloc, set, limits, every)?;
+    let tracer = new_tracer(alloc, set, terminal_limits(), every)?;
     Ok(tracer)
 }
 

@@ -1,7 +1,7 @@
 use Rattle.std.specs.Prelude.{option_map, string_bytes}
-use Rattle.std.specs.Io.KnownBytes.{Appends}
-use Rattle.line_filter.specs.Orders.{told}
 use Rattle.line_filter.specs.Acts.{reported}
+use Rattle.line_filter.specs.Orders.{told}
+use Rattle.line_filter.specs.Reporting.{TellsLines}
 use Rattle.line_filter.proofs.Telling.{moved, told_none, told_more, told_all}
 use Rattle.line_filter.proofs.desk.tell_all.Goals as goal
 
@@ -12,7 +12,7 @@ pub loop-told-preserved : goal.loop-told-preserved
 loop-told-preserved g c =
     told_more _ _ _ _ _ _ _ _ _ c.loop-told.invariant
     (moved _ _ c.in-Some.is (λ text. g.T.LineTerminal.acts c.loop-told.terminal (reported (option_map string_bytes text)) c.report.new.self) c.in_ok-text.ensures)
-    (moved _ _ c.as_str.ensures.value (λ text. Appends (g.P.Write.contents c.loop-told.reports) (g.P.Write.contents c.tell.new.reports) (told c.args.now text))
+    (moved _ _ c.as_str.ensures.value (λ text. TellsLines (g.P.Reports.stand c.loop-told.reports) (g.P.Reports.stand c.tell.new.reports) (told c.args.now text))
     c.in_ok-tell-in-Some.ensures)
 
 pub returns-in-None : goal.returns-in-None

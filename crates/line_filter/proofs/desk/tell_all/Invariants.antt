@@ -5,4 +5,4 @@ use Rattle.line_filter.proofs.desk.tell_all.Given as goal
 
 abbrev pub invariant-loop-told : goal.invariant-loop-told
 invariant-loop-told g l =
-    Told (λ bytes. Tells g.T.LineTerminal.acts l.now l.initial.terminal bytes l.terminal) (g.P.Write.contents l.initial.reports) (g.P.Write.contents l.reports)
+    Told (λ bytes. Tells g.T.LineTerminal.acts l.now l.initial.terminal bytes l.terminal) (g.P.Reports.stand l.initial.reports) (g.P.Reports.stand l.reports)
