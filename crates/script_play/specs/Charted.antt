@@ -144,10 +144,14 @@ timing_of d p clock (Set t z) =
     (codes "set " ++ timer_text d p t.0 ++ codes " at " ++ decimal (clock + delay z)) ∷ []
 timing_of d p clock (Reset t) = (codes "reset " ++ timer_text d p t.0) ∷ []
 
--- lines of a label, with mscgen's sign of a new line between two
+-- lines of a label, with mscgen's sign of a new line before each
+abbrev pub below_each : List (List ℕ) → List ℕ
+below_each lines = flat_map (λ l. codes "\\n" ++ l) lines
+
+-- and between two
 abbrev pub stacked : List (List ℕ) → List ℕ
 stacked [] = []
-stacked (line ∷ lines) = line ++ flat_map (λ l. codes "\\n" ++ l) lines
+stacked (line ∷ lines) = line ++ below_each lines
 
 -- one note of what a turn makes of timers, where it does something to one
 abbrev pub note_of : Draft → ActorName → List (List ℕ) → List ℕ

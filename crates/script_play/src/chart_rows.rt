@@ -1,7 +1,7 @@
 //! The rows of a turn in a chart, in the language of mscgen.
 ghost use Rattle.std.specs.Prelude.{◌≡◌, ◌++◌, ◌∷◌, [], OnOk, IfOk};
 ghost use Rattle.std.specs.List.{flat_map};
-ghost use Rattle.script_play.specs.Charted.{labelled, actor_quoted, party_quoted, commaed, more_values, called_text, clock_text, time_text, beside, taken_text, run_out_text, came_text, box_text, receiver_of, sent_text, is_arc, arrow_of, out_text, outs_text, timing_of, stacked, note_of};
+ghost use Rattle.script_play.specs.Charted.{labelled, actor_quoted, party_quoted, commaed, more_values, called_text, clock_text, time_text, beside, taken_text, run_out_text, came_text, box_text, receiver_of, sent_text, is_arc, arrow_of, out_text, outs_text, timing_of, below_each, note_of};
 
 use script_seen::{
     ActorName, Job, Lost, delay_of, loss_at, meant, push_actor, push_end, push_number, push_party,
@@ -308,7 +308,8 @@ pub(crate) fn push_outputs(
     Ok(())
 }
 
-/// `set` or `reset` with the timer of an effect, if it is one. A deadline past 2^64 would be told as 2^64 - 1, but the clock ends before.
+/// The sign of a new line, and `set` or `reset` with the timer of an effect, if it is one. A deadline past 2^64 would be told as want of memory,
+/// but the clock ends before.
 fn push_timing(
     alloc: Global,
     text: &mut Vec<u8>,
@@ -316,23 +317,28 @@ fn push_timing(
     process: ProcessNumber,
     clock: u64,
     effect: &Effect,
-) -> Result<(), AllocError> {
+) -> Result<(), AllocError>
+    ensures { OnOk result (text.new.items ≡ text.old.items ++ below_each (timing_of set.now process.0 clock effect.now)) }
+{
     match effect {
         Effect::Output(_) => Ok(()),
         Effect::Set(timer, ticks) => {
-            text.extend_from_slice(b"set ")?;
+            text.extend_from_slice(b"\\nset ")?;
             push_timer(text, set, process, *timer)?;
             text.extend_from_slice(b" at ")?;
-            push_number(alloc, text, clock.saturating_add(delay_of(*ticks)))
+            match clock.checked_add(delay_of(*ticks)) {
+                Some(at) => push_number(alloc, text, at),
+                None => Err(AllocError),
+            }
         }
         Effect::Reset(timer) => {
-            text.extend_from_slice(b"reset ")?;
+            text.extend_from_slice(b"\\nreset ")?;
             push_timer(text, set, process, *timer)
         }
     }
 }
 
-/// What a turn makes of timers, with the sign of a new line between two.
+/// What a turn makes of timers, the sign of a new line before each.
 fn timings(
     alloc: Global,
     set: &Verified,
@@ -340,14 +346,10 @@ fn timings(
     clock: u64,
     effects: &[Effect],
 ) -> Result<Vec<u8>, AllocError>
-    ensures { IfOk result (λ v. v.items ≡ stacked (flat_map (timing_of set.now process.0 clock) effects.now)) }
+    ensures { IfOk result (λ v. v.items ≡ below_each (flat_map (timing_of set.now process.0 clock) effects.now)) }
 {
     let mut text = Vec::new(alloc);
     for effect in effects {
-        let is_output = matches!(effect, Effect::Output(_));
-        if !is_output && !text.is_empty() {
-            text.extend_from_slice(b"\\n")?;
-        }
         push_timing(alloc, &mut text, set, process, clock, effect)?;
     }
     Ok(text)
@@ -365,8 +367,8 @@ pub(crate) fn push_timers(
     ensures { OnOk result (rows.new.items ≡ rows.old.items ++ note_of set.now me (flat_map (timing_of set.now me.process.0 clock) effects.now)) }
 {
     let text = timings(alloc, set, me.process, clock, effects)?;
-    if text.is_empty() {
-        return Ok(());
+    match text.as_slice() {
+        [_, _, note @ ..] => push_beside(alloc, rows, set, me, " note ", note),
+        _ => Ok(()),
     }
-    push_beside(alloc, rows, set, me, " note ", &text)
 }
