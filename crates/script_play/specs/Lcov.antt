@@ -10,7 +10,7 @@ use Rattle.sdl_sound.specs.Plain.{Text, falls, ends, does, decides, Choice, noth
 use Rattle.sdl_sound.specs.Plain.{answer, PlainConnection, PlainInput, PlainProcess, PlainBlock}
 use Rattle.sdl_sound.specs.TableNames.{number_of, signal_names, states_of, timers_of}
 use Rattle.sdl_tables.specs.Names.{Input, inputs_by_state, input_parts, processes_of}
-use Rattle.sdl_tables.specs.Names.{Identifier}
+use Rattle.sdl_ast.specs.declared.expression.Identifier.{Identifier}
 use Rattle.turn_code.specs.declared.numbers.StateNumber.{StateNumber}
 use Rattle.turn_code.specs.declared.input.Place.{Place}
 use Rattle.turn_code.specs.declared.input.Place.TheVariants.{Start, State as AtState}
