@@ -1,5 +1,5 @@
 //! What is captured of a link, unit by unit.
-ghost use Rattle.std.specs.Prelude.{◌≡◌, ◌∷◌, ◌++◌, [], ℕ, Bool, false, List, Option, Some, OnOk, IfOk};
+ghost use Rattle.std.specs.Prelude.{◌≡◌, ◌*◌, ◌∷◌, ◌++◌, [], ℕ, Bool, false, List, Option, Some, OnOk, IfOk};
 ghost use Rattle.std.specs.Io.KnownBytes.{Appends};
 ghost use Rattle.su_octets.specs.Frame.{Frame};
 ghost use Rattle.su_octets.specs.Whole.{IsWhole};

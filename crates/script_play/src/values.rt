@@ -1,5 +1,5 @@
 //! What expressions of a text come to.
-ghost use Rattle.std.specs.Prelude.{◌≡◌, Some, Bool, pos};
+ghost use Rattle.std.specs.Prelude.{◌≡◌, Some, Bool, pos, true, false};
 ghost use Rattle.sdl_ast.specs.Views.{tree_of, plain_answer};
 ghost use Rattle.sdl_meaning.specs.Act.{apply_one, apply_two, working, divide, divisor_of, relation_of, integer_in, compared, between, covers_integer, covers_truth};
 ghost use Rattle.sdl_meaning.specs.Outcomes.{Scope};

@@ -1,4 +1,4 @@
-use Rattle.std.proofs.Common.{List, ◌∷◌, ◌++◌, length, rules, refl, sym, subst, arith}
+use Rattle.std.proofs.Common.{◌≡◌, ◌+◌, List, ◌∷◌, ◌++◌, length, rules, refl, sym, subst}
 use Rattle.std.specs.Prelude.{All}
 use Rattle.script_seen.specs.declared.tracing.Tracer.{Tracer}
 use Rattle.script_seen.proofs.LinkTraces.{AreFresh, IsFresh, none_fresh, fresh_more, all_fresh}
