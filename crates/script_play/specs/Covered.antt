@@ -216,12 +216,14 @@ MeansEnded c t = EndedAt c t.place t.input_number t.input
 
 -- ---- what is known of it
 
+-- these are the turns of a transition
+abbrev pub is_known : Turns → ℕ → Place → ℕ → Bool
+is_known t p s n = (t.process.0 == p) && (is_place t.place s && (t.input == n))
+
 -- as they are counted
 abbrev pub known_turns : List Turns → ℕ → Place → ℕ → ℕ
 known_turns [] p s n = 0
-known_turns (t ∷ ts) p s n =
-    if (t.process.0 == p) && (is_place t.place s && (t.input == n)) then t.times
-    else known_turns ts p s n
+known_turns (t ∷ ts) p s n = if is_known t p s n then t.times else known_turns ts p s n
 
 abbrev pub turns_of : ℕ → Place → ℕ → List TurnEnd → ℕ
 turns_of p s n ts = count_by (is_of p s n) ts

@@ -1,5 +1,5 @@
 //! What of a text its turns took: transitions, answers and lines.
-ghost use Rattle.std.specs.Prelude.{◌≡◌, ◌∷◌, ◌++◌, ◌||◌, [], ℕ, List, Some, OnOk, IfOk, map, slice_get, false};
+ghost use Rattle.std.specs.Prelude.{◌≡◌, ◌∷◌, ◌++◌, ◌||◌, [], ℕ, List, Some, OnOk, IfOk, map, position, slice_get, false};
 ghost use Rattle.sdl_ast.specs.Views.{action_of, block_of, process_of};
 ghost use Rattle.sdl_ast.specs.declared.tree.Block.{Block};
 ghost use Rattle.sdl_meaning.specs.Act.{scope_of};
@@ -7,7 +7,8 @@ ghost use Rattle.sdl_meaning.specs.Outcomes.{Scope};
 ghost use Rattle.sdl_tables.specs.Names.{inputs_by_state, processes_of};
 ghost use Rattle.sdl_tables.specs.Rows.{rows_inputs};
 ghost use Rattle.script_seen.specs.Watched.{TurnEnd, IsEnd};
-ghost use Rattle.script_play.specs.Covered.{Taken as OneTaken, at, else_of, action_place, end_place, taken_at, times, others, known_turns, one_more, Counts, CountsPlaces, CountsTurns, Covers, MeansEnded};
+ghost use Rattle.script_play.specs.declared.coverage.Turns.{Turns as Known};
+ghost use Rattle.script_play.specs.Covered.{Taken as OneTaken, at, else_of, action_place, end_place, taken_at, times, others, is_known, known_turns, one_more, Counts, CountsPlaces, CountsTurns, Covers, MeansEnded};
 
 use crate::ways::pass;
 use script_seen::{Ended, Job};
@@ -41,6 +42,15 @@ pub struct Taken {
     begun: Places,
     /// At a DECISION: its ELSE.
     others: Places,
+}
+
+impl Turns {
+    /// Whether these are the turns of a transition: of a process, on one of the inputs of a state, or from START.
+    fn is_of(&self, process: ProcessNumber, place: Place, input: usize) -> bool
+        ensures { result ≡ is_known self.now process.0 place input }
+    {
+        self.process == process && self.place == place && self.input == input
+    }
 }
 
 impl Places {
@@ -119,10 +129,10 @@ impl Taken {
     }
 
     /// Where the turns of a transition are counted, if it had one.
-    fn number(&self, process: ProcessNumber, place: Place, input: usize) -> Option<usize> {
-        self.turns.iter().position(|it| it.process == process
-            && it.place == place
-            && it.input == input)
+    fn number(&self, process: ProcessNumber, place: Place, input: usize) -> Option<usize>
+        ensures { result ≡ position (λ (t : Known). is_known t process.0 place input) self.now.turns.items }
+    {
+        self.turns.iter().position(|it| it.is_of(process, place, input))
     }
 
     /// A transition has one turn more.

@@ -1,6 +1,7 @@
 //! Which signals in which states were thrown away, and how often.
-ghost use Rattle.std.specs.Prelude.{◌≡◌, ◌++◌, ◌∷◌, [], List, Some, OnOk, IfOk};
+ghost use Rattle.std.specs.Prelude.{◌≡◌, ◌++◌, ◌∷◌, [], List, Some, position, OnOk, IfOk};
 ghost use Rattle.script_seen.specs.Watched.{Throw as OneThrow, skip_noticed, throws_in};
+ghost use Rattle.script_play.specs.declared.thrown.Throw.{Throw as Counted};
 ghost use Rattle.script_play.specs.Thrown.{same_throw, throw_line, thrown_text, counted_throw, AreThrown, CountsThrown};
 
 use script_seen::{Actor, item_at, push_number, push_state, push_trigger, trigger_of};
@@ -78,7 +79,9 @@ impl Thrown {
     }
 
     /// Where it is counted how often something was thrown away, if it was.
-    fn number(&self, throw: &Throw) -> Option<usize> {
+    fn number(&self, throw: &Throw) -> Option<usize>
+        ensures { result ≡ position (λ (c : Counted). same_throw c throw.now) self.now.throws.items }
+    {
         self.throws.iter().position(|known| known.is_same(throw))
     }
 
