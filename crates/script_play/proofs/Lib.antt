@@ -2,3 +2,4 @@ mod Refusals
 mod Texts
 mod Capturings
 mod TermCaptures
+mod Counting
