@@ -3,3 +3,4 @@ mod Texts
 mod Capturings
 mod TermCaptures
 mod Counting
+mod OtherLinks
