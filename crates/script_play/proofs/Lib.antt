@@ -4,3 +4,4 @@ mod Capturings
 mod TermCaptures
 mod Counting
 mod OtherLinks
+mod SetCaptures

@@ -6,6 +6,8 @@ use Rattle.std.specs.Prelude.{◌++◌, length, map, Option, None, Some, slice_g
 use Rattle.std.specs.Io.KnownBytes.{Appends}
 use Rattle.su_octets.specs.declared.units.Unit as su
 use Rattle.line_streams.specs.Capturing.{capture_of}
+use Rattle.line_streams.specs.Repeats.{kept, StandsFor}
+use Rattle.line_streams.specs.declared.repeats.Repeats.{Repeats}
 use Rattle.line_streams.specs.declared.seen.Seen.{Seen}
 use Rattle.script_seen.specs.SetLines.{ByLink}
 use Rattle.script_seen.specs.Doing.{Sent}
@@ -16,7 +18,7 @@ use Rattle.script_links.specs.GroupScripts.{PlainGroupSaid}
 use Rattle.script_seen.specs.GroupAnswers.{Playing, Obeys}
 use Rattle.script_seen.specs.TermRuns.{latest}
 use Rattle.script_seen.specs.TracedGroups.{books_of, clock_in}
-use Rattle.script_play.specs.Captured.{TICK, AreRepeated, Hears, IsGone, IsHeard}
+use Rattle.script_play.specs.Captured.{TICK, AreRepeated, Hears, IsGone, IsHeard, IsCapturing}
 use Rattle.script_play.specs.declared.capturing.LinkSeen.{LinkSeen}
 
 abbrev pub set_time : Playing → ℕ
@@ -122,3 +124,19 @@ pub record IsSetCapturing (every : Bool) (first : Playing) (commands : List Plai
   pub goes : Goes first commands now printed came seen
   pub heard : AreHeard every seen 0 came links
   pub written : Appends old new (capture_of every seen)
+
+-- what is known of the other links stays
+abbrev pub AreApart : Bool → ℕ → List Seen → List Seen → Type 0
+AreApart every link seen last =
+    (other : ℕ) → (link ≡ other → ⊥) → (r : Repeats) → StandsFor other (kept every seen) r
+    → StandsFor other (kept every last) r
+
+-- these commands were obeyed, the last of them on this link, and captured
+pub record IsCapturedThere (every : Bool) (first : Playing) (commands : List PlainGroupSaid)
+    (now : Playing) (printed : Option (List ℕ)) (all : List (List ℕ)) (link : ℕ)
+    (seen : List Seen) (old new : Option (List ℕ)) (l : LinkSeen) : Type 0 where
+  pub came : List ℕ
+  pub last : List Seen
+  pub goes : Goes first commands now printed (slice_set all link came) last
+  pub capturing : IsCapturing link every came last old new l
+  pub apart : AreApart every link seen last

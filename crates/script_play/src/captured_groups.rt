@@ -1,5 +1,5 @@
 //! Link sets' scripts as they run, with a capture.
-ghost use Rattle.std.specs.Prelude.{◌≡◌, ◌⊎◌, ◌<◌, ◌^◌, ◌++◌, ◌∷◌, [], ℕ, Bool, List, Option, None, Some, map, length, slice_get, slice_set, IfOk, OnOk, IfSome, true, false};
+ghost use Rattle.std.specs.Prelude.{◌≡◌, ◌⊎◌, ◌<◌, ◌^◌, ◌++◌, ◌∷◌, [], ℕ, Bool, List, Option, None, Some, map, length, slice_get, IfOk, OnOk, IfSome, true, false};
 ghost use Rattle.std.specs.Io.KnownBytes.{Appends};
 ghost use Rattle.su_octets.specs.Whole.{IsWhole};
 ghost use Rattle.line_streams.specs.Records.{HEADER};
@@ -15,7 +15,7 @@ ghost use Rattle.script_seen.specs.GroupAnswers.{Playing};
 ghost use Rattle.script_seen.specs.GroupRuns.{playing_of, last_of, HasGivenOut, IsGroupRun, IsGroupWritten, IsGroupMissed, IsGroupMissedBy, IsOfNewSet};
 ghost use Rattle.script_seen.specs.TracedGroups.{books_of, clock_in};
 ghost use Rattle.script_play.specs.Captured.{Hears, IsCapturing};
-ghost use Rattle.script_play.specs.CapturedSets.{IsComing, is_noted, SendsOn, Goes, AreHeard, IsSetCapturing, IsSetCaptured, IsSetCapturedInPart};
+ghost use Rattle.script_play.specs.CapturedSets.{IsComing, is_noted, SendsOn, Goes, AreHeard, IsCapturedThere, IsSetCapturing, IsSetCaptured, IsSetCapturedInPart};
 
 use crate::captured_terminals::line_of;
 use crate::capturing::{LinkSeen, begin, lost, time_of};
@@ -157,9 +157,8 @@ fn capture_there<T: Write, W: Write>(
     ensures captured { IfOk result (λ on. on ≡ true → (every : Bool) (p : Playing) (before : List PlainGroupSaid) (all : List (List ℕ)) (came : List ℕ) (seen : List OneSeen) (begun : Option (List ℕ))
         → Goes p before (playing_of player.old) (last_of player.old) all seen → slice_get all player.old.on ≡ Some came
         → IsCapturing player.old.on every came seen begun (T.contents out.old) link.old
-        → (more : List ℕ) × (last : List OneSeen)
-        × Goes p (before ++ plain_group_said said.now ∷ []) (playing_of player.new) (last_of player.new) (slice_set all player.old.on more) last
-        × IsCapturing player.old.on every more last begun (T.contents out.new) link.new) }
+        → IsCapturedThere every p (before ++ plain_group_said said.now ∷ []) (playing_of player.new) (last_of player.new) all player.old.on seen begun
+        (T.contents out.new) link.new) }
     ensures uncaptured { IfOk result (λ on. on ≡ false → T.contents out.new ≡ T.contents out.old) }
 {
     let at = time_of(clock_of(player))?;
