@@ -181,7 +181,10 @@ struct CommandLine {
 /// Reads the command line.
 ///
 /// A file that is opened takes the least number that is free. So that none takes that of a standard stream that is closed, three are taken first.
-fn start<R: Runtime + AllocGlobal, H: Files<File = File>>(rt: &R, host: &H) -> io::Result<CommandLine> {
+fn start<R: Runtime + AllocGlobal, H: Files<File = File>>(
+    rt: &R,
+    host: &H,
+) -> io::Result<CommandLine> {
     let _first = fs::open(host, CLOSED)?;
     let _second = fs::open(host, CLOSED)?;
     let _third = fs::open(host, CLOSED)?;

@@ -208,31 +208,13 @@ fn play_on<H: Eprint, S: Read + Drop, T: Read + Drop, F: Write, W: Write>(
     let (echo, every, turns) = (watch.echo, watch.every, watch.turns);
     let mut errors = teller.errors();
     if echo {
-        return play(
-            alloc,
-            set,
-            usual,
-            name,
-            script,
-            echo,
-            writer,
-            &mut errors,
-        );
+        return play(alloc, set, usual, name, script, echo, writer, &mut errors);
     }
     match &mut watch.sight {
         Some(Seen { sight, out }) => see_on(
             alloc, teller, set, named, name, script, *sight, every, turns, out, writer,
         ),
-        None => play(
-            alloc,
-            set,
-            usual,
-            name,
-            script,
-            echo,
-            writer,
-            &mut errors,
-        ),
+        None => play(alloc, set, usual, name, script, echo, writer, &mut errors),
     }
 }
 

@@ -7,7 +7,12 @@ use clap::{Arg, ArgAction, Command};
 use std::alloc::Global;
 
 /// A command without words, with what its help says before them and behind them.
-pub(crate) fn bare_command<'a>(alloc: Global, name: &'a str, about: &'a str, after: &'a str) -> Command<'a>
+pub(crate) fn bare_command<'a>(
+    alloc: Global,
+    name: &'a str,
+    about: &'a str,
+    after: &'a str,
+) -> Command<'a>
     ensures { IsCommand (new_app name.entry.now) result }
 {
     Command::new(alloc, name).about(about).after_help(after)
@@ -22,7 +27,12 @@ pub(crate) fn plain_word<'a>(alloc: Global, id: &'a str, help: &'a str) -> Arg<'
 }
 
 /// An option with a word behind it.
-pub(crate) fn option_word<'a>(alloc: Global, name: &'a str, value: &'a str, help: &'a str) -> Arg<'a>
+pub(crate) fn option_word<'a>(
+    alloc: Global,
+    name: &'a str,
+    value: &'a str,
+    help: &'a str,
+) -> Arg<'a>
     ensures rule { rule_of result ≡ option_word name.entry.now }
     ensures local { result.global ≡ false }
 {

@@ -175,11 +175,11 @@ branch_lines text xs a number place (n ∷ ns) =
 
 -- a DECISION's number is how many stand before it in the text
 abbrev pub number_in : List Asked → Asked → ℕ
-number_in as a = count_by (λ (b : Asked). nat_lt b.at a.at) as
+number_in asks a = count_by (λ (b : Asked). nat_lt b.at a.at) asks
 
 abbrev pub branches_text : List ℕ → List Taken → List Asked → List ℕ
-branches_text text xs as =
-    flat_map (λ (a : Asked). branch_lines text xs a (number_in as a) 0 (takings xs a)) as
+branches_text text xs asks =
+    flat_map (λ (a : Asked). branch_lines text xs a (number_in asks a) 0 (takings xs a)) asks
 
 -- how often a line was taken: as what was taken most of what begins on it
 abbrev pub line_times : List ℕ → List Taken → ℕ → List ℕ → ℕ
@@ -214,10 +214,10 @@ all_asked ps = flat_map (λ p. flat_map asked_in (texts_of p)) ps
 
 -- what was taken of the text of a block, in a file of this name
 abbrev pub report_text : List ℕ → List ℕ → List Row → List Taken → List Asked → List ℕ → List ℕ
-report_text name text rows xs as places =
+report_text name text rows xs asks places =
     codes "TN:scripts\nSF:" ++ name ++ codes "\n" ++ rows_text text rows
-    ++ branches_text text xs as ++ codes "BRF:" ++ decimal (length (flat_map (takings xs) as))
-    ++ codes "\nBRH:" ++ decimal (count_by (nat_lt 0) (flat_map (takings xs) as)) ++ codes "\n"
+    ++ branches_text text xs asks ++ codes "BRF:" ++ decimal (length (flat_map (takings xs) asks))
+    ++ codes "\nBRH:" ++ decimal (count_by (nat_lt 0) (flat_map (takings xs) asks)) ++ codes "\n"
     ++ lines_text text xs places ++ codes "end_of_record\n"
 
 abbrev pub lcov_text : List ℕ → List ℕ → PlainBlock → List TurnEnd → List ℕ

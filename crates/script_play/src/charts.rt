@@ -9,7 +9,8 @@ ghost use Rattle.script_play.specs.Charted.{time_text, head_of, row_text, is_in,
 ghost use Rattle.turn_code.specs.declared.effect.Effect.TheVariants.{Output};
 
 use crate::chart_rows::{
-    is_arc, push_actor_quoted, push_box, push_came, push_outputs, push_time, push_timers, receiver_of,
+    is_arc, push_actor_quoted, push_box, push_came, push_outputs, push_time, push_timers,
+    receiver_of,
 };
 use script_seen::{ActorName, Ended, is_dull, loss_at, push_number};
 use std::alloc::{AllocError, Global};

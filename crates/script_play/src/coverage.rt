@@ -132,7 +132,9 @@ impl Taken {
     fn number(&self, process: ProcessNumber, place: Place, input: usize) -> Option<usize>
         ensures { result ≡ position (λ (t : Known). is_known t process.0 place input) self.now.turns.items }
     {
-        self.turns.iter().position(|it| it.is_of(process, place, input))
+        self.turns
+            .iter()
+            .position(|it| it.is_of(process, place, input))
     }
 
     /// A transition has one turn more.
@@ -212,12 +214,7 @@ impl Taken {
     }
 
     /// What a turn takes of the text of its process, of which these are the inputs of each state.
-    fn take_text(
-        &mut self,
-        process: &ProcessTable<'_>,
-        inputs: &[Vec<InputRow<'_>>],
-        job: &Job,
-    )
+    fn take_text(&mut self, process: &ProcessTable<'_>, inputs: &[Vec<InputRow<'_>>], job: &Job)
         ensures counts { (c : Scope) (xs : List OneTaken) → c.process ≡ process_of process.now → map rows_inputs inputs.now ≡ inputs_by_state (process_of process.now)
             → MeansEnded c job.now → Counts xs self.old → Counts (xs ++ taken_at c job.now.place job.now.input_number job.now.input) self.new }
         ensures turns { self.new.turns ≡ self.old.turns }

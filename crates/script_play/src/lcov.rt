@@ -136,7 +136,11 @@ impl Report {
         for branch in &self.branches {
             self.push_branch(alloc, text, lines, branch)?;
         }
-        let hit = self.branches.iter().filter(|branch| 0 < branch.times).count();
+        let hit = self
+            .branches
+            .iter()
+            .filter(|branch| 0 < branch.times)
+            .count();
         push_numbers(alloc, text, "BRF:", &[self.branches.len() as u64])?;
         push_numbers(alloc, text, "BRH:", &[hit as u64])
     }

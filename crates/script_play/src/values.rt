@@ -180,9 +180,7 @@ fn has_number(range: &Range, number: i32) -> bool
             constant,
             ..
         } => stands(relation_of(*relation), number, integer_in(constant.value)),
-        Range::Between(low, high) => {
-            lies(number, integer_in(low.value), integer_in(high.value))
-        }
+        Range::Between(low, high) => { lies(number, integer_in(low.value), integer_in(high.value)) }
     }
 }
 

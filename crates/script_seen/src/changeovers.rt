@@ -9,8 +9,7 @@ use crate::tracing::lost;
 use script_group::{Kind, read_changeover};
 use script_links::octets_in;
 use std::alloc::{AllocError, Global};
-use std::io;
-use std::str;
+use std::{io, str};
 
 /// A heading, and the link of which a message speaks.
 fn push_heading(
@@ -34,12 +33,7 @@ fn push_accepted(alloc: Global, line: &mut Vec<u8>, number: u8) -> Result<(), Al
 }
 
 /// What a message says of a link: its heading, the link, and the number of the message that was accepted last there.
-fn push_kind(
-    alloc: Global,
-    line: &mut Vec<u8>,
-    kind: Kind,
-    link: u8,
-) -> Result<(), AllocError>
+fn push_kind(alloc: Global, line: &mut Vec<u8>, kind: Kind, link: u8) -> Result<(), AllocError>
     ensures { OnOk result (line.new.items ≡ line.old.items ++ kind_text kind link) }
 {
     match kind {

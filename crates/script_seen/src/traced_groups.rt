@@ -126,12 +126,7 @@ fn clock_of(player: &GroupPlayer) -> u64
 }
 
 /// What the line that was printed last says of a changeover.
-fn tell_said<T: Write>(
-    alloc: Global,
-    clock: u64,
-    line: &[u8],
-    trace: &mut T,
-) -> io::Result<()>
+fn tell_said<T: Write>(alloc: Global, clock: u64, line: &[u8], trace: &mut T) -> io::Result<()>
     ensures { OnOk result ((said : List ℕ) × IsSaidTold clock line.now said × Appends (T.contents trace.old) (T.contents trace.new) said) }
 {
     let octets = said_octets(alloc, line)?;
@@ -405,9 +400,7 @@ pub fn trace_group<W: Write, T: Write>(
     match open_group(alloc, set, limits, script.head) {
         Ok(player) => {
             let mut player = player;
-            let status = trace_all(
-                alloc, set, &mut player, script, text, every, trace, writer,
-            );
+            let status = trace_all(alloc, set, &mut player, script, text, every, trace, writer);
             end_player(player);
             status
         }
