@@ -195,8 +195,9 @@ fn speak_traced<H: Files<File = File> + Threads + Eprint + Clock + AllocGlobal, 
         Ok(trace) => trace,
         Err(error) => return teller.fail(path, &error),
     };
-    let Ok(tracer) = open_tracer(alloc, terminal.book().set(), end.every) else {
-        return FAILED;
+    let tracer = match open_tracer(alloc, terminal.book().set(), end.every) {
+        Ok(tracer) => tracer,
+        Err(_) => return FAILED,
     };
     let mut desk = traced_desk(alloc, terminal, tracer, trace, orders, reports);
     let served = serve_traced(alloc, end, &mut desk, reader, writer);
