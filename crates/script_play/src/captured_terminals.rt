@@ -218,6 +218,31 @@ fn capture_on<T: Write, W: Write>(
     Ok(status)
 }
 
+/// The same. Gives the exit status, 4 where memory or a write fails.
+fn capture_new<T: Write, W: Write>(
+    alloc: Global,
+    terminal: Terminal,
+    script: &TermScript<'_>,
+    every: bool,
+    out: &mut T,
+    writer: &mut W,
+) -> u8
+    ensures held { result ≡ 0
+        → IsTermWritten (map plain_term_said script.now.commands.items) (W.contents writer.old) (W.contents writer.new) terminal }
+    ensures missed { result ≡ 1
+        → IsTermFailed (map plain_term_said script.now.commands.items) (W.contents writer.old) (W.contents writer.new) terminal }
+    ensures captured { result ≡ 0
+        → IsCaptured every (asks_told (map plain_term_said script.now.commands.items)) terminal (map plain_term_said script.now.commands.items) (T.contents out.old) (T.contents out.new) }
+    ensures in_part { result ≡ 1
+        → IsCapturedInPart every (asks_told (map plain_term_said script.now.commands.items)) terminal (map plain_term_said script.now.commands.items) (T.contents out.old) (T.contents out.new) }
+    ensures status { (result ≡ 0) ⊎ (result ≡ 1) ⊎ (result ≡ 4) }
+{
+    match capture_on(alloc, terminal, script, every, out, writer) {
+        Ok(status) => status,
+        Err(_) => FAILED,
+    }
+}
+
 /// Runs a terminal's script on a terminal over a set, as `play_terminal` does, and captures its link.
 ///
 /// Gives the exit status: 0 where each command ran and all was written, 1 after `failed line N` where an expectation failed, 2 after
@@ -246,10 +271,7 @@ pub(crate) fn capture_terminal<T: Write, W: Write>(
 {
     let limits = script.head.limits_over(usual);
     match Terminal::of_set_within(alloc, limits, script.head.mode, set) {
-        Ok(terminal) => match capture_on(alloc, terminal, script, every, out, writer) {
-            Ok(status) => status,
-            Err(_) => FAILED,
-        },
+        Ok(terminal) => capture_new(alloc, terminal, script, every, out, writer),
         Err(error) => refuse_set(alloc, writer, error),
     }
 }
