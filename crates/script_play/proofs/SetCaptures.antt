@@ -5,15 +5,19 @@ use Rattle.std.specs.Io.KnownBytes.{Appends}
 use Rattle.std.proofs.KnownBytes.{Appends-nil}
 use Rattle.std.proofs.lemmas.Option.{none-some, same_Some}
 use Rattle.line_streams.specs.Capturing.{capture_of}
+use Rattle.line_streams.specs.Records.{HEADER}
 use Rattle.line_streams.specs.Repeats.{kept, StandsFor}
 use Rattle.line_streams.specs.declared.seen.Seen.{Seen}
 use Rattle.script_links.specs.GroupCommands.{PlainGroupCommand}
 use Rattle.script_links.specs.GroupCommands as group
-use Rattle.script_links.specs.GroupScripts.{PlainGroupSaid}
+use Rattle.script_links.specs.GroupScripts.{PlainGroupSaid, plain_group_said}
+use Rattle.script_links.specs.declared.group_script.GroupSaid.{GroupSaid}
 use Rattle.script_seen.specs.GroupAnswers.{Playing, Obeys}
-use Rattle.script_seen.specs.GroupRuns.{HasObeyed, was_met, was_done}
+use Rattle.script_seen.specs.GroupRuns.{begins as group_begins, IsGroupRun, IsGroupMissedBy, HasObeyed, was_met, was_done}
+use Rattle.script_seen.specs.TracedGroups.{books_of}
+use Rattle.script_seen.proofs.Showings.{one_more, parts_at, all_taken}
 use Rattle.script_play.specs.Captured.{Hears, IsHeard, IsCapturing}
-use Rattle.script_play.specs.CapturedSets.{IsComing, is_noted, set_time, Goes, comes_in, is_nowhere, holds, AreHeard, none, more, AreApart, IsCapturedThere, IsSetCapturing}
+use Rattle.script_play.specs.CapturedSets.{IsComing, is_noted, set_time, Goes, begins, comes_in, is_nowhere, holds, AreHeard, none, more, AreApart, IsCapturedThere, IsSetCapturing, IsSetCaptured, IsSetCapturedInPart}
 use Rattle.script_play.specs.declared.capturing.LinkSeen.{LinkSeen}
 use Rattle.script_play.proofs.OtherLinks.{heard_apart, known_still, one_known}
 
@@ -91,4 +95,81 @@ nowhere_captured every first before said begun old from to now next last printed
       goes = subst G (sym has.latest_is) (is_nowhere said lines next (omega (arith, beyond, as_many)) so_far.goes obeys);
       heard = so_far.heard;
       written = so_far.written;
+    }
+
+-- ---- a list of commands
+
+-- how far the run of a list of commands came
+pub record SetGoing (p : Playing) (commands : List PlainGroupSaid) (last from to begun now : Option (List ℕ)) (q : Playing) (printed : Option (List ℕ))
+    (ks ms : List LinkSeen) : Type 0 where
+  pub run : last ≡ None → IsGroupRun p commands from to q printed
+  pub captured : last ≡ None → (every : Bool) (start : Option (List ℕ)) → AreHeard every [] 0 (map (λ b. []) (books_of p)) ks → Appends start begun HEADER
+      → IsSetCapturing every p commands start now q printed ms
+
+run_begins : (p : Playing) (old last : Option (List ℕ)) → last ≡ None → IsGroupRun p [] old old p last
+run_begins p old last none_is =
+    let P : Option (List ℕ) → Type 0 = λ l. IsGroupRun p [] old old p l in
+    subst P (sym none_is) (record { lines = []; goes = group_begins; written = Appends-nil old })
+
+capture_begins : (every : Bool) (p : Playing) (start old last : Option (List ℕ)) (ks : List LinkSeen) → last ≡ None → AreHeard every [] 0 (map (λ b. []) (books_of p)) ks
+    → Appends start old HEADER → IsSetCapturing every p [] start old p last ks
+capture_begins every p start old last ks none_is heard header =
+    let A : List ℕ → Type 0 = λ bs. Appends start old bs in
+    let P : Option (List ℕ) → Type 0 = λ x. IsSetCapturing every p [] start old p x ks in
+    subst P (sym none_is) (record {
+      came = map (λ b. []) (books_of p);
+      seen = [];
+      goes = begins;
+      heard = heard;
+      written = subst A (sym (append-nil HEADER)) header;
+    })
+
+pub set_begins : (p : Playing) (last from begun : Option (List ℕ)) (ks : List LinkSeen) → SetGoing p [] last from from begun begun p last ks ks
+set_begins p last from begun ks = record {
+  run = λ none_is. run_begins p from last none_is;
+  captured = λ none_is every start heard header. capture_begins every p start begun last ks none_is heard header;
+}
+
+-- one command more of a list
+pub set_goes_on : (p : Playing) (items : List GroupSaid) (i : ℕ) (x : GroupSaid) (last from to begun now : Option (List ℕ)) (q : Playing) (printed : Option (List ℕ))
+    (ks ms : List LinkSeen) → i < length items → x ≡ get_or items i x
+    → SetGoing p (map plain_group_said (take i items) ++ plain_group_said x ∷ []) last from to begun now q printed ks ms
+    → SetGoing p (map plain_group_said (take (i + 1) items)) last from to begun now q printed ks ms
+set_goes_on p items i x last from to begun now q printed ks ms within is s =
+    let P : List PlainGroupSaid → Type 0 = λ commands. SetGoing p commands last from to begun now q printed ks ms in
+    subst P (one_more plain_group_said items i x within is) s
+
+-- all commands of a list
+pub set_gone : (p : Playing) (items : List GroupSaid) (i : ℕ) (last from to begun now : Option (List ℕ)) (q : Playing) (printed : Option (List ℕ))
+    (ks ms : List LinkSeen) → length items ≤ i → SetGoing p (map plain_group_said (take i items)) last from to begun now q printed ks ms
+    → SetGoing p (map plain_group_said items) last from to begun now q printed ks ms
+set_gone p items i last from to begun now q printed ks ms over s =
+    let P : List PlainGroupSaid → Type 0 = λ commands. SetGoing p commands last from to begun now q printed ks ms in
+    subst P (all_taken plain_group_said items i over) s
+
+pub set_captured_all : (every : Bool) (p : Playing) (commands : List PlainGroupSaid) (start new : Option (List ℕ)) (q : Playing) (printed : Option (List ℕ))
+    (ms : List LinkSeen) → IsSetCapturing every p commands start new q printed ms → IsSetCaptured every commands start new p
+set_captured_all every p commands start new q printed ms c =
+    record { now = q; printed = printed; came = c.came; seen = c.seen; goes = c.goes; written = c.written }
+
+-- an expectation of a list that fails
+pub set_captured_part : (every : Bool) (p : Playing) (items : List GroupSaid) (i : ℕ) (x : GroupSaid) (start now new : Option (List ℕ)) (q : Playing)
+    (last middle to : Option (List ℕ)) (ms : List LinkSeen) → i < length items → x ≡ get_or items i x → new ≡ now → IsGroupMissedBy (plain_group_said x) last middle to
+    → IsSetCapturing every p (map plain_group_said (take i items)) start now q last ms → IsSetCapturedInPart every (map plain_group_said items) start new p
+set_captured_part every p items i x start now new q last middle to ms within is same missed c =
+    let W : Option (List ℕ) → Type 0 = λ w. Appends start w (capture_of every c.seen) in
+    record {
+      before = map plain_group_said (take i items);
+      said = plain_group_said x;
+      after = map plain_group_said (drop (i + 1) items);
+      stands = parts_at plain_group_said items i x within is;
+      now = q;
+      printed = last;
+      came = c.came;
+      seen = c.seen;
+      goes = c.goes;
+      written = subst W (sym same) c.written;
+      text = missed.text;
+      expects = missed.expects;
+      other = missed.other;
     }
