@@ -27,8 +27,8 @@ pub data IsToGo (lost : ℕ) (line : List ℕ) : List ℕ → Type 0 where
   alone : {text : List ℕ} → lost ≡ 0 → text ≡ line → IsToGo lost line text
   with_loss : {text : List ℕ} → 0 < lost → IsLossTold lost line text → IsToGo lost line text
 
--- Where reports are told: all of them, and what was told is known or not; or lines may be lost: what
--- went on, and how many lines were lost since.
+-- Where reports are told: all of them, and what was told is known or not; or lines may be lost:
+-- what went on, and how many lines were lost since.
 pub data Stand : Type 0 where
   whole : Option (List ℕ) → Stand
   lossy : List ℕ → ℕ → Stand
