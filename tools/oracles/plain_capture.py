@@ -2,6 +2,7 @@
 """A capture of a line, worked out plainly and apart from the program: to hold `mtp2_play line --capture` against.
 
 usage: tools/oracles/plain_capture.py CAME WENT [--ahead N] [--bits high] [--every]      writes the capture of octets that came in and of octets that went out
+       tools/oracles/plain_capture.py --script SET SCRIPT [--every]                      writes the capture of a script of a terminal or of a link set
        tools/oracles/plain_capture.py --read FILE                                        prints a line for each record of a capture"""
 import argparse
 import pathlib
@@ -10,6 +11,8 @@ import sys
 
 sys.path += map(str, pathlib.Path(__file__).resolve().parents[1].glob("*"))
 
+import plain_group
+import plain_term
 from plain_units import FLAG, bits_of, decoded, octets_of, stuffed
 
 HEADER = struct.pack("<IHHiIII", 0xA1B2C3D4, 2, 4, 0, 0, 65535, 139)
@@ -78,6 +81,111 @@ def capture(came, went, every=False, link=0):
     return HEADER + b"".join(struct.pack("<IIII", *divmod(at, 1_000_000), len(it), len(it)) + it for at, it in packets)
 
 
+# Scripts.
+
+
+class Line:
+    """What is seen of one link as a script runs: the octets that came, each with its place among all that is seen and its tick."""
+
+    def __init__(self):
+        self.came, self.stamps = bytearray(), []
+
+
+class Watch:
+    """What is seen of all links as a script runs."""
+
+    def __init__(self):
+        self.lines, self.went, self.place = {}, [], 0
+
+    def stamp(self, clock):
+        self.place += 1
+        return self.place, clock
+
+    def hear(self, link, clock, octets):
+        line = self.lines.setdefault(link, Line())
+        for octet in octets:
+            line.came.append(octet)
+            line.stamps.append(self.stamp(clock))
+
+    def send(self, link, clock, unit):
+        self.went.append((*self.stamp(clock), 1, link, unit))
+
+    def seen(self):
+        """Each unit in the order in which it was seen: the tick, the way, the link and its octets."""
+        came = [(*line.stamps[place], 0, link, unit) for link, line in self.lines.items() for place, unit in units(bytes(line.came))]
+        return [it[1:] for it in sorted(self.went + came, key=lambda it: it[0])]
+
+
+def octets_of_line(text, message):
+    """The octets, without check octets, of a unit that went out, by its printed line and its message."""
+    words = text.split(" ")
+    bsn, bib, fsn, fib = (int(words[at]) for at in (2, 4, 6, 8))
+    head = [bsn + 128 * bib, fsn + 128 * fib]
+    if words[0] == "FISU":
+        body = b""
+    elif words[0] == "LSSU":
+        body = bytes([plain_term.STATUSES.index(words[10])])
+    else:
+        body = bytes(message)
+    return bytes([*head, min(len(body), 63)]) + body
+
+
+def of_links(records, every):
+    """The packets that are recorded, each link by its own rule."""
+    kept_of = {}
+    for place, (clock, way, link, unit) in enumerate(records):
+        kept_of.setdefault(link, []).append((place, way, unit))
+    chosen = {it[0] for link, mine in kept_of.items() for it in (mine if every else kept(mine))}
+    return [it for place, it in enumerate(records) if place in chosen]
+
+
+def script_capture(text, script, every=False, say=lambda line: None, usual=()):
+    """The capture of a script on a text, and the status; with these N1 and N2 where it says none."""
+    watch = Watch()
+    base_in, base_out = plain_term.Terminal.line_in, plain_term.Terminal.unit_out
+    links = []
+
+    def link_of(terminal):
+        if terminal not in links:
+            links.append(terminal)
+        return links.index(terminal)
+
+    def line_in(terminal, octets):
+        taken = base_in(terminal, octets)
+        watch.hear(link_of(terminal), terminal.book.clock, octets[:taken])
+        return taken
+
+    def unit_out(terminal):
+        sent, step = [], terminal.sender.next_unit
+
+        def next_unit():
+            sent.append(step())
+            return sent[-1]
+
+        terminal.sender.next_unit, clock = next_unit, terminal.book.clock
+        try:
+            line = base_out(terminal)
+        finally:
+            del terminal.sender.next_unit
+        if line is not None:
+            watch.send(link_of(terminal), clock, octets_of_line(line, sent[-1][2] if sent else None))
+        return line
+
+    made = plain_term.Terminal.__init__
+
+    def make(terminal, *given):
+        made(terminal, *given)
+        link_of(terminal)
+
+    plain_term.Terminal.line_in, plain_term.Terminal.unit_out, plain_term.Terminal.__init__ = line_in, unit_out, make
+    try:
+        status = plain_group.play_text(text, script, say, usual)
+    finally:
+        plain_term.Terminal.line_in, plain_term.Terminal.unit_out, plain_term.Terminal.__init__ = base_in, base_out, made
+    packets = [(1000 * clock, struct.pack(">BBH", way, 0, link) + unit) for clock, way, link, unit in of_links(watch.seen(), every)]
+    return HEADER + b"".join(struct.pack("<IIII", *divmod(at, 1_000_000), len(it), len(it)) + it for at, it in packets), status
+
+
 def read(octets):
     """The records of a capture: time, way, link and unit."""
     if octets[:24] != HEADER:
@@ -98,6 +206,10 @@ def main(words):
         for at, way, link, unit in read(pathlib.Path(words[1]).read_bytes()):
             print(f"{at / 1_000_000:.6f} {'Sent' if way else 'Received'} {link} {unit.hex().upper()}")
         return 0
+    if words[:1] == ["--script"] and len(words) in (3, 4):
+        found, status = script_capture(plain_term.text_of(words[1]).encode(), pathlib.Path(words[2]).read_bytes(), "--every" in words, usual=plain_term.USUAL.get(words[1], ()))
+        sys.stdout.buffer.write(found)
+        return status
     given = argparse.ArgumentParser()
     given.add_argument("came"), given.add_argument("went")
     given.add_argument("--ahead", type=int, default=0)

@@ -22,5 +22,6 @@ pub use laws::what_goes_out_was_said;
 pub use orders::{NoOrders, Orders};
 pub use reports::Reports;
 pub use stream::LineOrders;
+pub use su_octets::Unit;
 pub use terminal::{Answer, LineTerminal};
 pub use voice::Voice;

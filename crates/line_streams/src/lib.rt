@@ -14,8 +14,10 @@ mod seen;
 mod taps;
 
 pub use arrivals::Arrivals;
+pub use bit_line::Deframer;
 pub use capture::{Capture, Kept};
 pub use departures::Departures;
+pub use ended::ended;
 pub use opening::{OrderStream, ReportStream, open_orders, open_reports};
 pub use outlet::Outlet;
 pub use records::{RecordStream, open_records};

@@ -1,6 +1,7 @@
 mod Failing
 mod InTurn
 mod Known
+mod Mapped
 mod Serving
 mod Speaking
 mod Written

@@ -1,6 +1,6 @@
 //! What of a run is to be seen beside its replies.
 ghost use Rattle.std.specs.Prelude.{◌≡◌, IfSome, IsNone, option_map, count_by};
-ghost use Rattle.mtp2_words.specs.Seeing.{IsSight, asked_of, both_turns, turns_of, turns_said, IsSeenBy, IsNoSeeing};
+ghost use Rattle.mtp2_words.specs.Seeing.{IsSight, IsLaterSight, asked_of, both_turns, turns_of, turns_said, IsSeenBy, IsNoSeeing};
 
 use script_links::count;
 
@@ -11,8 +11,12 @@ pub enum Sight<'a> {
     Trace(&'a str),
     /// A chart of the turns.
     Chart(&'a str),
+    /// What of the set's text was taken.
+    Coverage(&'a str),
     /// Which signals and timers were thrown away.
     Thrown(&'a str),
+    /// The units that go out and come in.
+    Capture(&'a str),
 }
 
 /// Which turns are drawn, by their numbers.
@@ -37,7 +41,7 @@ pub struct Seeing<'a> {
     pub echo: bool,
     /// What goes to a file; nothing, where nothing is said.
     pub sight: Option<Sight<'a>>,
-    /// Whether what has no effect is traced too.
+    /// Whether what has no effect is traced too, and every unit captured.
     pub every: bool,
     /// Which turns are drawn.
     pub turns: Turns,
@@ -54,9 +58,13 @@ pub struct SeeingWords<'a> {
     pub chart: Option<&'a str>,
     /// Two numbers with two dots between them: which turns are drawn, all where nothing is said.
     pub turns: Option<&'a str>,
+    /// A file or a FIFO for what of the text was taken.
+    pub coverage: Option<&'a str>,
     /// A file or a FIFO for what was thrown away.
     pub thrown: Option<&'a str>,
-    /// Whether what has no effect is asked for.
+    /// A file or a FIFO for a capture.
+    pub capture: Option<&'a str>,
+    /// Whether what has no effect is asked for, and every unit.
     pub every: bool,
 }
 
@@ -75,8 +83,26 @@ fn asked(words: &SeeingWords<'_>) -> usize
         words.echo,
         words.trace.is_some(),
         words.chart.is_some(),
+        words.coverage.is_some(),
         words.thrown.is_some(),
+        words.capture.is_some(),
     ])
+}
+
+/// What goes to a file of what is told at the end of a run, or captured, where at most one thing is to.
+fn later_sight<'a>(words: &SeeingWords<'a>) -> Option<Sight<'a>>
+    ensures { IsLaterSight words.now result }
+{
+    match words.coverage {
+        Some(path) => Some(Sight::Coverage(path)),
+        None => match words.thrown {
+            Some(path) => Some(Sight::Thrown(path)),
+            None => match words.capture {
+                Some(path) => Some(Sight::Capture(path)),
+                None => None,
+            },
+        },
+    }
 }
 
 /// What goes to a file, where at most one thing is to.
@@ -87,10 +113,7 @@ fn sight_of<'a>(words: &SeeingWords<'a>) -> Option<Sight<'a>>
         Some(path) => Some(Sight::Trace(path)),
         None => match words.chart {
             Some(path) => Some(Sight::Chart(path)),
-            None => match words.thrown {
-                Some(path) => Some(Sight::Thrown(path)),
-                None => None,
-            },
+            None => later_sight(words),
         },
     }
 }

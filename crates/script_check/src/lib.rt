@@ -7,5 +7,5 @@ mod sets;
 
 pub use checking::{check, refuse_set, tell_refusal, write_refusal};
 pub use plain_text::{FAILED, HELD, REFUSED, USAGE, refuse, write_line};
-pub use script_point::{in_front, standard};
-pub use sets::{Refusal, SetFault, SetWord, find_set, load_set};
+pub use script_point::{MONITORS, Q703, STANDARD, in_front, standard};
+pub use sets::{Refusal, SetFault, SetWord, find_in, find_set, load_set};

@@ -14,7 +14,7 @@ use Rattle.resend_store.specs.declared.messages.RoundLimits.{RoundLimits}
 use Rattle.link_group.specs.Set.{LinkSet}
 use Rattle.link_group.specs.New.{new_set}
 use Rattle.script_links.specs.declared.heads.GroupHead.{GroupHead}
-use Rattle.script_links.specs.GroupCommands.{expected}
+use Rattle.script_links.specs.GroupCommands.{PlainGroupCommand, expected}
 use Rattle.script_links.specs.GroupScripts.{PlainGroupSaid}
 use Rattle.script_terminal.specs.Lines.{line_of}
 use Rattle.script_terminal.specs.Played.{last_in, Misses}
@@ -99,6 +99,15 @@ playing_of p = at p.group p.retrievals p.on
 
 abbrev pub last_of : GroupPlayer → Option (List ℕ)
 last_of p = last_in p.printer
+
+-- a command was obeyed: an expectation that holds, for which nothing happens, or another one, whose
+-- lines were printed behind what was there
+pub data HasObeyed (c : PlainGroupCommand) (old new last next : Option (List ℕ)) (p q : Playing) :
+    Type 0 where
+  was_met : (text : List ℕ) → c ≡ expected text → last ≡ Some text → next ≡ last → new ≡ old
+      → q ≡ p → HasObeyed c old new last next p q
+  was_done : (lines : List (List ℕ)) → Obeys c p lines q → HasPrinted old new last next lines
+      → HasObeyed c old new last next p q
 
 -- a unit was asked of a link, and its line printed, or `silent`
 pub record HasGone (went : Bool) (l : ℕ) (old new last next : Option (List ℕ)) (c d : LinkSet) :

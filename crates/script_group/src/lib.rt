@@ -13,11 +13,13 @@ mod retrievals;
 mod saying;
 mod shown;
 
+pub use group_changeover::{Kind, read_changeover};
 pub use link_group::Terminal;
 pub use opened::{end_player, open_group};
 pub use player::GroupPlayer;
 pub use playing::play_group;
 pub use script_terminal::{
-    FAILED, HELD, MISSED, OpenError, Player, TermPlayer, asks_told, new_player, open_player,
-    play_book, play_terminal, refuse, refuse_set, write_line,
+    FAILED, HELD, MISSED, OpenError, Player, TermPlayer, asks_told, line_of_unit, new_player,
+    open_player, play_book, play_terminal, refuse, refuse_set, text_line, write_line,
 };
+pub use su_octets::{Unit, encode};

@@ -1,8 +1,9 @@
 //! A link set's script as it runs.
 ghost use Rattle.std.specs.Prelude.{◌≡◌, ◌⊎◌, ◌++◌, ◌∷◌, [], List, ℕ, Option, map, IfOk, true, false};
+ghost use Rattle.script_links.specs.GroupCommands.{plain_group_command};
 ghost use Rattle.script_links.specs.GroupScripts.{PlainGroupSaid, plain_group_said};
 ghost use Rattle.script_group.specs.GroupAnswers.{Playing};
-ghost use Rattle.script_group.specs.GroupRuns.{playing_of, last_of, IsGroupRun, IsGroupMissed, IsGroupMissedBy};
+ghost use Rattle.script_group.specs.GroupRuns.{playing_of, last_of, HasObeyed, IsGroupRun, IsGroupMissed, IsGroupMissedBy};
 
 use crate::answers::answer;
 use crate::outputs::give_out;
@@ -35,6 +36,8 @@ impl GroupPlayer {
         ensures goes { IfOk result (λ on. on ≡ true → (p : Playing) (before : List PlainGroupSaid) (first : Option (List ℕ))
             → IsGroupRun p before first (W.contents writer.old) (playing_of self.old) (last_of self.old)
             → IsGroupRun p (before ++ plain_group_said said.now ∷ []) first (W.contents writer.new) (playing_of self.new) (last_of self.new)) }
+        ensures obeyed { IfOk result (λ on. on ≡ true → HasObeyed (plain_group_command said.now.command) (W.contents writer.old) (W.contents writer.new)
+            (last_of self.old) (last_of self.new) (playing_of self.old) (playing_of self.new)) }
         ensures missed { IfOk result (λ on. on ≡ false
             → IsGroupMissedBy (plain_group_said said.now) (last_of self.old) (W.contents writer.old) (W.contents writer.new)) }
     {

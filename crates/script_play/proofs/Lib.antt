@@ -4,3 +4,7 @@ mod Throwing
 mod Charting
 mod Tellings
 pub mod Watching
+mod Capturings
+mod TermCaptures
+mod OtherLinks
+mod SetCaptures

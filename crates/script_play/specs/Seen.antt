@@ -1,23 +1,30 @@
 -- What the status of `play` says of what is told at the end of a run.
 use Rattle.std.specs.Prelude.{◌≡◌, ℕ, Bool, true, false, List, Option, Some, None, Result, Ok}
-use Rattle.std.specs.Prelude.{Err, IsUtf8}
+use Rattle.std.specs.Prelude.{Err, IfSome, IsUtf8}
 use Rattle.std.specs.Global.{Vec}
 use Rattle.std.specs.Io.KnownBytes.{Appends}
 use Rattle.turn_code.specs.declared.draft.Draft.{Draft}
+use Rattle.sdl_sound.specs.Plain.{PlainBlock}
+use Rattle.script_check.specs.Checked.{IsGiven, IsSetOf}
 use Rattle.script_seen.specs.resend_store_types.messages.RoundLimits.{RoundLimits}
 use Rattle.script_seen.specs.TermScripts.{PlainAnyScript, book, terminal, asks_told}
 use Rattle.script_seen.specs.GroupScripts.{PlainPlayScript, other, group, play_script_of}
 use Rattle.script_seen.specs.Played.{first_book}
+use Rattle.script_seen.specs.GroupRuns.{IsOfNewSet}
 use Rattle.script_seen.specs.TermRuns.{IsOfNew}
-use Rattle.script_seen.specs.Watched.{Notice}
+use Rattle.script_seen.specs.Watched.{Notice, turns_in}
 use Rattle.script_seen.specs.WatchedKinds.{IsBookWatched, IsBookWatchedInPart, IsTermWatched}
 use Rattle.script_seen.specs.WatchedKinds.{IsTermWatchedInPart}
 use Rattle.script_play.specs.Played.{IsObeyed, IsMissedIn, IsPlayed, IsPlayedInPart}
+use Rattle.script_play.specs.Captured.{IsCaptured, IsCapturedInPart}
+use Rattle.script_play.specs.CapturedSets.{IsSetCaptured, IsSetCapturedInPart}
 use Rattle.script_play.specs.Charted.{charted_of}
+use Rattle.script_play.specs.Lcov.{lcov_text}
 use Rattle.script_play.specs.Thrown.{thrown_of}
 use Rattle.script_play.specs.Traced.{IsPlayTraced, IsPlayTracedInPart}
 use Rattle.script_play.specs.declared.seeing.Wanted.{Wanted}
-use Rattle.script_play.specs.declared.seeing.Wanted.TheVariants.{Trace, AtEnd}
+use Rattle.script_play.specs.declared.seeing.Wanted.TheVariants.{Trace, Capture, AtEnd}
+use Rattle.script_play.specs.declared.seeing.Wanted.TheVariants.{Coverage}
 use Rattle.script_play.specs.declared.watching.Told.{Told}
 use Rattle.script_play.specs.declared.watching.Told.TheVariants.{Chart, Thrown}
 
@@ -77,6 +84,87 @@ abbrev pub Grew :
     → Type 0
 Grew tells d old new ns = Appends old new (tells d ns)
 
+-- ---- captures
+
+-- a terminal's script is captured; a book script has no units
+abbrev pub IsOtherCaptured :
+    RoundLimits → Bool → Draft → PlainAnyScript → Option (List ℕ) → Option (List ℕ) → Type 0
+IsOtherCaptured usual every d (book s) old new = ⊥
+IsOtherCaptured usual every d (terminal s) old new =
+    IsOfNew d usual s.head
+    (λ t. IsCaptured every (asks_told s.commands) t s.commands old new)
+
+-- so is one of a set of links
+abbrev pub AreCaptured :
+    RoundLimits → Bool → Draft → PlainPlayScript → Option (List ℕ) → Option (List ℕ) → Type 0
+AreCaptured usual every d (other s) old new = IsOtherCaptured usual every d s old new
+AreCaptured usual every d (group s) old new =
+    IsOfNewSet d usual s.head (IsSetCaptured every s.commands old new)
+
+-- up to an expectation that failed
+abbrev pub IsOtherCapturedInPart :
+    RoundLimits → Bool → Draft → PlainAnyScript → Option (List ℕ) → Option (List ℕ) → Type 0
+IsOtherCapturedInPart usual every d (book s) old new = ⊥
+IsOtherCapturedInPart usual every d (terminal s) old new =
+    IsOfNew d usual s.head
+    (λ t. IsCapturedInPart every (asks_told s.commands) t s.commands old new)
+
+abbrev pub AreCapturedInPart :
+    RoundLimits → Bool → Draft → PlainPlayScript → Option (List ℕ) → Option (List ℕ) → Type 0
+AreCapturedInPart usual every d (other s) old new = IsOtherCapturedInPart usual every d s old new
+AreCapturedInPart usual every d (group s) old new =
+    IsOfNewSet d usual s.head (IsSetCapturedInPart every s.commands old new)
+
+-- the bytes are a script, all of whose commands were obeyed, and whose links are captured
+pub record IsPlayCaptured (usual : RoundLimits) (every : Bool) (old new from to : Option (List ℕ))
+    (d : Draft) (bytes : List ℕ) : Type 0 where
+  pub utf8 : IsUtf8 bytes
+  pub script : PlainPlayScript
+  pub reads : play_script_of bytes ≡ Ok script
+  pub run : IsObeyed usual d script old new
+  pub captured : AreCaptured usual every d script from to
+
+-- so up to an expectation that failed
+pub record IsPlayCapturedInPart (usual : RoundLimits) (every : Bool)
+    (old new from to : Option (List ℕ)) (d : Draft) (bytes : List ℕ) : Type 0 where
+  pub utf8 : IsUtf8 bytes
+  pub script : PlainPlayScript
+  pub reads : play_script_of bytes ≡ Ok script
+  pub missed : IsMissedIn usual d script old new
+  pub captured : AreCapturedInPart usual every d script from to
+
+-- ---- on a text
+
+-- the bytes of the set are a text that is accepted, and P holds of these, of their block, of their
+-- set and of the bytes of the script
+pub record IsOnText (set script : Option (List ℕ))
+    (P : List ℕ → PlainBlock → Draft → List ℕ → Type 0) : Type 0 where
+  pub text : List ℕ
+  pub is_known : IfSome set (λ all. text ≡ all)
+  pub draft : Draft
+  pub is_set : IsSetOf text draft
+  pub of_script : IsGiven script (P text is_set.loaded.block draft)
+
+-- the bytes are a script that was run on the set of a text, which has these bytes where they are
+-- known; and what of that text was taken was written, in which its file has this name
+pub record IsCovered (name : List ℕ) (known : Option (List ℕ)) (usual : RoundLimits)
+    (old new from to : Option (List ℕ)) (d : Draft) (bytes : List ℕ) : Type 0 where
+  pub text : List ℕ
+  pub is_known : IfSome known (λ all. text ≡ all)
+  pub is_set : IsSetOf text d
+  pub told :
+      IsPlayTold usual old new
+      (λ ns. Appends from to (lcov_text name text is_set.loaded.block (turns_in ns))) d bytes
+
+pub record IsCoveredInPart (name : List ℕ) (known : Option (List ℕ)) (usual : RoundLimits)
+    (old new from to : Option (List ℕ)) (d : Draft) (bytes : List ℕ) : Type 0 where
+  pub text : List ℕ
+  pub is_known : IfSome known (λ all. text ≡ all)
+  pub is_set : IsSetOf text d
+  pub told :
+      IsPlayToldInPart usual old new
+      (λ ns. Appends from to (lcov_text name text is_set.loaded.block (turns_in ns))) d bytes
+
 -- ---- what is wanted of a run
 
 -- what is told of a run at its end, by all that was noticed
@@ -86,41 +174,49 @@ told_of Thrown d ns = thrown_of d ns
 
 -- the bytes are a script that was run, and what is wanted of that was written
 abbrev pub IsPlaySeen :
-    RoundLimits → Wanted → Option (List ℕ) → Option (List ℕ) → Option (List ℕ) → Option (List ℕ)
-    → Draft → List ℕ → Type 0
-IsPlaySeen usual (Trace every) old new from to d bytes =
+    List ℕ → Option (List ℕ) → RoundLimits → Wanted → Option (List ℕ) → Option (List ℕ)
+    → Option (List ℕ) → Option (List ℕ) → Draft → List ℕ → Type 0
+IsPlaySeen name known usual (Trace every) old new from to d bytes =
     IsPlayTraced usual every old new from to d bytes
-IsPlaySeen usual (AtEnd told) old new from to d bytes =
+IsPlaySeen name known usual (Capture every) old new from to d bytes =
+    IsPlayCaptured usual every old new from to d bytes
+IsPlaySeen name known usual (AtEnd told) old new from to d bytes =
     IsPlayTold usual old new (Grew (told_of told) d from to) d bytes
+IsPlaySeen name known usual Coverage old new from to d bytes =
+    IsCovered name known usual old new from to d bytes
 
 abbrev pub IsPlaySeenInPart :
-    RoundLimits → Wanted → Option (List ℕ) → Option (List ℕ) → Option (List ℕ) → Option (List ℕ)
-    → Draft → List ℕ → Type 0
-IsPlaySeenInPart usual (Trace every) old new from to d bytes =
+    List ℕ → Option (List ℕ) → RoundLimits → Wanted → Option (List ℕ) → Option (List ℕ)
+    → Option (List ℕ) → Option (List ℕ) → Draft → List ℕ → Type 0
+IsPlaySeenInPart name known usual (Trace every) old new from to d bytes =
     IsPlayTracedInPart usual every old new from to d bytes
-IsPlaySeenInPart usual (AtEnd told) old new from to d bytes =
+IsPlaySeenInPart name known usual (Capture every) old new from to d bytes =
+    IsPlayCapturedInPart usual every old new from to d bytes
+IsPlaySeenInPart name known usual (AtEnd told) old new from to d bytes =
     IsPlayToldInPart usual old new (Grew (told_of told) d from to) d bytes
+IsPlaySeenInPart name known usual Coverage old new from to d bytes =
+    IsCoveredInPart name known usual old new from to d bytes
 
 -- ---- with lines, with something in a file, or with neither
 
 -- A script was played as it is to be seen: with the lines of its commands, where that is asked for;
 -- else with what is wanted of it in a file, where there is one, which had this and now has that.
 abbrev pub IsWatched :
-    RoundLimits → Bool → Wanted → Option (List ℕ) → Option (List ℕ) → Option (Option (List ℕ))
+    List ℕ → Option (List ℕ) → RoundLimits → Bool → Wanted → Option (List ℕ) → Option (List ℕ) → Option (Option (List ℕ))
     → Option (Option (List ℕ)) → Draft → List ℕ → Type 0
-IsWatched usual true wanted old new begun now d bytes = IsPlayed usual true old new d bytes
-IsWatched usual false wanted old new None now d bytes = IsPlayed usual false old new d bytes
-IsWatched usual false wanted old new (Some begun) None d bytes = ⊥
-IsWatched usual false wanted old new (Some begun) (Some now) d bytes =
-    IsPlaySeen usual wanted old new begun now d bytes
+IsWatched name known usual true wanted old new begun now d bytes = IsPlayed usual true old new d bytes
+IsWatched name known usual false wanted old new None now d bytes = IsPlayed usual false old new d bytes
+IsWatched name known usual false wanted old new (Some begun) None d bytes = ⊥
+IsWatched name known usual false wanted old new (Some begun) (Some now) d bytes =
+    IsPlaySeen name known usual wanted old new begun now d bytes
 
 abbrev pub IsWatchedInPart :
-    RoundLimits → Bool → Wanted → Option (List ℕ) → Option (List ℕ) → Option (Option (List ℕ))
+    List ℕ → Option (List ℕ) → RoundLimits → Bool → Wanted → Option (List ℕ) → Option (List ℕ) → Option (Option (List ℕ))
     → Option (Option (List ℕ)) → Draft → List ℕ → Type 0
-IsWatchedInPart usual true wanted old new begun now d bytes =
+IsWatchedInPart name known usual true wanted old new begun now d bytes =
     IsPlayedInPart usual true old new d bytes
-IsWatchedInPart usual false wanted old new None now d bytes =
+IsWatchedInPart name known usual false wanted old new None now d bytes =
     IsPlayedInPart usual false old new d bytes
-IsWatchedInPart usual false wanted old new (Some begun) None d bytes = ⊥
-IsWatchedInPart usual false wanted old new (Some begun) (Some now) d bytes =
-    IsPlaySeenInPart usual wanted old new begun now d bytes
+IsWatchedInPart name known usual false wanted old new (Some begun) None d bytes = ⊥
+IsWatchedInPart name known usual false wanted old new (Some begun) (Some now) d bytes =
+    IsPlaySeenInPart name known usual wanted old new begun now d bytes

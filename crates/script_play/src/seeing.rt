@@ -4,6 +4,8 @@ ghost use Rattle.script_check.specs.Checked.{given, IsAccepted};
 ghost use Rattle.script_play.specs.Played.{IsOnSet, IsRefused};
 ghost use Rattle.script_play.specs.Seen.{IsPlaySeen, IsPlaySeenInPart};
 
+use crate::captured_plays::play_captured;
+use crate::covering::play_covered;
 use crate::tracing::play_traced;
 use crate::watching::{Told, play_told};
 use script_check::SetWord;
@@ -16,8 +18,12 @@ use std::io::{Read, Write};
 pub enum Wanted {
     /// A trace of what happens; whether what has no effect is traced too.
     Trace(bool),
+    /// A capture of the units that go out and come in; whether every unit is captured.
+    Capture(bool),
     /// What is told at its end.
     AtEnd(Told),
+    /// What of the set's text was taken, in the format of lcov.
+    Coverage,
 }
 
 /// Runs a script as `play` does without the lines of its commands, and writes what is wanted of the run to `out`: a trace as it runs, or at its end, or at
@@ -39,10 +45,10 @@ pub fn play_seen<S: Read + Drop, R: Read + Drop, T: Write, W: Write, E: Write>(
     ensures accepted { (result ≡ 0) ⊎ (result ≡ 1) → IfSome (given S.remaining set) IsAccepted }
     ensures held { result ≡ 0
         → IsOnSet (given S.remaining set) (R.remaining script)
-        (IsPlaySeen usual wanted (W.contents writer.old) (W.contents writer.new) (T.contents out.old) (T.contents out.new)) }
+        (IsPlaySeen name.now (given S.remaining set) usual wanted (W.contents writer.old) (W.contents writer.new) (T.contents out.old) (T.contents out.new)) }
     ensures missed { result ≡ 1
         → IsOnSet (given S.remaining set) (R.remaining script)
-        (IsPlaySeenInPart usual wanted (W.contents writer.old) (W.contents writer.new) (T.contents out.old) (T.contents out.new)) }
+        (IsPlaySeenInPart name.now (given S.remaining set) usual wanted (W.contents writer.old) (W.contents writer.new) (T.contents out.old) (T.contents out.new)) }
     ensures refused { result ≡ 2
         → IsRefused (given S.remaining set) (R.remaining script) (W.contents writer.old) (W.contents writer.new) }
     ensures status { (result ≡ 0) ⊎ (result ≡ 1) ⊎ (result ≡ 2) ⊎ (result ≡ 4) }
@@ -51,6 +57,10 @@ pub fn play_seen<S: Read + Drop, R: Read + Drop, T: Write, W: Write, E: Write>(
         Wanted::Trace(every) => {
             play_traced(alloc, set, usual, name, script, every, out, writer, errors)
         }
+        Wanted::Capture(every) => {
+            play_captured(alloc, set, usual, name, script, every, out, writer, errors)
+        }
+        Wanted::Coverage => play_covered(alloc, set, usual, name, script, out, writer, errors),
         Wanted::AtEnd(told) => {
             play_told(alloc, set, usual, name, script, told, out, writer, errors)
         }

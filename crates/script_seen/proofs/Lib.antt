@@ -4,6 +4,8 @@ mod Steps
 mod Tellings
 mod Tracings
 mod ShownRuns
+mod LinkTraces
+mod SetTraces
 mod TracedRuns
 mod Noticing
 mod Watchings

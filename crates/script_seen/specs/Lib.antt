@@ -3,9 +3,11 @@ pub mod Kinds
 pub mod Told
 pub mod Traced
 pub mod TracedKinds
+pub mod TracedGroups
 pub mod Following
 pub mod Watched
 pub mod WatchedKinds
+pub mod TracedActs
 pub use Rattle.actor_machine.specs.Effects
 pub use Rattle.actor_machine.specs.Looking
 pub use Rattle.actor_machine.specs.Names
@@ -17,3 +19,10 @@ pub use Rattle.script_group.specs.TermRuns
 pub use Rattle.script_links.specs.GroupScripts
 pub use Rattle.script_links.specs.TermScripts
 pub use Rattle.script_links.specs.resend_store_types
+pub use Rattle.script_group.specs.Doing
+pub use Rattle.script_group.specs.GroupAnswers
+pub use Rattle.script_group.specs.Set
+pub use Rattle.script_group.specs.SetLines
+pub use Rattle.script_group.specs.Term
+pub use Rattle.script_group.specs.TermAnswers
+pub use Rattle.script_group.specs.UnitLines

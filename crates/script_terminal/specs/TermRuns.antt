@@ -15,7 +15,7 @@ use Rattle.link_term.specs.link_processes_types.wanted.Wanted.{Wanted}
 use Rattle.script_book.specs.Lines.{line_of}
 use Rattle.script_book.specs.Played.{last_in, Misses}
 use Rattle.script_links.specs.Heads.{limits_over}
-use Rattle.script_links.specs.TermCommands.{expected}
+use Rattle.script_links.specs.TermCommands.{PlainTermCommand, expected}
 use Rattle.script_links.specs.TermScripts.{PlainTermSaid, asks_told}
 use Rattle.script_links.specs.declared.heads.TermHead.{TermHead}
 use Rattle.script_terminal.specs.TermAnswers.{GoOut, Obeys}
@@ -54,6 +54,15 @@ pub record IsTermRun (keeps : Bool) (first : Term) (commands : List PlainTermSai
 pub record HasPrinted (old new last next : Option (List ℕ)) (lines : List (List ℕ)) : Type 0 where
   pub latest_is : next ≡ latest last lines
   pub written : Appends old new (flat_map line_of lines)
+
+-- a command was obeyed: an expectation that holds, for which nothing happens, or another one, whose
+-- lines were printed behind what was there
+pub data HasObeyed (keeps : Bool) (c : PlainTermCommand) (old new last next : Option (List ℕ))
+    (t u : Term) : Type 0 where
+  was_met : (text : List ℕ) → c ≡ expected text → last ≡ Some text → next ≡ last → new ≡ old
+      → u ≡ t → HasObeyed keeps c old new last next t u
+  was_done : (lines : List (List ℕ)) → Obeys keeps c t lines u
+      → HasPrinted old new last next lines → HasObeyed keeps c old new last next t u
 
 abbrev pub last_of : TermPlayer → Option (List ℕ)
 last_of p = last_in p.printer

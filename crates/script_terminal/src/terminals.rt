@@ -2,9 +2,10 @@
 ghost use Rattle.std.specs.Prelude.{◌≡◌, ◌⊎◌, ◌++◌, ◌∷◌, [], List, ℕ, Option, map, is_some, None, OnOk, IfOk, true, false};
 ghost use Rattle.std.specs.List.{list_any};
 ghost use Rattle.link_term.specs.Term.{Term};
+ghost use Rattle.script_links.specs.TermCommands.{plain_term_command};
 ghost use Rattle.script_links.specs.TermScripts.{PlainTermSaid, plain_term_said, is_told, asks_told};
 ghost use Rattle.script_terminal.specs.TermAnswers.{next_of, behind_next, unit_line};
-ghost use Rattle.script_terminal.specs.TermRuns.{last_of, HasPrinted, HasGivenOut, IsTermRun, IsTermWritten, IsTermMissed, IsTermFailed, IsTermMissedBy, IsOfNew, PrintsLacking, LacksName};
+ghost use Rattle.script_terminal.specs.TermRuns.{last_of, HasPrinted, HasObeyed, HasGivenOut, IsTermRun, IsTermWritten, IsTermMissed, IsTermFailed, IsTermMissedBy, IsOfNew, PrintsLacking, LacksName};
 
 use crate::answers::answer;
 use link_term::{OpenError, RoundLimits, Terminal};
@@ -73,6 +74,8 @@ impl TermPlayer {
         ensures goes { IfOk result (λ on. on ≡ true → (t : Term) (before : List PlainTermSaid) (first : Option (List ℕ))
             → IsTermRun keeps t before first (W.contents writer.old) self.old.terminal (last_of self.old)
             → IsTermRun keeps t (before ++ plain_term_said said.now ∷ []) first (W.contents writer.new) self.new.terminal (last_of self.new)) }
+        ensures obeyed { IfOk result (λ on. on ≡ true → HasObeyed keeps (plain_term_command said.now.command) (W.contents writer.old) (W.contents writer.new)
+            (last_of self.old) (last_of self.new) self.old.terminal self.new.terminal) }
         ensures missed { IfOk result (λ on. on ≡ false
             → IsTermMissedBy (plain_term_said said.now) (last_of self.old) (W.contents writer.old) (W.contents writer.new)) }
     {

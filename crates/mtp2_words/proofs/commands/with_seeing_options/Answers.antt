@@ -1,7 +1,7 @@
-use Rattle.std.proofs.Common.{codes, refl}
-use Rattle.std.proofs.lemmas.Result.{IfOk-weaker}
-use Rattle.clap.specs.Words.{app_of}
-use Rattle.mtp2_words.specs.Commands.{option_word, flag_word, IsCommand}
+use Rattle.std.proofs.Common.{codes, refl, subst}
+use Rattle.std.specs.Prelude.{IfOk}
+use Rattle.clap.specs.Words.{App, app_of}
+use Rattle.mtp2_words.specs.Commands.{option_word, flag_word, with_told_options, IsCommand}
 use Rattle.mtp2_words.proofs.Building.{with_word}
 use Rattle.mtp2_words.proofs.commands.with_seeing_options.Goals as goal
 
@@ -12,11 +12,7 @@ returns c = λ local.
     c.flag_word-echo.ensures.rule c.flag_word-echo.ensures.local c.in_ok-arg.ensures in
     let trace = with_word _ (option_word (codes "trace")) _ c.option_word-trace.result c.in_ok-arg-2.field-0 echo
     c.option_word-trace.ensures.rule c.option_word-trace.ensures.local c.in_ok-arg-2.ensures in
-    let chart = with_word _ (option_word (codes "chart")) _ c.option_word-chart.result c.in_ok-arg-3.field-0 trace
-    c.option_word-chart.ensures.rule c.option_word-chart.ensures.local c.in_ok-arg-3.ensures in
-    let turns = with_word _ (option_word (codes "turns")) _ c.option_word-turns.result c.in_ok-arg-4.field-0 chart
-    c.option_word-turns.ensures.rule c.option_word-turns.ensures.local c.in_ok-arg-4.ensures in
-    let thrown = with_word _ (option_word (codes "thrown")) _ c.option_word-thrown.result c.in_ok-arg-5.field-0 turns
-    c.option_word-thrown.ensures.rule c.option_word-thrown.ensures.local c.in_ok-arg-5.ensures in
-    IfOk-weaker c.arg-6.result _ _ (λ r a. with_word _ (flag_word (codes "every")) _ c.flag_word-every.result r thrown
-    c.flag_word-every.ensures.rule c.flag_word-every.ensures.local a) c.arg-6.ensures
+    let every = with_word _ (flag_word (codes "every")) _ c.flag_word-every.result c.in_ok-arg-3.field-0 trace
+    c.flag_word-every.ensures.rule c.flag_word-every.ensures.local c.in_ok-arg-3.ensures in
+    let P : App → Type 0 = λ a. IfOk c.with_told_options.result (IsCommand (with_told_options a)) in
+    subst P every.app_is (c.with_told_options.ensures every.local)

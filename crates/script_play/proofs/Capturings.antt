@@ -1,0 +1,139 @@
+-- What is captured of a link, unit by unit.
+use Rattle.std.proofs.Common.{◌≡◌, ◌∙◌, ℕ, zero, suc, ◌+◌, ◌<◌, Bool, true, false, List, [], ◌∷◌, ◌++◌, append-nil, append_assoc, length, take, get_or, Option, None, Some, arith, refl, sym, ap, subst}
+use Rattle.std.specs.Io.KnownBytes.{Appends}
+use Rattle.std.proofs.KnownBytes.{Appends-nil}
+use Rattle.std.proofs.lemmas.List.{take_more}
+use Rattle.su_octets.specs.Bits.{bits_of}
+use Rattle.bit_line.specs.Deframing.{Stands}
+use Rattle.line_streams.specs.Capturing.{IsUnit, Ends}
+use Rattle.line_streams.specs.Records.{record_of}
+use Rattle.line_streams.specs.Repeats.{kept, with_kept, is_kept, StandsFor}
+use Rattle.line_streams.specs.declared.seen.Seen.{Seen}
+use Rattle.line_streams.proofs.Exchanging.{written}
+use Rattle.script_play.specs.Captured.{repeated, Hears, nothing, one, IsHeard, IsCapturing}
+use Rattle.script_play.specs.declared.capturing.LinkSeen.{LinkSeen}
+
+-- ---- a unit
+
+kept_is : (every keeps : Bool) (s : Seen) (ss : List Seen) → keeps ≡ is_kept every (kept every ss) s → kept every (s ∷ ss) ≡ with_kept keeps s (kept every ss)
+kept_is every keeps s ss is = ap (λ (k : Bool). with_kept k s (kept every ss)) (sym is)
+
+-- whether it is recorded
+decided : (every keeps : Bool) (s : Seen) (came : List ℕ) (ss : List Seen) (begun old : Option (List ℕ)) (l : LinkSeen) → IsCapturing s.link every came ss begun old l
+    → ((h : List Seen) → StandsFor s.link h l.repeats → keeps ≡ is_kept l.repeats.every h s) → keeps ≡ is_kept every (kept every ss) s
+decided every keeps s came ss begun old l c keeps_is =
+    let E : Bool → Type 0 = λ e. keeps ≡ is_kept e (kept every ss) s in
+    subst E c.heard.every_is (keeps_is (kept every ss) c.heard.recalls)
+
+-- what is known of its link
+noted : (every keeps : Bool) (s : Seen) (came : List ℕ) (ss : List Seen) (l m : LinkSeen) → m.heard ≡ l.heard → m.repeats.every ≡ l.repeats.every
+    → ((h : List Seen) → StandsFor s.link h l.repeats → StandsFor s.link (with_kept keeps s h) m.repeats) → keeps ≡ is_kept every (kept every ss) s
+    → IsHeard s.link every came ss l → IsHeard s.link every came (s ∷ ss) m
+noted every keeps s came ss l m same every_is stands is h =
+    let K : List Seen → Type 0 = λ x. StandsFor s.link x m.repeats in
+    record {
+      every_is = every_is ∙ h.every_is;
+      hears = subst (Stands (bits_of came)) (sym same) h.hears;
+      recalls = subst K (sym (kept_is every keeps s ss is)) (stands (kept every ss) h.recalls);
+    }
+
+-- it says something new, and is recorded
+pub saw_news : (every keeps : Bool) (s : Seen) (came : List ℕ) (ss : List Seen) (begun old new : Option (List ℕ)) (l m : LinkSeen) → keeps ≡ true → m.heard ≡ l.heard
+    → m.repeats.every ≡ l.repeats.every → ((h : List Seen) → StandsFor s.link h l.repeats → keeps ≡ is_kept l.repeats.every h s)
+    → ((h : List Seen) → StandsFor s.link h l.repeats → StandsFor s.link (with_kept keeps s h) m.repeats) → Appends old new (record_of s)
+    → IsCapturing s.link every came ss begun old l → IsCapturing s.link every came (s ∷ ss) begun new m
+saw_news every keeps s came ss begun old new l m yes same every_is keeps_is stands grew c =
+    let is = decided every keeps s came ss begun old l c keeps_is in
+    let more : kept every (s ∷ ss) ≡ s ∷ kept every ss = kept_is every keeps s ss is ∙ ap (λ (k : Bool). with_kept k s (kept every ss)) yes in
+    let A : List ℕ → Type 0 = λ bs. Appends old new bs in
+    record {
+      heard = noted every keeps s came ss l m same every_is stands is c.heard;
+      written = written begun old new new every every ss (s ∷ ss) (Some s) None refl more c.written (subst A (sym (append-nil (record_of s))) grew) (Appends-nil new);
+    }
+
+-- it says nothing new
+pub saw_repeat : (every keeps : Bool) (s : Seen) (came : List ℕ) (ss : List Seen) (begun old : Option (List ℕ)) (l m : LinkSeen) → keeps ≡ false → m.heard ≡ l.heard
+    → m.repeats.every ≡ l.repeats.every → ((h : List Seen) → StandsFor s.link h l.repeats → keeps ≡ is_kept l.repeats.every h s)
+    → ((h : List Seen) → StandsFor s.link h l.repeats → StandsFor s.link (with_kept keeps s h) m.repeats)
+    → IsCapturing s.link every came ss begun old l → IsCapturing s.link every came (s ∷ ss) begun old m
+saw_repeat every keeps s came ss begun old l m not same every_is keeps_is stands c =
+    let is = decided every keeps s came ss begun old l c keeps_is in
+    let more : kept every (s ∷ ss) ≡ kept every ss = kept_is every keeps s ss is ∙ ap (λ (k : Bool). with_kept k s (kept every ss)) not in
+    record {
+      heard = noted every keeps s came ss l m same every_is stands is c.heard;
+      written = written begun old old old every every ss (s ∷ ss) None None refl more c.written (Appends-nil old) (Appends-nil old);
+    }
+
+-- ---- octets that come in
+
+-- one more came, by which nothing is recorded
+pub heard_on : (link : ℕ) (every : Bool) (came more : List ℕ) (ss : List Seen) (begun old : Option (List ℕ)) (l m : LinkSeen) → Stands (bits_of more) m.heard
+    → m.repeats ≡ l.repeats → IsCapturing link every came ss begun old l → IsCapturing link every more ss begun old m
+heard_on link every came more ss begun old l m stands same c =
+    record {
+      heard = record {
+        every_is = ap (λ r. r.every) same ∙ c.heard.every_is;
+        hears = stands;
+        recalls = subst (StandsFor link (kept every ss)) (sym same) c.heard.recalls;
+      };
+      written = c.written;
+    }
+
+pub hears_one : (link at octet : ℕ) (came : List ℕ) (found : Option (List ℕ)) (ss last : List Seen) → Ends came octet found → IsUnit false link at found ss last
+    → Hears link at came (octet ∷ []) ss last
+hears_one link at octet came found ss last ends is = one came [] octet found ss last last ends is (nothing (came ++ octet ∷ []) last)
+
+-- one behind the other
+hears_on : (link at : ℕ) (before xs ys : List ℕ) (ss mm last : List Seen) → Hears link at before xs ss mm → Hears link at (before ++ xs) ys mm last
+    → Hears link at before (xs ++ ys) ss last
+hears_on link at _ _ ys _ _ last (nothing before seen) step =
+    let P : List ℕ → Type 0 = λ b. Hears link at b ys seen last in
+    subst P (append-nil before) step
+hears_on link at _ _ ys _ _ last (one before rest octet found seen mid end ends is more) step =
+    let P : List ℕ → Type 0 = λ b. Hears link at b ys end last in
+    one before (rest ++ ys) octet found seen mid last ends is
+    (hears_on link at (before ++ octet ∷ []) rest ys mid end last more (subst P (sym (append_assoc before (octet ∷ []) rest)) step))
+
+-- these came so far
+pub record HeardSoFar (link at : ℕ) (every : Bool) (came octets : List ℕ) (ss : List Seen) (begun new : Option (List ℕ)) (l : LinkSeen) : Type 0 where
+  pub last : List Seen
+  pub hears : Hears link at came octets ss last
+  pub capturing : IsCapturing link every (came ++ octets) last begun new l
+
+pub none_heard : (link at : ℕ) (every : Bool) (came : List ℕ) (ss : List Seen) (begun old : Option (List ℕ)) (l : LinkSeen) → IsCapturing link every came ss begun old l
+    → HeardSoFar link at every came [] ss begun old l
+none_heard link at every came ss begun old l c =
+    let P : List ℕ → Type 0 = λ x. IsCapturing link every x ss begun old l in
+    record { last = ss; hears = nothing came ss; capturing = subst P (sym (append-nil came)) c }
+
+-- and these behind them
+pub more_heard : (link at : ℕ) (every : Bool) (came xs ys : List ℕ) (ss : List Seen) (begun mid new : Option (List ℕ)) (l m : LinkSeen)
+    → HeardSoFar link at every came xs ss begun mid l
+    → ((seen : List Seen) → IsCapturing link every (came ++ xs) seen begun mid l → (last : List Seen) × Hears link at (came ++ xs) ys seen last
+    × IsCapturing link every ((came ++ xs) ++ ys) last begun new m) → HeardSoFar link at every came (xs ++ ys) ss begun new m
+more_heard link at every came xs ys ss begun mid new l m so_far step =
+    let s = step so_far.last so_far.capturing in
+    let P : List ℕ → Type 0 = λ x. IsCapturing link every x s.0 begun new m in
+    record {
+      last = s.0;
+      hears = hears_on link at came xs ys ss so_far.last s.0 so_far.hears s.1;
+      capturing = subst P (append_assoc came xs ys) s.2;
+    }
+
+pub one_more_heard : (link at : ℕ) (every : Bool) (came octets : List ℕ) (i x : ℕ) (ss : List Seen) (begun new : Option (List ℕ)) (l : LinkSeen) → i < length octets
+    → x ≡ get_or octets i x → HeardSoFar link at every came (take i octets ++ x ∷ []) ss begun new l → HeardSoFar link at every came (take (i + 1) octets) ss begun new l
+one_more_heard link at every came octets i x ss begun new l within is so_far =
+    let P : List ℕ → Type 0 = λ xs. HeardSoFar link at every came xs ss begun new l in
+    subst P (ap (λ y. take i octets ++ y ∷ []) is ∙ sym (take_more octets i x within)) so_far
+
+-- the same octets once more
+repeated_more : (n : ℕ) (octets : List ℕ) → repeated n octets ++ octets ≡ repeated (suc n) octets
+repeated_more zero octets = sym (append-nil octets)
+repeated_more (suc n) octets = append_assoc octets (repeated n octets) octets ∙ ap (λ (l : List ℕ). octets ++ l) (repeated_more n octets)
+
+pub once_more : (link at : ℕ) (every : Bool) (came octets : List ℕ) (n : ℕ) (ss : List Seen) (begun new : Option (List ℕ)) (l : LinkSeen)
+    → HeardSoFar link at every came (repeated n octets ++ octets) ss begun new l → HeardSoFar link at every came (repeated (n + 1) octets) ss begun new l
+once_more link at every came octets n ss begun new l so_far =
+    let P : List ℕ → Type 0 = λ xs. HeardSoFar link at every came xs ss begun new l in
+    let next : suc n ≡ n + 1 = omega arith in
+    subst P (repeated_more n octets ∙ ap (λ (k : ℕ). repeated k octets) next) so_far

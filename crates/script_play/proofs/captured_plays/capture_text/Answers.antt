@@ -1,0 +1,152 @@
+use Rattle.std.proofs.Common.{◌≡◌, ◌∙◌, ◌+◌, ◌==◌, List, ℕ, ap, sym, subst, rules}
+use Rattle.std.specs.Prelude.{IsTrue, IsUtf8, count_by, take}
+use Rattle.plain_text.specs.Reading.{LONGEST}
+use Rattle.script_seen.specs.GroupScripts.{plain_play_script, play_script_of}
+use Rattle.script_play.specs.Played.{no_text, bad_line, no_script, no_terminal}
+use Rattle.script_play.proofs.Refusals.{too_long, no_script_in}
+use Rattle.script_play.proofs.Texts.{not_held, not_missed}
+use Rattle.script_play.proofs.captured_plays.capture_text.Goals as goal
+use Rattle.script_check.proofs.Long.{all_kept}
+
+pub returns-then-not-read-clause-held : goal.returns-then-not-read-clause-held
+returns-then-not-read-clause-held g c zero bytes keeps = absurd (not_held _ c.refuse.ensures.status zero)
+
+pub returns-then-is_too_long-clause-held : goal.returns-then-is_too_long-clause-held
+returns-then-is_too_long-clause-held g c zero bytes keeps = absurd (not_held _ c.refuse_script.ensures.status zero)
+
+pub returns-in-Ok-play_script_in-clause-held : goal.returns-in-Ok-play_script_in-clause-held
+returns-in-Ok-play_script_in-clause-held g c zero bytes keeps =
+    let is_text : IsTrue c.args.read.now.is_text = search rules in
+    let same : c.in-Ok.text.now ≡ bytes =
+    c.in-Ok.ensures.cases.0 ∙ (c.deref-2.ensures.value ∙ all_kept bytes c.args.read.now keeps (sym c.is_too_long.ensures ∙ c.if-is_too_long.false)) in
+    record {
+      utf8 = keeps.utf8.0 is_text;
+      script = plain_play_script c.in-Ok-play_script_in.script;
+      reads = ap play_script_of (sym same) ∙ c.in-Ok-play_script_in.ensures.script;
+      run = c.capture_script.ensures.held zero;
+    }
+
+pub returns-in-Err-play_script_in-clause-held : goal.returns-in-Err-play_script_in-clause-held
+returns-in-Err-play_script_in-clause-held g c zero bytes keeps = absurd (not_held _ c.refuse_script-in-Err-play_script_in.ensures.status zero)
+
+pub returns-in-Err-clause-held : goal.returns-in-Err-clause-held
+returns-in-Err-clause-held g c zero bytes keeps = absurd (not_held _ c.refuse-in-Err.ensures.status zero)
+
+pub returns-then-not-read-clause-missed : goal.returns-then-not-read-clause-missed
+returns-then-not-read-clause-missed g c one bytes keeps = absurd (not_missed _ c.refuse.ensures.status one)
+
+pub returns-then-is_too_long-clause-missed : goal.returns-then-is_too_long-clause-missed
+returns-then-is_too_long-clause-missed g c one bytes keeps = absurd (not_missed _ c.refuse_script.ensures.status one)
+
+pub returns-in-Ok-play_script_in-clause-missed : goal.returns-in-Ok-play_script_in-clause-missed
+returns-in-Ok-play_script_in-clause-missed g c one bytes keeps =
+    let is_text : IsTrue c.args.read.now.is_text = search rules in
+    let same : c.in-Ok.text.now ≡ bytes =
+    c.in-Ok.ensures.cases.0 ∙ (c.deref-2.ensures.value ∙ all_kept bytes c.args.read.now keeps (sym c.is_too_long.ensures ∙ c.if-is_too_long.false)) in
+    record {
+      utf8 = keeps.utf8.0 is_text;
+      script = plain_play_script c.in-Ok-play_script_in.script;
+      reads = ap play_script_of (sym same) ∙ c.in-Ok-play_script_in.ensures.script;
+      missed = c.capture_script.ensures.missed one;
+    }
+
+pub returns-in-Err-play_script_in-clause-missed : goal.returns-in-Err-play_script_in-clause-missed
+returns-in-Err-play_script_in-clause-missed g c one bytes keeps = absurd (not_missed _ c.refuse_script-in-Err-play_script_in.ensures.status one)
+
+pub returns-in-Err-clause-missed : goal.returns-in-Err-clause-missed
+returns-in-Err-clause-missed g c one bytes keeps = absurd (not_missed _ c.refuse-in-Err.ensures.status one)
+
+pub returns-then-not-read-clause-refused : goal.returns-then-not-read-clause-refused
+returns-then-not-read-clause-refused g c two bytes keeps =
+    no_script
+    (no_text
+    (λ utf8.
+    let is_text : IsTrue c.args.read.now.is_text = keeps.utf8.1 utf8 in
+    let f : ⊥ = search rules in f)
+    (c.refuse.ensures.printed two))
+
+pub returns-then-is_too_long-clause-refused : goal.returns-then-is_too_long-clause-refused
+returns-then-is_too_long-clause-refused g c two bytes keeps =
+    let is_text : IsTrue c.args.read.now.is_text = search rules in
+    let P : List ℕ → Type 0 = λ kept. c.line_at_limit-line.result ≡ count_by (λ b. b == 10) (take LONGEST kept) + 1 in
+    no_script
+    (bad_line c.line_at_limit-line.result (keeps.utf8.0 is_text)
+    (too_long bytes c.args.read.now c.line_at_limit-line.result keeps (sym c.is_too_long.ensures ∙ c.if-is_too_long.true)
+    (subst P c.deref.ensures.value c.line_at_limit-line.ensures))
+    (c.refuse_script.ensures.printed two))
+
+pub returns-in-Ok-play_script_in-clause-refused : goal.returns-in-Ok-play_script_in-clause-refused
+returns-in-Ok-play_script_in-clause-refused g c two bytes keeps =
+    let is_text : IsTrue c.args.read.now.is_text = search rules in
+    let same : c.in-Ok.text.now ≡ bytes =
+    c.in-Ok.ensures.cases.0 ∙ (c.deref-2.ensures.value ∙ all_kept bytes c.args.read.now keeps (sym c.is_too_long.ensures ∙ c.if-is_too_long.false)) in
+    no_terminal (record {
+      utf8 = keeps.utf8.0 is_text;
+      script = plain_play_script c.in-Ok-play_script_in.script;
+      reads = ap play_script_of (sym same) ∙ c.in-Ok-play_script_in.ensures.script;
+      lacks = c.capture_script.ensures.refused two;
+    })
+
+pub returns-in-Err-play_script_in-clause-refused : goal.returns-in-Err-play_script_in-clause-refused
+returns-in-Err-play_script_in-clause-refused g c two bytes keeps =
+    let is_text : IsTrue c.args.read.now.is_text = search rules in
+    let same : c.in-Ok.text.now ≡ bytes =
+    c.in-Ok.ensures.cases.0 ∙ (c.deref-2.ensures.value ∙ all_kept bytes c.args.read.now keeps (sym c.is_too_long.ensures ∙ c.if-is_too_long.false)) in
+    no_script
+    (no_script_in _ _ c.in-Ok.text.now bytes c.in-Err-play_script_in.fault same (keeps.utf8.0 is_text) c.in-Err-play_script_in.ensures.fault
+    (c.refuse_script-in-Err-play_script_in.ensures.printed two))
+
+pub returns-in-Err-clause-refused : goal.returns-in-Err-clause-refused
+returns-in-Err-clause-refused g c two bytes keeps =
+    let is_text : IsTrue c.args.read.now.is_text = search rules in
+    let same : c.deref-2.result.now ≡ bytes =
+    c.deref-2.ensures.value ∙ all_kept bytes c.args.read.now keeps (sym c.is_too_long.ensures ∙ c.if-is_too_long.false) in
+    absurd (c.in-Err.ensures.cases.0 (subst IsUtf8 (sym same) (keeps.utf8.0 is_text)))
+
+pub returns-then-not-read-clause-captured : goal.returns-then-not-read-clause-captured
+returns-then-not-read-clause-captured g c zero bytes keeps = absurd (not_held _ c.refuse.ensures.status zero)
+
+pub returns-then-is_too_long-clause-captured : goal.returns-then-is_too_long-clause-captured
+returns-then-is_too_long-clause-captured g c zero bytes keeps = absurd (not_held _ c.refuse_script.ensures.status zero)
+
+pub returns-in-Ok-play_script_in-clause-captured : goal.returns-in-Ok-play_script_in-clause-captured
+returns-in-Ok-play_script_in-clause-captured g c zero bytes keeps =
+    let is_text : IsTrue c.args.read.now.is_text = search rules in
+    let same : c.in-Ok.text.now ≡ bytes =
+    c.in-Ok.ensures.cases.0 ∙ (c.deref-2.ensures.value ∙ all_kept bytes c.args.read.now keeps (sym c.is_too_long.ensures ∙ c.if-is_too_long.false)) in
+    record {
+      utf8 = keeps.utf8.0 is_text;
+      script = plain_play_script c.in-Ok-play_script_in.script;
+      reads = ap play_script_of (sym same) ∙ c.in-Ok-play_script_in.ensures.script;
+      captured = c.capture_script.ensures.captured zero;
+    }
+
+pub returns-in-Err-play_script_in-clause-captured : goal.returns-in-Err-play_script_in-clause-captured
+returns-in-Err-play_script_in-clause-captured g c zero bytes keeps = absurd (not_held _ c.refuse_script-in-Err-play_script_in.ensures.status zero)
+
+pub returns-in-Err-clause-captured : goal.returns-in-Err-clause-captured
+returns-in-Err-clause-captured g c zero bytes keeps = absurd (not_held _ c.refuse-in-Err.ensures.status zero)
+
+pub returns-then-not-read-clause-in_part : goal.returns-then-not-read-clause-in_part
+returns-then-not-read-clause-in_part g c one bytes keeps = absurd (not_missed _ c.refuse.ensures.status one)
+
+pub returns-then-is_too_long-clause-in_part : goal.returns-then-is_too_long-clause-in_part
+returns-then-is_too_long-clause-in_part g c one bytes keeps = absurd (not_missed _ c.refuse_script.ensures.status one)
+
+pub returns-in-Ok-play_script_in-clause-in_part : goal.returns-in-Ok-play_script_in-clause-in_part
+returns-in-Ok-play_script_in-clause-in_part g c one bytes keeps =
+    let is_text : IsTrue c.args.read.now.is_text = search rules in
+    let same : c.in-Ok.text.now ≡ bytes =
+    c.in-Ok.ensures.cases.0 ∙ (c.deref-2.ensures.value ∙ all_kept bytes c.args.read.now keeps (sym c.is_too_long.ensures ∙ c.if-is_too_long.false)) in
+    record {
+      utf8 = keeps.utf8.0 is_text;
+      script = plain_play_script c.in-Ok-play_script_in.script;
+      reads = ap play_script_of (sym same) ∙ c.in-Ok-play_script_in.ensures.script;
+      captured = c.capture_script.ensures.in_part one;
+    }
+
+pub returns-in-Err-play_script_in-clause-in_part : goal.returns-in-Err-play_script_in-clause-in_part
+returns-in-Err-play_script_in-clause-in_part g c one bytes keeps = absurd (not_missed _ c.refuse_script-in-Err-play_script_in.ensures.status one)
+
+pub returns-in-Err-clause-in_part : goal.returns-in-Err-clause-in_part
+returns-in-Err-clause-in_part g c one bytes keeps = absurd (not_missed _ c.refuse-in-Err.ensures.status one)

@@ -1,0 +1,170 @@
+-- What a capture of a terminal's script has: the units that go out and those that come in without
+-- error, in the order of its commands, each at the tick before its command.
+use Rattle.std.specs.Prelude.{◌≡◌, ℕ, zero, suc, ◌+◌, ◌*◌, Bool, true, false, List, [], ◌∷◌, ◌++◌}
+use Rattle.std.specs.Prelude.{Option, None, Some}
+use Rattle.std.specs.Io.KnownBytes.{Appends}
+use Rattle.actor_machine.specs.Ledger.{state_of}
+use Rattle.bit_line.specs.Deframing.{Stands}
+use Rattle.su_octets.specs.Bits.{bits_of}
+use Rattle.su_octets.specs.Frame.{Frame}
+use Rattle.su_octets.specs.declared.units.Unit as su
+use Rattle.line_streams.specs.Capturing.{Ends, IsUnit, capture_of, without_check}
+use Rattle.line_streams.specs.Repeats.{kept, StandsFor}
+use Rattle.line_streams.specs.declared.seen.Seen.{Seen}
+use Rattle.script_links.specs.TermCommands.{PlainTermCommand, order, unit, units, errors, line, msu}
+use Rattle.script_links.specs.TermCommands.{out, ticks, told, accepted, retrieving, measuring}
+use Rattle.script_links.specs.TermCommands.{counting_aborted, resetting, state, shown, expected}
+use Rattle.script_links.specs.TermScripts.{PlainTermSaid}
+use Rattle.script_seen.specs.Term.{Term}
+use Rattle.script_seen.specs.TermAnswers.{Obeys, next_of, behind_next, error_line}
+use Rattle.script_seen.specs.TermRuns.{latest}
+use Rattle.script_seen.specs.UnitLines.{IsLineOf}
+use Rattle.script_play.specs.declared.capturing.LinkSeen.{LinkSeen}
+
+-- a tick is a millisecond: 1,000 microseconds
+abbrev pub TICK : ℕ
+TICK = 1000
+
+abbrev pub time_of : Term → ℕ
+time_of t = TICK * (state_of t.processes.book).timers.clock
+
+-- ---- what comes in
+
+abbrev pub repeated : ℕ → List ℕ → List ℕ
+repeated zero octets = []
+repeated (suc n) octets = octets ++ repeated n octets
+
+-- so many times a unit, whose octets without the check octets these are
+pub record AreRepeated (n : ℕ) (octets come : List ℕ) : Type 0 where
+  pub once : List ℕ
+  pub is_line : IsLineOf octets once
+  pub are : come ≡ repeated n once
+
+-- the octets that come in on the line by a command
+abbrev pub IsComing : PlainTermCommand → List ℕ → Type 0
+IsComing (unit octets) come = AreRepeated 1 octets come
+IsComing (units n octets) come = AreRepeated n octets come
+IsComing (errors n) come = come ≡ repeated n error_line
+IsComing (line octets) come = come ≡ octets
+IsComing (order o) come = come ≡ []
+IsComing (msu octets) come = come ≡ []
+IsComing (out n) come = come ≡ []
+IsComing (ticks n) come = come ≡ []
+IsComing told come = come ≡ []
+IsComing accepted come = come ≡ []
+IsComing (retrieving behind) come = come ≡ []
+IsComing (measuring measure) come = come ≡ []
+IsComing counting_aborted come = come ≡ []
+IsComing resetting come = come ≡ []
+IsComing (state process) come = come ≡ []
+IsComing (shown process variable) come = come ≡ []
+IsComing (expected text) come = come ≡ []
+
+-- by a command octets come in, or none do; but not where units are asked for, or a line expected
+abbrev pub is_noted : PlainTermCommand → Bool
+is_noted (out n) = false
+is_noted (expected text) = false
+is_noted c = true
+
+-- of octets that come in on a link's line behind others, one by one, these units are seen
+pub data Hears (link at : ℕ) : List ℕ → List ℕ → List Seen → List Seen → Type 0 where
+  nothing : (before : List ℕ) (seen : List Seen) → Hears link at before [] seen seen
+  one : (before rest : List ℕ) (octet : ℕ) (found : Option (List ℕ)) (seen mid last : List Seen)
+      → Ends before octet found → IsUnit false link at found seen mid
+      → Hears link at (before ++ octet ∷ []) rest mid last
+      → Hears link at before (octet ∷ rest) seen last
+
+-- ---- what goes out
+
+-- a unit that goes out is seen
+pub record IsGone (link at : ℕ) (x : su.Unit) (seen last : List Seen) : Type 0 where
+  pub octets : List ℕ
+  pub is_frame : Frame octets x
+  pub is_unit : IsUnit true link at (Some (without_check octets)) seen last
+
+-- so many units are asked for on a link: those that go out are seen
+pub data Sends (link at : ℕ) : ℕ → Term → List Seen → Term → List Seen → Type 0 where
+  no_more : (t : Term) (seen : List Seen) → Sends link at zero t seen t seen
+  silent : (n : ℕ) (t : Term) (seen : List Seen) → (next_of t).unit ≡ None
+      → Sends link at (suc n) t seen (behind_next t) seen
+  one_goes : (n : ℕ) (t u : Term) (x : su.Unit) (seen mid last : List Seen)
+      → (next_of t).unit ≡ Some x → IsGone link at x seen mid
+      → Sends link at n (behind_next t) mid u last
+      → Sends link at (suc n) t seen u last
+
+-- ---- runs
+
+-- Commands were obeyed from a terminal on: the terminal now, the line printed last, the octets that
+-- came in so far, and the units that were seen, the newest first.
+pub data Goes (keeps : Bool) (first : Term) :
+    List PlainTermSaid → Term → Option (List ℕ) → List ℕ → List Seen → Type 0 where
+  begins : Goes keeps first [] first None [] []
+  goes_out : {commands : List PlainTermSaid} {now : Term} {printed : Option (List ℕ)}
+      {came : List ℕ} {seen : List Seen} (said : PlainTermSaid) (n : ℕ) (lines : List (List ℕ))
+      (next : Term) (last : List Seen)
+      → said.command ≡ out n → Goes keeps first commands now printed came seen
+      → Obeys keeps said.command now lines next → Sends 0 (time_of now) n now seen next last
+      → Goes keeps first (commands ++ said ∷ []) next (latest printed lines) came last
+  comes_in : {commands : List PlainTermSaid} {now : Term} {printed : Option (List ℕ)}
+      {came : List ℕ} {seen : List Seen} (said : PlainTermSaid) (come : List ℕ)
+      (lines : List (List ℕ)) (next : Term) (last : List Seen)
+      → ((n : ℕ) → said.command ≡ out n → ⊥) → IsComing said.command come
+      → Goes keeps first commands now printed came seen
+      → Obeys keeps said.command now lines next → Hears 0 (time_of now) came come seen last
+      → Goes keeps first (commands ++ said ∷ []) next (latest printed lines) (came ++ come) last
+  holds : {commands : List PlainTermSaid} {now : Term} {came : List ℕ} {seen : List Seen}
+      {text : List ℕ} (said : PlainTermSaid)
+      → said.command ≡ expected text → Goes keeps first commands now (Some text) came seen
+      → Goes keeps first (commands ++ said ∷ []) now (Some text) came seen
+
+-- what was written grew by a capture in which these units were seen
+pub record IsCaptured (every keeps : Bool) (first : Term) (commands : List PlainTermSaid)
+    (old new : Option (List ℕ)) : Type 0 where
+  pub now : Term
+  pub printed : Option (List ℕ)
+  pub came : List ℕ
+  pub seen : List Seen
+  pub goes : Goes keeps first commands now printed came seen
+  pub written : Appends old new (capture_of every seen)
+
+-- so it did by those in front of one of these commands, an expectation that names another line than
+-- the one that was printed last
+pub record IsCapturedInPart (every keeps : Bool) (first : Term) (commands : List PlainTermSaid)
+    (old new : Option (List ℕ)) : Type 0 where
+  pub before : List PlainTermSaid
+  pub said : PlainTermSaid
+  pub after : List PlainTermSaid
+  pub stands : commands ≡ before ++ said ∷ after
+  pub now : Term
+  pub printed : Option (List ℕ)
+  pub came : List ℕ
+  pub seen : List Seen
+  pub goes : Goes keeps first before now printed came seen
+  pub written : Appends old new (capture_of every seen)
+  pub text : List ℕ
+  pub expects : said.command ≡ expected text
+  pub other : printed ≡ Some text → ⊥
+
+-- ---- on its way
+
+-- what is known of a link of which these octets came, where these units were seen
+pub record IsHeard (link : ℕ) (every : Bool) (came : List ℕ) (seen : List Seen) (l : LinkSeen) :
+    Type 0 where
+  pub every_is : l.repeats.every ≡ every
+  pub hears : Stands (bits_of came) l.heard
+  pub recalls : StandsFor link (kept every seen) l.repeats
+
+-- and what was written grew by a capture of these
+pub record IsCapturing (link : ℕ) (every : Bool) (came : List ℕ) (seen : List Seen)
+    (old new : Option (List ℕ)) (l : LinkSeen) : Type 0 where
+  pub heard : IsHeard link every came seen l
+  pub written : Appends old new (capture_of every seen)
+
+-- so far these commands were obeyed, and captured
+pub record IsTermCapturing (every keeps : Bool) (first : Term) (commands : List PlainTermSaid)
+    (old new : Option (List ℕ)) (now : Term) (printed : Option (List ℕ)) (l : LinkSeen) :
+    Type 0 where
+  pub came : List ℕ
+  pub seen : List Seen
+  pub goes : Goes keeps first commands now printed came seen
+  pub capturing : IsCapturing 0 every came seen old new l

@@ -1,0 +1,320 @@
+//! Link sets' scripts as they run, with a capture.
+ghost use Rattle.std.specs.Prelude.{◌≡◌, ◌⊎◌, ◌<◌, ◌^◌, ◌++◌, ◌∷◌, [], ℕ, Bool, List, Option, None, Some, map, length, slice_get, IfOk, OnOk, IfSome, true, false};
+ghost use Rattle.std.specs.Io.KnownBytes.{Appends};
+ghost use Rattle.su_octets.specs.Whole.{IsWhole};
+ghost use Rattle.line_streams.specs.Records.{HEADER};
+ghost use Rattle.line_streams.specs.declared.seen.Seen.{Seen as OneSeen};
+ghost use Rattle.actor_machine.specs.Ledger.{Ledger};
+ghost use Rattle.script_seen.specs.SetLines.{ByLink};
+ghost use Rattle.script_seen.specs.Doing.{Sent};
+ghost use Rattle.script_links.specs.GroupCommands.{plain_group_command};
+ghost use Rattle.script_links.specs.GroupScripts.{PlainGroupSaid, plain_group_said, IsFew};
+ghost use Rattle.script_seen.specs.TermAnswers.{unit_line};
+ghost use Rattle.script_seen.specs.TermRuns.{HasPrinted, LacksName};
+ghost use Rattle.script_seen.specs.GroupAnswers.{Playing};
+ghost use Rattle.script_seen.specs.GroupRuns.{playing_of, last_of, HasGivenOut, IsGroupRun, IsGroupWritten, IsGroupMissed, IsGroupMissedBy, IsOfNewSet};
+ghost use Rattle.script_seen.specs.TracedGroups.{books_of, clock_in};
+ghost use Rattle.script_play.specs.Captured.{Hears, IsCapturing};
+ghost use Rattle.script_play.specs.CapturedSets.{IsComing, is_noted, SendsOn, Goes, AreHeard, IsCapturedThere, IsSetCapturing, IsSetCaptured, IsSetCapturedInPart};
+
+use crate::captured_terminals::line_of;
+use crate::capturing::{LinkSeen, begin, lost, time_of};
+use script_seen::{
+    FAILED, GroupCommand, GroupPlayer, GroupSaid, GroupScript, HELD, MISSED, RoundLimits, Unit,
+    end_player, line_of_unit, open_group, refuse_set,
+};
+use std::alloc::{AllocError, Global};
+use std::io::{self, Write};
+use turn_check::Verified;
+
+/// So many links of which nothing was seen; whether every unit is recorded.
+fn new_links(alloc: Global, count: u32, every: bool) -> Result<Vec<LinkSeen>, AllocError>
+    ensures { IfOk result (λ v. (bs : List Ledger) → length bs ≡ count → AreHeard every [] 0 (map (λ b. []) bs) v.items) }
+{
+    let mut links = Vec::new(alloc);
+    for _link in 0..count {
+        links.push(LinkSeen::new(every))?;
+    }
+    Ok(links)
+}
+
+/// The ticks gone by on a link set.
+fn clock_of(player: &GroupPlayer) -> u64
+    ensures { result ≡ clock_in (books_of (playing_of player.now)) }
+{
+    match player.group.book(0) {
+        Some(book) => book.clock(),
+        None => 0,
+    }
+}
+
+/// The unit that goes out next on the link that lines speak of, whose line is printed, or `silent`.
+fn next_on<W: Write>(
+    alloc: Global,
+    player: &mut GroupPlayer,
+    writer: &mut W,
+) -> io::Result<Option<Unit>>
+    ensures sent { IfOk result (λ unit. ByLink (Sent unit) player.old.on player.old.group player.new.group) }
+    ensures whole { IfOk result (λ unit. IfSome unit IsWhole) }
+    ensures on { player.new.on ≡ player.old.on }
+    ensures retrievals { player.new.retrievals ≡ player.old.retrievals }
+    ensures printed { IfOk result (λ unit. HasPrinted (W.contents writer.old) (W.contents writer.new) (last_of player.old) (last_of player.new) (unit_line unit ∷ [])) }
+{
+    let Ok(given) = player.group.unit_out(player.on) else {
+        return Err(lost());
+    };
+    let line = line_of(alloc, &given)?;
+    player.printer.print(line, writer)?;
+    Ok(given)
+}
+
+/// Units go out on the link that lines speak of, so many; one line `silent` where none does.
+fn give_out<T: Write, W: Write>(
+    alloc: Global,
+    player: &mut GroupPlayer,
+    at: u64,
+    units: u32,
+    link: &mut LinkSeen,
+    out: &mut T,
+    writer: &mut W,
+) -> io::Result<()>
+    requires there { player.old.on < length player.old.group.links }
+    requires few { player.old.on < 2 ^ 16 }
+    ensures given { OnOk result (HasGivenOut player.old.on units (W.contents writer.old) (W.contents writer.new) (last_of player.old) (last_of player.new)
+        player.old.group player.new.group) }
+    ensures captured { OnOk result ((every : Bool) (came : List ℕ) (ss : List OneSeen) (begun : Option (List ℕ))
+        → IsCapturing player.old.on every came ss begun (T.contents out.old) link.old
+        → (last : List OneSeen) × SendsOn player.old.on at units player.old.group ss player.new.group last
+        × IsCapturing player.old.on every came last begun (T.contents out.new) link.new) }
+    ensures on { player.new.on ≡ player.old.on }
+    ensures retrievals { player.new.retrievals ≡ player.old.retrievals }
+{
+    let number = player.on as u16;
+    for _unit in 0..units {
+        match next_on(alloc, player, writer)? {
+            Some(unit) => link.send(number, at, &unit, out)?,
+            None => return Ok(()),
+        }
+    }
+    Ok(())
+}
+
+/// What comes in on the link of this number by a command, by which no unit is asked for, and nothing expected.
+fn note<T: Write>(
+    alloc: Global,
+    command: &GroupCommand<'_>,
+    number: u16,
+    at: u64,
+    link: &mut LinkSeen,
+    out: &mut T,
+) -> io::Result<()>
+    ensures noted { OnOk result (is_noted (plain_group_command command.now) ≡ true) }
+    ensures heard { OnOk result ((come : List ℕ) × IsComing (plain_group_command command.now) come
+        × ((every : Bool) (came : List ℕ) (ss : List OneSeen) (begun : Option (List ℕ))
+        → IsCapturing number every came ss begun (T.contents out.old) link.old
+        → (last : List OneSeen) × Hears number at came come ss last × IsCapturing number every (came ++ come) last begun (T.contents out.new) link.new)) }
+{
+    match command {
+        GroupCommand::Unit(octets) => {
+            let line = line_of_unit(alloc, octets)?;
+            link.hear_times(number, at, &line, 1, out)?;
+            Ok(())
+        }
+        GroupCommand::Line(octets) => {
+            link.hear(number, at, octets, out)?;
+            Ok(())
+        }
+        GroupCommand::Out(_) | GroupCommand::Expect(_) => Err(lost()),
+        GroupCommand::Order(_)
+        | GroupCommand::Tick(_)
+        | GroupCommand::State(_)
+        | GroupCommand::Value(_, _)
+        | GroupCommand::On(_)
+        | GroupCommand::Send(_)
+        | GroupCommand::Bound(_)
+        | GroupCommand::Message(_)
+        | GroupCommand::Admit(_)
+        | GroupCommand::Own(_) => Ok(()),
+    }
+}
+
+/// Does what a command says on the link that lines speak of, of which this is known, and captures what it has come in and go out. Whether the run
+/// goes on.
+fn capture_there<T: Write, W: Write>(
+    alloc: Global,
+    player: &mut GroupPlayer,
+    said: &GroupSaid<'_>,
+    link: &mut LinkSeen,
+    out: &mut T,
+    writer: &mut W,
+) -> io::Result<bool>
+    requires there { player.old.on < length player.old.group.links }
+    requires few { player.old.on < 2 ^ 16 }
+    ensures goes { IfOk result (λ on. on ≡ true → (p : Playing) (before : List PlainGroupSaid) (first : Option (List ℕ))
+        → IsGroupRun p before first (W.contents writer.old) (playing_of player.old) (last_of player.old)
+        → IsGroupRun p (before ++ plain_group_said said.now ∷ []) first (W.contents writer.new) (playing_of player.new) (last_of player.new)) }
+    ensures missed { IfOk result (λ on. on ≡ false → IsGroupMissedBy (plain_group_said said.now) (last_of player.old) (W.contents writer.old) (W.contents writer.new)) }
+    ensures captured { IfOk result (λ on. on ≡ true → (every : Bool) (p : Playing) (before : List PlainGroupSaid) (all : List (List ℕ)) (came : List ℕ) (seen : List OneSeen) (begun : Option (List ℕ))
+        → Goes p before (playing_of player.old) (last_of player.old) all seen → slice_get all player.old.on ≡ Some came
+        → IsCapturing player.old.on every came seen begun (T.contents out.old) link.old
+        → IsCapturedThere every p (before ++ plain_group_said said.now ∷ []) (playing_of player.new) (last_of player.new) all player.old.on seen begun
+        (T.contents out.new) link.new) }
+    ensures uncaptured { IfOk result (λ on. on ≡ false → T.contents out.new ≡ T.contents out.old) }
+{
+    let at = time_of(clock_of(player))?;
+    match &said.command {
+        GroupCommand::Out(units) => {
+            give_out(alloc, player, at, *units, link, out, writer)?;
+            Ok(true)
+        }
+        GroupCommand::Expect(_) => player.obey(alloc, said, writer),
+        command => {
+            note(alloc, command, player.on as u16, at, link, out)?;
+            player.obey(alloc, said, writer)
+        }
+    }
+}
+
+/// Does what a command says, and captures what it has come in and go out. Whether the run goes on.
+fn capture_next<T: Write, W: Write>(
+    alloc: Global,
+    player: &mut GroupPlayer,
+    said: &GroupSaid<'_>,
+    links: &mut [LinkSeen],
+    out: &mut T,
+    writer: &mut W,
+) -> io::Result<bool>
+    ensures goes { IfOk result (λ on. on ≡ true → (p : Playing) (before : List PlainGroupSaid) (first : Option (List ℕ))
+        → IsGroupRun p before first (W.contents writer.old) (playing_of player.old) (last_of player.old)
+        → IsGroupRun p (before ++ plain_group_said said.now ∷ []) first (W.contents writer.new) (playing_of player.new) (last_of player.new)) }
+    ensures missed { IfOk result (λ on. on ≡ false → IsGroupMissedBy (plain_group_said said.now) (last_of player.old) (W.contents writer.old) (W.contents writer.new)) }
+    ensures captured { IfOk result (λ on. on ≡ true → (every : Bool) (p : Playing) (before : List PlainGroupSaid) (begun : Option (List ℕ))
+        → IsSetCapturing every p before begun (T.contents out.old) (playing_of player.old) (last_of player.old) links.old
+        → IsSetCapturing every p (before ++ plain_group_said said.now ∷ []) begun (T.contents out.new) (playing_of player.new) (last_of player.new) links.new) }
+    ensures uncaptured { IfOk result (λ on. on ≡ false → T.contents out.new ≡ T.contents out.old) }
+{
+    let on = player.on;
+    if links.len() != player.group.len() || u16::MAX as usize <= links.len() {
+        return Err(lost());
+    }
+    if on < links.len() {
+        return capture_there(alloc, player, said, &mut links[on], out, writer);
+    }
+    player.obey(alloc, said, writer)
+}
+
+/// Does what the commands say, in order, up to an expectation that fails, and captures what comes in and goes out. Gives the exit status, 0 or 1
+/// where one failed.
+fn capture_each<T: Write, W: Write>(
+    alloc: Global,
+    player: &mut GroupPlayer,
+    commands: &[GroupSaid<'_>],
+    links: &mut [LinkSeen],
+    out: &mut T,
+    writer: &mut W,
+) -> io::Result<u8>
+    ensures held { IfOk result (λ status. status ≡ 0 → last_of player.old ≡ None
+        → IsGroupWritten (map plain_group_said commands.now) (W.contents writer.old) (W.contents writer.new) (playing_of player.old)) }
+    ensures missed { IfOk result (λ status. status ≡ 1 → last_of player.old ≡ None
+        → IsGroupMissed (map plain_group_said commands.now) (W.contents writer.old) (W.contents writer.new) (playing_of player.old)) }
+    ensures captured { IfOk result (λ status. status ≡ 0 → last_of player.old ≡ None → (every : Bool) (begun : Option (List ℕ))
+        → AreHeard every [] 0 (map (λ b. []) (books_of (playing_of player.old))) links.old → Appends begun (T.contents out.old) HEADER
+        → IsSetCaptured every (map plain_group_said commands.now) begun (T.contents out.new) (playing_of player.old)) }
+    ensures in_part { IfOk result (λ status. status ≡ 1 → last_of player.old ≡ None → (every : Bool) (begun : Option (List ℕ))
+        → AreHeard every [] 0 (map (λ b. []) (books_of (playing_of player.old))) links.old → Appends begun (T.contents out.old) HEADER
+        → IsSetCapturedInPart every (map plain_group_said commands.now) begun (T.contents out.new) (playing_of player.old)) }
+    ensures status { IfOk result (λ status. (status ≡ 0) ⊎ (status ≡ 1)) }
+{
+    for said in commands {
+        if !capture_next(alloc, player, said, links, out, writer)? {
+            return Ok(MISSED);
+        }
+    }
+    Ok(HELD)
+}
+
+/// The same, from a link set's beginning.
+fn capture_set<T: Write, W: Write>(
+    alloc: Global,
+    player: &mut GroupPlayer,
+    script: &GroupScript<'_>,
+    every: bool,
+    out: &mut T,
+    writer: &mut W,
+) -> io::Result<u8>
+    ensures held { IfOk result (λ status. status ≡ 0 → last_of player.old ≡ None
+        → IsGroupWritten (map plain_group_said script.now.commands.items) (W.contents writer.old) (W.contents writer.new) (playing_of player.old)) }
+    ensures missed { IfOk result (λ status. status ≡ 1 → last_of player.old ≡ None
+        → IsGroupMissed (map plain_group_said script.now.commands.items) (W.contents writer.old) (W.contents writer.new) (playing_of player.old)) }
+    ensures captured { IfOk result (λ status. status ≡ 0 → last_of player.old ≡ None → length (books_of (playing_of player.old)) ≡ script.now.head.links
+        → IsSetCaptured every (map plain_group_said script.now.commands.items) (T.contents out.old) (T.contents out.new) (playing_of player.old)) }
+    ensures in_part { IfOk result (λ status. status ≡ 1 → last_of player.old ≡ None → length (books_of (playing_of player.old)) ≡ script.now.head.links
+        → IsSetCapturedInPart every (map plain_group_said script.now.commands.items) (T.contents out.old) (T.contents out.new) (playing_of player.old)) }
+    ensures status { IfOk result (λ status. (status ≡ 0) ⊎ (status ≡ 1)) }
+{
+    let mut links = new_links(alloc, script.head.links, every)?;
+    begin(out)?;
+    let status = capture_each(alloc, player, &script.commands, &mut links, out, writer)?;
+    Ok(status)
+}
+
+/// The same. Gives the exit status, 4 where memory or a write fails.
+fn capture_all<T: Write, W: Write>(
+    alloc: Global,
+    player: &mut GroupPlayer,
+    script: &GroupScript<'_>,
+    every: bool,
+    out: &mut T,
+    writer: &mut W,
+) -> u8
+    ensures held { result ≡ 0 → last_of player.old ≡ None
+        → IsGroupWritten (map plain_group_said script.now.commands.items) (W.contents writer.old) (W.contents writer.new) (playing_of player.old) }
+    ensures missed { result ≡ 1 → last_of player.old ≡ None
+        → IsGroupMissed (map plain_group_said script.now.commands.items) (W.contents writer.old) (W.contents writer.new) (playing_of player.old) }
+    ensures captured { result ≡ 0 → last_of player.old ≡ None → length (books_of (playing_of player.old)) ≡ script.now.head.links
+        → IsSetCaptured every (map plain_group_said script.now.commands.items) (T.contents out.old) (T.contents out.new) (playing_of player.old) }
+    ensures in_part { result ≡ 1 → last_of player.old ≡ None → length (books_of (playing_of player.old)) ≡ script.now.head.links
+        → IsSetCapturedInPart every (map plain_group_said script.now.commands.items) (T.contents out.old) (T.contents out.new) (playing_of player.old) }
+    ensures status { (result ≡ 0) ⊎ (result ≡ 1) ⊎ (result ≡ 4) }
+{
+    match capture_set(alloc, player, script, every, out, writer) {
+        Ok(status) => status,
+        Err(_) => FAILED,
+    }
+}
+
+/// Runs a link set's script on links with terminals over a set of processes, as `play_group` does, and captures these links.
+///
+/// Gives the exit status: 0 where each command ran and all was written, 1 after `failed line N` where an expectation failed, 2 after
+/// `refused X2 NoName NAME` alone where the set lacks a name that a terminal speaks to or hears, 4 where memory or a write fails.
+pub(crate) fn capture_group<T: Write, W: Write>(
+    alloc: Global,
+    set: &Verified,
+    limits: RoundLimits,
+    script: &GroupScript<'_>,
+    every: bool,
+    out: &mut T,
+    writer: &mut W,
+) -> u8
+    requires { IsFew script.now.head.links }
+    ensures held { result ≡ 0
+        → IsOfNewSet set.now limits script.now.head (IsGroupWritten (map plain_group_said script.now.commands.items) (W.contents writer.old) (W.contents writer.new)) }
+    ensures missed { result ≡ 1
+        → IsOfNewSet set.now limits script.now.head (IsGroupMissed (map plain_group_said script.now.commands.items) (W.contents writer.old) (W.contents writer.new)) }
+    ensures captured { result ≡ 0
+        → IsOfNewSet set.now limits script.now.head (IsSetCaptured every (map plain_group_said script.now.commands.items) (T.contents out.old) (T.contents out.new)) }
+    ensures in_part { result ≡ 1
+        → IsOfNewSet set.now limits script.now.head (IsSetCapturedInPart every (map plain_group_said script.now.commands.items) (T.contents out.old) (T.contents out.new)) }
+    ensures refused { result ≡ 2 → LacksName set.now (W.contents writer.old) (W.contents writer.new) }
+    ensures status { (result ≡ 0) ⊎ (result ≡ 1) ⊎ (result ≡ 2) ⊎ (result ≡ 4) }
+{
+    match open_group(alloc, set, limits, script.head) {
+        Ok(player) => {
+            let mut player = player;
+            let status = capture_all(alloc, &mut player, script, every, out, writer);
+            end_player(player);
+            status
+        }
+        Err(error) => refuse_set(alloc, writer, error),
+    }
+}

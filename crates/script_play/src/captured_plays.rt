@@ -1,0 +1,164 @@
+//! The command `play` with a capture of the units that go out and come in.
+ghost use Rattle.std.specs.Prelude.{◌≡◌, ◌⊎◌, List, ℕ, IfSome};
+ghost use Rattle.plain_text.specs.Reading.{Keeps};
+ghost use Rattle.script_check.specs.Checked.{given, IsAccepted};
+ghost use Rattle.script_seen.specs.TermScripts.{plain_any_script, IsInRange};
+ghost use Rattle.script_seen.specs.GroupScripts.{plain_play_script, IsFit};
+ghost use Rattle.script_play.specs.Played.{IsOtherObeyed, IsObeyed, IsOtherMissed, IsMissedIn, HasNoOther, HasNoTerminal, IsNotRun, IsOnSet, IsRefused};
+ghost use Rattle.script_play.specs.Seen.{IsOtherCaptured, AreCaptured, IsOtherCapturedInPart, AreCapturedInPart, IsPlayCaptured, IsPlayCapturedInPart};
+
+use crate::captured_groups::capture_group;
+use crate::captured_terminals::capture_terminal;
+use crate::playing::{explain, explain_length, refuse_script};
+use plain_text::{TextRead, line_at_limit, read_text};
+use script_check::{SetWord, find_set, refuse_set};
+use script_lines::ScriptFault;
+use script_seen::{AnyScript, FAILED, PlayScript, RoundLimits, play_script_in, refuse, write_line};
+use std::alloc::Global;
+use std::io::{Read, Write};
+use std::str;
+use turn_check::Verified;
+
+/// Tells that a script of a book has no units. Gives the exit status.
+fn lacks_units<E: Write>(alloc: Global, errors: &mut E) -> u8
+    ensures { result ≡ 4 }
+{
+    let _told = write_line(
+        alloc,
+        errors,
+        &"mtp2_play: a book script has no units to capture",
+    );
+    FAILED
+}
+
+/// Runs a script of a book or of a terminal, and captures its link.
+fn capture_other<T: Write, W: Write, E: Write>(
+    alloc: Global,
+    set: &Verified,
+    usual: RoundLimits,
+    script: &AnyScript<'_>,
+    every: bool,
+    out: &mut T,
+    writer: &mut W,
+    errors: &mut E,
+) -> u8
+    requires { IsInRange script.now }
+    ensures held { result ≡ 0 → IsOtherObeyed usual set.now (plain_any_script script.now) (W.contents writer.old) (W.contents writer.new) }
+    ensures missed { result ≡ 1 → IsOtherMissed usual set.now (plain_any_script script.now) (W.contents writer.old) (W.contents writer.new) }
+    ensures captured { result ≡ 0 → IsOtherCaptured usual every set.now (plain_any_script script.now) (T.contents out.old) (T.contents out.new) }
+    ensures in_part { result ≡ 1 → IsOtherCapturedInPart usual every set.now (plain_any_script script.now) (T.contents out.old) (T.contents out.new) }
+    ensures refused { result ≡ 2 → HasNoOther set.now (plain_any_script script.now) (W.contents writer.old) (W.contents writer.new) }
+    ensures status { (result ≡ 0) ⊎ (result ≡ 1) ⊎ (result ≡ 2) ⊎ (result ≡ 4) }
+{
+    match script {
+        AnyScript::Book(_) => lacks_units(alloc, errors),
+        AnyScript::Terminal(script) => {
+            capture_terminal(alloc, set, usual, script, every, out, writer)
+        }
+    }
+}
+
+/// Runs a script, and captures its links.
+fn capture_script<T: Write, W: Write, E: Write>(
+    alloc: Global,
+    set: &Verified,
+    usual: RoundLimits,
+    script: &PlayScript<'_>,
+    every: bool,
+    out: &mut T,
+    writer: &mut W,
+    errors: &mut E,
+) -> u8
+    requires { IsFit script.now }
+    ensures held { result ≡ 0 → IsObeyed usual set.now (plain_play_script script.now) (W.contents writer.old) (W.contents writer.new) }
+    ensures missed { result ≡ 1 → IsMissedIn usual set.now (plain_play_script script.now) (W.contents writer.old) (W.contents writer.new) }
+    ensures captured { result ≡ 0 → AreCaptured usual every set.now (plain_play_script script.now) (T.contents out.old) (T.contents out.new) }
+    ensures in_part { result ≡ 1 → AreCapturedInPart usual every set.now (plain_play_script script.now) (T.contents out.old) (T.contents out.new) }
+    ensures refused { result ≡ 2 → HasNoTerminal set.now (plain_play_script script.now) (W.contents writer.old) (W.contents writer.new) }
+    ensures status { (result ≡ 0) ⊎ (result ≡ 1) ⊎ (result ≡ 2) ⊎ (result ≡ 4) }
+{
+    match script {
+        PlayScript::Other(script) => {
+            capture_other(alloc, set, usual, script, every, out, writer, errors)
+        }
+        PlayScript::Group(script) => {
+            capture_group(alloc, set, usual, script, every, out, writer)
+        }
+    }
+}
+
+/// Runs the script of a text that was read, and captures its links.
+fn capture_text<T: Write, W: Write, E: Write>(
+    alloc: Global,
+    set: &Verified,
+    usual: RoundLimits,
+    read: &TextRead,
+    every: bool,
+    out: &mut T,
+    writer: &mut W,
+    errors: &mut E,
+) -> u8
+    ensures held { result ≡ 0 → (bytes : List ℕ) → Keeps bytes read.now
+        → IsPlayCaptured usual every (W.contents writer.old) (W.contents writer.new) (T.contents out.old) (T.contents out.new) set.now bytes }
+    ensures missed { result ≡ 1 → (bytes : List ℕ) → Keeps bytes read.now
+        → IsPlayCapturedInPart usual every (W.contents writer.old) (W.contents writer.new) (T.contents out.old) (T.contents out.new) set.now bytes }
+    ensures refused { result ≡ 2 → (bytes : List ℕ) → Keeps bytes read.now → IsNotRun (W.contents writer.old) (W.contents writer.new) set.now bytes }
+    ensures status { (result ≡ 0) ⊎ (result ≡ 1) ⊎ (result ≡ 2) ⊎ (result ≡ 4) }
+{
+    if !read.is_text {
+        return refuse(alloc, writer, &"refused F1 NotText");
+    }
+    if read.is_too_long() {
+        let line = line_at_limit(&read.kept);
+        explain_length(alloc, line, errors);
+        return refuse_script(alloc, writer, ScriptFault::BadLine(line));
+    }
+    match str::from_utf8(&read.kept) {
+        Ok(text) => match play_script_in(alloc, text) {
+            Ok(script) => capture_script(alloc, set, usual, &script, every, out, writer, errors),
+            Err(fault) => {
+                explain(alloc, text, fault, errors);
+                refuse_script(alloc, writer, fault)
+            }
+        },
+        Err(_) => refuse(alloc, writer, &"refused F1 NotText"),
+    }
+}
+
+/// Runs a script of a terminal or of a link set as `play` does without the lines of its commands, and captures its links in pcap's format, with a
+/// millisecond for each tick: the units that `out` prints, and those that come in without error. Those that say nothing new are left out, unless
+/// `every` says otherwise. A record goes out in one write.
+///
+/// Gives the exit status, as `play` does: 4 where a write to `out` fails too, and for a book script, which has no units.
+pub(crate) fn play_captured<S: Read + Drop, R: Read + Drop, W: Write, T: Write, E: Write>(
+    alloc: Global,
+    set: SetWord<S>,
+    usual: RoundLimits,
+    name: &str,
+    mut script: R,
+    every: bool,
+    out: &mut T,
+    writer: &mut W,
+    errors: &mut E,
+) -> u8
+    ensures accepted { (result ≡ 0) ⊎ (result ≡ 1) → IfSome (given S.remaining set) IsAccepted }
+    ensures held { result ≡ 0
+        → IsOnSet (given S.remaining set) (R.remaining script)
+        (IsPlayCaptured usual every (W.contents writer.old) (W.contents writer.new) (T.contents out.old) (T.contents out.new)) }
+    ensures missed { result ≡ 1
+        → IsOnSet (given S.remaining set) (R.remaining script)
+        (IsPlayCapturedInPart usual every (W.contents writer.old) (W.contents writer.new) (T.contents out.old) (T.contents out.new)) }
+    ensures refused { result ≡ 2
+        → IsRefused (given S.remaining set) (R.remaining script) (W.contents writer.old) (W.contents writer.new) }
+    ensures status { (result ≡ 0) ⊎ (result ≡ 1) ⊎ (result ≡ 2) ⊎ (result ≡ 4) }
+{
+    let set = find_set(alloc, set);
+    let read = read_text(alloc, &mut script);
+    match set {
+        Ok(set) => match read {
+            Ok(read) => capture_text(alloc, &set, usual, &read, every, out, writer, errors),
+            Err(_) => FAILED,
+        },
+        Err(refusal) => refuse_set(alloc, name, &refusal, writer, errors),
+    }
+}
