@@ -55,7 +55,7 @@ fn lacks_watcher<E: Write>(alloc: Global, errors: &mut E) -> u8
     let _told = write_line(
         alloc,
         errors,
-        &"mtp2_play: a chart, and what is thrown away, are told of a script of a book or a terminal",
+        &"mtp2_play: a chart, coverage, and what is thrown away, are told of a script of a book or a terminal",
     );
     FAILED
 }
