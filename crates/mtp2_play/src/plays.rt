@@ -87,31 +87,13 @@ fn play_on<H: Eprint, S: Read + Drop, T: Read + Drop, F: Write, W: Write>(
     let (echo, wanted) = (watch.echo, watch.wanted);
     let mut errors = teller.errors();
     if echo {
-        return play(
-            alloc,
-            set,
-            usual,
-            name,
-            script,
-            echo,
-            writer,
-            &mut errors,
-        );
+        return play(alloc, set, usual, name, script, echo, writer, &mut errors);
     }
     match &mut watch.out {
         Some(out) => see_on(
             alloc, teller, set, named, name, script, wanted, out, writer,
         ),
-        None => play(
-            alloc,
-            set,
-            usual,
-            name,
-            script,
-            echo,
-            writer,
-            &mut errors,
-        ),
+        None => play(alloc, set, usual, name, script, echo, writer, &mut errors),
     }
 }
 

@@ -1,7 +1,8 @@
 -- A chart, one turn more.
-use Rattle.std.proofs.Common.{◌≡◌, ◌∙◌, ℕ, zero, suc, ◌+◌, Bool, true, false, List, [], ◌∷◌, ◌++◌, length, map, take, drop, append-nil, append_assoc, get_or, ◌<◌, ◌≤◌, eqb-true, Option, Some, None, arith, refl, sym, ap, subst}
-use Rattle.std.specs.Prelude.{◌||◌, ◌==◌, filter, is_empty, is_some, option_map, if◌then◌else◌, codes}
+use Rattle.std.proofs.Common.{◌≡◌, ◌∙◌, ℕ, zero, suc, ◌+◌, ◌*◌, Bool, true, false, List, [], ◌∷◌, ◌++◌, length, map, take, drop, append-nil, append_assoc, get_or, ◌<◌, ◌≤◌, eqb-true, Option, Some, None, arith, refl, sym, ap, subst}
+use Rattle.std.specs.Prelude.{◌||◌, ◌==◌, filter, is_empty, is_none, is_some, option_map, if◌then◌else◌, codes}
 use Rattle.std.specs.List.{list_any, flat_map}
+use Rattle.std.specs.Fmt.{decimal}
 use Rattle.std.proofs.lemmas.Bool.{false≢true}
 use Rattle.std.proofs.lemmas.Option.{same_Some}
 use Rattle.std.proofs.lemmas.List.{length-append, length-map, length-take-le, map-append, take_all, take_more}
@@ -20,8 +21,9 @@ use Rattle.script_seen.specs.actor_machine_types.name.ActorName.{ActorName}
 use Rattle.script_seen.specs.actor_machine_types.reply.Lost.{Lost}
 use Rattle.script_seen.specs.actor_machine_types.reply.Report.{Report}
 use Rattle.script_seen.specs.declared.turns.Ended.{Ended}
-use Rattle.script_play.specs.Charted.{time_text, row_text, rows_text, came_text, box_text, outs_text, timing_of, is_in, is_sender, gets, get_it, came_from_outside, goes_outside, has_outside, is_drawn, last_clock, end_of, takes_part, head_of, heads, behind_each, stacked, below_each, note_of, beside, Charts, IsDrawn, TakesPart, HasMore, HasColumns}
+use Rattle.script_play.specs.Charted.{time_text, row_text, rows_text, came_text, box_text, outs_text, timing_of, is_in, is_sender, gets, get_it, came_from_outside, goes_outside, has_outside, is_drawn, last_clock, end_of, takes_part, columns, columns_of, chart_of, chart_text, COLUMN, head_of, heads, behind_each, stacked, below_each, note_of, beside, Charts, IsDrawn, TakesPart, HasMore, HasColumns}
 use Rattle.script_play.specs.declared.charts.Chart.{Chart}
+use Rattle.script_play.specs.declared.charts.Cut.{Cut}
 use Rattle.script_play.specs.declared.columns.Columns.{Columns}
 
 -- ---- truth values
@@ -380,3 +382,44 @@ a_note d me (line ∷ lines) some = refl
 pub heads_are : (names : List (List ℕ)) → drop 2 (behind_each names) ≡ heads names
 heads_are [] = refl
 heads_are (name ∷ names) = refl
+
+none_yet : (last : ℕ) (ts : List TurnEnd) → is_none (last_clock (Some last) ts) ≡ false
+none_yet last [] = refl
+none_yet last (t ∷ ts) = none_yet t.clock ts
+
+no_turns : (ts : List TurnEnd) → is_none (last_clock None ts) ≡ is_empty ts
+no_turns [] = refl
+no_turns (t ∷ ts) = none_yet t.clock ts
+
+same_chosen : (P Q : ActorName → Bool) (xs : List ActorName) → ((x : ActorName) → P x ≡ Q x) → filter P xs ≡ filter Q xs
+same_chosen P Q [] same = refl
+same_chosen P Q (x ∷ xs) same =
+    ap (λ (b : Bool). if b then x ∷ filter P xs else filter P xs) (same x)
+    ∙ ap (λ (l : List ActorName). if Q x then x ∷ l else l) (same_chosen P Q xs same)
+
+-- the columns are those of the turns that were drawn
+pub columns_are : (d : Draft) (ts : List TurnEnd) (c : Chart) → IsDrawn d ts c
+    → columns_of d (c.environment || is_none c.clock) c.actors.items ≡ columns d ts
+columns_are d ts c k =
+    let outside : (c.environment || is_none c.clock) ≡ (list_any has_outside ts || is_empty ts) =
+    ap (λ (b : Bool). b || is_none c.clock) k.outside ∙ ap (λ (b : Bool). list_any has_outside ts || b) (ap (λ (o : Option ℕ). is_none o) k.clock ∙ no_turns ts) in
+    ap (λ (b : Bool). columns_of d b c.actors.items) outside
+    ∙ ap (λ (l : List ActorName). (if list_any has_outside ts || is_empty ts then codes "ENV" ∷ [] else []) ++ map (sender_text d) l)
+    (same_chosen (takes_part c.actors.items) (λ x. list_any (is_in d x) ts) (actors_of d.processes) k.actors)
+
+-- the chart of the turns that were drawn
+pub chart_is : (d : Draft) (cut own : Cut) (ts : List TurnEnd) (c : Chart) (cs : Columns) (width : ℕ) (heads_text : List ℕ) → own ≡ cut → c.cut ≡ own
+    → HasColumns (columns_of d (c.environment || is_none c.clock) c.actors.items) cs → width ≡ COLUMN * cs.count → heads_text ≡ drop 2 cs.text.items → Charts d ts c
+    → codes "msc {\n  width=\"" ++ (decimal width ++ (codes "\", arcgradient=\"0\";\n  " ++ (heads_text ++ (codes ";\n" ++ (c.rows.items ++ codes "}\n"))))) ≡ chart_text d cut ts
+chart_is d cut own ts c cs width heads_text same is columns_have wide heads_have k =
+    let ds : List TurnEnd = filter (is_drawn c.cut) ts in
+    let names : columns_of d (c.environment || is_none c.clock) c.actors.items ≡ columns d ds = columns_are d ds c k in
+    let W : width ≡ COLUMN * length (columns d ds) =
+    wide ∙ ap (λ (n : ℕ). COLUMN * n) (columns_have.count ∙ ap (λ (l : List (List ℕ)). length l) names) in
+    let H : heads_text ≡ heads (columns d ds) =
+    heads_have ∙ (ap (λ (t : List ℕ). drop 2 t) (columns_have.text ∙ ap behind_each names) ∙ heads_are (columns d ds)) in
+    let C : chart_of d ds ≡ chart_text d cut ts = ap (λ (x : Cut). chart_of d (filter (is_drawn x) ts)) (is ∙ same) in
+    ap (λ (n : ℕ). codes "msc {\n  width=\"" ++ (decimal n ++ (codes "\", arcgradient=\"0\";\n  " ++ (heads_text ++ (codes ";\n" ++ (c.rows.items ++ codes "}\n")))))) W
+    ∙ (ap (λ (t : List ℕ). codes "msc {\n  width=\"" ++ (decimal (COLUMN * length (columns d ds)) ++ (codes "\", arcgradient=\"0\";\n  " ++ (t ++ (codes ";\n" ++ (c.rows.items ++ codes "}\n")))))) H
+    ∙ (ap (λ (t : List ℕ). codes "msc {\n  width=\"" ++ (decimal (COLUMN * length (columns d ds)) ++ (codes "\", arcgradient=\"0\";\n  " ++ (heads (columns d ds) ++ (codes ";\n" ++ (t ++ codes "}\n")))))) k.rows
+    ∙ C))

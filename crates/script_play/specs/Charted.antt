@@ -227,10 +227,10 @@ has_outside t =
 abbrev pub actors_in : Draft → List TurnEnd → List ActorName
 actors_in d ts = filter (λ x. list_any (is_in d x) ts) (actors_of d.processes)
 
--- the environment stands first, where it takes part or nobody does
+-- the environment stands first, where it takes part or no turn is drawn
 abbrev pub columns : Draft → List TurnEnd → List (List ℕ)
 columns d ts =
-    (if list_any has_outside ts || is_empty (actors_in d ts) then codes "ENV" ∷ [] else [])
+    (if list_any has_outside ts || is_empty ts then codes "ENV" ∷ [] else [])
     ++ map (sender_text d) (actors_in d ts)
 
 abbrev pub head_of : List ℕ → List ℕ
@@ -283,7 +283,7 @@ behind_each names = flat_map (λ n. codes ", " ++ head_of n) names
 -- the names of columns, by what a chart knows of who takes part
 abbrev pub columns_of : Draft → Bool → List ActorName → List (List ℕ)
 columns_of d outside xs =
-    (if outside || is_empty xs then codes "ENV" ∷ [] else [])
+    (if outside then codes "ENV" ∷ [] else [])
     ++ map (sender_text d) (filter (takes_part xs) (actors_of d.processes))
 
 -- columns of these names more

@@ -1,5 +1,5 @@
 //! A chart of turns, in the language of mscgen.
-ghost use Rattle.std.specs.Prelude.{◌≡◌, ◌++◌, ◌∷◌, ◌||◌, ◌*◌, [], List, Some, is_empty, OnOk, IfOk, false};
+ghost use Rattle.std.specs.Prelude.{◌≡◌, ◌++◌, ◌∷◌, ◌||◌, ◌*◌, [], List, Some, is_none, OnOk, IfOk, false};
 ghost use Rattle.std.specs.List.{list_any};
 ghost use Rattle.turn_code.specs.Outcome.{Outcome};
 ghost use Rattle.turn_code.specs.declared.draft.Draft.{Draft};
@@ -190,16 +190,16 @@ impl Chart {
         self.push_rows(alloc, set, ended)
     }
 
-    /// Whether the environment stands at the head: where it takes part, and where nobody does.
+    /// Whether the environment stands at the head: where it takes part, and where no turn is drawn.
     fn has_environment(&self) -> bool
-        ensures { result ≡ (self.now.environment || is_empty self.now.actors.items) }
+        ensures { result ≡ (self.now.environment || is_none self.now.clock) }
     {
-        self.environment || self.actors.is_empty()
+        self.environment || self.clock.is_none()
     }
 
     /// Who takes part, the environment first, and then actors in the order of the text.
     fn columns(&self, alloc: Global, set: &Verified) -> Result<Columns, AllocError>
-        ensures { IfOk result (λ c. HasColumns (columns_of set.now self.now.environment self.now.actors.items) c) }
+        ensures { IfOk result (λ c. HasColumns (columns_of set.now (self.now.environment || is_none self.now.clock) self.now.actors.items) c) }
     {
         let mut columns = Columns::new(alloc, self.has_environment())?;
         push_columns(alloc, &mut columns, set, &self.actors)?;
