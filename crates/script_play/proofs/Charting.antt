@@ -1,10 +1,10 @@
 -- A chart, one turn more.
 use Rattle.std.proofs.Common.{◌≡◌, ◌∙◌, ℕ, zero, suc, ◌+◌, ◌*◌, Bool, true, false, List, [], ◌∷◌, ◌++◌, length, map, take, drop, append-nil, append_assoc, get_or, ◌<◌, ◌≤◌, eqb-true, Option, Some, None, arith, refl, sym, ap, subst}
-use Rattle.std.specs.Prelude.{◌||◌, ◌==◌, filter, is_empty, is_none, is_some, option_map, if◌then◌else◌, codes}
+use Rattle.std.specs.Prelude.{◌||◌, ◌==◌, filter, is_empty, is_none, is_some, option_map, slice_get, if◌then◌else◌, codes}
 use Rattle.std.specs.List.{list_any, flat_map}
 use Rattle.std.specs.Fmt.{decimal}
 use Rattle.std.proofs.lemmas.Bool.{false≢true}
-use Rattle.std.proofs.lemmas.Option.{same_Some}
+use Rattle.std.proofs.lemmas.Option.{same_Some, slice_get-get_or, get_or_from_slice_get}
 use Rattle.std.proofs.lemmas.List.{length-append, length-map, length-take-le, map-append, take_all, take_more}
 use Rattle.std.proofs.lemmas.List.Elements.{filter-append}
 use Rattle.std.proofs.lemmas.Grind.{flat_map-append}
@@ -12,6 +12,7 @@ use Rattle.turn_code.specs.Outcome.{Outcome}
 use Rattle.turn_code.specs.declared.draft.Draft.{Draft}
 use Rattle.turn_code.specs.declared.effect.Effect.{Effect}
 use Rattle.turn_code.specs.declared.draft.DraftProcess.{DraftProcess}
+use Rattle.turn_check.specs.Named.{instances_at, instances_of}
 use Rattle.script_lines.specs.Replies.{sender_text}
 use Rattle.script_seen.specs.Names.{same_actor, named, instances_from, names_from, counts_of, actors_of}
 use Rattle.script_seen.specs.Told.{lost_at}
@@ -337,19 +338,33 @@ names_more p (m ∷ ns) n =
     (names_more (suc p) ns n ∙ ap (λ (q : ℕ). names_from (suc p) ns ++ instances_from q 1 n) (let e : suc p + length ns ≡ p + suc (length ns) = omega arith in e))
     ∙ sym (append_assoc (instances_from p 1 m) (names_from (suc p) ns) (instances_from (p + suc (length ns)) 1 n))
 
+-- a process of a set
+record OneProcess (ps : List DraftProcess) (i : ℕ) : Type 0 where
+  process : DraftProcess
+  is : slice_get ps i ≡ Some process
+
+one_process : (ps : List DraftProcess) (i : ℕ) → i < length ps → OneProcess ps i
+one_process [] i within = absurd (omega (arith, within))
+one_process (y ∷ ys) i within = record { process = get_or (y ∷ ys) i y; is = slice_get-get_or (y ∷ ys) i y within }
+
 -- the instances of one process more
-pub process_more : (d : Draft) (xs : List ActorName) (ps : List DraftProcess) (i : ℕ) (x : DraftProcess) (n : ℕ) (a b c : Columns) → i < length ps
-    → get_or ps i x ≡ x → n ≡ x.instances → HasMore (chosen d xs (actors_of (take i ps))) a b → HasMore (chosen d xs (instances_from i 1 n)) b c
-    → HasMore (chosen d xs (actors_of (take (i + 1) ps))) a c
-process_more d xs ps i x n a b c within is many p q =
-    let K : ℕ → Type 0 = λ j. HasMore (chosen d xs (instances_from i 1 j)) b c in
+pub process_more : (d : Draft) (xs : List ActorName) (i n : ℕ) (a b c : Columns) → i < length d.processes → n ≡ i
+    → HasMore (chosen d xs (actors_of (take i d.processes))) a b → HasMore (chosen d xs (instances_from n 1 (instances_at d n))) b c
+    → HasMore (chosen d xs (actors_of (take (i + 1) d.processes))) a c
+process_more d xs i n a b c within number p q =
+    let ps : List DraftProcess = d.processes in
+    let one : OneProcess ps i = one_process ps i within in
+    let x : DraftProcess = one.process in
+    let N : ℕ → Type 0 = λ k. HasMore (chosen d xs (instances_from k 1 (instances_at d k))) b c in
+    let K : ℕ → Type 0 = λ k. HasMore (chosen d xs (instances_from i 1 k)) b c in
     let ns : List ℕ = counts_of (take i ps) in
     let few : length ns ≡ i = length-map (take i ps) (λ (y : DraftProcess). y.instances) ∙ length-take-le i ps (omega (arith, within)) in
     let all : actors_of (take (i + 1) ps) ≡ actors_of (take i ps) ++ instances_from i 1 x.instances =
-    ap actors_of (take_more ps i x within ∙ ap (λ y. take i ps ++ y ∷ []) is)
+    ap actors_of (take_more ps i x within ∙ ap (λ (y : DraftProcess). take i ps ++ y ∷ []) (get_or_from_slice_get ps i x x one.is))
     ∙ (ap (names_from 0) (map-append (λ (y : DraftProcess). y.instances) (take i ps) (x ∷ []))
     ∙ (names_more 0 ns x.instances ∙ ap (λ (k : ℕ). actors_of (take i ps) ++ instances_from k 1 x.instances) few)) in
-    more_names d xs (actors_of (take i ps)) (instances_from i 1 x.instances) (actors_of (take (i + 1) ps)) a b c all p (subst K many q)
+    more_names d xs (actors_of (take i ps)) (instances_from i 1 x.instances) (actors_of (take (i + 1) ps)) a b c all p
+    (subst K (ap instances_of one.is) (subst N number q))
 
 pub all_processes : (d : Draft) (xs : List ActorName) (ps : List DraftProcess) (i : ℕ) (a b : Columns) → length ps ≤ i
     → HasMore (chosen d xs (actors_of (take i ps))) a b → HasMore (chosen d xs (actors_of ps)) a b
