@@ -90,9 +90,7 @@ fn play_on<H: Eprint, S: Read + Drop, T: Read + Drop, F: Write, W: Write>(
         return play(alloc, set, usual, name, script, echo, writer, &mut errors);
     }
     match &mut watch.out {
-        Some(out) => see_on(
-            alloc, teller, set, named, name, script, wanted, out, writer,
-        ),
+        Some(out) => see_on(alloc, teller, set, named, name, script, wanted, out, writer),
         None => play(alloc, set, usual, name, script, echo, writer, &mut errors),
     }
 }

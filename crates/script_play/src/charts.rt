@@ -59,8 +59,7 @@ fn is_drawn(cut: Cut, ended: &Ended) -> bool
 {
     let job = ended.done.job();
     cut.first <= job.turn()
-        && (job.turn() <= cut.last
-            && !is_dull(job.place(), ended.report.end, ended.done.effects()))
+        && (job.turn() <= cut.last && !is_dull(job.place(), ended.report.end, ended.done.effects()))
 }
 
 impl Chart {

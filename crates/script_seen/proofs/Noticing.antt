@@ -25,7 +25,6 @@ use Rattle.actor_machine.specs.declared.actor.Standing.TheVariants.{At, Stopped}
 use Rattle.actor_machine.specs.declared.name.ActorName.{ActorName}
 use Rattle.actor_machine.specs.declared.event.Event.{Event}
 use Rattle.actor_machine.specs.declared.event.Event.TheVariants as event
-use Rattle.actor_machine.specs.declared.event.Offer.{Offer}
 use Rattle.tick_wheel.specs.Turning.{timers_of}
 use Rattle.script_seen.specs.Told.{stepped, outcome_by}
 use Rattle.script_seen.specs.Traced.{since}
@@ -37,21 +36,14 @@ use Rattle.script_seen.specs.declared.tracing.Tracer.{Tracer}
 
 -- ---- single events
 
-pub noticed_offer : (d : Draft) (w : Core) (o : Offer) → noticed d w (event.Offer o) ≡ []
+pub none_noticed : (d : Draft) (w : Core) (e : Event) → ((n : _) → e ≡ event.Skip n → ⊥) → ((n : _) → e ≡ event.Finish n → ⊥) → noticed d w e ≡ []
 unfolding noticed
-noticed_offer d w o = refl
-
-pub noticed_begin : (d : Draft) (w : Core) (n : ℕ) → noticed d w (event.Begin n) ≡ []
-unfolding noticed
-noticed_begin d w n = refl
-
-pub noticed_advance : (d : Draft) (w : Core) (k : ℕ) → noticed d w (event.Advance k) ≡ []
-unfolding noticed
-noticed_advance d w k = refl
-
-pub noticed_take : (d : Draft) (w : Core) → noticed d w event.TakeEnv ≡ []
-unfolding noticed
-noticed_take d w = refl
+none_noticed d w (event.Offer o) no_skip no_finish = refl
+none_noticed d w (event.Begin n) no_skip no_finish = refl
+none_noticed d w (event.Skip n) no_skip no_finish = absurd (no_skip n refl)
+none_noticed d w (event.Finish n) no_skip no_finish = absurd (no_finish n refl)
+none_noticed d w (event.Advance k) no_skip no_finish = refl
+none_noticed d w event.TakeEnv no_skip no_finish = refl
 
 noticed_skip : (d : Draft) (w : Core) (n : ℕ) → skip_noticed d (slice_get w.actors n) ≡ noticed d w (event.Skip n)
 unfolding noticed

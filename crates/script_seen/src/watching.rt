@@ -141,10 +141,7 @@ impl Tracer {
         match event {
             Event::Skip(actor) => self.skip_watched(alloc, *actor, watcher),
             Event::Finish(actor) => self.finish_watched(alloc, *actor, watcher),
-            Event::Offer(_) => self.happen_unwatched(alloc, event),
-            Event::Begin(_) => self.happen_unwatched(alloc, event),
-            Event::Advance(_) => self.happen_unwatched(alloc, event),
-            Event::TakeEnv => self.happen_unwatched(alloc, event),
+            _ => self.happen_unwatched(alloc, event),
         }
     }
 

@@ -1,19 +1,11 @@
+use Rattle.std.proofs.lemmas.Result.{on_ok_weaker}
 use Rattle.actor_machine.specs.Ledger.{state_of}
-use Rattle.script_seen.proofs.Noticing.{knows_none, noticed_offer, noticed_begin, noticed_advance, noticed_take}
+use Rattle.script_seen.proofs.Noticing.{knows_none, none_noticed}
 use Rattle.script_seen.proofs.watching.Tracer.happen_watched.Goals as goal
 
-pub returns-in-Offer-clause-knows : goal.returns-in-Offer-clause-knows
-returns-in-Offer-clause-knows g c ns k =
-    knows_none (λ d ms. g.N.Watcher.knows d ms c.args.watcher.now) c.args.self.now.again.set _ ns (noticed_offer c.args.self.now.again.set (state_of c.args.self.now.again) _) k
-
-pub returns-in-Begin-clause-knows : goal.returns-in-Begin-clause-knows
-returns-in-Begin-clause-knows g c ns k =
-    knows_none (λ d ms. g.N.Watcher.knows d ms c.args.watcher.now) c.args.self.now.again.set _ ns (noticed_begin c.args.self.now.again.set (state_of c.args.self.now.again) _) k
-
-pub returns-in-Advance-clause-knows : goal.returns-in-Advance-clause-knows
-returns-in-Advance-clause-knows g c ns k =
-    knows_none (λ d ms. g.N.Watcher.knows d ms c.args.watcher.now) c.args.self.now.again.set _ ns (noticed_advance c.args.self.now.again.set (state_of c.args.self.now.again) _) k
-
-pub returns-in-TakeEnv-clause-knows : goal.returns-in-TakeEnv-clause-knows
-returns-in-TakeEnv-clause-knows g c ns k =
-    knows_none (λ d ms. g.N.Watcher.knows d ms c.args.watcher.now) c.args.self.now.again.set _ ns (noticed_take c.args.self.now.again.set (state_of c.args.self.now.again)) k
+pub returns-in_default-clause-knows : goal.returns-in_default-clause-knows
+returns-in_default-clause-knows g c =
+    on_ok_weaker c.happen_unwatched.result (λ step ns k.
+    knows_none (λ d ms. g.N.Watcher.knows d ms c.args.watcher.now) c.args.self.now.again.set _ ns
+    (none_noticed c.args.self.now.again.set (state_of c.args.self.now.again) c.args.event.now c.in_default.not-Skip c.in_default.not-Finish) k)
+    c.happen_unwatched.ensures
