@@ -5,6 +5,7 @@ mod Charting
 mod Tellings
 pub mod Watching
 mod Capturings
+mod OutGoing
 mod TermCaptures
 mod OtherLinks
 mod SetCaptures

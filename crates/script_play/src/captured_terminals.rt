@@ -69,7 +69,7 @@ fn give_out<T: Write, W: Write>(
         → (last : List OneSeen) × Sends 0 at units player.old.terminal ss player.new.terminal last
         × IsCapturing 0 every came last begun (T.contents out.new) link.new) }
 {
-    for _unit in 0..units {
+    for gone in 0..units {
         match next_out(alloc, player, writer)? {
             Some(unit) => link.send(0, at, &unit, out)?,
             None => return Ok(()),
