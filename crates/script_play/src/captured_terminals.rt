@@ -9,7 +9,7 @@ ghost use Rattle.script_links.specs.TermScripts.{PlainTermSaid, plain_term_said,
 ghost use Rattle.script_seen.specs.Term.{Term};
 ghost use Rattle.script_seen.specs.TermAnswers.{next_of, behind_next, unit_line};
 ghost use Rattle.script_seen.specs.TermRuns.{last_of, HasPrinted, HasGivenOut, IsTermRun, IsTermWritten, IsTermMissed, IsTermFailed, IsTermMissedBy, IsOfNew, LacksName};
-ghost use Rattle.script_play.specs.Captured.{time_of, IsComing, is_noted, Hears, Sends, IsCapturing, IsTermCapturing, IsCaptured, IsCapturedInPart};
+ghost use Rattle.script_play.specs.Captured.{time_of, repeated, IsComing, is_noted, Hears, Sends, IsCapturing, IsTermCapturing, IsCaptured, IsCapturedInPart};
 
 use crate::capturing::{LinkSeen, begin, lost, time_of};
 use script_seen::{
@@ -78,7 +78,60 @@ fn give_out<T: Write, W: Write>(
     Ok(())
 }
 
+/// What comes in by a command: octets, so many times.
+#[derive(Drop)]
+struct Coming {
+    octets: Vec<u8>,
+    times: u32,
+}
+
 /// What comes in by a command, by which no unit is asked for, and nothing expected.
+fn coming(alloc: Global, command: &TermCommand<'_>) -> io::Result<Coming>
+    ensures noted { OnOk result (is_noted (plain_term_command command.now) ≡ true) }
+    ensures coming { IfOk result (λ c. IsComing (plain_term_command command.now) (repeated c.times c.octets.items)) }
+{
+    match command {
+        TermCommand::Unit(octets) => {
+            let octets = line_of_unit(alloc, octets)?;
+            Ok(Coming { octets, times: 1 })
+        }
+        TermCommand::Units(times, octets) => {
+            let octets = line_of_unit(alloc, octets)?;
+            Ok(Coming {
+                octets,
+                times: *times,
+            })
+        }
+        TermCommand::Errors(times) => {
+            let octets = Vec::from_slice(alloc, &ERRORED)?;
+            Ok(Coming {
+                octets,
+                times: *times,
+            })
+        }
+        TermCommand::Line(octets) => {
+            let octets = Vec::from_slice(alloc, octets)?;
+            Ok(Coming { octets, times: 1 })
+        }
+        TermCommand::Out(_) | TermCommand::Expect(_) => Err(lost()),
+        TermCommand::Order(_)
+        | TermCommand::Msu(_)
+        | TermCommand::Tick(_)
+        | TermCommand::Told
+        | TermCommand::Accepted
+        | TermCommand::Retrieve(_)
+        | TermCommand::Measure(_)
+        | TermCommand::Aborted
+        | TermCommand::Reset
+        | TermCommand::State(_)
+        | TermCommand::Value(_, _) => Ok(Coming {
+            octets: Vec::new(alloc),
+            times: 0,
+        }),
+    }
+}
+
+/// Captures what comes in by a command, by which no unit is asked for, and nothing expected.
 fn note<T: Write>(
     alloc: Global,
     command: &TermCommand<'_>,
@@ -92,38 +145,9 @@ fn note<T: Write>(
         → IsCapturing 0 every came ss begun (T.contents out.old) link.old
         → (last : List OneSeen) × Hears 0 at came come ss last × IsCapturing 0 every (came ++ come) last begun (T.contents out.new) link.new)) }
 {
-    match command {
-        TermCommand::Unit(octets) => {
-            let line = line_of_unit(alloc, octets)?;
-            link.hear_times(0, at, &line, 1, out)?;
-            Ok(())
-        }
-        TermCommand::Units(times, octets) => {
-            let line = line_of_unit(alloc, octets)?;
-            link.hear_times(0, at, &line, *times, out)?;
-            Ok(())
-        }
-        TermCommand::Errors(times) => {
-            link.hear_times(0, at, &ERRORED, *times, out)?;
-            Ok(())
-        }
-        TermCommand::Line(octets) => {
-            link.hear(0, at, octets, out)?;
-            Ok(())
-        }
-        TermCommand::Out(_) | TermCommand::Expect(_) => Err(lost()),
-        TermCommand::Order(_)
-        | TermCommand::Msu(_)
-        | TermCommand::Tick(_)
-        | TermCommand::Told
-        | TermCommand::Accepted
-        | TermCommand::Retrieve(_)
-        | TermCommand::Measure(_)
-        | TermCommand::Aborted
-        | TermCommand::Reset
-        | TermCommand::State(_)
-        | TermCommand::Value(_, _) => Ok(()),
-    }
+    let coming = coming(alloc, command)?;
+    link.hear_times(0, at, &coming.octets, coming.times, out)?;
+    Ok(())
 }
 
 /// Does what a command says, and captures what it has come in and go out. Whether the run goes on.
