@@ -42,9 +42,9 @@ pub saw_news : (every keeps : Bool) (s : Seen) (came : List ℕ) (ss : List Seen
     → m.repeats.every ≡ l.repeats.every → ((h : List Seen) → StandsFor s.link h l.repeats → keeps ≡ is_kept l.repeats.every h s)
     → ((h : List Seen) → StandsFor s.link h l.repeats → StandsFor s.link (with_kept keeps s h) m.repeats) → Appends old new (record_of s)
     → IsCapturing s.link every came ss begun old l → IsCapturing s.link every came (s ∷ ss) begun new m
-saw_news every keeps s came ss begun old new l m yes same every_is keeps_is stands grew c =
+saw_news every keeps s came ss begun old new l m recorded same every_is keeps_is stands grew c =
     let is = decided every keeps s came ss begun old l c keeps_is in
-    let more : kept every (s ∷ ss) ≡ s ∷ kept every ss = kept_is every keeps s ss is ∙ ap (λ (k : Bool). with_kept k s (kept every ss)) yes in
+    let more : kept every (s ∷ ss) ≡ s ∷ kept every ss = kept_is every keeps s ss is ∙ ap (λ (k : Bool). with_kept k s (kept every ss)) recorded in
     let A : List ℕ → Type 0 = λ bs. Appends old new bs in
     record {
       heard = noted every keeps s came ss l m same every_is stands is c.heard;
@@ -56,9 +56,9 @@ pub saw_repeat : (every keeps : Bool) (s : Seen) (came : List ℕ) (ss : List Se
     → m.repeats.every ≡ l.repeats.every → ((h : List Seen) → StandsFor s.link h l.repeats → keeps ≡ is_kept l.repeats.every h s)
     → ((h : List Seen) → StandsFor s.link h l.repeats → StandsFor s.link (with_kept keeps s h) m.repeats)
     → IsCapturing s.link every came ss begun old l → IsCapturing s.link every came (s ∷ ss) begun old m
-saw_repeat every keeps s came ss begun old l m not same every_is keeps_is stands c =
+saw_repeat every keeps s came ss begun old l m left_out same every_is keeps_is stands c =
     let is = decided every keeps s came ss begun old l c keeps_is in
-    let more : kept every (s ∷ ss) ≡ kept every ss = kept_is every keeps s ss is ∙ ap (λ (k : Bool). with_kept k s (kept every ss)) not in
+    let more : kept every (s ∷ ss) ≡ kept every ss = kept_is every keeps s ss is ∙ ap (λ (k : Bool). with_kept k s (kept every ss)) left_out in
     record {
       heard = noted every keeps s came ss l m same every_is stands is c.heard;
       written = written begun old old old every every ss (s ∷ ss) None None refl more c.written (Appends-nil old) (Appends-nil old);
