@@ -158,7 +158,7 @@ fn turns_in(word: Option<&str>) -> Option<Turns>
 }
 
 /// What of a run is to be seen, by words; none where more is asked for than is had at a time, where turns are named without a chart, or a word names none.
-pub fn seeing<'a>(words: &SeeingWords<'a>) -> Option<Seeing<'a>>
+pub fn seen_by<'a>(words: &SeeingWords<'a>) -> Option<Seeing<'a>>
     ensures some { IfSome result (IsSeenBy words.now) }
     ensures none { IsNone result → IsNoSeeing words.now }
 {

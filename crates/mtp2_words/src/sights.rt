@@ -3,7 +3,7 @@ ghost use Rattle.std.specs.Prelude.{IfSome, IsNone};
 ghost use Rattle.mtp2_words.specs.Asked.{given_by, AsksSeen, SaysNoSeeing};
 
 use crate::flags::is_given;
-use crate::seeing::{Seeing, SeeingWords, seeing};
+use crate::seeing::{Seeing, SeeingWords, seen_by};
 use clap::ArgMatches;
 
 /// What of a run is to be seen, by the matches of `play`.
@@ -11,7 +11,7 @@ pub(crate) fn seen_of<'a>(given: &ArgMatches<'a>) -> Option<Seeing<'a>>
     ensures some { IfSome result (AsksSeen (given_by given.now)) }
     ensures none { IsNone result → SaysNoSeeing (given_by given.now) }
 {
-    seeing(&SeeingWords {
+    seen_by(&SeeingWords {
         echo: is_given(given.get_str("echo")),
         trace: given.get_str("trace"),
         chart: given.get_str("chart"),

@@ -22,7 +22,7 @@ use Rattle.script_seen.specs.actor_machine_types.name.ActorName.{ActorName}
 use Rattle.script_seen.specs.actor_machine_types.reply.Lost.{Lost}
 use Rattle.script_seen.specs.actor_machine_types.reply.Report.{Report}
 use Rattle.script_seen.specs.declared.turns.Ended.{Ended}
-use Rattle.script_play.specs.Charted.{time_text, row_text, rows_text, came_text, box_text, outs_text, timing_of, is_in, is_sender, gets, get_it, came_from_outside, goes_outside, has_outside, is_drawn, last_clock, end_of, takes_part, columns, columns_of, chart_of, chart_text, COLUMN, head_of, heads, behind_each, stacked, below_each, note_of, beside, Charts, IsDrawn, TakesPart, HasMore, HasColumns}
+use Rattle.script_play.specs.Charted.{time_text, row_text, rows_text, came_text, box_text, outs_text, timing_of, is_in, is_sender, gets, get_it, came_from_outside, goes_outside, has_outside, is_drawn, last_clock, end_of, takes_part, drawn_columns, columns_of, chart_of, chart_text, COLUMN, head_of, heads, behind_each, stacked, below_each, note_of, beside, Charts, IsDrawn, TakesPart, HasMore, HasColumns}
 use Rattle.script_play.specs.declared.charts.Chart.{Chart}
 use Rattle.script_play.specs.declared.charts.Cut.{Cut}
 use Rattle.script_play.specs.declared.columns.Columns.{Columns}
@@ -414,7 +414,7 @@ same_chosen P Q (x ∷ xs) same =
 
 -- the columns are those of the turns that were drawn
 pub columns_are : (d : Draft) (ts : List TurnEnd) (c : Chart) → IsDrawn d ts c
-    → columns_of d (c.environment || is_none c.clock) c.actors.items ≡ columns d ts
+    → columns_of d (c.environment || is_none c.clock) c.actors.items ≡ drawn_columns d ts
 columns_are d ts c k =
     let outside : (c.environment || is_none c.clock) ≡ (list_any has_outside ts || is_empty ts) =
     ap (λ (b : Bool). b || is_none c.clock) k.outside ∙ ap (λ (b : Bool). list_any has_outside ts || b) (ap (λ (o : Option ℕ). is_none o) k.clock ∙ no_turns ts) in
@@ -428,13 +428,28 @@ pub chart_is : (d : Draft) (cut own : Cut) (ts : List TurnEnd) (c : Chart) (cs :
     → codes "msc {\n  width=\"" ++ (decimal width ++ (codes "\", arcgradient=\"0\";\n  " ++ (heads_text ++ (codes ";\n" ++ (c.rows.items ++ codes "}\n"))))) ≡ chart_text d cut ts
 chart_is d cut own ts c cs width heads_text same is columns_have wide heads_have k =
     let ds : List TurnEnd = filter (is_drawn c.cut) ts in
-    let names : columns_of d (c.environment || is_none c.clock) c.actors.items ≡ columns d ds = columns_are d ds c k in
-    let W : width ≡ COLUMN * length (columns d ds) =
+    let names : columns_of d (c.environment || is_none c.clock) c.actors.items ≡ drawn_columns d ds = columns_are d ds c k in
+    let W : width ≡ COLUMN * length (drawn_columns d ds) =
     wide ∙ ap (λ (n : ℕ). COLUMN * n) (columns_have.count ∙ ap (λ (l : List (List ℕ)). length l) names) in
-    let H : heads_text ≡ heads (columns d ds) =
-    heads_have ∙ (ap (λ (t : List ℕ). drop 2 t) (columns_have.text ∙ ap behind_each names) ∙ heads_are (columns d ds)) in
+    let H : heads_text ≡ heads (drawn_columns d ds) =
+    heads_have ∙ (ap (λ (t : List ℕ). drop 2 t) (columns_have.text ∙ ap behind_each names) ∙ heads_are (drawn_columns d ds)) in
     let C : chart_of d ds ≡ chart_text d cut ts = ap (λ (x : Cut). chart_of d (filter (is_drawn x) ts)) (is ∙ same) in
     ap (λ (n : ℕ). codes "msc {\n  width=\"" ++ (decimal n ++ (codes "\", arcgradient=\"0\";\n  " ++ (heads_text ++ (codes ";\n" ++ (c.rows.items ++ codes "}\n")))))) W
-    ∙ (ap (λ (t : List ℕ). codes "msc {\n  width=\"" ++ (decimal (COLUMN * length (columns d ds)) ++ (codes "\", arcgradient=\"0\";\n  " ++ (t ++ (codes ";\n" ++ (c.rows.items ++ codes "}\n")))))) H
-    ∙ (ap (λ (t : List ℕ). codes "msc {\n  width=\"" ++ (decimal (COLUMN * length (columns d ds)) ++ (codes "\", arcgradient=\"0\";\n  " ++ (heads (columns d ds) ++ (codes ";\n" ++ (t ++ codes "}\n")))))) k.rows
+    ∙ (ap (λ (t : List ℕ). codes "msc {\n  width=\"" ++ (decimal (COLUMN * length (drawn_columns d ds)) ++ (codes "\", arcgradient=\"0\";\n  " ++ (t ++ (codes ";\n" ++ (c.rows.items ++ codes "}\n")))))) H
+    ∙ (ap (λ (t : List ℕ). codes "msc {\n  width=\"" ++ (decimal (COLUMN * length (drawn_columns d ds)) ++ (codes "\", arcgradient=\"0\";\n  " ++ (heads (drawn_columns d ds) ++ (codes ";\n" ++ (t ++ codes "}\n")))))) k.rows
     ∙ C))
+
+pub columns_made : (d : Draft) (has out : Bool) (ys xs : List ActorName) (a b : Columns) → has ≡ out → ys ≡ xs
+    → HasColumns (if has then codes "ENV" ∷ [] else []) a → HasMore (chosen d ys (actors_of d.processes)) a b → HasColumns (columns_of d out xs) b
+columns_made d has out ys xs a b same actors first more =
+    let B : Bool → Type 0 = λ x. HasColumns ((if x then codes "ENV" ∷ [] else []) ++ chosen d ys (actors_of d.processes)) b in
+    let A : List ActorName → Type 0 = λ l. HasColumns ((if out then codes "ENV" ∷ [] else []) ++ chosen d l (actors_of d.processes)) b in
+    subst A actors (subst B same (columns_with (if has then codes "ENV" ∷ [] else []) (chosen d ys (actors_of d.processes)) a b first more))
+
+pub seven_pieces : (m n a h s r e q u v w x y z : List ℕ) → q ≡ m → u ≡ q ++ n → v ≡ u ++ a → w ≡ v ++ h → x ≡ w ++ s → y ≡ x ++ r → z ≡ y ++ e
+    → z ≡ m ++ (n ++ (a ++ (h ++ (s ++ (r ++ e)))))
+seven_pieces m n a h s r e q u v w x y z is1 is2 is3 is4 is5 is6 is7 =
+    let f : List ℕ → List ℕ → List ℕ = λ l k. l ++ k in
+    is7
+    ∙ (ap (λ l. f l e) (is6 ∙ ap (λ l. f l r) (is5 ∙ ap (λ l. f l s) (is4 ∙ ap (λ l. f l h) (is3 ∙ ap (λ l. f l a) (is2 ∙ ap (λ l. f l n) is1)))))
+    ∙ simp append_assoc)

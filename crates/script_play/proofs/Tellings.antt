@@ -59,5 +59,5 @@ told_to (Err e) old new C text told is x known = absurd told
 
 -- the status of the run, where what is told could be written
 pub status_was : (result status k : ℕ) → (result ≡ status) ⊎ (result ≡ 4) → result ≡ k → (k ≡ 4 → ⊥) → status ≡ k
-status_was result status k (inl same) is not = sym same ∙ is
-status_was result status k (inr failed) is not = absurd (not (sym is ∙ failed))
+status_was result status k (inl same) is differs = sym same ∙ is
+status_was result status k (inr failed) is differs = absurd (differs (sym is ∙ failed))

@@ -228,8 +228,8 @@ abbrev pub actors_in : Draft → List TurnEnd → List ActorName
 actors_in d ts = filter (λ x. list_any (is_in d x) ts) (actors_of d.processes)
 
 -- the environment stands first, where it takes part or no turn is drawn
-abbrev pub columns : Draft → List TurnEnd → List (List ℕ)
-columns d ts =
+abbrev pub drawn_columns : Draft → List TurnEnd → List (List ℕ)
+drawn_columns d ts =
     (if list_any has_outside ts || is_empty ts then codes "ENV" ∷ [] else [])
     ++ map (sender_text d) (actors_in d ts)
 
@@ -259,8 +259,8 @@ COLUMN = 140
 
 abbrev pub chart_of : Draft → List TurnEnd → List ℕ
 chart_of d ts =
-    codes "msc {\n  width=\"" ++ decimal (COLUMN * length (columns d ts))
-    ++ codes "\", arcgradient=\"0\";\n  " ++ heads (columns d ts) ++ codes ";\n"
+    codes "msc {\n  width=\"" ++ decimal (COLUMN * length (drawn_columns d ts))
+    ++ codes "\", arcgradient=\"0\";\n  " ++ heads (drawn_columns d ts) ++ codes ";\n"
     ++ rows_text d None ts ++ codes "}\n"
 
 abbrev pub chart_text : Draft → Cut → List TurnEnd → List ℕ

@@ -197,7 +197,7 @@ impl Chart {
     }
 
     /// Who takes part, the environment first, and then actors in the order of the text.
-    fn columns(&self, alloc: Global, set: &Verified) -> Result<Columns, AllocError>
+    fn all_columns(&self, alloc: Global, set: &Verified) -> Result<Columns, AllocError>
         ensures { IfOk result (λ c. HasColumns (columns_of set.now (self.now.environment || is_none self.now.clock) self.now.actors.items) c) }
     {
         let mut columns = Columns::new(alloc, self.has_environment())?;
@@ -217,7 +217,7 @@ impl Chart {
         if self.cut != cut {
             return Err(AllocError);
         }
-        let columns = self.columns(alloc, set)?;
+        let columns = self.all_columns(alloc, set)?;
         let mut text = Vec::from_slice(alloc, b"msc {\n  width=\"")?;
         push_number(alloc, &mut text, width_of(columns.count)?)?;
         text.extend_from_slice(b"\", arcgradient=\"0\";\n  ")?;

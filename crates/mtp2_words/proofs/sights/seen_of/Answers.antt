@@ -5,7 +5,7 @@ use Rattle.mtp2_words.specs.Asked.{given_by, AreSeenUnder}
 use Rattle.mtp2_words.proofs.Asking.{sees}
 use Rattle.mtp2_words.proofs.sights.seen_of.Goals as goal
 
-abbrev words : goal.After-seeing → SeeingWords
+abbrev words : goal.After-seen_by → SeeingWords
 words c = record {
   echo = c.is_given.result;
   trace = c.get_str-2.result;
@@ -17,7 +17,7 @@ words c = record {
   every = c.is_given-2.result;
 }
 
-under_ids : (c : goal.After-seeing) → AreSeenUnder (given_by c.args.given.now) (words c)
+under_ids : (c : goal.After-seen_by) → AreSeenUnder (given_by c.args.given.now) (words c)
 under_ids c = record {
   echo = ap says_true (sym c.get_str.ensures) ∙ sym c.is_given.ensures;
   trace = sym c.get_str-2.ensures;
@@ -30,7 +30,7 @@ under_ids c = record {
 }
 
 pub returns-clause-some : goal.returns-clause-some
-returns-clause-some c = sees (given_by c.args.given.now) (words c) c.seeing.result (under_ids c) c.seeing.ensures.some
+returns-clause-some c = sees (given_by c.args.given.now) (words c) c.seen_by.result (under_ids c) c.seen_by.ensures.some
 
 pub returns-clause-none : goal.returns-clause-none
-returns-clause-none c = λ n. record { words = words c; under_ids = under_ids c; none = c.seeing.ensures.none n }
+returns-clause-none c = λ n. record { words = words c; under_ids = under_ids c; none = c.seen_by.ensures.none n }
