@@ -86,7 +86,7 @@ struct Coming {
 }
 
 /// What comes in by a command, by which no unit is asked for, and nothing expected.
-fn coming(alloc: Global, command: &TermCommand<'_>) -> io::Result<Coming>
+fn come_by(alloc: Global, command: &TermCommand<'_>) -> io::Result<Coming>
     ensures noted { OnOk result (is_noted (plain_term_command command.now) ≡ true) }
     ensures coming { IfOk result (λ c. IsComing (plain_term_command command.now) (repeated c.times c.octets.items)) }
 {
@@ -145,7 +145,7 @@ fn note<T: Write>(
         → IsCapturing 0 every came ss begun (T.contents out.old) link.old
         → (last : List OneSeen) × Hears 0 at came come ss last × IsCapturing 0 every (came ++ come) last begun (T.contents out.new) link.new)) }
 {
-    let coming = coming(alloc, command)?;
+    let coming = come_by(alloc, command)?;
     link.hear_times(0, at, &coming.octets, coming.times, out)?;
     Ok(())
 }
