@@ -187,7 +187,7 @@ def check(b):
             for n in ns:
                 for c in cl:
                     if c[0] == 'input':
-                        for m, pl in c[2]: stim[lo(n)].append(m); bystate[lo(n)].append((m, pl, c[3]))
+                        for m, pl in c[2]: stim[lo(n)].append(m); bystate[lo(n)].append((m, pl, c[3], c[1], lo(ns[0])))
                     else: stim[lo(n)] += c[1]
             for c in cl:
                 if c[0] == 'save':
@@ -214,10 +214,10 @@ def check(b):
     rows = []
     for number, (p, vs, ts, states, V, conn, truth) in enumerate(info):
         tn = {lo(t): t[0] for t in ts}
-        rows.append((p[0][0], 'START', None, [], p[2][1], number))
+        rows.append((p[0][0], 'START', None, [], p[2][1], number, p[2][0], 0, None))
         for key, shown, ins in states:
-            for m, pl, tr in ins:
-                rows.append((p[0][0], shown + '/' + (S[lo(m)][0] if lo(m) in S else tn[lo(m)]), key, pl, tr, number))
+            for m, pl, tr, at, part in ins:
+                rows.append((p[0][0], shown + '/' + (S[lo(m)][0] if lo(m) in S else tn[lo(m)]), key, pl, tr, number, at, m[1], part))
     def act_cost(a):
         if a[0] == 'task': return sum(cost(x) + 1 for _, x in a[1])
         if a[0] == 'output': return sum(sum(map(cost, xs)) + 1 for _, xs in a[1])
@@ -277,11 +277,42 @@ def check(b):
         bu = sum(2 for v in pl if v); k, e, d = follow(tr, 0, 0, number)
         return bu + k, max(d, 1 if bu else 0), e
     ms = [measure(r[3], r[4], r[5]) for r in rows]
+    block = next(t for t in ps.t if t[0] == 'name')
+    def passed(nm):
+        """The refusal by a limit, with what passes it first in the text, and its place"""
+        most, what = {'Processes': (16, 'processes'), 'States': (64, 'states'), 'Variables': (32, 'variables'), 'Timers': (8, 'timers'), 'Signals': (128, 'signals'),
+                      'Params': (4, 'parameters'), 'Pieces': (4096, 'transitions'), 'Piece': (512, 'instructions'), 'Depth': (16, 'operands at once'),
+                      'Effects': (32, 'effects'), 'Instances': (8, 'instances')}[nm]
+        found = []
+        if nm == 'Processes': found = [(block[1], len(info), info[16][0][0][1])]
+        if nm == 'Signals': found = [(block[1], len(sigs), sigs[128][0][1])]
+        if nm == 'Params': found = [(n[0], len(so), n[1]) for n, so in sigs]
+        if nm == 'Pieces':
+            upto = 0
+            for number, i in enumerate(info):
+                upto += sum(r[5] == number for r in rows)
+                if upto > most: found = [(block[1], len(rows), i[0][0][1])]; break
+        for p, vs, ts, states, V, conn, truth in info:
+            names = {'States': lambda: first_states(p), 'Variables': lambda: [v[0][1] for v in vs], 'Timers': lambda: [t[1] for t in ts]}.get(nm)
+            if nm == 'Instances': found.append((p[0][0], p[5], p[0][1]))
+            if names: found.append((p[0][0], len(names()), (names() + [0] * 99)[most]))
+        if nm in ('Piece', 'Depth', 'Effects'):
+            for r, m in sorted(zip(rows, ms), key=lambda rm: (rm[0][5], rm[0][6], rm[0][7])):
+                if r[2] == r[8]: found.append((r[0] + ' ' + r[1], {'Piece': lambda: piece_size(r[3], r[4], r[5]), 'Depth': lambda: m[1], 'Effects': lambda: m[2]}[nm](), r[6]))
+        owner, number, at = next(f for f in found if f[1] > most)
+        why = Refusal('S10 Limit ' + nm); why.at = at; why.said = '%s has %d %s, %d at most' % (owner, number, what, most)
+        return why
+    def first_states(p):
+        """where each state stands first"""
+        seen = {}
+        for ns, _ in p[3]:
+            for n in ns: seen.setdefault(lo(n), n[1])
+        return list(seen.values())
     for nm, over in [('Processes', len(info) > 16), ('States', any(len(i[3]) > 64 for i in info)), ('Variables', any(len(i[1]) > 32 for i in info)),
                      ('Timers', any(len(i[2]) > 8 for i in info)), ('Signals', len(sigs) > 128), ('Params', any(len(s[1]) > 4 for s in sigs)),
                      ('Pieces', len(rows) > 4096), ('Piece', any(piece_size(r[3], r[4], r[5]) > 512 for r in rows)), ('Depth', any(m[1] > 16 for m in ms)),
                      ('Effects', any(m[2] > 32 for m in ms)), ('Instances', any(p[5] > 8 for p in procs))]:
-        if over: raise Refusal('S10 Limit ' + nm)
+        if over: raise passed(nm)
     best = None
     for pi, (p, vs, ts, states, V, conn, truth) in enumerate(info):
         mine = [(i, r) for i, r in enumerate(rows) if r[5] == pi]
@@ -328,7 +359,10 @@ def check(b):
                     if best is None or h < best: best = h
                     break
                 level = sorted(nxt)
-    if best: raise Refusal('S11 Unset %s %s' % (best[3], ' '.join(rows[i][1] for i in best[1])))
+    if best:
+        why = Refusal('S11 Unset %s %s' % (best[3], ' '.join(rows[i][1] for i in best[1]))); why.at = best[2]
+        why.said = '%s reads %s, which nothing has set on this way' % (rows[best[1][0]][0], best[3])
+        raise why
     return ['%s %s budget %d depth %d effects %d' % (r[0], r[1], *m) for r, m in zip(rows, ms)] + ['accepted']
 if __name__ == '__main__':
     for f in sys.argv[1:]:

@@ -1,7 +1,9 @@
-"""The lines that point at the refusal of a text, by the place that the plain checker names: what is said of it there isn't known here."""
+"""The lines that point at the refusal of a text, by the place that the plain checker names and the reasons of plain_reasons.py."""
 import re
 
 from plain_check import Refusal, check
+from plain_reader import line_of
+from plain_reasons import reasons
 
 LONGEST = 262144
 # A token from its first octet on.
@@ -23,19 +25,23 @@ def ends(text, at):
     return TOKEN.match(text + b" ", at).end()
 
 
+def behind(sign, said):
+    return f"{sign}{said}" if said else ""
+
+
 def points(name, text):
-    """How the lines begin that point at the refusal of a text with this name: the first, the line itself, and the line of the carets."""
+    """The lines that point at the refusal of a text with this name."""
     try:
         text.decode()
     except UnicodeDecodeError:
         return [f"{name}: F1 NotText"]
     why = refusal(text)
-    fault, _, line = str(why).partition(" line ")
-    if why.at is None:
-        return [f"{name}: {fault}"]
+    fault, _, _ = str(why).partition(" line ")
+    line = str(line_of(text, why.at))
     begin = text.rfind(b"\n", 0, why.at) + 1
     before = text[begin : why.at].decode(errors="replace")
-    head = f"{name}:{line}:{len(before) + 1}: {fault}"
+    said, under, hint = reasons(text, why)
+    head = f"{name}:{line}:{len(before) + 1}: {fault}{behind(': ', said)}"
     if len(text) > LONGEST:
         return [head]
     end = (text + b"\n").find(b"\n", why.at)
@@ -43,7 +49,8 @@ def points(name, text):
     width = max(1, len(text[why.at : min(last, end)].decode(errors="ignore")))
     margin = " " * len(line)
     blanks = "".join(it if it == "\t" else " " for it in before)
-    return [head, f"{line} | {CONTROL.sub(' ', text[begin:end].decode())}", f"{margin} | {blanks}{'^' * width}"]
+    shown = [head, f"{line} | {CONTROL.sub(' ', text[begin:end].decode())}", f"{margin} | {blanks}{'^' * width}{behind(' ', under)}"]
+    return shown + ([f"{margin} = {hint}"] if hint else [])
 
 
 def differs(name, text, said):
@@ -51,15 +58,7 @@ def differs(name, text, said):
     lines, wanted = said.decode().split("\n"), points(name, text)
     if lines.pop() != "":
         return "the last line has no end"
-    if len(wanted) == 3 and lines[1:2] != wanted[1:2]:
-        return f"{lines[1:2]} and not {wanted[1]!r}"
-    for number, signs in {0: ": ", 2: " "}.items():
-        if number < len(wanted):
-            line = lines[number] if number < len(lines) else ""
-            rest = line[len(wanted[number]) :]
-            if not line.startswith(wanted[number]) or not (rest == "" or rest.startswith(signs)) or rest.startswith("^"):
-                return f"{line!r} and not {wanted[number]!r} .."
-    more = lines[len(wanted) :]
-    if len(more) > (1 if len(wanted) == 3 else 0) or any(not re.match(r" + = .", it) for it in more):
-        return f"{more} behind them"
-    return None
+    wrong = [(line, other) for line, other in zip(lines, wanted) if line != other]
+    if wrong:
+        return f"{wrong[0][0]!r} and not {wrong[0][1]!r}"
+    return None if len(lines) == len(wanted) else f"{len(lines)} lines and not {len(wanted)}: {lines} and not {wanted}"

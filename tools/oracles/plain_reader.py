@@ -5,8 +5,8 @@ RES = set("""BLOCK ENDBLOCK SIGNAL SIGNALROUTE FROM TO WITH ENV CONNECT PROCESS 
 CONNECTION ENDCONNECTION TASK OUTPUT SENDER SET RESET NOW DECISION ELSE ENDDECISION NEXTSTATE STOP JOIN COMMENT NOT AND OR XOR MOD REM
 INTEGER BOOLEAN TRUE FALSE PROCEDURE ENDPROCEDURE CALL FPAR IN RETURN""".split())
 class Refusal(Exception):
-    """The line of a refusal without its first word, and the place of what is refused, if it has one."""
-    at = None
+    """The line of a refusal without its first word, and the place of what is refused, if it has one; of S10 and S11 what is said of it."""
+    at, said = None, ""
 def refusal(name, b, at):
     why = Refusal('%s line %d' % (name, line_of(b, at))); why.at = at
     return why

@@ -3,9 +3,10 @@ ghost use Rattle.std.specs.Prelude.{◌≡◌, ◌⊎◌};
 
 use crate::pictures::{Picture, draw_resolved};
 use draw_text::Block;
-use mtp2_text::{LexFault, LoadFault, MONITORS, Q703, STANDARD, load};
 use plain_text::{MOST_BYTES, TextRead, line_at_limit, read_text};
-use script_check::{FAILED, SetFault, SetWord, write_refusal};
+use script_check::{
+    FAILED, LexFault, LoadFault, MONITORS, Q703, STANDARD, SetFault, SetWord, load, write_refusal,
+};
 use sdl_lex::tokens;
 use sdl_rules::resolve;
 use sdl_tree::parse;

@@ -3,6 +3,7 @@
 #![tactic(auto)]
 
 mod apart;
+mod below;
 mod drawing;
 mod frames;
 mod labels;

@@ -52,13 +52,20 @@ impl Gone<'_> {
         }
         for index in &self.way.symbols {
             if let Some(part) = self.parts.get(*index) {
-                match part.kind {
-                    Kind::Task | Kind::Output => return true,
-                    _ => {}
+                if does_something(part) {
+                    return true;
                 }
             }
         }
         false
+    }
+}
+
+/// Whether something is done there. A TASK of quoted texts alone does nothing, and has nothing written in it.
+fn does_something(part: &Part) -> bool {
+    match part.kind {
+        Kind::Task | Kind::Output => !part.text.is_empty(),
+        _ => false,
     }
 }
 

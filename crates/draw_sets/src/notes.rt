@@ -1,4 +1,8 @@
 //! The statements in which transitions of two texts differ, below the lines that name these.
+ghost use Rattle.std.specs.Prelude.{◌∷◌, All, List, ℕ, IfOk, OnOk};
+ghost use Rattle.draw_sets.specs.Noting.{AreAdded, AreNoted, AreWritten, IsBegun, IsBelow, IsInLine};
+
+use crate::below::{push_below, push_name};
 use crate::rows::{Row, Section, sections_of};
 use draw_text::push_bytes;
 use std::alloc::{AllocError, Global};
@@ -77,8 +81,8 @@ fn push_changes(
     let first = alike(olds, news);
     let least = olds.len().min(news.len()).saturating_sub(first);
     let last = alike_at_end(olds, news).min(least);
-    push_rows(alloc, text, b"    - ", olds, first, last)?;
-    push_rows(alloc, text, b"    + ", news, first, last)
+    push_rows(alloc, text, b"- ", olds, first, last)?;
+    push_rows(alloc, text, b"+ ", news, first, last)
 }
 
 /// Whether one of some names is this one.
@@ -201,7 +205,7 @@ fn push_blamed(
     let marks = reached(alloc, olds, from)?;
     for (index, section) in olds.iter().enumerate() {
         if is_marked(&marks, index) && is_changed(section, news) {
-            push_bytes(text, b"    by CONNECTION ")?;
+            push_bytes(text, b"by CONNECTION ")?;
             push_bytes(text, &section.connection)?;
             push_bytes(text, b"\n")?;
             mark(blamed, index);
@@ -228,6 +232,27 @@ fn title_in(alloc: Global, line: &[u8]) -> Result<Vec<u8>, AllocError> {
     Ok(title)
 }
 
+/// The statements that differ of a transition of both texts, by its line; nothing for another line.
+fn notes_of(
+    alloc: Global,
+    blamed: &mut Vec<bool>,
+    olds: &[Section],
+    news: &[Section],
+    line: &[u8],
+) -> Result<Vec<u8>, AllocError> {
+    let mut notes = Vec::new(alloc);
+    let title = title_in(alloc, line)?;
+    let Some(old) = titled(olds, &title) else {
+        return Ok(notes);
+    };
+    let Some(new) = titled(news, &title) else {
+        return Ok(notes);
+    };
+    push_changes(alloc, &mut notes, &old.rows, &new.rows)?;
+    push_blamed(alloc, &mut notes, blamed, olds, news, old)?;
+    Ok(notes)
+}
+
 /// A line, and below it the statements that differ where it is that of a transition of both texts.
 fn push_noted(
     alloc: Global,
@@ -236,18 +261,64 @@ fn push_noted(
     olds: &[Section],
     news: &[Section],
     line: &[u8],
-) -> Result<(), AllocError> {
-    push_bytes(text, line)?;
-    push_bytes(text, b"\n")?;
-    let title = title_in(alloc, line)?;
-    let Some(old) = titled(olds, &title) else {
-        return Ok(());
-    };
-    let Some(new) = titled(news, &title) else {
-        return Ok(());
-    };
-    push_changes(alloc, text, &old.rows, &new.rows)?;
-    push_blamed(alloc, text, blamed, olds, news, old)
+) -> Result<(), AllocError>
+    ensures { OnOk result (IsBelow text.old.items line.now text.new.items) }
+{
+    let notes = notes_of(alloc, blamed, olds, news, line)?;
+    push_below(text, line, &notes)
+}
+
+/// The name of a connection with its process.
+fn connection_name(alloc: Global, section: &Section) -> Result<Vec<u8>, AllocError>
+    ensures { IfOk result (λ name. All IsInLine name.items) }
+{
+    let mut name = Vec::new(alloc);
+    push_name(&mut name, &section.process)?;
+    push_name(&mut name, b" ")?;
+    push_name(&mut name, &section.connection)?;
+    Ok(name)
+}
+
+/// The lines of a connection of both texts, with the statements that differ.
+fn push_connection(
+    alloc: Global,
+    text: &mut Vec<u8>,
+    section: &Section,
+    other: &Section,
+) -> Result<(), AllocError>
+    ensures { OnOk result (AreAdded text.old.items text.new.items) }
+{
+    let name = connection_name(alloc, section)?;
+    let mut notes = Vec::new(alloc);
+    push_changes(alloc, &mut notes, &section.rows, &other.rows)?;
+    push_bytes(text, b"~ CONNECTION ")?;
+    push_below(text, &name, &notes)?;
+    Ok(())
+}
+
+/// The connection of the other text with the name of this one, where it is marked.
+fn marked<'a>(is_marked: bool, section: &Section, news: &'a [Section]) -> Option<&'a Section> {
+    if is_marked {
+        connection(news, &section.process, &section.connection)
+    } else {
+        None
+    }
+}
+
+/// The lines of a connection, where it is marked and both texts have it.
+fn push_marked(
+    alloc: Global,
+    text: &mut Vec<u8>,
+    is_marked: bool,
+    section: &Section,
+    news: &[Section],
+) -> Result<(), AllocError>
+    ensures { OnOk result (AreAdded text.old.items text.new.items) }
+{
+    match marked(is_marked, section, news) {
+        Some(other) => push_connection(alloc, text, section, other),
+        None => Ok(()),
+    }
 }
 
 /// The lines of the marked connections, with the statements that differ.
@@ -257,20 +328,53 @@ fn push_connections(
     blamed: &[bool],
     olds: &[Section],
     news: &[Section],
-) -> Result<(), AllocError> {
+) -> Result<(), AllocError>
+    ensures { OnOk result (AreAdded text.old.items text.new.items) }
+{
     for (index, section) in olds.iter().enumerate() {
-        if is_marked(blamed, index) {
-            if let Some(other) = connection(news, &section.process, &section.connection) {
-                push_bytes(text, b"~ CONNECTION ")?;
-                push_bytes(text, &section.process)?;
-                push_bytes(text, b" ")?;
-                push_bytes(text, &section.connection)?;
-                push_bytes(text, b"\n")?;
-                push_changes(alloc, text, &section.rows, &other.rows)?;
-            }
-        }
+        push_marked(alloc, text, is_marked(blamed, index), section, news)?;
     }
     Ok(())
+}
+
+/// A byte of a line that is begun. Where it ends the line this goes out, with the statements that differ below it.
+fn push_byte(
+    alloc: Global,
+    text: &mut Vec<u8>,
+    line: &mut Vec<u8>,
+    blamed: &mut Vec<bool>,
+    olds: &[Section],
+    news: &[Section],
+    byte: u8,
+) -> Result<(), AllocError>
+    ensures { OnOk result ((all rest : List ℕ) → IsBegun all (byte ∷ rest) line.old.items text.old.items → IsBegun all rest line.new.items text.new.items) }
+{
+    if byte == b'\n' {
+        push_noted(alloc, text, blamed, olds, news, line)?;
+        line.clear();
+        return Ok(());
+    }
+    line.push(byte)?;
+    Ok(())
+}
+
+/// Lines, with the statements that differ below each. The connections that they come to are marked.
+fn lines_noted(
+    alloc: Global,
+    blamed: &mut Vec<bool>,
+    olds: &[Section],
+    news: &[Section],
+    lines: &[u8],
+) -> Result<Vec<u8>, AllocError>
+    ensures { IfOk result (λ v. AreWritten lines.now v.items) }
+{
+    let mut text = Vec::new(alloc);
+    let mut line = Vec::new(alloc);
+    for byte in lines {
+        push_byte(alloc, &mut text, &mut line, blamed, olds, news, *byte)?;
+    }
+    push_bytes(&mut text, &line)?;
+    Ok(text)
 }
 
 /// The lines of transitions that two texts differ in, each as it is given: below one that both texts have the statements that differ,
@@ -284,20 +388,13 @@ pub fn with_statements(
     old_text: &str,
     new_text: &str,
     lines: &[u8],
-) -> Result<Vec<u8>, AllocError> {
+) -> Result<Vec<u8>, AllocError>
+    ensures { IfOk result (λ v. AreNoted lines.now v.items) }
+{
     let olds = sections_of(alloc, old_text)?;
     let news = sections_of(alloc, new_text)?;
     let mut blamed = no_marks(alloc, &olds)?;
-    let mut text = Vec::new(alloc);
-    let mut line = Vec::new(alloc);
-    for byte in lines {
-        if *byte == b'\n' {
-            push_noted(alloc, &mut text, &mut blamed, &olds, &news, &line)?;
-            line.clear();
-        } else {
-            line.push(*byte)?;
-        }
-    }
+    let mut text = lines_noted(alloc, &mut blamed, &olds, &news, lines)?;
     push_connections(alloc, &mut text, &blamed, &olds, &news)?;
     Ok(text)
 }

@@ -4,7 +4,9 @@ use Rattle.line_filter.specs.Filters.{Line as Octets}
 use Rattle.mtp2_words.specs.declared.words.Named.{Named}
 use Rattle.mtp2_words.specs.declared.words.Request.{Request}
 use Rattle.mtp2_words.specs.declared.words.Request.TheVariants.{Check, Play, Soak, Line, Frame, Draw, Print, Diff}
+use Rattle.mtp2_play.specs.Compared.{IsCompared}
 use Rattle.mtp2_play.specs.Printed.{AreCheckedAll, IsAnswered}
+use Rattle.mtp2_play.specs.Sets.{own_text_of}
 use Rattle.mtp2_play.specs.Served.{WasAnswered}
 
 not_done : {A : Type 0} → ◌≡◌ {A = ℕ} 4 0 → A
@@ -21,6 +23,14 @@ sets_failed : (sets : List Named) (old new : Option (List ℕ)) → AreCheckedAl
 sets_failed sets old new = record {
   one = λ set is. record { costs = not_done; refusal = not_refused; ends = inr (inr refl) };
   ends = inr (inr refl);
+}
+
+-- a comparison of sets that failed
+diff_failed : (one other old new : Option (List ℕ)) → IsCompared one other 4 old new
+diff_failed one other old new = record {
+  sets = λ h. elim h [ inl done ↦ not_done done | inr missed ↦ not_missed missed ];
+  refused = not_refused;
+  ends = inr (inr (inr refl));
 }
 
 -- it failed, so no more is said of it than that what it wrote on a line is a beginning
@@ -43,7 +53,7 @@ failed (Line set end) status old new are = record {
 failed (Frame octets) status old new are = record { held = not_done; refused = not_refused; ends = inr (inr refl) }
 failed (Draw set process states) status old new are = inr (inr refl)
 failed (Print set) status old new are = record { held = not_done; ends = inr refl }
-failed (Diff one other) status old new are = inr (inr (inr refl))
+failed (Diff one other) status old new are = diff_failed (own_text_of one) (own_text_of other) old.written new.written
 
 -- it failed before anything was read or written
 pub not_begun : (request : Request) (there : Octets) → IsAnswered request 4 there there
@@ -65,7 +75,7 @@ not_begun (Line set end) there = record {
 not_begun (Frame octets) there = record { held = not_done; refused = not_refused; ends = inr (inr refl) }
 not_begun (Draw set process states) there = inr (inr refl)
 not_begun (Print set) there = record { held = not_done; ends = inr refl }
-not_begun (Diff one other) there = inr (inr (inr refl))
+not_begun (Diff one other) there = diff_failed (own_text_of one) (own_text_of other) there.written there.written
 
 pub was_run : (request : Request) (status : ℕ) (old new : Octets) → IsAnswered request status old new → WasAnswered request status
 was_run request status old new are = record { old = old; new = new; answered = are }

@@ -1,3 +1,4 @@
+mod Comparing
 mod Failing
 mod InTurn
 mod Known

@@ -1,3 +1,4 @@
+pub mod Compared
 pub mod Measured
 pub mod Printed
 pub mod Served

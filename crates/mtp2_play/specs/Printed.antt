@@ -17,6 +17,7 @@ use Rattle.line_play.specs.Opening.{IsNoSet}
 use Rattle.mtp2_play.specs.Spoken.{SpokeOver, BegunOver, IsUntouched}
 use Rattle.mtp2_words.specs.resend_store_types.messages.RoundLimits.{RoundLimits}
 use Rattle.mtp2_words.specs.declared.ends.LineEnd.{LineEnd}
+use Rattle.mtp2_play.specs.Compared.{IsCompared}
 use Rattle.mtp2_play.specs.Sets.{own_text_of}
 use Rattle.mtp2_words.specs.Limits.{usual_limits_of}
 use Rattle.mtp2_words.specs.declared.words.Named.{Named}
@@ -105,10 +106,6 @@ pub record IsPrinted (set : Named) (status : ℕ) (old new : Option (List ℕ)) 
   pub held : status ≡ 0 → IsSomeAnd (own_text_of set) (Appends old new)
   pub ends : (status ≡ 0) ⊎ (status ≡ 4)
 
--- the exit statuses of `diff`: alike, different, refused, failed
-abbrev pub IsCompared : ℕ → Type 0
-IsCompared status = (status ≡ 0) ⊎ (status ≡ 1) ⊎ (status ≡ 2) ⊎ (status ≡ 4)
-
 -- what a request has printed, and with which exit status; only `line` reads what is handed to it
 -- here
 abbrev pub IsAnswered : Request → ℕ → Octets → Octets → Type 0
@@ -122,4 +119,5 @@ IsAnswered (Line set end) status old new =
 IsAnswered (Frame octets) status old new = IsFramed octets.now status old.written new.written
 IsAnswered (Draw set process states) status old new = IsDone status
 IsAnswered (Print set) status old new = IsPrinted set status old.written new.written
-IsAnswered (Diff one other) status old new = IsCompared status
+IsAnswered (Diff one other) status old new =
+    IsCompared (own_text_of one) (own_text_of other) status old.written new.written

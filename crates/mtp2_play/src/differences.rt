@@ -1,14 +1,23 @@
 //! The command `diff` on the sets that the command line names.
-ghost use Rattle.std.specs.Prelude.{◌≡◌, ◌⊎◌, [], IfErr};
+ghost use Rattle.std.specs.Prelude.{◌≡◌, ◌⊎◌, ◌++◌, true, [], None, Some, IfErr, IfOk, OnOk, codes, string_bytes};
+ghost use Rattle.std.specs.Io.KnownBytes.{Appends};
+ghost use Rattle.draw_sets.specs.Noting.{AreNoted};
+ghost use Rattle.script_check.specs.Checked.{given, IsGiven, IsRefusal, IsSetOf};
+ghost use Rattle.script_check.specs.Fronts.{in_front};
+ghost use Rattle.script_check.specs.Printed.{refusal_line};
+ghost use Rattle.mtp2_play.specs.Compared.{same_text, terminal_text, way_lines, AreAlike, AreFound, IsCompared, IsSummary, PrintsDifference, PrintsSide, SaysTerminal};
+ghost use Rattle.mtp2_play.specs.Sets.{own_text_of};
 
 use crate::sets::{STDIN, own_set, set_word};
 use draw_diff::{Difference, compare, lines_in, ways_in};
 use draw_sets::with_statements;
 use link_term::Names;
-use mtp2_text::{MONITORS, Q703, STANDARD};
 use mtp2_words::Named;
 use plain_text::{NamedReader, Teller, read_text};
-use script_check::{FAILED, HELD, REFUSED, Refusal, SetWord, find_set, in_front, refuse_set};
+use script_check::{
+    FAILED, HELD, MONITORS, Q703, REFUSED, Refusal, STANDARD, SetWord, find_set, in_front,
+    refuse_set,
+};
 use std::alloc::{AllocError, Global};
 use std::io::{self, Read, Write};
 use std::rt::Runtime;
@@ -31,7 +40,9 @@ struct SideName<'a> {
 }
 
 /// Writes lines with the name of one side in front of each.
-fn write_side<W: Write>(alloc: Global, side: &str, lines: &[u8], writer: &mut W) -> io::Result<()> {
+fn write_side<W: Write>(alloc: Global, side: &str, lines: &[u8], writer: &mut W) -> io::Result<()>
+    ensures { OnOk result (Appends (W.contents writer.old) (W.contents writer.new) (in_front side.now true lines.now)) }
+{
     let named = in_front(alloc, side, lines)?;
     writer.write_all(&named)
 }
@@ -44,7 +55,9 @@ fn refuse_side<H: Eprint, W: Write>(
     refusal: &Refusal,
     writer: &mut W,
 ) -> u8
-    ensures { (result ≡ 2) ⊎ (result ≡ 4) }
+    ensures refused { result ≡ 2 → IsRefusal refusal.now.fault }
+    ensures printed { result ≡ 2 → Appends (W.contents writer.old) (W.contents writer.new) (in_front named.entry.side.now true (refusal_line refusal.now.fault)) }
+    ensures status { (result ≡ 2) ⊎ (result ≡ 4) }
 {
     let mut lines: Vec<u8> = Vec::new(alloc);
     if refuse_set(alloc, named.name, refusal, &mut lines, &mut teller.errors()) == FAILED {
@@ -72,7 +85,10 @@ fn with_text<H: Eprint, S: Read + Drop, W: Write>(
     text: &[u8],
     writer: &mut W,
 ) -> Result<Side, u8>
-    ensures { IfErr result (λ s. (s ≡ 2) ⊎ (s ≡ 4)) }
+    ensures set { IfOk result (λ side. IsGiven (given S.remaining set) (λ bytes. IsSetOf bytes side.set)) }
+    ensures kept { IfOk result (λ _. W.contents writer.new ≡ W.contents writer.old) }
+    ensures refused { IfErr result (λ s. s ≡ 2 → IsGiven (given S.remaining set) (PrintsSide named.entry.side.now (W.contents writer.old) (W.contents writer.new))) }
+    ensures status { IfErr result (λ s. (s ≡ 2) ⊎ (s ≡ 4)) }
 {
     match find_set(alloc, set) {
         Ok(set) => match Vec::from_slice(alloc, text) {
@@ -91,7 +107,10 @@ fn octets_side<H: Eprint, W: Write>(
     octets: &[u8],
     writer: &mut W,
 ) -> Result<Side, u8>
-    ensures { IfErr result (λ s. (s ≡ 2) ⊎ (s ≡ 4)) }
+    ensures set { IfOk result (λ side. IsGiven (Some octets.now) (λ bytes. IsSetOf bytes side.set)) }
+    ensures kept { IfOk result (λ _. W.contents writer.new ≡ W.contents writer.old) }
+    ensures refused { IfErr result (λ s. s ≡ 2 → IsGiven (Some octets.now) (PrintsSide named.entry.side.now (W.contents writer.old) (W.contents writer.new))) }
+    ensures status { IfErr result (λ s. (s ≡ 2) ⊎ (s ≡ 4)) }
 {
     with_text(alloc, teller, named, SetWord::Text(octets), octets, writer)
 }
@@ -104,7 +123,10 @@ fn read_side<H: Eprint, S: Read + Drop, W: Write>(
     mut reader: S,
     writer: &mut W,
 ) -> Result<Side, u8>
-    ensures { IfErr result (λ s. (s ≡ 2) ⊎ (s ≡ 4)) }
+    ensures set { IfOk result (λ side. IsGiven None (λ bytes. IsSetOf bytes side.set)) }
+    ensures kept { IfOk result (λ _. W.contents writer.new ≡ W.contents writer.old) }
+    ensures refused { IfErr result (λ s. s ≡ 2 → IsGiven None (PrintsSide named.entry.side.now (W.contents writer.old) (W.contents writer.new))) }
+    ensures status { IfErr result (λ s. (s ≡ 2) ⊎ (s ≡ 4)) }
 {
     match read_text(alloc, &mut reader) {
         Ok(read) => {
@@ -127,6 +149,25 @@ fn own_text(set: &Named<'_>) -> &'static str {
     }
 }
 
+/// A set of the program's own, or the exit status where there is none.
+fn own_side<H: Eprint, W: Write>(
+    alloc: Global,
+    teller: &Teller<'_, H>,
+    named: SideName<'_>,
+    set: &Named<'_>,
+    writer: &mut W,
+) -> Result<Side, u8>
+    ensures set { IfOk result (λ side. IsGiven (own_text_of set.now) (λ bytes. IsSetOf bytes side.set)) }
+    ensures kept { IfOk result (λ _. W.contents writer.new ≡ W.contents writer.old) }
+    ensures refused { IfErr result (λ s. s ≡ 2 → IsGiven (own_text_of set.now) (PrintsSide named.entry.side.now (W.contents writer.old) (W.contents writer.new))) }
+    ensures status { IfErr result (λ s. (s ≡ 2) ⊎ (s ≡ 4)) }
+{
+    match own_set(set) {
+        Some(own) => with_text(alloc, teller, named, own, own_text(set).as_bytes(), writer),
+        None => Err(FAILED),
+    }
+}
+
 /// One of the sets that the command line names, or the exit status where there is none.
 fn named_side<R: Runtime + AllocGlobal, H: Eprint, W: Write>(
     rt: &R,
@@ -135,18 +176,17 @@ fn named_side<R: Runtime + AllocGlobal, H: Eprint, W: Write>(
     set: Named<'_>,
     writer: &mut W,
 ) -> Result<Side, u8>
-    ensures { IfErr result (λ s. (s ≡ 2) ⊎ (s ≡ 4)) }
+    ensures set { IfOk result (λ side. IsGiven (own_text_of set.entry) (λ bytes. IsSetOf bytes side.set)) }
+    ensures kept { IfOk result (λ _. W.contents writer.new ≡ W.contents writer.old) }
+    ensures refused { IfErr result (λ s. s ≡ 2 → IsGiven (own_text_of set.entry) (PrintsSide side.now (W.contents writer.old) (W.contents writer.new))) }
+    ensures status { IfErr result (λ s. (s ≡ 2) ⊎ (s ≡ 4)) }
 {
     let name = set_word(&set);
     let named = SideName { side, name };
     match set {
-        Named::Standard | Named::Q703 | Named::Monitors => match own_set(&set) {
-            Some(own) => {
-                let text = own_text(&set).as_bytes();
-                with_text(rt.alloc(), teller, named, own, text, writer)
-            }
-            None => Err(FAILED),
-        },
+        Named::Standard | Named::Q703 | Named::Monitors => {
+            own_side(rt.alloc(), teller, named, &set, writer)
+        }
         Named::Stdin => {
             let reader = NamedReader::new(teller, STDIN, rt.reader());
             read_side(rt.alloc(), teller, named, reader, writer)
@@ -162,30 +202,84 @@ fn named_side<R: Runtime + AllocGlobal, H: Eprint, W: Write>(
 }
 
 /// Whether a terminal finds its names in a set: `yes`, or `no` with the first that it doesn't.
-fn terminal_word(alloc: Global, set: &Verified) -> Result<String, AllocError> {
+fn terminal_word(alloc: Global, set: &Verified) -> Result<String, AllocError>
+    ensures { IfOk result (λ t. SaysTerminal set.now (string_bytes t)) }
+{
     match Names::find(set) {
         Ok(_) => String::from_str(alloc, "yes"),
         Err(name) => format!(in alloc; "no {name}"),
     }
 }
 
-/// The line that says how many transitions mean the same, and the one on terminals.
+/// The line that says how many transitions mean the same.
+fn same_line(
+    alloc: Global,
+    old: &Verified,
+    new: &Verified,
+    found: &Difference,
+) -> Result<String, AllocError>
+    requires { AreFound old.now new.now found.now }
+    ensures { IfOk result (λ t. string_bytes t ≡ same_text old.now new.now) }
+{
+    let known = ways_in(alloc, old.draft())?;
+    let same = known.saturating_sub(lines_in(&found.olds));
+    let all = known.saturating_add(lines_in(&found.news));
+    format!(in alloc; "same {same} of {all}\n")
+}
+
+/// The line on terminals over the two sets, of which different things are said.
+fn changed_line(alloc: Global, before: &str, after: &str) -> Result<String, AllocError>
+    ensures { IfOk result (λ t. string_bytes t ≡ codes "terminal " ++ before.now ++ codes " -> " ++ after.now ++ codes "\n") }
+{
+    let mut text = String::from_str(alloc, "terminal ")?;
+    text.push_str(before)?;
+    text.push_str(" -> ")?;
+    text.push_str(after)?;
+    text.push_str("\n")?;
+    Ok(text)
+}
+
+/// The line on terminals over the two sets, of which this is said.
+fn terminal_line(alloc: Global, before: &str, after: &str) -> Result<String, AllocError>
+    ensures { IfOk result (λ t. string_bytes t ≡ terminal_text before.now after.now) }
+{
+    if before == after {
+        format!(in alloc; "terminal {before}\n")
+    } else {
+        changed_line(alloc, before, after)
+    }
+}
+
+/// The last two lines: how many transitions mean the same, and whether terminals find their names.
 fn summary(
     alloc: Global,
     old: &Verified,
     new: &Verified,
     found: &Difference,
-) -> Result<String, AllocError> {
-    let known = ways_in(alloc, old.draft())?;
-    let same = known.saturating_sub(lines_in(&found.olds));
-    let all = known.saturating_add(lines_in(&found.news));
+) -> Result<String, AllocError>
+    requires { AreFound old.now new.now found.now }
+    ensures { IfOk result (λ t. IsSummary old.now new.now (string_bytes t)) }
+{
+    let mut text = same_line(alloc, old, new, found)?;
     let before = terminal_word(alloc, old)?;
     let after = terminal_word(alloc, new)?;
-    if before.as_str() == after.as_str() {
-        format!(in alloc; "same {same} of {all}\nterminal {before}\n")
-    } else {
-        format!(in alloc; "same {same} of {all}\nterminal {before} -> {after}\n")
-    }
+    let line = terminal_line(alloc, &before, &after)?;
+    text.push_str(&line)?;
+    Ok(text)
+}
+
+/// Lines of transitions with the statements in which they differ; the lines alone where one of the two is no text.
+#[tactic(auto, using(draw_sets::proofs::NotedLines::unnoted))]
+fn noted(alloc: Global, old: &[u8], new: &[u8], lines: Vec<u8>) -> Result<Vec<u8>, AllocError>
+    ensures { IfOk result (λ v. AreNoted lines.items v.items) }
+{
+    let Ok(old_text) = str::from_utf8(old) else {
+        return Ok(lines);
+    };
+    let Ok(new_text) = str::from_utf8(new) else {
+        return Ok(lines);
+    };
+    with_statements(alloc, old_text, new_text, &lines)
 }
 
 /// The lines of transitions that differ, with the statements in which they do.
@@ -194,17 +288,14 @@ fn way_lines(
     old: &Side,
     new: &Side,
     found: &Difference,
-) -> Result<Vec<u8>, AllocError> {
+) -> Result<Vec<u8>, AllocError>
+    requires { AreFound old.now.set new.now.set found.now }
+    ensures { IfOk result (λ v. AreNoted (way_lines old.now.set new.now.set) v.items) }
+{
     let mut lines = Vec::new(alloc);
     lines.extend_from_slice(&found.olds)?;
     lines.extend_from_slice(&found.news)?;
-    let Ok(old_text) = str::from_utf8(&old.text) else {
-        return Ok(lines);
-    };
-    let Ok(new_text) = str::from_utf8(&new.text) else {
-        return Ok(lines);
-    };
-    with_statements(alloc, old_text, new_text, &lines)
+    noted(alloc, &old.text, &new.text, lines)
 }
 
 /// Writes what two sets differ in, in one write.
@@ -214,7 +305,10 @@ fn write_difference<W: Write>(
     new: &Side,
     found: &Difference,
     writer: &mut W,
-) -> io::Result<()> {
+) -> io::Result<()>
+    requires { AreFound old.now.set new.now.set found.now }
+    ensures { OnOk result (PrintsDifference (W.contents writer.old) (W.contents writer.new) old.now.set new.now.set) }
+{
     let ways = way_lines(alloc, old, new, found)?;
     let end = summary(alloc, &old.set, &new.set, found)?;
     let mut text = Vec::new(alloc);
@@ -224,9 +318,18 @@ fn write_difference<W: Write>(
     writer.write_all(&text)
 }
 
+/// What two sets differ in.
+fn found_in(alloc: Global, old: &Verified, new: &Verified) -> Result<Difference, AllocError>
+    ensures { IfOk result (λ found. AreFound old.now new.now found) }
+{
+    let found = compare(alloc, old.draft(), new.draft())?;
+    Ok(found)
+}
+
 /// The exit status of a difference.
 fn status_of(found: &Difference) -> u8
     ensures alike { result ≡ 0 → (found.now.items.items ≡ []) × (found.now.olds.items ≡ []) × (found.now.news.items ≡ []) }
+    ensures differ { result ≡ 1 → (found.now.items.items ≡ []) × (found.now.olds.items ≡ []) × (found.now.news.items ≡ []) → ⊥ }
     ensures status { (result ≡ 0) ⊎ (result ≡ 1) }
 {
     if found.items.is_empty() && found.olds.is_empty() && found.news.is_empty() {
@@ -239,9 +342,12 @@ fn status_of(found: &Difference) -> u8
 /// Says what two sets differ in. Gives the exit status: 0 where nothing is gone, added or something else, 1 where something is, 4 where memory or
 /// the write fails.
 fn compare_sides<W: Write>(alloc: Global, old: &Side, new: &Side, writer: &mut W) -> u8
-    ensures { (result ≡ 0) ⊎ (result ≡ 1) ⊎ (result ≡ 4) }
+    ensures alike { result ≡ 0 → AreAlike old.now.set new.now.set }
+    ensures differ { result ≡ 1 → AreAlike old.now.set new.now.set → ⊥ }
+    ensures printed { (result ≡ 0) ⊎ (result ≡ 1) → PrintsDifference (W.contents writer.old) (W.contents writer.new) old.now.set new.now.set }
+    ensures status { (result ≡ 0) ⊎ (result ≡ 1) ⊎ (result ≡ 4) }
 {
-    match compare(alloc, old.set.draft(), new.set.draft()) {
+    match found_in(alloc, &old.set, &new.set) {
         Ok(found) => match write_difference(alloc, old, new, &found, writer) {
             Ok(()) => status_of(&found),
             Err(_) => FAILED,
@@ -259,7 +365,8 @@ pub fn run_diff<R: Runtime + AllocGlobal, H: Eprint, W: Write>(
     new: Named<'_>,
     writer: &mut W,
 ) -> u8
-    ensures { (result ≡ 0) ⊎ (result ≡ 1) ⊎ (result ≡ 2) ⊎ (result ≡ 4) }
+    ensures compared { IsCompared (own_text_of old.entry) (own_text_of new.entry) result (W.contents writer.old) (W.contents writer.new) }
+    ensures status { (result ≡ 0) ⊎ (result ≡ 1) ⊎ (result ≡ 2) ⊎ (result ≡ 4) }
 {
     match named_side(rt, teller, "OLD", old, writer) {
         Ok(old) => match named_side(rt, teller, "NEW", new, writer) {

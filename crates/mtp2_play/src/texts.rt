@@ -3,9 +3,8 @@ ghost use Rattle.std.specs.Prelude.{◌≡◌, ◌⊎◌};
 ghost use Rattle.std.specs.Io.KnownBytes.{Appends};
 ghost use Rattle.mtp2_play.specs.Printed.{IsPrinted};
 
-use mtp2_text::{MONITORS, Q703, STANDARD};
 use mtp2_words::Named;
-use script_check::{FAILED, HELD};
+use script_check::{FAILED, HELD, MONITORS, Q703, STANDARD};
 use std::io::Write;
 
 /// Prints a text. Gives the exit status.

@@ -1,6 +1,9 @@
 -- What the status of a check says of the text that was read, and of what was written.
 use Rattle.std.specs.Prelude.{◌≡◌, ◌⊎◌, ℕ, ◌+◌, ◌<◌, ◌≤◌, List, [], ◌++◌, length, take}
-use Rattle.std.specs.Prelude.{Option, Some, IfSome, IsUtf8, codes}
+use Rattle.std.specs.Prelude.{Option, Some, Ok, IfSome, IsUtf8, codes}
+use Rattle.sdl_lex.specs.Lexed.{Answers}
+use Rattle.sdl_lex.specs.declared.lexemes.Token.{Token}
+use Rattle.script_check.specs.Telling.{Fits}
 use Rattle.std.specs.Io.KnownBytes.{Appends}
 use Rattle.script_point.specs.mtp2_text_types.standard_text.TheConstants.{STANDARD}
 use Rattle.script_point.specs.mtp2_text_types.q703_text.TheConstants.{Q703 as Q703_TEXT}
@@ -10,6 +13,7 @@ use Rattle.turn_code.specs.declared.draft.Draft.{Draft}
 use Rattle.script_point.specs.Loaded.{IsSound, IsLoaded, IsRefused}
 use Rattle.script_point.specs.turn_verify_types.loading.LoadFault.{LoadFault}
 use Rattle.script_point.specs.turn_verify_types.loading.LoadFault.TheVariants.{NoMemory}
+use Rattle.script_point.specs.declared.notes.Told.{Told}
 use Rattle.script_point.specs.Pointing.{IsPointedOut}
 use Rattle.script_point.specs.Pointed.{bare_text, IsHead}
 use Rattle.script_check.specs.declared.sets.Refusal.{Refusal}
@@ -76,10 +80,17 @@ pub record IsTooLong (bytes kept : List ℕ) : Type 0 where
 
 -- ---- where a text is refused
 
+-- The lines point at a fault of a text, and say something of it. Where the fault names no place
+-- they point at a token where a limit is passed, or at the name of the variable that is read unset.
+pub record IsTold (text : List ℕ) (fault : LoadFault) (lines : List ℕ) : Type 0 where
+  pub told : Told
+  pub points : IsPointedOut text fault told lines
+  pub found : (ts : List Token) → Answers text (Ok ts) → IfSome told.found (Fits ts fault)
+
 -- The lines point at a fault of a text that begins with these bytes; where they are more than a
 -- text may have the first byte too many is told by its line and column.
 pub record PointsIn (kept : List ℕ) (fault : LoadFault) (lines : List ℕ) : Type 0 where
-  pub whole : length kept ≤ LONGEST → IsUtf8 kept → IsPointedOut kept fault lines
+  pub whole : length kept ≤ LONGEST → IsUtf8 kept → IsTold kept fault lines
   pub cut : LONGEST < length kept
       → IsHead kept LONGEST (codes "L3 TooLong") (codes "a text has 262144 octets at most") lines
 

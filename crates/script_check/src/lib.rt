@@ -1,11 +1,19 @@
 //! What `check` says of a process text: whether it is accepted, and what its transitions cost.
 #![tactic(auto)]
 
+mod answers;
 mod checking;
 mod costs;
+mod extents;
+mod limits;
+mod operands;
+mod receivers;
 mod sets;
+mod sort_notes;
+mod sorts;
+mod telling;
 
 pub use checking::{check, refuse_set, tell_refusal, write_refusal};
 pub use plain_text::{FAILED, HELD, REFUSED, USAGE, refuse, write_line};
-pub use script_point::{MONITORS, Q703, STANDARD, in_front, standard};
+pub use script_point::{LexFault, LoadFault, MONITORS, Q703, STANDARD, in_front, load, standard};
 pub use sets::{Refusal, SetFault, SetWord, find_in, find_set, load_set};

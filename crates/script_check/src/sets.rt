@@ -2,9 +2,10 @@
 ghost use Rattle.std.specs.Prelude.{◌≡◌, ◌↔◌, List, ℕ, Ok, Err, IfOk, IfErr, IsFalse};
 ghost use Rattle.plain_text.specs.Reading.{Keeps};
 ghost use Rattle.script_point.specs.Loaded.{IsRefused};
-ghost use Rattle.script_check.specs.Checked.{given, IsGiven, IsRefusal, IsRefusalOf, IsRefusedAt, IsSetOf, IsText, IsTooLong, PointsIn, PointsOut};
+ghost use Rattle.script_check.specs.Checked.{given, IsGiven, IsRefusal, IsRefusalOf, IsRefusedAt, IsSetOf, IsText, IsTold, IsTooLong, PointsIn, PointsOut};
 ghost use Rattle.script_check.specs.declared.sets.SetFault.TheVariants.{NotRead};
 
+use crate::telling::told_of;
 use plain_text::{MOST_BYTES, TextRead, line_at_limit, read_text};
 use script_point::{
     LexFault, LoadFault, MONITORS, Q703, STANDARD, Verified, load, monitors, point_head,
@@ -175,9 +176,17 @@ fn point_in(alloc: Global, kept: &[u8], fault: &LoadFault) -> Result<Vec<u8>, Al
         );
     }
     match str::from_utf8(kept) {
-        Ok(text) => point_out(alloc, text, fault),
+        Ok(text) => point_told(alloc, text, fault),
         Err(_) => Ok(Vec::new(alloc)),
     }
+}
+
+/// Points at what `load` says of a text, and says why.
+fn point_told(alloc: Global, text: &str, fault: &LoadFault) -> Result<Vec<u8>, AllocError>
+    ensures { IfOk result (λ v. IsTold text.now fault.now v.items) }
+{
+    let told = told_of(alloc, text, fault)?;
+    point_out(alloc, text, fault, &told)
 }
 
 /// A fault with the lines that point at it; want of memory in place of it, where there is none for these.

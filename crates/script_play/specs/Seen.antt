@@ -201,22 +201,24 @@ IsPlaySeenInPart name known usual Coverage old new from to d bytes =
 
 -- A script was played as it is to be seen: with the lines of its commands, where that is asked for;
 -- else with what is wanted of it in a file, where there is one, which had this and now has that.
-abbrev pub IsWatched :
-    List ℕ → Option (List ℕ) → RoundLimits → Bool → Wanted → Option (List ℕ) → Option (List ℕ) → Option (Option (List ℕ))
-    → Option (Option (List ℕ)) → Draft → List ℕ → Type 0
-IsWatched name known usual true wanted old new begun now d bytes = IsPlayed usual true old new d bytes
-IsWatched name known usual false wanted old new None now d bytes = IsPlayed usual false old new d bytes
-IsWatched name known usual false wanted old new (Some begun) None d bytes = ⊥
-IsWatched name known usual false wanted old new (Some begun) (Some now) d bytes =
-    IsPlaySeen name known usual wanted old new begun now d bytes
+pub data IsWatched (name : List ℕ) (known : Option (List ℕ)) (usual : RoundLimits)
+    (echo : Bool) (wanted : Wanted) (old new : Option (List ℕ)) (begun now : Option (Option (List ℕ))) (d : Draft)
+    (bytes : List ℕ) : Type 0 where
+  has_lines : echo ≡ true → IsPlayed usual echo old new d bytes
+      → IsWatched name known usual echo wanted old new begun now d bytes
+  has_neither : echo ≡ false → begun ≡ None → IsPlayed usual echo old new d bytes
+      → IsWatched name known usual echo wanted old new begun now d bytes
+  has_file : (was has : Option (List ℕ)) → echo ≡ false → begun ≡ Some was → now ≡ Some has
+      → IsPlaySeen name known usual wanted old new was has d bytes
+      → IsWatched name known usual echo wanted old new begun now d bytes
 
-abbrev pub IsWatchedInPart :
-    List ℕ → Option (List ℕ) → RoundLimits → Bool → Wanted → Option (List ℕ) → Option (List ℕ) → Option (Option (List ℕ))
-    → Option (Option (List ℕ)) → Draft → List ℕ → Type 0
-IsWatchedInPart name known usual true wanted old new begun now d bytes =
-    IsPlayedInPart usual true old new d bytes
-IsWatchedInPart name known usual false wanted old new None now d bytes =
-    IsPlayedInPart usual false old new d bytes
-IsWatchedInPart name known usual false wanted old new (Some begun) None d bytes = ⊥
-IsWatchedInPart name known usual false wanted old new (Some begun) (Some now) d bytes =
-    IsPlaySeenInPart name known usual wanted old new begun now d bytes
+pub data IsWatchedInPart (name : List ℕ) (known : Option (List ℕ)) (usual : RoundLimits)
+    (echo : Bool) (wanted : Wanted) (old new : Option (List ℕ)) (begun now : Option (Option (List ℕ))) (d : Draft)
+    (bytes : List ℕ) : Type 0 where
+  has_lines_in_part : echo ≡ true → IsPlayedInPart usual echo old new d bytes
+      → IsWatchedInPart name known usual echo wanted old new begun now d bytes
+  has_neither_in_part : echo ≡ false → begun ≡ None → IsPlayedInPart usual echo old new d bytes
+      → IsWatchedInPart name known usual echo wanted old new begun now d bytes
+  has_file_in_part : (was has : Option (List ℕ)) → echo ≡ false → begun ≡ Some was → now ≡ Some has
+      → IsPlaySeenInPart name known usual wanted old new was has d bytes
+      → IsWatchedInPart name known usual echo wanted old new begun now d bytes

@@ -1,6 +1,7 @@
 -- The word at which a refusal points.
 use Rattle.std.specs.Prelude.{◌≡◌, ℕ, ◌+◌, ◌==◌, if◌then◌else◌, List, [], ◌∷◌, Option, Some, None}
 use Rattle.std.specs.Prelude.{option_map, MatchOption, Ok, codes, string_bytes}
+use Rattle.std.specs.Option.{option_map_or}
 use Rattle.sdl_lex.specs.Lexed.{Answers}
 use Rattle.sdl_lex.specs.Printed as lexis
 use Rattle.sdl_tree.specs.Printed as parser
@@ -12,7 +13,7 @@ use Rattle.sdl_lex.specs.declared.lexemes.LexFault.{LexFault}
 use Rattle.sdl_lex.specs.declared.lexemes.LexFault.TheVariants.{BadCharacter, OpenComment, TooLong}
 use Rattle.sdl_lex.specs.declared.lexemes.LexFault.TheVariants.{NoMemory as no_tokens}
 use Rattle.script_point.specs.Pointed.{bare_text, IsPointed}
-use Rattle.script_point.specs.declared.notes.Notes.{Notes}
+use Rattle.script_point.specs.declared.notes.Told.{Told}
 use Rattle.script_point.specs.declared.shown.Word.{Word}
 use Rattle.mtp2_text.specs.Loaded.{token_place, rule_place}
 use Rattle.mtp2_text.specs.turn_verify_types.loading.LoadFault.{LoadFault}
@@ -56,17 +57,22 @@ name_text (Parse fault line) = parser.fault_text fault
 name_text (Rule fault line) = rules.fault_text fault
 name_text NoMemory = codes "out of memory"
 
--- the lines that point at a refusal of a text with these tokens; without a place there is one line
-abbrev pub IsShown : List ℕ → List Token → LoadFault → Notes → List ℕ → Type 0
-IsShown text tokens fault notes lines =
-    MatchOption (word_of tokens fault)
-    (lines ≡ bare_text (name_text fault) (string_bytes notes.said))
-    (λ word. IsPointed text word (name_text fault) notes lines)
+-- The same, and the token at the place where it is found, where the refusal itself names none.
+abbrev pub word_in : List Token → LoadFault → Option ℕ → Option Word
+word_in tokens fault found =
+    option_map_or (λ word. Some word) (word_of tokens fault) (option_map (token_word tokens) found)
 
--- The lines point at the word at which the refusal of the text does, and say of it whatever they
--- do.
-pub record IsPointedOut (text : List ℕ) (fault : LoadFault) (lines : List ℕ) : Type 0 where
+-- the lines that point at a refusal of a text with these tokens; without a place there is one line
+abbrev pub IsShown : List ℕ → List Token → LoadFault → Told → List ℕ → Type 0
+IsShown text tokens fault told lines =
+    MatchOption (word_in tokens fault told.found)
+    (lines ≡ bare_text (name_text fault) (string_bytes told.notes.said))
+    (λ word. IsPointed text word (name_text fault) told.notes lines)
+
+-- The lines point at the word at which the refusal of the text does, or where it is found, and say
+-- what is told of it.
+pub record IsPointedOut (text : List ℕ) (fault : LoadFault) (told : Told) (lines : List ℕ) :
+    Type 0 where
   pub tokens : List Token
   pub are_all : (ts : List Token) → Answers text (Ok ts) → ts ≡ tokens
-  pub notes : Notes
-  pub shown : IsShown text tokens fault notes lines
+  pub shown : IsShown text tokens fault told lines

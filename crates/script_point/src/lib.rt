@@ -1,17 +1,32 @@
 //! Why a text is refused, as lines that point at the word in the text: its line and column, the line itself, and carets under the word.
 #![tactic(auto)]
 
+mod causes;
+mod contexts;
+mod declared;
+mod ends;
+mod expected;
 mod fronts;
 mod lines;
+mod names;
 mod notes;
 mod pointing;
+mod reading;
+mod saying;
 mod shown;
+mod statements;
+mod unset;
 mod words;
 
+pub use causes::add_notes;
 pub use fronts::in_front;
 pub use mtp2_text::{
     LexFault, LoadFault, MONITORS, Q703, STANDARD, Verified, load, monitors, q703, standard,
 };
-pub use notes::Notes;
-pub use pointing::point_out;
+pub use notes::{Notes, Told};
+pub use pointing::{point_out, tokens_of};
+pub use reading::Reading;
+pub use saying::{Item, push_all, push_items, push_number};
 pub use shown::{Word, point, point_head, point_nowhere};
+pub use statements::{Found, Standing, process_at, standing_at};
+pub use unset::unset_read;

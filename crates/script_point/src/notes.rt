@@ -23,3 +23,12 @@ impl Notes {
         }
     }
 }
+
+/// What is said of a refusal, and where it is found where it names no place itself.
+#[derive(Debug, Drop)]
+pub struct Told {
+    /// What is said.
+    pub notes: Notes,
+    /// The place of the token where a limit is passed (S10), or a variable is read unset (S11).
+    pub found: Option<u32>,
+}

@@ -4,15 +4,19 @@ ghost use Rattle.sdl_lex.specs.Lexed.{Answers};
 ghost use Rattle.sdl_lex.specs.declared.lexemes.Token as lexeme;
 ghost use Rattle.script_point.specs.Pointing.{IsPointedOut, IsShown};
 
-use crate::notes::Notes;
+use crate::notes::Told;
 use crate::shown::{point, point_nowhere};
-use crate::words::{Bare, word_of};
+use crate::words::{Bare, word_in};
 use mtp2_text::LoadFault;
 use sdl_lex::{LexFault, Token, tokens};
 use std::alloc::{AllocError, Global};
 
 /// The tokens of a text, or none where it has none.
-fn tokens_of(alloc: Global, text: &str) -> Result<Vec<Token>, AllocError>
+///
+/// # Errors
+///
+/// Want of memory.
+pub fn tokens_of(alloc: Global, text: &str) -> Result<Vec<Token>, AllocError>
     ensures { IfOk result (λ v. (ts : List lexeme.Token) → Answers text.now (Ok ts) → ts ≡ v.items) }
 {
     match tokens(alloc, text) {
@@ -28,23 +32,28 @@ fn show(
     text: &str,
     tokens: &[Token],
     fault: &LoadFault,
-    notes: &Notes,
+    told: &Told,
 ) -> Result<Vec<u8>, AllocError>
-    ensures { IfOk result (λ v. IsShown text.now tokens.now fault.now notes.now v.items) }
+    ensures { IfOk result (λ v. IsShown text.now tokens.now fault.now told.now v.items) }
 {
     let name = format!(in alloc; "{}", Bare(fault))?;
-    match word_of(tokens, fault) {
-        Some(word) => point(alloc, text.as_bytes(), word, name.as_str(), notes),
-        None => point_nowhere(alloc, name.as_str(), notes.said.as_str()),
+    match word_in(tokens, fault, told.found) {
+        Some(word) => point(alloc, text.as_bytes(), word, name.as_str(), &told.notes),
+        None => point_nowhere(alloc, name.as_str(), told.notes.said.as_str()),
     }
 }
 
 /// Points at a refusal in its text: where it is, what it is, the line of the text and carets under the word, as `point` says; the name of the
-/// text's file is to stand in front. Where a refusal has no place (S10, S11) there is one line alone, without line and column.
-pub fn point_out(alloc: Global, text: &str, fault: &LoadFault) -> Result<Vec<u8>, AllocError>
-    ensures { IfOk result (λ v. IsPointedOut text.now fault.now v.items) }
+/// text's file is to stand in front. Where a refusal names no place (S10, S11) it points at the one where it is found; without one there is one
+/// line alone, without line and column.
+pub fn point_out(
+    alloc: Global,
+    text: &str,
+    fault: &LoadFault,
+    told: &Told,
+) -> Result<Vec<u8>, AllocError>
+    ensures { IfOk result (λ v. IsPointedOut text.now fault.now told.now v.items) }
 {
     let tokens = tokens_of(alloc, text)?;
-    let notes = Notes::new(alloc);
-    show(alloc, text, &tokens, fault, &notes)
+    show(alloc, text, &tokens, fault, told)
 }

@@ -1,7 +1,7 @@
 //! The words of a text at which refusals point.
 ghost use Rattle.std.specs.Prelude.{◌≡◌, option_map, Some};
 ghost use Rattle.mtp2_text.specs.Loaded.{token_place, rule_place};
-ghost use Rattle.script_point.specs.Pointing.{token_end, token_word, lex_word, parse_word, word_of, name_text};
+ghost use Rattle.script_point.specs.Pointing.{token_end, token_word, lex_word, parse_word, word_of, word_in, name_text};
 
 use crate::shown::Word;
 use mtp2_text::LoadFault;
@@ -88,7 +88,7 @@ fn rule_word(tokens: &[Token], fault: &RuleFault) -> Option<Word>
 }
 
 /// The word at which a refusal of a text with these tokens points, if it has a place.
-pub fn word_of(tokens: &[Token], fault: &LoadFault) -> Option<Word>
+fn word_of(tokens: &[Token], fault: &LoadFault) -> Option<Word>
     ensures { result ≡ word_of tokens.now fault.now }
 {
     match fault {
@@ -96,6 +96,17 @@ pub fn word_of(tokens: &[Token], fault: &LoadFault) -> Option<Word>
         LoadFault::Parse { fault, .. } => parse_word(tokens, *fault),
         LoadFault::Rule { fault, .. } => rule_word(tokens, fault),
         LoadFault::NoMemory => None,
+    }
+}
+
+/// The word at which a refusal points: the one at the place that it names, else at the one where it is found.
+pub fn word_in(tokens: &[Token], fault: &LoadFault, found: Option<u32>) -> Option<Word>
+    ensures { result ≡ word_in tokens.now fault.now found }
+{
+    match (word_of(tokens, fault), found) {
+        (Some(word), _) => Some(word),
+        (None, Some(place)) => Some(token_word(tokens, place)),
+        (None, None) => None,
     }
 }
 

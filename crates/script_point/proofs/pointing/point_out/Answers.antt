@@ -8,6 +8,5 @@ returns c =
     (λ v h. record {
       tokens = c.deref.result.now;
       are_all = λ ts a. c.in_ok-tokens.ensures ts a ∙ sym c.deref.ensures.value;
-      notes = c.new-notes.result;
       shown = h;
     }) c.show.ensures

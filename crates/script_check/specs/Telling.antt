@@ -1,0 +1,52 @@
+-- Where a refusal is found that names no place itself.
+use Rattle.std.specs.Prelude.{◌≡◌, ℕ, List, Contains}
+use Rattle.sdl_lex.specs.Spelling.{folded}
+use Rattle.sdl_lex.specs.declared.lexemes.Lexeme.{Lexeme}
+use Rattle.sdl_lex.specs.declared.lexemes.Lexeme.TheVariants.{Name, Number, Word, Symbol, Quoted}
+use Rattle.sdl_lex.specs.declared.lexemes.Token.{Token}
+use Rattle.sdl_sound.specs.declared.fault.RuleFault.{RuleFault}
+use Rattle.sdl_sound.specs.declared.fault.RuleFault.TheVariants as rules
+use Rattle.script_point.specs.turn_verify_types.loading.LoadFault.{LoadFault}
+use Rattle.script_point.specs.turn_verify_types.loading.LoadFault.TheVariants as loading
+
+-- a word is this name, in whatever case
+abbrev pub IsNamed : List ℕ → Lexeme → Type 0
+IsNamed x (Name n) = folded n ≡ folded x
+IsNamed x (Number n) = ⊥
+IsNamed x (Word w) = ⊥
+IsNamed x (Symbol s) = ⊥
+IsNamed x Quoted = ⊥
+
+-- a token begins at this place
+pub record IsTokenAt (tokens : List Token) (at : ℕ) : Type 0 where
+  pub token : Token
+  pub there : Contains tokens token
+  pub begins : token.start ≡ at
+
+-- a token begins at this place that is this name
+pub record IsNameAt (tokens : List Token) (x : List ℕ) (at : ℕ) : Type 0 where
+  pub token : Token
+  pub there : Contains tokens token
+  pub begins : token.start ≡ at
+  pub named : IsNamed x token.lexeme
+
+-- Where a limit is passed a token begins; where a variable is read unset stands its name.
+abbrev pub FitsRule : List Token → RuleFault → ℕ → Type 0
+FitsRule tokens (rules.DoubleName place) at = Unit {0}
+FitsRule tokens (rules.UnknownName place) at = Unit {0}
+FitsRule tokens (rules.WrongSort place) at = Unit {0}
+FitsRule tokens (rules.NoState place) at = Unit {0}
+FitsRule tokens (rules.NoReceiver place) at = Unit {0}
+FitsRule tokens (rules.TwoReceivers place) at = Unit {0}
+FitsRule tokens (rules.JoinCycle place) at = Unit {0}
+FitsRule tokens (rules.NoAnswer place) at = Unit {0}
+FitsRule tokens (rules.BadDivisor place) at = Unit {0}
+FitsRule tokens (rules.Limit which) at = IsTokenAt tokens at
+FitsRule tokens (rules.Unset x path) at = IsNameAt tokens x at
+FitsRule tokens rules.NoMemory at = Unit {0}
+
+abbrev pub Fits : List Token → LoadFault → ℕ → Type 0
+Fits tokens (loading.Lex fault line) at = Unit {0}
+Fits tokens (loading.Parse fault line) at = Unit {0}
+Fits tokens (loading.Rule fault line) at = FitsRule tokens fault at
+Fits tokens loading.NoMemory at = Unit {0}

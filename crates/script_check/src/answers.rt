@@ -1,0 +1,91 @@
+//! Values that no answer of a DECISION is for (S8).
+use script_point::{Notes, Standing, standing_at};
+use sdl_sorts::is_truth;
+use sdl_tables::ProcessTable;
+use sdl_tree::{Decision, Literal, Range};
+use std::alloc::AllocError;
+
+/// How often values name a truth value.
+fn times_in(ranges: &[Range], value: bool) -> usize {
+    let mut count: usize = 0;
+    for range in ranges {
+        if let Range::Value(constant) = range {
+            if constant.value == Literal::Boolean(value) {
+                count = count.saturating_add(1);
+            }
+        }
+    }
+    count
+}
+
+/// How often a DECISION's answers name a truth value.
+fn times(decision: &Decision, value: bool) -> usize {
+    let mut count: usize = 0;
+    for answer in &decision.answers {
+        count = count.saturating_add(times_in(&answer.ranges, value));
+    }
+    count
+}
+
+/// What is said of a DECISION of Booleans, and what is to be written.
+fn of_truths(decision: &Decision) -> (&'static str, &'static str) {
+    let truths = times(decision, true);
+    let falsehoods = times(decision, false);
+    if truths > 1 {
+        return ("TRUE is answered twice", "");
+    }
+    if falsehoods > 1 {
+        return ("FALSE is answered twice", "");
+    }
+    if decision.otherwise.is_some() {
+        return (
+            "TRUE and FALSE are answered, and nothing is left for ELSE",
+            "",
+        );
+    }
+    of_missing(truths, falsehoods)
+}
+
+/// What is said of values that aren't answered.
+fn of_missing(truths: usize, falsehoods: usize) -> (&'static str, &'static str) {
+    if truths == 0 && falsehoods == 0 {
+        return (
+            "TRUE and FALSE aren't answered",
+            "write ELSE: in front of ENDDECISION",
+        );
+    }
+    if truths == 0 {
+        return (
+            "TRUE isn't answered",
+            "write (TRUE): or ELSE: in front of ENDDECISION",
+        );
+    }
+    (
+        "FALSE isn't answered",
+        "write (FALSE): or ELSE: in front of ENDDECISION",
+    )
+}
+
+/// What is said of the DECISION at a place of a process.
+pub(crate) fn no_answer(
+    notes: &mut Notes,
+    process: &ProcessTable,
+    at: u32,
+) -> Result<(), AllocError> {
+    let Some(found) = standing_at(process.process(), at) else {
+        return Ok(());
+    };
+    let Standing::Question(decision) = found.standing else {
+        return Ok(());
+    };
+    let (said, hint) = if is_truth(process, &decision.question) {
+        of_truths(decision)
+    } else {
+        (
+            "a DECISION of Integers has an ELSE",
+            "write ELSE: in front of ENDDECISION",
+        )
+    };
+    notes.said.push_str(said)?;
+    notes.hint.push_str(hint)
+}

@@ -1,0 +1,131 @@
+//! Why an operand in an expression has the wrong sort (S3).
+use crate::sorts::Cause;
+use sdl_sorts::sort_in;
+use sdl_tables::ProcessTable;
+use sdl_tree::{BinaryOperator, Expression, Sort, UnaryOperator};
+
+/// On which side of which operator an operand stands.
+#[derive(Clone, Copy)]
+pub(crate) enum Side {
+    Behind(UnaryOperator),
+    Left(BinaryOperator),
+    Right(BinaryOperator),
+}
+
+/// Where an expression begins.
+pub(crate) fn place(expression: &Expression) -> u32 {
+    match expression {
+        Expression::Number { at, .. } => *at,
+        Expression::Truth { at, .. } => *at,
+        Expression::Variable { at, .. } => *at,
+        Expression::Unary { at, .. } => *at,
+        Expression::Binary { at, .. } => *at,
+    }
+}
+
+/// What both operands have to be: those of `=` and `/=` what the left one is.
+fn operand_sort(operator: BinaryOperator, left: Option<Sort>) -> Option<Sort> {
+    match operator {
+        BinaryOperator::Equal | BinaryOperator::NotEqual => left,
+        BinaryOperator::Or | BinaryOperator::Xor | BinaryOperator::And => Some(Sort::Boolean),
+        _ => Some(Sort::Integer),
+    }
+}
+
+/// Whether an expression is one with NOT in front.
+fn is_denied(operand: &Expression) -> bool {
+    match operand {
+        Expression::Unary { operator, .. } => *operator == UnaryOperator::Not,
+        _ => false,
+    }
+}
+
+/// Why an operand that begins at a place is wrong, if another sort is wanted of it.
+fn operand_cause(
+    process: &ProcessTable,
+    side: Side,
+    want: Option<Sort>,
+    operand: &Expression,
+    at: u32,
+) -> Option<Cause> {
+    let found = sort_in(process, operand);
+    if place(operand) != at || found == want {
+        return None;
+    }
+    Some(Cause::Operand {
+        side,
+        want,
+        found,
+        is_denied: is_denied(operand),
+    })
+}
+
+/// The first of two causes.
+pub(crate) fn first_of(one: Option<Cause>, other: Option<Cause>) -> Option<Cause> {
+    match one {
+        Some(cause) => Some(cause),
+        None => other,
+    }
+}
+
+/// Why an operand is wrong that begins at a place of an expression: of several the outermost.
+pub(crate) fn in_expression(
+    process: &ProcessTable,
+    expression: &Expression,
+    at: u32,
+) -> Option<Cause> {
+    match expression {
+        Expression::Number { .. } => None,
+        Expression::Truth { .. } => None,
+        Expression::Variable { .. } => None,
+        Expression::Unary {
+            operator,
+            operand,
+            ..
+        } => {
+            let own = unary_cause(process, *operator, operand, at);
+            let inside = in_expression(process, operand, at);
+            first_of(own, inside)
+        }
+        Expression::Binary {
+            operator,
+            left,
+            right,
+            ..
+        } => {
+            let own = binary_cause(process, *operator, left, right, at);
+            let in_left = in_expression(process, left, at);
+            let in_right = in_expression(process, right, at);
+            first_of(own, first_of(in_left, in_right))
+        }
+    }
+}
+
+/// Why the operand behind an operator is wrong that begins at a place.
+fn unary_cause(
+    process: &ProcessTable,
+    operator: UnaryOperator,
+    operand: &Expression,
+    at: u32,
+) -> Option<Cause> {
+    let want = match operator {
+        UnaryOperator::Negate => Sort::Integer,
+        UnaryOperator::Not => Sort::Boolean,
+    };
+    operand_cause(process, Side::Behind(operator), Some(want), operand, at)
+}
+
+/// Why one of two operands is wrong that begins at a place.
+fn binary_cause(
+    process: &ProcessTable,
+    operator: BinaryOperator,
+    left: &Expression,
+    right: &Expression,
+    at: u32,
+) -> Option<Cause> {
+    let want = operand_sort(operator, sort_in(process, left));
+    first_of(
+        operand_cause(process, Side::Left(operator), want, left, at),
+        operand_cause(process, Side::Right(operator), want, right, at),
+    )
+}

@@ -1,0 +1,320 @@
+//! Signals that nobody gets, or several (S5, S6).
+use script_point::{Item, Notes, Standing, push_all, push_items, push_number, standing_at};
+use sdl_joins::{find_links, reached_in};
+use sdl_lex::{Name, line_of};
+use sdl_tables::{BlockTable, InputPart, ProcessTable};
+use sdl_tree::{Action, Destination, Identifier, Output, Party, Stimulus};
+use std::alloc::{AllocError, Global};
+
+/// A signal that goes out, and from whom.
+#[derive(Clone, Copy)]
+struct Sent<'a, 'b> {
+    block: &'a BlockTable<'b>,
+    process: &'a ProcessTable<'b>,
+    signal: Name,
+}
+
+impl Sent<'_, '_> {
+    /// The process that sends it.
+    fn own(&self) -> Party {
+        Party::Process(self.process.process().name)
+    }
+
+    /// The name of the process that sends it.
+    fn own_name(&self) -> Name {
+        self.process.process().name.name
+    }
+}
+
+/// Why a signal TO SENDER gets to nobody.
+#[derive(Clone, Copy)]
+enum Lost {
+    /// START has no sender.
+    Start,
+    /// Nobody sent a timer's signal.
+    Timer(Name),
+    /// Who may have sent the signal of the turn has no route for the one that is sent back.
+    NoWay(Name, Party),
+}
+
+/// Where a transition begins.
+#[derive(Clone, Copy)]
+enum Beginning<'a> {
+    Start,
+    Input(&'a InputPart),
+    Connection(usize),
+}
+
+/// The OUTPUT at a place of a process, and the signal there.
+fn output_at<'a>(process: &ProcessTable<'a>, at: u32) -> Option<(&'a Output, Identifier)> {
+    let found = standing_at(process.process(), at)?;
+    match found.standing {
+        Standing::Action(Action::Output(output)) => {
+            let signal = signal_at(output, at)?;
+            Some((output, signal))
+        }
+        _ => None,
+    }
+}
+
+/// The signal that an OUTPUT sends at a place.
+fn signal_at(output: &Output, at: u32) -> Option<Identifier> {
+    for sending in &output.sendings {
+        if sending.signal.at == at {
+            return Some(sending.signal);
+        }
+    }
+    None
+}
+
+/// The last INPUT that begins before a place.
+fn input_before<'a>(process: &ProcessTable<'a>, at: u32) -> Option<&'a InputPart> {
+    let mut found: Option<&'a InputPart> = None;
+    for part in process.parts() {
+        if part.at <= at {
+            found = Some(*part);
+        }
+    }
+    found
+}
+
+/// The number of the last connection that begins before a place, and where it begins.
+fn connection_before(process: &ProcessTable, at: u32) -> Option<(usize, u32)> {
+    let mut found = None;
+    for (number, connection) in process.process().connections.iter().enumerate() {
+        if connection.at <= at {
+            found = Some((number, connection.at));
+        }
+    }
+    found
+}
+
+/// Where the transition begins in which a place stands.
+fn beginning_of<'a>(process: &ProcessTable<'a>, at: u32) -> Beginning<'a> {
+    match (input_before(process, at), connection_before(process, at)) {
+        (Some(part), Some((_, begins))) if part.at > begins => Beginning::Input(part),
+        (_, Some((number, _))) => Beginning::Connection(number),
+        (Some(part), None) => Beginning::Input(part),
+        (None, None) => Beginning::Start,
+    }
+}
+
+/// Who may have sent what began a turn, and gets nothing back.
+fn lost_sender(sent: &Sent<'_, '_>, stimulus: &Stimulus) -> Option<Lost> {
+    let name = stimulus.name.name;
+    if sent.process.timers().contains(name) {
+        return Some(Lost::Timer(name));
+    }
+    for sender in sent.block.senders(&sent.own(), name) {
+        if !sent.block.carries(&sent.own(), sender, sent.signal) {
+            return Some(Lost::NoWay(name, *sender));
+        }
+    }
+    None
+}
+
+/// Why what a turn sends back that an INPUT begins gets to nobody.
+fn lost_by(sent: &Sent<'_, '_>, part: &InputPart) -> Option<Lost> {
+    for stimulus in &part.stimuli {
+        let lost = lost_sender(sent, stimulus);
+        if lost.is_some() {
+            return lost;
+        }
+    }
+    None
+}
+
+/// Whether one of some marks is set.
+fn is_marked(marks: &[bool], number: usize) -> bool {
+    match marks.get(number) {
+        Some(mark) => *mark,
+        None => false,
+    }
+}
+
+/// Why what a connection sends back gets to nobody, and where the transition begins that comes to it.
+fn lost_in(
+    alloc: Global,
+    sent: &Sent<'_, '_>,
+    number: usize,
+) -> Result<Option<(Lost, u32)>, AllocError> {
+    let links = find_links(alloc, sent.process)?;
+    let start = &sent.process.process().start;
+    let marks = reached_in(alloc, sent.process, &links, &start.transition)?;
+    if is_marked(&marks, number) {
+        return Ok(Some((Lost::Start, start.at)));
+    }
+    for part in sent.process.parts() {
+        let lost = lost_by(sent, part);
+        let marks = reached_in(alloc, sent.process, &links, &part.transition)?;
+        match lost {
+            Some(lost) if is_marked(&marks, number) => return Ok(Some((lost, part.at))),
+            _ => {}
+        }
+    }
+    Ok(None)
+}
+
+/// The name of a party.
+fn party_name(party: &Party) -> &str {
+    match party {
+        Party::Environment => "ENV",
+        Party::Process(id) => id.name.as_str(),
+    }
+}
+
+/// What is said of a signal TO SENDER.
+fn add_lost(notes: &mut Notes, sent: &Sent<'_, '_>, lost: &Lost) -> Result<(), AllocError> {
+    let said = &mut notes.said;
+    match lost {
+        Lost::Start => said.push_str("START has no sender"),
+        Lost::Timer(timer) => push_all(said, &["the timer ", timer.as_str(), " has no sender"]),
+        Lost::NoWay(signal, party) => {
+            let own = sent.own_name();
+            let back = sent.signal.as_str();
+            push_all(said, &["no route carries ", back])?;
+            push_all(said, &[" from ", own.as_str()])?;
+            push_all(said, &[" back to ", party_name(party)])?;
+            push_all(said, &[", which may have sent ", signal.as_str()])
+        }
+    }
+}
+
+/// What is said of the transition of a line that comes to a connection.
+fn add_way(
+    alloc: Global,
+    notes: &mut Notes,
+    sent: &Sent<'_, '_>,
+    number: usize,
+    line: usize,
+) -> Result<(), AllocError> {
+    match sent.process.process().connections.get(number) {
+        Some(connection) => {
+            notes.hint.push_str("the transition of line ")?;
+            push_number(alloc, &mut notes.hint, line)?;
+            let name = connection.name.name.as_str();
+            push_all(&mut notes.hint, &[" comes to CONNECTION ", name])
+        }
+        None => Ok(()),
+    }
+}
+
+/// What is said of a connection that sends TO SENDER, and of the transition that comes there.
+fn to_sender_in(
+    alloc: Global,
+    notes: &mut Notes,
+    sent: &Sent<'_, '_>,
+    number: usize,
+    text: &str,
+) -> Result<(), AllocError> {
+    match lost_in(alloc, sent, number)? {
+        Some((lost, begins)) => {
+            add_lost(notes, sent, &lost)?;
+            add_way(alloc, notes, sent, number, line_of(text, begins))
+        }
+        None => Ok(()),
+    }
+}
+
+/// What is said of an OUTPUT TO SENDER at a place.
+fn to_sender(
+    alloc: Global,
+    notes: &mut Notes,
+    sent: &Sent<'_, '_>,
+    text: &str,
+    at: u32,
+) -> Result<(), AllocError> {
+    match beginning_of(sent.process, at) {
+        Beginning::Start => add_lost(notes, sent, &Lost::Start),
+        Beginning::Input(part) => match lost_by(sent, part) {
+            Some(lost) => add_lost(notes, sent, &lost),
+            None => Ok(()),
+        },
+        Beginning::Connection(number) => to_sender_in(alloc, notes, sent, number, text),
+    }
+}
+
+/// What is said of an OUTPUT at a place that no route carries, or that has no sender to go to.
+pub(crate) fn no_receiver(
+    alloc: Global,
+    notes: &mut Notes,
+    block: &BlockTable<'_>,
+    process: &ProcessTable<'_>,
+    text: &str,
+    at: u32,
+) -> Result<(), AllocError> {
+    let Some((output, id)) = output_at(process, at) else {
+        return Ok(());
+    };
+    let sent = Sent {
+        block,
+        process,
+        signal: id.name,
+    };
+    let own = sent.own_name();
+    let words = [
+        "no route carries ",
+        id.name.as_str(),
+        " from ",
+        own.as_str(),
+    ];
+    match output.to {
+        Some(Destination::Sender(_)) => to_sender(alloc, notes, &sent, text, at),
+        Some(Destination::Process(to)) => {
+            push_all(&mut notes.said, &words)?;
+            push_all(&mut notes.said, &[" to ", to.name.as_str()])
+        }
+        None => push_all(&mut notes.said, &words),
+    }
+}
+
+/// The names of parties; of processes alone where these are wanted.
+fn party_items<'a>(
+    alloc: Global,
+    parties: &'a [Party],
+    processes: bool,
+) -> Result<Vec<Item<'a>>, AllocError> {
+    let mut items = Vec::new(alloc);
+    for party in parties {
+        if !processes || *party != Party::Environment {
+            items.push(Item {
+                text: party_name(party),
+                is_sign: false,
+            })?;
+        }
+    }
+    Ok(items)
+}
+
+/// What is said of an OUTPUT at a place that says to nobody, and that routes carry to several.
+pub(crate) fn two_receivers(
+    alloc: Global,
+    notes: &mut Notes,
+    block: &BlockTable<'_>,
+    process: &ProcessTable<'_>,
+    at: u32,
+) -> Result<(), AllocError> {
+    let Some((_, id)) = output_at(process, at) else {
+        return Ok(());
+    };
+    let own = process.process().name;
+    let parties = block.receivers(&Party::Process(own), id.name);
+    let words = [
+        "routes carry ",
+        id.name.as_str(),
+        " from ",
+        own.name.as_str(),
+    ];
+    push_all(&mut notes.said, &words)?;
+    let all = party_items(alloc, parties, false)?;
+    push_all(&mut notes.said, &[" to "])?;
+    push_items(&mut notes.said, &all, "", " and ")?;
+    add_addresses(alloc, notes, parties)
+}
+
+/// What may be written to name each of the processes among these.
+fn add_addresses(alloc: Global, notes: &mut Notes, parties: &[Party]) -> Result<(), AllocError> {
+    let processes = party_items(alloc, parties, true)?;
+    notes.hint.push_str("write ")?;
+    push_items(&mut notes.hint, &processes, "TO ", " or ")
+}

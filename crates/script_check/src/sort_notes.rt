@@ -1,0 +1,202 @@
+//! What is said of a wrong sort (S3).
+use crate::operands::Side;
+use crate::sorts::{Cause, Here};
+use script_point::{Notes, push_all, push_number};
+use sdl_tree::{BinaryOperator, Sort, UnaryOperator};
+use std::alloc::{AllocError, Global};
+
+/// A sort with its article.
+fn article(sort: Option<Sort>) -> &'static str {
+    match sort {
+        Some(Sort::Integer) => "an Integer",
+        Some(Sort::Boolean) => "a Boolean",
+        None => "a value",
+    }
+}
+
+/// What is wanted: these words and then a sort; and which sort there is.
+fn add_sorts(
+    notes: &mut Notes,
+    words: &[&str],
+    want: Option<Sort>,
+    under: &str,
+    found: Option<Sort>,
+) -> Result<(), AllocError> {
+    push_all(&mut notes.said, words)?;
+    notes.said.push_str(article(want))?;
+    notes.under.push_str(under)?;
+    notes.under.push_str(article(found))
+}
+
+/// What is said of a parameter of a signal.
+fn add_parameter(
+    alloc: Global,
+    notes: &mut Notes,
+    signal: &str,
+    number: usize,
+    want: Sort,
+    found: Option<Sort>,
+) -> Result<(), AllocError> {
+    notes.said.push_str("parameter ")?;
+    push_number(alloc, &mut notes.said, number)?;
+    let words = [" of ", signal, " is "];
+    add_sorts(notes, &words, Some(want), "this is ", found)
+}
+
+/// What is said of a number of parameters.
+fn add_number(
+    alloc: Global,
+    notes: &mut Notes,
+    signal: &str,
+    wanted: usize,
+    given: usize,
+) -> Result<(), AllocError> {
+    push_all(&mut notes.said, &[signal, " has "])?;
+    if wanted == 0 {
+        notes.said.push_str("no")?;
+    } else {
+        push_number(alloc, &mut notes.said, wanted)?;
+    }
+    notes.said.push_str(if wanted == 1 {
+        " parameter"
+    } else {
+        " parameters"
+    })?;
+    push_number(alloc, &mut notes.under, given)?;
+    notes.under.push_str(" given")
+}
+
+/// What is said of an answer.
+fn add_answer(notes: &mut Notes, is_truth: bool, here: Here) -> Result<(), AllocError> {
+    if is_truth {
+        notes
+            .said
+            .push_str("an answer to a question of Booleans is TRUE or FALSE")?;
+        notes.under.push_str(match here {
+            Here::Integer => "this is an Integer",
+            Here::Boolean => "this is a Boolean",
+            Here::Relation => "this is a relation",
+            Here::Range => "this is a range",
+            Here::Nothing => "",
+        })
+    } else {
+        notes
+            .said
+            .push_str("an answer to a question of Integers has Integers alone")?;
+        notes.under.push_str("here is a Boolean")
+    }
+}
+
+/// An operator as it is written.
+fn sign(operator: BinaryOperator) -> &'static str {
+    match operator {
+        BinaryOperator::Or => "OR",
+        BinaryOperator::Xor => "XOR",
+        BinaryOperator::And => "AND",
+        BinaryOperator::Equal => "=",
+        BinaryOperator::NotEqual => "/=",
+        BinaryOperator::Less => "<",
+        BinaryOperator::LessEqual => "<=",
+        BinaryOperator::Greater => ">",
+        BinaryOperator::GreaterEqual => ">=",
+        BinaryOperator::Add => "+",
+        BinaryOperator::Subtract => "-",
+        BinaryOperator::Multiply => "*",
+        BinaryOperator::Divide => "/",
+        BinaryOperator::Modulo => "MOD",
+        BinaryOperator::Remainder => "REM",
+    }
+}
+
+/// The operator of an operand as it is written.
+fn side_sign(side: Side) -> &'static str {
+    match side {
+        Side::Behind(operator) => match operator {
+            UnaryOperator::Negate => "-",
+            UnaryOperator::Not => "NOT",
+        },
+        Side::Left(operator) => sign(operator),
+        Side::Right(operator) => sign(operator),
+    }
+}
+
+/// That an operand is wanted on its side.
+fn side_text(side: Side) -> &'static str {
+    match side {
+        Side::Behind(_) => " is wanted behind `",
+        Side::Left(_) => " is wanted left of `",
+        Side::Right(_) => " is wanted right of `",
+    }
+}
+
+/// What is said of an operand.
+fn add_operand(
+    notes: &mut Notes,
+    side: Side,
+    want: Option<Sort>,
+    found: Option<Sort>,
+    is_denied: bool,
+) -> Result<(), AllocError> {
+    notes.said.push_str(article(want))?;
+    notes.said.push_str(side_text(side))?;
+    notes.said.push_str(side_sign(side))?;
+    notes.said.push_str("`")?;
+    notes.under.push_str("this is ")?;
+    notes.under.push_str(article(found))?;
+    if is_denied {
+        return notes
+            .hint
+            .push_str("NOT takes the operand behind it alone: write NOT (..)");
+    }
+    Ok(())
+}
+
+/// What is said of a cause.
+pub(crate) fn explain(alloc: Global, notes: &mut Notes, cause: &Cause) -> Result<(), AllocError> {
+    match cause {
+        Cause::Operand {
+            side,
+            want,
+            found,
+            is_denied,
+        } => add_operand(notes, *side, *want, *found, *is_denied),
+        Cause::Parameter {
+            signal,
+            number,
+            want,
+            found,
+        } => add_parameter(alloc, notes, signal.as_str(), *number, *want, *found),
+        Cause::Value {
+            variable,
+            want,
+            found,
+        } => {
+            let words = [variable.as_str(), " is "];
+            add_sorts(notes, &words, *want, "its value is ", *found)
+        }
+        Cause::Initial {
+            variable,
+            want,
+            found,
+        } => {
+            let words = [variable.as_str(), " is "];
+            add_sorts(notes, &words, Some(*want), "this is ", Some(*found))
+        }
+        Cause::Number {
+            signal,
+            wanted,
+            given,
+        } => add_number(alloc, notes, signal.as_str(), *wanted, *given),
+        Cause::Time => {
+            let found = Some(Sort::Boolean);
+            add_sorts(
+                notes,
+                &["a time is "],
+                Some(Sort::Integer),
+                "this is ",
+                found,
+            )
+        }
+        Cause::Answer { is_truth, here } => add_answer(notes, *is_truth, *here),
+    }
+}

@@ -1,0 +1,214 @@
+//! What is said of a refusal, and where it is found where it names no place itself.
+ghost use Rattle.std.specs.Prelude.{List, Ok, IfOk, IfSome, IsTrue};
+ghost use Rattle.sdl_lex.specs.Lexed.{Answers};
+ghost use Rattle.sdl_lex.specs.declared.lexemes.Token as lexeme;
+ghost use Rattle.script_check.specs.Telling.{Fits, FitsRule, IsNameAt, IsNamed, IsTokenAt};
+
+use crate::answers::no_answer;
+use crate::limits::tell_over;
+use crate::receivers::{no_receiver, two_receivers};
+use crate::sort_notes::explain;
+use crate::sorts::wrong_sort;
+use script_point::{
+    LoadFault, Notes, Reading, Told, add_notes, process_at, push_all, tokens_of, unset_read,
+};
+use sdl_lex::{Lexeme, Name, Token};
+use sdl_sound::{RuleFault, Step};
+use sdl_tables::{BlockTable, ProcessTable, TableFault};
+use sdl_tree::{Block, ParseFault, parse};
+use std::alloc::{AllocError, Global};
+
+/// Where a variable is read unset.
+fn of_unset(
+    alloc: Global,
+    told: &mut Told,
+    block: &BlockTable,
+    path: &[Step],
+    variable: Name,
+) -> Result<(), AllocError> {
+    match unset_read(alloc, block, path, variable)? {
+        Some((process, place)) => {
+            told.found = Some(place);
+            let words = [process.as_str(), " reads ", variable.as_str()];
+            push_all(&mut told.notes.said, &words)?;
+            told.notes
+                .said
+                .push_str(", which nothing has set on this way")
+        }
+        None => Ok(()),
+    }
+}
+
+/// What is said of a rule that is broken at a place of a process.
+fn of_place(
+    alloc: Global,
+    notes: &mut Notes,
+    block: &BlockTable<'_>,
+    process: &ProcessTable<'_>,
+    text: &str,
+    fault: &RuleFault,
+) -> Result<(), AllocError> {
+    match fault {
+        RuleFault::WrongSort(at) => match wrong_sort(block, process, *at) {
+            Some(cause) => explain(alloc, notes, &cause),
+            None => Ok(()),
+        },
+        RuleFault::NoReceiver(at) => no_receiver(alloc, notes, block, process, text, *at),
+        RuleFault::TwoReceivers(at) => two_receivers(alloc, notes, block, process, *at),
+        RuleFault::NoAnswer(at) => no_answer(notes, process, *at),
+        _ => Ok(()),
+    }
+}
+
+/// The place of a rule that the tree tells more of.
+fn place_of(fault: &RuleFault) -> Option<u32> {
+    match fault {
+        RuleFault::WrongSort(at)
+        | RuleFault::NoReceiver(at)
+        | RuleFault::TwoReceivers(at)
+        | RuleFault::NoAnswer(at) => Some(*at),
+        _ => None,
+    }
+}
+
+/// What is said of a rule that a block with these tables breaks.
+fn of_block(
+    alloc: Global,
+    told: &mut Told,
+    block: &BlockTable<'_>,
+    text: &str,
+    fault: &RuleFault,
+) -> Result<(), AllocError> {
+    match fault {
+        RuleFault::Limit(limit) => tell_over(alloc, told, block, *limit),
+        RuleFault::Unset { variable, path } => of_unset(alloc, told, block, &path.steps, *variable),
+        _ => {
+            let Some(at) = place_of(fault) else {
+                return Ok(());
+            };
+            let Some(process) = process_at(block, at) else {
+                return Ok(());
+            };
+            of_place(alloc, &mut told.notes, block, process, text, fault)
+        }
+    }
+}
+
+/// What is said of a rule that a block breaks.
+fn of_tree(
+    alloc: Global,
+    told: &mut Told,
+    block: &Block,
+    text: &str,
+    fault: &RuleFault,
+) -> Result<(), AllocError> {
+    match BlockTable::new(alloc, block) {
+        Ok(table) => of_block(alloc, told, &table, text, fault),
+        Err(TableFault::NoMemory) => Err(AllocError),
+        Err(TableFault::DoubleName(_)) => Ok(()),
+    }
+}
+
+/// Adds what the tree of a text tells of a rule that it breaks.
+fn add_of_tree(
+    alloc: Global,
+    told: &mut Told,
+    read: &Reading<'_>,
+    fault: &RuleFault,
+) -> Result<(), AllocError> {
+    match parse(alloc, read.tokens) {
+        Ok(block) => of_tree(alloc, told, &block, read.text, fault),
+        Err(ParseFault::NoMemory) => Err(AllocError),
+        Err(_) => Ok(()),
+    }
+}
+
+/// Whether a token is a name, in whatever case.
+fn is_named(token: &Token, name: Name) -> bool
+    ensures { IsTrue result → IsNamed name token.now.lexeme }
+{
+    match token.lexeme {
+        Lexeme::Name(other) => other.folded() == name.folded(),
+        _ => false,
+    }
+}
+
+/// A place where a token is a name; none where none is.
+fn name_at(tokens: &[Token], name: Name, place: u32) -> Option<u32>
+    ensures { IfSome result (IsNameAt tokens.now name) }
+{
+    for token in tokens {
+        if token.start == place && is_named(token, name) {
+            return Some(place);
+        }
+    }
+    None
+}
+
+/// A place where a token begins; none where none does.
+fn token_at(tokens: &[Token], place: u32) -> Option<u32>
+    ensures { IfSome result (IsTokenAt tokens.now) }
+{
+    for token in tokens {
+        if token.start == place {
+            return Some(place);
+        }
+    }
+    None
+}
+
+/// The place where a rule is found to be broken, where what stands there may be that.
+fn fitting_rule(tokens: &[Token], fault: &RuleFault, place: u32) -> Option<u32>
+    ensures { IfSome result (FitsRule tokens.now fault.now) }
+{
+    match fault {
+        RuleFault::Limit(_) => token_at(tokens, place),
+        RuleFault::Unset { variable, .. } => name_at(tokens, *variable, place),
+        _ => None,
+    }
+}
+
+/// The place where a refusal is found, where what stands there may be that.
+fn fitting(tokens: &[Token], fault: &LoadFault, found: Option<u32>) -> Option<u32>
+    ensures { IfSome result (Fits tokens.now fault.now) }
+{
+    match found {
+        None => None,
+        Some(place) => match fault {
+            LoadFault::Rule { fault, .. } => fitting_rule(tokens, fault, place),
+            _ => None,
+        },
+    }
+}
+
+/// What is said of a refusal of a text, and a place for one that may have none.
+fn say(
+    alloc: Global,
+    told: &mut Told,
+    read: &Reading<'_>,
+    fault: &LoadFault,
+) -> Result<(), AllocError> {
+    add_notes(alloc, &mut told.notes, read, fault)?;
+    match fault {
+        LoadFault::Rule { fault, .. } => add_of_tree(alloc, told, read, fault),
+        _ => Ok(()),
+    }
+}
+
+/// What is said of a refusal of a text, and where it is found where it names no place.
+pub(crate) fn told_of(alloc: Global, text: &str, fault: &LoadFault) -> Result<Told, AllocError>
+    ensures { IfOk result (λ told. (ts : List lexeme.Token) → Answers text.now (Ok ts) → IfSome told.found (Fits ts fault.now)) }
+{
+    let tokens = tokens_of(alloc, text)?;
+    let read = Reading {
+        text,
+        tokens: tokens.as_slice(),
+    };
+    let mut told = Told {
+        notes: Notes::new(alloc),
+        found: None,
+    };
+    say(alloc, &mut told, &read, fault)?;
+    told.found = fitting(&tokens, fault, told.found);
+    Ok(told)
+}

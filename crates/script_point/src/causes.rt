@@ -1,0 +1,130 @@
+//! What is said of each refusal that its tokens tell.
+use crate::declared::declarations;
+use crate::ends::stray_end;
+use crate::expected::unexpected;
+use crate::names::{double_name, unknown_name};
+use crate::notes::Notes;
+use crate::reading::Reading;
+use crate::saying::push_all;
+use mtp2_text::LoadFault;
+use sdl_lex::{LexFault, Word};
+use sdl_sound::RuleFault;
+use sdl_tree::ParseFault;
+use std::alloc::{AllocError, Global};
+
+/// The byte at a place of a text.
+fn byte_at(text: &str, place: u32) -> u8 {
+    match text.as_bytes().get(place as usize) {
+        Some(byte) => *byte,
+        None => 0,
+    }
+}
+
+/// What is said of a fault of the lexis.
+fn of_lexis(text: &str, fault: LexFault) -> &'static str {
+    match fault {
+        LexFault::BadCharacter(_) => "nothing begins with this",
+        LexFault::OpenComment(place) => {
+            if byte_at(text, place) == b'/' {
+                "this comment has no end"
+            } else {
+                "this quoted text has no end"
+            }
+        }
+        LexFault::TooLong(place) => {
+            if byte_at(text, place).is_ascii_digit() {
+                "a number is 2147483647 at most"
+            } else {
+                "a name has 32 octets at most"
+            }
+        }
+        LexFault::NoMemory => "",
+    }
+}
+
+/// What is said of a text that reads as no tree.
+fn of_tree(
+    alloc: Global,
+    notes: &mut Notes,
+    read: &Reading<'_>,
+    fault: ParseFault,
+) -> Result<(), AllocError> {
+    match fault {
+        ParseFault::Unexpected(index) => unexpected(alloc, notes, read, index),
+        ParseFault::TooDeep(_) => notes
+            .said
+            .push_str("this statement is more than 32 levels high"),
+        ParseFault::NoMemory => Ok(()),
+    }
+}
+
+/// What is said of a JOIN that comes back to the connection in which it stands.
+fn of_cycle(notes: &mut Notes, read: &Reading<'_>, index: usize) -> Result<(), AllocError> {
+    match read.last_word(index, Word::Connection) {
+        Some(begins) => {
+            let name = read.spelled(begins.saturating_add(1));
+            push_all(
+                &mut notes.said,
+                &["this JOIN leads back to its own CONNECTION ", name],
+            )
+        }
+        None => Ok(()),
+    }
+}
+
+/// What is said of a divisor: the operator is the token before it.
+fn of_divisor(notes: &mut Notes, read: &Reading<'_>, index: usize) -> Result<(), AllocError> {
+    let sign = read.spelled(index.saturating_sub(1));
+    push_all(
+        &mut notes.said,
+        &["a literal of 1 or more is wanted right of `", sign, "`"],
+    )
+}
+
+/// What is said of a name or an end at the token with an index.
+fn of_names(
+    alloc: Global,
+    notes: &mut Notes,
+    read: &Reading<'_>,
+    fault: &RuleFault,
+    index: usize,
+) -> Result<(), AllocError> {
+    let all = declarations(alloc, read)?;
+    match fault {
+        RuleFault::DoubleName(_) => double_name(alloc, notes, read, &all, index),
+        RuleFault::UnknownName(_) => unknown_name(alloc, notes, read, &all, index),
+        _ => stray_end(alloc, notes, read, &all, index),
+    }
+}
+
+/// What is said of a rule that is broken, so far as tokens tell it.
+fn of_rule(
+    alloc: Global,
+    notes: &mut Notes,
+    read: &Reading<'_>,
+    fault: &RuleFault,
+) -> Result<(), AllocError> {
+    match fault {
+        RuleFault::DoubleName(at) | RuleFault::UnknownName(at) | RuleFault::NoState(at) => {
+            of_names(alloc, notes, read, fault, read.index_at(*at))
+        }
+        RuleFault::JoinCycle(at) => of_cycle(notes, read, read.index_at(*at)),
+        RuleFault::BadDivisor(at) => of_divisor(notes, read, read.index_at(*at)),
+        _ => Ok(()),
+    }
+}
+
+/// Adds what is said of a refusal of a text, so far as its tokens tell it: of L, P, S1, S2, S4, S7 and S9; of others nothing.
+pub fn add_notes(
+    alloc: Global,
+    notes: &mut Notes,
+    read: &Reading<'_>,
+    fault: &LoadFault,
+) -> Result<(), AllocError> {
+    match fault {
+        LoadFault::Lex { fault, .. } => notes.said.push_str(of_lexis(read.text, *fault)),
+        LoadFault::Parse { fault, .. } => of_tree(alloc, notes, read, *fault),
+        LoadFault::Rule { fault, .. } => of_rule(alloc, notes, read, fault),
+        LoadFault::NoMemory => Ok(()),
+    }
+}

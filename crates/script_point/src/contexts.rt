@@ -1,0 +1,123 @@
+//! What the name at a place stands for, by the words around it.
+use crate::reading::Reading;
+use sdl_lex::{Symbol, Word};
+
+/// What a name stands for.
+#[derive(Clone, Copy, PartialEq, Eq)]
+pub enum Class {
+    Signal,
+    Timer,
+    /// A signal, or a timer of the process.
+    Stimulus,
+    Variable,
+    Process,
+    State,
+    Connection,
+    Route,
+}
+
+impl Class {
+    /// Its name.
+    pub fn text(self) -> &'static str {
+        match self {
+            Class::Signal => "SIGNAL",
+            Class::Timer => "TIMER",
+            Class::Stimulus => "SIGNAL or TIMER",
+            Class::Variable => "variable",
+            Class::Process => "PROCESS",
+            Class::State => "STATE",
+            Class::Connection => "CONNECTION",
+            Class::Route => "SIGNALROUTE",
+        }
+    }
+
+    /// Whether each process has its own.
+    pub fn is_local(self) -> bool {
+        !matches!(self, Class::Signal | Class::Process | Class::Route)
+    }
+
+    /// Whether a name that stands for this may be one that is declared as the other.
+    pub fn takes(self, other: Class) -> bool {
+        self == other || (self == Class::Stimulus && other.is_stimulus())
+    }
+
+    /// Whether an INPUT takes it.
+    fn is_stimulus(self) -> bool {
+        matches!(self, Class::Signal | Class::Timer)
+    }
+
+    /// Whether no two of these may have one name.
+    pub fn clashes(self, other: Class) -> bool {
+        self == other || (self.is_stimulus() && other.is_stimulus())
+    }
+}
+
+/// The word that governs a token, and whether the token stands in parentheses behind it.
+struct Governing {
+    word: Word,
+    inside: bool,
+}
+
+/// Whether a word governs the names behind it.
+fn governs(word: Word) -> bool {
+    matches!(
+        word,
+        Word::Join
+            | Word::Output
+            | Word::To
+            | Word::From
+            | Word::With
+            | Word::Set
+            | Word::Reset
+            | Word::Input
+            | Word::Save
+            | Word::Task
+            | Word::Decision
+            | Word::NextState
+    )
+}
+
+/// The word that governs a token.
+fn governing_word(read: &Reading<'_>, index: usize) -> Option<Governing> {
+    let mut closed: usize = 0;
+    let mut inside = false;
+    for at in (0..index).rev() {
+        match read.symbol(at) {
+            Some(Symbol::Close) => closed = closed.saturating_add(1),
+            Some(Symbol::Open) if closed == 0 => inside = true,
+            Some(Symbol::Open) => closed = closed.saturating_sub(1),
+            _ => {}
+        }
+        if let Some(word) = read.word(at) {
+            if governs(word) {
+                return Some(Governing { word, inside });
+            }
+        }
+    }
+    None
+}
+
+/// Whether a token is the last thing in parentheses, behind a comma.
+fn is_last(read: &Reading<'_>, index: usize) -> bool {
+    read.symbol(index.saturating_add(1)) == Some(Symbol::Close)
+        && read.symbol(index.saturating_sub(1)) == Some(Symbol::Comma)
+}
+
+/// What the name with an index stands for.
+pub fn class_of(read: &Reading<'_>, index: usize) -> Class {
+    let Some(Governing { word, inside }) = governing_word(read, index) else {
+        return Class::Variable;
+    };
+    match word {
+        Word::Join => Class::Connection,
+        Word::NextState => Class::State,
+        Word::To | Word::From => Class::Process,
+        Word::With => Class::Signal,
+        Word::Output if !inside => Class::Signal,
+        Word::Input if !inside => Class::Stimulus,
+        Word::Save => Class::Stimulus,
+        Word::Reset => Class::Timer,
+        Word::Set if is_last(read, index) => Class::Timer,
+        _ => Class::Variable,
+    }
+}

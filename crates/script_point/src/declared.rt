@@ -1,0 +1,200 @@
+//! Where names are declared.
+use crate::contexts::Class;
+use crate::reading::Reading;
+use sdl_lex::{Symbol, Word};
+use std::alloc::{AllocError, Global};
+
+/// A name where it is declared.
+#[derive(Clone, Copy)]
+pub struct Declared {
+    /// What it is there.
+    pub class: Class,
+    /// The index of its token.
+    pub index: usize,
+}
+
+/// What the names behind a word are declared to be.
+fn declares(word: Word) -> Option<Class> {
+    match word {
+        Word::Signal => Some(Class::Signal),
+        Word::Timer => Some(Class::Timer),
+        Word::Dcl => Some(Class::Variable),
+        Word::Process => Some(Class::Process),
+        Word::State => Some(Class::State),
+        Word::Connection => Some(Class::Connection),
+        Word::SignalRoute => Some(Class::Route),
+        _ => None,
+    }
+}
+
+/// How a scan of declarations stands at a token.
+#[derive(Clone, Copy)]
+struct Scan {
+    class: Option<Class>,
+    depth: usize,
+}
+
+/// The scan behind a reserved word: behind FROM no route is declared.
+fn after_word(scan: Scan, word: Word) -> Scan {
+    if word == Word::From {
+        return Scan {
+            class: None,
+            depth: 0,
+        };
+    }
+    match declares(word) {
+        Some(class) => Scan {
+            class: Some(class),
+            depth: 0,
+        },
+        None => scan,
+    }
+}
+
+/// The scan behind one token more.
+fn scanned(scan: Scan, word: Option<Word>, symbol: Option<Symbol>) -> Scan {
+    if let Some(word) = word {
+        return after_word(scan, word);
+    }
+    match symbol {
+        Some(Symbol::Open) => Scan {
+            class: scan.class,
+            depth: scan.depth.saturating_add(1),
+        },
+        Some(Symbol::Close) => Scan {
+            class: scan.class,
+            depth: scan.depth.saturating_sub(1),
+        },
+        Some(Symbol::Semicolon) | Some(Symbol::Colon) => Scan {
+            class: None,
+            depth: 0,
+        },
+        _ => scan,
+    }
+}
+
+/// All names that are declared, in the order of the text.
+pub fn declarations(alloc: Global, read: &Reading<'_>) -> Result<Vec<Declared>, AllocError> {
+    let mut all = Vec::new(alloc);
+    let mut scan = Scan {
+        class: None,
+        depth: 0,
+    };
+    for index in 0..read.tokens.len() {
+        scan = scanned(scan, read.word(index), read.symbol(index));
+        if let Some(class) = scan.class {
+            if scan.depth == 0 && read.is_name(index) {
+                all.push(Declared { class, index })?;
+            }
+        }
+    }
+    Ok(all)
+}
+
+/// Whether a name that is declared can be named at a token.
+fn is_seen(read: &Reading<'_>, declared: &Declared, index: usize) -> bool {
+    !declared.class.is_local() || read.process(declared.index) == read.process(index)
+}
+
+/// Where the name of a token is declared, as whatever.
+pub fn find_any(read: &Reading<'_>, all: &[Declared], index: usize) -> Option<Declared> {
+    for declared in all {
+        if read.same(declared.index, index) && is_seen(read, declared, index) {
+            return Some(*declared);
+        }
+    }
+    None
+}
+
+/// Where the name of a token is declared as what it stands for.
+pub fn find_as(
+    read: &Reading<'_>,
+    all: &[Declared],
+    index: usize,
+    class: Class,
+) -> Option<Declared> {
+    for declared in all {
+        if class.takes(declared.class)
+            && read.same(declared.index, index)
+            && is_seen(read, declared, index)
+        {
+            return Some(*declared);
+        }
+    }
+    None
+}
+
+/// Where the name of a token that is declared itself is declared before it, so that the two clash.
+pub fn find_before(
+    read: &Reading<'_>,
+    all: &[Declared],
+    index: usize,
+) -> Option<(Declared, Class)> {
+    let class = declared_at(all, index)?;
+    for declared in all {
+        if declared.index != index
+            && class.clashes(declared.class)
+            && read.same(declared.index, index)
+            && is_seen(read, declared, index)
+        {
+            return Some((*declared, class));
+        }
+    }
+    None
+}
+
+/// What the name of a token is declared to be there.
+fn declared_at(all: &[Declared], index: usize) -> Option<Class> {
+    match all.iter().find(|declared| declared.index == index) {
+        Some(declared) => Some(declared.class),
+        None => None,
+    }
+}
+
+/// How many bytes two texts have alike at their beginning, in whatever case.
+fn alike(one: &[u8], other: &[u8]) -> usize {
+    let mut count: usize = 0;
+    for (a, b) in one.iter().zip(other) {
+        if !a.eq_ignore_ascii_case(b) {
+            return count;
+        }
+        count = count.saturating_add(1);
+    }
+    count
+}
+
+/// Whether two names of three letters or more differ in one letter: another one, one more or one less.
+fn is_near(one: &str, other: &str) -> bool {
+    let (longer, shorter) = if one.len() < other.len() {
+        (other.as_bytes(), one.as_bytes())
+    } else {
+        (one.as_bytes(), other.as_bytes())
+    };
+    let more = longer.len().saturating_sub(shorter.len());
+    if shorter.len() < 3 || more > 1 {
+        return false;
+    }
+    let same = alike(longer, shorter);
+    let behind = same.saturating_add(1);
+    let rest = longer.get(behind..).unwrap_or(&[]);
+    let tail = shorter.get(behind.saturating_sub(more)..).unwrap_or(&[]);
+    rest.eq_ignore_ascii_case(tail)
+}
+
+/// A name that could be meant: declared as what the token stands for, and spelled nearly so.
+pub fn find_near(
+    read: &Reading<'_>,
+    all: &[Declared],
+    index: usize,
+    class: Class,
+) -> Option<Declared> {
+    for declared in all {
+        if class.takes(declared.class)
+            && is_seen(read, declared, index)
+            && is_near(read.spelled(declared.index), read.spelled(index))
+        {
+            return Some(*declared);
+        }
+    }
+    None
+}

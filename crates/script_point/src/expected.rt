@@ -1,0 +1,336 @@
+//! What is wanted where no reading goes on (P1): the tokens with which one would.
+use crate::notes::Notes;
+use crate::reading::{Reading, text_of};
+use crate::saying::{Item, push_all, push_items};
+use sdl_lex::{LexFault, Lexeme, Symbol, Token, Word, tokens};
+use sdl_tree::{ParseFault, parse};
+use std::alloc::{AllocError, Global};
+
+/// Each symbol and each reserved word with which something may go on, a name, a number and a quoted text.
+const CANDIDATES: &str =
+    "NOT ( - TRUE FALSE NOW Some_other_name_0 2147483646 '' TASK OUTPUT SET RESET DECISION NEXTSTATE STOP JOIN
+    = /= < <= > >= + * / MOD REM AND OR XOR ; , : := )
+    BLOCK ENDBLOCK SIGNAL SIGNALROUTE FROM TO WITH ENV CONNECT PROCESS ENDPROCESS DCL TIMER START STATE ENDSTATE INPUT SAVE
+    CONNECTION ENDCONNECTION SENDER ELSE ENDDECISION INTEGER BOOLEAN";
+
+/// The candidate that stands for any name.
+const NAME: &str = "Some_other_name_0";
+
+/// The candidate that stands for any number.
+const NUMBER: &str = "2147483646";
+
+/// With which an expression may begin.
+const OPERANDS: [&str; 7] = ["NOT", "(", "-", "TRUE", "FALSE", NAME, NUMBER];
+
+/// With which a statement may begin, or a transition end.
+const STATEMENTS: [&str; 8] = [
+    "TASK",
+    "OUTPUT",
+    "SET",
+    "RESET",
+    "DECISION",
+    "NEXTSTATE",
+    "STOP",
+    "JOIN",
+];
+
+/// Which operators stand between two operands.
+const OPERATORS: [&str; 15] = [
+    "=", "/=", "<", "<=", ">", ">=", "+", "-", "*", "/", "MOD", "REM", "AND", "OR", "XOR",
+];
+
+/// Of which groups all are wanted.
+#[derive(Clone, Copy)]
+struct Groups {
+    operands: bool,
+    statements: bool,
+    operators: bool,
+}
+
+impl Groups {
+    /// The groups all of which are wanted.
+    fn of(wanted: &[&str]) -> Groups {
+        Groups {
+            operands: has_all(wanted, &OPERANDS),
+            statements: has_all(wanted, &STATEMENTS),
+            operators: has_all(wanted, &OPERATORS),
+        }
+    }
+
+    /// Whether one that is wanted is named by its group.
+    fn name(self, one: &str) -> bool {
+        (self.operands && has(&OPERANDS, one))
+            || (self.statements && has(&STATEMENTS, one))
+            || (self.operators && has(&OPERATORS, one))
+    }
+}
+
+/// Whether a list has this one.
+fn has(all: &[&str], one: &str) -> bool {
+    all.iter().any(|it| *it == one)
+}
+
+/// Whether all of a group are wanted.
+fn has_all(wanted: &[&str], group: &[&str]) -> bool {
+    group.iter().all(|one| has(wanted, *one))
+}
+
+/// The tokens of the candidates.
+fn candidates(alloc: Global) -> Result<Vec<Token>, AllocError> {
+    match tokens(alloc, CANDIDATES) {
+        Ok(tokens) => Ok(tokens),
+        Err(LexFault::NoMemory) => Err(AllocError),
+        Err(_) => Ok(Vec::new(alloc)),
+    }
+}
+
+/// Whether a text begins with these tokens.
+fn begins_text(alloc: Global, row: &[Token]) -> Result<bool, AllocError> {
+    match parse(alloc, row) {
+        Ok(_) => Ok(true),
+        Err(ParseFault::Unexpected(index)) => Ok(index >= row.len()),
+        Err(ParseFault::TooDeep(_)) => Ok(true),
+        Err(ParseFault::NoMemory) => Err(AllocError),
+    }
+}
+
+/// Whether a signal, a route or a process begins with a word.
+fn begins_entity(word: Option<Word>) -> bool {
+    matches!(
+        word,
+        Some(Word::Signal) | Some(Word::SignalRoute) | Some(Word::Connect) | Some(Word::Process)
+    )
+}
+
+/// The index of the word with which the signal, the route or the process begins that the tokens before an index end with; the index where there
+/// is none.
+fn entity(read: &Reading<'_>, index: usize) -> usize {
+    for at in (0..index).rev() {
+        if begins_entity(read.word(at)) {
+            return at;
+        }
+    }
+    index
+}
+
+/// The tokens before an index that tell what may stand there: the head of the block, and the signal, the route or the process that they end with.
+fn row_before(alloc: Global, read: &Reading<'_>, index: usize) -> Result<Vec<Token>, AllocError> {
+    let begins = entity(read, index);
+    let head = if begins < index {
+        block_head(read, begins)
+    } else {
+        index
+    };
+    let mut row = Vec::new(alloc);
+    row.extend_from_slice(read.tokens.get(..head).unwrap_or(&[]))?;
+    row.extend_from_slice(read.tokens.get(begins..index).unwrap_or(&[]))?;
+    Ok(row)
+}
+
+/// How many tokens the head of the block has: up to the first semicolon.
+fn block_head(read: &Reading<'_>, before: usize) -> usize {
+    for at in 0..before {
+        if read.symbol(at) == Some(Symbol::Semicolon) {
+            return at.saturating_add(1);
+        }
+    }
+    before
+}
+
+/// Which of the candidates may stand behind these tokens, as they are written.
+fn accepted(alloc: Global, row: &mut Vec<Token>) -> Result<Vec<&'static str>, AllocError> {
+    let candidates = candidates(alloc)?;
+    let mut wanted = Vec::new(alloc);
+    for candidate in &candidates {
+        row.push(*candidate)?;
+        if begins_text(alloc, row.as_slice())? {
+            wanted.push(text_of(CANDIDATES, candidate))?;
+        }
+        let _last = row.pop();
+    }
+    Ok(wanted)
+}
+
+/// The word that is closed by another one.
+fn opened_by(word: Word) -> Option<Word> {
+    match word {
+        Word::EndBlock => Some(Word::Block),
+        Word::EndProcess => Some(Word::Process),
+        Word::EndState => Some(Word::State),
+        Word::EndConnection => Some(Word::Connection),
+        _ => None,
+    }
+}
+
+/// The index of a token of the text itself that may be wanted: a closing name, or the number of instances once more.
+fn repeated(read: &Reading<'_>, index: usize) -> Option<usize> {
+    let before = index.checked_sub(1)?;
+    if read.symbol(before) == Some(Symbol::Comma) {
+        return before.checked_sub(1);
+    }
+    let word = read.word(before)?;
+    let opened = opened_by(word)?;
+    let at = read.last_word(before, opened)?;
+    Some(at.saturating_add(1))
+}
+
+/// The token of the text itself that may stand there, where it may.
+fn repeated_text<'a>(
+    alloc: Global,
+    read: &Reading<'a>,
+    row: &mut Vec<Token>,
+    index: usize,
+) -> Result<Option<&'a str>, AllocError> {
+    let Some(found) = repeated(read, index) else {
+        return Ok(None);
+    };
+    let Some(token) = read.tokens.get(found) else {
+        return Ok(None);
+    };
+    row.push(*token)?;
+    if begins_text(alloc, row.as_slice())? {
+        Ok(Some(read.spelled(found)))
+    } else {
+        Ok(None)
+    }
+}
+
+/// One that is wanted, as it is told.
+fn item_of<'a>(one: &'a str, is_number: bool) -> Item<'a> {
+    let text = if one == NAME {
+        "a name"
+    } else if one == NUMBER && is_number {
+        "a number of 1 or more"
+    } else if one == NUMBER {
+        "a number"
+    } else if one == "''" {
+        "a quoted text"
+    } else {
+        return Item {
+            text: one,
+            is_sign: true,
+        };
+    };
+    Item {
+        text,
+        is_sign: false,
+    }
+}
+
+/// Adds a word where it is wanted.
+fn push_group(
+    items: &mut Vec<Item<'_>>,
+    is_wanted: bool,
+    text: &'static str,
+) -> Result<(), AllocError> {
+    if is_wanted {
+        items.push(Item {
+            text,
+            is_sign: false,
+        })?;
+    }
+    Ok(())
+}
+
+/// What is wanted, each by its name, and groups by one name, behind what there is.
+fn push_wanted(
+    items: &mut Vec<Item<'_>>,
+    wanted: &[&'static str],
+    is_number: bool,
+) -> Result<(), AllocError> {
+    let groups = Groups::of(wanted);
+    push_group(items, groups.operands, "an expression")?;
+    push_group(items, groups.statements, "a statement")?;
+    push_group(items, groups.operators, "an operator")?;
+    for one in wanted {
+        if !groups.name(*one) {
+            items.push(item_of(*one, is_number))?;
+        }
+    }
+    Ok(())
+}
+
+/// What a token is, as it is called, behind what is there.
+fn push_called(text: &mut String, read: &Reading<'_>, index: usize) -> Result<(), AllocError> {
+    let own = read.spelled(index);
+    match read.lexeme(index) {
+        Some(Lexeme::Name(_)) => push_all(text, &["the name ", own]),
+        Some(Lexeme::Word(_)) => push_all(text, &["the reserved word ", own]),
+        Some(Lexeme::Number(_)) => text.push_str("a number"),
+        Some(Lexeme::Symbol(_)) => push_all(text, &["`", own, "`"]),
+        Some(Lexeme::Quoted) => text.push_str("a quoted text"),
+        None => Ok(()),
+    }
+}
+
+/// The token of the text itself that may stand there, behind what there is; the end of the text where there is nothing else.
+fn push_repeated<'a>(
+    alloc: Global,
+    items: &mut Vec<Item<'a>>,
+    read: &Reading<'a>,
+    row: &mut Vec<Token>,
+    index: usize,
+) -> Result<(), AllocError> {
+    match repeated_text(alloc, read, row, index)? {
+        Some(text) => {
+            items.push(Item {
+                text,
+                is_sign: true,
+            })?;
+            Ok(())
+        }
+        None => {
+            let is_first = items.is_empty();
+            push_group(items, is_first, "the end of the text")
+        }
+    }
+}
+
+/// What may stand behind these tokens, where there is the token with an index or the end.
+fn items_behind<'a>(
+    alloc: Global,
+    read: &Reading<'a>,
+    row: &mut Vec<Token>,
+    index: usize,
+) -> Result<Vec<Item<'a>>, AllocError> {
+    let wanted = accepted(alloc, row)?;
+    let is_number = matches!(read.lexeme(index), Some(Lexeme::Number(_)));
+    let mut items = Vec::new(alloc);
+    push_wanted(&mut items, &wanted, is_number)?;
+    if !has(&wanted, NAME) && !has(&wanted, NUMBER) {
+        push_repeated(alloc, &mut items, read, row, index)?;
+    }
+    Ok(items)
+}
+
+/// What may stand at the token with an index, or behind the last one, behind what is there.
+fn push_items_at(
+    alloc: Global,
+    text: &mut String,
+    read: &Reading<'_>,
+    index: usize,
+) -> Result<(), AllocError> {
+    let mut row = row_before(alloc, read, index)?;
+    let items = items_behind(alloc, read, &mut row, index)?;
+    push_items(text, &items, "", " or ")
+}
+
+/// What stands at the token with an index, and what is wanted there, or behind the last one.
+pub fn unexpected(
+    alloc: Global,
+    notes: &mut Notes,
+    read: &Reading<'_>,
+    index: usize,
+) -> Result<(), AllocError> {
+    push_items_at(alloc, &mut notes.under, read, index)?;
+    notes.under.push_str(" is wanted")?;
+    if index < read.tokens.len() {
+        push_called(&mut notes.said, read, index)?;
+        return notes.said.push_str(" can't stand here");
+    }
+    if read.tokens.is_empty() {
+        return notes.said.push_str("there is no text");
+    }
+    notes.under.push_str(" behind it")?;
+    notes.said.push_str("the text ends here")
+}

@@ -1,0 +1,60 @@
+//! Words behind what is there.
+use std::alloc::{AllocError, Global};
+
+/// One of several things: a word or a sign.
+#[derive(Clone, Copy)]
+pub struct Item<'a> {
+    pub text: &'a str,
+    /// Whether it is written between backquotes.
+    pub is_sign: bool,
+}
+
+/// Texts behind what is there, one behind the other.
+pub fn push_all(text: &mut String, pieces: &[&str]) -> Result<(), AllocError> {
+    for piece in pieces {
+        text.push_str(*piece)?;
+    }
+    Ok(())
+}
+
+/// A number behind what is there.
+pub fn push_number(alloc: Global, text: &mut String, number: usize) -> Result<(), AllocError> {
+    let digits = format!(in alloc; "{number}")?;
+    text.push_str(&digits)
+}
+
+/// A thing behind what is there.
+fn push_item(text: &mut String, item: Item<'_>) -> Result<(), AllocError> {
+    if item.is_sign {
+        push_all(text, &["`", item.text, "`"])
+    } else {
+        text.push_str(item.text)
+    }
+}
+
+/// What stands before a thing with a number of so many: a comma, or a word before the last.
+fn between<'a>(index: usize, count: usize, word: &'a str) -> &'a str {
+    if index == 0 {
+        return "";
+    }
+    if index.saturating_add(1) == count {
+        word
+    } else {
+        ", "
+    }
+}
+
+/// Things behind what is there, each behind what stands before it, with a word before the last: `A, B or C`.
+pub fn push_items(
+    text: &mut String,
+    items: &[Item<'_>],
+    before: &str,
+    word: &str,
+) -> Result<(), AllocError> {
+    for (index, item) in items.iter().enumerate() {
+        text.push_str(between(index, items.len(), word))?;
+        text.push_str(before)?;
+        push_item(text, *item)?;
+    }
+    Ok(())
+}
