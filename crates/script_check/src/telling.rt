@@ -18,6 +18,9 @@ use sdl_tables::{BlockTable, ProcessTable, TableFault};
 use sdl_tree::{Block, ParseFault, parse};
 use std::alloc::{AllocError, Global};
 
+/// How many tokens of a process at most are read once more with each token that might stand behind them.
+const MOST_TRIED: usize = 4096;
+
 /// Where a variable is read unset.
 fn of_unset(
     alloc: Global,
@@ -181,6 +184,42 @@ fn fitting(tokens: &[Token], fault: &LoadFault, found: Option<u32>) -> Option<u3
     }
 }
 
+/// The index of a token that can't stand where it does, if more tokens of its process stand before it than are tried.
+fn far_token(read: &Reading<'_>, fault: &LoadFault) -> Option<usize> {
+    let LoadFault::Parse {
+        fault: ParseFault::Unexpected(index),
+        ..
+    } = fault
+    else {
+        return None;
+    };
+    let before = index.saturating_sub(read.process(*index));
+    (before > MOST_TRIED).then_some(*index)
+}
+
+/// What is said of such a token: not what might stand there.
+fn of_far(notes: &mut Notes, read: &Reading<'_>, index: usize) -> Result<(), AllocError> {
+    if index < read.tokens.len() {
+        let words = ["`", read.spelled(index), "` can't stand here"];
+        push_all(&mut notes.said, &words)
+    } else {
+        notes.said.push_str("the text ends here")
+    }
+}
+
+/// Adds what the tokens of a text tell of a refusal.
+fn add_of_tokens(
+    alloc: Global,
+    notes: &mut Notes,
+    read: &Reading<'_>,
+    fault: &LoadFault,
+) -> Result<(), AllocError> {
+    match far_token(read, fault) {
+        Some(index) => of_far(notes, read, index),
+        None => add_notes(alloc, notes, read, fault),
+    }
+}
+
 /// What is said of a refusal of a text, and a place for one that may have none.
 fn say(
     alloc: Global,
@@ -188,7 +227,7 @@ fn say(
     read: &Reading<'_>,
     fault: &LoadFault,
 ) -> Result<(), AllocError> {
-    add_notes(alloc, &mut told.notes, read, fault)?;
+    add_of_tokens(alloc, &mut told.notes, read, fault)?;
     match fault {
         LoadFault::Rule { fault, .. } => add_of_tree(alloc, told, read, fault),
         _ => Ok(()),

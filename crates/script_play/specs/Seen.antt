@@ -202,8 +202,8 @@ IsPlaySeenInPart name known usual Coverage old new from to d bytes =
 -- A script was played as it is to be seen: with the lines of its commands, where that is asked for;
 -- else with what is wanted of it in a file, where there is one, which had this and now has that.
 pub data IsWatched (name : List ℕ) (known : Option (List ℕ)) (usual : RoundLimits)
-    (echo : Bool) (wanted : Wanted) (old new : Option (List ℕ)) (begun now : Option (Option (List ℕ))) (d : Draft)
-    (bytes : List ℕ) : Type 0 where
+    (echo : Bool) (wanted : Wanted) (old new : Option (List ℕ))
+    (begun now : Option (Option (List ℕ))) (d : Draft) (bytes : List ℕ) : Type 0 where
   has_lines : echo ≡ true → IsPlayed usual echo old new d bytes
       → IsWatched name known usual echo wanted old new begun now d bytes
   has_neither : echo ≡ false → begun ≡ None → IsPlayed usual echo old new d bytes
@@ -213,8 +213,8 @@ pub data IsWatched (name : List ℕ) (known : Option (List ℕ)) (usual : RoundL
       → IsWatched name known usual echo wanted old new begun now d bytes
 
 pub data IsWatchedInPart (name : List ℕ) (known : Option (List ℕ)) (usual : RoundLimits)
-    (echo : Bool) (wanted : Wanted) (old new : Option (List ℕ)) (begun now : Option (Option (List ℕ))) (d : Draft)
-    (bytes : List ℕ) : Type 0 where
+    (echo : Bool) (wanted : Wanted) (old new : Option (List ℕ))
+    (begun now : Option (Option (List ℕ))) (d : Draft) (bytes : List ℕ) : Type 0 where
   has_lines_in_part : echo ≡ true → IsPlayedInPart usual echo old new d bytes
       → IsWatchedInPart name known usual echo wanted old new begun now d bytes
   has_neither_in_part : echo ≡ false → begun ≡ None → IsPlayedInPart usual echo old new d bytes
