@@ -383,14 +383,18 @@ chosen_none d xs actor a not_there =
 
 -- ---- notes
 
-pub no_note : (d : Draft) (me : ActorName) (lines : List (List ℕ)) → is_empty (below_each lines) ≡ true → note_of d me lines ≡ []
-no_note d me [] none = refl
-no_note d me (line ∷ lines) none = absurd (cc)
+pub nothing_noted : (d : Draft) (me : ActorName) (lines : List (List ℕ)) (a text : List ℕ) → text ≡ below_each lines → (length text == 0) ≡ true
+    → a ≡ a ++ note_of d me lines
+nothing_noted d me [] a text is none = sym (append-nil a)
+nothing_noted d me (line ∷ lines) a text is none =
+    let L : List ℕ → Type 0 = λ t. (length t == 0) ≡ true in absurd (false≢true (subst L is none))
 
-pub a_note : (d : Draft) (me : ActorName) (lines : List (List ℕ)) → is_empty (below_each lines) ≡ false
-    → beside d me (codes " note ") (drop 2 (below_each lines)) ≡ note_of d me lines
-a_note d me [] some = absurd (cc)
-a_note d me (line ∷ lines) some = refl
+pub is_noted : (d : Draft) (me : ActorName) (lines : List (List ℕ)) (a b text more : List ℕ) → text ≡ below_each lines → (length text == 0) ≡ false
+    → more ≡ drop 2 text → b ≡ a ++ beside d me (codes " note ") more → b ≡ a ++ note_of d me lines
+is_noted d me [] a b text more is some behind r =
+    let L : List ℕ → Type 0 = λ t. (length t == 0) ≡ false in absurd (false≢true (sym (subst L is some)))
+is_noted d me (line ∷ lines) a b text more is some behind r =
+    r ∙ ap (λ (t : List ℕ). a ++ beside d me (codes " note ") t) (behind ∙ ap (λ (t : List ℕ). drop 2 t) is)
 
 -- ---- the head of a chart
 
