@@ -1,5 +1,7 @@
 """What is said of a refused text beside its place: what is wrong there, what the word is, and what could be written. Written apart from the program, by the tree of
 plain_reader.py and the rules of docs/process-texts.md."""
+import re
+
 from plain_reader import P, Refusal, lex, line_of
 
 OPERANDS = ["NOT", "(", "-", "TRUE", "FALSE", "name", "num"]
@@ -13,6 +15,8 @@ ENTITIES = {"SIGNAL", "SIGNALROUTE", "CONNECT", "PROCESS"}
 CLOSED = {"ENDBLOCK": "BLOCK", "ENDPROCESS": "PROCESS", "ENDSTATE": "STATE", "ENDCONNECTION": "CONNECTION"}
 # Of a text with more tokens the head of its block and the last signals, route or process tell what is wanted.
 WHOLE = 1500
+# Behind more tokens of a process it isn't said what is wanted.
+MOST_TRIED = 4096
 SORTS = {"INTEGER": "an Integer", "BOOLEAN": "a Boolean", None: "a value"}
 
 
@@ -77,6 +81,8 @@ def spelled(text, tokens):
         elif kind == "num":
             here = text[at:end]
             made.append((kind, value, at, here[: len(here) - len(here.lstrip(b"0123456789"))].decode()))
+        elif kind == "text":
+            made.append((kind, value, at, re.match(rb"'(?:[^']|'')*'", text[at:end]).group().decode()))
         else:
             made.append((kind, value, at, kind))
     return made
@@ -88,6 +94,9 @@ def unexpected(text, at):
     # where the text ends too early the place is that of its last token
     if tokens and index == len(tokens) - 1 and goes_on([it[:3] for it in tokens]):
         index = len(tokens)
+    begins = max((number + 1 for number, it in enumerate(tokens[:index]) if it[0] == "PROCESS"), default=0)
+    if index - begins > MOST_TRIED:
+        return "the text ends here" if index == len(tokens) else f"`{tokens[index][3]}` can't stand here", "", ""
     here = wanted(tokens, index)
     if not tokens:
         return "there is no text", f"{here} is wanted", ""

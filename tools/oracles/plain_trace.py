@@ -314,6 +314,10 @@ def run_terminal(text, script, seen, say, usual):
     terminal = plain_term.Terminal(text, first[1] == "cyclic", *(plain_term.limits_of(first) or usual))
     seen.book = terminal.book
     commands = [(at, plain_term.command(it)) for at, it in rest]
+    lacking = plain_term.lacking_in(terminal.book)
+    if lacking:
+        say(f"refused X2 NoName {lacking[0]}")
+        return 2
     terminal.keeps, last, lines = any(it[0] == "told" for _, it in commands), [None], lines_of(script)
 
     def told_too(line):
