@@ -9,3 +9,5 @@ mod OutGoing
 mod TermCaptures
 mod OtherLinks
 mod SetCaptures
+mod SetOutGoing
+mod SetCommands

@@ -21,7 +21,7 @@ latest_of_two : (last : Option (List ℕ)) (xs ys : List (List ℕ)) → latest 
 latest_of_two last [] ys = refl
 latest_of_two last (x ∷ xs) ys = latest_of_two (Some x) xs ys
 
-printed_both : (old now next last mid after : Option (List ℕ)) (xs ys : List (List ℕ)) → HasPrinted old now last mid xs → HasPrinted now next mid after ys
+pub printed_both : (old now next last mid after : Option (List ℕ)) (xs ys : List (List ℕ)) → HasPrinted old now last mid xs → HasPrinted now next mid after ys
     → HasPrinted old next last after (xs ++ ys)
 printed_both old now next last mid after xs ys first second =
     let P : List ℕ → Type 0 = λ text. Appends old next text in
@@ -32,7 +32,7 @@ printed_both old now next last mid after xs ys first second =
           (Appends-trans old now next (flat_map line_of xs) (flat_map line_of ys) first.written second.written);
     }
 
-printed_as : (old new last next : Option (List ℕ)) (xs ys : List (List ℕ)) → xs ≡ ys → HasPrinted old new last next xs → HasPrinted old new last next ys
+pub printed_as : (old new last next : Option (List ℕ)) (xs ys : List (List ℕ)) → xs ≡ ys → HasPrinted old new last next xs → HasPrinted old new last next ys
 printed_as old new last next xs ys same printed = let P : List (List ℕ) → Type 0 = λ ls. HasPrinted old new last next ls in subst P same printed
 
 out_as : (n m : ℕ) (t : Term) (xs ys : List (List ℕ)) (u : Term) → n ≡ m → xs ≡ ys → GoOut n t xs u → GoOut m t ys u

@@ -13,7 +13,7 @@ ghost use Rattle.script_seen.specs.TermAnswers.{unit_line};
 ghost use Rattle.script_seen.specs.TermRuns.{HasPrinted, LacksName};
 ghost use Rattle.script_seen.specs.GroupAnswers.{Playing};
 ghost use Rattle.script_seen.specs.GroupRuns.{playing_of, last_of, HasGivenOut, IsGroupRun, IsGroupWritten, IsGroupMissed, IsGroupMissedBy, IsOfNewSet};
-ghost use Rattle.script_seen.specs.TracedGroups.{books_of, clock_in};
+ghost use Rattle.script_seen.specs.TracedGroups.{books_of};
 ghost use Rattle.script_play.specs.Captured.{Hears, IsCapturing};
 ghost use Rattle.script_play.specs.CapturedSets.{IsComing, is_noted, SendsOn, Goes, AreHeard, IsCapturedThere, IsSetCapturing, IsSetCaptured, IsSetCapturedInPart};
 
@@ -21,7 +21,7 @@ use crate::captured_terminals::line_of;
 use crate::capturing::{LinkSeen, begin, lost, time_of};
 use script_seen::{
     FAILED, GroupCommand, GroupPlayer, GroupSaid, GroupScript, HELD, MISSED, RoundLimits, Unit,
-    end_player, line_of_unit, open_group, refuse_set,
+    clock_of, end_player, line_of_unit, open_group, refuse_set,
 };
 use std::alloc::{AllocError, Global};
 use std::io::{self, Write};
@@ -36,16 +36,6 @@ fn new_links(alloc: Global, count: u32, every: bool) -> Result<Vec<LinkSeen>, Al
         links.push(LinkSeen::new(every))?;
     }
     Ok(links)
-}
-
-/// The ticks gone by on a link set.
-fn clock_of(player: &GroupPlayer) -> u64
-    ensures { result ≡ clock_in (books_of (playing_of player.now)) }
-{
-    match player.group.book(0) {
-        Some(book) => book.clock(),
-        None => 0,
-    }
 }
 
 /// The unit that goes out next on the link that lines speak of, whose line is printed, or `silent`.
@@ -90,7 +80,7 @@ fn give_out<T: Write, W: Write>(
     ensures retrievals { player.new.retrievals ≡ player.old.retrievals }
 {
     let number = player.on as u16;
-    for _unit in 0..units {
+    for gone in 0..units {
         match next_on(alloc, player, writer)? {
             Some(unit) => link.send(number, at, &unit, out)?,
             None => return Ok(()),

@@ -5,7 +5,7 @@ use Rattle.std.specs.Io.KnownBytes.{Appends}
 use Rattle.std.proofs.KnownBytes.{Appends-nil, Appends-trans}
 use Rattle.std.proofs.lemmas.List.{length-map}
 use Rattle.std.proofs.lemmas.List.Elements.{All-nil, All-cons, All-head, All-tail}
-use Rattle.std.proofs.lemmas.Option.{slice_get-map}
+use Rattle.std.proofs.lemmas.Option.{slice_get-map, none-some, same_Some}
 use Rattle.turn_code.specs.declared.draft.Draft.{Draft}
 use Rattle.actor_machine.specs.Core.{Core}
 use Rattle.actor_machine.specs.Ledger.{Ledger, next, state_of}
@@ -28,7 +28,7 @@ use Rattle.script_group.specs.GroupRuns.{OWN_POINT, OTHER_POINT, begun as begun_
 use Rattle.script_seen.specs.Kinds.{group_line}
 use Rattle.script_seen.specs.Traced.{since, are_in_step, IsFront}
 use Rattle.script_seen.specs.Following.{Agree, IsFollowed}
-use Rattle.script_seen.specs.TracedGroups.{group_only_asks, is_expectation, IsChangeoverTold, Reached, reach, under_name, links_text, all_reach, AreReached, IsAtLink, AreAtLinks, reached_at, books_of, clock_in, IsNewBook, AreNewLinks}
+use Rattle.script_seen.specs.TracedGroups.{group_only_asks, is_expectation, IsChangeoverTold, Reached, reach, under_name, links_text, all_reach, AreReached, IsAtLink, AreAtLinks, reached_at, books_of, clock_in, clock_in, IsNewBook, AreNewLinks}
 use Rattle.script_seen.specs.TracedGroups.{IsToldBehind, Traces, begins, more, holds, IsGroupTracing, IsGroupTraced, IsGroupTracedInPart}
 use Rattle.script_seen.specs.declared.tracing.Tracer.{Tracer}
 use Rattle.script_seen.proofs.Showings.{one_more, parts_at, all_taken}
@@ -41,8 +41,24 @@ read_in : (o : Option Link) → option_map book_of o ≡ read_at book_of o
 read_in None = refl
 read_in (Some k) = refl
 
+first_clock : (bs : List Ledger) (b : Ledger) → slice_get bs 0 ≡ Some b → (state_of b).timers.clock ≡ clock_in bs
+first_clock [] b is = absurd (none-some b is)
+first_clock (c ∷ bs) b is = ap (λ (x : Ledger). (state_of x).timers.clock) (sym (same_Some c b is))
+
+no_clock : (bs : List Ledger) → slice_get bs 0 ≡ None → 0 ≡ clock_in bs
+no_clock [] none = refl
+no_clock (b ∷ bs) none = absurd (none-some b (sym none))
+
 pub book_there : (p : Playing) (n : ℕ) (b : Ledger) → Some b ≡ read_at book_of (slice_get p.set.links n) → slice_get (books_of p) n ≡ Some b
 book_there p n b is = slice_get-map book_of p.set.links n ∙ (read_in (slice_get p.set.links n) ∙ sym is)
+
+-- the ticks gone by are those of the first link
+pub clock_first : (p : Playing) (b : Ledger) (time : ℕ) → Some b ≡ read_at book_of (slice_get p.set.links 0) → time ≡ (state_of b).timers.clock
+    → time ≡ clock_in (books_of p)
+clock_first p b time is ran = ran ∙ first_clock (books_of p) b (book_there p 0 b is)
+
+pub clock_nowhere : (p : Playing) → None ≡ read_at book_of (slice_get p.set.links 0) → 0 ≡ clock_in (books_of p)
+clock_nowhere p is = no_clock (books_of p) (slice_get-map book_of p.set.links 0 ∙ (read_in (slice_get p.set.links 0) ∙ sym is))
 
 -- what a tracer of a link told
 pub followed_one : (d : Draft) (r : Reached) (bs : List Ledger) (n : ℕ) (b : Ledger) (t u : Tracer) (text shown : List ℕ) (old new : Option (List ℕ))

@@ -40,7 +40,7 @@ pub use script_links::{
 pub use terminals::show_terminal;
 pub use timing::delay_of;
 pub use traced_books::trace_book;
-pub use traced_groups::trace_group;
+pub use traced_groups::{clock_of, trace_group};
 pub use traced_terminals::{open_tracer, trace_terminal};
 pub use tracing::Tracer;
 pub use turn_machine::{Done, Job};

@@ -116,7 +116,7 @@ fn open_tracers(
 }
 
 /// The ticks gone by on a link set.
-fn clock_of(player: &GroupPlayer) -> u64
+pub fn clock_of(player: &GroupPlayer) -> u64
     ensures { result ≡ clock_in (books_of (playing_of player.now)) }
 {
     match player.group.book(0) {
