@@ -28,7 +28,7 @@ use Rattle.script_group.specs.GroupRuns.{OWN_POINT, OTHER_POINT, begun as begun_
 use Rattle.script_seen.specs.Kinds.{group_line}
 use Rattle.script_seen.specs.Traced.{since, are_in_step, IsFront}
 use Rattle.script_seen.specs.Following.{Agree, IsFollowed}
-use Rattle.script_seen.specs.TracedGroups.{group_only_asks, is_expectation, IsChangeoverTold, Reached, reach, under_name, links_text, all_reach, AreReached, IsAtLink, AreAtLinks, reached_at, books_of, clock_in, clock_in, IsNewBook, AreNewLinks}
+use Rattle.script_seen.specs.TracedGroups.{group_only_asks, is_expectation, IsChangeoverTold, Reached, reach, under_name, links_text, all_reach, AreReached, IsAtLink, AreAtLinks, reached_at, books_of, clock_in, IsNewBook, AreNewLinks}
 use Rattle.script_seen.specs.TracedGroups.{IsToldBehind, Traces, begins, more, holds, IsGroupTracing, IsGroupTraced, IsGroupTracedInPart}
 use Rattle.script_seen.specs.declared.tracing.Tracer.{Tracer}
 use Rattle.script_seen.proofs.Showings.{one_more, parts_at, all_taken}
