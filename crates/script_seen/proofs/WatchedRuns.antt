@@ -66,7 +66,7 @@ book_gone b items i last first now book latest K L t u over s =
 -- a watcher that stayed as it was
 pub book_kept : {N : Type 0} (knows : List Notice → N → Type 0) (b : Ledger) (commands : List PlainSaid) (old new : N) (u : Tracer) → new ≡ old
     → BookWatching b commands (λ ns. knows ns old) u → BookWatching b commands (λ ns. knows ns new) u
-book_kept knows b commands old new u same s =
+book_kept {N = N} knows b commands old new u same s =
     let P : N → Type 0 = λ x. BookWatching b commands (λ ns. knows ns x) u in subst P (sym same) s
 
 pub book_watched_all : (b : Ledger) (commands : List PlainSaid) (P : List Notice → Type 0) (u : Tracer) → BookWatching b commands P u → IsBookWatched b commands P
@@ -133,7 +133,7 @@ term_gone keeps t items i last first now term latest K L from to over s =
 
 pub term_kept : {N : Type 0} (knows : List Notice → N → Type 0) (keeps : Bool) (t : Term) (commands : List PlainTermSaid) (old new : N) (to : Tracer) → new ≡ old
     → TermWatching keeps t commands (λ ns. knows ns old) to → TermWatching keeps t commands (λ ns. knows ns new) to
-term_kept knows keeps t commands old new to same s =
+term_kept {N = N} knows keeps t commands old new to same s =
     let P : N → Type 0 = λ x. TermWatching keeps t commands (λ ns. knows ns x) to in subst P (sym same) s
 
 pub term_watched_all : (keeps : Bool) (t : Term) (commands : List PlainTermSaid) (P : List Notice → Type 0) (to : Tracer)

@@ -1,5 +1,5 @@
 use Rattle.script_seen.proofs.Noticing.{watches_begins, watches_on, watches_all}
-use Rattle.script_seen.proofs.watching.Tracer.watch_all.Goals as goal
+use Rattle.script_seen.proofs.tracing.Tracer.watch_all.Goals as goal
 
 pub loop-event-init : goal.loop-event-init
 loop-event-init g c = watches_begins (λ d ns. g.N.Watcher.knows d ns c.args.watcher.now) c.args.self.now

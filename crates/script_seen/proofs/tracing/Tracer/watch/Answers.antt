@@ -1,7 +1,7 @@
 use Rattle.std.proofs.Common.{ℕ, sym, ap, ◌∙◌, length, drop}
 use Rattle.script_seen.proofs.Steps.{none_lost, all_behind}
 use Rattle.script_seen.proofs.Noticing.{watches_since}
-use Rattle.script_seen.proofs.watching.Tracer.watch.Goals as goal
+use Rattle.script_seen.proofs.tracing.Tracer.watch.Goals as goal
 
 pub returns-clause-first : goal.returns-clause-first
 returns-clause-first g c = none_lost c.args.book.now c.args.self.now _ c.in_ok-catch_up.ensures

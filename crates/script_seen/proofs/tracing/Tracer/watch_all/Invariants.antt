@@ -1,7 +1,7 @@
 -- The events so far happened, and the watcher was told.
 use Rattle.std.proofs.Common.{take}
 use Rattle.script_seen.proofs.Noticing.{Watches}
-use Rattle.script_seen.proofs.watching.Tracer.watch_all.Given as goal
+use Rattle.script_seen.proofs.tracing.Tracer.watch_all.Given as goal
 
 abbrev pub invariant-loop-event : goal.invariant-loop-event
 invariant-loop-event g l =

@@ -1,6 +1,6 @@
 use Rattle.std.proofs.Common.{◌∙◌}
 use Rattle.script_seen.proofs.Noticing.{knows_finish}
-use Rattle.script_seen.proofs.watching.Tracer.finish_watched.Goals as goal
+use Rattle.script_seen.proofs.tracing.Tracer.finish_watched.Goals as goal
 
 pub returns-clause-knows : goal.returns-clause-knows
 returns-clause-knows g c ns k =

@@ -2,7 +2,7 @@ use Rattle.std.proofs.Common.{refl, sym}
 use Rattle.actor_machine.specs.declared.event.Event.TheVariants as event
 use Rattle.script_seen.proofs.Steps.{skip_keeps, quiet_step}
 use Rattle.script_seen.proofs.Noticing.{knows_skip}
-use Rattle.script_seen.proofs.watching.Tracer.skip_watched.Goals as goal
+use Rattle.script_seen.proofs.tracing.Tracer.skip_watched.Goals as goal
 
 pub returns-in-Ok-clause-step : goal.returns-in-Ok-clause-step
 returns-in-Ok-clause-step g c =
