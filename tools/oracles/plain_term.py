@@ -12,6 +12,7 @@ A table is written as tools/table says, with these differences: `== SET: NAME` b
 comment lines among them are nothing; `%A-B{..}` are copies with the numbers A to B. `<UP>` as a line is the way into service, `<PROVING>`
 the script of that name, `<STATES>` asks for the
 states of all processes; among the wanted lines they stand for what is printed, where the states follow behind the word."""
+import contextlib
 import pathlib
 import re
 import sys
@@ -94,7 +95,12 @@ class Terminal:
         for _ in range(10000):
             before = self.periods()
             if not self.turn():
-                return
+                if not self.left:
+                    return
+                self.left = False
+                with contextlib.suppress(Refused):
+                    self.book.offer("TXC", "AckSeen", [False])
+                continue
             if None not in (before, self.periods()) and before < self.periods():
                 self.counts["aborted_periods"] += 1
             while self.book.ring:
@@ -102,12 +108,6 @@ class Terminal:
                     self.hear(*self.book.take_env())
                 except Refused:
                     break
-                if self.left:
-                    self.left = False
-                    try:
-                        self.book.offer("TXC", "AckSeen", [False])
-                    except Refused:
-                        pass
 
     def turn(self):
         """Whether the first actor that can made its turn, or skipped."""
