@@ -194,7 +194,8 @@ accepted_in (Some c) = count_in c.answer
 unfoldable pub accepted_of : Link → Option ℕ
 accepted_of k = accepted_in k.availability.changing
 
--- What stands behind so many accepted ones; what was never sent, where it isn't known how many are.
+-- What stands behind so many accepted ones; where it isn't known how many are, what wasn't sent
+-- since both directions last began anew.
 abbrev pub lacking : Window → Option ℕ → List Msu
 lacking w (Some n) = drop n w.kept
 lacking w None = waiting w

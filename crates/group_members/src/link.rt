@@ -66,7 +66,7 @@ fn take_behind(terminal: &mut Terminal, accepted: usize) -> Result<VecDeque<Msu>
     }
 }
 
-/// The same, or where it isn't known how many were accepted what was never sent.
+/// The same, or where it isn't known how many were accepted what wasn't sent since both directions last began anew.
 fn take_out(terminal: &mut Terminal, accepted: Option<usize>) -> Result<VecDeque<Msu>, AllocError>
     ensures messages { IfOk result (λ messages. messages.items ≡ lacking (window_of terminal.old) accepted) }
     ensures whole { IfOk result (λ messages. All IsMessage messages.items) }
@@ -314,7 +314,7 @@ impl Link {
         }
     }
 
-    /// Hands out what was never sent, where it isn't known what has arrived of the rest.
+    /// Hands out what wasn't sent since both directions last began anew, where it isn't known what has arrived of the rest.
     #[tactic(auto, unfolding(crate::specs::OneLink::abandon_fault))]
     pub(crate) fn abandon(&mut self) -> Result<VecDeque<Msu>, AbandonError>
         ensures fault { abandon_refusal result ≡ abandon_fault self.old }

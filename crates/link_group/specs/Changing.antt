@@ -97,7 +97,7 @@ unfoldable pub after_retrieve : LinkSet → ℕ → LinkSet
 after_retrieve c l = record c { links = change c.links l handed }
 
 -- exactly those behind the ones that the far side told of, and where it told of none those that
--- were never sent
+-- weren't sent since both directions last began anew
 unfoldable pub messages_for : LinkSet → ℕ → List Msu
 messages_for c l = messages_by accepted_of (slice_get c.links l)
 

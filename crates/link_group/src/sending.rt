@@ -153,8 +153,9 @@ impl Group {
     }
 
     /// Hands out the messages of a link in changeover that the far side may lack: those behind the ones that it told that it accepted, the
-    /// unacknowledged ones first, and where it told no number, those that were never sent (Q.704, retrieval). The first number that it told
-    /// counts, for the messages of which it spoke as it was heard; one that would acknowledge more than was sent then is none.
+    /// unacknowledged ones first, and where it told no number, those that weren't sent since both directions last began anew (Q.704,
+    /// retrieval). The first number that it told counts, for the messages of which it spoke as it was heard; one that would acknowledge more
+    /// than was sent then is none.
     ///
     /// # Errors
     ///
@@ -175,7 +176,8 @@ impl Group {
         }
     }
 
-    /// Gives up the messages of a link in changeover that were sent: they count as unsure. Hands out those that were never sent.
+    /// Gives up the messages of a link in changeover that were sent: they count as unsure. Hands out those that weren't sent
+    /// since both directions last began anew.
     ///
     /// # Errors
     ///

@@ -108,7 +108,8 @@ impl Terminal {
     }
 
     /// Hands out, in order, what the far side may lack (Q.704, retrieval): what comes after the number, 0 to 127, that it
-    /// accepted last, or, where that number isn't known, what was never sent. Nothing is kept to send then. The actors aren't told.
+    /// accepted last, or, where that number isn't known, what wasn't sent since both directions last began anew. Nothing is kept to send
+    /// then. The actors aren't told.
     ///
     /// # Errors
     ///

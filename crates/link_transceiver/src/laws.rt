@@ -3,7 +3,7 @@ ghost use Rattle.link_transceiver.specs.Laws.{KeepsUnacknowledged, CountsCleared
 
 /// Of the messages that are kept to send a unit from the far side takes away those that it acknowledges, the oldest of those that
 /// were sent. Nothing else takes any but `retrieve`, which hands out what stands behind the number that it is given or, without one,
-/// what was never sent, and keeps nothing.
+/// what wasn't sent since both directions last began anew, and keeps nothing.
 pub fn unacknowledged_messages_are_kept()
     ensures { KeepsUnacknowledged }
 {}

@@ -169,7 +169,7 @@ impl Transceiver {
     }
 
     /// Hands out, in order, what the far side may lack (Q.704, retrieval): what comes after the number, 0 to 127, that it
-    /// accepted last, or, where that number isn't known, what was never sent. Nothing is kept to send then.
+    /// accepted last, or, where that number isn't known, what wasn't sent since both directions last began anew. Nothing is kept to send then.
     ///
     /// `BadAck` where the number acknowledges more than is sent, and then `NoMemory`. Nothing changes in either case.
     pub fn retrieve(&mut self, accepted: Option<u8>) -> Result<VecDeque<Msu>, RetrieveError>

@@ -50,7 +50,7 @@ pub record Window : Type 0 where
 abbrev pub unacknowledged : Window → List Msu
 unacknowledged w = take w.sent w.kept
 
--- those that were never sent
+-- those that weren't sent since both directions last began anew
 abbrev pub waiting : Window → List Msu
 waiting w = drop w.sent w.kept
 
@@ -212,8 +212,8 @@ asked Cyclic bib w = w
 abbrev pub after_back : Window → ℕ → ℕ → Window
 after_back w bsn bib = asked w.mode bib (without w (count_by w bsn))
 
--- What stands beyond the message that the far side has last accepted; what was never sent, where
--- that is not known.
+-- What stands beyond the message that the far side has last accepted; where that is not known, what
+-- wasn't sent since both directions last began anew.
 abbrev pub retrieved : Window → Option ℕ → List Msu
 retrieved w (Some fsn) = drop (count_by w fsn) w.kept
 retrieved w None = waiting w

@@ -206,8 +206,8 @@ impl Sender {
     }
 
     /// Hands out, in order, what the far side may lack (Q.704, retrieval): what comes after the number, 0 to 127, that it
-    /// accepted last, or, where that number isn't known, what was never sent. Nothing is kept then, and numbers go on after
-    /// the last acknowledged one.
+    /// accepted last, or, where that number isn't known, what wasn't sent since both directions last began anew. Nothing is
+    /// kept then, and numbers go on after the last acknowledged one.
     ///
     /// `BadAck` where the number acknowledges more than is sent, and then `NoMemory`. Nothing changes in either case.
     pub fn retrieve(&mut self, accepted: Option<u8>) -> Result<VecDeque<Msu>, RetrieveError>

@@ -11,6 +11,8 @@ pub struct Declared {
     pub class: Class,
     /// The index of its token.
     pub index: usize,
+    /// The index of the name of the process in which it stands, as `Reading::process` has it.
+    pub process: usize,
 }
 
 /// What the names behind a word are declared to be.
@@ -73,6 +75,14 @@ fn scanned(scan: Scan, word: Option<Word>, symbol: Option<Symbol>) -> Scan {
     }
 }
 
+/// The index of the name of the process behind a token, if it is this one before it.
+fn process_behind(read: &Reading<'_>, process: usize, index: usize) -> usize {
+    match read.word(index) {
+        Some(Word::Process) => index.saturating_add(1),
+        _ => process,
+    }
+}
+
 /// All names that are declared, in the order of the text.
 pub fn declarations(alloc: Global, read: &Reading<'_>) -> Result<Vec<Declared>, AllocError> {
     let mut all = Vec::new(alloc);
@@ -80,26 +90,33 @@ pub fn declarations(alloc: Global, read: &Reading<'_>) -> Result<Vec<Declared>, 
         class: None,
         depth: 0,
     };
+    let mut process = 0;
     for index in 0..read.tokens.len() {
         scan = scanned(scan, read.word(index), read.symbol(index));
+        process = process_behind(read, process, index);
         if let Some(class) = scan.class {
             if scan.depth == 0 && read.is_name(index) {
-                all.push(Declared { class, index })?;
+                all.push(Declared {
+                    class,
+                    index,
+                    process,
+                })?;
             }
         }
     }
     Ok(all)
 }
 
-/// Whether a name that is declared can be named at a token.
-fn is_seen(read: &Reading<'_>, declared: &Declared, index: usize) -> bool {
-    !declared.class.is_local() || read.process(declared.index) == read.process(index)
+/// Whether a name that is declared can be named in a process.
+fn is_seen(declared: &Declared, process: usize) -> bool {
+    !declared.class.is_local() || declared.process == process
 }
 
 /// Where the name of a token is declared, as whatever.
 pub fn find_any(read: &Reading<'_>, all: &[Declared], index: usize) -> Option<Declared> {
+    let process = read.process(index);
     for declared in all {
-        if read.same(declared.index, index) && is_seen(read, declared, index) {
+        if read.same(declared.index, index) && is_seen(declared, process) {
             return Some(*declared);
         }
     }
@@ -113,10 +130,11 @@ pub fn find_as(
     index: usize,
     class: Class,
 ) -> Option<Declared> {
+    let process = read.process(index);
     for declared in all {
         if class.takes(declared.class)
             && read.same(declared.index, index)
-            && is_seen(read, declared, index)
+            && is_seen(declared, process)
         {
             return Some(*declared);
         }
@@ -131,11 +149,12 @@ pub fn find_before(
     index: usize,
 ) -> Option<(Declared, Class)> {
     let class = declared_at(all, index)?;
+    let process = read.process(index);
     for declared in all {
         if declared.index != index
             && class.clashes(declared.class)
             && read.same(declared.index, index)
-            && is_seen(read, declared, index)
+            && is_seen(declared, process)
         {
             return Some((*declared, class));
         }
@@ -188,9 +207,10 @@ pub fn find_near(
     index: usize,
     class: Class,
 ) -> Option<Declared> {
+    let process = read.process(index);
     for declared in all {
         if class.takes(declared.class)
-            && is_seen(read, declared, index)
+            && is_seen(declared, process)
             && is_near(read.spelled(declared.index), read.spelled(index))
         {
             return Some(*declared);

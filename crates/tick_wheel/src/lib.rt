@@ -142,7 +142,7 @@ impl fmt::Display for AdvanceError {
 
 /// The timers of a link and its clock, which counts ticks from 0.
 ///
-/// An active timer has a deadline above the clock. After `new` only `copy` takes memory.
+/// An active timer has a deadline above the clock. After `new` only `copy` can answer that memory is wanting.
 #[derive(Debug, Drop)]
 pub struct Wheel {
     clock: u64,
