@@ -79,6 +79,8 @@ class Link(Terminal):
         self.admitted, self.is_to_clear = True, False
         # Its changeover: the place up to which messages were accepted as the other end told, whether any answer came, and ticks since it began.
         self.changing, self.told, self.answered, self.waited, self.out = False, None, False, 0, False
+        # What it handed out in that and isn't diverted yet.
+        self.hand = []
         # Behind the beginning of its last changeover: whether there was one, and the ticks since it last came into service then.
         self.had_one, self.since = False, None
         self.points = OWN, OTHER
@@ -175,7 +177,7 @@ class Link(Terminal):
         return None
 
     def hand_out(self):
-        """The messages that the other end may lack; without a number those that were never sent."""
+        """Hands out the messages that the other end may lack; without a number those that were never sent. How many there are."""
         sender, count, were_out = self.sender, self.known(), self.sent() > 0
         hand = sender.all[sender.sent :] if count is None else sender.all[sender.acknowledged + count :]
         sender.acknowledged += count or 0
@@ -185,7 +187,8 @@ class Link(Terminal):
         if were_out:
             self.offer("TXC", "AckSeen", False)
         self.out, self.stays_held = True, False
-        return [it for it in hand if not self.is_own(it)]
+        self.hand = [it for it in hand if not self.is_own(it)]
+        return len(self.hand)
 
     def takes(self, messages):
         if len(self.held()) + len(messages) > MOST_KEPT:
@@ -351,7 +354,17 @@ class Group:
         self.unsure = min(MOST_UNSURE, self.unsure + link.unknown())
         return link.hand_out()
 
-    def divert(self, at, hand):
+    def divert(self, at):
+        """Diverts what a link handed out."""
+        link = self.link(at)
+        if not link.out:
+            raise Refused("K2 Waiting")
+        try:
+            self.go_on(at, link.hand)
+        except Refused as why:
+            raise Refused(f"{why} left {len(link.hand)}")
+
+    def go_on(self, at, hand):
         """Diverts a hand, taking out of it what goes."""
         link, able = self.links[at], self.for_hand(at)
         if hand and not able:
@@ -417,10 +430,10 @@ def command(words):
 
 
 class Player:
-    """A set, the hands of its links, and the link that lines speak of."""
+    """A set, and the link that lines speak of."""
 
     def __init__(self, text, cyclic, links, *limits):
-        self.group, self.hands, self.on = Group([Link(text, cyclic, *limits) for _ in range(links)]), {}, 0
+        self.group, self.on = Group([Link(text, cyclic, *limits) for _ in range(links)]), 0
 
     def do(self, word, *rest):
         """Does a command, and gives the lines to print for it."""
@@ -460,10 +473,10 @@ class Player:
             answer = group.changeover_message(rest[0])
             return "ok" if answer is None else f"ok {answer.hex().upper()}"
         if word in ("retrieve", "abandon"):
-            self.hands[at] = group.retrieve(at) if word == "retrieve" else group.abandon(at)
-            return f"ok {len(self.hands[at])}"
+            return f"ok {group.retrieve(at) if word == 'retrieve' else group.abandon(at)}"
         if word == "divert":
-            return self.divert()
+            group.divert(at)
+            return "ok"
         if word == "table":
             return ", ".join(f"{selection} {'-' if link is None else link}" for selection, link in enumerate(group.table))
         if word == "link":
@@ -471,18 +484,6 @@ class Player:
         if word == "held":
             return f"{len(group.link(at).held())} sent {group.link(at).sent()}"
         return str(group.unsure)
-
-    def divert(self):
-        self.group.link(self.on)
-        if self.on not in self.hands:
-            raise Refused("K2 Waiting")
-        hand = self.hands[self.on]
-        try:
-            self.group.divert(self.on, hand)
-        except Refused as why:
-            raise Refused(f"{why} left {len(hand)}")
-        del self.hands[self.on]
-        return "ok"
 
 
 def head(script):

@@ -40,10 +40,10 @@ class FarLink(Link, Far):
 
 
 class End:
-    """One end: its set, the hands that are out, what was sent and what came, and messages of changeover on their way to it."""
+    """One end: its set, what was sent and what came, and messages of changeover on their way to it."""
 
     def __init__(self, cyclic, links, own, peer):
-        self.set, self.hands, self.mail = Group([FarLink(TEXT, cyclic) for _ in range(links)], own, peer), {}, []
+        self.set, self.mail = Group([FarLink(TEXT, cyclic) for _ in range(links)], own, peer), []
         self.sent, self.came, self.uneven = [], [], False
         self.due, self.started, self.late, self.back = [False] * links, [False] * links, [], [0] * links
 
@@ -119,19 +119,18 @@ class End:
     def changeover(self, at, one_in):
         """The next step of a changeover that goes on."""
         link = self.set.links[at]
-        if at in self.hands:
+        if link.out:
             try:
-                self.set.divert(at, self.hands[at])
-                del self.hands[at]
+                self.set.divert(at)
             except Refused:
                 self.due[at] = False
             return
         why = link.why_not()
         if why is None:
-            self.hands[at] = self.set.retrieve(at)
+            self.set.retrieve(at)
         elif why.startswith("K4") and one_in(4):
-            self.hands[at] = self.set.abandon(at)
-        if at in self.hands:
+            self.set.abandon(at)
+        if link.out:
             self.due[at] = False
 
     def tend(self, at, one_in):

@@ -5,7 +5,7 @@ each event, a chart, and what of the text was taken.
 usage: tools/oracles/plain_trace.py SET SCRIPT [--every]      prints the trace of a script
        tools/oracles/plain_trace.py SET SCRIPT --chart [--turns A..B]     prints it as a chart in mscgen's language
        tools/oracles/plain_trace.py SET SCRIPT --coverage     prints which transitions, answers and lines of the text were taken, in lcov's format
-       tools/oracles/plain_trace.py SET SCRIPT --thrown       prints which signals were thrown away in which states, and how often
+       tools/oracles/plain_trace.py SET SCRIPT --thrown       prints which signals were thrown away in which states, and how often, in the order of the first time
 
 SET and SCRIPT are as plain_term.py has them; the status is that of the script. Lines of a trace, behind the ticks gone by:
 
@@ -219,6 +219,10 @@ class Seen:
         self.budgets = {line.split(" budget ")[0]: line.split()[-5] for line in check(text)[:-1]}
         self.names = {(it[1][0][0].lower(), lo(name)): name[0] for it in P(text, lex(text)).block() if it[0] == "process" for part in it[1][1] if part[0] != "timer" for name in part[1]}
 
+    def thrown(self):
+        """The lines of what was thrown away, in the order of the first time."""
+        return [f"{process} {state}/{signal} {times}" for (process, state, signal), times in self.taken.thrown.items()]
+
     def command(self, text):
         asks = text.split(" ")[0] in ("state", "value", "measure", "expect") and text != "measure reset"
         if not asks:
@@ -261,7 +265,7 @@ def chart(seen, least=0, most=None):
     turns = [it for it in seen.turns if it[0] >= least and (most is None or it[0] <= most)]
     here = {it[2] for it in turns} | {it[6] for it in turns if it[6]} | {part[3] for it in turns for part in it[8] if part[0] == "output" and (part[4] or part[3] == "ENV")}
     ordered = [it for it in ["ENV", *(actor.shown() for actor in seen.book.actors)] if it in here] or ["ENV"]
-    out = ["msc {", f'  width="{140 * len(ordered)}", arcgradient="0";', "  " + ", ".join(f'"{it}" [label="{it}"]' for it in ordered) + ";"]
+    out = ["msc {", f'  width="{140 * len(ordered)}", arcgradient="0";', "  " + ", ".join(f'"{it}" [label="{it}"]' for it in ordered) + ";", *([] if turns else ["  |||;"])]
     clock, states = None, {}
     for number, at, actor, place, trigger, given, source, end, laid in turns:
         if at != clock:
@@ -430,7 +434,7 @@ def main(given):
     elif "--coverage" in options:
         print("\n".join(seen.taken.lcov(word)))
     elif "--thrown" in options:
-        print("\n".join(f"{process} {state}/{signal} {times}" for (process, state, signal), times in sorted(seen.taken.thrown.items())))
+        print("\n".join(seen.thrown()))
     else:
         print("\n".join(seen.lines))
     return status

@@ -45,7 +45,7 @@ due_is n t due room is = ap due_in (is ∙ ap (λ (u : Processes). (ask u.book (
 
 -- a terminal that has room makes none
 pub passes : (n : ℕ) (k : Link) (new : Term) (availability : Availability) → is_low k.terminal.processes ≡ false → new ≡ with_processes k.terminal (offered (Advance n) (tidied k.terminal.processes))
-    → availability ≡ waits n k.availability → record { points = k.points; terminal = new; availability = availability } ≡ passed n k
+    → availability ≡ waits n k.availability → record { points = k.points; terminal = new; availability = availability; hand = k.hand } ≡ passed n k
 passes n k new availability room is m =
     let same : new ≡ with_processes k.terminal (offered (Advance n) k.terminal.processes) = is ∙ ap (λ (u : Processes). with_processes k.terminal (offered (Advance n) u)) (tidy_already k.terminal.processes room) in
     rw (same, m) refl

@@ -1,10 +1,10 @@
 -- Messages that are bound to a link: how many there are, and that they leave as its directions begin anew.
-use Rattle.std.proofs.Common.{◌≡◌, ℕ, ◌+◌, ◌-◌, ◌<◌, ◌≤◌, zero, suc, Bool, true, false, cond, List, [], ◌∷◌, ◌++◌, Option, Some, None, length, take, drop, refl, sym, ap, ◌∙◌, arith, append_assoc}
+use Rattle.std.proofs.Common.{◌≡◌, ℕ, ◌+◌, ◌-◌, ◌<◌, ◌≤◌, zero, suc, Bool, true, false, cond, List, [], ◌∷◌, ◌++◌, Some, length, take, drop, refl, sym, ap, ◌∙◌, arith, append_assoc}
 use Rattle.std.specs.Prelude.{if◌then◌else◌, slice_get, filter}
-use Rattle.std.proofs.lemmas.List.{length-take, length-take-le, length-append}
+use Rattle.std.proofs.lemmas.List.{length-take-le, length-append}
 use Rattle.plain_laws.proofs.Truths.{by_test}
 use Rattle.resend_store.specs.declared.messages.Msu.{Msu}
-use Rattle.resend_store.specs.Window.{Window, IsWindow, unacknowledged}
+use Rattle.resend_store.specs.Window.{IsWindow, unacknowledged}
 use Rattle.group_changeover.specs.declared.bound.Points.{Points}
 use Rattle.group_changeover.specs.Bound.{is_bound, unbound}
 use Rattle.group_changeover.proofs.Unbound.{unbound-nil, unbound-bound, unbound-other, both}

@@ -85,6 +85,7 @@ cleared_at command (Some k) = cleared_by command k
 -- text asked for that.
 pub record Commanded (command : Command) (old new : Link) : Type 0 where
   pub points : new.points ≡ old.points
+  pub hand : new.hand ≡ old.hand
   pub free : is_barred command old ≡ false
   pub answer :
       let t = tidied old.terminal.processes
@@ -102,6 +103,7 @@ pub record Commanded (command : Command) (old new : Link) : Type 0 where
 -- The terminal refused it: nothing changed, but that there may be room in its journal now.
 pub record Refused (command : Command) (refusal : Refusal) (old new : Link) : Type 0 where
   pub points : new.points ≡ old.points
+  pub hand : new.hand ≡ old.hand
   pub free : is_barred command old ≡ false
   pub answer :
       let t = tidied old.terminal.processes

@@ -135,6 +135,7 @@ pub record AtLink (did : Link → Link → Type 0) (l : ℕ) (old new : List Lin
 -- those that are kept still.
 pub record Listened (octets : List ℕ) (taken : ℕ) (old new : Link) : Type 0 where
   pub points : new.points ≡ old.points
+  pub hand : new.hand ≡ old.hand
   pub few : taken ≤ length octets
   pub heard : Heard old.terminal (take taken octets) new.terminal
   pub stops :
@@ -148,6 +149,7 @@ pub record Listened (octets : List ℕ) (taken : ℕ) (old new : Link) : Type 0 
 -- so many units were asked for, and these octets went out
 pub record Spoken (units : ℕ) (octets : List ℕ) (old new : Link) : Type 0 where
   pub points : new.points ≡ old.points
+  pub hand : new.hand ≡ old.hand
   pub spoken : IsSpoken old.terminal units new.terminal octets
   pub sends : Sends units old.terminal new.terminal
   pub availability : new.availability ≡ old.availability
@@ -155,6 +157,7 @@ pub record Spoken (units : ℕ) (octets : List ℕ) (old new : Link) : Type 0 wh
 -- this unit went out
 pub record Sent (unit : Option Unit) (old new : Link) : Type 0 where
   pub points : new.points ≡ old.points
+  pub hand : new.hand ≡ old.hand
   pub unit_is : unit ≡ (sent (tidied old.terminal.processes)).unit
   pub terminal :
       new.terminal ≡ with_processes old.terminal (sent (tidied old.terminal.processes)).processes
@@ -164,6 +167,7 @@ pub record Sent (unit : Option Unit) (old new : Link) : Type 0 where
 -- this was handed out
 pub record Reported (report : Option Report) (old new : Link) : Type 0 where
   pub points : new.points ≡ old.points
+  pub hand : new.hand ≡ old.hand
   pub report_is : report ≡ (reported old.terminal.processes.transceiver).report
   pub terminal :
       new.terminal

@@ -1,6 +1,6 @@
 -- Changeover at one link (Q.704): how it begins, what is said of it, and which messages are handed
 -- out.
-use Rattle.std.specs.Prelude.{ℕ, if◌then◌else◌, List, [], length, Option, Some, None}
+use Rattle.std.specs.Prelude.{ℕ, if◌then◌else◌, List, [], Option, Some, None}
 use Rattle.resend_store.specs.declared.messages.Msu.{Msu}
 use Rattle.link_transceiver.specs.declared.signals.Hold.TheVariants as hold
 use Rattle.group_changeover.specs.declared.availability.Availability.{Availability}

@@ -1,7 +1,7 @@
 -- How retrieved messages go to links (Q.704, diversion).
 use Rattle.std.specs.Prelude.{ℕ, ◌+◌, ◌==◌, ◌&&◌, ◌||◌, zero, suc, nat_lt, Bool, true, false, not}
 use Rattle.std.specs.Prelude.{if◌then◌else◌, List, [], ◌∷◌, ◌++◌, length, Option, Some, None}
-use Rattle.std.specs.Prelude.{slice_get, slice_set}
+use Rattle.std.specs.Prelude.{is_some, slice_get, slice_set}
 use Rattle.std.specs.List.{list_any}
 use Rattle.resend_store.specs.declared.messages.Msu.{Msu}
 use Rattle.resend_store.specs.Limits.{MOST_KEPT}
@@ -15,7 +15,8 @@ use Rattle.group_changeover.specs.Limits.{SELECTIONS}
 use Rattle.group_members.specs.declared.link.Link.{Link}
 use Rattle.group_changeover.specs.declared.errors.DivertFault.{DivertFault}
 use Rattle.group_changeover.specs.declared.errors.DivertFault.TheVariants as divert
-use Rattle.group_members.specs.OneLink.{held, shares, has_outage, is_changing, with_availability}
+use Rattle.group_members.specs.OneLink.{held, shares, has_outage, is_changing}
+use Rattle.group_members.specs.OneLink.{with_availability, with_hand}
 use Rattle.group_members.specs.Links.{change}
 
 abbrev pub retrieval_by : Option Changing → Option (List ℕ)
@@ -25,6 +26,27 @@ retrieval_by (Some c) = c.retrieval
 abbrev pub retrieval_of : Option Link → Option (List ℕ)
 retrieval_of None = None
 retrieval_of (Some k) = retrieval_by k.availability.changing
+
+-- It handed out its messages, and they are not all diverted yet.
+abbrev pub is_out_at : Option Link → Bool
+is_out_at o = is_some (retrieval_of o)
+
+-- those that are not diverted yet
+abbrev pub hand_by : Option Link → List Msu
+hand_by None = []
+hand_by (Some k) = k.hand
+
+abbrev pub count_if : Bool → ℕ → Option ℕ
+count_if true n = Some n
+count_if false n = None
+
+-- how many these are
+abbrev pub hand_count : Option Link → Option ℕ
+hand_count o = count_if (is_out_at o) (length (hand_by o))
+
+-- They are taken out of its hand.
+abbrev pub without_hand : Link → Link
+without_hand k = with_hand [] k
 
 -- It has an outage of a processor, or has none, as is asked.
 abbrev pub is_so_out : Bool → Link → Bool
@@ -195,4 +217,5 @@ abbrev pub ends_at : Link → Link
 ends_at k = with_availability (ended k.availability) k
 
 abbrev pub keeps_at : List Msu → Link → Link
-keeps_at ms k = with_availability (with_retrieval (counts_of ms) k.availability) k
+keeps_at ms k =
+    with_hand ms (with_availability (with_retrieval (counts_of ms) k.availability) k)

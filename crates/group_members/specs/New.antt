@@ -27,4 +27,5 @@ fresh p t =
             behind = behind.Nothing;
             changing = None;
           };
+      hand = [];
     }

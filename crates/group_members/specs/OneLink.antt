@@ -1,6 +1,6 @@
 -- One link of a set: its terminal, and what is marked there.
 use Rattle.std.specs.Prelude.{ℕ, ◌+◌, ◌%◌, ◌==◌, ◌&&◌, ◌||◌, nat_le, min, Bool, true, false, not}
-use Rattle.std.specs.Prelude.{if◌then◌else◌, List, [], length, take}
+use Rattle.std.specs.Prelude.{if◌then◌else◌, List, length, take}
 use Rattle.std.specs.Prelude.{drop, filter, Option, Some, None, is_some, Result, Ok, Err}
 use Rattle.resend_store.specs.declared.messages.Msu.{Msu}
 use Rattle.resend_store.specs.Limits.{MOST_WAITING, MOST_KEPT}
@@ -215,13 +215,17 @@ abbrev pub emptied_behind : Option ℕ → Term → Term
 emptied_behind n t =
     with_processes t (handed_out (number_behind (window_of t) n) t.processes)
 
+abbrev pub with_hand : List Msu → Link → Link
+with_hand ms k = record k { hand = ms }
+
 -- Messages are handed out, by how many are accepted, or where that isn't known the unsent; of what
 -- is handed out it is kept how many there are of each selection. The link is held no longer than
 -- until its directions begin anew.
 unfoldable pub hands_out : Option ℕ → Link → Link
 hands_out n k =
-    with_availability (with_retrieval (counts_of (handed_by k n)) k.availability)
-    (with_hold hold.UntilAnew (record k { terminal = emptied_behind n k.terminal }))
+    with_hand (handed_by k n)
+    (with_availability (with_retrieval (counts_of (handed_by k n)) k.availability)
+    (with_hold hold.UntilAnew (record k { terminal = emptied_behind n k.terminal })))
 
 -- K2 unless K4 would be answered. K1 where no changeover goes on.
 abbrev pub abandon_by : Option RetrieveError → Option AbandonError

@@ -1,9 +1,11 @@
 //! The end of a changeover.
-ghost use Rattle.std.specs.Prelude.{◌≡◌, ◌<◌, slice_get, map, Some, None};
+ghost use Rattle.std.specs.Prelude.{◌≡◌, ◌<◌, slice_get, map, All, Some, None, IfSome, OnSome, IfNone, is_some};
+ghost use Rattle.resend_store.specs.Messages.{IsMessage};
 ghost use Rattle.group_changeover.specs.Sharing.{selections, link_of, pick};
 ghost use Rattle.group_members.specs.Links.{change};
-ghost use Rattle.group_members.specs.Moving.{retrieval_of, ends_on, ends_at, keeps_at};
+ghost use Rattle.group_members.specs.Moving.{retrieval_of, is_out_at, hand_by, hand_count, without_hand, ends_on, ends_at, keeps_at};
 
+use crate::hand::Hand;
 use crate::link::Link;
 use crate::open::holds_at;
 use group_changeover::{Counts, Table, counts_of, pick};
@@ -75,12 +77,67 @@ pub fn end_at(links: &mut [Link], at: usize)
     }
 }
 
-/// So much is left in the retrieval of the link at a place.
+impl Link {
+    /// Takes out the messages that it handed out, if it did in a changeover that goes on.
+    fn take_hand(&mut self) -> Option<VecDeque<Msu>>
+        ensures messages { IfSome result (λ messages. messages.items ≡ self.old.hand) }
+        ensures whole { IfSome result (λ messages. All IsMessage messages.items) }
+        ensures out { is_some result ≡ is_out_at (Some self.old) }
+        ensures some { OnSome result (self.new ≡ without_hand self.old) }
+        ensures none { IfNone result (self.new ≡ self.old) }
+    {
+        match self.availability.changing {
+            Some(changing) if changing.is_out() => Some(self.hand.take()),
+            _ => None,
+        }
+    }
+
+    /// So much is left of them.
+    fn keep(&mut self, messages: VecDeque<Msu>)
+        requires { All IsMessage messages.items }
+        ensures { self.new ≡ keeps_at messages.items self.old }
+    {
+        self.availability = self.availability.with_retrieval(counts_of(&messages));
+        self.hand = Hand::of(messages);
+    }
+}
+
+/// How many messages the link at a place handed out that are not diverted yet.
+pub fn hand_of(links: &[Link], at: usize) -> Option<usize>
+    ensures { result ≡ hand_count (slice_get links.now at) }
+{
+    match links.get(at) {
+        Some(link) => match link.availability.changing {
+            Some(changing) if changing.is_out() => Some(link.hand.len()),
+            _ => None,
+        },
+        None => None,
+    }
+}
+
+/// Takes out the messages that the link at a place handed out, if it did.
 #[tactic(auto, unfolding(crate::specs::Links::change))]
-pub fn keep_at(links: &mut [Link], at: usize, messages: &VecDeque<Msu>)
-    ensures { links.new ≡ change links.old at (keeps_at messages.now.items) }
+pub fn take_hand(links: &mut [Link], at: usize) -> Option<VecDeque<Msu>>
+    ensures messages { IfSome result (λ messages. messages.items ≡ hand_by (slice_get links.old at)) }
+    ensures whole { IfSome result (λ messages. All IsMessage messages.items) }
+    ensures out { is_some result ≡ is_out_at (slice_get links.old at) }
+    ensures some { OnSome result (links.new ≡ change links.old at without_hand) }
+    ensures none { IfNone result (links.new ≡ links.old) }
 {
     if at < links.len() {
-        links[at].availability = links[at].availability.with_retrieval(counts_of(messages));
+        links[at].take_hand()
+    } else {
+        None
+    }
+}
+
+/// So much is left of what the link at a place handed out.
+#[tactic(auto, unfolding(crate::specs::Links::change))]
+pub fn hand_back(links: &mut [Link], at: usize, messages: VecDeque<Msu>)
+    requires { All IsMessage messages.items }
+    ensures { links.new ≡ change links.old at (keeps_at messages.items) }
+{
+    if at < links.len() {
+        links[at].keep(messages);
     }
 }

@@ -4,6 +4,7 @@
 mod commanding;
 mod doing;
 mod ending;
+mod hand;
 mod link;
 mod links;
 mod moving;
@@ -14,11 +15,12 @@ mod ticking;
 
 pub use commanding::{CommandError, command_at};
 pub use doing::{admit_at, listen_at, see_all, see_at, send_at, speak_at, tell_at};
-pub use ending::{end_at, end_table, keep_at, retrieval_of};
+pub use ending::{end_at, end_table, hand_back, hand_of, retrieval_of, take_hand};
 pub use group_changeover::{
     AbandonError, BindError, DivertFault, FailError, LineError, LinkError, RebalanceError,
     RetrieveError, SendError,
 };
+pub use hand::Hand;
 pub use link::Link;
 pub use link_term::{CallError, Command, LinkStatus, Mode, Msu, Report, Terminal};
 pub use links::{abandon_at, bind_at, fail_at, hear_at, heard_at, put_at, retrieve_at};

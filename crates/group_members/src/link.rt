@@ -7,6 +7,7 @@ ghost use Rattle.group_changeover.specs.Saying.{count_in};
 ghost use Rattle.group_members.specs.Failing.{fail_fault_of, changeover_begins_at, order_of, count_heard, replies, hears};
 ghost use Rattle.group_members.specs.OneLink.{fault_of, carries, shares, gives_messages, is_own_out, has_outage, put_fault, puts, bind_fault, bound_by, bound_among, unknown, window, held, count_of, hold_by, unsure_by, retrieve_fault, retrieve_refusal, accepted_of, lacking, handed_by, emptied_behind, hands_out, abandon_fault, abandon_refusal};
 
+use crate::hand::Hand;
 use group_changeover::{
     AbandonError, Availability, BindError, Changing, FailError, Kind, Points, RetrieveError,
     SendError, counts_of, leave_out,
@@ -22,6 +23,8 @@ pub struct Link {
     pub points: Points,
     pub terminal: Terminal,
     pub availability: Availability,
+    /// What it handed out in its changeover and isn't diverted yet.
+    pub hand: Hand,
 }
 
 /// Drops the first message, if there is one.
@@ -277,11 +280,10 @@ impl Link {
         }
     }
 
-    /// Hands out its messages.
+    /// Hands out its messages. How many there are.
     #[tactic(auto, unfolding(crate::specs::OneLink::hands_out))]
-    fn hand_out(&mut self, accepted: Option<usize>) -> Result<VecDeque<Msu>, AllocError>
-        ensures messages { IfOk result (λ messages. messages.items ≡ handed_by self.old accepted) }
-        ensures whole { IfOk result (λ messages. All IsMessage messages.items) }
+    fn hand_out(&mut self, accepted: Option<usize>) -> Result<usize, AllocError>
+        ensures count { IfOk result (λ count. count ≡ length (handed_by self.old accepted)) }
         ensures ok { OnOk result (self.new ≡ hands_out accepted self.old) }
         ensures err { OnErr result (self.new ≡ self.old) }
     {
@@ -290,17 +292,18 @@ impl Link {
                 leave_out(self.points, &mut messages);
                 self.terminal.hold(Hold::UntilAnew);
                 self.availability = self.availability.with_retrieval(counts_of(&messages));
-                Ok(messages)
+                let count = messages.len();
+                self.hand = Hand::of(messages);
+                Ok(count)
             }
             Err(_) => Err(AllocError),
         }
     }
 
-    /// Hands out what the far side may lack.
-    pub(crate) fn retrieve(&mut self) -> Result<VecDeque<Msu>, RetrieveError>
+    /// Hands out what the far side may lack. How many messages that are.
+    pub(crate) fn retrieve(&mut self) -> Result<usize, RetrieveError>
         ensures fault { retrieve_refusal result ≡ retrieve_fault self.old }
-        ensures messages { IfOk result (λ messages. messages.items ≡ handed_by self.old (accepted_of self.old)) }
-        ensures whole { IfOk result (λ messages. All IsMessage messages.items) }
+        ensures count { IfOk result (λ count. count ≡ length (handed_by self.old (accepted_of self.old))) }
         ensures ok { OnOk result (self.new ≡ hands_out (accepted_of self.old) self.old) }
         ensures err { OnErr result (self.new ≡ self.old) }
     {
@@ -309,23 +312,23 @@ impl Link {
         }
         let accepted = self.accepted();
         match self.hand_out(accepted) {
-            Ok(messages) => Ok(messages),
+            Ok(count) => Ok(count),
             Err(_) => Err(RetrieveError::NoMemory),
         }
     }
 
-    /// Hands out what wasn't sent since both directions last began anew, where it isn't known what has arrived of the rest.
+    /// Hands out what wasn't sent since both directions last began anew, where it isn't known what has arrived of the rest. How many
+    /// messages that are.
     #[tactic(auto, unfolding(crate::specs::OneLink::abandon_fault))]
-    pub(crate) fn abandon(&mut self) -> Result<VecDeque<Msu>, AbandonError>
+    pub(crate) fn abandon(&mut self) -> Result<usize, AbandonError>
         ensures fault { abandon_refusal result ≡ abandon_fault self.old }
-        ensures messages { IfOk result (λ messages. messages.items ≡ handed_by self.old None) }
-        ensures whole { IfOk result (λ messages. All IsMessage messages.items) }
+        ensures count { IfOk result (λ count. count ≡ length (handed_by self.old None)) }
         ensures ok { OnOk result (self.new ≡ hands_out None self.old) }
         ensures err { OnErr result (self.new ≡ self.old) }
     {
         match self.retrieve_fault() {
             Some(RetrieveError::Unsure(_)) => match self.hand_out(None) {
-                Ok(messages) => Ok(messages),
+                Ok(count) => Ok(count),
                 Err(_) => Err(AbandonError::NoMemory),
             },
             Some(RetrieveError::NoLink) => Err(AbandonError::NoLink),

@@ -1,6 +1,5 @@
 //! The links of a set, of which a call changes one.
-ghost use Rattle.std.specs.Prelude.{◌≡◌, ◌<◌, ◌≤◌, All, length, slice_get, IfSome, IfOk, OnOk, OnErr, Some, None};
-ghost use Rattle.resend_store.specs.Messages.{IsMessage};
+ghost use Rattle.std.specs.Prelude.{◌≡◌, ◌<◌, ◌≤◌, length, slice_get, IfSome, IfOk, OnOk, OnErr, Some, None};
 ghost use Rattle.group_changeover.specs.Changeovers.{IsKind};
 ghost use Rattle.group_members.specs.OneLink.{fault_of, put_fault, puts, bind_fault, accepted_of, retrieve_fault, retrieve_refusal, abandon_fault, abandon_refusal};
 ghost use Rattle.group_members.specs.Links.{change, fault_at, read_at};
@@ -11,7 +10,6 @@ use group_changeover::{
     AbandonError, BindError, FailError, Hearing, Kind, RetrieveError, SendError,
 };
 use link_term::Msu;
-use std::collections::VecDeque;
 
 /// Takes a message to send.
 ///
@@ -97,17 +95,16 @@ pub fn hear_at(links: &mut [Link], at: usize, kind: Kind) -> Option<Kind>
     }
 }
 
-/// Hands out the messages of a link.
+/// Hands out the messages of a link. How many there are.
 ///
 /// # Errors
 ///
 /// `K1 NoLink` where there is no such link or no changeover goes on there, `K2 Waiting` where they are out or an answer may still come, `K4 Unsure`
 /// with the number of those of which nothing is known, and then want of memory. Nothing changes then.
 #[tactic(auto, unfolding(crate::specs::Links::change))]
-pub fn retrieve_at(links: &mut [Link], at: usize) -> Result<VecDeque<Msu>, RetrieveError>
+pub fn retrieve_at(links: &mut [Link], at: usize) -> Result<usize, RetrieveError>
     ensures fault { retrieve_refusal result ≡ fault_at RetrieveError.NoLink retrieve_fault (slice_get links.old at) }
-    ensures messages { IfOk result (λ messages. messages.items ≡ messages_by accepted_of (slice_get links.old at)) }
-    ensures whole { IfOk result (λ messages. All IsMessage messages.items) }
+    ensures count { IfOk result (λ count. count ≡ length (messages_by accepted_of (slice_get links.old at))) }
     ensures ok { OnOk result (links.new ≡ change links.old at handed) }
     ensures err { OnErr result (links.new ≡ links.old) }
 {
@@ -118,25 +115,24 @@ pub fn retrieve_at(links: &mut [Link], at: usize) -> Result<VecDeque<Msu>, Retri
     }
 }
 
-/// Hands out the unsent messages of a link, and tells how many were sent.
+/// Hands out the unsent messages of a link. How many there are, and how many were sent.
 ///
 /// # Errors
 ///
 /// `K1 NoLink` where there is no such link or no changeover goes on there, `K2 Waiting` where [`retrieve_at`] isn't refused as unsure, and then want
 /// of memory. Nothing changes then.
 #[tactic(auto, unfolding(crate::specs::Links::change))]
-pub fn abandon_at(links: &mut [Link], at: usize) -> Result<(VecDeque<Msu>, usize), AbandonError>
+pub fn abandon_at(links: &mut [Link], at: usize) -> Result<(usize, usize), AbandonError>
     ensures fault { abandon_refusal result ≡ fault_at AbandonError.NoLink abandon_fault (slice_get links.old at) }
-    ensures messages { IfOk result (λ given. given.0.items ≡ messages_by none_known (slice_get links.old at)) }
+    ensures count { IfOk result (λ given. given.0 ≡ length (messages_by none_known (slice_get links.old at))) }
     ensures sent { IfOk result (λ given. given.1 ≡ sent_by (slice_get links.old at)) }
-    ensures whole { IfOk result (λ given. All IsMessage given.0.items) }
     ensures ok { OnOk result (links.new ≡ change links.old at given_up) }
     ensures err { OnErr result (links.new ≡ links.old) }
 {
     if at < links.len() {
         let sent = links[at].unknown();
         match links[at].abandon() {
-            Ok(messages) => Ok((messages, sent)),
+            Ok(count) => Ok((count, sent)),
             Err(fault) => Err(fault),
         }
     } else {

@@ -4,7 +4,7 @@ ghost use Rattle.line_streams.specs.Capturing.{Captures, IsUnit, listed};
 ghost use Rattle.line_streams.specs.Repeats.{kept, StandsFor};
 ghost use Rattle.line_streams.specs.declared.seen.Seen.{Seen as OneSeen};
 
-use crate::ended::ended;
+use crate::closing::ended;
 use crate::repeats::Repeats;
 use crate::seen::Seen;
 use arrayvec::ArrayVec;

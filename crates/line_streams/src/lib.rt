@@ -4,8 +4,8 @@
 
 mod arrivals;
 mod capture;
+mod closing;
 mod departures;
-mod ended;
 mod opening;
 mod outlet;
 mod records;
@@ -16,8 +16,8 @@ mod taps;
 pub use arrivals::Arrivals;
 pub use bit_line::Deframer;
 pub use capture::{Capture, Kept};
+pub use closing::ended;
 pub use departures::Departures;
-pub use ended::ended;
 pub use opening::{OrderStream, ReportStream, open_orders, open_reports};
 pub use outlet::Outlet;
 pub use records::{RecordStream, open_records};

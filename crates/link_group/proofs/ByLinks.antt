@@ -1,31 +1,33 @@
 -- A call of one link's terminal.
-use Rattle.std.proofs.Common.{◌≡◌, ℕ, ◌+◌, ◌-◌, ◌^◌, zero, suc, Option, List, [], ◌∷◌, ◌++◌, length, take, drop, refl, sym, ap, subst, arith}
-use Rattle.group_members.specs.declared.link.Link.{Link}
-use Rattle.link_group.specs.Set.{LinkSet}
-use Rattle.group_members.specs.Doing.{AtLink}
+use Rattle.std.proofs.Common.{◌≡◌, ℕ, ◌+◌, ◌-◌, ◌^◌, ◌≤◌, zero, suc, Option, List, [], ◌∷◌, ◌++◌, length, take, drop, refl, sym, ap, subst, arith}
 use Rattle.std.specs.Prelude.{min, slice_get}
+use Rattle.group_members.specs.declared.link.Link.{Link}
+use Rattle.group_members.specs.Links.{change}
+use Rattle.group_members.specs.Doing.{AtLink, asked, came_by}
 use Rattle.link_processes.specs.declared.commands.Command.{Command}
 use Rattle.group_members.specs.Commanding.{cleared_at, Commanded}
-use Rattle.link_group.specs.Lines.{ByLink, ByCommand, seen}
+use Rattle.link_group.specs.Set.{LinkSet}
+use Rattle.link_group.specs.Placing.{table_if}
+use Rattle.link_group.specs.Lines.{ByLink, ByCommand}
+use Rattle.link_group.proofs.Live.{over, by_seen, by_seen_command}
 
-pub by_link : (did : Link → Link → Type 0) (l : ℕ) (c d : LinkSet) (ks new mid : List Link) (own peer unsure : ℕ) (table : List (Option ℕ))
-    → d ≡ seen l (record { own = own; peer = peer; links = mid; table = table; unsure = unsure }) → AtLink did l ks new → mid ≡ new → ks ≡ c.links
-    → c.own ≡ own → c.peer ≡ peer → c.table ≡ table → c.unsure ≡ unsure → ByLink did l c d
-by_link did l c d ks new mid own peer unsure table is at m same o p t u = record {
-  links = new;
-  at = subst (λ (xs : List Link). AtLink did l xs new) same at;
-  set = rw (o, p, t, u, sym m) is;
-}
+-- where the links were `old` first, then `new`, and then seen
+pub by_link : (did : Link → Link → Type 0) (l : ℕ) (c d : LinkSet) (old new mid new2 mid2 : List Link) (own peer unsure : ℕ) (table table2 : List (Option ℕ))
+    → c ≡ over own peer unsure table old → d ≡ over own peer unsure table2 mid2 → AtLink did l old new → mid ≡ new → mid2 ≡ new2 → new2 ≡ change mid l asked
+    → table2 ≡ table_if (came_by (slice_get mid l)) new2 table → ByLink did l c d
+by_link did l c d old new mid new2 mid2 own peer unsure table table2 was is at same same2 links tables =
+    subst (λ (x : LinkSet). ByLink did l x d) (sym was)
+    (subst (λ (x : LinkSet). ByLink did l (over own peer unsure table old) x) (sym is)
+    (by_seen did own peer unsure l table table2 old new mid new2 mid2 at same same2 links tables))
 
-pub by_command : (command : Command) (l : ℕ) (c d : LinkSet) (ks new mid : List Link) (own peer unsure was : ℕ) (table : List (Option ℕ))
-    → d ≡ seen l (record { own = own; peer = peer; links = mid; table = table; unsure = unsure }) → AtLink (Commanded command) l ks new → mid ≡ new → ks ≡ c.links
-    → c.own ≡ own → c.peer ≡ peer → c.table ≡ table → c.unsure ≡ was
-    → unsure ≡ min (2 ^ 64 - 1) (was + length (cleared_at command (slice_get ks l))) → ByCommand command l c d
-by_command command l c d ks new mid own peer unsure was table is at m same o p t u count = record {
-  links = new;
-  at = subst (λ (xs : List Link). AtLink (Commanded command) l xs new) same at;
-  set = rw (o, p, t, sym m, u, sym same, sym count) is;
-}
+-- .. and by a command, behind which what went counts as unsure
+pub by_command : (command : Command) (l : ℕ) (c d : LinkSet) (old new mid new2 mid2 : List Link) (own peer was n unsure : ℕ) (table table2 : List (Option ℕ))
+    → c ≡ over own peer was table old → d ≡ over own peer unsure table2 mid2 → AtLink (Commanded command) l old new → mid ≡ new → mid2 ≡ new2 → new2 ≡ change mid l asked
+    → table2 ≡ table_if (came_by (slice_get mid l)) new2 table → n ≡ length (cleared_at command (slice_get old l)) → unsure ≡ min (2 ^ 64 - 1) (was + n) → ByCommand command l c d
+by_command command l c d old new mid new2 mid2 own peer was n unsure table table2 before is at same same2 links tables went count =
+    subst (λ (x : LinkSet). ByCommand command l x d) (sym before)
+    (subst (λ (x : LinkSet). ByCommand command l (over own peer was table old) x) (sym is)
+    (by_seen_command command own peer was n unsure l table table2 old new mid new2 mid2 at same same2 links tables went count))
 
 all-of : (n : ℕ) (xs rest : List Link) → length xs ≡ n → take n (xs ++ rest) ≡ xs
 all-of zero [] rest e = refl
@@ -36,3 +38,7 @@ all-of (suc n) (x ∷ xs) rest e = ap (λ (ys : List Link). x ∷ ys) (all-of n 
 -- what stands in a vector once a slice of all of it was written
 pub written : (n : ℕ) (xs items : List Link) → length xs ≡ n → take n (xs ++ drop (length xs) items) ≡ xs
 written n xs items e = all-of n xs (drop (length xs) items) e
+
+-- and how many those are
+pub few_written : (n most : ℕ) (xs items : List Link) → length xs ≡ n → n ≤ most → length (take n (xs ++ drop (length xs) items)) ≤ most
+few_written n most xs items e h = let size = ap (λ (ys : List Link). length ys) (written n xs items e) in omega (arith, size, e, h)

@@ -3,10 +3,10 @@ use Rattle.std.proofs.Common.{◌≡◌, ◌≢◌, ℕ, ◌<◌, ◌==◌, Bool
 use Rattle.std.specs.Prelude.{◌⊎◌, All, is_some, if◌then◌else◌, slice_get}
 use Rattle.std.proofs.lemmas.Bool.Decides.{eqb_tells}
 use Rattle.std.proofs.lemmas.List.{append-nil, take-append-drop, nil_from_length}
-use Rattle.std.proofs.lemmas.List.Elements.{All-push, All-drop}
+use Rattle.std.proofs.lemmas.List.Elements.{All-push}
 use Rattle.plain_laws.proofs.Options.{some_none, row_passes}
 use Rattle.resend_store.specs.declared.messages.Msu.{Msu}
-use Rattle.resend_store.specs.Window.{Window, unacknowledged}
+use Rattle.resend_store.specs.Window.{unacknowledged}
 use Rattle.group_changeover.specs.declared.availability.Changing.{Changing}
 use Rattle.group_changeover.specs.declared.availability.Availability.{Availability}
 use Rattle.group_changeover.specs.Laws.{StepsKeepPlaces}
@@ -15,7 +15,6 @@ use Rattle.group_changeover.specs.Availability.{retrieval_in, with_retrieval}
 use Rattle.group_changeover.specs.Sharing.{selection_of, is_on, of, link_of, counts_of}
 use Rattle.group_changeover.specs.declared.bound.Points.{Points}
 use Rattle.group_changeover.specs.Bound.{is_bound, unbound}
-use Rattle.group_changeover.proofs.Equal.{same}
 use Rattle.group_changeover.proofs.Unbound.{IsUnbound, unbound-nil, unbound-append, unbound-one, unbound-other, all-unbound}
 use Rattle.group_changeover.specs.declared.errors.SendError.TheVariants as send
 use Rattle.group_changeover.specs.declared.errors.RetrieveError.{RetrieveError}
@@ -27,15 +26,19 @@ use Rattle.group_members.specs.OneLink.{number_behind, window, held, messages, h
 use Rattle.group_members.specs.Links.{change, fault_at}
 use Rattle.group_members.specs.Failing.{handed, given_up, messages_by, none_known}
 use Rattle.group_members.specs.Moving.{retrieval_by}
-use Rattle.link_group.specs.Set.{LinkSet, points_of, send_fault, send_fault_by, change_by, sent, bind_fault_at, bound_at}
+use Rattle.link_group.specs.Set.{LinkSet, points_of, send_fault, send_fault_by, change_by, sent, bound_at}
 use Rattle.link_group.specs.Changing.{retrieve_fault_at, after_retrieve, messages_for, abandon_fault_at, after_abandon, unsent_at}
 use Rattle.link_group.specs.Laws.{held_by, held_at}
-use Rattle.link_group.specs.Reached.{Gone, acknowledged, unsure, messages_gone, with_retrieval_of, told_front, unacknowledged_at, first_of}
+use Rattle.link_group.specs.Reached.{Gone, acknowledged, unsure, messages_gone, told_front, unacknowledged_at, first_of}
 use Rattle.link_group.proofs.Getting.{change_here, change_other, held_changed}
-use Rattle.link_group.proofs.Fitting.{IsSmall, none_small, FitsAvailability, FitsLink, Fits, Alike, fits_there, fits_change, fits_changed, fits_held, back_small}
+use Rattle.link_group.proofs.Fitting.{IsSmall, none_small, FitsAvailability, FitsLink, Alike, fits_there, fits_change, fits_changed, fits_held, back_small}
 use Rattle.link_group.proofs.Staying.{Stays, gone_marked, at_one, leaves, quiet}
 
 -- ---- retrievals
+
+-- what is retrieved from each link, with that of one changed
+abbrev pub with_retrieval_of : (ℕ → List Msu) → ℕ → List Msu → ℕ → List Msu
+with_retrieval_of retrievals l ms j = if j == l then ms else retrievals j
 
 equal_retrieval : (retrievals : ℕ → List Msu) (l j : ℕ) (ms : List Msu) → ((j == l) ≡ true) × (j ≡ l) ⊎ ((j == l) ≡ false) × (j ≢ l) → j ≡ l → with_retrieval_of retrievals l ms j ≡ ms
 equal_retrieval retrievals l j ms (inl x) e = ap (λ (b : Bool). if b then ms else retrievals j) x.0

@@ -9,6 +9,7 @@ use Rattle.group_members.specs.Doing.{AtLink}
 use Rattle.group_members.specs.Commanding.{Commands, Commanded, Barred, Refused, Lacks}
 use Rattle.link_group.specs.Set.{LinkSet}
 use Rattle.link_group.specs.Lines.{Alone, IsCommandError}
+use Rattle.link_group.proofs.Live.{Live, over, live_same, refused_alone}
 
 set_same : (ks : List Link) (l : ℕ) (k : Link) → slice_get ks l ≡ Some k → slice_set ks l k ≡ ks
 set_same [] l k e = refl
@@ -46,3 +47,17 @@ command_error command l c d ks new mid own peer unsure table f is at m same o p 
 
 pub commanded : (command : Command) (l : ℕ) (ks new : List Link) → AtLink (Commands command None) l ks new → AtLink (Commanded command) l ks new
 commanded command l ks new at = record { before = at.before; there = at.there; after = at.after; links = at.links; was = at.was }
+
+-- ---- a set that a list of calls led to, and a command that was refused
+
+error_live : (command : Command) (l : ℕ) (c d : LinkSet) (f : CommandError) → IsCommandError command l c d f → Live c → Live d
+error_live command l c d error.NoLink is live = live_same c d is.1 live
+error_live command l c d error.Waiting is live = live_same c d is.1 live
+error_live command l c d (error.Refused r) is live = refused_alone command r l c d is live
+error_live command l c d error.NoMemory is live = live_same c d is.1 live
+
+pub live_error : (command : Command) (l own peer unsure : ℕ) (table : List (Option ℕ)) (old new mid : List Link) (f : CommandError) → mid ≡ new → AtLink (Commands command (Some f)) l old new
+    → Live (over own peer unsure table old) → Live (over own peer unsure table mid)
+live_error command l own peer unsure table old new mid f same at live =
+    subst (λ (xs : List Link). Live (over own peer unsure table xs)) (sym same)
+    (error_live command l (over own peer unsure table old) (over own peer unsure table new) f (error_at command l (over own peer unsure table old) new f at) live)

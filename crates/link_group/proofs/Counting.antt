@@ -1,25 +1,22 @@
 -- Over every list of calls a set counts those of its messages that are unsure.
 use Rattle.std.proofs.Common.{◌≡◌, ◌+◌, ◌-◌, ◌^◌, ℕ, Bool, cond, List, [], ◌∷◌, ◌++◌, Option, Some, None, length, map, refl, sym, ap, ◌∙◌, arith}
 use Rattle.std.specs.Prelude.{min, slice_get}
-use Rattle.std.specs.List.{list_any}
 use Rattle.std.proofs.lemmas.List.Sums.{sum_by-append}
 use Rattle.plain_laws.proofs.Truths.{by_test}
 use Rattle.resend_store.specs.declared.messages.Msu.{Msu}
 use Rattle.group_members.specs.Term.{Term}
 use Rattle.group_changeover.specs.declared.changeover.Changeover.{Changeover}
-use Rattle.group_changeover.specs.declared.errors.DivertFault.{DivertFault}
 use Rattle.group_members.specs.declared.link.Link.{Link}
 use Rattle.group_members.specs.OneLink.{unknown}
 use Rattle.group_members.specs.Failing.{hears as heard_at, sent_by}
 use Rattle.group_members.specs.Links.{change}
-use Rattle.group_members.specs.Moving.{Diversion}
-use Rattle.group_members.specs.Doing.{asked, came_by, came_first, admits_at, admits_by}
+use Rattle.group_members.specs.Moving.{Diversion, is_out_at, hand_by}
 use Rattle.group_members.specs.Ticking.{passed}
 use Rattle.link_group.specs.Set.{LinkSet, sent, bound_at}
 use Rattle.group_changeover.specs.Bound.{unbound}
 use Rattle.link_group.specs.Changing.{is_for, after_failure, after_message, after_retrieve, after_abandon}
-use Rattle.link_group.specs.Diverting.{diverted, after_by, after_divert}
-use Rattle.link_group.specs.Placing.{placed_anew, rebalanced}
+use Rattle.link_group.specs.Diverting.{settled, emptied, with_division, after_hand, after_divert}
+use Rattle.link_group.specs.Placing.{rebalanced}
 use Rattle.link_processes.specs.declared.commands.Command.{Command}
 use Rattle.group_members.specs.Commanding.{cleared_at}
 use Rattle.link_group.specs.Lines.{seen, all_seen, after_admission, ByLink, ByCommand, Alone}
@@ -72,35 +69,26 @@ heard_same c None = refl
 heard_same c (Some m) =
     by_test (λ (d : LinkSet). d.unsure ≡ c.unsure) (is_for c m) (record c { links = change c.links m.label.sls (heard_at m.kind) }) c (λ e. refl) (λ e. refl)
 
-diverted_same : (c : LinkSet) (l : ℕ) (d : Diversion) (o : Option DivertFault) → (after_by c l d o).unsure ≡ c.unsure
-diverted_same c l d None = refl
-diverted_same c l d (Some fault) = refl
+with_same : (c : LinkSet) (d : Diversion) → (with_division c d).unsure ≡ c.unsure
+with_same c d = refl
 
-after_same : (c : LinkSet) (l : ℕ) (ms : List Msu) → (after_divert c l ms).unsure ≡ c.unsure
+after_same : (c : LinkSet) (l : ℕ) → (after_divert c l).unsure ≡ c.unsure
 unfolding after_divert
-after_same c l ms = diverted_same c l (diverted c l ms).at (diverted c l ms).fault
-
-placed_same : (c : LinkSet) → (placed_anew c).unsure ≡ c.unsure
-unfolding placed_anew
-placed_same c = refl
+after_same c l =
+    by_test (λ (x : LinkSet). x.unsure ≡ c.unsure) (is_out_at (slice_get c.links l)) (after_hand c l) c
+    (λ e. with_same (emptied c l) (settled (emptied c l).links c.table l (hand_by (slice_get c.links l)))) (λ e. refl)
 
 seen_same : (l : ℕ) (c : LinkSet) → (seen l c).unsure ≡ c.unsure
 unfolding seen
-seen_same l c =
-    let d : LinkSet = record c { links = change c.links l asked } in
-    by_test (λ (x : LinkSet). x.unsure ≡ c.unsure) (came_by (slice_get c.links l)) (placed_anew d) d (λ e. placed_same d) (λ e. refl)
+seen_same l c = refl
 
 all_seen_same : (c : LinkSet) → (all_seen c).unsure ≡ c.unsure
 unfolding all_seen
-all_seen_same c =
-    let d : LinkSet = record c { links = map asked c.links } in
-    by_test (λ (x : LinkSet). x.unsure ≡ c.unsure) (list_any came_first c.links) (placed_anew d) d (λ e. placed_same d) (λ e. refl)
+all_seen_same c = refl
 
 admitted_same : (c : LinkSet) (l : ℕ) (way : Bool) → (after_admission c l way).unsure ≡ c.unsure
 unfolding after_admission
-admitted_same c l way =
-    let d : LinkSet = record c { links = change c.links l (admits_at way) } in
-    by_test (λ (x : LinkSet). x.unsure ≡ c.unsure) (admits_by way (slice_get c.links l)) (placed_anew d) d (λ e. placed_same d) (λ e. refl)
+admitted_same c l way = refl
 
 link_same : (did : Link → Link → Type 0) (l : ℕ) (c d : LinkSet) → ByLink did l c d → d.unsure ≡ c.unsure
 link_same did l c d by = ap (λ (x : LinkSet). x.unsure) by.set ∙ seen_same l (record c { links = by.links })
@@ -157,28 +145,28 @@ commanded_more c d gone l command did e =
     ∙ (seen_same l (record c { links = did.links; unsure = min MOST (c.unsure + length went) })
     ∙ so_many_more MOST c.unsure (length went) gone went e refl)
 
-counted : (c : LinkSet) (retrievals : ℕ → List Msu) (accepted : List Msu) (gone : List Gone) → Reached c retrievals accepted gone → Counts c gone
-counted _ _ _ _ (opens own peer ts unused) = new_none own peer ts
-counted _ _ _ _ (sends c retrievals accepted gone m r free small) = sent_same c m ∙ counted c retrievals accepted gone r
-counted _ _ _ _ (binds c retrievals accepted gone l m r free bound) = bound_same c l m ∙ counted c retrievals accepted gone r
-counted _ _ _ _ (fails c retrievals accepted gone l r free) = failed_same c l ∙ counted c retrievals accepted gone r
-counted _ _ _ _ (hears c retrievals accepted gone m r) = heard_same c m ∙ counted c retrievals accepted gone r
-counted _ _ _ _ (retrieves c retrievals accepted gone l r free) =
-    retrieved_same c l ∙ none_more c.unsure MOST gone (told_front (slice_get c.links l)) (counted c retrievals accepted gone r)
-counted _ _ _ _ (abandons c retrievals accepted gone l r free) = given_up c l gone (counted c retrievals accepted gone r)
-counted _ _ _ _ (diverts c retrievals accepted gone l r own) = after_same c l (retrievals l) ∙ counted c retrievals accepted gone r
-counted _ _ _ _ (rebalances c retrievals accepted gone r free) = rebalanced_same c ∙ counted c retrievals accepted gone r
-counted _ _ _ _ (listens c d retrievals accepted gone l octets taken r did) =
-    link_same _ l c d did ∙ none_more c.unsure MOST gone (unbound did.at.before.points did.at.was.took.gone) (counted c retrievals accepted gone r)
-counted _ _ _ _ (speaks c d retrievals accepted gone l units octets r did) = link_same _ l c d did ∙ counted c retrievals accepted gone r
-counted _ _ _ _ (gives c d retrievals accepted gone l unit r did) = link_same _ l c d did ∙ counted c retrievals accepted gone r
-counted _ _ _ _ (reports c d retrievals accepted gone l report r did) = link_same _ l c d did ∙ counted c retrievals accepted gone r
-counted _ _ _ _ (commands c d retrievals accepted gone l command r did) = commanded_more c d gone l command did (counted c retrievals accepted gone r)
-counted _ _ _ _ (refuses c d retrievals accepted gone l command refusal r did) = alone_same _ l c d did ∙ counted c retrievals accepted gone r
-counted _ _ _ _ (ticks c retrievals accepted gone n r) = ticked_same n c ∙ counted c retrievals accepted gone r
-counted _ _ _ _ (makes_room c retrievals accepted gone r) = counted c retrievals accepted gone r
-counted _ _ _ _ (lacks_room c d retrievals accepted gone r lacks) = ap (λ (x : LinkSet). x.unsure) lacks.set ∙ counted c retrievals accepted gone r
-counted _ _ _ _ (admits c retrievals accepted gone l way r) = admitted_same c l way ∙ counted c retrievals accepted gone r
+counted : (c : LinkSet) (accepted : List Msu) (gone : List Gone) → Reached c accepted gone → Counts c gone
+counted _ _ _ (opens own peer ts unused) = new_none own peer ts
+counted _ _ _ (sends c accepted gone m r free small) = sent_same c m ∙ counted c accepted gone r
+counted _ _ _ (binds c accepted gone l m r free bound) = bound_same c l m ∙ counted c accepted gone r
+counted _ _ _ (fails c accepted gone l r free) = failed_same c l ∙ counted c accepted gone r
+counted _ _ _ (hears c accepted gone m r) = heard_same c m ∙ counted c accepted gone r
+counted _ _ _ (retrieves c accepted gone l r free) =
+    retrieved_same c l ∙ none_more c.unsure MOST gone (told_front (slice_get c.links l)) (counted c accepted gone r)
+counted _ _ _ (abandons c accepted gone l r free) = given_up c l gone (counted c accepted gone r)
+counted _ _ _ (diverts c accepted gone l r) = after_same c l ∙ counted c accepted gone r
+counted _ _ _ (rebalances c accepted gone r free) = rebalanced_same c ∙ counted c accepted gone r
+counted _ _ _ (listens c d accepted gone l octets taken r did) =
+    link_same _ l c d did ∙ none_more c.unsure MOST gone (unbound did.at.before.points did.at.was.took.gone) (counted c accepted gone r)
+counted _ _ _ (speaks c d accepted gone l units octets r did) = link_same _ l c d did ∙ counted c accepted gone r
+counted _ _ _ (gives c d accepted gone l unit r did) = link_same _ l c d did ∙ counted c accepted gone r
+counted _ _ _ (reports c d accepted gone l report r did) = link_same _ l c d did ∙ counted c accepted gone r
+counted _ _ _ (commands c d accepted gone l command r did) = commanded_more c d gone l command did (counted c accepted gone r)
+counted _ _ _ (refuses c d accepted gone l command refusal r did) = alone_same _ l c d did ∙ counted c accepted gone r
+counted _ _ _ (ticks c accepted gone n r) = ticked_same n c ∙ counted c accepted gone r
+counted _ _ _ (makes_room c accepted gone r) = counted c accepted gone r
+counted _ _ _ (lacks_room c d accepted gone r lacks) = ap (λ (x : LinkSet). x.unsure) lacks.set ∙ counted c accepted gone r
+counted _ _ _ (admits c accepted gone l way r) = admitted_same c l way ∙ counted c accepted gone r
 
 pub unsure_are_counted : UnsureAreCounted
-unsure_are_counted = λ c retrievals accepted gone r. counted c retrievals accepted gone r
+unsure_are_counted = λ c accepted gone r. counted c accepted gone r

@@ -20,12 +20,12 @@ use Rattle.group_members.specs.declared.link.Link.{Link}
 use Rattle.group_members.specs.OneLink.{held, messages}
 use Rattle.group_members.specs.Moving.{retrieval_by, term_takes, takes_on, Diversion, take_fault, move_fault_by, move_fault, moved_by, moved, Diverted, goes_on, moves}
 use Rattle.link_group.specs.Set.{LinkSet, points_of}
-use Rattle.link_group.specs.Laws.{held_by, held_at, places_of}
-use Rattle.link_group.specs.Reached.{Gone, with_retrieval_of}
-use Rattle.link_group.proofs.Calling.{retrieval_here, retrieval_other}
+use Rattle.link_group.specs.Laws.{held_by, held_at}
+use Rattle.link_group.specs.Reached.{Gone}
+use Rattle.link_group.proofs.Calling.{with_retrieval_of, retrieval_here, retrieval_other}
 use Rattle.link_group.proofs.Fitting.{IsSmall, FitsAvailability, FitsLink, FitsAt, Fits, fits_there, fits_change}
 use Rattle.link_group.proofs.Getting.{set_here, set_other, change_here, change_other}
-use Rattle.link_group.proofs.Staying.{Stays}
+use Rattle.link_group.proofs.Staying.{places_with, Stays}
 
 -- a set whose links and table are those of a diversion
 abbrev pub within : LinkSet → Diversion → LinkSet
@@ -154,8 +154,8 @@ pub moves_to : (laws : StepsKeepPlaces) (c : LinkSet) (retrievals : ℕ → List
 moves_to laws c retrievals accepted gone l s t d k small able there some m =
     let ms : List Msu = of s d.rest in
     let e : Diversion = moved_by s d (Some t) in
-    let p = places_of (within c d) (with_retrieval_of retrievals l d.rest) accepted gone in
-    let q = places_of (within c e) (with_retrieval_of retrievals l e.rest) accepted gone in
+    let p = places_with (within c d) (with_retrieval_of retrievals l d.rest) accepted gone in
+    let q = places_with (within c e) (with_retrieval_of retrievals l e.rest) accepted gone in
     let here : with_retrieval_of retrievals l d.rest l ≡ d.rest = retrieval_here retrievals l d.rest in
     let free : All (IsUnbound (points_of c)) d.rest = rest_free c retrievals accepted gone l d m in
     let fit : FitsLink (points_of c) k (with_retrieval_of retrievals l d.rest t) = fits_there (points_of c) d.links (with_retrieval_of retrievals l d.rest) t k m.stays.fits there in

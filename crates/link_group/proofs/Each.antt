@@ -1,6 +1,7 @@
 -- Over every list of calls each message stands in its one place.
 use Rattle.std.proofs.Common.{◌≡◌, ℕ, ◌+◌, ◌-◌, ◌^◌, Bool, true, false, List, [], ◌++◌, length, Option, Some, None, refl, sym, ap, ◌∙◌, subst}
 use Rattle.std.proofs.lemmas.List.Elements.{All-nil}
+use Rattle.plain_laws.proofs.Truths.{by_test}
 use Rattle.std.specs.Prelude.{All, min, slice_get, get_or, option_map}
 use Rattle.std.proofs.lemmas.Option.{slice_get-map, slice_get_within, get_or_from_slice_get}
 use Rattle.resend_store.specs.declared.messages.Msu.{Msu}
@@ -22,18 +23,24 @@ use Rattle.group_changeover.specs.Bound.{unbound}
 use Rattle.group_changeover.proofs.Unbound.{IsUnbound, unbound-nil}
 use Rattle.group_members.specs.Commanding.{starts_anew, marked, started, behind_command, cleared_of, cleared_at, Commanded, Refused}
 use Rattle.group_members.specs.Doing.{Listened, Spoken, Sent, Reported}
+use Rattle.group_members.specs.Moving.{is_out_at, without_hand}
 use Rattle.group_members.specs.New.{IsUnused, fresh}
 use Rattle.link_group.specs.New.{points, new_set}
-use Rattle.link_group.specs.Set.{LinkSet}
-use Rattle.link_group.specs.Laws.{held_by, held_at, EachInOnePlace}
-use Rattle.link_group.specs.Lines.{ByLink, ByCommand}
-use Rattle.link_group.specs.Reached.{Gone, acknowledged, unsure, messages_gone, Reached, opens, sends, binds, fails, hears, retrieves, abandons, diverts, rebalances, listens, speaks, gives, reports, commands, refuses, ticks, makes_room, lacks_room, admits}
-use Rattle.link_group.proofs.Calling.{stays_sent, stays_bound, stays_retrieved, stays_abandoned}
-use Rattle.link_group.proofs.EndingLaws.{stays_diverted}
+use Rattle.link_group.specs.Set.{LinkSet, points_of, sent, bound_at}
+use Rattle.link_group.specs.Changing.{after_failure, after_message, after_retrieve, messages_for, after_abandon, unsent_at}
+use Rattle.link_group.specs.Diverting.{diverted, emptied, after_taken, after_hand, after_divert}
+use Rattle.link_group.specs.Lines.{ByLink, ByCommand, after_admission}
+use Rattle.link_group.specs.Placing.{rebalanced}
+use Rattle.link_group.specs.Ticks.{with_room, after_ticks}
+use Rattle.link_group.specs.Laws.{held_by, held_at, hand_at, EachInOnePlace, UnsureAreCounted, Accounted}
+use Rattle.link_group.specs.Reached.{Gone, acknowledged, unsure, messages_gone, Reached, WasReached, opens, sends, binds, fails, hears, retrieves, abandons, diverts, rebalances, listens, speaks, gives, reports, commands, refuses, ticks, makes_room, lacks_room, admits}
+use Rattle.link_group.proofs.Calling.{with_retrieval_of, stays_sent, stays_bound, stays_retrieved, stays_abandoned}
+use Rattle.link_group.proofs.EndingLaws.{same_retrievals, left_to_divert, stays_diverted}
+use Rattle.link_group.proofs.Hands.{hands_new, hands_sent, hands_bound, hands_failed, hands_heard, hands_rebalanced, hands_by_link, hands_by_command, hands_alone, hands_roomy, hands_ticked, hands_lacking, hands_admitted, hands_retrieved, hands_abandoned, out_emptied, hands_diverted}
 use Rattle.link_group.proofs.Fitting.{IsSmall, none_small, FitsAt, fits_alike, fits_fewer}
 use Rattle.link_group.proofs.PlacingLaws.{stays_rebalanced}
 use Rattle.link_group.proofs.Staying.{Stays, gone_marked}
-use Rattle.link_group.proofs.Working.{stays_failed, stays_heard, stays_admitted, part_messages, link_works, link_keeps, alone_keeps, transceiver_tidied, stays_roomy, stays_ticked, stays_lacking}
+use Rattle.link_group.proofs.Working.{one_changes, stays_failed, stays_heard, stays_admitted, part_messages, link_works, link_keeps, alone_keeps, transceiver_tidied, stays_roomy, stays_ticked, stays_lacking}
 
 -- ---- a new set
 
@@ -117,43 +124,93 @@ stays_commanded laws c d retrievals accepted gone l command stays did =
 
 -- ---- every list of calls
 
-stays_reached : (laws : StepsKeepPlaces) (law : KeptLaw) (c : LinkSet) (retrievals : ℕ → List Msu) (accepted : List Msu) (gone : List Gone) → Reached c retrievals accepted gone → Stays c retrievals accepted gone
-stays_reached laws law _ _ _ _ (opens own peer ts unused) = stays_new laws own peer ts unused
-stays_reached laws law _ _ _ _ (sends c retrievals accepted gone m r free small) = stays_sent laws c retrievals accepted gone m (stays_reached laws law c retrievals accepted gone r) free small
-stays_reached laws law _ _ _ _ (binds c retrievals accepted gone l m r free bound) = stays_bound laws c retrievals accepted gone l m (stays_reached laws law c retrievals accepted gone r) bound
-stays_reached laws law _ _ _ _ (fails c retrievals accepted gone l r free) = stays_failed laws c retrievals accepted gone l (stays_reached laws law c retrievals accepted gone r)
-stays_reached laws law _ _ _ _ (hears c retrievals accepted gone m r) = stays_heard laws c retrievals accepted gone m (stays_reached laws law c retrievals accepted gone r)
-stays_reached laws law _ _ _ _ (retrieves c retrievals accepted gone l r free) = stays_retrieved laws law c retrievals accepted gone l (stays_reached laws law c retrievals accepted gone r) free
-stays_reached laws law _ _ _ _ (abandons c retrievals accepted gone l r free) = stays_abandoned laws law c retrievals accepted gone l (stays_reached laws law c retrievals accepted gone r) free
-stays_reached laws law _ _ _ _ (diverts c retrievals accepted gone l r own) = stays_diverted laws c retrievals accepted gone l (stays_reached laws law c retrievals accepted gone r) own
-stays_reached laws law _ _ _ _ (rebalances c retrievals accepted gone r free) = stays_rebalanced laws c retrievals accepted gone (stays_reached laws law c retrievals accepted gone r) free
-stays_reached laws law _ _ _ _ (listens c d retrievals accepted gone l octets taken r did) =
+named : (laws : StepsKeepPlaces) (d : LinkSet) (retrievals : ℕ → List Msu) (accepted : List Msu) (gone : List Gone) → ((j : ℕ) → hand_at d j ≡ retrievals j) → Stays d retrievals accepted gone
+    → Stays d (hand_at d) accepted gone
+named laws d retrievals accepted gone same stays = same_retrievals laws d retrievals (hand_at d) accepted gone same stays
+
+stays_taken : (laws : StepsKeepPlaces) (c : LinkSet) (accepted : List Msu) (gone : List Gone) (l : ℕ) → Stays c (hand_at c) accepted gone → is_out_at (slice_get c.links l) ≡ true
+    → Stays (after_hand c l) (hand_at (after_hand c l)) accepted gone
+stays_taken laws c accepted gone l stays out =
+    let e : LinkSet = emptied c l in
+    let taken : Stays e (hand_at c) accepted gone = one_changes laws c (hand_at c) accepted gone l without_hand (λ k x. (refl, refl)) (λ k ms x. x) stays in
+    let went : Stays (after_taken e l (hand_at c l)) (with_retrieval_of (hand_at c) l (left_to_divert (diverted e.links e.table l (hand_at c l)))) accepted gone =
+    stays_diverted laws e (hand_at c) accepted gone l taken (out_emptied c l out) in
+    named laws (after_taken e l (hand_at c l)) (with_retrieval_of (hand_at c) l (left_to_divert (diverted e.links e.table l (hand_at c l)))) accepted gone
+    (λ j. hands_diverted (points_of e) c l j (went.fits l)) went
+
+stays_gone : (laws : StepsKeepPlaces) (c : LinkSet) (accepted : List Msu) (gone : List Gone) (l : ℕ) → Stays c (hand_at c) accepted gone
+    → Stays (after_divert c l) (hand_at (after_divert c l)) accepted gone
+unfolding after_divert
+stays_gone laws c accepted gone l stays =
+    by_test (λ (x : LinkSet). Stays x (hand_at x) accepted gone) (is_out_at (slice_get c.links l)) (after_hand c l) c (λ out. stays_taken laws c accepted gone l stays out) (λ e. stays)
+
+stays_reached : (laws : StepsKeepPlaces) (law : KeptLaw) (c : LinkSet) (accepted : List Msu) (gone : List Gone) → Reached c accepted gone → Stays c (hand_at c) accepted gone
+stays_reached laws law _ _ _ (opens own peer ts unused) = named laws (new_set own peer ts) (λ l. []) [] [] (hands_new own peer ts) (stays_new laws own peer ts unused)
+stays_reached laws law _ _ _ (sends c accepted gone m r free small) =
+    named laws (sent c m) (hand_at c) _ gone (hands_sent c m) (stays_sent laws c (hand_at c) accepted gone m (stays_reached laws law c accepted gone r) free small)
+stays_reached laws law _ _ _ (binds c accepted gone l m r free bound) =
+    named laws (bound_at c l m) (hand_at c) accepted gone (hands_bound c l m) (stays_bound laws c (hand_at c) accepted gone l m (stays_reached laws law c accepted gone r) bound)
+stays_reached laws law _ _ _ (fails c accepted gone l r free) =
+    named laws (after_failure c l) (hand_at c) accepted gone (hands_failed c l) (stays_failed laws c (hand_at c) accepted gone l (stays_reached laws law c accepted gone r))
+stays_reached laws law _ _ _ (hears c accepted gone m r) =
+    named laws (after_message c m) (hand_at c) accepted gone (hands_heard c m) (stays_heard laws c (hand_at c) accepted gone m (stays_reached laws law c accepted gone r))
+stays_reached laws law _ _ _ (retrieves c accepted gone l r free) =
+    named laws (after_retrieve c l) (with_retrieval_of (hand_at c) l (messages_for c l)) accepted _ (hands_retrieved c l)
+    (stays_retrieved laws law c (hand_at c) accepted gone l (stays_reached laws law c accepted gone r) free)
+stays_reached laws law _ _ _ (abandons c accepted gone l r free) =
+    named laws (after_abandon c l) (with_retrieval_of (hand_at c) l (unsent_at c l)) accepted _ (hands_abandoned c l)
+    (stays_abandoned laws law c (hand_at c) accepted gone l (stays_reached laws law c accepted gone r) free)
+stays_reached laws law _ _ _ (diverts c accepted gone l r) = stays_gone laws c accepted gone l (stays_reached laws law c accepted gone r)
+stays_reached laws law _ _ _ (rebalances c accepted gone r free) =
+    named laws (rebalanced c) (hand_at c) accepted gone (hands_rebalanced c) (stays_rebalanced laws c (hand_at c) accepted gone (stays_reached laws law c accepted gone r) free)
+stays_reached laws law _ _ _ (listens c d accepted gone l octets taken r did) =
     let was = did.at.was in
-    link_works laws (Listened octets taken) c d retrievals accepted gone l (unbound did.at.before.points was.took.gone) (stays_reached laws law c retrievals accepted gone r) did
+    named laws d (hand_at c) accepted _ (hands_by_link (Listened octets taken) l c d did was.hand)
+    (link_works laws (Listened octets taken) c d (hand_at c) accepted gone l (unbound did.at.before.points was.took.gone) (stays_reached laws law c accepted gone r) did
     (part_messages did.at.before did.at.after was.took.gone was.points was.took.loses.kept) was.points
-    (λ ms x. rw was.availability (fits_fewer (length (held did.at.before) - length (held did.at.after)) did.at.before.availability ms x))
-stays_reached laws law _ _ _ _ (speaks c d retrievals accepted gone l units octets r did) =
+    (λ ms x. rw was.availability (fits_fewer (length (held did.at.before) - length (held did.at.after)) did.at.before.availability ms x)))
+stays_reached laws law _ _ _ (speaks c d accepted gone l units octets r did) =
     let was = did.at.was in
-    link_keeps laws (Spoken units octets) c d retrievals accepted gone l (stays_reached laws law c retrievals accepted gone r) did (sym was.sends.kept) was.points
-    (same_changing did.at.after.availability did.at.before.availability was.availability) (same_failed did.at.after.availability did.at.before.availability was.availability)
-stays_reached laws law _ _ _ _ (gives c d retrievals accepted gone l unit r did) =
+    named laws d (hand_at c) accepted gone (hands_by_link (Spoken units octets) l c d did was.hand)
+    (link_keeps laws (Spoken units octets) c d (hand_at c) accepted gone l (stays_reached laws law c accepted gone r) did (sym was.sends.kept) was.points
+    (same_changing did.at.after.availability did.at.before.availability was.availability) (same_failed did.at.after.availability did.at.before.availability was.availability))
+stays_reached laws law _ _ _ (gives c d accepted gone l unit r did) =
     let was = did.at.was in
-    link_keeps laws (Sent unit) c d retrievals accepted gone l (stays_reached laws law c retrievals accepted gone r) did (sym was.sends.kept) was.points
-    (same_changing did.at.after.availability did.at.before.availability was.availability) (same_failed did.at.after.availability did.at.before.availability was.availability)
-stays_reached laws law _ _ _ _ (reports c d retrievals accepted gone l report r did) =
+    named laws d (hand_at c) accepted gone (hands_by_link (Sent unit) l c d did was.hand)
+    (link_keeps laws (Sent unit) c d (hand_at c) accepted gone l (stays_reached laws law c accepted gone r) did (sym was.sends.kept) was.points
+    (same_changing did.at.after.availability did.at.before.availability was.availability) (same_failed did.at.after.availability did.at.before.availability was.availability))
+stays_reached laws law _ _ _ (reports c d accepted gone l report r did) =
     let was = did.at.was in
-    link_keeps laws (Reported report) c d retrievals accepted gone l (stays_reached laws law c retrievals accepted gone r) did (sym (ap (λ (w : Window). w.kept) was.same)) was.points
-    (same_changing did.at.after.availability did.at.before.availability was.availability) (same_failed did.at.after.availability did.at.before.availability was.availability)
-stays_reached laws law _ _ _ _ (commands c d retrievals accepted gone l command r did) =
-    stays_commanded laws c d retrievals accepted gone l command (stays_reached laws law c retrievals accepted gone r) did
-stays_reached laws law _ _ _ _ (refuses c d retrievals accepted gone l command refusal r did) =
+    named laws d (hand_at c) accepted gone (hands_by_link (Reported report) l c d did was.hand)
+    (link_keeps laws (Reported report) c d (hand_at c) accepted gone l (stays_reached laws law c accepted gone r) did (sym (ap (λ (w : Window). w.kept) was.same)) was.points
+    (same_changing did.at.after.availability did.at.before.availability was.availability) (same_failed did.at.after.availability did.at.before.availability was.availability))
+stays_reached laws law _ _ _ (commands c d accepted gone l command r did) =
+    named laws d (hand_at c) accepted _ (hands_by_command command l c d did did.at.was.hand)
+    (stays_commanded laws c d (hand_at c) accepted gone l command (stays_reached laws law c accepted gone r) did)
+stays_reached laws law _ _ _ (refuses c d accepted gone l command refusal r did) =
     let was = did.at.was in
-    alone_keeps laws (Refused command refusal) c d retrievals accepted gone l (stays_reached laws law c retrievals accepted gone r) did (refused_held did.at.before did.at.after was.terminal) was.points
-    (same_changing did.at.after.availability did.at.before.availability was.availability) (same_failed did.at.after.availability did.at.before.availability was.availability)
-stays_reached laws law _ _ _ _ (ticks c retrievals accepted gone n r) = stays_ticked laws law c retrievals accepted gone n (stays_reached laws law c retrievals accepted gone r)
-stays_reached laws law _ _ _ _ (makes_room c retrievals accepted gone r) = stays_roomy laws c retrievals accepted gone (stays_reached laws law c retrievals accepted gone r)
-stays_reached laws law _ _ _ _ (lacks_room c d retrievals accepted gone r lacks) = stays_lacking laws c d retrievals accepted gone (stays_reached laws law c retrievals accepted gone r) lacks
-stays_reached laws law _ _ _ _ (admits c retrievals accepted gone l way r) = stays_admitted laws c retrievals accepted gone l way (stays_reached laws law c retrievals accepted gone r)
+    named laws d (hand_at c) accepted gone (hands_alone (Refused command refusal) l c d did was.hand)
+    (alone_keeps laws (Refused command refusal) c d (hand_at c) accepted gone l (stays_reached laws law c accepted gone r) did (refused_held did.at.before did.at.after was.terminal) was.points
+    (same_changing did.at.after.availability did.at.before.availability was.availability) (same_failed did.at.after.availability did.at.before.availability was.availability))
+stays_reached laws law _ _ _ (ticks c accepted gone n r) =
+    named laws (after_ticks n c) (hand_at c) accepted gone (hands_ticked n c) (stays_ticked laws law c (hand_at c) accepted gone n (stays_reached laws law c accepted gone r))
+stays_reached laws law _ _ _ (makes_room c accepted gone r) =
+    named laws (record c { links = with_room c.links }) (hand_at c) accepted gone (hands_roomy c) (stays_roomy laws c (hand_at c) accepted gone (stays_reached laws law c accepted gone r))
+stays_reached laws law _ _ _ (lacks_room c d accepted gone r lacks) =
+    named laws d (hand_at c) accepted gone (hands_lacking c d lacks) (stays_lacking laws c d (hand_at c) accepted gone (stays_reached laws law c accepted gone r) lacks)
+stays_reached laws law _ _ _ (admits c accepted gone l way r) =
+    named laws (after_admission c l way) (hand_at c) accepted gone (hands_admitted c l way) (stays_admitted laws c (hand_at c) accepted gone l way (stays_reached laws law c accepted gone r))
 
 pub each_in_one_place : StepsKeepPlaces → KeptLaw → EachInOnePlace
-each_in_one_place laws law = λ c retrievals accepted gone r. (stays_reached laws law c retrievals accepted gone r).places
+each_in_one_place laws law = λ c accepted gone r. (stays_reached laws law c accepted gone r).places
+
+-- ---- of one set
+
+pub accounted : EachInOnePlace → UnsureAreCounted → (c : LinkSet) → WasReached c → Accounted c
+accounted each unsure c was = record {
+  accepted = was.accepted;
+  gone = was.gone;
+  reached = was.reached;
+  one_place = each c was.accepted was.gone was.reached;
+  unsure_are = unsure c was.accepted was.gone was.reached;
+}

@@ -20,25 +20,25 @@ use Rattle.group_changeover.specs.declared.bound.Points.{Points}
 use Rattle.group_changeover.proofs.Unbound.{IsUnbound}
 use Rattle.group_members.specs.OneLink.{shares}
 use Rattle.group_members.specs.Links.{change}
-use Rattle.group_members.specs.Moving.{retrieval_by, retrieval_of, is_so_out, is_still, is_open, places_from, open_links, others, own_place, way, first_some, takers, is_own, holds_at, takes_on, Diversion, division, Diverted, moves, back_fault, back, gives_back, hands_over, ends_on, ends_at, keeps_at}
+use Rattle.group_members.specs.Moving.{retrieval_by, is_out_at, is_so_out, is_still, is_open, places_from, open_links, others, own_place, way, first_some, takers, is_own, holds_at, takes_on, Diversion, division, Diverted, moves, back_fault, back, gives_back, hands_over, ends_on, ends_at, keeps_at}
 use Rattle.link_group.specs.Set.{LinkSet, points_of}
-use Rattle.link_group.specs.Diverting.{Owns, diverted, after_by, after_divert}
-use Rattle.link_group.specs.Laws.{held_by, held_at, places_of}
-use Rattle.link_group.specs.Reached.{Gone, messages_gone, with_retrieval_of, left_by, left_to_divert}
-use Rattle.link_group.proofs.Calling.{retrieval_here, retrieval_other, no_retrieval}
+use Rattle.link_group.specs.Diverting.{diverted, settled_by, with_division, after_taken}
+use Rattle.link_group.specs.Laws.{held_by, held_at}
+use Rattle.link_group.specs.Reached.{Gone, messages_gone}
+use Rattle.link_group.proofs.Calling.{with_retrieval_of, retrieval_here, retrieval_other, no_retrieval}
 use Rattle.link_group.proofs.Diverting.{within, IsOut, IsOther, Others, Moving, Gone_on, takes_held, takes_availability, fits_takes, rest_small, rest_free, fits_retrieved_anew, moves_stay, all_gone}
 use Rattle.link_group.proofs.Fitting.{none_small, FitsAvailability, FitsLink, FitsAt, Fits, fits_there, fits_change}
 use Rattle.link_group.proofs.Getting.{change_here, change_other, held_changed}
 use Rattle.link_group.proofs.PlacingLaws.{link_at, holds_at_none, nothing, with_first}
-use Rattle.link_group.proofs.Staying.{Stays, placed, leaves}
+use Rattle.link_group.proofs.Staying.{places_with, Stays, placed, leaves}
 use Rattle.link_group.proofs.Working.{one_changes}
 
 -- ---- retrievals by another function, the same for each link
 
-same_retrievals : (laws : StepsKeepPlaces) (c : LinkSet) (retrievals new : ℕ → List Msu) (accepted : List Msu) (gone : List Gone) → ((l : ℕ) → new l ≡ retrievals l)
+pub same_retrievals : (laws : StepsKeepPlaces) (c : LinkSet) (retrievals new : ℕ → List Msu) (accepted : List Msu) (gone : List Gone) → ((l : ℕ) → new l ≡ retrievals l)
     → Stays c retrievals accepted gone → Stays c new accepted gone
 same_retrievals laws c retrievals new accepted gone same stays = record {
-  places = laws.placed_anew (places_of c retrievals accepted gone) (places_of c new accepted gone) stays.places
+  places = laws.placed_anew (places_with c retrievals accepted gone) (places_with c new accepted gone) stays.places
       (record { accepted = refl; gone = refl; held = λ l. refl; retrieval = same; link = λ s lt. inl refl });
   fits = λ l. subst (λ (ms : List Msu). FitsAt (points_of c) (slice_get c.links l) ms) (sym (same l)) (stays.fits l);
   table = stays.table;
@@ -143,9 +143,9 @@ takers_others p ks retrievals l own fits there changing =
 
 -- ---- whose retrieval it is
 
-out_by : (o : Option Changing) (counts : List ℕ) → retrieval_by o ≡ Some counts → (is_some o ≡ true) × (retrieval_by o ≡ None → ⊥)
-out_by None counts e = absurd (none_some e)
-out_by (Some c) counts e = (refl, λ x. none_some (sym x ∙ e))
+out_by : (o : Option Changing) → is_some (retrieval_by o) ≡ true → (is_some o ≡ true) × (retrieval_by o ≡ None → ⊥)
+out_by None e = let f : false ≡ true = e in cc
+out_by (Some c) e = (refl, λ x. let f : false ≡ true = ap is_some (sym x) ∙ e in cc)
 
 pub record Holder (c : LinkSet) (retrievals : ℕ → List Msu) (l : ℕ) : Type 0 where
   pub link : Link
@@ -153,15 +153,14 @@ pub record Holder (c : LinkSet) (retrievals : ℕ → List Msu) (l : ℕ) : Type
   pub changing : is_some link.availability.changing ≡ true
   pub out : retrieval_by link.availability.changing ≡ None → ⊥
 
-holder_by : (c : LinkSet) (retrievals : ℕ → List Msu) (l : ℕ) (o : Option Link) (counts : List ℕ) → Fits (points_of c) c.links retrievals → slice_get c.links l ≡ o → retrieval_of o ≡ Some counts → Holder c retrievals l
-holder_by c retrievals l None counts fits there e = absurd (none_some e)
-holder_by c retrievals l (Some k) counts fits there e =
-    let out = out_by k.availability.changing counts e in
+holder_by : (c : LinkSet) (retrievals : ℕ → List Msu) (l : ℕ) (o : Option Link) → slice_get c.links l ≡ o → is_out_at o ≡ true → Holder c retrievals l
+holder_by c retrievals l None there e = let f : false ≡ true = e in cc
+holder_by c retrievals l (Some k) there e =
+    let out = out_by k.availability.changing e in
     record { link = k; there = there; changing = out.0; out = out.1 }
 
-holder : (c : LinkSet) (retrievals : ℕ → List Msu) (l : ℕ) → Fits (points_of c) c.links retrievals → Owns c l (retrievals l) → Holder c retrievals l
-unfolding Owns
-holder c retrievals l fits own = holder_by c retrievals l (slice_get c.links l) (counts_of (retrievals l)) fits refl own
+holder : (c : LinkSet) (retrievals : ℕ → List Msu) (l : ℕ) → is_out_at (slice_get c.links l) ≡ true → Holder c retrievals l
+holder c retrievals l out = holder_by c retrievals l (slice_get c.links l) refl out
 
 -- ---- back to its own link
 
@@ -226,9 +225,20 @@ all_shared c retrievals accepted gone l w on = record {
 
 -- ---- the changeover ends, or what is left stays retrieved
 
+abbrev pub after_by : LinkSet → ℕ → Diversion → Option DivertFault → LinkSet
+after_by c l d o = with_division c (settled_by (takers l c.links) l d o)
+
+abbrev pub left_by : Option DivertFault → List Msu → List Msu
+left_by None ms = []
+left_by (Some fault) ms = ms
+
+-- what a diversion leaves retrieved
+abbrev pub left_to_divert : Diverted → List Msu
+left_to_divert d = left_by d.fault d.at.rest
+
 end_cases : (c : LinkSet) (retrievals : ℕ → List Msu) (accepted : List Msu) (gone : List Gone) (l s j : ℕ) (ls : List ℕ) (d : Diversion) (b : Bool)
     → ((j == l) && not (holds_at s (slice_get d.links l))) ≡ b
-    → ((if b then pick ls s else Some j) ≡ Some j) ⊎ (standing (places_of (within c d) (with_retrieval_of retrievals l []) accepted gone) s (Some j) ≡ [])
+    → ((if b then pick ls s else Some j) ≡ Some j) ⊎ (standing (places_with (within c d) (with_retrieval_of retrievals l []) accepted gone) s (Some j) ≡ [])
 end_cases c retrievals accepted gone l s j ls d false is = inl refl
 end_cases c retrievals accepted gone l s j ls d true is =
     let here : j ≡ l = equal_by j l (eqb_tells j l) (and_first (j == l) (not (holds_at s (slice_get d.links l))) is) in
@@ -240,7 +250,7 @@ end_cases c retrievals accepted gone l s j ls d true is =
     flip false e = refl
 
 end_links : (c : LinkSet) (retrievals : ℕ → List Msu) (accepted : List Msu) (gone : List Gone) (l s : ℕ) (ls : List ℕ) (d : Diversion) (was : Option ℕ)
-    → (ends_on ls l (slice_get d.links l) was s ≡ was) ⊎ (standing (places_of (within c d) (with_retrieval_of retrievals l []) accepted gone) s was ≡ [])
+    → (ends_on ls l (slice_get d.links l) was s ≡ was) ⊎ (standing (places_with (within c d) (with_retrieval_of retrievals l []) accepted gone) s was ≡ [])
 end_links c retrievals accepted gone l s ls d None = inl refl
 end_links c retrievals accepted gone l s ls d (Some j) = end_cases c retrievals accepted gone l s j ls d ((j == l) && not (holds_at s (slice_get d.links l))) refl
 
@@ -286,11 +296,11 @@ finish laws c retrievals accepted gone l d None whole m = ends laws c retrievals
 finish laws c retrievals accepted gone l d (Some fault) whole m =
     one_changes laws (within c d) (with_retrieval_of retrievals l d.rest) accepted gone l (keeps_at d.rest) (λ k e. (refl, refl)) (λ k ms x. fits_keeps (counts_of d.rest) k.availability ms x) m.stays
 
-pub stays_diverted : (laws : StepsKeepPlaces) (c : LinkSet) (retrievals : ℕ → List Msu) (accepted : List Msu) (gone : List Gone) (l : ℕ) → Stays c retrievals accepted gone → Owns c l (retrievals l)
-    → Stays (after_divert c l (retrievals l)) (with_retrieval_of retrievals l (left_to_divert (diverted c l (retrievals l)))) accepted gone
-unfolding after_divert diverted hands_over
+pub stays_diverted : (laws : StepsKeepPlaces) (c : LinkSet) (retrievals : ℕ → List Msu) (accepted : List Msu) (gone : List Gone) (l : ℕ) → Stays c retrievals accepted gone → is_out_at (slice_get c.links l) ≡ true
+    → Stays (after_taken c l (retrievals l)) (with_retrieval_of retrievals l (left_to_divert (diverted c.links c.table l (retrievals l)))) accepted gone
+unfolding diverted hands_over
 stays_diverted laws c retrievals accepted gone l stays own =
-    let h : Holder c retrievals l = holder c retrievals l stays.fits own in
+    let h : Holder c retrievals l = holder c retrievals l own in
     let ls : List ℕ = takers l c.links in
     let d : Diversion = division c.links c.table (retrievals l) in
     let start : Moving c retrievals accepted gone l d = record {

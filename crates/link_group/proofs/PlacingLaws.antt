@@ -1,5 +1,5 @@
 -- Selections get links: as a link first comes into service, and as a set is rebalanced.
-use Rattle.std.proofs.Common.{◌≡◌, ◌≢◌, ℕ, ◌+◌, ◌<◌, ◌==◌, zero, suc, Bool, true, false, cond, List, [], ◌∷◌, ◌++◌, Option, Some, None, map, refl, sym, ap, ◌∙◌, inl, inr, arith}
+use Rattle.std.proofs.Common.{◌≡◌, ◌≢◌, ℕ, ◌+◌, ◌<◌, ◌==◌, zero, suc, Bool, true, false, List, [], ◌∷◌, ◌++◌, Option, Some, None, map, refl, sym, ap, ◌∙◌, inl, inr, arith}
 use Rattle.std.specs.Prelude.{◌⊎◌, if◌then◌else◌, slice_get, option_map}
 use Rattle.std.specs.List.{list_any}
 use Rattle.std.proofs.lemmas.Bool.Decides.{eqb_tells}
@@ -11,7 +11,7 @@ use Rattle.resend_store.specs.declared.messages.Msu.{Msu}
 use Rattle.group_changeover.specs.Laws.{StepsKeepPlaces}
 use Rattle.group_changeover.specs.Limits.{SELECTIONS}
 use Rattle.group_changeover.specs.Places.{standing}
-use Rattle.group_changeover.specs.Sharing.{is_on, of, selections, entry_by, link_of, pick}
+use Rattle.group_changeover.specs.Sharing.{of, selections, entry_by, link_of, pick}
 use Rattle.group_changeover.specs.declared.bound.Points.{Points}
 use Rattle.group_changeover.proofs.Equal.{Same, same}
 use Rattle.group_changeover.proofs.Unbound.{none-of}
@@ -22,13 +22,13 @@ use Rattle.group_members.specs.OneLink.{held, messages, is_changing}
 use Rattle.group_members.specs.Moving.{holds, holds_at, able_links, anew_links}
 use Rattle.group_members.specs.Tables.{changing_by, changing_at, held_by_any, or_kept, anew_on, stands_in_way, in_way, any_below, forgiven}
 use Rattle.link_group.specs.Set.{LinkSet, points_of}
-use Rattle.link_group.specs.Placing.{placed_anew, rebalance_fault, rebalanced}
-use Rattle.link_group.specs.Laws.{held_by, held_at, places_of}
+use Rattle.link_group.specs.Placing.{table_anew, rebalance_fault, rebalanced}
+use Rattle.link_group.specs.Laws.{held_by, held_at}
 use Rattle.link_group.specs.Reached.{Gone}
 use Rattle.link_group.proofs.Calling.{no_retrieval}
 use Rattle.link_group.proofs.Fitting.{FitsAt, FitsLink, Fits, fits_map}
 use Rattle.link_group.proofs.Getting.{held_mapped}
-use Rattle.link_group.proofs.Staying.{Stays, placed}
+use Rattle.link_group.proofs.Staying.{places_with, Stays, placed}
 
 -- ---- a table of all selections
 
@@ -72,7 +72,7 @@ nothing s h g e f = rw (e, f, of-nil s) refl
 -- ---- made anew
 
 stands_none : (c : LinkSet) (retrievals : ℕ → List Msu) (accepted : List Msu) (gone : List Gone) (s : ℕ) (o : Option ℕ) → Stays c retrievals accepted gone
-    → changing_at c.links o ≡ false → held_by_any s c.links ≡ false → standing (places_of c retrievals accepted gone) s o ≡ []
+    → changing_at c.links o ≡ false → held_by_any s c.links ≡ false → standing (places_with c retrievals accepted gone) s o ≡ []
 stands_none c retrievals accepted gone s None stays still none = refl
 stands_none c retrievals accepted gone s (Some l) stays still none =
     nothing s (held_at c l) (retrievals l) (held_none s c.links l (slice_get c.links l) refl none) (retrieval_none (points_of c) (slice_get c.links l) (retrievals l) still (stays.fits l))
@@ -86,9 +86,12 @@ pub with_first : (x y z : Option ℕ) (P : Type 0) → x ≡ y → (y ≡ z) ⊎
 with_first x y z P e (inl f) = inl (e ∙ f)
 with_first x y z P e (inr p) = inr p
 
+abbrev pub placed_anew : LinkSet → LinkSet
+placed_anew c = record c { table = table_anew c.links c.table }
+
 pub stays_placed : (laws : StepsKeepPlaces) (c : LinkSet) (retrievals : ℕ → List Msu) (accepted : List Msu) (gone : List Gone) → Stays c retrievals accepted gone
     → Stays (placed_anew c) retrievals accepted gone
-unfolding placed_anew
+unfolding table_anew
 stays_placed laws c retrievals accepted gone stays =
     let ls : List ℕ = anew_links c.links in
     record {
@@ -114,13 +117,13 @@ below f (suc n) i e h =
     below_by f n i first (neither_second (any_below f n) (f n) e) h (same i n) (λ less. below f n i first less)
 
 same_links : (c : LinkSet) (retrievals : ℕ → List Msu) (accepted : List Msu) (gone : List Gone) (s : ℕ) (was new : Option ℕ) → ((l : ℕ) → retrievals l ≡ [])
-    → stands_in_way c.links s was new ≡ false → (new ≡ was) ⊎ (standing (places_of c retrievals accepted gone) s was ≡ [])
+    → stands_in_way c.links s was new ≡ false → (new ≡ was) ⊎ (standing (places_with c retrievals accepted gone) s was ≡ [])
 same_links c retrievals accepted gone s None new none e = inr refl
 same_links c retrievals accepted gone s (Some l) None none e = inr (nothing s (held_at c l) (retrievals l) (holds_at_none s (slice_get c.links l) e) (none l))
 same_links c retrievals accepted gone s (Some l) (Some t) none e = by (eqb_tells t l) e
   where
     by : ((t == l) ≡ true) × (t ≡ l) ⊎ ((t == l) ≡ false) × (t ≢ l) → (if t == l then false else holds_at s (slice_get c.links l)) ≡ false
-        → (Some t ≡ Some l) ⊎ (standing (places_of c retrievals accepted gone) s (Some l) ≡ [])
+        → (Some t ≡ Some l) ⊎ (standing (places_with c retrievals accepted gone) s (Some l) ≡ [])
     by (inl x) e = inl (ap (λ (n : ℕ). Some n) x.1)
     by (inr x) e =
         inr (nothing s (held_at c l) (retrievals l) (holds_at_none s (slice_get c.links l) (sym (ap (λ (b : Bool). if b then false else holds_at s (slice_get c.links l)) x.0) ∙ e)) (none l))

@@ -6,15 +6,25 @@ use Rattle.group_changeover.proofs.Lists.{of-nil}
 use Rattle.resend_store.specs.declared.messages.Msu.{Msu}
 use Rattle.group_changeover.specs.Limits.{SELECTIONS}
 use Rattle.group_changeover.specs.Laws.{StepsKeepPlaces}
-use Rattle.group_changeover.specs.Places.{standing, OnePlace}
+use Rattle.group_changeover.specs.Places.{Places, standing, OnePlace}
 use Rattle.group_changeover.specs.Sharing.{of, link_of}
 use Rattle.link_group.specs.Set.{LinkSet, points_of}
-use Rattle.link_group.specs.Laws.{held_at, places_of}
+use Rattle.link_group.specs.Laws.{held_at}
 use Rattle.link_group.specs.Reached.{Gone, acknowledged, messages_gone}
 use Rattle.link_group.proofs.Fitting.{Fits}
 
+-- where messages stand, with what is retrieved from each link
+abbrev pub places_with : LinkSet → (ℕ → List Msu) → List Msu → List Gone → Places
+places_with c retrievals accepted gone = record {
+  accepted = accepted;
+  gone = messages_gone gone;
+  held = held_at c;
+  retrieval = retrievals;
+  link = link_of c.table;
+}
+
 pub record Stays (c : LinkSet) (retrievals : ℕ → List Msu) (accepted : List Msu) (gone : List Gone) : Type 0 where
-  pub places : OnePlace (places_of c retrievals accepted gone)
+  pub places : OnePlace (places_with c retrievals accepted gone)
   pub fits : Fits (points_of c) c.links retrievals
   pub table : length c.table ≡ SELECTIONS
 
@@ -34,33 +44,33 @@ gone_none gone = append-nil gone
 -- ---- nothing moves
 
 pub quiet : (laws : StepsKeepPlaces) (c d : LinkSet) (retrievals : ℕ → List Msu) (accepted : List Msu) (gone : List Gone)
-    → ((l : ℕ) → held_at d l ≡ held_at c l) → d.table ≡ c.table → OnePlace (places_of c retrievals accepted gone) → OnePlace (places_of d retrievals accepted gone)
+    → ((l : ℕ) → held_at d l ≡ held_at c l) → d.table ≡ c.table → OnePlace (places_with c retrievals accepted gone) → OnePlace (places_with d retrievals accepted gone)
 quiet laws c d retrievals accepted gone held table places =
-    laws.placed_anew (places_of c retrievals accepted gone) (places_of d retrievals accepted gone) places
+    laws.placed_anew (places_with c retrievals accepted gone) (places_with d retrievals accepted gone) places
     (record { accepted = refl; gone = refl; held = held; retrieval = λ l. refl; link = λ s lt. inl (ap (λ (t : List (Option ℕ)). link_of t s) table) })
 
 -- ---- selections of which nothing stands get other links
 
 pub placed : (laws : StepsKeepPlaces) (c d : LinkSet) (retrievals : ℕ → List Msu) (accepted : List Msu) (gone : List Gone)
     → ((l : ℕ) → held_at d l ≡ held_at c l)
-    → ((s : ℕ) → s < SELECTIONS → (link_of d.table s ≡ link_of c.table s) ⊎ (standing (places_of c retrievals accepted gone) s (link_of c.table s) ≡ []))
-    → OnePlace (places_of c retrievals accepted gone) → OnePlace (places_of d retrievals accepted gone)
+    → ((s : ℕ) → s < SELECTIONS → (link_of d.table s ≡ link_of c.table s) ⊎ (standing (places_with c retrievals accepted gone) s (link_of c.table s) ≡ []))
+    → OnePlace (places_with c retrievals accepted gone) → OnePlace (places_with d retrievals accepted gone)
 placed laws c d retrievals accepted gone held links places =
-    laws.placed_anew (places_of c retrievals accepted gone) (places_of d retrievals accepted gone) places
+    laws.placed_anew (places_with c retrievals accepted gone) (places_with d retrievals accepted gone) places
     (record { accepted = refl; gone = refl; held = held; retrieval = λ l. refl; link = links })
 
 -- ---- messages come to one link, leave it, or go into its retrieval or back
 
 pub at_one : (laws : StepsKeepPlaces) (l : ℕ) (c d : LinkSet) (retrievals new : ℕ → List Msu) (accepted came left : List Msu) (gone more : List Gone)
-    → OnePlace (places_of c retrievals accepted gone)
+    → OnePlace (places_with c retrievals accepted gone)
     → messages_gone more ≡ messages_gone gone ++ left
     → ((s : ℕ) → s < SELECTIONS → (of s came ≡ []) ⊎ (link_of c.table s ≡ Some l))
     → held_at c l ++ retrievals l ++ came ≡ left ++ held_at d l ++ new l
     → (new l ≡ []) ⊎ (held_at d l ≡ [])
     → ((j : ℕ) → (j ≡ l → ⊥) → held_at d j ≡ held_at c j) → ((j : ℕ) → (j ≡ l → ⊥) → new j ≡ retrievals j) → d.table ≡ c.table
-    → OnePlace (places_of d new (accepted ++ came) more)
+    → OnePlace (places_with d new (accepted ++ came) more)
 at_one laws l c d retrievals new accepted came left gone more places marked own order apart held retrieval table =
-    laws.at_one_link l (places_of c retrievals accepted gone) (places_of d new (accepted ++ came) more) places
+    laws.at_one_link l (places_with c retrievals accepted gone) (places_with d new (accepted ++ came) more) places
     (record {
       came = came;
       left = left;
@@ -75,17 +85,17 @@ at_one laws l c d retrievals new accepted came left gone more places marked own 
     })
 
 -- the same where none comes: what was accepted is what was
-none_came : (accepted : List Msu) (c : LinkSet) (retrievals : ℕ → List Msu) (gone : List Gone) → OnePlace (places_of c retrievals (accepted ++ []) gone)
-    → OnePlace (places_of c retrievals accepted gone)
+none_came : (accepted : List Msu) (c : LinkSet) (retrievals : ℕ → List Msu) (gone : List Gone) → OnePlace (places_with c retrievals (accepted ++ []) gone)
+    → OnePlace (places_with c retrievals accepted gone)
 none_came accepted c retrievals gone places = rw (sym (append-nil accepted)) places
 
 pub leaves : (laws : StepsKeepPlaces) (l : ℕ) (c d : LinkSet) (retrievals new : ℕ → List Msu) (accepted left : List Msu) (gone more : List Gone)
-    → OnePlace (places_of c retrievals accepted gone)
+    → OnePlace (places_with c retrievals accepted gone)
     → messages_gone more ≡ messages_gone gone ++ left
     → held_at c l ++ retrievals l ≡ left ++ held_at d l ++ new l
     → (new l ≡ []) ⊎ (held_at d l ≡ [])
     → ((j : ℕ) → (j ≡ l → ⊥) → held_at d j ≡ held_at c j) → ((j : ℕ) → (j ≡ l → ⊥) → new j ≡ retrievals j) → d.table ≡ c.table
-    → OnePlace (places_of d new accepted more)
+    → OnePlace (places_with d new accepted more)
 leaves laws l c d retrievals new accepted left gone more places marked order apart held retrieval table =
     none_came accepted d new more
     (at_one laws l c d retrievals new accepted [] left gone more places marked (λ s lt. inl (of-nil s)) (append-nil (held_at c l ++ retrievals l) ∙ order) apart held retrieval table)

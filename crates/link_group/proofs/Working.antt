@@ -29,7 +29,7 @@ use Rattle.group_members.specs.Doing.{began, unbegun, leaves_out, anew, bound_to
 use Rattle.group_members.specs.Ticking.{roomy, passed}
 use Rattle.link_group.specs.Set.{LinkSet, points_of}
 use Rattle.link_group.specs.Changing.{after_failure, is_for, after_message}
-use Rattle.link_group.specs.Placing.{placed_anew}
+use Rattle.link_group.specs.Placing.{table_anew}
 use Rattle.link_group.specs.Lines.{seen, all_seen, after_admission, ByLink, Alone}
 use Rattle.link_group.specs.Ticks.{with_room, after_ticks, NoRoom}
 use Rattle.link_group.specs.Laws.{held_by, held_at}
@@ -115,14 +115,14 @@ unfolding seen
 stays_seen laws c retrievals accepted gone l stays =
     let d : LinkSet = record c { links = change c.links l asked } in
     let looked : Stays d retrievals accepted gone = one_changes laws c retrievals accepted gone l asked (λ k e. asked_alike k) fits_asked stays in
-    by_test (λ (x : LinkSet). Stays x retrievals accepted gone) (came_by (slice_get c.links l)) (placed_anew d) d (λ e. stays_placed laws d retrievals accepted gone looked) (λ e. looked)
+    by_test (λ (t : List (Option ℕ)). Stays (record d { table = t }) retrievals accepted gone) (came_by (slice_get c.links l)) (table_anew d.links c.table) c.table (λ e. stays_placed laws d retrievals accepted gone looked) (λ e. looked)
 
 stays_all_seen : (laws : StepsKeepPlaces) (c : LinkSet) (retrievals : ℕ → List Msu) (accepted : List Msu) (gone : List Gone) → Stays c retrievals accepted gone → Stays (all_seen c) retrievals accepted gone
 unfolding all_seen
 stays_all_seen laws c retrievals accepted gone stays =
     let d : LinkSet = record c { links = map asked c.links } in
     let looked : Stays d retrievals accepted gone = all_change laws c retrievals accepted gone asked asked_alike fits_asked stays in
-    by_test (λ (x : LinkSet). Stays x retrievals accepted gone) (list_any came_first c.links) (placed_anew d) d (λ e. stays_placed laws d retrievals accepted gone looked) (λ e. looked)
+    by_test (λ (t : List (Option ℕ)). Stays (record d { table = t }) retrievals accepted gone) (list_any came_first c.links) (table_anew d.links c.table) c.table (λ e. stays_placed laws d retrievals accepted gone looked) (λ e. looked)
 
 -- ---- level 3 admits a link
 
@@ -133,7 +133,7 @@ stays_admitted laws c retrievals accepted gone l way stays =
     let d : LinkSet = record c { links = change c.links l (admits_at way) } in
     let said : Stays d retrievals accepted gone =
     one_changes laws c retrievals accepted gone l (admits_at way) (λ k e. (refl, refl)) (λ k ms x. fits_alike k.availability (admits_at way k).availability ms refl refl x) stays in
-    by_test (λ (x : LinkSet). Stays x retrievals accepted gone) (admits_by way (slice_get c.links l)) (placed_anew d) d (λ e. stays_placed laws d retrievals accepted gone said) (λ e. said)
+    by_test (λ (t : List (Option ℕ)). Stays (record d { table = t }) retrievals accepted gone) (admits_by way (slice_get c.links l)) (table_anew d.links c.table) c.table (λ e. stays_placed laws d retrievals accepted gone said) (λ e. said)
 
 -- ---- a call of one terminal
 
@@ -240,7 +240,7 @@ stays_ticked laws law c retrievals accepted gone n stays =
 abbrev pub PartOf : (Link → Link) → Option Link → Option Link → Type 0
 PartOf f new old = (new ≡ option_map f old) ⊎ (new ≡ old)
 
-part_at : (f : Link → Link) (ks : List Link) (n j : ℕ) → PartOf f (slice_get (map f (take n ks) ++ drop n ks) j) (slice_get ks j)
+pub part_at : (f : Link → Link) (ks : List Link) (n j : ℕ) → PartOf f (slice_get (map f (take n ks) ++ drop n ks) j) (slice_get ks j)
 part_at f [] zero j = inr refl
 part_at f [] (suc n) j = inr refl
 part_at f (k ∷ ks) zero j = inr refl

@@ -1,30 +1,67 @@
--- Diversion (Q.704): the retrieved messages go to the other links.
-use Rattle.std.specs.Prelude.{◌≡◌, ℕ, List, map, Option, Some, None, slice_get}
+-- Diversion (Q.704): what a link handed out goes to the other links.
+use Rattle.std.specs.Prelude.{ℕ, if◌then◌else◌, List, length, map, Option, Some, None, slice_get}
 use Rattle.resend_store.specs.declared.messages.Msu.{Msu}
-use Rattle.group_changeover.specs.Sharing.{selections, counts_of, link_of}
+use Rattle.group_changeover.specs.Sharing.{selections, link_of}
 use Rattle.group_changeover.specs.declared.errors.DivertFault.{DivertFault}
-use Rattle.link_group.specs.Set.{LinkSet}
+use Rattle.group_members.specs.declared.link.Link.{Link}
 use Rattle.group_members.specs.Links.{change}
-use Rattle.group_members.specs.Moving.{Diversion, Diverted, retrieval_of, takers, division}
-use Rattle.group_members.specs.Moving.{hands_over, ends_on, ends_at, keeps_at}
+use Rattle.group_members.specs.Moving.{Diversion, Diverted, division, takers, hands_over}
+use Rattle.group_members.specs.Moving.{is_out_at, hand_by, without_hand, ends_on, ends_at, keeps_at}
+use Rattle.link_group.specs.declared.ending.DivertError.{DivertError}
+use Rattle.link_group.specs.declared.ending.DivertError.TheVariants as error
+use Rattle.link_group.specs.Set.{LinkSet}
 
--- a retrieval of that link is out, with so many messages of each selection
-unfoldable pub Owns : LinkSet → ℕ → List Msu → Type 0
-Owns c l ms = retrieval_of (slice_get c.links l) ≡ Some (counts_of ms)
+-- what becomes of messages that were taken out of the hand of a link
+unfoldable pub diverted : List Link → List (Option ℕ) → ℕ → List Msu → Diverted
+diverted ks ts l ms = hands_over (takers l ks) l (division ks ts ms)
 
-unfoldable pub diverted : LinkSet → ℕ → List Msu → Diverted
-diverted c l ms = hands_over (takers l c.links) l (division c.links c.table ms)
-
--- A retrieval that is wholly diverted ends the changeover; else what is left of it stays retrieved.
-abbrev pub after_by : LinkSet → ℕ → Diversion → Option DivertFault → LinkSet
-after_by c l d None = record c {
+-- Where all of them went, the changeover of the link ends; else what is left is its hand again.
+abbrev pub settled_by : List ℕ → ℕ → Diversion → Option DivertFault → Diversion
+settled_by ls l d None = record {
   links = change d.links l ends_at;
-  table = map
-      (λ s. ends_on (takers l c.links) l (slice_get d.links l) (link_of d.table s) s)
-      selections;
+  table = map (λ s. ends_on ls l (slice_get d.links l) (link_of d.table s) s) selections;
+  rest = d.rest;
 }
-after_by c l d (Some fault) =
-    record c { links = change d.links l (keeps_at d.rest); table = d.table }
+settled_by ls l d (Some fault) = record d { links = change d.links l (keeps_at d.rest) }
 
-unfoldable pub after_divert : LinkSet → ℕ → List Msu → LinkSet
-after_divert c l ms = after_by c l (diverted c l ms).at (diverted c l ms).fault
+abbrev pub settled : List Link → List (Option ℕ) → ℕ → List Msu → Diversion
+settled ks ts l ms =
+    settled_by (takers l ks) l (diverted ks ts l ms).at (diverted ks ts l ms).fault
+
+-- ---- of a set
+
+-- The messages that the link handed out are taken out of its hand.
+abbrev pub emptied : LinkSet → ℕ → LinkSet
+emptied c l = record c { links = change c.links l without_hand }
+
+abbrev pub with_division : LinkSet → Diversion → LinkSet
+with_division c d = record c { links = d.links; table = d.table }
+
+-- what becomes of a set once these were taken out
+abbrev pub after_taken : LinkSet → ℕ → List Msu → LinkSet
+after_taken c l ms = with_division c (settled c.links c.table l ms)
+
+abbrev pub after_hand : LinkSet → ℕ → LinkSet
+after_hand c l = after_taken (emptied c l) l (hand_by (slice_get c.links l))
+
+-- Where it handed nothing out, nothing changes.
+unfoldable pub after_divert : LinkSet → ℕ → LinkSet
+after_divert c l = if is_out_at (slice_get c.links l) then after_hand c l else c
+
+abbrev pub left_by : Diversion → Option DivertFault → Option DivertError
+left_by d None = None
+left_by d (Some fault) = Some (error.Left fault (length d.rest))
+
+-- why some are left, and how many
+abbrev pub left_fault : Diverted → Option DivertError
+left_fault d = left_by d.at d.fault
+
+abbrev pub divert_fault_by : LinkSet → ℕ → Option Link → Option DivertError
+divert_fault_by c l None = Some error.NoLink
+divert_fault_by c l (Some k) =
+    if is_out_at (Some k) then left_fault (diverted (emptied c l).links c.table l k.hand)
+    else Some error.Waiting
+
+-- K1 without the link, K2 where it handed nothing out, else why some are left
+unfoldable pub divert_fault : LinkSet → ℕ → Option DivertError
+divert_fault c l = divert_fault_by c l (slice_get c.links l)

@@ -1,7 +1,8 @@
+pub mod Along
 pub mod Changing
 pub mod Diverting
-pub mod Ending
-pub mod Holding
+pub mod Ends
+pub mod Joined
 pub mod Laws
 pub mod Lines
 pub mod New

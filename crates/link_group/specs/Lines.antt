@@ -1,6 +1,5 @@
 -- What a set does by one of its terminals, and what it makes of a link that comes into service.
-use Rattle.std.specs.Prelude.{◌≡◌, ℕ, ◌+◌, ◌-◌, ◌^◌, min, ◌≤◌, Bool, if◌then◌else◌, List, length}
-use Rattle.std.specs.Prelude.{map, slice_get}
+use Rattle.std.specs.Prelude.{◌≡◌, ℕ, ◌+◌, ◌-◌, ◌^◌, min, ◌≤◌, Bool, List, length, map, slice_get}
 use Rattle.std.specs.List.{list_any}
 use Rattle.group_members.specs.declared.link.Link.{Link}
 use Rattle.link_group.specs.Set.{LinkSet}
@@ -9,7 +8,7 @@ use Rattle.link_processes.specs.declared.commands.Command.{Command}
 use Rattle.group_members.specs.declared.commanding.CommandError.{CommandError}
 use Rattle.group_members.specs.declared.commanding.CommandError.TheVariants as error
 use Rattle.group_members.specs.Commanding.{cleared_at, Commanded, Barred, Refused, Lacks}
-use Rattle.link_group.specs.Placing.{placed_anew}
+use Rattle.link_group.specs.Placing.{table_if}
 use Rattle.group_members.specs.Doing.{AtLink, asked, came_first, came_by, admits_at, admits_by}
 
 -- ---- a link comes into service
@@ -17,13 +16,17 @@ use Rattle.group_members.specs.Doing.{AtLink, asked, came_first, came_by, admits
 -- As a link is in service, not held, and admitted for the first time, the table is made anew.
 unfoldable pub seen : ℕ → LinkSet → LinkSet
 seen l c =
-    if came_by (slice_get c.links l) then placed_anew (record c { links = change c.links l asked })
-    else record c { links = change c.links l asked }
+    record c {
+      links = change c.links l asked;
+      table = table_if (came_by (slice_get c.links l)) (change c.links l asked) c.table;
+    }
 
 unfoldable pub all_seen : LinkSet → LinkSet
 all_seen c =
-    if list_any came_first c.links then placed_anew (record c { links = map asked c.links })
-    else record c { links = map asked c.links }
+    record c {
+      links = map asked c.links;
+      table = table_if (list_any came_first c.links) (map asked c.links) c.table;
+    }
 
 -- ---- level 3 admits a link
 
@@ -31,9 +34,11 @@ all_seen c =
 -- the table is made anew.
 unfoldable pub after_admission : LinkSet → ℕ → Bool → LinkSet
 after_admission c l way =
-    if admits_by way (slice_get c.links l)
-    then placed_anew (record c { links = change c.links l (admits_at way) })
-    else record c { links = change c.links l (admits_at way) }
+    record c {
+      links = change c.links l (admits_at way);
+      table =
+          table_if (admits_by way (slice_get c.links l)) (change c.links l (admits_at way)) c.table;
+    }
 
 -- ---- a call of one terminal
 

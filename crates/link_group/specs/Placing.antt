@@ -1,19 +1,23 @@
 -- Selections get links: as a link may first have some, and as a set is rebalanced.
-use Rattle.std.specs.Prelude.{true, if◌then◌else◌, map, Option, Some, None}
+use Rattle.std.specs.Prelude.{ℕ, Bool, true, if◌then◌else◌, List, map, Option, Some, None}
 use Rattle.std.specs.List.{list_any}
 use Rattle.group_changeover.specs.Limits.{SELECTIONS}
 use Rattle.group_changeover.specs.Sharing.{selections, pick}
 use Rattle.group_changeover.specs.declared.errors.RebalanceError.{RebalanceError}
 use Rattle.group_changeover.specs.declared.errors.RebalanceError.TheVariants as rebalance
+use Rattle.group_members.specs.declared.link.Link.{Link}
 use Rattle.group_members.specs.OneLink.{is_changing}
 use Rattle.link_group.specs.Set.{LinkSet}
 use Rattle.group_members.specs.Moving.{able_links, anew_links}
 use Rattle.group_members.specs.Tables.{anew_on, in_way, any_below, forgiven}
 
 -- the table made anew
-unfoldable pub placed_anew : LinkSet → LinkSet
-placed_anew c =
-    record c { table = map (anew_on c.links c.table (anew_links c.links)) selections }
+unfoldable pub table_anew : List Link → List (Option ℕ) → List (Option ℕ)
+table_anew ks ts = map (anew_on ks ts (anew_links ks)) selections
+
+-- as a link may have selections for the first time
+abbrev pub table_if : Bool → List Link → List (Option ℕ) → List (Option ℕ)
+table_if first ks ts = if first then table_anew ks ts else ts
 
 -- ---- rebalancing
 

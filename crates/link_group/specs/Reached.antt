@@ -1,6 +1,6 @@
--- What a set comes to over a list of calls, with the retrievals that the caller holds, the messages
--- that were accepted, and those that have left.
-use Rattle.std.specs.Prelude.{◌≡◌, ℕ, ◌<◌, ◌==◌, if◌then◌else◌, Bool, true, false, List, [], ◌∷◌}
+-- What a set comes to over a list of calls, the messages that were accepted, and those that have
+-- left.
+use Rattle.std.specs.Prelude.{◌≡◌, ℕ, ◌<◌, Bool, true, false, List, [], ◌∷◌}
 use Rattle.std.specs.Prelude.{◌++◌, All, map, take, Option, Some, None, slice_get}
 use Rattle.resend_store.specs.declared.messages.Msu.{Msu}
 use Rattle.resend_store.specs.Window.{unacknowledged}
@@ -12,19 +12,16 @@ use Rattle.group_changeover.specs.Sharing.{selection_of}
 use Rattle.actor_machine.specs.declared.reply.Refusal.{Refusal}
 use Rattle.link_processes.specs.declared.commands.Command.{Command}
 use Rattle.group_members.specs.Term.{Term}
-use Rattle.group_changeover.specs.declared.errors.DivertFault.{DivertFault}
 use Rattle.group_members.specs.declared.link.Link.{Link}
 use Rattle.group_members.specs.OneLink.{window, held, accepted_of}
 use Rattle.group_members.specs.New.{IsUnused}
-use Rattle.group_members.specs.Moving.{Diverted}
 use Rattle.group_members.specs.Doing.{Listened, Spoken, Sent, Reported}
 use Rattle.group_members.specs.Commanding.{cleared_at, Refused}
 use Rattle.group_changeover.specs.Bound.{is_bound, unbound}
 use Rattle.link_group.specs.Set.{LinkSet, points_of, send_fault, sent, bind_fault_at, bound_at}
 use Rattle.link_group.specs.Changing.{fail_fault, after_failure, after_message, retrieve_fault_at}
-use Rattle.link_group.specs.Changing.{after_retrieve, messages_for, abandon_fault_at, after_abandon}
-use Rattle.link_group.specs.Changing.{unsent_at}
-use Rattle.link_group.specs.Diverting.{Owns, diverted, after_divert}
+use Rattle.link_group.specs.Changing.{after_retrieve, abandon_fault_at, after_abandon}
+use Rattle.link_group.specs.Diverting.{after_divert}
 use Rattle.link_group.specs.Placing.{rebalance_fault, rebalanced}
 use Rattle.link_group.specs.Lines.{ByLink, ByCommand, Alone, after_admission}
 use Rattle.link_group.specs.Ticks.{with_room, after_ticks, NoRoom}
@@ -44,10 +41,6 @@ unsure ms = map (λ m. record { message = m; unsure = true }) ms
 abbrev pub messages_gone : List Gone → List Msu
 messages_gone gone = map (λ g. g.message) gone
 
--- the retrievals that are out, by the link that handed them out
-abbrev pub with_retrieval_of : (ℕ → List Msu) → ℕ → List Msu → ℕ → List Msu
-with_retrieval_of retrievals l ms j = if j == l then ms else retrievals j
-
 abbrev pub first_of : Option ℕ → List Msu → List Msu
 first_of None ms = []
 first_of (Some n) ms = take n ms
@@ -61,103 +54,71 @@ abbrev pub unacknowledged_at : Option Link → List Msu
 unacknowledged_at None = []
 unacknowledged_at (Some k) = unbound k.points (unacknowledged (window k))
 
-abbrev pub left_by : Option DivertFault → List Msu → List Msu
-left_by None ms = []
-left_by (Some fault) ms = ms
-
--- what a diversion leaves retrieved
-abbrev pub left_to_divert : Diverted → List Msu
-left_to_divert d = left_by d.fault d.at.rest
-
 -- Each call is what its contract says of the set before and behind it. A call that is refused and
 -- changes nothing is none.
-pub data Reached : LinkSet → (ℕ → List Msu) → List Msu → List Gone → Type 0 where
-  opens : (own peer : ℕ) (ts : List Term) → All IsUnused ts
-      → Reached (new_set own peer ts) (λ l. []) [] []
-  sends : (c : LinkSet) (retrievals : ℕ
-      → List Msu) (accepted : List Msu) (gone : List Gone) (m : Msu)
-      → Reached c retrievals accepted gone
-      → send_fault c m ≡ None → selection_of m < SELECTIONS
-      → Reached (sent c m) retrievals (accepted ++ m ∷ []) gone
+pub data Reached : LinkSet → List Msu → List Gone → Type 0 where
+  opens :
+      (own peer : ℕ) (ts : List Term) → All IsUnused ts → Reached (new_set own peer ts) [] []
+  sends : (c : LinkSet) (accepted : List Msu) (gone : List Gone) (m : Msu)
+      → Reached c accepted gone → send_fault c m ≡ None → selection_of m < SELECTIONS
+      → Reached (sent c m) (accepted ++ m ∷ []) gone
   -- a message that is bound to a link is none of those that were accepted
-  binds : (c : LinkSet) (retrievals : ℕ → List Msu) (accepted : List Msu) (gone : List Gone)
-      (l : ℕ) (m : Msu)
-      → Reached c retrievals accepted gone
-      → bind_fault_at c l ≡ None → is_bound (points_of c) m ≡ true
-      → Reached (bound_at c l m) retrievals accepted gone
-  fails : (c : LinkSet) (retrievals : ℕ → List Msu) (accepted : List Msu) (gone : List Gone) (l : ℕ)
-      → Reached c retrievals accepted gone
-      → fail_fault c l ≡ None → Reached (after_failure c l) retrievals accepted gone
-  hears : (c : LinkSet) (retrievals : ℕ
-      → List Msu) (accepted : List Msu) (gone : List Gone) (m : Option Changeover)
-      → Reached c retrievals accepted gone
-      → Reached (after_message c m) retrievals accepted gone
-  retrieves :
-      (c : LinkSet) (retrievals : ℕ → List Msu) (accepted : List Msu) (gone : List Gone) (l : ℕ)
-      → Reached c retrievals accepted gone
-      → retrieve_fault_at c l ≡ None
-      → Reached (after_retrieve c l) (with_retrieval_of retrievals l (messages_for c l)) accepted
+  binds : (c : LinkSet) (accepted : List Msu) (gone : List Gone) (l : ℕ) (m : Msu)
+      → Reached c accepted gone → bind_fault_at c l ≡ None → is_bound (points_of c) m ≡ true
+      → Reached (bound_at c l m) accepted gone
+  fails : (c : LinkSet) (accepted : List Msu) (gone : List Gone) (l : ℕ)
+      → Reached c accepted gone → fail_fault c l ≡ None → Reached (after_failure c l) accepted gone
+  hears : (c : LinkSet) (accepted : List Msu) (gone : List Gone) (m : Option Changeover)
+      → Reached c accepted gone → Reached (after_message c m) accepted gone
+  retrieves : (c : LinkSet) (accepted : List Msu) (gone : List Gone) (l : ℕ)
+      → Reached c accepted gone → retrieve_fault_at c l ≡ None
+      → Reached (after_retrieve c l) accepted
       (gone ++ acknowledged (told_front (slice_get c.links l)))
-  abandons : (c : LinkSet) (retrievals : ℕ
-      → List Msu) (accepted : List Msu) (gone : List Gone) (l : ℕ)
-      → Reached c retrievals accepted gone
-      → abandon_fault_at c l ≡ None
-      → Reached (after_abandon c l) (with_retrieval_of retrievals l (unsent_at c l)) accepted (gone
-      ++ unsure (unacknowledged_at (slice_get c.links l)))
-  diverts : (c : LinkSet) (retrievals : ℕ
-      → List Msu) (accepted : List Msu) (gone : List Gone) (l : ℕ)
-      → Reached c retrievals accepted gone
-      → Owns c l (retrievals l)
-      → Reached (after_divert c l (retrievals l))
-      (with_retrieval_of retrievals l (left_to_divert (diverted c l (retrievals l)))) accepted
-      gone
-  rebalances :
-      (c : LinkSet) (retrievals : ℕ → List Msu) (accepted : List Msu) (gone : List Gone)
-      → Reached c retrievals accepted gone
-      → rebalance_fault c ≡ None → Reached (rebalanced c) retrievals accepted gone
-  listens : (c d : LinkSet) (retrievals : ℕ
-      → List Msu) (accepted : List Msu) (gone : List Gone) (l : ℕ) (octets : List ℕ) (taken : ℕ)
-      → Reached c retrievals accepted gone
-      → (did : ByLink (Listened octets taken) l c d)
-      → Reached d retrievals accepted
+  abandons : (c : LinkSet) (accepted : List Msu) (gone : List Gone) (l : ℕ)
+      → Reached c accepted gone → abandon_fault_at c l ≡ None
+      → Reached (after_abandon c l) accepted
+      (gone ++ unsure (unacknowledged_at (slice_get c.links l)))
+  diverts : (c : LinkSet) (accepted : List Msu) (gone : List Gone) (l : ℕ)
+      → Reached c accepted gone → Reached (after_divert c l) accepted gone
+  rebalances : (c : LinkSet) (accepted : List Msu) (gone : List Gone)
+      → Reached c accepted gone → rebalance_fault c ≡ None → Reached (rebalanced c) accepted gone
+  listens :
+      (c d : LinkSet) (accepted : List Msu) (gone : List Gone) (l : ℕ)
+      (octets : List ℕ) (taken : ℕ)
+      → Reached c accepted gone → (did : ByLink (Listened octets taken) l c d)
+      → Reached d accepted
       (gone ++ acknowledged (unbound did.at.before.points did.at.was.took.gone))
-  speaks : (c d : LinkSet) (retrievals : ℕ
-      → List Msu) (accepted : List Msu) (gone : List Gone) (l units : ℕ) (octets : List ℕ)
-      → Reached c retrievals accepted gone
-      → ByLink (Spoken units octets) l c d → Reached d retrievals accepted gone
-  gives : (c d : LinkSet) (retrievals : ℕ
-      → List Msu) (accepted : List Msu) (gone : List Gone) (l : ℕ) (unit : Option Unit)
-      → Reached c retrievals accepted gone
-      → ByLink (Sent unit) l c d → Reached d retrievals accepted gone
-  reports : (c d : LinkSet) (retrievals : ℕ
-      → List Msu) (accepted : List Msu) (gone : List Gone) (l : ℕ) (report : Option Report)
-      → Reached c retrievals accepted gone
-      → ByLink (Reported report) l c d → Reached d retrievals accepted gone
-  commands : (c d : LinkSet) (retrievals : ℕ
-      → List Msu) (accepted : List Msu) (gone : List Gone) (l : ℕ) (command : Command)
-      → Reached c retrievals accepted gone
-      → ByCommand command l c d
-      → Reached d retrievals accepted (gone ++ unsure (cleared_at command (slice_get c.links l)))
+  speaks :
+      (c d : LinkSet) (accepted : List Msu) (gone : List Gone) (l units : ℕ) (octets : List ℕ)
+      → Reached c accepted gone → ByLink (Spoken units octets) l c d → Reached d accepted gone
+  gives :
+      (c d : LinkSet) (accepted : List Msu) (gone : List Gone) (l : ℕ) (unit : Option Unit)
+      → Reached c accepted gone → ByLink (Sent unit) l c d → Reached d accepted gone
+  reports :
+      (c d : LinkSet) (accepted : List Msu) (gone : List Gone) (l : ℕ) (report : Option Report)
+      → Reached c accepted gone → ByLink (Reported report) l c d → Reached d accepted gone
+  commands :
+      (c d : LinkSet) (accepted : List Msu) (gone : List Gone) (l : ℕ) (command : Command)
+      → Reached c accepted gone → ByCommand command l c d
+      → Reached d accepted (gone ++ unsure (cleared_at command (slice_get c.links l)))
   -- the terminal refuses it, and may have made room
-  refuses : (c d : LinkSet) (retrievals : ℕ
-      → List Msu) (accepted :
-      List Msu) (gone : List Gone) (l : ℕ) (command : Command) (refusal : Refusal)
-      → Reached c retrievals accepted gone
-      → Alone (Refused command refusal) l c d → Reached d retrievals accepted gone
-  ticks : (c : LinkSet) (retrievals : ℕ → List Msu) (accepted : List Msu) (gone : List Gone) (n : ℕ)
-      → Reached c retrievals accepted gone
-      → Reached (after_ticks n c) retrievals accepted gone
+  refuses :
+      (c d : LinkSet) (accepted : List Msu) (gone : List Gone) (l : ℕ)
+      (command : Command) (refusal : Refusal)
+      → Reached c accepted gone → Alone (Refused command refusal) l c d → Reached d accepted gone
+  ticks : (c : LinkSet) (accepted : List Msu) (gone : List Gone) (n : ℕ)
+      → Reached c accepted gone → Reached (after_ticks n c) accepted gone
   -- a tick is refused once there is room on each link, or for want of memory
-  makes_room :
-      (c : LinkSet) (retrievals : ℕ → List Msu) (accepted : List Msu) (gone : List Gone)
-      → Reached c retrievals accepted gone
-      → Reached (record c { links = with_room c.links }) retrievals accepted gone
-  lacks_room :
-      (c d : LinkSet) (retrievals : ℕ → List Msu) (accepted : List Msu) (gone : List Gone)
-      → Reached c retrievals accepted gone
-      → NoRoom c d → Reached d retrievals accepted gone
-  admits :
-      (c : LinkSet) (retrievals : ℕ
-      → List Msu) (accepted : List Msu) (gone : List Gone) (l : ℕ) (way : Bool)
-      → Reached c retrievals accepted gone
-      → Reached (after_admission c l way) retrievals accepted gone
+  makes_room : (c : LinkSet) (accepted : List Msu) (gone : List Gone)
+      → Reached c accepted gone → Reached (record c { links = with_room c.links }) accepted gone
+  lacks_room : (c d : LinkSet) (accepted : List Msu) (gone : List Gone)
+      → Reached c accepted gone → NoRoom c d → Reached d accepted gone
+  admits : (c : LinkSet) (accepted : List Msu) (gone : List Gone) (l : ℕ) (way : Bool)
+      → Reached c accepted gone → Reached (after_admission c l way) accepted gone
+
+-- A set that is what a list of calls from a new one makes of it, with what was accepted and what
+-- has left.
+pub record WasReached (c : LinkSet) : Type 0 where
+  pub accepted : List Msu
+  pub gone : List Gone
+  pub reached : Reached c accepted gone

@@ -1,69 +1,64 @@
-//! Diversion of a retrieval.
-ghost use Rattle.std.specs.Prelude.{◌≡◌, ◌↔◌, ◌<◌, IsTrue, All, IfErr, Some, None};
+//! Diversion of what a link handed out.
+ghost use Rattle.std.specs.Prelude.{◌≡◌, ◌≤◌, All, length};
 ghost use Rattle.resend_store.specs.Messages.{IsMessage};
+ghost use Rattle.group_members.specs.Limits.{MOST_LINKS};
 ghost use Rattle.group_members.specs.OneLink.{fault_of};
-ghost use Rattle.group_members.specs.Moving.{retrieval_of, takers};
-ghost use Rattle.link_group.specs.Diverting.{Owns, diverted, after_divert};
-ghost use Rattle.link_group.specs.Ending.{fault_in};
+ghost use Rattle.link_group.specs.Diverting.{diverted, settled, left_fault, divert_fault, after_divert};
 
 use crate::group::Group;
-use crate::retrieved::Retrieved;
-use group_changeover::counts_of;
+use group_changeover::Table;
 use group_members::{
-    DivertFault, Msu, divert_all, end_at, end_table, keep_at, retrieval_of, takers,
+    DivertFault, Link, Msu, divert_all, end_at, end_table, hand_back, take_hand, takers,
 };
 use std::collections::VecDeque;
 
-/// Why retrieved messages weren't all diverted, and those that are not diverted yet.
-pub struct DivertError {
-    /// Why the first selection that is left doesn't go.
-    pub fault: DivertFault,
-    /// What is left.
-    pub rest: Retrieved,
+/// Why the messages of a link weren't diverted, or not all of them.
+#[derive(Clone, Copy, Debug, PartialEq, Eq)]
+pub enum DivertError {
+    /// There is no such link.
+    NoLink,
+    /// None of its messages are handed out.
+    Waiting,
+    /// Some are not diverted yet.
+    Left {
+        /// Why the first selection that is left doesn't go.
+        fault: DivertFault,
+        /// How many messages are left.
+        left: usize,
+    },
+}
+
+/// Diverts messages that were taken out of the hand of a link, and ends its changeover where all of them went; its hand has what is left.
+#[tactic(auto, unfolding(crate::specs::Diverting::diverted))]
+fn divert_from(
+    links: &mut [Link],
+    table: &mut Table,
+    at: usize,
+    mut messages: VecDeque<Msu>,
+) -> Result<(), DivertError>
+    requires few { length links.old ≤ MOST_LINKS }
+    requires whole { All IsMessage messages.items }
+    ensures fault { fault_of result ≡ left_fault (diverted links.old table.old.links at messages.items) }
+    ensures links { links.new ≡ (settled links.old table.old.links at messages.items).links }
+    ensures table { table.new.links ≡ (settled links.old table.old.links at messages.items).table }
+{
+    let able = takers(links, at);
+    match divert_all(links, table, able.as_slice(), at, &mut messages) {
+        Ok(()) => {
+            *table = end_table(links, table, able.as_slice(), at);
+            end_at(links, at);
+            Ok(())
+        }
+        Err(fault) => {
+            let left = messages.len();
+            hand_back(links, at, messages);
+            Err(DivertError::Left { fault, left })
+        }
+    }
 }
 
 impl Group {
-    /// Whether it gave these messages: their link, and how many there are of each selection, are those of a retrieval that is out.
-    #[tactic(auto, unfolding(crate::specs::Diverting::Owns))]
-    pub fn owns(&self, retrieved: &Retrieved) -> bool
-        ensures { IsTrue result ↔ Owns self.now retrieved.now.link retrieved.now.messages.items }
-    {
-        match retrieval_of(self.links.as_slice(), retrieved.link) {
-            Some(counts) => counts == counts_of(&retrieved.messages),
-            None => false,
-        }
-    }
-
-    /// Diverts a retrieval, and ends the changeover where all of it went.
-    #[tactic(auto, unfolding(crate::specs::Diverting::diverted, crate::specs::Diverting::after_divert))]
-    fn divert_all(&mut self, at: usize, messages: &mut VecDeque<Msu>) -> Result<(), DivertFault>
-        requires { All IsMessage messages.old.items }
-        ensures fault { fault_of result ≡ (diverted self.old at messages.old.items).fault }
-        ensures rest { messages.new.items ≡ (diverted self.old at messages.old.items).at.rest }
-        ensures set { self.new ≡ after_divert self.old at messages.old.items }
-        ensures whole { All IsMessage messages.new.items }
-    {
-        let able = takers(self.links.as_slice(), at);
-        match divert_all(
-            self.links.as_mut_slice(),
-            &mut self.table,
-            able.as_slice(),
-            at,
-            messages,
-        ) {
-            Ok(()) => {
-                self.table = end_table(self.links.as_slice(), &self.table, able.as_slice(), at);
-                end_at(self.links.as_mut_slice(), at);
-                Ok(())
-            }
-            Err(fault) => {
-                keep_at(self.links.as_mut_slice(), at, messages);
-                Err(fault)
-            }
-        }
-    }
-
-    /// Diverts retrieved messages (Q.704, diversion of traffic): of one selection after another, from 0 up, all go in order to the link that the
+    /// Diverts what a link handed out (Q.704, diversion of traffic): of one selection after another, from 0 up, all go in order to the link that the
     /// selection has among the others that may take them; `send` takes the selection's messages there from then on. May take them: a link that is
     /// in service, not held, admitted and not in changeover. Those that never failed do so; where there are none, those that failed; and where
     /// there are none of these either, all go back to their own link, if that is in service, not held and admitted. So it is among the links
@@ -72,22 +67,22 @@ impl Group {
     ///
     /// # Errors
     ///
-    /// `K1 NoLink` where no link may take them, their own neither; `E1 Full` where the link of a selection would hold more than 1,151: none of that
-    /// selection went, nor of those behind it (of a retrieval that is to go back, none at all). With the fault comes what is not diverted yet.
-    pub fn divert(&mut self, retrieved: Retrieved) -> Result<(), DivertError>
-        requires { Owns self.old retrieved.link retrieved.messages.items }
-        ensures fault { fault_in result ≡ (diverted self.old retrieved.link retrieved.messages.items).fault }
-        ensures rest { IfErr result (λ e. e.rest.messages.items ≡ (diverted self.old retrieved.link retrieved.messages.items).at.rest) }
-        ensures link { IfErr result (λ e. e.rest.link ≡ retrieved.link) }
-        ensures set { self.new ≡ after_divert self.old retrieved.link retrieved.messages.items }
+    /// `K1 NoLink` where the link isn't there, `K2 Waiting` where its messages aren't handed out: nothing changes. Then, with how many messages are
+    /// left: `K1 NoLink` where no link may take them, their own neither; `E1 Full` where the link of a selection would hold more than 1,151: none of that
+    /// selection went, nor of those behind it (of messages that are to go back, none at all). What is left the link hands out still.
+    #[tactic(auto, unfolding(crate::specs::Diverting::divert_fault, crate::specs::Diverting::after_divert))]
+    pub fn divert(&mut self, link: usize) -> Result<(), DivertError>
+        ensures fault { fault_of result ≡ divert_fault self.old link }
+        ensures set { self.new ≡ after_divert self.old link }
     {
-        let Retrieved { link, mut messages } = retrieved;
-        match self.divert_all(link, &mut messages) {
-            Ok(()) => Ok(()),
-            Err(fault) => Err(DivertError {
-                fault,
-                rest: Retrieved { link, messages },
-            }),
+        if link >= self.links.len() {
+            return Err(DivertError::NoLink);
+        }
+        match take_hand(self.links.as_mut_slice(), link) {
+            Some(messages) => {
+                divert_from(self.links.as_mut_slice(), &mut self.table, link, messages)
+            }
+            None => Err(DivertError::Waiting),
         }
     }
 }

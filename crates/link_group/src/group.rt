@@ -4,7 +4,9 @@ ghost use Rattle.group_changeover.specs.Sharing.{link_of};
 ghost use Rattle.group_members.specs.Limits.{MOST_LINKS, POINT_CODES};
 ghost use Rattle.group_changeover.specs.Changeovers.{IsKind, Says};
 ghost use Rattle.link_group.specs.Changing.{message};
+ghost use Rattle.link_group.specs.Laws.{Accounted};
 
+use crate::laws::{each_message_stands_in_one_place, unsure_messages_are_counted};
 use arrayvec::ArrayVec;
 use group_changeover::{Changeover, Kind, Label, Table};
 use group_members::Link;
@@ -29,6 +31,7 @@ impl Model for Group {
     ghost use Rattle.tick_wheel.specs.Timers.{timers_code};
     ghost use Rattle.group_members.specs.Limits.{MOST_LINKS, POINT_CODES};
     ghost use Rattle.link_group.specs.Set.{LinkSet};
+    ghost use Rattle.link_group.specs.Reached.{WasReached};
 
     ghost Value = { LinkSet };
 
@@ -36,7 +39,8 @@ impl Model for Group {
 
     ghost view = { λ g. record { own = g.own; peer = g.peer; links = g.links.items; table = g.table.links; unsure = g.unsure } };
 
-    ghost invariant = { λ g. (length g.links.items ≤ MOST_LINKS) × (g.own < POINT_CODES) × (g.peer < POINT_CODES) };
+    ghost invariant = { λ g. (length g.links.items ≤ MOST_LINKS) × (g.own < POINT_CODES) × (g.peer < POINT_CODES)
+        × ∥ WasReached (record { own = g.own; peer = g.peer; links = g.links.items; table = g.table.links; unsure = g.unsure }) ∥₁ };
 }
 
 /// The field of a message of changeover from one point to another.
@@ -56,6 +60,19 @@ pub(crate) fn sif_of(own: u16, peer: u16, link: usize, kind: Kind) -> Sif
 }
 
 impl Group {
+    /// What holds of every set. There is a list of calls that leads to it from a new one. Each message that [`Group::send`] took in these has left,
+    /// acknowledged or unsure, or stands in one place: with the link of its selection, or among those that this link handed out, in the order in
+    /// which `send` took them; nothing of a selection stands elsewhere, and a link that handed out messages holds none. `unsure` is how many of
+    /// those that have left are unsure, up to its greatest value. [`each_message_stands_in_one_place`] says so of every such list, so of the calls
+    /// that were made, each by its own contract. The call costs nothing.
+    pub fn law(&self)
+        ensures { ∥ Accounted self.now ∥₁ }
+    {
+        each_message_stands_in_one_place();
+        unsure_messages_are_counted();
+        let _inside = self.unsure;
+    }
+
     /// How many messages it was never known of whether they arrived; it stays at its greatest value.
     pub fn unsure(&self) -> u64
         ensures { result ≡ self.now.unsure }

@@ -9,8 +9,6 @@ mod lines;
 mod new;
 mod placing;
 mod reading;
-mod retrievals;
-mod retrieved;
 mod sending;
 mod state;
 mod ticks;
@@ -22,8 +20,9 @@ pub use group_members::{
     AbandonError, BindError, CallError, Command, CommandError, DivertFault, FailError, LineError,
     LinkError, LinkStatus, Mode, Msu, RebalanceError, Report, RetrieveError, SendError, Terminal,
 };
-pub use laws::{each_message_stands_in_one_place, unsure_messages_are_counted};
-pub use retrievals::{Ended, Retrievals};
-pub use retrieved::Retrieved;
+pub use laws::{
+    each_message_stands_in_one_place, ends_heed_all_else, retrieval_completes_each_life,
+    sets_complete_each_life, terminals_fare_so, unsure_messages_are_counted,
+};
 pub use sending::Heard;
 pub use state::LinkState;

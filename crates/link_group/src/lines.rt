@@ -1,26 +1,41 @@
 //! What a set does by one of its terminals.
 ghost use Rattle.std.specs.Prelude.{◌≡◌, ◌↔◌, ◌≤◌, ◌<◌, length, true, slice_get, IfOk, IfErr, OnOk, OnErr, Err};
-ghost use Rattle.link_group.specs.Lines.{ByLink, ByCommand, seen, after_admission, IsCommandError};
-ghost use Rattle.group_members.specs.Doing.{Listened, Spoken, Sent, Reported, low_at};
+ghost use Rattle.link_group.specs.Lines.{ByLink, ByCommand, after_admission, IsCommandError};
+ghost use Rattle.link_group.specs.Placing.{table_if};
+ghost use Rattle.group_members.specs.Limits.{MOST_LINKS};
+ghost use Rattle.group_members.specs.Links.{change};
+ghost use Rattle.group_members.specs.Doing.{Listened, Spoken, Sent, Reported, asked, came_by, admits_at, admits_by, low_at};
 
 use crate::group::Group;
+use crate::placing::place_anew;
+use group_changeover::Table;
 use group_members::{
-    Command, CommandError, LineError, LinkError, Report, admit_at, command_at, listen_at, see_at,
-    send_at, speak_at, tell_at,
+    Command, CommandError, LineError, Link, LinkError, Report, admit_at, command_at, listen_at,
+    see_at, send_at, speak_at, tell_at,
 };
 use su_octets::Unit;
 
-impl Group {
-    /// Looks whether a link came into service: as it may have selections for the first time, the table is made anew.
-    #[tactic(auto, unfolding(crate::specs::Lines::seen))]
-    fn see(&mut self, at: usize)
-        ensures { self.new ≡ seen at self.old }
-    {
-        if see_at(self.links.as_mut_slice(), at) {
-            self.place_anew();
-        }
-    }
+/// Looks whether a link came into service: as it may have selections for the first time, the table is made anew.
+fn see(links: &mut [Link], table: &mut Table, at: usize)
+    requires { length links.old ≤ MOST_LINKS }
+    ensures links { links.new ≡ change links.old at asked }
+    ensures table { table.new.links ≡ table_if (came_by (slice_get links.old at)) links.new table.old.links }
+{
+    let first = see_at(links, at);
+    place_anew(links, table, first);
+}
 
+/// Level 3 admits a link, or does no longer: as it may have selections for the first time, the table is made anew.
+fn admit(links: &mut [Link], table: &mut Table, at: usize, way: bool)
+    requires { length links.old ≤ MOST_LINKS }
+    ensures links { links.new ≡ change links.old at (admits_at way) }
+    ensures table { table.new.links ≡ table_if (admits_by way (slice_get links.old at)) links.new table.old.links }
+{
+    let first = admit_at(links, at, way);
+    place_anew(links, table, first);
+}
+
+impl Group {
     /// Level 3 admits a link to selections and to what other links hand out, or does no longer; all are admitted at first. What it has stays. As it
     /// is in service, not held, and admitted for the first time, the table is made anew.
     ///
@@ -36,9 +51,7 @@ impl Group {
         if link >= self.links.len() {
             return Err(LinkError::NoLink);
         }
-        if admit_at(self.links.as_mut_slice(), link, way) {
-            self.place_anew();
-        }
+        admit(self.links.as_mut_slice(), &mut self.table, link, way);
         Ok(())
     }
 
@@ -56,7 +69,7 @@ impl Group {
             return Err(LinkError::NoLink);
         }
         let taken = listen_at(self.links.as_mut_slice(), link, octets);
-        self.see(link);
+        see(self.links.as_mut_slice(), &mut self.table, link);
         Ok(taken)
     }
 
@@ -75,7 +88,7 @@ impl Group {
         }
         match speak_at(self.links.as_mut_slice(), link, units) {
             Ok(octets) => {
-                self.see(link);
+                see(self.links.as_mut_slice(), &mut self.table, link);
                 Ok(octets)
             }
             Err(_) => Err(LineError::NoMemory),
@@ -98,7 +111,7 @@ impl Group {
         }
         match send_at(self.links.as_mut_slice(), link) {
             Ok(unit) => {
-                self.see(link);
+                see(self.links.as_mut_slice(), &mut self.table, link);
                 Ok(unit)
             }
             Err(_) => Err(LineError::NoMemory),
@@ -119,9 +132,10 @@ impl Group {
             return Err(LinkError::NoLink);
         }
         let report = tell_at(self.links.as_mut_slice(), link);
-        self.see(link);
+        see(self.links.as_mut_slice(), &mut self.table, link);
         Ok(report)
     }
+
     /// `Terminal::command` of a link, behind which its buffers are emptied where its text asked for that (Q.703, figure 13). What goes then, but for
     /// messages that are bound to the link, counts as unsure.
     ///
@@ -140,7 +154,7 @@ impl Group {
         match command_at(self.links.as_mut_slice(), link, command) {
             Ok(cleared) => {
                 self.unsure = self.unsure.saturating_add(cleared as u64);
-                self.see(link);
+                see(self.links.as_mut_slice(), &mut self.table, link);
                 Ok(())
             }
             Err(fault) => Err(fault),

@@ -35,7 +35,7 @@ impl Group {
             Ok(links) => links,
             Err(_) => return Err(terminals),
         };
-        let links = all_fresh(Points { own, peer }, terminals, links);
+        let links = all_fresh(alloc, Points { own, peer }, terminals, links);
         let table = table_of(able_links(links.as_slice(), false).as_slice());
         Ok(Group {
             own,

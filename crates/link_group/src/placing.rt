@@ -1,26 +1,32 @@
 //! Selections get links.
-ghost use Rattle.std.specs.Prelude.{◌≡◌, ◌<◌, false, OnOk, OnErr};
+ghost use Rattle.std.specs.Prelude.{◌≡◌, ◌≤◌, length, false, OnOk, OnErr};
+ghost use Rattle.group_members.specs.Limits.{MOST_LINKS};
 ghost use Rattle.group_changeover.specs.Sharing.{selections};
 ghost use Rattle.group_members.specs.OneLink.{fault_of};
 ghost use Rattle.group_members.specs.Moving.{able_links, anew_links};
-ghost use Rattle.link_group.specs.Placing.{placed_anew, rebalance_fault, rebalanced};
+ghost use Rattle.link_group.specs.Placing.{table_if, rebalance_fault, rebalanced};
 
 use crate::group::Group;
+use group_changeover::Table;
 use group_members::{
-    RebalanceError, able_links, anew_links, any_changing, any_in_way, forgive_all, table_anew,
-    table_of,
+    Link, RebalanceError, able_links, anew_links, any_changing, any_in_way, forgive_all,
+    table_anew, table_of,
 };
 
-impl Group {
-    /// Makes the table anew for all selections but those whose link is in changeover, and those of which any link holds messages.
-    #[tactic(auto, unfolding(crate::specs::Placing::placed_anew))]
-    pub(crate) fn place_anew(&mut self)
-        ensures { self.new ≡ placed_anew self.old }
-    {
-        let able = anew_links(self.links.as_slice());
-        self.table = table_anew(self.links.as_slice(), &self.table, able.as_slice());
+/// Makes the table anew, as a link may have selections for the first time, for all selections but those whose link is in changeover, and those of
+/// which any link holds messages.
+#[tactic(auto, unfolding(crate::specs::Placing::table_anew))]
+pub(crate) fn place_anew(links: &[Link], table: &mut Table, first: bool)
+    requires { length links.now ≤ MOST_LINKS }
+    ensures { table.new.links ≡ table_if first links.now table.old.links }
+{
+    if first {
+        let able = anew_links(links);
+        *table = table_anew(links, table, able.as_slice());
     }
+}
 
+impl Group {
     /// Shares all selections out among the links that are in service, not held and admitted, those that failed too; those with an outage of a
     /// processor, here or there, only where there are no others.
     ///

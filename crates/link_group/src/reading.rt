@@ -1,14 +1,15 @@
 //! What a set tells of its links.
-ghost use Rattle.std.specs.Prelude.{◌≡◌, is_some, slice_get};
+ghost use Rattle.std.specs.Prelude.{◌≡◌, slice_get};
 ghost use Rattle.std.specs.Option.{option_copied};
 ghost use Rattle.group_members.specs.OneLink.{held};
 ghost use Rattle.group_members.specs.Links.{read_at};
 ghost use Rattle.link_group.specs.Reading.{held_count, sent_count, message_at, terminal_of, book_of};
 ghost use Rattle.group_members.specs.Tables.{changing_by};
-ghost use Rattle.group_members.specs.Moving.{retrieval_of};
+ghost use Rattle.group_members.specs.Moving.{retrieval_of, hand_count};
 
 use crate::group::Group;
-use group_members::{Msu, Terminal, retrieval_of};
+use group_changeover::Counts;
+use group_members::{Msu, Terminal, hand_of, retrieval_of};
 use link_processes::Book;
 
 impl Group {
@@ -52,11 +53,19 @@ impl Group {
         }
     }
 
-    /// Whether a link's retrieval is out: its messages are handed out, and not all diverted yet. One without messages counts too.
-    pub fn has_retrieval(&self, link: usize) -> bool
-        ensures { result ≡ is_some (retrieval_of (slice_get self.now.links link)) }
+    /// How many messages a link handed out in its changeover that are not diverted yet, if it did hand them out: that may be none.
+    pub fn hand(&self, link: usize) -> Option<usize>
+        ensures { result ≡ hand_count (slice_get self.now.links link) }
     {
-        retrieval_of(self.links.as_slice(), link).is_some()
+        hand_of(self.links.as_slice(), link)
+    }
+
+    /// How many of these there are of each selection, as they were counted when the link handed them out, and anew when a diversion left some
+    /// ([`Group::retrieve`], [`Group::abandon`], [`Group::divert`]).
+    pub fn hand_counts(&self, link: usize) -> Option<Counts>
+        ensures { result ≡ retrieval_of (slice_get self.now.links link) }
+    {
+        retrieval_of(self.links.as_slice(), link)
     }
 
     /// The terminal of a link, if it is there.

@@ -1,5 +1,5 @@
 //! Messages to send, and messages of a changeover.
-ghost use Rattle.std.specs.Prelude.{◌≡◌, true, Option, Some, OnOk, OnErr, IfOk, ◌<◌};
+ghost use Rattle.std.specs.Prelude.{◌≡◌, true, Option, Some, length, OnOk, OnErr, IfOk, ◌<◌};
 ghost use Rattle.group_changeover.specs.Limits.{SELECTIONS};
 ghost use Rattle.group_changeover.specs.Sharing.{selection_of};
 ghost use Rattle.group_changeover.specs.Labels.{label_in, IsLabel};
@@ -11,7 +11,6 @@ ghost use Rattle.link_group.specs.Set.{points_of, send_fault, sent, bind_fault_a
 ghost use Rattle.link_group.specs.Changing.{fail_fault, after_failure, order_at, is_for, IsReply, IsRead, after_message, hearing_of, reply_to, retrieve_fault_at, after_retrieve, messages_for, abandon_fault_at, after_abandon, unsent_at};
 
 use crate::group::{Group, Sif, sif_of};
-use crate::retrieved::Retrieved;
 use group_changeover::{Changeover, Hearing, Label, Points, read_changeover, selection_of};
 use group_members::{
     AbandonError, BindError, FailError, Msu, RetrieveError, SendError, abandon_at, bind_at,
@@ -152,10 +151,10 @@ impl Group {
         }
     }
 
-    /// Hands out the messages of a link in changeover that the far side may lack: those behind the ones that it told that it accepted, the
-    /// unacknowledged ones first, and where it told no number, those that weren't sent since both directions last began anew (Q.704,
-    /// retrieval). The first number that it told counts, for the messages of which it spoke as it was heard; one that would acknowledge more
-    /// than was sent then is none.
+    /// Hands out the messages of a link in changeover that the far side may lack, for [`Group::divert`], and answers how many there are:
+    /// those behind the ones that it told that it accepted, the unacknowledged ones first, and where it told no number, those that weren't
+    /// sent since both directions last began anew (Q.704, retrieval). The first number that it told counts, for the messages of which it
+    /// spoke as it was heard; one that would acknowledge more than was sent then is none.
     ///
     /// # Errors
     ///
@@ -163,37 +162,32 @@ impl Group {
     /// than 1,400 ticks have passed since the changeover began, `K4 Unsure` and their count where messages were sent and it isn't known which
     /// of them arrived; then want of memory. Nothing changes then.
     #[tactic(auto, unfolding(crate::specs::Changing::retrieve_fault_at, crate::specs::Changing::after_retrieve, crate::specs::Changing::messages_for))]
-    pub fn retrieve(&mut self, link: usize) -> Result<Retrieved, RetrieveError>
+    pub fn retrieve(&mut self, link: usize) -> Result<usize, RetrieveError>
         ensures fault { retrieve_refusal result ≡ retrieve_fault_at self.old link }
-        ensures link { IfOk result (λ retrieval. retrieval.link ≡ link) }
-        ensures messages { IfOk result (λ retrieval. retrieval.messages.items ≡ messages_for self.old link) }
+        ensures count { IfOk result (λ count. count ≡ length (messages_for self.old link)) }
         ensures ok { OnOk result (self.new ≡ after_retrieve self.old link) }
         ensures err { OnErr result (self.new ≡ self.old) }
     {
-        match retrieve_at(self.links.as_mut_slice(), link) {
-            Ok(messages) => Ok(Retrieved { link, messages }),
-            Err(fault) => Err(fault),
-        }
+        retrieve_at(self.links.as_mut_slice(), link)
     }
 
-    /// Gives up the messages of a link in changeover that were sent: they count as unsure. Hands out those that weren't sent
-    /// since both directions last began anew.
+    /// Gives up the messages of a link in changeover that were sent: they count as unsure. Hands out those that weren't sent since both
+    /// directions last began anew, and answers how many there are.
     ///
     /// # Errors
     ///
     /// `K1 NoLink` as for `retrieve`, `K2 Waiting` where that isn't refused as unsure; then want of memory. Nothing changes then.
     #[tactic(auto, unfolding(crate::specs::Changing::abandon_fault_at, crate::specs::Changing::after_abandon, crate::specs::Changing::unsent_at))]
-    pub fn abandon(&mut self, link: usize) -> Result<Retrieved, AbandonError>
+    pub fn abandon(&mut self, link: usize) -> Result<usize, AbandonError>
         ensures fault { abandon_refusal result ≡ abandon_fault_at self.old link }
-        ensures link { IfOk result (λ retrieval. retrieval.link ≡ link) }
-        ensures messages { IfOk result (λ retrieval. retrieval.messages.items ≡ unsent_at self.old link) }
+        ensures count { IfOk result (λ count. count ≡ length (unsent_at self.old link)) }
         ensures ok { OnOk result (self.new ≡ after_abandon self.old link) }
         ensures err { OnErr result (self.new ≡ self.old) }
     {
         match abandon_at(self.links.as_mut_slice(), link) {
-            Ok((messages, sent)) => {
+            Ok((count, sent)) => {
                 self.unsure = self.unsure.saturating_add(sent as u64);
-                Ok(Retrieved { link, messages })
+                Ok(count)
             }
             Err(fault) => Err(fault),
         }

@@ -1,23 +1,28 @@
 //! Ticks.
-ghost use Rattle.std.specs.Prelude.{◌≡◌, None, IfOk, IfErr, OnOk};
+ghost use Rattle.std.specs.List.{list_any};
+ghost use Rattle.std.specs.Prelude.{◌≡◌, ◌≤◌, length, map, None, IfOk, IfErr, OnOk};
+ghost use Rattle.group_members.specs.Limits.{MOST_LINKS};
+ghost use Rattle.group_members.specs.Doing.{asked, came_first};
 ghost use Rattle.group_members.specs.Ticking.{all_due};
-ghost use Rattle.link_group.specs.Lines.{all_seen};
+ghost use Rattle.link_group.specs.Placing.{table_if};
 ghost use Rattle.link_group.specs.Ticks.{with_room, tick_fault, after_ticks, IsTickError};
 
 use crate::group::Group;
-use group_members::{CallError, make_room_all, pass_all, see_all, tick_refusal};
+use crate::placing::place_anew;
+use group_changeover::Table;
+use group_members::{CallError, Link, make_room_all, pass_all, see_all, tick_refusal};
+
+/// Looks which links came into service: as one may have selections for the first time, the table is made anew.
+fn see_each(links: &mut [Link], table: &mut Table)
+    requires { length links.old ≤ MOST_LINKS }
+    ensures links { links.new ≡ map asked links.old }
+    ensures table { table.new.links ≡ table_if (list_any came_first links.old) links.new table.old.links }
+{
+    let first = see_all(links);
+    place_anew(links, table, first);
+}
 
 impl Group {
-    /// Looks which links came into service: as one may have selections for the first time, the table is made anew.
-    #[tactic(auto, unfolding(crate::specs::Lines::all_seen))]
-    fn see_each(&mut self)
-        ensures { self.new ≡ all_seen self.old }
-    {
-        if see_all(self.links.as_mut_slice()) {
-            self.place_anew();
-        }
-    }
-
     /// Lets so many ticks pass on all links, one a millisecond, or on none. How many timers were due on all of them. Each changeover that goes on
     /// has waited for so many ticks more.
     ///
@@ -42,7 +47,7 @@ impl Group {
             None => {}
         }
         let due = pass_all(self.links.as_mut_slice(), ticks);
-        self.see_each();
+        see_each(self.links.as_mut_slice(), &mut self.table);
         Ok(due)
     }
 }

@@ -6,7 +6,7 @@ use Rattle.script_check.specs.declared.sets.SetWord.TheVariants.{Standard as sta
 use Rattle.script_play.specs.Played.{IsOnSet, IsPlayed, IsPlayedInPart, IsNotRun, IsRefused, set_refused, script_refused}
 use Rattle.script_play.specs.Seen.{IsPlaySeen, IsPlaySeenInPart, IsWatched, IsWatchedInPart}
 use Rattle.script_play.specs.declared.seeing.Wanted.{Wanted}
-use Rattle.script_play.proofs.Watching.{was_played, was_played_in_part}
+use Rattle.script_play.proofs.WatchedPlays.{was_played, was_played_in_part}
 use Rattle.pool_soak.specs.Findings.{IsSoaked, IsSoakedInVain, IsTurnedDown}
 use Rattle.line_filter.specs.Filters.{Line}
 use Rattle.line_play.specs.Opening.{IsNoSet}

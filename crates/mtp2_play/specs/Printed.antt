@@ -1,6 +1,6 @@
 -- What each command prints, by the exit status that it gives. Of a text that isn't the program's
 -- own it is said of some bytes, since none are known of a file or of standard input.
-use Rattle.std.specs.Prelude.{◌≡◌, ◌≢◌, ◌⊎◌, ◌≤◌, ℕ, Bool, List, [], ◌∷◌, Option, None}
+use Rattle.std.specs.Prelude.{◌≡◌, ◌≢◌, ◌⊎◌, ◌≤◌, ℕ, Bool, List, [], ◌∷◌, Option, Some, None}
 use Rattle.std.specs.Prelude.{IsSomeAnd}
 use Rattle.std.specs.Io.KnownBytes.{Appends}
 use Rattle.clap.specs.declared.error.kind.ErrorKind.{ErrorKind}
@@ -10,6 +10,8 @@ use Rattle.script_check.specs.Checked.{IsGiven, PrintsCosts, PrintsRefusal}
 use Rattle.script_play.specs.Played.{IsOnSet, IsPlayed, IsPlayedInPart, IsRefused}
 use Rattle.script_play.specs.Seen.{IsWatched, IsWatchedInPart}
 use Rattle.script_play.specs.declared.seeing.Wanted.{Wanted}
+use Rattle.script_play.specs.declared.seeing.Wanted.TheVariants as wants
+use Rattle.script_play.specs.declared.watching.Told.TheVariants as told
 use Rattle.pool_soak.specs.Findings.{IsSoaked, IsSoakedInVain, IsTurnedDown}
 use Rattle.mtp2_frame.specs.Printed.{PrintsUnit, PrintsFault}
 use Rattle.line_filter.specs.Filters.{Line as Octets}
@@ -20,6 +22,10 @@ use Rattle.mtp2_words.specs.declared.ends.LineEnd.{LineEnd}
 use Rattle.mtp2_play.specs.Compared.{IsCompared}
 use Rattle.mtp2_play.specs.Sets.{own_text_of}
 use Rattle.mtp2_words.specs.Limits.{usual_limits_of}
+use Rattle.mtp2_words.specs.declared.seeing.Seeing.{Seeing}
+use Rattle.mtp2_words.specs.declared.seeing.Sight.{Sight}
+use Rattle.mtp2_words.specs.declared.seeing.Sight.TheVariants as sights
+use Rattle.mtp2_words.specs.declared.seeing.Turns.{Turns}
 use Rattle.mtp2_words.specs.declared.words.Named.{Named}
 use Rattle.mtp2_words.specs.declared.words.Request.{Request}
 use Rattle.mtp2_words.specs.declared.words.Request.TheVariants.{Check, Play, Soak, Line, Frame}
@@ -74,6 +80,29 @@ pub record IsWatchedOn (set : Named) (echo : Bool) (wanted : Wanted) (status : �
       IsOnSet (own_text_of set) None
       (IsWatchedInPart name (own_text_of set) (usual_limits_of set) echo wanted old new begun now)
   pub refused : status ≡ 2 → IsRefused (own_text_of set) None old new
+
+-- the file to which something of a run goes
+abbrev pub path_by : Sight → List ℕ
+path_by (sights.Trace path) = path.now
+path_by (sights.Chart path) = path.now
+path_by (sights.Thrown path) = path.now
+path_by (sights.Capture path) = path.now
+
+-- what goes there; whether what has no effect does too, which turns, and each unit
+abbrev pub wanted_for : Bool → Turns → Sight → Wanted
+wanted_for every turns (sights.Trace path) = wants.Trace every
+wanted_for every turns (sights.Chart path) =
+    wants.AtEnd (told.Chart (record { first = turns.first; last = turns.last }))
+wanted_for every turns (sights.Thrown path) = wants.AtEnd told.Thrown
+wanted_for every turns (sights.Capture path) = wants.Capture every
+
+-- a trace, where there is no file
+abbrev pub wanted_as : Bool → Turns → Option Sight → Wanted
+wanted_as every turns None = wants.Trace every
+wanted_as every turns (Some sight) = wanted_for every turns sight
+
+abbrev pub wanted_by : Seeing → Wanted
+wanted_by seen = wanted_as seen.every seen.turns seen.sight
 
 -- what `soak` prints of a script: its two lines, where so many workers can work, or why it is
 -- refused

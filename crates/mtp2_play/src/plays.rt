@@ -4,7 +4,7 @@ ghost use Rattle.script_check.specs.Checked.{given};
 ghost use Rattle.script_play.specs.Played.{IsOnSet, IsRefused};
 ghost use Rattle.script_play.specs.Seen.{IsPlaySeen, IsPlaySeenInPart, IsWatched, IsWatchedInPart};
 ghost use Rattle.mtp2_words.specs.Limits.{usual_limits_of};
-ghost use Rattle.mtp2_play.specs.Printed.{IsPlayedOn, IsWatchedOn};
+ghost use Rattle.mtp2_play.specs.Printed.{IsPlayedOn, IsWatchedOn, path_by, wanted_for, wanted_by};
 
 use crate::sets::{STDIN, own_set, set_word};
 use mtp2_words::{Named, Seeing, Sight, Source};
@@ -234,7 +234,9 @@ fn run_watched<R: Runtime + AllocGlobal, H: Eprint, F: Write, W: Write>(
 }
 
 /// The file of what is to be seen of a run.
-fn path_of<'a>(sight: Sight<'a>) -> &'a str {
+fn path_of<'a>(sight: &Sight<'a>) -> &'a str
+    ensures { result.now ≡ path_by sight.now }
+{
     match sight {
         Sight::Trace(path) => path,
         Sight::Chart(path) => path,
@@ -244,17 +246,28 @@ fn path_of<'a>(sight: Sight<'a>) -> &'a str {
     }
 }
 
-/// What is wanted of a run, where there is a file for it.
-fn wanted_of(seen: &Seeing<'_>) -> Wanted {
-    match seen.sight {
-        Some(Sight::Chart(_)) => Wanted::AtEnd(Told::Chart(Cut {
+/// What of a run goes to that file, of what is to be seen of it.
+fn wanted_for(sight: &Sight<'_>, seen: &Seeing<'_>) -> Wanted
+    ensures { result ≡ wanted_for seen.now.every seen.now.turns sight.now }
+{
+    match sight {
+        Sight::Trace(_) => Wanted::Trace(seen.every),
+        Sight::Chart(_) => Wanted::AtEnd(Told::Chart(Cut {
             first: seen.turns.first,
             last: seen.turns.last,
         })),
-        Some(Sight::Coverage(_)) => Wanted::Coverage,
-        Some(Sight::Thrown(_)) => Wanted::AtEnd(Told::Thrown),
-        Some(Sight::Capture(_)) => Wanted::Capture(seen.every),
-        _ => Wanted::Trace(seen.every),
+        Sight::Thrown(_) => Wanted::AtEnd(Told::Thrown),
+        Sight::Capture(_) => Wanted::Capture(seen.every),
+    }
+}
+
+/// What is wanted of a run, where there is a file for it.
+fn wanted_of(seen: &Seeing<'_>) -> Wanted
+    ensures { result ≡ wanted_by seen.now }
+{
+    match &seen.sight {
+        Some(sight) => wanted_for(sight, seen),
+        None => Wanted::Trace(seen.every),
     }
 }
 
@@ -272,9 +285,9 @@ pub(crate) fn run_play<R: Runtime + AllocGlobal, H: Eprint, W: Write>(
     ensures status { (result ≡ 0) ⊎ (result ≡ 1) ⊎ (result ≡ 2) ⊎ (result ≡ 4) }
 {
     let out = match seen.sight {
-        Some(sight) => match fs::create(rt, path_of(sight)) {
+        Some(sight) => match fs::create(rt, path_of(&sight)) {
             Ok(file) => Some(file),
-            Err(error) => return teller.fail(path_of(sight), &error),
+            Err(error) => return teller.fail(path_of(&sight), &error),
         },
         None => None,
     };

@@ -1,3 +1,4 @@
 mod Asking
 mod Building
+mod Dots
 mod Examples

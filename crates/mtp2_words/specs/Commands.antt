@@ -47,8 +47,10 @@ abbrev pub with_seeing_options : App → App
 with_seeing_options command =
     with_told_options
     (with_rule
+    (with_rule
     (with_rule (with_rule command (flag_word (codes "echo"))) (option_word (codes "trace")))
-    (flag_word (codes "every")))
+    (option_word (codes "chart"))) (option_word (codes "turns"))) (option_word (codes "thrown")))
+    (option_word (codes "capture"))) (flag_word (codes "every"))
 
 -- `play SET SCRIPT`, with its options
 abbrev pub play_command : App

@@ -136,12 +136,18 @@ fn with_told_options<'a>(alloc: Global, command: Command<'a>) -> Result<Command<
         "PATH",
         "A file or a FIFO for the units that go out and come in, in pcap's format; those that say nothing new are left out",
     );
+    let every = flag_word(
+        alloc,
+        "every",
+        "Has signals that are thrown away traced too, and turns that change nothing; and every unit captured",
+    );
     command
         .arg(chart)?
         .arg(turns)?
         .arg(coverage)?
         .arg(thrown)?
-        .arg(capture)
+        .arg(capture)?
+        .arg(every)
 }
 
 /// The command `play`.

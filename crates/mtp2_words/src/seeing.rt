@@ -1,6 +1,6 @@
 //! What of a run is to be seen beside its replies.
 ghost use Rattle.std.specs.Prelude.{◌≡◌, IfSome, IsNone, option_map, count_by};
-ghost use Rattle.mtp2_words.specs.Seeing.{IsSight, IsLaterSight, asked_of, both_turns, turns_of, turns_said, IsSeenBy, IsNoSeeing};
+ghost use Rattle.mtp2_words.specs.Seeing.{IsSight, IsLaterSight, asked_of, both_turns, behind_dot, turns_of, turns_said, IsSeenBy, IsNoSeeing};
 
 use script_links::count;
 
@@ -118,6 +118,19 @@ fn sight_of<'a>(words: &SeeingWords<'a>) -> Option<Sight<'a>>
     }
 }
 
+/// What goes to a file of what was thrown away, and of units, where at most one thing is to.
+fn later_sight<'a>(words: &SeeingWords<'a>) -> Option<Sight<'a>>
+    ensures { IsLaterSight words.now result }
+{
+    match words.thrown {
+        Some(path) => Some(Sight::Thrown(path)),
+        None => match words.capture {
+            Some(path) => Some(Sight::Capture(path)),
+            None => None,
+        },
+    }
+}
+
 /// The turns from one number to another.
 fn turns_between(first: Option<u32>, last: Option<u32>) -> Option<Turns>
     ensures { result ≡ both_turns first last }
@@ -134,15 +147,22 @@ fn turns_between(first: Option<u32>, last: Option<u32>) -> Option<Turns>
     }
 }
 
+/// The number behind a dot.
+fn number_behind_dot(word: &str) -> Option<u32>
+    ensures { result ≡ behind_dot word.now }
+{
+    match word.strip_prefix('.') {
+        Some(number) => count(number),
+        None => None,
+    }
+}
+
 /// The turns that a word names: two numbers with two dots between them.
 fn turns_named(word: &str) -> Option<Turns>
     ensures { result ≡ turns_of word.now }
 {
     match word.split_once('.') {
-        Some((first, more)) => match more.strip_prefix('.') {
-            Some(last) => turns_between(count(first), count(last)),
-            None => None,
-        },
+        Some((first, more)) => turns_between(count(first), number_behind_dot(more)),
         None => None,
     }
 }

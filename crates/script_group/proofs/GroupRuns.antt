@@ -20,11 +20,9 @@ use Rattle.script_terminal.specs.Lines.{line_of}
 use Rattle.script_terminal.specs.TermAnswers.{unit_line}
 use Rattle.script_terminal.specs.TermRuns.{HasPrinted}
 use Rattle.script_terminal.proofs.TermRuns.{printed_none, printed_one, printed_both}
-use Rattle.script_group.specs.GroupAnswers.{Playing, plain_retrieval, at, NO_LINK, GoOut, none_goes, silent, one_goes, Outputs, Answers, Obeys}
+use Rattle.script_group.specs.GroupAnswers.{Playing, NO_LINK, GoOut, none_goes, silent, one_goes, Outputs, Answers, Obeys}
 use Rattle.script_group.specs.GroupAnswers as answers
-use Rattle.link_group.specs.declared.retrieved.Kept.{Kept}
-use Rattle.link_group.specs.declared.retrievals.Retrievals.{Retrievals}
-use Rattle.script_group.specs.GroupRuns.{begun, Goes, begins, prints, holds, IsGroupRun, HasGone, HasGoneOut, HasGivenOut, IsGroupMissedBy, IsGroupMissed}
+use Rattle.script_group.specs.GroupRuns.{Goes, begins, prints, holds, IsGroupRun, HasGone, HasGoneOut, HasGivenOut, IsGroupMissedBy, IsGroupMissed}
 
 -- ---- units that go out
 
@@ -115,12 +113,6 @@ given_nowhere l n old new last next c text past is latest_is written =
 -- nothing was obeyed yet
 pub run_begins : (t : Playing) (now : Option (List ℕ)) → IsGroupRun t [] now now t None
 run_begins t now = record { lines = []; goes = begins; written = Appends-nil now }
-
--- nor on a set with no retrieval out
-pub new_run : (c : LinkSet) (h : Retrievals) (now : Option (List ℕ)) → h.kept.items ≡ [] → IsGroupRun (begun c) [] now now (at c h 0) None
-new_run c h now none =
-    let P : List Kept → Type 0 = λ ks. IsGroupRun (begun c) [] now now (record { set = c; retrievals = map plain_retrieval ks; on = 0 }) None in
-    subst P (sym none) (run_begins (begun c) now)
 
 -- an expectation that holds
 pub run_held : (t : Playing) (before : List PlainGroupSaid) (said : PlainGroupSaid) (text : List ℕ) (first written : Option (List ℕ)) (now : Playing)

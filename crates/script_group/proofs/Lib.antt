@@ -1,7 +1,6 @@
 mod CallAnswers
 mod GroupRuns
 mod RetrievalAnswers
-mod Keeping
 mod LineAnswers
 mod Openings
 mod ShownAnswers

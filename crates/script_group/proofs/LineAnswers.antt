@@ -6,9 +6,8 @@ use Rattle.link_transceiver.specs.declared.signals.Report.{Report}
 use Rattle.link_group.specs.group_members_types.link.Link.{Link}
 use Rattle.link_group.specs.Set.{LinkSet}
 use Rattle.link_group.specs.Links.{change, set_at}
-use Rattle.link_group.specs.Doing.{Reported, asked, asked_of, began, unbegun, leaves_out, came_by}
+use Rattle.link_group.specs.Doing.{Reported, asked, asked_of, began, unbegun, leaves_out}
 use Rattle.link_group.specs.Lines.{ByLink, seen}
-use Rattle.link_group.specs.Placing.{placed_anew}
 use Rattle.plain_laws.proofs.Places.{get_set_same}
 use Rattle.std.proofs.lemmas.Option.{slice_get_within}
 use Rattle.script_terminal.proofs.TermAnswers.{reports, fewer_reports}
@@ -32,14 +31,9 @@ change_there : (f : Link → Link) (ks : List Link) (l : ℕ) (k : Link) → sli
 unfolding change
 change_there f ks l k is = ap (λ o. slice_get (set_at ks l f o) l) is ∙ set_there ks l k (f k) is
 
-anew_links : (b : Bool) (c : LinkSet) → (if◌then◌else◌ {A = LinkSet} b (placed_anew c) c).links ≡ c.links
-unfolding placed_anew
-anew_links true c = refl
-anew_links false c = refl
-
 seen_links : (l : ℕ) (c : LinkSet) → (seen l c).links ≡ change c.links l asked
 unfolding seen
-seen_links l c = anew_links (came_by (slice_get c.links l)) (record c { links = change c.links l asked })
+seen_links l c = refl
 
 -- the link behind a call by its terminal
 link_behind : (did : Link → Link → Type 0) (l : ℕ) (c d : LinkSet) (by_link : ByLink did l c d) → slice_get d.links l ≡ Some (asked by_link.at.after)

@@ -1,9 +1,7 @@
--- What each command of a link set's script makes of the set and of the retrieved messages, and the
--- lines that it prints.
-use Rattle.std.specs.Prelude.{◌≡◌, ℕ, ◌<◌, ◌≤◌, zero, suc, ◌==◌, ◌||◌, nat_lt, nat_le, is_some}
-use Rattle.std.specs.Prelude.{Bool, true, false, List, [], ◌∷◌, ◌++◌, length, map, drop, Option}
+-- What each command of a link set's script makes of the set, and the lines that it prints.
+use Rattle.std.specs.Prelude.{◌≡◌, ℕ, ◌<◌, ◌≤◌, zero, suc}
+use Rattle.std.specs.Prelude.{Bool, true, false, List, [], ◌∷◌, ◌++◌, length, drop, Option}
 use Rattle.std.specs.Prelude.{None, Some, slice_get, codes}
-use Rattle.std.specs.List.{list_any}
 use Rattle.std.specs.Fmt.{decimal}
 use Rattle.hex.specs.Hex.{encode_upper}
 use Rattle.resend_store.specs.declared.messages.Msu.{Msu}
@@ -22,17 +20,15 @@ use Rattle.link_group.specs.group_changeover_types.errors.FailError.{FailError}
 use Rattle.link_group.specs.group_changeover_types.errors.RetrieveError.{RetrieveError}
 use Rattle.link_group.specs.group_changeover_types.errors.AbandonError.{AbandonError}
 use Rattle.link_group.specs.group_changeover_types.errors.AbandonError.TheVariants as abandoning
-use Rattle.link_group.specs.group_changeover_types.errors.DivertFault.{DivertFault}
-use Rattle.link_group.specs.declared.retrieved.Kept.{Kept}
-use Rattle.link_group.specs.declared.retrievals.Retrievals.{Retrievals}
+use Rattle.link_group.specs.declared.ending.DivertError.{DivertError}
+use Rattle.link_group.specs.declared.ending.DivertError.TheVariants as diverting
 use Rattle.link_group.specs.Set.{LinkSet, send_fault, sent, bind_fault_at, bound_at}
 use Rattle.link_group.specs.Changing.{fail_fault, after_failure, order_at, IsRead, after_message}
 use Rattle.link_group.specs.Changing.{reply_to, retrieve_fault_at, after_retrieve, messages_for}
 use Rattle.link_group.specs.Changing.{abandon_fault_at, after_abandon, unsent_at}
-use Rattle.link_group.specs.Diverting.{diverted, after_divert}
+use Rattle.link_group.specs.Diverting.{divert_fault, after_divert}
 use Rattle.link_group.specs.Placing.{rebalance_fault, rebalanced}
 use Rattle.link_group.specs.Lines.{ByLink, ByCommand, Alone, after_admission}
-use Rattle.link_group.specs.Moving.{retrieval_of}
 use Rattle.link_group.specs.Doing.{Listened, Sent, Reported}
 use Rattle.link_group.specs.Commanding.{Refused, is_barred}
 use Rattle.link_group.specs.OneLink.{but_memory}
@@ -53,25 +49,13 @@ use Rattle.script_terminal.specs.TermAnswers.{command_of, IsMessageOf}
 use Rattle.script_terminal.specs.UnitLines.{IsLineOf}
 use Rattle.script_group.specs.Shown.{table_line, link_text}
 
--- messages that a link handed out and that are not diverted yet
-pub record Retrieval : Type 0 where
-  pub link : ℕ
-  pub messages : List Msu
-
--- Of a script that runs: the set, the retrievals that are out, and the link that lines speak of.
+-- Of a script that runs: the set, and the link that lines speak of.
 pub record Playing : Type 0 where
   pub set : LinkSet
-  pub retrievals : List Retrieval
   pub on : ℕ
 
-abbrev pub plain_retrieval : Kept → Retrieval
-plain_retrieval k = record { link = k.link; messages = k.messages.items }
-
-abbrev pub retrievals_of : Retrievals → List Retrieval
-retrievals_of h = map plain_retrieval h.kept.items
-
-abbrev pub at : LinkSet → Retrievals → ℕ → Playing
-at c h l = record { set = c; retrievals = retrievals_of h; on = l }
+abbrev pub at : LinkSet → ℕ → Playing
+at c l = record { set = c; on = l }
 
 -- ---- lines
 
@@ -219,20 +203,6 @@ pub record IsHeard (octets : List ℕ) (c : LinkSet) (text : List ℕ) (d : Link
   pub makes : (m : Option Changeover) → IsRead octets m → d ≡ after_message c m
   pub says : (m : Option Changeover) → IsRead octets m → IsReplied (reply_to c m) text
 
--- a link has one retrieval at most
-abbrev pub MOST_RETRIEVALS : ℕ
-MOST_RETRIEVALS = 16
-
--- Of so many retrievals that are kept: there is room for one more, or the link gives none, since it
--- isn't there or its messages are retrieved.
-abbrev pub can_keep : LinkSet → ℕ → ℕ → Bool
-can_keep c kept l =
-    nat_lt kept MOST_RETRIEVALS
-    || (nat_le (length c.links) l || is_some (retrieval_of (slice_get c.links l)))
-
-abbrev pub with_retrieval : List Retrieval → ℕ → List Msu → List Retrieval
-with_retrieval retrievals l messages = retrievals ++ record { link = l; messages = messages } ∷ []
-
 -- the lines of refusals; want of memory has none
 abbrev pub IsRetrieveLine : RetrieveError → List ℕ → Type 0
 IsRetrieveLine e text = (but_memory e ≡ Some e) × (text ≡ codes "refused " ++ retrieve_error_text e)
@@ -244,61 +214,33 @@ IsAbandonLine abandoning.NoLink text =
 IsAbandonLine abandoning.Waiting text =
     text ≡ codes "refused " ++ abandon_error_text abandoning.Waiting
 
--- messages are handed out, and kept behind the other retrievals
-pub data Retrieves (l : ℕ) (c : LinkSet) (retrievals : List Retrieval) :
-    List ℕ → LinkSet → List Retrieval → Type 0 where
+-- messages are handed out
+pub data Retrieves (l : ℕ) (c : LinkSet) : List ℕ → LinkSet → Type 0 where
   retrieves_refused :
       (e : RetrieveError) → retrieve_fault_at c l ≡ Some e
-      → Retrieves l c retrievals (codes "refused " ++ retrieve_error_text e) c retrievals
+      → Retrieves l c (codes "refused " ++ retrieve_error_text e) c
   retrieves_given : retrieve_fault_at c l ≡ None
-      → Retrieves l c retrievals (count_line (length (messages_for c l))) (after_retrieve c l)
-      (with_retrieval retrievals l (messages_for c l))
+      → Retrieves l c (count_line (length (messages_for c l))) (after_retrieve c l)
 
-pub data Abandons (l : ℕ) (c : LinkSet) (retrievals : List Retrieval) :
-    List ℕ → LinkSet → List Retrieval → Type 0 where
+pub data Abandons (l : ℕ) (c : LinkSet) : List ℕ → LinkSet → Type 0 where
   abandons_refused :
       (e : AbandonError) → abandon_fault_at c l ≡ Some e
-      → Abandons l c retrievals (codes "refused " ++ abandon_error_text e) c retrievals
+      → Abandons l c (codes "refused " ++ abandon_error_text e) c
   abandons_given : abandon_fault_at c l ≡ None
-      → Abandons l c retrievals (count_line (length (unsent_at c l))) (after_abandon c l)
-      (with_retrieval retrievals l (unsent_at c l))
+      → Abandons l c (count_line (length (unsent_at c l))) (after_abandon c l)
 
--- The messages of a retrieval are diverted. Of one that isn't wholly diverted the rest is kept
--- behind the other retrievals.
-pub data DivertsRetrieval (l : ℕ) (c : LinkSet) (messages : List Msu) (others : List Retrieval) :
-    List ℕ → LinkSet → List Retrieval → Type 0 where
-  diverts_whole :
-      (diverted c l messages).fault ≡ None
-      → DivertsRetrieval l c messages others (codes "ok") (after_divert c l messages) others
-  diverts_part : (e : DivertFault) → (diverted c l messages).fault ≡ Some e
-      → DivertsRetrieval l c messages others
-      (codes "refused " ++ divert_fault_text e ++ codes " left "
-      ++ decimal (length (diverted c l messages).at.rest)) (after_divert c l messages)
-      (with_retrieval others l (diverted c l messages).at.rest)
+-- the line of what was diverted
+abbrev pub divert_line : Option DivertError → List ℕ
+divert_line None = codes "ok"
+divert_line (Some diverting.NoLink) = NO_LINK
+divert_line (Some diverting.Waiting) = codes "refused K2 Waiting"
+divert_line (Some (diverting.Left e n)) =
+    codes "refused " ++ divert_fault_text e ++ codes " left " ++ decimal n
 
-abbrev pub is_of : ℕ → Retrieval → Bool
-is_of l h = h.link == l
-
--- the retrieval of a link among all, the first if there were several, and the others
-pub record IsFound (l : ℕ) (retrievals : List Retrieval) (h : Retrieval) (others : List Retrieval) :
-    Type 0 where
-  pub front : List Retrieval
-  pub back : List Retrieval
-  pub stood : retrievals ≡ front ++ h ∷ back
-  pub link : h.link ≡ l
-  pub first : list_any (is_of l) front ≡ false
-  pub left : others ≡ front ++ back
-
-pub data Diverts (l : ℕ) (c : LinkSet) (retrievals : List Retrieval) :
-    List ℕ → LinkSet → List Retrieval → Type 0 where
-  diverts_nowhere : length c.links ≤ l → Diverts l c retrievals NO_LINK c retrievals
-  diverts_none :
-      l < length c.links → list_any (is_of l) retrievals ≡ false
-      → Diverts l c retrievals (codes "refused K2 Waiting") c retrievals
-  diverts_one :
-      (h : Retrieval) (others next : List Retrieval) (text : List ℕ) (d : LinkSet)
-      → l < length c.links → IsFound l retrievals h others
-      → DivertsRetrieval l c h.messages others text d next → Diverts l c retrievals text d next
+-- what a link handed out is diverted, or as much of it as goes
+pub record Diverts (l : ℕ) (c : LinkSet) (text : List ℕ) (d : LinkSet) : Type 0 where
+  pub says : text ≡ divert_line (divert_fault c l)
+  pub makes : d ≡ after_divert c l
 
 -- a link that is there is admitted, or is no longer
 pub data Admits (way : Bool) (l : ℕ) (c : LinkSet) : List ℕ → LinkSet → Type 0 where
@@ -335,13 +277,6 @@ value_at process variable (Some k) =
 pub record OnSet (P : List ℕ → LinkSet → Type 0) (p : Playing) (text : List ℕ) (q : Playing) :
     Type 0 where
   pub set : P text q.set
-  pub retrievals : q.retrievals ≡ p.retrievals
-  pub on : q.on ≡ p.on
-
--- the set and the retrievals
-pub record OnRetrievals (P : List ℕ → LinkSet → List Retrieval
-    → Type 0) (p : Playing) (text : List ℕ) (q : Playing) : Type 0 where
-  pub both : P text q.set q.retrievals
   pub on : q.on ≡ p.on
 
 -- nothing changes
@@ -351,9 +286,9 @@ pub record Shows (shown : List ℕ) (p : Playing) (text : List ℕ) (q : Playing
 
 abbrev pub WordAnswers : GroupWord → Playing → List ℕ → Playing → Type 0
 WordAnswers words.Fail p text q = OnSet (Fails p.on p.set) p text q
-WordAnswers words.Retrieve p text q = OnRetrievals (Retrieves p.on p.set p.retrievals) p text q
-WordAnswers words.Abandon p text q = OnRetrievals (Abandons p.on p.set p.retrievals) p text q
-WordAnswers words.Divert p text q = OnRetrievals (Diverts p.on p.set p.retrievals) p text q
+WordAnswers words.Retrieve p text q = OnSet (Retrieves p.on p.set) p text q
+WordAnswers words.Abandon p text q = OnSet (Abandons p.on p.set) p text q
+WordAnswers words.Divert p text q = OnSet (Diverts p.on p.set) p text q
 WordAnswers words.Rebalance p text q = OnSet (Rebalances p.set) p text q
 WordAnswers words.Table p text q = Shows (table_line p.set.table) p text q
 WordAnswers words.Held p text q = Shows (held_line (slice_get p.set.links p.on)) p text q
@@ -389,7 +324,6 @@ pub record AnswersOne (c : PlainGroupCommand) (p : Playing) (lines : List (List 
 -- so many units are asked of the link
 pub record Outputs (n : ℕ) (p : Playing) (lines : List (List ℕ)) (q : Playing) : Type 0 where
   pub goes : GivesOut p.on n p.set lines q.set
-  pub retrievals : q.retrievals ≡ p.retrievals
   pub on : q.on ≡ p.on
 
 -- the lines below speak of another link, which may or may not be there; nothing is printed

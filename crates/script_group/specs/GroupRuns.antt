@@ -1,5 +1,4 @@
--- What a run of a link set's script has printed, and what it made of the set and of the retrieved
--- messages.
+-- What a run of a link set's script has printed, and what it made of the set.
 use Rattle.std.specs.Prelude.{◌≡◌, ℕ, Bool, is_some, List, [], ◌∷◌, ◌++◌, All, length, Option, None}
 use Rattle.std.specs.Prelude.{Some}
 use Rattle.std.specs.List.{flat_map}
@@ -35,9 +34,9 @@ OWN_POINT = 1
 abbrev pub OTHER_POINT : ℕ
 OTHER_POINT = 2
 
--- no message is retrieved, and lines speak of link 0
+-- lines speak of link 0
 abbrev pub begun : LinkSet → Playing
-begun c = record { set = c; retrievals = []; on = 0 }
+begun c = record { set = c; on = 0 }
 
 -- as many new terminals over a set of processes as a script's first line says, with its error
 -- correction, and these limits of forced retransmission
@@ -95,7 +94,7 @@ pub record IsGroupRun (first : Playing) (commands : List PlainGroupSaid) (old ne
   pub written : Appends old new (flat_map line_of lines)
 
 abbrev pub playing_of : GroupPlayer → Playing
-playing_of p = at p.group p.retrievals p.on
+playing_of p = at p.group p.on
 
 abbrev pub last_of : GroupPlayer → Option (List ℕ)
 last_of p = last_in p.printer

@@ -7,7 +7,7 @@ use crate::calls::{admit, bind, fail, hear, rebalance, send, tell, tick};
 use crate::lines::{take_line, take_unit};
 use crate::retrievals::{abandon, divert, retrieve};
 use crate::shown::{held, link_is, state, table, unsure, value};
-use link_group::{Group, Retrievals};
+use link_group::Group;
 use script_links::{GroupCommand, GroupWord};
 use std::alloc::{AllocError, Global};
 
@@ -15,17 +15,16 @@ use std::alloc::{AllocError, Global};
 fn word_answer(
     alloc: Global,
     group: &mut Group,
-    retrievals: &mut Retrievals,
     link: usize,
     word: GroupWord,
 ) -> Result<Vec<u8>, AllocError>
-    ensures { IfOk result (λ v. WordAnswers word (at group.old retrievals.old link) v.items (at group.new retrievals.new link)) }
+    ensures { IfOk result (λ v. WordAnswers word (at group.old link) v.items (at group.new link)) }
 {
     match word {
         GroupWord::Fail => fail(alloc, group, link),
-        GroupWord::Retrieve => retrieve(alloc, group, retrievals, link),
-        GroupWord::Abandon => abandon(alloc, group, retrievals, link),
-        GroupWord::Divert => divert(alloc, group, retrievals, link),
+        GroupWord::Retrieve => retrieve(alloc, group, link),
+        GroupWord::Abandon => abandon(alloc, group, link),
+        GroupWord::Divert => divert(alloc, group, link),
         GroupWord::Rebalance => rebalance(alloc, group),
         GroupWord::Table => table(alloc, group),
         GroupWord::Held => held(alloc, group, link),
@@ -38,11 +37,10 @@ fn word_answer(
 pub(crate) fn answer(
     alloc: Global,
     group: &mut Group,
-    retrievals: &mut Retrievals,
     link: usize,
     command: &GroupCommand<'_>,
 ) -> Result<Vec<u8>, AllocError>
-    ensures { IfOk result (λ v. Answers (plain_group_command command.now) (at group.old retrievals.old link) v.items (at group.new retrievals.new link)) }
+    ensures { IfOk result (λ v. Answers (plain_group_command command.now) (at group.old link) v.items (at group.new link)) }
 {
     match command {
         GroupCommand::Order(order) => tell(alloc, group, link, *order),
@@ -55,7 +53,7 @@ pub(crate) fn answer(
         GroupCommand::Bound(octets) => bind(alloc, group, link, octets),
         GroupCommand::Message(octets) => hear(alloc, group, octets),
         GroupCommand::Admit(way) => admit(alloc, group, link, *way),
-        GroupCommand::Own(word) => word_answer(alloc, group, retrievals, link, *word),
+        GroupCommand::Own(word) => word_answer(alloc, group, link, *word),
         GroupCommand::Out(_) | GroupCommand::On(_) | GroupCommand::Expect(_) => {
             Ok(Vec::new(alloc))
         }

@@ -1,4 +1,4 @@
-//! A link set's script as it runs: what each command makes of the set and of the retrieved messages, and the lines that are printed for it.
+//! A link set's script as it runs: what each command makes of the set, and the lines that are printed for it.
 #![tactic(auto)]
 
 mod answers;
@@ -15,7 +15,7 @@ mod shown;
 
 pub use group_changeover::{Kind, read_changeover};
 pub use link_group::Terminal;
-pub use opened::{end_player, open_group};
+pub use opened::open_group;
 pub use player::GroupPlayer;
 pub use playing::play_group;
 pub use script_terminal::{

@@ -7,39 +7,25 @@ ghost use Rattle.script_group.specs.GroupRuns.{begun, playing_of, last_of, IsNew
 
 use crate::opening::open_set;
 use crate::player::GroupPlayer;
-use link_group::{Group, Retrievals};
+use link_group::Group;
 use script_links::{GroupHead, RoundLimits};
 use script_terminal::{OpenError, Printer};
 use std::alloc::Global;
 use turn_check::Verified;
 
-/// A set with these retrievals, of which nothing is printed yet.
-fn player_of(group: Group, retrievals: Retrievals) -> GroupPlayer
-    requires { retrievals.kept.items ≡ [] }
+/// A set of which nothing is printed yet.
+fn player_of(group: Group) -> GroupPlayer
     ensures playing { playing_of result ≡ begun group }
     ensures last { last_of result ≡ None }
 {
     GroupPlayer {
         group,
-        retrievals,
         on: 0,
         printer: Printer { last: None },
     }
 }
 
-/// The same; want of memory is told.
-fn begin(alloc: Global, group: Group) -> Result<GroupPlayer, OpenError>
-    ensures playing { IfOk result (λ p. playing_of p ≡ begun group) }
-    ensures last { IfOk result (λ p. last_of p ≡ None) }
-    ensures err { (d : Draft) → IfErr result (LacksOne d) }
-{
-    match Retrievals::new(alloc) {
-        Ok(retrievals) => Ok(player_of(group, retrievals)),
-        Err(_) => Err(OpenError::NoMemory),
-    }
-}
-
-/// The links of a script's first line, as the script begins with them, with these limits of forced retransmission. `end_player` takes the player.
+/// The links of a script's first line, as the script begins with them, with these limits of forced retransmission.
 pub fn open_group(
     alloc: Global,
     set: &Verified,
@@ -52,18 +38,7 @@ pub fn open_group(
     ensures err { IfErr result (LacksOne set.now) }
 {
     match open_set(alloc, set, limits, head) {
-        Ok(group) => begin(alloc, group),
+        Ok(group) => Ok(player_of(group)),
         Err(error) => Err(error),
     }
-}
-
-/// Ends a set, with the retrievals that are still out.
-pub fn end_player(player: GroupPlayer) {
-    let GroupPlayer {
-        group,
-        retrievals,
-        on: _,
-        printer: _printer,
-    } = player;
-    let _ended = group.end(retrievals);
 }

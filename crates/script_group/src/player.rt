@@ -7,16 +7,16 @@ ghost use Rattle.script_group.specs.GroupRuns.{playing_of, last_of, HasObeyed, I
 
 use crate::answers::answer;
 use crate::outputs::give_out;
-use link_group::{Group, Retrievals};
+use link_group::Group;
 use script_links::{GroupCommand, GroupSaid};
 use script_terminal::{HELD, MISSED, Printer, write_line};
 use std::alloc::Global;
 use std::io::{self, Write};
 
-/// A set, the retrieved messages, the link that lines speak of, and what is printed for it.
+/// A set, the link that lines speak of, and what is printed for it.
+#[derive(Drop)]
 pub struct GroupPlayer {
     pub group: Group,
-    pub retrievals: Retrievals,
     pub on: usize,
     pub printer: Printer,
 }
@@ -66,13 +66,7 @@ impl GroupPlayer {
                 Ok(true)
             }
             command => {
-                let line = answer(
-                    alloc,
-                    &mut self.group,
-                    &mut self.retrievals,
-                    self.on,
-                    command,
-                )?;
+                let line = answer(alloc, &mut self.group, self.on, command)?;
                 self.printer.print(line, writer)?;
                 Ok(true)
             }

@@ -7,7 +7,7 @@ ghost use Rattle.script_group.specs.GroupRuns.{begun, playing_of, last_of, IsGro
 
 use crate::opening::open_set;
 use crate::player::GroupPlayer;
-use link_group::{Group, Retrievals};
+use link_group::Group;
 use script_links::{GroupSaid, GroupScript, RoundLimits};
 use script_terminal::{FAILED, Printer, refuse_set};
 use std::alloc::Global;
@@ -35,15 +35,8 @@ fn run_all<W: Write>(
     }
 }
 
-/// Runs commands on a set, and ends it, with the retrievals that are still out. Gives the exit status.
-fn play_set<W: Write>(
-    alloc: Global,
-    group: Group,
-    retrievals: Retrievals,
-    commands: &[GroupSaid<'_>],
-    writer: &mut W,
-) -> u8
-    requires { retrievals.kept.items ≡ [] }
+/// Runs commands on a new set. Gives the exit status.
+fn play_set<W: Write>(alloc: Global, group: Group, commands: &[GroupSaid<'_>], writer: &mut W) -> u8
     ensures held { result ≡ 0 → IsGroupWritten (map plain_group_said commands.now) (W.contents writer.old) (W.contents writer.new) (begun group) }
     ensures missed { result ≡ 1 → IsGroupMissed (map plain_group_said commands.now) (W.contents writer.old) (W.contents writer.new) (begun group) }
     ensures status { (result ≡ 0) ⊎ (result ≡ 1) ⊎ (result ≡ 4) }
@@ -51,36 +44,15 @@ fn play_set<W: Write>(
     let printer = Printer { last: None };
     let mut player = GroupPlayer {
         group,
-        retrievals,
         on: 0,
         printer,
     };
-    let status = run_all(alloc, &mut player, commands, writer);
-    let GroupPlayer {
-        group,
-        retrievals,
-        on: _,
-        printer: _printer,
-    } = player;
-    let _ended = group.end(retrievals);
-    status
-}
-
-/// Runs commands on a new set, with no retrieval out. Gives the exit status.
-fn play_new<W: Write>(alloc: Global, group: Group, commands: &[GroupSaid<'_>], writer: &mut W) -> u8
-    ensures held { result ≡ 0 → IsGroupWritten (map plain_group_said commands.now) (W.contents writer.old) (W.contents writer.new) (begun group) }
-    ensures missed { result ≡ 1 → IsGroupMissed (map plain_group_said commands.now) (W.contents writer.old) (W.contents writer.new) (begun group) }
-    ensures status { (result ≡ 0) ⊎ (result ≡ 1) ⊎ (result ≡ 4) }
-{
-    match Retrievals::new(alloc) {
-        Ok(retrievals) => play_set(alloc, group, retrievals, commands, writer),
-        Err(_) => FAILED,
-    }
+    run_all(alloc, &mut player, commands, writer)
 }
 
 /// Runs a link set's script on links with terminals over a set of processes, and prints what each command but `on` and `expect` gives: one
 /// line, but for `out`, which prints one for each unit. There are as many new terminals as the script's first line says, with its error
-/// correction, and these limits of forced retransmission; this end's point code is 1, the other end's 2. At every end the set ends, with the messages that are not diverted yet.
+/// correction, and these limits of forced retransmission; this end's point code is 1, the other end's 2.
 ///
 /// Gives the exit status: 0 where each command ran and its lines were written, 1 after `failed line N` where an expectation failed, 2 after
 /// `refused X2 NoName NAME` alone where the set lacks a name that a terminal speaks to or hears, 4 where memory or a write fails. Nothing is
@@ -101,7 +73,7 @@ pub fn play_group<W: Write>(
     ensures status { (result ≡ 0) ⊎ (result ≡ 1) ⊎ (result ≡ 2) ⊎ (result ≡ 4) }
 {
     match open_set(alloc, set, limits, script.head) {
-        Ok(group) => play_new(alloc, group, &script.commands, writer),
+        Ok(group) => play_set(alloc, group, &script.commands, writer),
         Err(error) => refuse_set(alloc, writer, error),
     }
 }

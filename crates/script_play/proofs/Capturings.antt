@@ -1,17 +1,23 @@
 -- What is captured of a link, unit by unit.
-use Rattle.std.proofs.Common.{◌≡◌, ◌∙◌, ℕ, zero, suc, ◌+◌, ◌<◌, Bool, true, false, List, [], ◌∷◌, ◌++◌, append-nil, append_assoc, length, take, get_or, Option, None, Some, arith, refl, sym, ap, subst}
+use Rattle.std.proofs.Common.{◌≡◌, ◌∙◌, ℕ, zero, suc, ◌+◌, ◌<◌, Bool, true, false, List, [], ◌∷◌, ◌++◌, append-nil, append_assoc, length, take, reverse, get_or, Option, arith, sym, ap, subst}
 use Rattle.std.specs.Io.KnownBytes.{Appends}
-use Rattle.std.proofs.KnownBytes.{Appends-nil}
-use Rattle.std.proofs.lemmas.List.{take_more}
+use Rattle.std.specs.List.{flat_map}
+use Rattle.std.proofs.KnownBytes.{Appends-trans}
+use Rattle.std.proofs.lemmas.List.{take_more, reverse-append}
+use Rattle.std.proofs.lemmas.Grind.{flat_map-append}
 use Rattle.su_octets.specs.Bits.{bits_of}
 use Rattle.bit_line.specs.Deframing.{Stands}
-use Rattle.line_streams.specs.Capturing.{IsUnit, Ends}
-use Rattle.line_streams.specs.Records.{record_of}
+use Rattle.line_streams.specs.Capturing.{IsUnit, Ends, capture_of}
+use Rattle.line_streams.specs.Records.{HEADER, record_of}
 use Rattle.line_streams.specs.Repeats.{kept, with_kept, is_kept, StandsFor}
 use Rattle.line_streams.specs.declared.seen.Seen.{Seen}
-use Rattle.line_streams.proofs.Exchanging.{written}
 use Rattle.script_play.specs.Captured.{repeated, Hears, nothing, one, IsHeard, IsCapturing}
 use Rattle.script_play.specs.declared.capturing.LinkSeen.{LinkSeen}
+
+-- nothing came yet
+pub none_came : (link : ℕ) (every : Bool) (l : LinkSeen) → l.repeats.every ≡ every → Stands [] l.heard → StandsFor link [] l.repeats → IsHeard link every [] [] l
+unfolding bits_of
+none_came link every l every_is hears recalls = record { every_is = every_is; hears = hears; recalls = recalls }
 
 -- ---- a unit
 
@@ -37,19 +43,39 @@ noted every keeps s came ss l m same every_is stands is h =
       recalls = subst K (sym (kept_is every keeps s ss is)) (stands (kept every ss) h.recalls);
     }
 
+-- a record more
+behind_others : (s : Seen) (ks : List Seen) → flat_map record_of (reverse (s ∷ ks)) ≡ flat_map record_of (reverse ks) ++ record_of s
+behind_others s ks =
+    ap (flat_map record_of) (reverse-append (s ∷ []) ks)
+    ∙ flat_map-append record_of (reverse ks) (s ∷ [])
+    ∙ ap (λ (l : List ℕ). flat_map record_of (reverse ks) ++ l) (append-nil (record_of s))
+
+recorded_more : (every : Bool) (s : Seen) (ss : List Seen) (begun old new : Option (List ℕ)) → kept every (s ∷ ss) ≡ s ∷ kept every ss
+    → Appends begun old (capture_of every ss) → Appends old new (record_of s) → Appends begun new (capture_of every (s ∷ ss))
+recorded_more every s ss begun old new more before grew =
+    let P : List ℕ → Type 0 = λ l. Appends begun new l in
+    let is : capture_of every (s ∷ ss) ≡ capture_of every ss ++ record_of s =
+    ap (λ (h : List Seen). HEADER ++ flat_map record_of (reverse h)) more
+    ∙ ap (λ (l : List ℕ). HEADER ++ l) (behind_others s (kept every ss))
+    ∙ sym (append_assoc HEADER (flat_map record_of (reverse (kept every ss))) (record_of s)) in
+    subst P (sym is) (Appends-trans begun old new (capture_of every ss) (record_of s) before grew)
+
+unrecorded_more : (every : Bool) (s : Seen) (ss : List Seen) (begun old : Option (List ℕ)) → kept every (s ∷ ss) ≡ kept every ss
+    → Appends begun old (capture_of every ss) → Appends begun old (capture_of every (s ∷ ss))
+unrecorded_more every s ss begun old same before =
+    let P : List Seen → Type 0 = λ h. Appends begun old (HEADER ++ flat_map record_of (reverse h)) in
+    subst P (sym same) before
+
 -- it says something new, and is recorded
-pub saw_news : (every keeps : Bool) (s : Seen) (came : List ℕ) (ss : List Seen) (begun old new : Option (List ℕ)) (l m : LinkSeen) → keeps ≡ true → m.heard ≡ l.heard
+pub saw_news : (every keeps : Bool) (s : Seen) (came : List ℕ) (ss : List Seen) (begun old new : Option (List ℕ)) (l m : LinkSeen) (text : List ℕ) → keeps ≡ true → m.heard ≡ l.heard
     → m.repeats.every ≡ l.repeats.every → ((h : List Seen) → StandsFor s.link h l.repeats → keeps ≡ is_kept l.repeats.every h s)
-    → ((h : List Seen) → StandsFor s.link h l.repeats → StandsFor s.link (with_kept keeps s h) m.repeats) → Appends old new (record_of s)
-    → IsCapturing s.link every came ss begun old l → IsCapturing s.link every came (s ∷ ss) begun new m
-saw_news every keeps s came ss begun old new l m recorded same every_is keeps_is stands grew c =
+    → ((h : List Seen) → StandsFor s.link h l.repeats → StandsFor s.link (with_kept keeps s h) m.repeats) → text ≡ record_of s
+    → Appends old new text → IsCapturing s.link every came ss begun old l → IsCapturing s.link every came (s ∷ ss) begun new m
+saw_news every keeps s came ss begun old new l m text recorded same every_is keeps_is stands is_record grew c =
+    let A : List ℕ → Type 0 = λ bs. Appends old new bs in
     let is = decided every keeps s came ss begun old l c keeps_is in
     let more : kept every (s ∷ ss) ≡ s ∷ kept every ss = kept_is every keeps s ss is ∙ ap (λ (k : Bool). with_kept k s (kept every ss)) recorded in
-    let A : List ℕ → Type 0 = λ bs. Appends old new bs in
-    record {
-      heard = noted every keeps s came ss l m same every_is stands is c.heard;
-      written = written begun old new new every every ss (s ∷ ss) (Some s) None refl more c.written (subst A (sym (append-nil (record_of s))) grew) (Appends-nil new);
-    }
+    record { heard = noted every keeps s came ss l m same every_is stands is c.heard; written = recorded_more every s ss begun old new more c.written (subst A is_record grew) }
 
 -- it says nothing new
 pub saw_repeat : (every keeps : Bool) (s : Seen) (came : List ℕ) (ss : List Seen) (begun old : Option (List ℕ)) (l m : LinkSeen) → keeps ≡ false → m.heard ≡ l.heard
@@ -59,10 +85,7 @@ pub saw_repeat : (every keeps : Bool) (s : Seen) (came : List ℕ) (ss : List Se
 saw_repeat every keeps s came ss begun old l m left_out same every_is keeps_is stands c =
     let is = decided every keeps s came ss begun old l c keeps_is in
     let more : kept every (s ∷ ss) ≡ kept every ss = kept_is every keeps s ss is ∙ ap (λ (k : Bool). with_kept k s (kept every ss)) left_out in
-    record {
-      heard = noted every keeps s came ss l m same every_is stands is c.heard;
-      written = written begun old old old every every ss (s ∷ ss) None None refl more c.written (Appends-nil old) (Appends-nil old);
-    }
+    record { heard = noted every keeps s came ss l m same every_is stands is c.heard; written = unrecorded_more every s ss begun old more c.written }
 
 -- ---- octets that come in
 
@@ -120,11 +143,11 @@ more_heard link at every came xs ys ss begun mid new l m so_far step =
       capturing = subst P (append_assoc came xs ys) s.2;
     }
 
-pub one_more_heard : (link at : ℕ) (every : Bool) (came octets : List ℕ) (i x : ℕ) (ss : List Seen) (begun new : Option (List ℕ)) (l : LinkSeen) → i < length octets
-    → x ≡ get_or octets i x → HeardSoFar link at every came (take i octets ++ x ∷ []) ss begun new l → HeardSoFar link at every came (take (i + 1) octets) ss begun new l
-one_more_heard link at every came octets i x ss begun new l within is so_far =
+pub one_more_heard : (link at : ℕ) (every : Bool) (came octets : List ℕ) (i : ℕ) (ss : List Seen) (begun new : Option (List ℕ)) (l : LinkSeen) → i < length octets
+    → HeardSoFar link at every came (take i octets ++ get_or octets i 0 ∷ []) ss begun new l → HeardSoFar link at every came (take (i + 1) octets) ss begun new l
+one_more_heard link at every came octets i ss begun new l within so_far =
     let P : List ℕ → Type 0 = λ xs. HeardSoFar link at every came xs ss begun new l in
-    subst P (ap (λ y. take i octets ++ y ∷ []) is ∙ sym (take_more octets i x within)) so_far
+    subst P (sym (take_more octets i 0 within)) so_far
 
 -- the same octets once more
 repeated_more : (n : ℕ) (octets : List ℕ) → repeated n octets ++ octets ≡ repeated (suc n) octets

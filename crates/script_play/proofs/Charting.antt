@@ -1,9 +1,9 @@
 -- A chart, one turn more.
 use Rattle.std.proofs.Common.{◌≡◌, ◌∙◌, ℕ, zero, suc, ◌+◌, ◌*◌, Bool, true, false, List, [], ◌∷◌, ◌++◌, length, map, take, drop, append-nil, append_assoc, get_or, ◌<◌, ◌≤◌, eqb-true, Option, Some, None, arith, refl, sym, ap, subst}
-use Rattle.std.specs.Prelude.{◌||◌, ◌==◌, filter, is_empty, is_none, is_some, option_map, slice_get, if◌then◌else◌, codes}
+use Rattle.std.specs.Prelude.{◌||◌, ◌&&◌, ◌==◌, filter, is_none, is_some, option_map, slice_get, if◌then◌else◌, codes}
 use Rattle.std.specs.List.{list_any, flat_map}
 use Rattle.std.specs.Fmt.{decimal}
-use Rattle.std.proofs.lemmas.Bool.{false≢true}
+use Rattle.std.proofs.lemmas.Bool.{and_parts, false≢true, ne_eqb}
 use Rattle.std.proofs.lemmas.Option.{same_Some, slice_get-get_or, get_or_from_slice_get}
 use Rattle.std.proofs.lemmas.List.{length-append, length-map, length-take-le, map-append, take_all, take_more}
 use Rattle.std.proofs.lemmas.List.Elements.{filter-append}
@@ -12,6 +12,8 @@ use Rattle.turn_code.specs.Outcome.{Outcome}
 use Rattle.turn_code.specs.declared.draft.Draft.{Draft}
 use Rattle.turn_code.specs.declared.effect.Effect.{Effect}
 use Rattle.turn_code.specs.declared.draft.DraftProcess.{DraftProcess}
+use Rattle.turn_code.specs.declared.input.Address.{Address}
+use Rattle.turn_code.specs.declared.input.Place.{Place}
 use Rattle.turn_check.specs.Named.{instances_at, instances_of}
 use Rattle.script_lines.specs.Replies.{sender_text}
 use Rattle.script_seen.specs.Names.{same_actor, named, instances_from, names_from, counts_of, actors_of}
@@ -22,7 +24,7 @@ use Rattle.script_seen.specs.actor_machine_types.name.ActorName.{ActorName}
 use Rattle.script_seen.specs.actor_machine_types.reply.Lost.{Lost}
 use Rattle.script_seen.specs.actor_machine_types.reply.Report.{Report}
 use Rattle.script_seen.specs.declared.turns.Ended.{Ended}
-use Rattle.script_play.specs.Charted.{time_text, row_text, rows_text, came_text, box_text, outs_text, timing_of, is_in, is_sender, gets, get_it, came_from_outside, goes_outside, has_outside, is_drawn, last_clock, end_of, takes_part, drawn_columns, columns_of, chart_of, chart_text, COLUMN, head_of, heads, behind_each, stacked, below_each, note_of, beside, Charts, IsDrawn, TakesPart, HasMore, HasColumns}
+use Rattle.script_play.specs.Charted.{time_text, row_text, rows_text, came_text, box_text, outs_text, timing_of, is_in, is_sender, gets, get_it, came_from_outside, goes_outside, has_outside, is_drawn, last_clock, end_of, takes_part, are_none, after_heads, drawn_columns, columns_of, chart_of, chart_text, COLUMN, head_of, heads, behind_each, stacked, below_each, note_of, beside, Charts, IsDrawn, TakesPart, HasMore, HasColumns}
 use Rattle.script_play.specs.declared.charts.Chart.{Chart}
 use Rattle.script_play.specs.declared.charts.Cut.{Cut}
 use Rattle.script_play.specs.declared.columns.Columns.{Columns}
@@ -40,6 +42,15 @@ or_more false b c = refl
 any_more : {A : Type 0} (p : A → Bool) (xs : List A) (x : A) → list_any p (xs ++ x ∷ []) ≡ (list_any p xs || p x)
 any_more p [] x = or_none (p x)
 any_more p (y ∷ ys) x = ap (λ (b : Bool). p y || b) (any_more p ys x) ∙ or_more (p y) (list_any p ys) (p x)
+
+-- ---- which turns are drawn
+
+pub same_cut : (a b : Cut) → ((a.first == b.first) && (a.last == b.last)) ≡ true → a ≡ b
+same_cut a b same =
+    let parts = and_parts (a.first == b.first) (a.last == b.last) same in
+    let first : a.first ≡ b.first = eqb-true a.first b.first parts.0 in
+    let last : a.last ≡ b.last = eqb-true a.last b.last parts.1 in
+    λ i. record { first = first i; last = last i }
 
 -- ---- rows
 
@@ -196,19 +207,21 @@ effects_are : (x : Option Outcome) (o : Outcome) (es : List Effect) → option_m
 effects_are x o es part is = same_Some es o.progress.effects (sym part ∙ ap (option_map (λ (y : Outcome). y.progress.effects)) is)
 
 -- whoever is drawn with a turn
-pub all_enter : (d : Draft) (e : Ended) (es : List Effect) (c m k n : Chart) → option_map (λ (y : Outcome). y.progress.effects) (outcome_of e.done) ≡ Some es
-    → TakesPart (same_actor e.me) false c m → TakesPart (is_sender e.done.input.sender) (came_from_outside e.done.input.sender) m k
-    → TakesPart (get_it d e.me e.report.lost.items 0 es) (list_any goes_outside es) k n → (o : Outcome) → outcome_of e.done ≡ Some o
-    → TakesPart (λ x. is_in d x (end_of e o)) (has_outside (end_of e o)) c n
-all_enter d e es c m k n part own sender others o ran =
+pub all_enter : (d : Draft) (e : Ended) (from : Option Address) (lost : List Lost) (es : List Effect) (c m k n : Chart) → from ≡ e.done.input.sender
+    → lost ≡ e.report.lost.items → option_map (λ (y : Outcome). y.progress.effects) (outcome_of e.done) ≡ Some es → TakesPart (same_actor e.me) false c m
+    → TakesPart (is_sender from) (came_from_outside from) m k → TakesPart (get_it d e.me lost 0 es) (list_any goes_outside es) k n → (o : Outcome)
+    → outcome_of e.done ≡ Some o → TakesPart (λ x. is_in d x (end_of e o)) (has_outside (end_of e o)) c n
+all_enter d e from lost es c m k n sent gone part own sender others o ran =
     let E : List Effect → Type 0 =
     λ l. TakesPart (λ x. same_actor e.me x || (is_sender e.done.input.sender x || get_it d e.me e.report.lost.items 0 l x))
     (came_from_outside e.done.input.sender || list_any goes_outside l) c n in
+    let S : Option Address → Type 0 = λ x. TakesPart (is_sender x) (came_from_outside x) m k in
+    let L : List Lost → Type 0 = λ l. TakesPart (get_it d e.me l 0 es) (list_any goes_outside es) k n in
     subst E (effects_are (outcome_of e.done) o es part ran)
     (both_part (same_actor e.me) (λ x. is_sender e.done.input.sender x || get_it d e.me e.report.lost.items 0 es x) false
     (came_from_outside e.done.input.sender || list_any goes_outside es) c m n own
     (both_part (is_sender e.done.input.sender) (get_it d e.me e.report.lost.items 0 es) (came_from_outside e.done.input.sender) (list_any goes_outside es) m k n
-    sender others))
+    (subst S sent sender) (subst L gone others)))
 
 -- ---- effects, one more
 
@@ -232,7 +245,8 @@ effect_more d me lost es i e is_lost c m n within is how p q =
     let all : take i es ++ e ∷ [] ≡ take (i + 1) es = sym (take_more es i e within ∙ ap (λ (y : Effect). take i es ++ y ∷ []) is) in
     let P : List Effect → Type 0 = λ l. TakesPart (get_it d me lost 0 l) (list_any goes_outside l) c n in
     let B : Bool → Type 0 = λ b. TakesPart (gets d me b e) (goes_outside e) m n in
-    let here : is_lost ≡ is_some (lost_at lost (0 + length (take i es))) = how ∙ ap (λ (j : ℕ). is_some (lost_at lost j)) (sym few) in
+    let place : i ≡ 0 + length (take i es) = omega (arith, few) in
+    let here : is_lost ≡ is_some (lost_at lost (0 + length (take i es))) = how ∙ ap (λ (j : ℕ). is_some (lost_at lost j)) place in
     subst P all
     (part_as _ _ _ _ c n (λ x. sym (gets_more d me lost 0 (take i es) e x)) (sym (any_more goes_outside (take i es) e))
     (both_part (get_it d me lost 0 (take i es)) (gets d me (is_some (lost_at lost (0 + length (take i es)))) e) (list_any goes_outside (take i es)) (goes_outside e)
@@ -245,24 +259,28 @@ all_effects d me lost es i c n over p =
 
 -- ---- the rows of a turn
 
-five_pieces : (a t c b o n r s u v w : List ℕ) → r ≡ a ++ t → s ≡ r ++ c → u ≡ s ++ b → v ≡ u ++ o → w ≡ v ++ n → w ≡ a ++ (t ++ (c ++ (b ++ (o ++ n))))
+five_pieces : (a t c b o n r s u v w : List ℕ) → r ≡ a ++ t → s ≡ r ++ c → u ≡ s ++ b → v ≡ u ++ o → w ≡ v ++ n → w ≡ a ++ (t ++ (c ++ b ++ o ++ n))
 five_pieces a t c b o n r s u v w p q h k l =
     l
     ∙ (ap (λ (x : List ℕ). x ++ n) (k ∙ ap (λ (x : List ℕ). x ++ o) (h ∙ ap (λ (x : List ℕ). x ++ b) (q ∙ ap (λ (x : List ℕ). x ++ c) p)))
     ∙ simp append_assoc)
 
-pub turn_rows : (d : Draft) (e : Ended) (es : List Effect) (last : Option ℕ) (a r s u v w : List ℕ)
-    → option_map (λ (y : Outcome). y.progress.effects) (outcome_of e.done) ≡ Some es → r ≡ a ++ time_text last e.clock
-    → s ≡ r ++ came_text d e.me e.done e.done.place → u ≡ s ++ box_text d e.me e.done.place e.report.end → v ≡ u ++ outs_text d e.me e.report.lost.items 0 es
-    → w ≡ v ++ note_of d e.me (flat_map (timing_of d e.me.process.0 e.clock) es) → (o : Outcome) → outcome_of e.done ≡ Some o
-    → w ≡ a ++ (time_text last e.clock ++ row_text d (end_of e o))
-turn_rows d e es last a r s u v w part p q h k l o ran =
+pub turn_rows : (d : Draft) (e : Ended) (turn : Turn) (place : Place) (lost : List Lost) (es : List Effect) (last : Option ℕ) (a r s u v w : List ℕ)
+    → turn ≡ e.done → place ≡ e.done.place → lost ≡ e.report.lost.items → option_map (λ (y : Outcome). y.progress.effects) (outcome_of e.done) ≡ Some es
+    → r ≡ a ++ time_text last e.clock → s ≡ r ++ came_text d e.me turn turn.place → u ≡ s ++ box_text d e.me place e.report.end
+    → v ≡ u ++ outs_text d e.me lost 0 es → w ≡ v ++ note_of d e.me (flat_map (timing_of d e.me.process.0 e.clock) es) → (o : Outcome)
+    → outcome_of e.done ≡ Some o → w ≡ a ++ (time_text last e.clock ++ row_text d (end_of e o))
+turn_rows d e turn place lost es last a r s u v w is stood gone part p q h k l o ran =
     let E : List Effect → Type 0 =
-    λ x. w ≡ a ++ (time_text last e.clock ++ (came_text d e.me e.done e.done.place ++ (box_text d e.me e.done.place e.report.end
-    ++ (outs_text d e.me e.report.lost.items 0 x ++ note_of d e.me (flat_map (timing_of d e.me.process.0 e.clock) x))))) in
+    λ x. w ≡ a ++ (time_text last e.clock ++ (came_text d e.me e.done e.done.place ++ box_text d e.me e.done.place e.report.end
+    ++ outs_text d e.me e.report.lost.items 0 x ++ note_of d e.me (flat_map (timing_of d e.me.process.0 e.clock) x))) in
+    let T : Turn → Type 0 = λ x. s ≡ r ++ came_text d e.me x x.place in
+    let P : Place → Type 0 = λ x. u ≡ s ++ box_text d e.me x e.report.end in
+    let L : List Lost → Type 0 = λ x. v ≡ u ++ outs_text d e.me x 0 es in
     subst E (effects_are (outcome_of e.done) o es part ran)
     (five_pieces a (time_text last e.clock) (came_text d e.me e.done e.done.place) (box_text d e.me e.done.place e.report.end)
-    (outs_text d e.me e.report.lost.items 0 es) (note_of d e.me (flat_map (timing_of d e.me.process.0 e.clock) es)) r s u v w p q h k l)
+    (outs_text d e.me e.report.lost.items 0 es) (note_of d e.me (flat_map (timing_of d e.me.process.0 e.clock) es)) r s u v w p (subst T is q) (subst P stood h)
+    (subst L gone k) l)
 
 -- ---- columns
 
@@ -359,10 +377,11 @@ process_more d xs i n a b c within number p q =
     let K : ℕ → Type 0 = λ k. HasMore (chosen d xs (instances_from i 1 k)) b c in
     let ns : List ℕ = counts_of (take i ps) in
     let few : length ns ≡ i = length-map (take i ps) (λ (y : DraftProcess). y.instances) ∙ length-take-le i ps (omega (arith, within)) in
+    let place : 0 + length ns ≡ i = omega (arith, few) in
     let all : actors_of (take (i + 1) ps) ≡ actors_of (take i ps) ++ instances_from i 1 x.instances =
     ap actors_of (take_more ps i x within ∙ ap (λ (y : DraftProcess). take i ps ++ y ∷ []) (get_or_from_slice_get ps i x x one.is))
     ∙ (ap (names_from 0) (map-append (λ (y : DraftProcess). y.instances) (take i ps) (x ∷ []))
-    ∙ (names_more 0 ns x.instances ∙ ap (λ (k : ℕ). actors_of (take i ps) ++ instances_from k 1 x.instances) few)) in
+    ∙ (names_more 0 ns x.instances ∙ ap (λ (k : ℕ). names_from 0 ns ++ instances_from k 1 x.instances) place)) in
     more_names d xs (actors_of (take i ps)) (instances_from i 1 x.instances) (actors_of (take (i + 1) ps)) a b c all p
     (subst K (ap instances_of one.is) (subst N number q))
 
@@ -383,11 +402,17 @@ chosen_none d xs actor a not_there =
 
 -- ---- notes
 
+has_text : (more : List ℕ) → (length (92 ∷ 110 ∷ more) == 0) ≡ false
+has_text more =
+    ne_eqb (length (92 ∷ 110 ∷ more)) 0
+    (λ e. let f : suc (suc (length more)) ≡ 0 = e in absurd (omega (arith, f)))
+
 pub nothing_noted : (d : Draft) (me : ActorName) (lines : List (List ℕ)) (a text : List ℕ) → text ≡ below_each lines → (length text == 0) ≡ true
     → a ≡ a ++ note_of d me lines
 nothing_noted d me [] a text is none = sym (append-nil a)
 nothing_noted d me (line ∷ lines) a text is none =
-    let L : List ℕ → Type 0 = λ t. (length t == 0) ≡ true in absurd (false≢true (subst L is none))
+    let L : List ℕ → Type 0 = λ t. (length t == 0) ≡ true in
+    absurd (false≢true (sym (has_text (line ++ below_each lines)) ∙ subst L is none))
 
 pub is_noted : (d : Draft) (me : ActorName) (lines : List (List ℕ)) (a b text more : List ℕ) → text ≡ below_each lines → (length text == 0) ≡ false
     → more ≡ drop 2 text → b ≡ a ++ beside d me (codes " note ") more → b ≡ a ++ note_of d me lines
@@ -406,7 +431,7 @@ none_yet : (last : ℕ) (ts : List TurnEnd) → is_none (last_clock (Some last) 
 none_yet last [] = refl
 none_yet last (t ∷ ts) = none_yet t.clock ts
 
-no_turns : (ts : List TurnEnd) → is_none (last_clock None ts) ≡ is_empty ts
+no_turns : (ts : List TurnEnd) → is_none (last_clock None ts) ≡ are_none ts
 no_turns [] = refl
 no_turns (t ∷ ts) = none_yet t.clock ts
 
@@ -420,16 +445,17 @@ same_chosen P Q (x ∷ xs) same =
 pub columns_are : (d : Draft) (ts : List TurnEnd) (c : Chart) → IsDrawn d ts c
     → columns_of d (c.environment || is_none c.clock) c.actors.items ≡ drawn_columns d ts
 columns_are d ts c k =
-    let outside : (c.environment || is_none c.clock) ≡ (list_any has_outside ts || is_empty ts) =
+    let outside : (c.environment || is_none c.clock) ≡ (list_any has_outside ts || are_none ts) =
     ap (λ (b : Bool). b || is_none c.clock) k.outside ∙ ap (λ (b : Bool). list_any has_outside ts || b) (ap (λ (o : Option ℕ). is_none o) k.clock ∙ no_turns ts) in
     ap (λ (b : Bool). columns_of d b c.actors.items) outside
-    ∙ ap (λ (l : List ActorName). (if list_any has_outside ts || is_empty ts then codes "ENV" ∷ [] else []) ++ map (sender_text d) l)
+    ∙ ap (λ (l : List ActorName). (if list_any has_outside ts || are_none ts then codes "ENV" ∷ [] else []) ++ map (sender_text d) l)
     (same_chosen (takes_part c.actors.items) (λ x. list_any (is_in d x) ts) (actors_of d.processes) k.actors)
 
 -- the chart of the turns that were drawn
-pub chart_is : (d : Draft) (cut own : Cut) (ts : List TurnEnd) (c : Chart) (cs : Columns) (width : ℕ) (heads_text : List ℕ) → own ≡ cut → c.cut ≡ own
+chart_is : (d : Draft) (cut own : Cut) (ts : List TurnEnd) (c : Chart) (cs : Columns) (width : ℕ) (heads_text : List ℕ) → own ≡ cut → c.cut ≡ own
     → HasColumns (columns_of d (c.environment || is_none c.clock) c.actors.items) cs → width ≡ COLUMN * cs.count → heads_text ≡ drop 2 cs.text.items → Charts d ts c
-    → codes "msc {\n  width=\"" ++ (decimal width ++ (codes "\", arcgradient=\"0\";\n  " ++ (heads_text ++ (codes ";\n" ++ (c.rows.items ++ codes "}\n"))))) ≡ chart_text d cut ts
+    → codes "msc {\n  width=\"" ++ decimal width ++ codes "\", arcgradient=\"0\";\n  " ++ heads_text ++ after_heads (is_none c.clock) ++ c.rows.items
+    ++ codes "}\n" ≡ chart_text d cut ts
 chart_is d cut own ts c cs width heads_text same is columns_have wide heads_have k =
     let ds : List TurnEnd = filter (is_drawn c.cut) ts in
     let names : columns_of d (c.environment || is_none c.clock) c.actors.items ≡ drawn_columns d ds = columns_are d ds c k in
@@ -438,10 +464,13 @@ chart_is d cut own ts c cs width heads_text same is columns_have wide heads_have
     let H : heads_text ≡ heads (drawn_columns d ds) =
     heads_have ∙ (ap (λ (t : List ℕ). drop 2 t) (columns_have.text ∙ ap behind_each names) ∙ heads_are (drawn_columns d ds)) in
     let C : chart_of d ds ≡ chart_text d cut ts = ap (λ (x : Cut). chart_of d (filter (is_drawn x) ts)) (is ∙ same) in
-    ap (λ (n : ℕ). codes "msc {\n  width=\"" ++ (decimal n ++ (codes "\", arcgradient=\"0\";\n  " ++ (heads_text ++ (codes ";\n" ++ (c.rows.items ++ codes "}\n")))))) W
-    ∙ (ap (λ (t : List ℕ). codes "msc {\n  width=\"" ++ (decimal (COLUMN * length (drawn_columns d ds)) ++ (codes "\", arcgradient=\"0\";\n  " ++ (t ++ (codes ";\n" ++ (c.rows.items ++ codes "}\n")))))) H
-    ∙ (ap (λ (t : List ℕ). codes "msc {\n  width=\"" ++ (decimal (COLUMN * length (drawn_columns d ds)) ++ (codes "\", arcgradient=\"0\";\n  " ++ (heads (drawn_columns d ds) ++ (codes ";\n" ++ (t ++ codes "}\n")))))) k.rows
-    ∙ C))
+    let E : is_none c.clock ≡ are_none ds = ap (λ (o : Option ℕ). is_none o) k.clock ∙ no_turns ds in
+    let made : ℕ → List ℕ → Bool → List ℕ → List ℕ =
+    λ n h none r. codes "msc {\n  width=\"" ++ decimal n ++ codes "\", arcgradient=\"0\";\n  " ++ h ++ after_heads none ++ r ++ codes "}\n" in
+    ap (λ (n : ℕ). made n heads_text (is_none c.clock) c.rows.items) W
+    ∙ (ap (λ (h : List ℕ). made (COLUMN * length (drawn_columns d ds)) h (is_none c.clock) c.rows.items) H
+    ∙ (ap (λ (none : Bool). made (COLUMN * length (drawn_columns d ds)) (heads (drawn_columns d ds)) none c.rows.items) E
+    ∙ (ap (λ (r : List ℕ). made (COLUMN * length (drawn_columns d ds)) (heads (drawn_columns d ds)) (are_none ds) r) k.rows ∙ C)))
 
 pub columns_made : (d : Draft) (has out : Bool) (ys xs : List ActorName) (a b : Columns) → has ≡ out → ys ≡ xs
     → HasColumns (if has then codes "ENV" ∷ [] else []) a → HasMore (chosen d ys (actors_of d.processes)) a b → HasColumns (columns_of d out xs) b
@@ -450,10 +479,21 @@ columns_made d has out ys xs a b same actors first more =
     let A : List ActorName → Type 0 = λ l. HasColumns ((if out then codes "ENV" ∷ [] else []) ++ chosen d l (actors_of d.processes)) b in
     subst A actors (subst B same (columns_with (if has then codes "ENV" ∷ [] else []) (chosen d ys (actors_of d.processes)) a b first more))
 
-pub seven_pieces : (m n a h s r e q u v w x y z : List ℕ) → q ≡ m → u ≡ q ++ n → v ≡ u ++ a → w ≡ v ++ h → x ≡ w ++ s → y ≡ x ++ r → z ≡ y ++ e
-    → z ≡ m ++ (n ++ (a ++ (h ++ (s ++ (r ++ e)))))
+seven_pieces : (m n a h s r e q u v w x y z : List ℕ) → q ≡ m → u ≡ q ++ n → v ≡ u ++ a → w ≡ v ++ h → x ≡ w ++ s → y ≡ x ++ r → z ≡ y ++ e
+    → z ≡ m ++ n ++ a ++ h ++ s ++ r ++ e
 seven_pieces m n a h s r e q u v w x y z is1 is2 is3 is4 is5 is6 is7 =
     let f : List ℕ → List ℕ → List ℕ = λ l k. l ++ k in
-    is7
-    ∙ (ap (λ l. f l e) (is6 ∙ ap (λ l. f l r) (is5 ∙ ap (λ l. f l s) (is4 ∙ ap (λ l. f l h) (is3 ∙ ap (λ l. f l a) (is2 ∙ ap (λ l. f l n) is1)))))
-    ∙ simp append_assoc)
+    is7 ∙ ap (λ l. f l e) (is6 ∙ ap (λ l. f l r) (is5 ∙ ap (λ l. f l s) (is4 ∙ ap (λ l. f l h) (is3 ∙ ap (λ l. f l a) (is2 ∙ ap (λ l. f l n) is1)))))
+
+-- the whole text, piece by piece
+pub chart_made : (d : Draft) (cut own : Cut) (ts : List TurnEnd) (c : Chart) (cs : Columns) (width : ℕ) (has_none : Bool) (heads_text rows q u v w x y z : List ℕ) → own ≡ cut
+    → c.cut ≡ own → HasColumns (columns_of d (c.environment || is_none c.clock) c.actors.items) cs → width ≡ COLUMN * cs.count
+    → heads_text ≡ drop 2 cs.text.items → rows ≡ c.rows.items → has_none ≡ is_none c.clock → q ≡ codes "msc {\n  width=\"" → u ≡ q ++ decimal width
+    → v ≡ u ++ codes "\", arcgradient=\"0\";\n  " → w ≡ v ++ heads_text → x ≡ w ++ after_heads has_none → y ≡ x ++ rows → z ≡ y ++ codes "}\n" → Charts d ts c
+    → z ≡ chart_text d cut ts
+chart_made d cut own ts c cs width has_none heads_text rows q u v w x y z same is columns_have wide heads_have drawn none is1 is2 is3 is4 is5 is6 is7 k =
+    let R : List ℕ → Type 0 = λ r. y ≡ x ++ r in
+    let N : Bool → Type 0 = λ b. x ≡ w ++ after_heads b in
+    seven_pieces (codes "msc {\n  width=\"") (decimal width) (codes "\", arcgradient=\"0\";\n  ") heads_text (after_heads (is_none c.clock)) c.rows.items (codes "}\n") q u v w x y z is1 is2
+    is3 is4 (subst N none is5) (subst R drawn is6) is7
+    ∙ chart_is d cut own ts c cs width heads_text same is columns_have wide heads_have k

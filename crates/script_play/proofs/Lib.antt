@@ -3,11 +3,12 @@ mod Texts
 mod Throwing
 mod Charting
 mod Tellings
-pub mod Watching
+pub mod WatchedPlays
 mod Capturings
 mod OutGoing
 mod TermCaptures
 mod OtherLinks
 mod SetCaptures
+mod SetClocks
 mod SetOutGoing
 mod SetCommands

@@ -8,7 +8,7 @@ use Rattle.line_streams.specs.declared.repeats.Latest.{Latest}
 use Rattle.line_streams.specs.declared.repeats.Repeats.{Repeats}
 use Rattle.line_streams.specs.declared.seen.Seen.{Seen}
 use Rattle.script_seen.specs.Set.{LinkSet}
-use Rattle.script_play.specs.Captured.{Hears, nothing, one, IsGone, IsHeard}
+use Rattle.script_play.specs.Captured.{Hears, nothing, one, IsHeard}
 use Rattle.script_play.specs.CapturedSets.{SendsOn, nothing as none_asked, silent, one_goes, AreHeard, none, more}
 use Rattle.script_play.specs.declared.capturing.LinkSeen.{LinkSeen}
 
@@ -43,16 +43,16 @@ unit_apart : (every went : Bool) (link other at : ℕ) (found : Option (List ℕ
 unit_apart every went link other at None ss last r apart is x =
     let P : List Seen → Type 0 = λ l. StandsFor other (kept every l) r in subst P (sym is) x
 unit_apart every went link other at (Some octets) ss [] r apart is x = absurd is
-unit_apart every went link other at (Some octets) ss (s ∷ more) r apart is x =
+unit_apart every went link other at (Some octets) ss (s ∷ others) r apart is x =
     let P : List Seen → Type 0 = λ l. StandsFor other (kept every l) r in
-    stands_still every other s more r (λ same. apart (sym is.1 ∙ same)) (subst P (sym is.4) x)
+    stands_still every other s others r (λ same. apart (sym is.1 ∙ same)) (subst P (sym is.4) x)
 
 -- octets that come in on another link
 pub heard_apart : (every : Bool) (link other at : ℕ) (before octets : List ℕ) (ss last : List Seen) (r : Repeats) → (link ≡ other → ⊥) → Hears link at before octets ss last
     → StandsFor other (kept every ss) r → StandsFor other (kept every last) r
 heard_apart every link other at _ _ _ _ r apart (nothing before seen) x = x
-heard_apart every link other at _ _ _ _ r apart (one before rest octet found seen mid last ends is more) x =
-    heard_apart every link other at (before ++ octet ∷ []) rest mid last r apart more (unit_apart every false link other at found seen mid r apart is x)
+heard_apart every link other at _ _ _ _ r apart (one before rest octet found seen mid last ends is others) x =
+    heard_apart every link other at (before ++ octet ∷ []) rest mid last r apart others (unit_apart every false link other at found seen mid r apart is x)
 
 -- a unit that goes out there
 pub gone_apart : (every : Bool) (link other at : ℕ) (octets : List ℕ) (ss last : List Seen) (r : Repeats) → (link ≡ other → ⊥) → IsUnit true link at (Some octets) ss last

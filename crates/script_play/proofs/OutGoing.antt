@@ -1,5 +1,5 @@
 -- Units that go out one after another, printed and captured.
-use Rattle.std.proofs.Common.{◌≡◌, ◌∙◌, ℕ, zero, suc, ◌+◌, ◌-◌, ◌<◌, ◌≤◌, Bool, List, [], ◌∷◌, ◌++◌, append-nil, append_assoc, Option, None, Some, refl, sym, ap, subst, arith}
+use Rattle.std.proofs.Common.{◌≡◌, ◌∙◌, ℕ, suc, ◌+◌, ◌-◌, ◌<◌, ◌≤◌, Bool, List, [], ◌∷◌, ◌++◌, append-nil, append_assoc, Option, None, Some, refl, sym, ap, subst, arith}
 use Rattle.std.specs.Prelude.{codes}
 use Rattle.std.specs.List.{flat_map}
 use Rattle.std.specs.Io.KnownBytes.{Appends}
@@ -34,6 +34,14 @@ printed_both old now next last mid after xs ys first second =
 
 pub printed_as : (old new last next : Option (List ℕ)) (xs ys : List (List ℕ)) → xs ≡ ys → HasPrinted old new last next xs → HasPrinted old new last next ys
 printed_as old new last next xs ys same printed = let P : List (List ℕ) → Type 0 = λ ls. HasPrinted old new last next ls in subst P same printed
+
+-- a line of a unit, or of none
+pub printed_one : (old new last next : Option (List ℕ)) (text line : List ℕ) → next ≡ Some line → Appends old new (line_of line) → line ≡ text
+    → HasPrinted old new last next (text ∷ [])
+printed_one old new last next text line is grew same =
+    let A : List ℕ → Type 0 = λ bs. Appends old new bs in
+    let P : List ℕ → Type 0 = λ t. HasPrinted old new last next (t ∷ []) in
+    subst P same (record { latest_is = is; written = subst A (sym (append-nil (line_of line))) grew })
 
 out_as : (n m : ℕ) (t : Term) (xs ys : List (List ℕ)) (u : Term) → n ≡ m → xs ≡ ys → GoOut n t xs u → GoOut m t ys u
 out_as n m t xs ys u same lines out =

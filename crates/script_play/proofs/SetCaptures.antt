@@ -1,25 +1,24 @@
 -- What is captured of a link set's run, one command more.
-use Rattle.std.proofs.Common.{◌≡◌, ◌∙◌, ℕ, zero, suc, ◌+◌, ◌<◌, ◌≤◌, Bool, true, false, List, [], ◌∷◌, ◌++◌, append-nil, length, map, take, drop, get_or, slice_set, Option, None, Some, arith, refl, sym, ap, subst}
+use Rattle.std.proofs.Common.{◌≡◌, ◌∙◌, ℕ, zero, suc, ◌+◌, ◌<◌, ◌≤◌, Bool, List, [], ◌∷◌, ◌++◌, append-nil, length, length-append, map, take, drop, get_or, slice_set, Option, None, Some, arith, refl, sym, ap, subst}
 use Rattle.std.specs.Prelude.{slice_get}
 use Rattle.std.specs.Io.KnownBytes.{Appends}
 use Rattle.std.proofs.KnownBytes.{Appends-nil}
 use Rattle.std.proofs.lemmas.Option.{none-some, same_Some}
+use Rattle.actor_machine.specs.Ledger.{Ledger}
 use Rattle.line_streams.specs.Capturing.{capture_of}
 use Rattle.line_streams.specs.Records.{HEADER}
-use Rattle.line_streams.specs.Repeats.{kept, StandsFor}
+use Rattle.line_streams.specs.Repeats.{kept}
 use Rattle.line_streams.specs.declared.seen.Seen.{Seen}
-use Rattle.script_links.specs.GroupCommands.{PlainGroupCommand}
 use Rattle.script_links.specs.GroupCommands as group
 use Rattle.script_links.specs.GroupScripts.{PlainGroupSaid, plain_group_said}
 use Rattle.script_links.specs.declared.group_script.GroupSaid.{GroupSaid}
-use Rattle.script_seen.specs.GroupAnswers.{Playing, Obeys}
-use Rattle.script_seen.specs.GroupRuns.{begins as group_begins, IsGroupRun, IsGroupMissedBy, HasObeyed, was_met, was_done}
-use Rattle.script_seen.specs.TracedGroups.{books_of}
+use Rattle.script_seen.specs.GroupAnswers.{Playing}
+use Rattle.script_seen.specs.GroupRuns.{begins as group_begins, IsGroupRun, IsGroupWritten, IsGroupMissed, IsGroupMissedBy, HasObeyed, was_met, was_done}
 use Rattle.script_seen.proofs.Showings.{one_more, parts_at, all_taken}
-use Rattle.script_play.specs.Captured.{Hears, IsHeard, IsCapturing}
-use Rattle.script_play.specs.CapturedSets.{IsComing, is_noted, set_time, Goes, begins, comes_in, is_nowhere, holds, AreHeard, none, more, AreApart, IsCapturedThere, IsSetCapturing, IsSetCaptured, IsSetCapturedInPart}
+use Rattle.script_play.specs.Captured.{IsHeard, IsCapturing}
+use Rattle.script_play.specs.CapturedSets.{books_of, Goes, begins, is_nowhere, holds, AreHeard, none, more, IsCapturedThere, IsSetCapturing, IsSetCaptured, IsSetCapturedInPart}
 use Rattle.script_play.specs.declared.capturing.LinkSeen.{LinkSeen}
-use Rattle.script_play.proofs.OtherLinks.{heard_apart, known_still, one_known}
+use Rattle.script_play.proofs.OtherLinks.{known_still, one_known}
 
 -- ---- one of the links
 
@@ -67,7 +66,7 @@ set_captured every first before said begun old new now next last printed on link
       goes = s.goes;
       heard = one_known every so_far.seen s.last zero on so_far.came links s.came m (omega (arith, within, as_many))
           (λ other apart c k h. known_still every other c so_far.seen s.last k (λ x. s.apart other (λ same. apart (zero_on ∙ same)) k.repeats x) h)
-          (subst N (sym zero_on) s.capturing.heard);
+          (subst N (sym zero_on) s.capturing.heard) so_far.heard;
       written = s.capturing.written;
     }
 
@@ -96,6 +95,47 @@ nowhere_captured every first before said begun old from to now next last printed
       heard = so_far.heard;
       written = so_far.written;
     }
+
+-- ---- links of which nothing was seen
+
+pub data AreUnseen (every : Bool) : List LinkSeen → Type 0 where
+  none_seen : AreUnseen every []
+  one_unseen : (k : LinkSeen) (ks : List LinkSeen) → ((link : ℕ) → IsHeard link every [] [] k) → AreUnseen every ks → AreUnseen every (k ∷ ks)
+
+unseen_more : (every : Bool) (ks : List LinkSeen) (k : LinkSeen) → AreUnseen every ks → ((link : ℕ) → IsHeard link every [] [] k) → AreUnseen every (ks ++ k ∷ [])
+unseen_more every _ k none_seen one = one_unseen k [] one none_seen
+unseen_more every _ k (one_unseen j js first others) one = one_unseen j (js ++ k ∷ []) first (unseen_more every js k others one)
+
+all_unseen : (every : Bool) (l : ℕ) (bs : List Ledger) (ks : List LinkSeen) → length bs ≡ length ks → AreUnseen every ks
+    → AreHeard every [] l (map {B = List ℕ} (λ b. []) bs) ks
+all_unseen every l [] _ same none_seen = none l
+all_unseen every l [] _ same (one_unseen k ks first others) = absurd (omega (arith, same))
+all_unseen every l (b ∷ bs) _ same none_seen = absurd (omega (arith, same))
+all_unseen every l (b ∷ bs) _ same (one_unseen k ks first others) =
+    more l [] (map (λ x. []) bs) k ks (first l) (all_unseen every (suc l) bs ks (omega (arith, same)) others)
+
+-- so many of them so far
+pub record UnseenSoFar (every : Bool) (n : ℕ) (ks : List LinkSeen) : Type 0 where
+  pub unseen : AreUnseen every ks
+  pub number : length ks ≡ n
+
+pub unseen_begins : (every : Bool) (ks : List LinkSeen) → ks ≡ [] → UnseenSoFar every 0 ks
+unseen_begins every ks is =
+    let P : List LinkSeen → Type 0 = λ ls. UnseenSoFar every 0 ls in
+    subst P (sym is) (record { unseen = none_seen; number = refl })
+
+pub unseen_goes_on : (every : Bool) (n : ℕ) (ks ls : List LinkSeen) (k : LinkSeen) → ls ≡ ks ++ k ∷ [] → UnseenSoFar every n ks
+    → ((link : ℕ) → IsHeard link every [] [] k) → UnseenSoFar every (n + 1) ls
+unseen_goes_on every n ks ls k is so_far one =
+    let P : List LinkSeen → Type 0 = λ xs. UnseenSoFar every (n + 1) xs in
+    subst P (sym is) (record {
+      unseen = unseen_more every ks k so_far.unseen one;
+      number = length-append ks (k ∷ []) ∙ ap (λ (m : ℕ). m + 1) so_far.number;
+    })
+
+pub unseen_heard : (every : Bool) (n : ℕ) (bs : List Ledger) (ks : List LinkSeen) → length bs ≡ n → UnseenSoFar every n ks
+    → AreHeard every [] 0 (map {B = List ℕ} (λ b. []) bs) ks
+unseen_heard every n bs ks many so_far = all_unseen every 0 bs ks (many ∙ sym so_far.number) so_far.unseen
 
 -- ---- a list of commands
 
@@ -173,3 +213,24 @@ set_captured_part every p items i x start now new q last middle to ms within is 
       expects = missed.expects;
       other = missed.other;
     }
+
+-- ---- what was printed
+
+pub set_written : (p : Playing) (commands : List PlainGroupSaid) (first now : Option (List ℕ)) (q : Playing) (printed : Option (List ℕ)) → IsGroupRun p commands first now q printed
+    → IsGroupWritten commands first now p
+set_written p commands first now q printed run = record { now = q; last = printed; run = run }
+
+pub set_missed_at : (p : Playing) (items : List GroupSaid) (i : ℕ) (x : GroupSaid) (first middle now : Option (List ℕ)) (q : Playing) (last : Option (List ℕ)) → i < length items
+    → x ≡ get_or items i x → IsGroupRun p (map plain_group_said (take i items)) first middle q last → IsGroupMissedBy (plain_group_said x) last middle now
+    → IsGroupMissed (map plain_group_said items) first now p
+set_missed_at p items i x first middle now q last within is run missed = record {
+  before = map plain_group_said (take i items);
+  said = plain_group_said x;
+  after = map plain_group_said (drop (i + 1) items);
+  stands = parts_at plain_group_said items i x within is;
+  middle = middle;
+  now = q;
+  last = last;
+  run = run;
+  missed = missed;
+}

@@ -1,7 +1,6 @@
 -- Units that go out one after another on a link of a set, printed and captured.
-use Rattle.std.proofs.Common.{◌≡◌, ◌∙◌, ℕ, zero, suc, ◌+◌, ◌-◌, ◌<◌, ◌≤◌, Bool, List, [], ◌∷◌, ◌++◌, length, append-nil, append_assoc, Option, None, Some, refl, sym, ap, subst, arith}
+use Rattle.std.proofs.Common.{◌≡◌, ℕ, suc, ◌+◌, ◌-◌, ◌<◌, ◌≤◌, Bool, List, [], ◌∷◌, ◌++◌, length, append-nil, append_assoc, Option, None, Some, refl, sym, ap, subst, arith}
 use Rattle.std.specs.Prelude.{codes}
-use Rattle.std.specs.Io.KnownBytes.{Appends}
 use Rattle.std.proofs.KnownBytes.{Appends-nil}
 use Rattle.su_octets.specs.Printed.{unit_text}
 use Rattle.su_octets.specs.declared.units.Unit as su
@@ -11,7 +10,7 @@ use Rattle.script_seen.specs.SetLines.{ByLink}
 use Rattle.script_seen.specs.Doing.{Sent}
 use Rattle.script_seen.specs.TermAnswers.{unit_line}
 use Rattle.script_seen.specs.TermRuns.{HasPrinted}
-use Rattle.script_seen.specs.GroupAnswers.{GoOut, none_goes, silent, one_goes, GivesOut, out_goes}
+use Rattle.script_seen.specs.GroupAnswers.{GoOut, none_goes, silent, one_goes, out_goes}
 use Rattle.script_seen.specs.GroupRuns.{HasGivenOut}
 use Rattle.script_play.specs.Captured.{IsGone, IsCapturing}
 use Rattle.script_play.specs.CapturedSets.{SendsOn, nothing, silent as none_sent, one_goes as one_sent}

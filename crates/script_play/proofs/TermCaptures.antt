@@ -1,5 +1,5 @@
 -- What is captured of a terminal's run, one command more.
-use Rattle.std.proofs.Common.{◌≡◌, ◌∙◌, ℕ, zero, suc, ◌+◌, ◌<◌, ◌≤◌, Bool, true, false, List, [], ◌∷◌, ◌++◌, append-nil, length, map, take, drop, get_or, Option, None, Some, refl, sym, ap, subst}
+use Rattle.std.proofs.Common.{◌≡◌, ◌∙◌, ℕ, ◌+◌, ◌<◌, ◌≤◌, Bool, true, false, List, [], ◌∷◌, ◌++◌, append-nil, length, map, take, drop, get_or, Option, None, sym, subst}
 use Rattle.std.specs.List.{flat_map}
 use Rattle.std.specs.Io.KnownBytes.{Appends}
 use Rattle.std.proofs.KnownBytes.{Appends-nil, Appends-trans}
@@ -12,8 +12,8 @@ use Rattle.script_links.specs.TermScripts.{PlainTermSaid, plain_term_said}
 use Rattle.script_links.specs.declared.script.TermSaid.{TermSaid}
 use Rattle.script_seen.specs.Lines.{line_of}
 use Rattle.script_seen.specs.Term.{Term}
-use Rattle.script_seen.specs.TermAnswers.{Obeys, GoOut}
-use Rattle.script_seen.specs.TermRuns.{latest, prints, begins as run_begins_by, IsTermRun, IsTermMissed, IsTermMissedBy, HasPrinted, HasObeyed, was_met, was_done, HasGivenOut}
+use Rattle.script_seen.specs.TermAnswers.{Obeys}
+use Rattle.script_seen.specs.TermRuns.{prints, begins as run_begins_by, IsTermRun, IsTermMissed, IsTermMissedBy, HasPrinted, HasObeyed, was_met, was_done, HasGivenOut}
 use Rattle.script_seen.proofs.Showings.{one_more, parts_at, all_taken}
 use Rattle.script_play.specs.Captured.{time_of, IsComing, is_noted, Hears, Sends, Goes, begins, goes_out, comes_in, holds, IsHeard, IsCapturing, IsTermCapturing, IsCaptured, IsCapturedInPart}
 use Rattle.script_play.specs.declared.capturing.LinkSeen.{LinkSeen}
@@ -42,47 +42,54 @@ gone_out keeps first before said n begun old new now next last printed is run gi
     printed_more keeps first before said begun old new now next last printed given.lines run (subst C (sym is) given.out) given.printed
 
 pub out_captured : (every keeps : Bool) (first : Term) (before : List PlainTermSaid) (said : PlainTermSaid) (n : ℕ) (begun old new from to : Option (List ℕ))
-    (now next : Term) (last printed : Option (List ℕ)) (l m : LinkSeen) → said.command ≡ out n → HasGivenOut n from to last printed now next
+    (now next : Term) (last printed : Option (List ℕ)) (at : ℕ) (l m : LinkSeen) → said.command ≡ out n → at ≡ time_of now
+    → HasGivenOut n from to last printed now next
     → ((came : List ℕ) (ss : List Seen) → IsCapturing 0 every came ss begun old l
-    → (more : List Seen) × Sends 0 (time_of now) n now ss next more × IsCapturing 0 every came more begun new m)
+    → (more : List Seen) × Sends 0 at n now ss next more × IsCapturing 0 every came more begun new m)
     → IsTermCapturing every keeps first before begun old now last l → IsTermCapturing every keeps first (before ++ said ∷ []) begun new next printed m
-out_captured every keeps first before said n begun old new from to now next last printed l m is given step so_far =
+out_captured every keeps first before said n begun old new from to now next last printed at l m is time given step so_far =
     let s = step so_far.came so_far.seen so_far.capturing in
+    let S : ℕ → Type 0 = λ k. Sends 0 k n now so_far.seen next s.0 in
     let C : PlainTermCommand → Type 0 = λ c. Obeys keeps c now given.lines next in
     let G : Option (List ℕ) → Type 0 = λ x. Goes keeps first (before ++ said ∷ []) next x so_far.came s.0 in
     record {
       came = so_far.came;
       seen = s.0;
-      goes = subst G (sym given.printed.latest_is) (goes_out said n given.lines next s.0 is so_far.goes (subst C (sym is) given.out) s.1);
+      goes = subst G (sym given.printed.latest_is) (goes_out said n given.lines next s.0 is so_far.goes (subst C (sym is) given.out) (subst S time s.1));
       capturing = s.2;
     }
+
+-- what comes in by a command, by another name
+pub comes_as : (c d : PlainTermCommand) (come : List ℕ) → c ≡ d → IsComing d come → IsComing c come
+comes_as c d come same coming = let P : PlainTermCommand → Type 0 = λ k. IsComing k come in subst P (sym same) coming
 
 no_out : (c : PlainTermCommand) (n : ℕ) → is_noted c ≡ true → c ≡ out n → ⊥
 no_out c n noted is =
     let P : PlainTermCommand → Type 0 = λ x. is_noted x ≡ true in
     let contrary : false ≡ true = subst P is noted in cc
 
-no_expectation : (c : PlainTermCommand) (text : List ℕ) → is_noted c ≡ true → c ≡ expected text → ⊥
+pub no_expectation : (c : PlainTermCommand) (text : List ℕ) → is_noted c ≡ true → c ≡ expected text → ⊥
 no_expectation c text noted is =
     let P : PlainTermCommand → Type 0 = λ x. is_noted x ≡ true in
     let contrary : false ≡ true = subst P is noted in cc
 
 -- another command was obeyed, by which octets came in, or none
 pub come_captured : (every keeps : Bool) (first : Term) (before : List PlainTermSaid) (said : PlainTermSaid) (come : List ℕ) (begun old new from to : Option (List ℕ))
-    (now next : Term) (last printed : Option (List ℕ)) (l m : LinkSeen) → is_noted said.command ≡ true → IsComing said.command come
-    → HasObeyed keeps said.command from to last printed now next
+    (now next : Term) (last printed : Option (List ℕ)) (at : ℕ) (l m : LinkSeen) → is_noted said.command ≡ true → at ≡ time_of now
+    → IsComing said.command come → HasObeyed keeps said.command from to last printed now next
     → ((came : List ℕ) (ss : List Seen) → IsCapturing 0 every came ss begun old l
-    → (more : List Seen) × Hears 0 (time_of now) came come ss more × IsCapturing 0 every (came ++ come) more begun new m)
+    → (more : List Seen) × Hears 0 at came come ss more × IsCapturing 0 every (came ++ come) more begun new m)
     → IsTermCapturing every keeps first before begun old now last l → IsTermCapturing every keeps first (before ++ said ∷ []) begun new next printed m
-come_captured every keeps first before said come begun old new from to now next last printed l m noted coming (was_met text is met same kept stays) step so_far =
+come_captured every keeps first before said come begun old new from to now next last printed at l m noted time coming (was_met text is met same kept stays) step so_far =
     absurd (no_expectation said.command text noted is)
-come_captured every keeps first before said come begun old new from to now next last printed l m noted coming (was_done lines obeys has) step so_far =
+come_captured every keeps first before said come begun old new from to now next last printed at l m noted time coming (was_done lines obeys has) step so_far =
     let s = step so_far.came so_far.seen so_far.capturing in
+    let H : ℕ → Type 0 = λ k. Hears 0 k so_far.came come so_far.seen s.0 in
     let G : Option (List ℕ) → Type 0 = λ x. Goes keeps first (before ++ said ∷ []) next x (so_far.came ++ come) s.0 in
     record {
       came = so_far.came ++ come;
       seen = s.0;
-      goes = subst G (sym has.latest_is) (comes_in said come lines next s.0 (λ n is. no_out said.command n noted is) coming so_far.goes obeys s.1);
+      goes = subst G (sym has.latest_is) (comes_in said come lines next s.0 (λ n is. no_out said.command n noted is) coming so_far.goes obeys (subst H time s.1));
       capturing = s.2;
     }
 

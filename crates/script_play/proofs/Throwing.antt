@@ -1,12 +1,15 @@
 -- What was thrown away, counted once more.
-use Rattle.std.proofs.Common.{◌≡◌, ◌∙◌, ℕ, zero, suc, ◌+◌, ◌<◌, Bool, true, false, List, [], ◌∷◌, ◌++◌, length, map, get_or, slice_set, Option, None, Some, arith, refl, sym, ap}
-use Rattle.std.specs.Prelude.{cond, if◌then◌else◌, position}
+use Rattle.std.proofs.Common.{◌≡◌, ◌∙◌, ℕ, zero, suc, ◌+◌, ◌<◌, Bool, true, false, List, [], ◌∷◌, ◌++◌, append_assoc, length, map, get_or, slice_set, Option, None, Some, arith, refl, sym, ap}
+use Rattle.std.specs.Prelude.{cond, if◌then◌else◌, position, codes}
+use Rattle.std.specs.Fmt.{decimal}
 use Rattle.std.specs.List.{position_from}
 use Rattle.std.proofs.lemmas.Iterator.Adapters.{position_from-zero}
 use Rattle.std.proofs.lemmas.List.Quantifiers.{position-Some}
 use Rattle.std.proofs.lemmas.Option.{none-some}
+use Rattle.turn_code.specs.declared.draft.Draft.{Draft}
+use Rattle.script_lines.specs.Replies.{process_text, state_text, trigger_text}
 use Rattle.script_seen.specs.Watched.{Notice, TurnEnd, Throw as OneThrow, ends, throws, throws_in}
-use Rattle.script_play.specs.Thrown.{same_throw, counted_throw, counts, once, CountsThrown}
+use Rattle.script_play.specs.Thrown.{same_throw, throw_line, counted_throw, counts, once, CountsThrown}
 use Rattle.script_play.specs.declared.thrown.Throw.{Throw}
 use Rattle.script_play.specs.declared.thrown.Thrown.{Thrown}
 
@@ -42,6 +45,23 @@ new_from x (c ∷ cs) i none = new_by x c cs i (same_throw c x) none (new_from x
 -- it wasn't
 pub counted_first : (x : Throw) (cs : List Throw) → position (λ (c : Throw). same_throw c x) cs ≡ None → cs ++ x ∷ [] ≡ counted_throw x cs
 counted_first x cs none = sym (new_from x cs 0 (sym (position_from-zero (λ (c : Throw). same_throw c x) cs) ∙ none))
+
+-- ---- a line
+
+eight_pieces : (a p s q t g u n e b c d f h i j k : List ℕ) → b ≡ a ++ p → c ≡ b ++ s → d ≡ c ++ q → f ≡ d ++ t → h ≡ f ++ g → i ≡ h ++ u → j ≡ i ++ n
+    → k ≡ j ++ e → k ≡ a ++ (p ++ s ++ q ++ t ++ g ++ u ++ n ++ e)
+eight_pieces a p s q t g u n e b c d f h i j k is1 is2 is3 is4 is5 is6 is7 is8 =
+    let behind : List ℕ → List ℕ → List ℕ = λ more text. text ++ more in
+    is8
+    ∙ (ap (behind e) (is7 ∙ ap (behind n) (is6 ∙ ap (behind u) (is5 ∙ ap (behind g) (is4 ∙ ap (behind t) (is3 ∙ ap (behind q) (is2 ∙ ap (behind s) is1))))))
+    ∙ simp append_assoc)
+
+pub throw_pieces : (m : Draft) (x : Throw) (a b c d f h i j k : List ℕ) → b ≡ a ++ process_text m x.process.0 → c ≡ b ++ codes " "
+    → d ≡ c ++ state_text m x.process.0 x.state.0 → f ≡ d ++ codes "/" → h ≡ f ++ trigger_text m x.process.0 x.trigger → i ≡ h ++ codes " "
+    → j ≡ i ++ decimal x.times → k ≡ j ++ codes "\n" → k ≡ a ++ throw_line m x
+throw_pieces m x a b c d f h i j k is1 is2 is3 is4 is5 is6 is7 is8 =
+    eight_pieces a (process_text m x.process.0) (codes " ") (state_text m x.process.0 x.state.0) (codes "/") (trigger_text m x.process.0 x.trigger) (codes " ")
+    (decimal x.times) (codes "\n") b c d f h i j k is1 is2 is3 is4 is5 is6 is7 is8
 
 -- ---- what a watcher is told
 

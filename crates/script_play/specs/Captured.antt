@@ -6,7 +6,7 @@ use Rattle.std.specs.Io.KnownBytes.{Appends}
 use Rattle.actor_machine.specs.Ledger.{state_of}
 use Rattle.bit_line.specs.Deframing.{Stands}
 use Rattle.su_octets.specs.Bits.{bits_of}
-use Rattle.su_octets.specs.Frame.{Frame}
+use Rattle.su_octets.specs.Frame.{Frame, SpareBitsAreZero}
 use Rattle.su_octets.specs.declared.units.Unit as su
 use Rattle.line_streams.specs.Capturing.{Ends, IsUnit, capture_of, without_check}
 use Rattle.line_streams.specs.Repeats.{kept, StandsFor}
@@ -80,6 +80,7 @@ pub data Hears (link at : ℕ) : List ℕ → List ℕ → List Seen → List Se
 pub record IsGone (link at : ℕ) (x : su.Unit) (seen last : List Seen) : Type 0 where
   pub octets : List ℕ
   pub is_frame : Frame octets x
+  pub zero : SpareBitsAreZero octets
   pub is_unit : IsUnit true link at (Some (without_check octets)) seen last
 
 -- so many units are asked for on a link: those that go out are seen

@@ -2,7 +2,7 @@
 use Rattle.std.specs.Prelude.{ℕ, ◌+◌, ◌*◌, ◌==◌, nat_le, Bool, true, false, not, ◌&&◌, ◌||◌, List}
 use Rattle.std.specs.Prelude.{[], ◌∷◌}
 use Rattle.std.specs.Prelude.{◌++◌, length, Option, None, Some, is_some, codes, map, filter}
-use Rattle.std.specs.Prelude.{if◌then◌else◌, is_empty, ◌≡◌}
+use Rattle.std.specs.Prelude.{if◌then◌else◌, ◌≡◌}
 use Rattle.std.specs.List.{flat_map, list_any}
 use Rattle.std.specs.Fmt.{decimal}
 use Rattle.turn_code.specs.Outcome.{Outcome}
@@ -227,10 +227,14 @@ has_outside t =
 abbrev pub actors_in : Draft → List TurnEnd → List ActorName
 actors_in d ts = filter (λ x. list_any (is_in d x) ts) (actors_of d.processes)
 
+abbrev pub are_none : List TurnEnd → Bool
+are_none [] = true
+are_none (t ∷ ts) = false
+
 -- the environment stands first, where it takes part or no turn is drawn
 abbrev pub drawn_columns : Draft → List TurnEnd → List (List ℕ)
 drawn_columns d ts =
-    (if list_any has_outside ts || is_empty ts then codes "ENV" ∷ [] else [])
+    (if list_any has_outside ts || are_none ts then codes "ENV" ∷ [] else [])
     ++ map (sender_text d) (actors_in d ts)
 
 abbrev pub head_of : List ℕ → List ℕ
@@ -241,6 +245,11 @@ heads [] = []
 heads (name ∷ names) = head_of name ++ flat_map (λ n. codes ", " ++ head_of n) names
 
 -- ---- the chart
+
+-- what stands behind the heads; mscgen wants a row at least
+abbrev pub after_heads : Bool → List ℕ
+after_heads true = codes ";\n  |||;\n"
+after_heads false = codes ";\n"
 
 -- the turn that ended, with what it came to
 abbrev pub end_of : Ended → Outcome → TurnEnd
@@ -260,8 +269,8 @@ COLUMN = 140
 abbrev pub chart_of : Draft → List TurnEnd → List ℕ
 chart_of d ts =
     codes "msc {\n  width=\"" ++ decimal (COLUMN * length (drawn_columns d ts))
-    ++ codes "\", arcgradient=\"0\";\n  " ++ heads (drawn_columns d ts) ++ codes ";\n"
-    ++ rows_text d None ts ++ codes "}\n"
+    ++ codes "\", arcgradient=\"0\";\n  " ++ heads (drawn_columns d ts)
+    ++ after_heads (are_none ts) ++ rows_text d None ts ++ codes "}\n"
 
 abbrev pub chart_text : Draft → Cut → List TurnEnd → List ℕ
 chart_text d cut ts = chart_of d (filter (is_drawn cut) ts)

@@ -1,4 +1,4 @@
--- What the status of `play` says of what is told at the end of a run.
+-- What the status of `play` says of what is told at the end of a run, and of a capture.
 use Rattle.std.specs.Prelude.{◌≡◌, ℕ, Bool, true, false, List, Option, Some, None, Result, Ok}
 use Rattle.std.specs.Prelude.{Err, IfSome, IsUtf8}
 use Rattle.std.specs.Global.{Vec}
@@ -15,6 +15,8 @@ use Rattle.script_seen.specs.TermRuns.{IsOfNew}
 use Rattle.script_seen.specs.Watched.{Notice, turns_in}
 use Rattle.script_seen.specs.WatchedKinds.{IsBookWatched, IsBookWatchedInPart, IsTermWatched}
 use Rattle.script_seen.specs.WatchedKinds.{IsTermWatchedInPart}
+use Rattle.script_play.specs.Captured.{IsCaptured, IsCapturedInPart}
+use Rattle.script_play.specs.CapturedSets.{IsSetCaptured, IsSetCapturedInPart}
 use Rattle.script_play.specs.Played.{IsObeyed, IsMissedIn, IsPlayed, IsPlayedInPart}
 use Rattle.script_play.specs.Captured.{IsCaptured, IsCapturedInPart}
 use Rattle.script_play.specs.CapturedSets.{IsSetCaptured, IsSetCapturedInPart}
@@ -24,7 +26,6 @@ use Rattle.script_play.specs.Thrown.{thrown_of}
 use Rattle.script_play.specs.Traced.{IsPlayTraced, IsPlayTracedInPart}
 use Rattle.script_play.specs.declared.seeing.Wanted.{Wanted}
 use Rattle.script_play.specs.declared.seeing.Wanted.TheVariants.{Trace, Capture, AtEnd}
-use Rattle.script_play.specs.declared.seeing.Wanted.TheVariants.{Coverage}
 use Rattle.script_play.specs.declared.watching.Told.{Told}
 use Rattle.script_play.specs.declared.watching.Told.TheVariants.{Chart, Thrown}
 
@@ -86,7 +87,7 @@ Grew tells d old new ns = Appends old new (tells d ns)
 
 -- ---- captures
 
--- a terminal's script is captured; a book script has no units
+-- a terminal's script is captured; a book's has no units
 abbrev pub IsOtherCaptured :
     RoundLimits → Bool → Draft → PlainAnyScript → Option (List ℕ) → Option (List ℕ) → Type 0
 IsOtherCaptured usual every d (book s) old new = ⊥
@@ -133,38 +134,6 @@ pub record IsPlayCapturedInPart (usual : RoundLimits) (every : Bool)
   pub missed : IsMissedIn usual d script old new
   pub captured : AreCapturedInPart usual every d script from to
 
--- ---- on a text
-
--- the bytes of the set are a text that is accepted, and P holds of these, of their block, of their
--- set and of the bytes of the script
-pub record IsOnText (set script : Option (List ℕ))
-    (P : List ℕ → PlainBlock → Draft → List ℕ → Type 0) : Type 0 where
-  pub text : List ℕ
-  pub is_known : IfSome set (λ all. text ≡ all)
-  pub draft : Draft
-  pub is_set : IsSetOf text draft
-  pub of_script : IsGiven script (P text is_set.loaded.block draft)
-
--- the bytes are a script that was run on the set of a text, which has these bytes where they are
--- known; and what of that text was taken was written, in which its file has this name
-pub record IsCovered (name : List ℕ) (known : Option (List ℕ)) (usual : RoundLimits)
-    (old new from to : Option (List ℕ)) (d : Draft) (bytes : List ℕ) : Type 0 where
-  pub text : List ℕ
-  pub is_known : IfSome known (λ all. text ≡ all)
-  pub is_set : IsSetOf text d
-  pub told :
-      IsPlayTold usual old new
-      (λ ns. Appends from to (lcov_text name text is_set.loaded.block (turns_in ns))) d bytes
-
-pub record IsCoveredInPart (name : List ℕ) (known : Option (List ℕ)) (usual : RoundLimits)
-    (old new from to : Option (List ℕ)) (d : Draft) (bytes : List ℕ) : Type 0 where
-  pub text : List ℕ
-  pub is_known : IfSome known (λ all. text ≡ all)
-  pub is_set : IsSetOf text d
-  pub told :
-      IsPlayToldInPart usual old new
-      (λ ns. Appends from to (lcov_text name text is_set.loaded.block (turns_in ns))) d bytes
-
 -- ---- what is wanted of a run
 
 -- what is told of a run at its end, by all that was noticed
@@ -178,9 +147,9 @@ abbrev pub IsPlaySeen :
     → Option (List ℕ) → Option (List ℕ) → Draft → List ℕ → Type 0
 IsPlaySeen name known usual (Trace every) old new from to d bytes =
     IsPlayTraced usual every old new from to d bytes
-IsPlaySeen name known usual (Capture every) old new from to d bytes =
+IsPlaySeen usual (Capture every) old new from to d bytes =
     IsPlayCaptured usual every old new from to d bytes
-IsPlaySeen name known usual (AtEnd told) old new from to d bytes =
+IsPlaySeen usual (AtEnd told) old new from to d bytes =
     IsPlayTold usual old new (Grew (told_of told) d from to) d bytes
 IsPlaySeen name known usual Coverage old new from to d bytes =
     IsCovered name known usual old new from to d bytes
@@ -190,9 +159,9 @@ abbrev pub IsPlaySeenInPart :
     → Option (List ℕ) → Option (List ℕ) → Draft → List ℕ → Type 0
 IsPlaySeenInPart name known usual (Trace every) old new from to d bytes =
     IsPlayTracedInPart usual every old new from to d bytes
-IsPlaySeenInPart name known usual (Capture every) old new from to d bytes =
+IsPlaySeenInPart usual (Capture every) old new from to d bytes =
     IsPlayCapturedInPart usual every old new from to d bytes
-IsPlaySeenInPart name known usual (AtEnd told) old new from to d bytes =
+IsPlaySeenInPart usual (AtEnd told) old new from to d bytes =
     IsPlayToldInPart usual old new (Grew (told_of told) d from to) d bytes
 IsPlaySeenInPart name known usual Coverage old new from to d bytes =
     IsCoveredInPart name known usual old new from to d bytes

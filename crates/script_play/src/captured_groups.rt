@@ -1,7 +1,6 @@
 //! Link sets' scripts as they run, with a capture.
-ghost use Rattle.std.specs.Prelude.{◌≡◌, ◌⊎◌, ◌<◌, ◌^◌, ◌++◌, ◌∷◌, [], ℕ, Bool, List, Option, None, Some, map, length, slice_get, IfOk, OnOk, IfSome, true, false};
+ghost use Rattle.std.specs.Prelude.{◌≡◌, ◌⊎◌, ◌<◌, ◌^◌, ◌++◌, ◌∷◌, [], ℕ, Bool, List, Option, None, Some, map, length, slice_get, IfOk, OnOk, true, false};
 ghost use Rattle.std.specs.Io.KnownBytes.{Appends};
-ghost use Rattle.su_octets.specs.Whole.{IsWhole};
 ghost use Rattle.line_streams.specs.Records.{HEADER};
 ghost use Rattle.line_streams.specs.declared.seen.Seen.{Seen as OneSeen};
 ghost use Rattle.actor_machine.specs.Ledger.{Ledger};
@@ -13,19 +12,28 @@ ghost use Rattle.script_seen.specs.TermAnswers.{unit_line};
 ghost use Rattle.script_seen.specs.TermRuns.{HasPrinted, LacksName};
 ghost use Rattle.script_seen.specs.GroupAnswers.{Playing};
 ghost use Rattle.script_seen.specs.GroupRuns.{playing_of, last_of, HasGivenOut, IsGroupRun, IsGroupWritten, IsGroupMissed, IsGroupMissedBy, IsOfNewSet};
-ghost use Rattle.script_seen.specs.TracedGroups.{books_of};
-ghost use Rattle.script_play.specs.Captured.{Hears, IsCapturing};
-ghost use Rattle.script_play.specs.CapturedSets.{IsComing, is_noted, SendsOn, Goes, AreHeard, IsCapturedThere, IsSetCapturing, IsSetCaptured, IsSetCapturedInPart};
+ghost use Rattle.script_play.specs.Captured.{repeated, Hears, IsCapturing};
+ghost use Rattle.script_play.specs.CapturedSets.{IsComing, is_noted, books_of, clock_in, SendsOn, Goes, AreHeard, IsCapturedThere, IsSetCapturing, IsSetCaptured, IsSetCapturedInPart};
 
-use crate::captured_terminals::line_of;
+use crate::captured_terminals::{Coming, line_of};
 use crate::capturing::{LinkSeen, begin, lost, time_of};
 use script_seen::{
     FAILED, GroupCommand, GroupPlayer, GroupSaid, GroupScript, HELD, MISSED, RoundLimits, Unit,
-    clock_of, end_player, line_of_unit, open_group, refuse_set,
+    line_of_unit, open_group, refuse_set,
 };
 use std::alloc::{AllocError, Global};
 use std::io::{self, Write};
 use turn_check::Verified;
+
+/// The ticks gone by on a link set.
+fn clock_of(player: &GroupPlayer) -> u64
+    ensures { result ≡ clock_in (books_of (playing_of player.now)) }
+{
+    match player.group.book(0) {
+        Some(book) => book.clock(),
+        None => 0,
+    }
+}
 
 /// So many links of which nothing was seen; whether every unit is recorded.
 fn new_links(alloc: Global, count: u32, every: bool) -> Result<Vec<LinkSeen>, AllocError>
@@ -33,7 +41,8 @@ fn new_links(alloc: Global, count: u32, every: bool) -> Result<Vec<LinkSeen>, Al
 {
     let mut links = Vec::new(alloc);
     for _link in 0..count {
-        links.push(LinkSeen::new(every))?;
+        let link = LinkSeen::new(every);
+        links.push(link)?;
     }
     Ok(links)
 }
@@ -45,9 +54,7 @@ fn next_on<W: Write>(
     writer: &mut W,
 ) -> io::Result<Option<Unit>>
     ensures sent { IfOk result (λ unit. ByLink (Sent unit) player.old.on player.old.group player.new.group) }
-    ensures whole { IfOk result (λ unit. IfSome unit IsWhole) }
     ensures on { player.new.on ≡ player.old.on }
-    ensures retrievals { player.new.retrievals ≡ player.old.retrievals }
     ensures printed { IfOk result (λ unit. HasPrinted (W.contents writer.old) (W.contents writer.new) (last_of player.old) (last_of player.new) (unit_line unit ∷ [])) }
 {
     let Ok(given) = player.group.unit_out(player.on) else {
@@ -77,7 +84,6 @@ fn give_out<T: Write, W: Write>(
         → (last : List OneSeen) × SendsOn player.old.on at units player.old.group ss player.new.group last
         × IsCapturing player.old.on every came last begun (T.contents out.new) link.new) }
     ensures on { player.new.on ≡ player.old.on }
-    ensures retrievals { player.new.retrievals ≡ player.old.retrievals }
 {
     let number = player.on as u16;
     for gone in 0..units {
@@ -89,7 +95,38 @@ fn give_out<T: Write, W: Write>(
     Ok(())
 }
 
-/// What comes in on the link of this number by a command, by which no unit is asked for, and nothing expected.
+/// What comes in by a command, by which no unit is asked for, and nothing expected.
+fn come_on(alloc: Global, command: &GroupCommand<'_>) -> io::Result<Coming>
+    ensures noted { OnOk result (is_noted (plain_group_command command.now) ≡ true) }
+    ensures coming { IfOk result (λ c. IsComing (plain_group_command command.now) (repeated c.times c.octets.items)) }
+{
+    match command {
+        GroupCommand::Unit(octets) => {
+            let octets = line_of_unit(alloc, octets)?;
+            Ok(Coming { octets, times: 1 })
+        }
+        GroupCommand::Line(octets) => {
+            let octets = Vec::from_slice(alloc, octets)?;
+            Ok(Coming { octets, times: 1 })
+        }
+        GroupCommand::Out(_) | GroupCommand::Expect(_) => Err(lost()),
+        GroupCommand::Order(_)
+        | GroupCommand::Tick(_)
+        | GroupCommand::State(_)
+        | GroupCommand::Value(_, _)
+        | GroupCommand::On(_)
+        | GroupCommand::Send(_)
+        | GroupCommand::Bound(_)
+        | GroupCommand::Message(_)
+        | GroupCommand::Admit(_)
+        | GroupCommand::Own(_) => Ok(Coming {
+            octets: Vec::new(alloc),
+            times: 0,
+        }),
+    }
+}
+
+/// Captures what comes in on the link of this number by a command, by which no unit is asked for, and nothing expected.
 fn note<T: Write>(
     alloc: Global,
     command: &GroupCommand<'_>,
@@ -104,28 +141,9 @@ fn note<T: Write>(
         → IsCapturing number every came ss begun (T.contents out.old) link.old
         → (last : List OneSeen) × Hears number at came come ss last × IsCapturing number every (came ++ come) last begun (T.contents out.new) link.new)) }
 {
-    match command {
-        GroupCommand::Unit(octets) => {
-            let line = line_of_unit(alloc, octets)?;
-            link.hear_times(number, at, &line, 1, out)?;
-            Ok(())
-        }
-        GroupCommand::Line(octets) => {
-            link.hear(number, at, octets, out)?;
-            Ok(())
-        }
-        GroupCommand::Out(_) | GroupCommand::Expect(_) => Err(lost()),
-        GroupCommand::Order(_)
-        | GroupCommand::Tick(_)
-        | GroupCommand::State(_)
-        | GroupCommand::Value(_, _)
-        | GroupCommand::On(_)
-        | GroupCommand::Send(_)
-        | GroupCommand::Bound(_)
-        | GroupCommand::Message(_)
-        | GroupCommand::Admit(_)
-        | GroupCommand::Own(_) => Ok(()),
-    }
+    let coming = come_on(alloc, command)?;
+    link.hear_times(number, at, &coming.octets, coming.times, out)?;
+    Ok(())
 }
 
 /// Does what a command says on the link that lines speak of, of which this is known, and captures what it has come in and go out. Whether the run
@@ -184,10 +202,11 @@ fn capture_next<T: Write, W: Write>(
     ensures uncaptured { IfOk result (λ on. on ≡ false → T.contents out.new ≡ T.contents out.old) }
 {
     let on = player.on;
-    if links.len() != player.group.len() || u16::MAX as usize <= links.len() {
+    let count = links.len();
+    if count != player.group.len() || 65_535 < count {
         return Err(lost());
     }
-    if on < links.len() {
+    if on < count {
         return capture_there(alloc, player, said, &mut links[on], out, writer);
     }
     player.obey(alloc, said, writer)
@@ -301,9 +320,7 @@ pub(crate) fn capture_group<T: Write, W: Write>(
     match open_group(alloc, set, limits, script.head) {
         Ok(player) => {
             let mut player = player;
-            let status = capture_all(alloc, &mut player, script, every, out, writer);
-            end_player(player);
-            status
+            capture_all(alloc, &mut player, script, every, out, writer)
         }
         Err(error) => refuse_set(alloc, writer, error),
     }

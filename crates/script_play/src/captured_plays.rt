@@ -26,7 +26,7 @@ fn lacks_units<E: Write>(alloc: Global, errors: &mut E) -> u8
     let _told = write_line(
         alloc,
         errors,
-        &"mtp2_play: a book script has no units to capture",
+        &"mtp2_play: a script of a book has no units to capture",
     );
     FAILED
 }
@@ -129,7 +129,7 @@ fn capture_text<T: Write, W: Write, E: Write>(
 /// millisecond for each tick: the units that `out` prints, and those that come in without error. Those that say nothing new are left out, unless
 /// `every` says otherwise. A record goes out in one write.
 ///
-/// Gives the exit status, as `play` does: 4 where a write to `out` fails too, and for a book script, which has no units.
+/// Gives the exit status, as `play` does: 4 where a write to `out` fails too, and for a script of a book, which has no units.
 pub(crate) fn play_captured<S: Read + Drop, R: Read + Drop, W: Write, T: Write, E: Write>(
     alloc: Global,
     set: SetWord<S>,

@@ -1,8 +1,5 @@
 //! Terminals' scripts as they run, with a capture.
-ghost use Rattle.std.specs.Prelude.{◌≡◌, ◌⊎◌, ◌++◌, ◌∷◌, [], ℕ, Bool, List, Option, None, map, IfOk, OnOk, IfSome, option_map, true, false};
-ghost use Rattle.std.specs.Io.KnownBytes.{Appends};
-ghost use Rattle.su_octets.specs.Whole.{IsWhole};
-ghost use Rattle.line_streams.specs.Records.{HEADER};
+ghost use Rattle.std.specs.Prelude.{◌≡◌, ◌⊎◌, ◌++◌, ◌∷◌, [], ℕ, Bool, List, Option, None, map, IfOk, OnOk, true, false};
 ghost use Rattle.line_streams.specs.declared.seen.Seen.{Seen as OneSeen};
 ghost use Rattle.script_links.specs.TermCommands.{plain_term_command};
 ghost use Rattle.script_links.specs.TermScripts.{PlainTermSaid, plain_term_said, asks_told};
@@ -40,7 +37,6 @@ fn next_out<W: Write>(
     writer: &mut W,
 ) -> io::Result<Option<Unit>>
     ensures unit { IfOk result (λ unit. unit ≡ (next_of player.old.terminal).unit) }
-    ensures whole { IfOk result (λ unit. IfSome unit IsWhole) }
     ensures goes { OnOk result (player.new.terminal ≡ behind_next player.old.terminal) }
     ensures printed { OnOk result (HasPrinted (W.contents writer.old) (W.contents writer.new) (last_of player.old) (last_of player.new)
         (unit_line (next_of player.old.terminal).unit ∷ [])) }
@@ -80,9 +76,9 @@ fn give_out<T: Write, W: Write>(
 
 /// What comes in by a command: octets, so many times.
 #[derive(Drop)]
-struct Coming {
-    octets: Vec<u8>,
-    times: u32,
+pub(crate) struct Coming {
+    pub(crate) octets: Vec<u8>,
+    pub(crate) times: u32,
 }
 
 /// What comes in by a command, by which no unit is asked for, and nothing expected.

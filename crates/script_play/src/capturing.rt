@@ -1,8 +1,7 @@
 //! What is captured of a link, unit by unit.
 ghost use Rattle.std.specs.Prelude.{◌≡◌, ◌*◌, ◌∷◌, ◌++◌, [], ℕ, Bool, false, List, Option, Some, OnOk, IfOk};
 ghost use Rattle.std.specs.Io.KnownBytes.{Appends};
-ghost use Rattle.su_octets.specs.Frame.{Frame};
-ghost use Rattle.su_octets.specs.Whole.{IsWhole};
+ghost use Rattle.su_octets.specs.Frame.{Frame, SpareBitsAreZero};
 ghost use Rattle.line_streams.specs.Capturing.{IsUnit, without_check};
 ghost use Rattle.line_streams.specs.Records.{HEADER};
 ghost use Rattle.line_streams.specs.declared.seen.Seen.{Seen as OneSeen};
@@ -157,28 +156,30 @@ impl LinkSeen {
         unit: &Unit,
         out: &mut T,
     ) -> io::Result<()>
-        requires { IsWhole unit.now }
         ensures { OnOk result ((every : Bool) (came : List ℕ) (ss : List OneSeen) (begun : Option (List ℕ))
             → IsCapturing link every came ss begun (T.contents out.old) self.old
             → (last : List OneSeen) × IsGone link at unit.now ss last
             × IsCapturing link every came last begun (T.contents out.new) self.new) }
     {
+        let octets = octets_of(unit)?;
         let seen = Seen {
             went: true,
             link,
             at,
-            octets: octets_of(unit)?,
+            octets,
         };
         self.see(&seen, out)?;
         Ok(())
     }
 }
 
-/// The octets of a unit without its check octets.
+/// The octets of a unit without its check octets. A unit that isn't whole would be told as want of memory, but none comes here.
 fn octets_of(unit: &Unit) -> Result<ArrayVec<u8, 278>, AllocError>
-    requires { IsWhole unit.now }
-    ensures { IfOk result (λ v. (frame : List ℕ) × Frame frame unit.now × (v.items ≡ without_check frame)) }
+    ensures { IfOk result (λ v. (frame : List ℕ) × Frame frame unit.now × SpareBitsAreZero frame × (v.items ≡ without_check frame)) }
 {
+    if !unit.whole() {
+        return Err(AllocError);
+    }
     let mut framed: ArrayVec<u8, 278> = ArrayVec::new();
     encode(unit, &mut framed);
     let mut octets = ArrayVec::new();

@@ -1,5 +1,5 @@
 //! The rows of a turn in a chart, in the language of mscgen.
-ghost use Rattle.std.specs.Prelude.{◌≡◌, ◌++◌, drop, OnOk, IfOk};
+ghost use Rattle.std.specs.Prelude.{◌≡◌, ◌++◌, ℕ, List, drop, OnOk, IfOk};
 ghost use Rattle.std.specs.List.{flat_map};
 ghost use Rattle.script_play.specs.Charted.{labelled, actor_quoted, party_quoted, commaed, more_values, called_text, clock_text, time_text, beside, taken_text, run_out_text, came_text, box_text, receiver_of, sent_text, is_arc, arrow_of, out_text, outs_text, timing_of, below_each, note_of};
 
@@ -355,6 +355,22 @@ fn timings(
     Ok(text)
 }
 
+/// The note of lines about timers, each behind the sign of a new line; none where there are no lines.
+fn push_note(
+    alloc: Global,
+    rows: &mut Vec<u8>,
+    set: &Verified,
+    me: ActorName,
+    text: &[u8],
+) -> Result<(), AllocError>
+    ensures { OnOk result ((lines : List (List ℕ)) → text.now ≡ below_each lines → rows.new.items ≡ rows.old.items ++ note_of set.now me lines) }
+{
+    if text.is_empty() {
+        return Ok(());
+    }
+    push_beside(alloc, rows, set, me, " note ", behind_two(text))
+}
+
 /// The note of what a turn makes of timers, where it does something to one.
 pub(crate) fn push_timers(
     alloc: Global,
@@ -367,10 +383,7 @@ pub(crate) fn push_timers(
     ensures { OnOk result (rows.new.items ≡ rows.old.items ++ note_of set.now me (flat_map (timing_of set.now me.process.0 clock) effects.now)) }
 {
     let text = timings(alloc, set, me.process, clock, effects)?;
-    if text.is_empty() {
-        return Ok(());
-    }
-    push_beside(alloc, rows, set, me, " note ", behind_two(&text))
+    push_note(alloc, rows, set, me, &text)
 }
 
 /// What stands behind the first two octets.

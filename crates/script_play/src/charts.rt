@@ -1,12 +1,12 @@
 //! A chart of turns, in the language of mscgen.
-ghost use Rattle.std.specs.Prelude.{◌≡◌, ◌++◌, ◌∷◌, ◌||◌, ◌*◌, [], List, Some, is_none, OnOk, IfOk, false};
+ghost use Rattle.std.specs.Prelude.{◌≡◌, ◌==◌, ◌&&◌, ◌++◌, ◌∷◌, ◌||◌, ◌*◌, [], List, Some, is_none, OnOk, IfOk, false};
 ghost use Rattle.std.specs.List.{list_any};
 ghost use Rattle.turn_code.specs.Outcome.{Outcome};
 ghost use Rattle.turn_code.specs.declared.draft.Draft.{Draft};
 ghost use Rattle.script_seen.specs.Names.{same_actor};
 ghost use Rattle.script_seen.specs.Turn.{outcome_of};
 ghost use Rattle.script_seen.specs.Watched.{TurnEnd, IsEnd};
-ghost use Rattle.script_play.specs.Charted.{time_text, row_text, is_in, has_outside, is_outside, is_address, is_sender, came_from_outside, goes_outside, gets, get_it, is_drawn, end_of, columns_of, chart_text, COLUMN, HasColumns, Charts, TakesPart};
+ghost use Rattle.script_play.specs.Charted.{time_text, row_text, is_in, has_outside, is_outside, is_address, is_sender, came_from_outside, goes_outside, gets, get_it, is_drawn, end_of, after_heads, columns_of, chart_text, COLUMN, HasColumns, Charts, TakesPart};
 
 use crate::chart_rows::{
     behind_two, is_arc, push_box, push_came, push_outputs, push_time, push_timers, receiver_of,
@@ -51,6 +51,23 @@ fn width_of(columns: u64) -> Result<u64, AllocError>
         Some(width) => Ok(width),
         None => Err(AllocError),
     }
+}
+
+/// What stands behind the heads: mscgen wants a row at least.
+fn push_ending(text: &mut Vec<u8>, has_none: bool) -> Result<(), AllocError>
+    ensures { OnOk result (text.new.items ≡ text.old.items ++ after_heads has_none) }
+{
+    if has_none {
+        return Ok(text.extend_from_slice(b";\n  |||;\n")?);
+    }
+    Ok(text.extend_from_slice(b";\n")?)
+}
+
+/// Whether they are the same turns.
+fn are_same(left: Cut, right: Cut) -> bool
+    ensures { result ≡ ((left.first == right.first) && (left.last == right.last)) }
+{
+    left.first == right.first && left.last == right.last
 }
 
 /// Whether a turn is one of those that are to be drawn, and does anything.
@@ -186,7 +203,8 @@ impl Chart {
             return Ok(());
         }
         self.enter_all(set, ended)?;
-        self.push_rows(alloc, set, ended)
+        self.push_rows(alloc, set, ended)?;
+        Ok(())
     }
 
     /// Whether the environment stands at the head: where it takes part, and where no turn is drawn.
@@ -214,7 +232,7 @@ impl Chart {
     ) -> Result<Vec<u8>, AllocError>
         ensures { IfOk result (λ v. (ts : List TurnEnd) → Charts set.now ts self.now → v.items ≡ chart_text set.now cut ts) }
     {
-        if self.cut != cut {
+        if !are_same(self.cut, cut) {
             return Err(AllocError);
         }
         let columns = self.all_columns(alloc, set)?;
@@ -222,7 +240,7 @@ impl Chart {
         push_number(alloc, &mut text, width_of(columns.count)?)?;
         text.extend_from_slice(b"\", arcgradient=\"0\";\n  ")?;
         text.extend_from_slice(behind_two(&columns.text))?;
-        text.extend_from_slice(b";\n")?;
+        push_ending(&mut text, self.clock.is_none())?;
         text.extend_from_slice(&self.rows)?;
         text.extend_from_slice(b"}\n")?;
         Ok(text)

@@ -1,5 +1,5 @@
 //! The columns of a chart: who takes part, in the order of the text.
-ghost use Rattle.std.specs.Prelude.{◌≡◌, ◌++◌, ◌∷◌, [], List, filter, map, codes, if◌then◌else◌, OnOk, IfOk};
+ghost use Rattle.std.specs.Prelude.{◌≡◌, ◌+◌, ◌++◌, ◌∷◌, [], List, filter, map, codes, if◌then◌else◌, OnOk, IfOk};
 ghost use Rattle.std.specs.List.{list_any};
 ghost use Rattle.turn_check.specs.Named.{instances_at};
 ghost use Rattle.script_lines.specs.Replies.{sender_text};

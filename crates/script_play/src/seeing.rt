@@ -5,7 +5,6 @@ ghost use Rattle.script_play.specs.Played.{IsOnSet, IsRefused};
 ghost use Rattle.script_play.specs.Seen.{IsPlaySeen, IsPlaySeenInPart};
 
 use crate::captured_plays::play_captured;
-use crate::covering::play_covered;
 use crate::tracing::play_traced;
 use crate::watching::{Told, play_told};
 use script_check::SetWord;
@@ -26,11 +25,11 @@ pub enum Wanted {
     Coverage,
 }
 
-/// Runs a script as `play` does without the lines of its commands, and writes what is wanted of the run to `out`: a trace as it runs, or at its end, or at
-/// an expectation that fails, a chart of its turns or what was thrown away.
+/// Runs a script as `play` does without the lines of its commands, and writes what is wanted of the run to `out`: a trace or a capture as it runs, or at
+/// its end, or at an expectation that fails, a chart of its turns or what was thrown away.
 ///
 /// Gives the exit status, as `play` does: 4 where a write to `out` fails too, where a terminal's journal begins anew within a command, as it does
-/// behind 32,768 events, and for a script of a link set.
+/// behind 32,768 events, and for a script of a link set, but with a capture; with a capture for a script of a book.
 pub fn play_seen<S: Read + Drop, R: Read + Drop, T: Write, W: Write, E: Write>(
     alloc: Global,
     set: SetWord<S>,
@@ -60,7 +59,6 @@ pub fn play_seen<S: Read + Drop, R: Read + Drop, T: Write, W: Write, E: Write>(
         Wanted::Capture(every) => {
             play_captured(alloc, set, usual, name, script, every, out, writer, errors)
         }
-        Wanted::Coverage => play_covered(alloc, set, usual, name, script, out, writer, errors),
         Wanted::AtEnd(told) => {
             play_told(alloc, set, usual, name, script, told, out, writer, errors)
         }

@@ -1,5 +1,6 @@
 //! Which signals in which states were thrown away, and how often.
 ghost use Rattle.std.specs.Prelude.{◌≡◌, ◌<◌, ◌+◌, ◌++◌, [], List, length, position, OnOk, IfOk, IfSome};
+ghost use Rattle.std.specs.List.{flat_map};
 ghost use Rattle.script_seen.specs.Watched.{Throw as OneThrow};
 ghost use Rattle.script_play.specs.declared.thrown.Throw.{Throw as Counted};
 ghost use Rattle.script_play.specs.Thrown.{same_throw, throw_line, thrown_text, counted_throw, once, CountsThrown};
@@ -73,6 +74,21 @@ fn push_throw(
     Ok(text.push(b'\n')?)
 }
 
+/// The lines of what was thrown away, one behind another.
+fn push_throws(
+    alloc: Global,
+    text: &mut Vec<u8>,
+    set: &Verified,
+    throws: &[Throw],
+) -> Result<(), AllocError>
+    ensures { OnOk result (text.new.items ≡ text.old.items ++ flat_map (throw_line set.now) throws.now) }
+{
+    for throw in throws {
+        push_throw(alloc, text, set, throw)?;
+    }
+    Ok(())
+}
+
 impl Thrown {
     /// Before anything was thrown away.
     pub(crate) fn new(alloc: Global) -> Thrown
@@ -127,9 +143,7 @@ impl Thrown {
         ensures { IfOk result (λ v. (xs : List OneThrow) → CountsThrown xs self.now → v.items ≡ thrown_text set.now xs) }
     {
         let mut text = Vec::new(alloc);
-        for throw in &self.throws {
-            push_throw(alloc, &mut text, set, throw)?;
-        }
+        push_throws(alloc, &mut text, set, &self.throws)?;
         Ok(text)
     }
 }

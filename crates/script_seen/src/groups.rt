@@ -8,7 +8,7 @@ ghost use Rattle.script_group.specs.GroupRuns.{playing_of, last_of, IsOfNewSet};
 ghost use Rattle.script_seen.specs.Kinds.{IsGroupShown, IsGroupShownMissed, GroupShowing, GroupMissing};
 
 use crate::fronts::{first_of, length_of, no_octets, show_line, write_behind};
-use script_group::{FAILED, GroupPlayer, HELD, MISSED, end_player, open_group, refuse_set};
+use script_group::{FAILED, GroupPlayer, HELD, MISSED, open_group, refuse_set};
 use script_lines::{Line, lines_in};
 use script_links::{GroupSaid, GroupScript, RoundLimits};
 use std::alloc::Global;
@@ -128,9 +128,7 @@ pub fn show_group<W: Write>(
     match open_group(alloc, set, limits, script.head) {
         Ok(player) => {
             let mut player = player;
-            let status = show_all(alloc, &mut player, &script.commands, text, writer);
-            end_player(player);
-            status
+            show_all(alloc, &mut player, &script.commands, text, writer)
         }
         Err(error) => refuse_set(alloc, writer, error),
     }

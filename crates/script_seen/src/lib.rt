@@ -30,8 +30,8 @@ pub use pushing::{
 };
 pub use script_group::{
     FAILED, GroupPlayer, HELD, MISSED, OpenError, TermPlayer, Terminal, Unit, asks_told, encode,
-    end_player, line_of_unit, new_player, open_group, play_book, play_group, play_terminal, refuse,
-    refuse_set, text_line, write_line,
+    line_of_unit, new_player, open_group, play_book, play_group, play_terminal, refuse, refuse_set,
+    text_line, write_line,
 };
 pub use script_links::{
     AnyScript, GroupCommand, GroupSaid, GroupScript, PlayScript, RoundLimits, TermCommand,

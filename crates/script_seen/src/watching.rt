@@ -61,13 +61,15 @@ fn tell_throw<N: Watcher>(
     ensures { OnOk result ((ns : List Notice) → N.knows set.now ns watcher.old → N.knows set.now (ns ++ skip_noticed set.now (Some actor.now)) watcher.new) }
 {
     match actor.standing {
-        Standing::At(Place::State(state)) => {
-            match first_item(set, actor.name.process, state, &actor.port) {
-                Some(item) => watcher.throw(alloc, set, actor.name, state, item),
-                None => Ok(()),
+        Standing::At(place) => match place {
+            Place::State(state) => {
+                match first_item(set, actor.name.process, state, &actor.port) {
+                    Some(item) => watcher.throw(alloc, set, actor.name, state, item),
+                    None => Ok(()),
+                }
             }
-        }
-        Standing::At(Place::Start) => Ok(()),
+            Place::Start => Ok(()),
+        },
         Standing::Stopped => Ok(()),
     }
 }

@@ -1,8 +1,6 @@
 //! Calls of a set. One that wants memory is made once more, since it changed nothing; what its clauses say ends here.
 
-use link_group::{
-    AbandonError, CallError, Command, CommandError, Group, LineError, RetrieveError, Retrieved,
-};
+use link_group::{AbandonError, CallError, Command, CommandError, Group, LineError, RetrieveError};
 use std::alloc::AllocError;
 
 /// Why a trial stopped.
@@ -90,16 +88,16 @@ pub fn take(group: &mut Group, link: usize, octets: &[u8]) -> usize {
     group.line_in(link, octets).unwrap_or(0)
 }
 
-/// Hands out the messages of a link, and once more where there was no memory.
-pub fn retrieve(group: &mut Group, link: usize) -> Result<Retrieved, RetrieveError> {
+/// Hands out the messages of a link, and answers how many there are; once more where there was no memory.
+pub fn retrieve(group: &mut Group, link: usize) -> Result<usize, RetrieveError> {
     match group.retrieve(link) {
         Err(RetrieveError::NoMemory) => group.retrieve(link),
         handed => handed,
     }
 }
 
-/// Gives up those of which it isn't known whether they arrived, and once more where there was no memory.
-pub fn abandon(group: &mut Group, link: usize) -> Result<Retrieved, AbandonError> {
+/// Gives up those of which it isn't known whether they arrived, and answers how many are handed out; once more where there was no memory.
+pub fn abandon(group: &mut Group, link: usize) -> Result<usize, AbandonError> {
     match group.abandon(link) {
         Err(AbandonError::NoMemory) => group.abandon(link),
         handed => handed,

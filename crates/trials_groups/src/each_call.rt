@@ -6,7 +6,7 @@ use crate::keeping::{Given, Went, divert, give_up, hand_out};
 use crate::messages::{Way, message, place_of};
 use arrayvec::ArrayVec;
 use group_changeover::label_of;
-use link_group::{Command, Group, LineError, Msu, Retrievals};
+use link_group::{Command, Group, LineError, Msu};
 use std::alloc::AllocError;
 use su_octets::Unit;
 
@@ -41,15 +41,15 @@ fn give_all(text: &mut String, group: &mut Group, from: u32, to: u32) -> Result<
     Ok(())
 }
 
-/// Writes what a link holds, whether it is in changeover, and whether messages of it are retrieved.
+/// Writes what a link holds, whether it is in changeover, and whether its messages are handed out.
 fn write_link(text: &mut String, group: &Group, link: usize) -> Result<(), AllocError> {
     let held = group.held(link).unwrap_or(0);
     let sent = group.sent(link).unwrap_or(0);
     let changing = group.in_changeover(link);
-    let has_retrieval = group.has_retrieval(link);
+    let is_out = group.hand(link).is_some();
     writeln!(
         text,
-        "link {link}: {held} held, {sent} sent, in changeover {changing}, in hand {has_retrieval}"
+        "link {link}: {held} held, {sent} sent, in changeover {changing}, in hand {is_out}"
     )
 }
 
@@ -231,7 +231,7 @@ fn write_given(text: &mut String, given: Given) -> Result<(), AllocError> {
     }
 }
 
-/// Writes whether a retrieval went on.
+/// Writes whether what was handed out went on.
 fn write_went(text: &mut String, went: Went) -> Result<(), AllocError> {
     match went {
         Went::On => text.push_str("diverted\n"),
@@ -248,24 +248,31 @@ fn write_rebalanced(text: &mut String, group: &mut Group) -> Result<(), AllocErr
     }
 }
 
+/// How many links hand out messages.
+fn hands(group: &Group) -> usize {
+    let mut hands: usize = 0;
+    for link in 0..group.len() {
+        if group.hand_counts(link).is_some() {
+            hands = hands.saturating_add(1);
+        }
+    }
+    hands
+}
+
 /// The first link fails; there message 127 came, the number of which is 127.
-pub fn change_over(
-    text: &mut String,
-    group: &mut Group,
-    retrievals: &mut Retrievals,
-) -> Result<(), Stopped> {
+pub fn change_over(text: &mut String, group: &mut Group) -> Result<(), Stopped> {
     match group.fail(0) {
         Ok(sif) => order(text, group, sif.as_slice())?,
         Err(error) => writeln!(text, "fail: {error}")?,
     }
     give(text, group, 0, 132)?;
     write_rebalanced(text, group)?;
-    let given = hand_out(group, retrievals, 0)?;
+    let given = hand_out(group, 0)?;
     write_given(text, given)?;
     write_answer(text, group, &[0x01, 0x80, 0, 0, 0x21, 127])?;
-    let given = hand_out(group, retrievals, 0)?;
+    let given = hand_out(group, 0)?;
     write_given(text, given)?;
-    let went = divert(group, retrievals, 0);
+    let went = divert(group, 0);
     write_went(text, went)?;
     write_link(text, group, 0)?;
     write_link(text, group, 1)?;
@@ -274,21 +281,17 @@ pub fn change_over(
 }
 
 /// The second link fails too, with the order and two messages sent, and it isn't known there which came.
-pub fn give_them_up(
-    text: &mut String,
-    group: &mut Group,
-    retrievals: &mut Retrievals,
-) -> Result<(), Stopped> {
+pub fn give_them_up(text: &mut String, group: &mut Group) -> Result<(), Stopped> {
     let _octets = speak(group, 1, 3)?;
     tell(group, 1, Command::Stop)?;
     write_answer(text, group, &[0x01, 0x80, 0, 0x10, 0x12])?;
-    let given = hand_out(group, retrievals, 1)?;
+    let given = hand_out(group, 1)?;
     write_given(text, given)?;
-    let count = give_up(group, retrievals, 1)?.unwrap_or(99);
+    let count = give_up(group, 1)?.unwrap_or(99);
     let unsure = group.unsure();
-    let kept = retrievals.len();
+    let kept = hands(group);
     writeln!(text, "{count} in hand, {unsure} unsure, {kept} hands")?;
-    let went = divert(group, retrievals, 1);
+    let went = divert(group, 1);
     write_went(text, went)?;
     write_link(text, group, 1)?;
     Ok(())

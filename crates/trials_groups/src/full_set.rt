@@ -7,7 +7,7 @@ use crate::keeping::{Given, Went, divert, hand_out};
 use crate::messages::message;
 use crate::opening::open_set;
 use group_changeover::label_of;
-use link_group::{Group, Mode, Retrievals};
+use link_group::{Group, Mode};
 use std::alloc::Global;
 use turn_check::Verified;
 
@@ -16,10 +16,10 @@ const SENT: u32 = 127;
 
 const WAITING: u32 = 1_024;
 
-/// Two links in service. It can't be dropped: its set ends with what is retrieved.
+/// Two links in service.
+#[derive(Drop)]
 pub struct FullSet {
     group: Group,
-    retrievals: Retrievals,
 }
 
 /// Has two new links come into service.
@@ -35,8 +35,7 @@ impl FullSet {
     pub fn open(alloc: Global, set: &Verified) -> Result<FullSet, Stopped> {
         let mut group = open_set(alloc, set, Mode::Basic, 2, WAY)?;
         begin(alloc, &mut group)?;
-        let retrievals = Retrievals::new(alloc)?;
-        Ok(FullSet { group, retrievals })
+        Ok(FullSet { group })
     }
 
     /// Gives the first link so many messages of its eight selections. How many it took.
@@ -70,20 +69,14 @@ impl FullSet {
         let _answer = self
             .group
             .changeover_message(&[0x01, 0x80, 0, 0, 0x21, 127]);
-        match hand_out(&mut self.group, &mut self.retrievals, 0)? {
+        match hand_out(&mut self.group, 0)? {
             Given::Out(_) => {}
             Given::Refused(_) => return Err(Stopped::Refused),
         }
-        match divert(&mut self.group, &mut self.retrievals, 0) {
+        match divert(&mut self.group, 0) {
             Went::On => Ok(self.group.held(1).unwrap_or(0)),
             Went::Left(_) => Err(Stopped::Refused),
             Went::Nowhere => Err(Stopped::Refused),
         }
-    }
-
-    /// Ends the set.
-    pub fn end(self) {
-        let FullSet { group, retrievals } = self;
-        let _ended = group.end(retrievals);
     }
 }

@@ -4,7 +4,7 @@
 //! - A link that goes down at one end is cut too, for whatever reason it does.
 //! - What a cut link sends is lost, both ways; each end hears 1s.
 //! - An end calls `fail` for a link, and hears what is said of its changeover, only while that is down there.
-//! - A cut is healed some rounds after both ends have their retrieval out and no message of changeover about it is under way. Then both ends start the
+//! - A cut is healed some rounds after both ends have handed their messages out and no message of changeover about it is under way. Then both ends start the
 //!   link.
 //! - An end shares selections out anew once a link came into service, as soon as that isn't refused.
 //!
@@ -137,7 +137,7 @@ impl Schedule {
         }
     }
 
-    /// Heals a link some rounds after both ends have their retrieval out.
+    /// Heals a link some rounds after both ends have handed their messages out.
     pub fn heal(&mut self, near: &SetEnd, far: &SetEnd, link: usize, dice: &mut Dice) {
         let place = link % 16;
         if !self.is_cut(link) || near.due[place] || far.due[place] {

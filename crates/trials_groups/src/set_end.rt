@@ -4,16 +4,16 @@ use crate::calls::{Stopped, pass, serves, speak, take, tell};
 use crate::counts::Counts;
 use crate::messages::{Way, message};
 use group_changeover::label_of;
-use link_group::{Command, Group, LinkStatus, Report, Retrievals, Sif};
+use link_group::{Command, Group, LinkStatus, Report, Sif};
 use std::collections::VecDeque;
 
 /// How many messages of changeover may be on their way to one end.
 pub const MOST_MAIL: usize = 64;
 
-/// One end of a pair. It can't be dropped: its set ends with what is retrieved.
+/// One end of a pair.
+#[derive(Drop)]
 pub struct SetEnd {
     pub group: Group,
-    pub retrievals: Retrievals,
     pub counts: Counts,
     /// From this end to the other.
     way: Way,
@@ -33,16 +33,9 @@ pub struct SetEnd {
 
 impl SetEnd {
     /// An end at which nothing has happened.
-    pub fn new(
-        group: Group,
-        retrievals: Retrievals,
-        way: Way,
-        mail: VecDeque<Sif>,
-        late: VecDeque<Sif>,
-    ) -> SetEnd {
+    pub fn new(group: Group, way: Way, mail: VecDeque<Sif>, late: VecDeque<Sif>) -> SetEnd {
         SetEnd {
             group,
-            retrievals,
             counts: Counts::new(),
             way,
             mail,
@@ -202,22 +195,5 @@ impl SetEnd {
             }
         }
         true
-    }
-
-    /// Ends the set, with what is retrieved.
-    pub fn end(self) {
-        let SetEnd {
-            group,
-            retrievals,
-            counts: _,
-            way: _,
-            mail: _mail,
-            late: _late,
-            due: _,
-            started: _,
-            back: _,
-            uneven: _,
-        } = self;
-        let _ended = group.end(retrievals);
     }
 }

@@ -4,44 +4,34 @@ use crate::calls::{Stopped, serves};
 use crate::dice::Dice;
 use crate::keeping::{Given, Went, divert, give_up, hand_out};
 use crate::set_end::SetEnd;
-use link_group::{Group, Retrievals, RetrieveError, Sif};
+use link_group::{Group, RetrieveError, Sif};
 
-/// Gives up what may or may not have arrived, now and then: a late answer may still come. Whether the rest is retrieved.
-fn give_up_late(
-    group: &mut Group,
-    retrievals: &mut Retrievals,
-    link: usize,
-    dice: &mut Dice,
-) -> Result<bool, Stopped> {
+/// Gives up what may or may not have arrived, now and then: a late answer may still come. Whether the rest is handed out.
+fn give_up_late(group: &mut Group, link: usize, dice: &mut Dice) -> Result<bool, Stopped> {
     if !dice.one_in(4) {
         return Ok(false);
     }
-    Ok(give_up(group, retrievals, link)?.is_some())
+    Ok(give_up(group, link)?.is_some())
 }
 
-/// Hands out a link's messages, if that isn't refused. Whether they are retrieved.
-fn hand_out_late(
-    group: &mut Group,
-    retrievals: &mut Retrievals,
-    link: usize,
-    dice: &mut Dice,
-) -> Result<bool, Stopped> {
-    match hand_out(group, retrievals, link)? {
+/// Hands out a link's messages, if that isn't refused. Whether they are.
+fn hand_out_late(group: &mut Group, link: usize, dice: &mut Dice) -> Result<bool, Stopped> {
+    match hand_out(group, link)? {
         Given::Out(_) => Ok(true),
-        Given::Refused(RetrieveError::Unsure(_)) => give_up_late(group, retrievals, link, dice),
+        Given::Refused(RetrieveError::Unsure(_)) => give_up_late(group, link, dice),
         Given::Refused(_) => Ok(false),
     }
 }
 
 impl SetEnd {
-    /// The next step of a changeover that goes on: retrieved messages are diverted, and else they are handed out.
+    /// The next step of a changeover that goes on: messages that are handed out are diverted, and else they are handed out.
     fn go_on(&mut self, link: usize, dice: &mut Dice) -> Result<(), Stopped> {
         let place = link % 16;
-        match divert(&mut self.group, &mut self.retrievals, link) {
+        match divert(&mut self.group, link) {
             Went::On => {}
             Went::Left(_) => self.due[place] = false,
             Went::Nowhere => {
-                if hand_out_late(&mut self.group, &mut self.retrievals, link, dice)? {
+                if hand_out_late(&mut self.group, link, dice)? {
                     self.due[place] = false;
                 }
             }

@@ -8,7 +8,6 @@ use crate::run::{Run, run_of};
 use crate::schedule::Schedule;
 use crate::set_end::{MOST_MAIL, SetEnd};
 use crate::shown::write_run;
-use link_group::Retrievals;
 use std::alloc::Global;
 use std::collections::VecDeque;
 use turn_check::Verified;
@@ -23,10 +22,7 @@ fn open_end(alloc: Global, set: &Verified, run: Run, way: Way) -> Result<SetEnd,
     let mail = VecDeque::with_capacity(alloc, MOST_MAIL)?;
     let late = VecDeque::with_capacity(alloc, MOST_MAIL)?;
     let group = open_set(alloc, set, run.mode, run.links, way)?;
-    match Retrievals::new(alloc) {
-        Ok(retrievals) => Ok(SetEnd::new(group, retrievals, way, mail, late)),
-        Err(_) => Err(Stopped::NoMemory),
-    }
+    Ok(SetEnd::new(group, way, mail, late))
 }
 
 /// Makes a run, and writes what came of it.
@@ -54,14 +50,8 @@ fn run_with(
         from: FAR,
         to: NEAR,
     };
-    match open_end(alloc, set, run, way) {
-        Ok(mut far) => {
-            let made = make_run(text, near, &mut far, run);
-            far.end();
-            made
-        }
-        Err(stopped) => Err(stopped),
-    }
+    let mut far = open_end(alloc, set, run, way)?;
+    make_run(text, near, &mut far, run)
 }
 
 /// Makes the run of a line with two new sets.
@@ -73,14 +63,8 @@ fn run_line(alloc: Global, text: &mut String, set: &Verified, line: &str) -> Res
         from: NEAR,
         to: FAR,
     };
-    match open_end(alloc, set, run, way) {
-        Ok(mut near) => {
-            let made = run_with(alloc, text, set, &mut near, run);
-            near.end();
-            made
-        }
-        Err(stopped) => Err(stopped),
-    }
+    let mut near = open_end(alloc, set, run, way)?;
+    run_with(alloc, text, set, &mut near, run)
 }
 
 /// Makes the run of each line, and writes what came of it: `basic` or `cyclic`, how many links, the seed, how many messages each end takes, and one in how

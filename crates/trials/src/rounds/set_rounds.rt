@@ -38,11 +38,7 @@ fn measure(rt: &impl Clock, full: &mut FullSet) -> Result<Moved, Stopped> {
 /// A round on a new set.
 fn round(rt: &impl Clock, alloc: Global, set: &Verified) -> Result<Moved, Stopped> {
     match FullSet::open(alloc, set) {
-        Ok(mut full) => {
-            let round = measure(rt, &mut full);
-            full.end();
-            round
-        }
+        Ok(mut full) => measure(rt, &mut full),
         Err(stopped) => Err(why_stopped(stopped)),
     }
 }

@@ -1,6 +1,6 @@
 use Rattle.std.proofs.Common.{ap, refl}
 use Rattle.std.specs.Option.{option_map}
-use Rattle.script_play.proofs.Watching.{with_lines, with_lines_in_part, with_neither, with_neither_in_part, with_file, with_file_in_part}
+use Rattle.script_play.proofs.WatchedPlays.{with_lines, with_lines_in_part, with_neither, with_neither_in_part, with_file, with_file_in_part}
 use Rattle.mtp2_play.proofs.Known as Known
 use Rattle.mtp2_play.proofs.plays.play_on.Goals as goal
 

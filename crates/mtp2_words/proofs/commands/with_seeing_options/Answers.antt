@@ -12,7 +12,13 @@ returns c = λ local.
     c.flag_word-echo.ensures.rule c.flag_word-echo.ensures.local c.in_ok-arg.ensures in
     let trace = with_word _ (option_word (codes "trace")) _ c.option_word-trace.result c.in_ok-arg-2.field-0 echo
     c.option_word-trace.ensures.rule c.option_word-trace.ensures.local c.in_ok-arg-2.ensures in
-    let every = with_word _ (flag_word (codes "every")) _ c.flag_word-every.result c.in_ok-arg-3.field-0 trace
-    c.flag_word-every.ensures.rule c.flag_word-every.ensures.local c.in_ok-arg-3.ensures in
-    let P : App → Type 0 = λ a. IfOk c.with_told_options.result (IsCommand (with_told_options a)) in
-    subst P every.app_is (c.with_told_options.ensures every.local)
+    let chart = with_word _ (option_word (codes "chart")) _ c.option_word-chart.result c.in_ok-arg-3.field-0 trace
+    c.option_word-chart.ensures.rule c.option_word-chart.ensures.local c.in_ok-arg-3.ensures in
+    let turns = with_word _ (option_word (codes "turns")) _ c.option_word-turns.result c.in_ok-arg-4.field-0 chart
+    c.option_word-turns.ensures.rule c.option_word-turns.ensures.local c.in_ok-arg-4.ensures in
+    let thrown = with_word _ (option_word (codes "thrown")) _ c.option_word-thrown.result c.in_ok-arg-5.field-0 turns
+    c.option_word-thrown.ensures.rule c.option_word-thrown.ensures.local c.in_ok-arg-5.ensures in
+    let capture = with_word _ (option_word (codes "capture")) _ c.option_word-capture.result c.in_ok-arg-6.field-0 thrown
+    c.option_word-capture.ensures.rule c.option_word-capture.ensures.local c.in_ok-arg-6.ensures in
+    IfOk-weaker c.arg-7.result _ _ (λ r a. with_word _ (flag_word (codes "every")) _ c.flag_word-every.result r capture
+    c.flag_word-every.ensures.rule c.flag_word-every.ensures.local a) c.arg-7.ensures

@@ -9,7 +9,7 @@ returns-clause-named c = IfSome_then c.played.result c.played.ensures.play (λ r
 
 pub returns-clause-asked : goal.returns-clause-asked
 returns-clause-asked c = IfSome_then c.played.result c.played.ensures.play
-    (λ r h. plays (given_by c.args.given.now) _ _ _ r c.in_ok-set.ensures c.in_ok-script.ensures c.in_ok-seen.ensures h)
+    (λ r h. plays (given_by c.args.given.now) _ _ _ r c.in_ok-set.ensures c.in_ok-script.ensures c.in_ok-seen.ensures.some h)
 
 pub returns-clause-none : goal.returns-clause-none
 returns-clause-none c = λ n. plays_nothing (given_by c.args.given.now) _ _ c.in_ok-set.ensures c.in_ok-script.ensures (c.played.ensures.none n)

@@ -1,18 +1,18 @@
 use Rattle.std.proofs.Common.{[]}
 use Rattle.script_group.specs.GroupRuns.{begun, playing_of, last_of}
-use Rattle.script_group.proofs.GroupRuns.{new_run}
+use Rattle.script_group.proofs.GroupRuns.{run_begins}
 use Rattle.script_group.proofs.playing.play_set.Goals as goal
 
 pub returns-clause-held : goal.returns-clause-held
 returns-clause-held g c zero = record {
-  now = playing_of c.run_all-status.new.player;
-  last = last_of c.run_all-status.new.player;
+  now = playing_of c.run_all.new.player;
+  last = last_of c.run_all.new.player;
   run =
-      c.run_all-status.ensures.held zero (begun c.args.group) [] (g.W.Write.contents c.args.writer.now)
-      (new_run c.args.group c.args.retrievals (g.W.Write.contents c.args.writer.now) c.requires);
+      c.run_all.ensures.held zero (begun c.args.group) [] (g.W.Write.contents c.args.writer.now)
+      (run_begins (begun c.args.group) (g.W.Write.contents c.args.writer.now));
 }
 
 pub returns-clause-missed : goal.returns-clause-missed
 returns-clause-missed g c one =
-    c.run_all-status.ensures.missed one (begun c.args.group) [] (g.W.Write.contents c.args.writer.now)
-    (new_run c.args.group c.args.retrievals (g.W.Write.contents c.args.writer.now) c.requires)
+    c.run_all.ensures.missed one (begun c.args.group) [] (g.W.Write.contents c.args.writer.now)
+    (run_begins (begun c.args.group) (g.W.Write.contents c.args.writer.now))

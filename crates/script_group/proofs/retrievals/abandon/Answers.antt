@@ -1,24 +1,14 @@
-use Rattle.std.proofs.Common.{sym, ◌∙◌}
 use Rattle.std.proofs.lemmas.Result.{IfOk-weaker}
-use Rattle.script_group.specs.GroupAnswers.{retrievals_of, Abandons}
+use Rattle.script_group.specs.GroupAnswers.{Abandons}
 use Rattle.script_group.proofs.RetrievalAnswers.{abandoned, unabandoned}
-use Rattle.script_group.proofs.Keeping.{room_to_abandon}
 use Rattle.script_group.proofs.retrievals.abandon.Goals as goal
-
-pub keep-requires : goal.keep-requires
-keep-requires c = room_to_abandon c.args.group.now _ c.args.link (sym c.can_keep.ensures ∙ c.if-not-can_keep.false) (sym c.in-Ok.ensures.fault)
 
 pub returns-in-Ok : goal.returns-in-Ok
 returns-in-Ok c =
-    IfOk-weaker c.count_line.result _
-    (λ v. Abandons c.args.link c.args.group.now (retrievals_of c.args.retrievals.now) v.items c.abandon.new.self (retrievals_of c.keep.new.retrievals))
-    (λ v is.
-    abandoned c.args.link c.in-Ok.retrieval.link _ _ _ _ _ c.in-Ok.retrieval.messages.items v.items is c.len-count.ensures c.in-Ok.ensures.fault c.in-Ok.ensures.link
-    c.in-Ok.ensures.messages c.in-Ok.ensures.ok c.keep.ensures)
-    c.count_line.ensures
+    IfOk-weaker c.count_line.result _ (λ v. Abandons c.args.link c.args.group.now v.items c.abandon.new.self)
+    (λ v is. abandoned c.args.link _ _ _ v.items is c.in-Ok.ensures.count c.in-Ok.ensures.fault c.in-Ok.ensures.ok) c.count_line.ensures
 
 pub returns-in-Err : goal.returns-in-Err
 returns-in-Err c =
-    IfOk-weaker c.unabandoned.result _
-    (λ v. Abandons c.args.link c.args.group.now (retrievals_of c.args.retrievals.now) v.items c.abandon.new.self (retrievals_of c.args.retrievals.now))
-    (λ v is. unabandoned c.args.link _ _ _ c.in-Err.error v.items is c.in-Err.ensures.fault c.in-Err.ensures.err) c.unabandoned.ensures
+    IfOk-weaker c.unabandoned.result _ (λ v. Abandons c.args.link c.args.group.now v.items c.abandon.new.self)
+    (λ v is. unabandoned c.args.link _ _ c.in-Err.error v.items is c.in-Err.ensures.fault c.in-Err.ensures.err) c.unabandoned.ensures

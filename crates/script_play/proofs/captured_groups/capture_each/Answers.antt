@@ -1,8 +1,7 @@
 use Rattle.std.proofs.Common.{map}
 use Rattle.script_links.specs.GroupScripts.{plain_group_said}
 use Rattle.script_seen.specs.GroupRuns.{playing_of, last_of}
-use Rattle.script_seen.proofs.SetTraces.{set_written, set_missed_at}
-use Rattle.script_play.proofs.SetCaptures.{set_begins, set_goes_on, set_gone, set_captured_all, set_captured_part}
+use Rattle.script_play.proofs.SetCaptures.{set_begins, set_goes_on, set_gone, set_captured_all, set_captured_part, set_written, set_missed_at}
 use Rattle.script_play.proofs.captured_groups.capture_each.Goals as goal
 
 pub loop-said-init : goal.loop-said-init

@@ -24,6 +24,7 @@ returns-in-Ok-play_script_in-clause-held g c zero bytes keeps =
       script = plain_play_script c.in-Ok-play_script_in.script;
       reads = ap play_script_of (sym same) ∙ c.in-Ok-play_script_in.ensures.script;
       run = c.capture_script.ensures.held zero;
+      captured = c.capture_script.ensures.captured zero;
     }
 
 pub returns-in-Err-play_script_in-clause-held : goal.returns-in-Err-play_script_in-clause-held
@@ -48,6 +49,7 @@ returns-in-Ok-play_script_in-clause-missed g c one bytes keeps =
       script = plain_play_script c.in-Ok-play_script_in.script;
       reads = ap play_script_of (sym same) ∙ c.in-Ok-play_script_in.ensures.script;
       missed = c.capture_script.ensures.missed one;
+      captured = c.capture_script.ensures.in_part one;
     }
 
 pub returns-in-Err-play_script_in-clause-missed : goal.returns-in-Err-play_script_in-clause-missed
@@ -102,51 +104,3 @@ returns-in-Err-clause-refused g c two bytes keeps =
     let same : c.deref-2.result.now ≡ bytes =
     c.deref-2.ensures.value ∙ all_kept bytes c.args.read.now keeps (sym c.is_too_long.ensures ∙ c.if-is_too_long.false) in
     absurd (c.in-Err.ensures.cases.0 (subst IsUtf8 (sym same) (keeps.utf8.0 is_text)))
-
-pub returns-then-not-read-clause-captured : goal.returns-then-not-read-clause-captured
-returns-then-not-read-clause-captured g c zero bytes keeps = absurd (not_held _ c.refuse.ensures.status zero)
-
-pub returns-then-is_too_long-clause-captured : goal.returns-then-is_too_long-clause-captured
-returns-then-is_too_long-clause-captured g c zero bytes keeps = absurd (not_held _ c.refuse_script.ensures.status zero)
-
-pub returns-in-Ok-play_script_in-clause-captured : goal.returns-in-Ok-play_script_in-clause-captured
-returns-in-Ok-play_script_in-clause-captured g c zero bytes keeps =
-    let is_text : IsTrue c.args.read.now.is_text = search rules in
-    let same : c.in-Ok.text.now ≡ bytes =
-    c.in-Ok.ensures.cases.0 ∙ (c.deref-2.ensures.value ∙ all_kept bytes c.args.read.now keeps (sym c.is_too_long.ensures ∙ c.if-is_too_long.false)) in
-    record {
-      utf8 = keeps.utf8.0 is_text;
-      script = plain_play_script c.in-Ok-play_script_in.script;
-      reads = ap play_script_of (sym same) ∙ c.in-Ok-play_script_in.ensures.script;
-      captured = c.capture_script.ensures.captured zero;
-    }
-
-pub returns-in-Err-play_script_in-clause-captured : goal.returns-in-Err-play_script_in-clause-captured
-returns-in-Err-play_script_in-clause-captured g c zero bytes keeps = absurd (not_held _ c.refuse_script-in-Err-play_script_in.ensures.status zero)
-
-pub returns-in-Err-clause-captured : goal.returns-in-Err-clause-captured
-returns-in-Err-clause-captured g c zero bytes keeps = absurd (not_held _ c.refuse-in-Err.ensures.status zero)
-
-pub returns-then-not-read-clause-in_part : goal.returns-then-not-read-clause-in_part
-returns-then-not-read-clause-in_part g c one bytes keeps = absurd (not_missed _ c.refuse.ensures.status one)
-
-pub returns-then-is_too_long-clause-in_part : goal.returns-then-is_too_long-clause-in_part
-returns-then-is_too_long-clause-in_part g c one bytes keeps = absurd (not_missed _ c.refuse_script.ensures.status one)
-
-pub returns-in-Ok-play_script_in-clause-in_part : goal.returns-in-Ok-play_script_in-clause-in_part
-returns-in-Ok-play_script_in-clause-in_part g c one bytes keeps =
-    let is_text : IsTrue c.args.read.now.is_text = search rules in
-    let same : c.in-Ok.text.now ≡ bytes =
-    c.in-Ok.ensures.cases.0 ∙ (c.deref-2.ensures.value ∙ all_kept bytes c.args.read.now keeps (sym c.is_too_long.ensures ∙ c.if-is_too_long.false)) in
-    record {
-      utf8 = keeps.utf8.0 is_text;
-      script = plain_play_script c.in-Ok-play_script_in.script;
-      reads = ap play_script_of (sym same) ∙ c.in-Ok-play_script_in.ensures.script;
-      captured = c.capture_script.ensures.in_part one;
-    }
-
-pub returns-in-Err-play_script_in-clause-in_part : goal.returns-in-Err-play_script_in-clause-in_part
-returns-in-Err-play_script_in-clause-in_part g c one bytes keeps = absurd (not_missed _ c.refuse_script-in-Err-play_script_in.ensures.status one)
-
-pub returns-in-Err-clause-in_part : goal.returns-in-Err-clause-in_part
-returns-in-Err-clause-in_part g c one bytes keeps = absurd (not_missed _ c.refuse-in-Err.ensures.status one)

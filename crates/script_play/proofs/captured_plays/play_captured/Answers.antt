@@ -52,31 +52,3 @@ returns-clause-refused g c two =
     (refusal_printed _ _ _ c.in-Err.refusal.fault (c.refuse_set.ensures.refused two)
     (of_refusal _ c.in-Err.refusal (c.in-Err.ensures.fault (c.refuse_set.ensures.refused two)))
     (c.refuse_set.ensures.printed two))
-
-pub returns-in-Ok-read-clause-captured : goal.returns-in-Ok-read-clause-captured
-returns-in-Ok-read-clause-captured g c zero = record {
-  draft = c.in-Ok.set;
-  is_set = c.in-Ok.ensures.set;
-  of_script = record {
-    bytes = c.in-Ok-read.ensures.bytes;
-    are_known = c.in-Ok-read.ensures.are_known;
-    holds = c.capture_text.ensures.captured zero c.in-Ok-read.ensures.bytes c.in-Ok-read.ensures.keeps;
-  };
-}
-
-pub returns-clause-captured : goal.returns-clause-captured
-returns-clause-captured g c zero = absurd (not_held _ c.refuse_set.ensures.status zero)
-
-pub returns-in-Ok-read-clause-in_part : goal.returns-in-Ok-read-clause-in_part
-returns-in-Ok-read-clause-in_part g c one = record {
-  draft = c.in-Ok.set;
-  is_set = c.in-Ok.ensures.set;
-  of_script = record {
-    bytes = c.in-Ok-read.ensures.bytes;
-    are_known = c.in-Ok-read.ensures.are_known;
-    holds = c.capture_text.ensures.in_part one c.in-Ok-read.ensures.bytes c.in-Ok-read.ensures.keeps;
-  };
-}
-
-pub returns-clause-in_part : goal.returns-clause-in_part
-returns-clause-in_part g c one = absurd (not_missed _ c.refuse_set.ensures.status one)

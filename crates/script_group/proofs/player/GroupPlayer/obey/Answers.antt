@@ -20,7 +20,7 @@ pub returns-in_ok-give_out-in-Out-clause-goes : goal.returns-in_ok-give_out-in-O
 returns-in_ok-give_out-in-Out-clause-goes g c on p before first run =
     let given = c.in_ok-give_out-in-Out.ensures in
     run_printed p before (plain_group_said c.args.said.now) given.lines first _ _ _ _ _ _
-    (obeys_out c.args.said.now.command _ _ _ given.lines c.in-Out.is (record { goes = given.out; retrievals = refl; on = refl })) given.printed run
+    (obeys_out c.args.said.now.command _ _ _ given.lines c.in-Out.is (record { goes = given.out; on = refl })) given.printed run
 
 pub returns-in_ok-print-in_default-clause-goes : goal.returns-in_ok-print-in_default-clause-goes
 returns-in_ok-print-in_default-clause-goes g c on p before first run =
@@ -39,7 +39,7 @@ returns-in-On-clause-obeyed g c on = was_done _ (obeys_on c.args.said.now.comman
 pub returns-in_ok-give_out-in-Out-clause-obeyed : goal.returns-in_ok-give_out-in-Out-clause-obeyed
 returns-in_ok-give_out-in-Out-clause-obeyed g c on =
     let given = c.in_ok-give_out-in-Out.ensures in
-    was_done given.lines (obeys_out c.args.said.now.command _ _ _ given.lines c.in-Out.is (record { goes = given.out; retrievals = refl; on = refl })) given.printed
+    was_done given.lines (obeys_out c.args.said.now.command _ _ _ given.lines c.in-Out.is (record { goes = given.out; on = refl })) given.printed
 
 pub returns-in_ok-print-in_default-clause-obeyed : goal.returns-in_ok-print-in_default-clause-obeyed
 returns-in_ok-print-in_default-clause-obeyed g c on =

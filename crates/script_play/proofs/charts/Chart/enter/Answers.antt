@@ -5,7 +5,8 @@ use Rattle.script_play.proofs.charts.Chart.enter.Goals as goal
 
 pub returns-then-has : goal.returns-then-has
 returns-then-has c = record {
-  actors = entered_already c.args.self.now.actors.items c.args.actor (sym c.has.ensures ∙ c.if-has.true);
+  actors = entered_already c.args.self.now.actors.items c.args.actor
+      (ap (λ xs. takes_part xs c.args.actor) (sym c.deref.ensures.value) ∙ (sym c.has.ensures ∙ c.if-has.true));
   environment = nobody c.args.self.now.environment;
   rows = refl;
   clock = refl;
@@ -14,7 +15,7 @@ returns-then-has c = record {
 
 pub returns : goal.returns
 returns c = record {
-  actors = λ x. ap (λ xs. takes_part xs x) c.in_ok-push.ensures ∙ entered_new c.args.self.now.actors.items c.args.actor x;
+  actors = λ x. ap (λ xs. takes_part xs x) c.in_ok-push.ensures.items ∙ entered_new c.args.self.now.actors.items c.args.actor x;
   environment = nobody c.args.self.now.environment;
   rows = refl;
   clock = refl;

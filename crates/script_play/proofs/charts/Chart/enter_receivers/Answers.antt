@@ -9,7 +9,7 @@ loop-place-init c = none_part c.args.self.now
 pub loop-place-preserved : goal.loop-place-preserved
 loop-place-preserved c =
     effect_more c.args.set.now c.args.me c.args.lost.now c.args.effects.now c.loop-place.place _ c.is_some-is_lost.result c.args.self.now _ _ c.loop-place-test.true
-    (sym c.place-item.is) (c.is_some-is_lost.ensures ∙ ap (λ o. is_some o) c.loss_at.ensures) c.loop-place.invariant c.in_ok-enter_receiver.ensures
+    (sym c.index-effects-place.is) (c.is_some-is_lost.ensures ∙ ap (λ o. is_some o) c.loss_at.ensures) c.loop-place.invariant c.in_ok-enter_receiver.ensures
 
 pub returns : goal.returns
 returns c =
