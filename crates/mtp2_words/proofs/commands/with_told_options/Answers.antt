@@ -1,0 +1,20 @@
+use Rattle.std.proofs.Common.{codes, refl}
+use Rattle.std.proofs.lemmas.Result.{IfOk-weaker}
+use Rattle.clap.specs.Words.{app_of}
+use Rattle.mtp2_words.specs.Commands.{option_word, IsCommand}
+use Rattle.mtp2_words.proofs.Building.{with_word}
+use Rattle.mtp2_words.proofs.commands.with_told_options.Goals as goal
+
+pub returns : goal.returns
+returns c = λ local.
+    let begun : IsCommand (app_of c.args.command) c.args.command = record { app_is = refl; local = local } in
+    let chart = with_word _ (option_word (codes "chart")) _ c.option_word-chart.result c.in_ok-arg.field-0 begun
+    c.option_word-chart.ensures.rule c.option_word-chart.ensures.local c.in_ok-arg.ensures in
+    let turns = with_word _ (option_word (codes "turns")) _ c.option_word-turns.result c.in_ok-arg-2.field-0 chart
+    c.option_word-turns.ensures.rule c.option_word-turns.ensures.local c.in_ok-arg-2.ensures in
+    let coverage = with_word _ (option_word (codes "coverage")) _ c.option_word-coverage.result c.in_ok-arg-3.field-0 turns
+    c.option_word-coverage.ensures.rule c.option_word-coverage.ensures.local c.in_ok-arg-3.ensures in
+    let thrown = with_word _ (option_word (codes "thrown")) _ c.option_word-thrown.result c.in_ok-arg-4.field-0 coverage
+    c.option_word-thrown.ensures.rule c.option_word-thrown.ensures.local c.in_ok-arg-4.ensures in
+    IfOk-weaker c.arg-5.result _ _ (λ r a. with_word _ (option_word (codes "capture")) _ c.option_word-capture.result r thrown
+    c.option_word-capture.ensures.rule c.option_word-capture.ensures.local a) c.arg-5.ensures
