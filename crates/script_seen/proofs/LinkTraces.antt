@@ -6,7 +6,7 @@ use Rattle.std.proofs.KnownBytes.{Appends-nil, Appends-trans}
 use Rattle.std.proofs.lemmas.List.Elements.{All-nil, All-cons, All-head, All-tail, All-append}
 use Rattle.std.proofs.lemmas.Option.{none-some, same_Some}
 use Rattle.turn_code.specs.declared.draft.Draft.{Draft}
-use Rattle.plain_limits.specs.Limits.{MOST_PORT, MOST_ENVIRONMENT, MOST_JOURNAL}
+use Rattle.plain_laws.specs.Limits.{MOST_PORT, MOST_ENVIRONMENT, MOST_JOURNAL}
 use Rattle.actor_machine.specs.Kept.{opened_book}
 use Rattle.actor_machine.specs.Ledger.{Ledger, state_of}
 use Rattle.script_seen.specs.Traced.{since, told_text, IsAt}

@@ -6,7 +6,7 @@ use Rattle.std.specs.Prelude.{if◌then◌else◌}
 use Rattle.std.specs.Io.KnownBytes.{Appends}
 use Rattle.std.specs.Fmt.{decimal}
 use Rattle.turn_code.specs.declared.draft.Draft.{Draft}
-use Rattle.plain_limits.specs.Limits.{MOST_PORT, MOST_ENVIRONMENT, MOST_JOURNAL}
+use Rattle.plain_laws.specs.Limits.{MOST_PORT, MOST_ENVIRONMENT, MOST_JOURNAL}
 use Rattle.actor_machine.specs.Core.{Core}
 use Rattle.actor_machine.specs.Kept.{opened_book}
 use Rattle.actor_machine.specs.Ledger.{Ledger, runs, replay, state_of}
