@@ -88,17 +88,17 @@ in_part usual wanted echo set script old new same s =
     subst Q same (record { draft = s.draft; is_set = s.is_set; of_script = some_bytes script (IsPlayedInPart usual echo old new s.draft) s.of_script })
 
 -- with what is wanted of it in a file
-pub seen : (name : List ℕ) (known : Option (List ℕ)) (usual wanted : RoundLimits) (sight : Wanted) (set script old new begun now : Option (List ℕ)) → usual ≡ wanted
-    → IsOnSet set script (IsPlaySeen name known usual sight old new begun now) → IsOnSet set None (IsPlaySeen name known wanted sight old new begun now)
-seen name known usual wanted sight set script old new begun now same s =
-    let Q : RoundLimits → Type 0 = λ l. IsOnSet set None (IsPlaySeen name known l sight old new begun now) in
-    subst Q same (record { draft = s.draft; is_set = s.is_set; of_script = some_bytes script (IsPlaySeen name known usual sight old new begun now s.draft) s.of_script })
+pub seen : (usual wanted : RoundLimits) (sight : Wanted) (set script old new begun now : Option (List ℕ)) → usual ≡ wanted
+    → IsOnSet set script (IsPlaySeen usual sight old new begun now) → IsOnSet set None (IsPlaySeen wanted sight old new begun now)
+seen usual wanted sight set script old new begun now same s =
+    let Q : RoundLimits → Type 0 = λ l. IsOnSet set None (IsPlaySeen l sight old new begun now) in
+    subst Q same (record { draft = s.draft; is_set = s.is_set; of_script = some_bytes script (IsPlaySeen usual sight old new begun now s.draft) s.of_script })
 
-pub seen_in_part : (name : List ℕ) (known : Option (List ℕ)) (usual wanted : RoundLimits) (sight : Wanted) (set script old new begun now : Option (List ℕ)) → usual ≡ wanted
-    → IsOnSet set script (IsPlaySeenInPart name known usual sight old new begun now) → IsOnSet set None (IsPlaySeenInPart name known wanted sight old new begun now)
-seen_in_part name known usual wanted sight set script old new begun now same s =
-    let Q : RoundLimits → Type 0 = λ l. IsOnSet set None (IsPlaySeenInPart name known l sight old new begun now) in
-    subst Q same (record { draft = s.draft; is_set = s.is_set; of_script = some_bytes script (IsPlaySeenInPart name known usual sight old new begun now s.draft) s.of_script })
+pub seen_in_part : (usual wanted : RoundLimits) (sight : Wanted) (set script old new begun now : Option (List ℕ)) → usual ≡ wanted
+    → IsOnSet set script (IsPlaySeenInPart usual sight old new begun now) → IsOnSet set None (IsPlaySeenInPart wanted sight old new begun now)
+seen_in_part usual wanted sight set script old new begun now same s =
+    let Q : RoundLimits → Type 0 = λ l. IsOnSet set None (IsPlaySeenInPart l sight old new begun now) in
+    subst Q same (record { draft = s.draft; is_set = s.is_set; of_script = some_bytes script (IsPlaySeenInPart usual sight old new begun now s.draft) s.of_script })
 
 not_run_in : (set script old new : Option (List ℕ)) → IsOnSet set script (IsNotRun old new) → IsOnSet set None (IsNotRun old new)
 not_run_in set script old new s = record { draft = s.draft; is_set = s.is_set; of_script = some_bytes script (IsNotRun old new s.draft) s.of_script }
@@ -109,13 +109,13 @@ not_run set script old new (script_refused s) = script_refused (not_run_in set s
 
 -- ---- and its set
 
-pub watched_on_some : (name : List ℕ) (usual : RoundLimits) (echo : Bool) (wanted : Wanted) (set old new : Option (List ℕ)) (begun now : Option (Option (List ℕ)))
-    → IsOnSet set None (IsWatched name set usual echo wanted old new begun now) → IsOnSet None None (IsWatched name None usual echo wanted old new begun now)
-watched_on_some name usual echo wanted set old new begun now s = record { draft = s.draft; is_set = some_bytes set _ s.is_set; of_script = s.of_script }
+pub watched_on_some : (usual : RoundLimits) (echo : Bool) (wanted : Wanted) (set old new : Option (List ℕ)) (begun now : Option (Option (List ℕ)))
+    → IsOnSet set None (IsWatched usual echo wanted old new begun now) → IsOnSet None None (IsWatched usual echo wanted old new begun now)
+watched_on_some usual echo wanted set old new begun now s = record { draft = s.draft; is_set = some_bytes set _ s.is_set; of_script = s.of_script }
 
-pub in_part_on_some : (name : List ℕ) (usual : RoundLimits) (echo : Bool) (wanted : Wanted) (set old new : Option (List ℕ)) (begun now : Option (Option (List ℕ)))
-    → IsOnSet set None (IsWatchedInPart name set usual echo wanted old new begun now) → IsOnSet None None (IsWatchedInPart name None usual echo wanted old new begun now)
-in_part_on_some name usual echo wanted set old new begun now s = record { draft = s.draft; is_set = some_bytes set _ s.is_set; of_script = s.of_script }
+pub in_part_on_some : (usual : RoundLimits) (echo : Bool) (wanted : Wanted) (set old new : Option (List ℕ)) (begun now : Option (Option (List ℕ)))
+    → IsOnSet set None (IsWatchedInPart usual echo wanted old new begun now) → IsOnSet None None (IsWatchedInPart usual echo wanted old new begun now)
+in_part_on_some usual echo wanted set old new begun now s = record { draft = s.draft; is_set = some_bytes set _ s.is_set; of_script = s.of_script }
 
 not_run_on : (set old new : Option (List ℕ)) → IsOnSet set None (IsNotRun old new) → IsOnSet None None (IsNotRun old new)
 not_run_on set old new s = record { draft = s.draft; is_set = some_bytes set _ s.is_set; of_script = s.of_script }
@@ -129,7 +129,7 @@ not_run_on_some set old new (script_refused s) = script_refused (not_run_on set 
 pub was_played_on : (set : Named) (echo : Bool) (wanted : Wanted) (status : ℕ) (old new : Option (List ℕ)) (begun now : Option (Option (List ℕ)))
     → IsWatchedOn set echo wanted status old new begun now → IsPlayedOn set echo status old new
 was_played_on set echo wanted status old new begun now w = record {
-  held = λ zero. was_played w.name (own_text_of set) (usual_limits_of set) echo wanted (own_text_of set) None old new begun now (w.held zero);
-  missed = λ one. was_played_in_part w.name (own_text_of set) (usual_limits_of set) echo wanted (own_text_of set) None old new begun now (w.missed one);
+  held = λ zero. was_played (usual_limits_of set) echo wanted (own_text_of set) None old new begun now (w.held zero);
+  missed = λ one. was_played_in_part (usual_limits_of set) echo wanted (own_text_of set) None old new begun now (w.missed one);
   refused = w.refused;
 }

@@ -4,4 +4,3 @@ pub mod Printed
 pub mod Served
 pub mod Sets
 pub mod Spoken
-pub mod TracedEnds

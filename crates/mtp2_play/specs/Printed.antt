@@ -70,15 +70,14 @@ pub record IsPlayedOn (set : Named) (echo : Bool) (status : ℕ) (old new : Opti
 -- one
 pub record IsWatchedOn (set : Named) (echo : Bool) (wanted : Wanted) (status : ℕ)
     (old new : Option (List ℕ)) (begun now : Option (Option (List ℕ))) : Type 0 where
-  pub name : List ℕ
   pub held :
       status ≡ 0 →
       IsOnSet (own_text_of set) None
-      (IsWatched name (own_text_of set) (usual_limits_of set) echo wanted old new begun now)
+      (IsWatched (usual_limits_of set) echo wanted old new begun now)
   pub missed :
       status ≡ 1 →
       IsOnSet (own_text_of set) None
-      (IsWatchedInPart name (own_text_of set) (usual_limits_of set) echo wanted old new begun now)
+      (IsWatchedInPart (usual_limits_of set) echo wanted old new begun now)
   pub refused : status ≡ 2 → IsRefused (own_text_of set) None old new
 
 -- the file to which something of a run goes

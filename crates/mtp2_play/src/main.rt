@@ -20,8 +20,6 @@ mod running;
 mod sets;
 mod soaks;
 mod texts;
-mod traced;
-mod traces;
 
 use crate::asked::Came;
 use crate::captures::{capture_of, end_capture};
@@ -71,7 +69,7 @@ fn run<
 {
     match request {
         Request::Check { sets } => run_checks(rt, teller, sets, writer),
-        Request::Play { set, script, seen } => run_play(rt, teller, *set, *script, seen, writer),
+        Request::Play { set, script, seen } => { run_play(rt, teller, *set, *script, seen, writer) }
         Request::Soak { .. } => FAILED,
         Request::Line { set, end } => run_line(host, teller, set, end, reader, writer),
         Request::Frame { octets } => frame(rt.alloc(), octets, writer),

@@ -39,10 +39,10 @@ fn see_on<H: Eprint, S: Read + Drop, T: Read + Drop, F: Write, W: Write>(
 ) -> u8
     ensures held { result ≡ 0
         → IsOnSet (given S.remaining set) None
-        (IsPlaySeen name.now (given S.remaining set) (usual_limits_of named.now) wanted (W.contents writer.old) (W.contents writer.new) (F.contents out.old) (F.contents out.new)) }
+        (IsPlaySeen (usual_limits_of named.now) wanted (W.contents writer.old) (W.contents writer.new) (F.contents out.old) (F.contents out.new)) }
     ensures missed { result ≡ 1
         → IsOnSet (given S.remaining set) None
-        (IsPlaySeenInPart name.now (given S.remaining set) (usual_limits_of named.now) wanted (W.contents writer.old) (W.contents writer.new) (F.contents out.old) (F.contents out.new)) }
+        (IsPlaySeenInPart (usual_limits_of named.now) wanted (W.contents writer.old) (W.contents writer.new) (F.contents out.old) (F.contents out.new)) }
     ensures refused { result ≡ 2 → IsRefused (given S.remaining set) None (W.contents writer.old) (W.contents writer.new) }
     ensures status { (result ≡ 0) ⊎ (result ≡ 1) ⊎ (result ≡ 2) ⊎ (result ≡ 4) }
 {
@@ -74,11 +74,11 @@ fn play_on<H: Eprint, S: Read + Drop, T: Read + Drop, F: Write, W: Write>(
 ) -> u8
     ensures held { result ≡ 0
         → IsOnSet (given S.remaining set) None
-        (IsWatched name.now (given S.remaining set) (usual_limits_of named.now) watch.old.echo watch.old.wanted (W.contents writer.old) (W.contents writer.new)
+        (IsWatched (usual_limits_of named.now) watch.old.echo watch.old.wanted (W.contents writer.old) (W.contents writer.new)
         (option_map F.contents watch.old.out) (option_map F.contents watch.new.out)) }
     ensures missed { result ≡ 1
         → IsOnSet (given S.remaining set) None
-        (IsWatchedInPart name.now (given S.remaining set) (usual_limits_of named.now) watch.old.echo watch.old.wanted (W.contents writer.old) (W.contents writer.new)
+        (IsWatchedInPart (usual_limits_of named.now) watch.old.echo watch.old.wanted (W.contents writer.old) (W.contents writer.new)
         (option_map F.contents watch.old.out) (option_map F.contents watch.new.out)) }
     ensures refused { result ≡ 2 → IsRefused (given S.remaining set) None (W.contents writer.old) (W.contents writer.new) }
     ensures status { (result ≡ 0) ⊎ (result ≡ 1) ⊎ (result ≡ 2) ⊎ (result ≡ 4) }
@@ -108,11 +108,11 @@ fn play_source<R: Runtime + AllocGlobal, H: Eprint, S: Read + Drop, F: Write, W:
 ) -> u8
     ensures held { result ≡ 0
         → IsOnSet (given S.remaining set) None
-        (IsWatched name.now (given S.remaining set) (usual_limits_of named.now) watch.old.echo watch.old.wanted (W.contents writer.old) (W.contents writer.new)
+        (IsWatched (usual_limits_of named.now) watch.old.echo watch.old.wanted (W.contents writer.old) (W.contents writer.new)
         (option_map F.contents watch.old.out) (option_map F.contents watch.new.out)) }
     ensures missed { result ≡ 1
         → IsOnSet (given S.remaining set) None
-        (IsWatchedInPart name.now (given S.remaining set) (usual_limits_of named.now) watch.old.echo watch.old.wanted (W.contents writer.old) (W.contents writer.new)
+        (IsWatchedInPart (usual_limits_of named.now) watch.old.echo watch.old.wanted (W.contents writer.old) (W.contents writer.new)
         (option_map F.contents watch.old.out) (option_map F.contents watch.new.out)) }
     ensures refused { result ≡ 2 → IsRefused (given S.remaining set) None (W.contents writer.old) (W.contents writer.new) }
     ensures status { (result ≡ 0) ⊎ (result ≡ 1) ⊎ (result ≡ 2) ⊎ (result ≡ 4) }
@@ -171,11 +171,11 @@ fn play_text<R: Runtime + AllocGlobal, H: Eprint, S: Read + Drop, F: Write, W: W
 ) -> u8
     ensures held { result ≡ 0
         → IsOnSet None None
-        (IsWatched name.now None (usual_limits_of named.now) watch.old.echo watch.old.wanted (W.contents writer.old) (W.contents writer.new)
+        (IsWatched (usual_limits_of named.now) watch.old.echo watch.old.wanted (W.contents writer.old) (W.contents writer.new)
         (option_map F.contents watch.old.out) (option_map F.contents watch.new.out)) }
     ensures missed { result ≡ 1
         → IsOnSet None None
-        (IsWatchedInPart name.now None (usual_limits_of named.now) watch.old.echo watch.old.wanted (W.contents writer.old) (W.contents writer.new)
+        (IsWatchedInPart (usual_limits_of named.now) watch.old.echo watch.old.wanted (W.contents writer.old) (W.contents writer.new)
         (option_map F.contents watch.old.out) (option_map F.contents watch.new.out)) }
     ensures refused { result ≡ 2 → IsRefused None None (W.contents writer.old) (W.contents writer.new) }
     ensures status { (result ≡ 0) ⊎ (result ≡ 1) ⊎ (result ≡ 2) ⊎ (result ≡ 4) }
@@ -240,7 +240,6 @@ fn path_of<'a>(sight: &Sight<'a>) -> &'a str
     match sight {
         Sight::Trace(path) => path,
         Sight::Chart(path) => path,
-        Sight::Coverage(path) => path,
         Sight::Thrown(path) => path,
         Sight::Capture(path) => path,
     }

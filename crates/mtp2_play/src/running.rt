@@ -10,13 +10,11 @@ ghost use Rattle.mtp2_words.specs.Limits.{usual_limits_of};
 ghost use Rattle.mtp2_play.specs.Spoken.{AreGiven, ordered_by, SpokeBy, Spoke, SpokeOver, Begun, BegunOver, IsUntouched};
 
 use crate::measuring::write_measures;
-use crate::traced::{end_trace, serve_traced, traced_desk};
 use line_filter::{LineOrders, Reports};
 use line_play::{Desk, LinkEnd, MOST_AHEAD, SetWord, Terminal, link_desk, new_terminal, run_link};
-use line_streams::{OrderStream, ReportStream, open_orders, open_records, open_reports};
+use line_streams::{OrderStream, ReportStream, open_orders, open_reports};
 use mtp2_words::{LineEnd, Named};
 use plain_text::{Errors, FAILED, Teller};
-use script_play::open_tracer;
 use std::alloc::Global;
 use std::fs::{self, File};
 use std::io::{self, Read, Write};
@@ -128,88 +126,6 @@ fn serve<O: Read, P: Reports, R: Read, W: Write>(
     run_link(alloc, desk, end.bits, ahead, reader, writer)
 }
 
-/// Has a terminal speak on its line, without a trace.
-fn speak_plain<H: Files<File = File> + Threads + Eprint + Clock + AllocGlobal, R: Read, W: Write>(
-    host: &H,
-    end: &LineEnd<'_>,
-    terminal: Terminal,
-    streams: Streams<'_, H>,
-    reader: &mut R,
-    writer: &mut W,
-) -> u8
-    requires given { AreGiven end.now.orders (known_of streams.orders.reader) }
-    requires ordered { left_of known_of streams.orders ≡ ordered_by (known_of streams.orders.reader) }
-    ensures spoke { result ≡ 0 → Spoke end.now.orders terminal end.now.bits (min end.now.ahead MOST_AHEAD)
-        (record { read = R.remaining reader.old; written = W.contents writer.old })
-        (record { read = R.remaining reader.new; written = W.contents writer.new }) }
-    ensures begun { Begun end.now.orders terminal end.now.bits (min end.now.ahead MOST_AHEAD)
-        (record { read = R.remaining reader.old; written = W.contents writer.old })
-        (record { read = R.remaining reader.new; written = W.contents writer.new }) }
-    ensures status { (result ≡ 0) ⊎ (result ≡ 4) }
-{
-    let Streams {
-        orders,
-        reports,
-        measures,
-    } = streams;
-    let mut desk = link_desk(terminal, orders, reports);
-    let status = serve(host.alloc(), end, &mut desk, reader, writer);
-    let measured = end_measures(host.alloc(), measures, &desk.terminal.terminal);
-    let now = desk.millisecond();
-    match desk.reports.end(host, now) {
-        Ok(()) => status_of(status, measured),
-        Err(_) => FAILED,
-    }
-}
-
-/// Has a terminal speak on its line, with a trace to a file of this name.
-fn speak_traced<H: Files<File = File> + Threads + Eprint + Clock + AllocGlobal, R: Read, W: Write>(
-    host: &H,
-    teller: &Teller<'_, H>,
-    end: &LineEnd<'_>,
-    path: &str,
-    terminal: Terminal,
-    streams: Streams<'_, H>,
-    reader: &mut R,
-    writer: &mut W,
-) -> u8
-    requires given { AreGiven end.now.orders (known_of streams.orders.reader) }
-    requires ordered { left_of known_of streams.orders ≡ ordered_by (known_of streams.orders.reader) }
-    ensures spoke { result ≡ 0 → Spoke end.now.orders terminal end.now.bits (min end.now.ahead MOST_AHEAD)
-        (record { read = R.remaining reader.old; written = W.contents writer.old })
-        (record { read = R.remaining reader.new; written = W.contents writer.new }) }
-    ensures begun { IsUntouched (record { read = R.remaining reader.old; written = W.contents writer.old })
-        (record { read = R.remaining reader.new; written = W.contents writer.new })
-        ⊎ Begun end.now.orders terminal end.now.bits (min end.now.ahead MOST_AHEAD)
-        (record { read = R.remaining reader.old; written = W.contents writer.old })
-        (record { read = R.remaining reader.new; written = W.contents writer.new }) }
-    ensures status { (result ≡ 0) ⊎ (result ≡ 4) }
-{
-    let alloc = host.alloc();
-    let Streams {
-        orders,
-        reports,
-        measures,
-    } = streams;
-    let trace = match open_records(host, alloc, path) {
-        Ok(trace) => trace,
-        Err(error) => return teller.fail(path, &error),
-    };
-    let tracer = match open_tracer(alloc, terminal.book().set(), end.every) {
-        Ok(tracer) => tracer,
-        Err(_) => return FAILED,
-    };
-    let mut desk = traced_desk(alloc, terminal, tracer, trace, orders, reports);
-    let served = serve_traced(alloc, end, &mut desk, reader, writer);
-    let now = desk.millisecond();
-    let status = end_trace(host, teller, path, served, now, &mut desk.terminal.trace);
-    let measured = end_measures(alloc, measures, &desk.terminal.end.terminal);
-    match desk.reports.end(host, now) {
-        Ok(()) => status_of(status, measured),
-        Err(_) => FAILED,
-    }
-}
-
 /// Has a terminal speak on its line.
 fn speak<H: Files<File = File> + Threads + Eprint + Clock + AllocGlobal, R: Read, W: Write>(
     host: &H,
@@ -229,12 +145,23 @@ fn speak<H: Files<File = File> + Threads + Eprint + Clock + AllocGlobal, R: Read
         (record { read = R.remaining reader.new; written = W.contents writer.new }) }
     ensures status { (result ≡ 0) ⊎ (result ≡ 4) }
 {
-    let Ok(streams) = open_streams(host, teller, end) else {
+    let Ok(
+        Streams {
+            orders,
+            reports,
+            measures,
+        },
+    ) = open_streams(host, teller, end)
+    else {
         return FAILED;
     };
-    match end.trace {
-        Some(path) => speak_traced(host, teller, end, path, terminal, streams, reader, writer),
-        None => speak_plain(host, end, terminal, streams, reader, writer),
+    let mut desk = link_desk(terminal, orders, reports);
+    let status = serve(host.alloc(), end, &mut desk, reader, writer);
+    let measured = end_measures(host.alloc(), measures, &desk.terminal.terminal);
+    let now = desk.millisecond();
+    match desk.reports.end(host, now) {
+        Ok(()) => status_of(status, measured),
+        Err(_) => FAILED,
     }
 }
 

@@ -32,20 +32,12 @@ play_begun =
     with_rule (with_rule (new_app (codes "play")) (plain_word (codes "SET")))
     (plain_word (codes "SCRIPT"))
 
--- a command with the options that say what of a run is told at its end, and what is captured of it
-abbrev pub with_told_options : App → App
-with_told_options command =
-    with_rule
-    (with_rule
-    (with_rule
-    (with_rule (with_rule command (option_word (codes "chart"))) (option_word (codes "turns")))
-    (option_word (codes "coverage"))) (option_word (codes "thrown")))
-    (option_word (codes "capture"))
-
 -- a command with the options that say what of a run is seen beside its replies
 abbrev pub with_seeing_options : App → App
 with_seeing_options command =
-    with_told_options
+    with_rule
+    (with_rule
+    (with_rule
     (with_rule
     (with_rule
     (with_rule (with_rule command (flag_word (codes "echo"))) (option_word (codes "trace")))
@@ -85,9 +77,7 @@ with_limit_options command =
 -- a command with the options that say what is captured of a line
 abbrev pub with_capture_options : App → App
 with_capture_options command =
-    with_rule
-    (with_rule (with_rule command (option_word (codes "capture"))) (option_word (codes "trace")))
-    (flag_word (codes "every"))
+    with_rule (with_rule command (option_word (codes "capture"))) (flag_word (codes "every"))
 
 -- a command with the option that says where measurements go
 abbrev pub with_measures_option : App → App

@@ -10,17 +10,6 @@ use Rattle.mtp2_words.specs.declared.seeing.Sight.TheVariants.{Trace, Chart, Thr
 use Rattle.mtp2_words.specs.declared.seeing.Turns.{Turns}
 
 -- what goes to a file
-abbrev pub IsSomeSight : SeeingWords → Sight → Type 0
-IsSomeSight w (Trace path) = option_map (λ x. x.now) w.trace ≡ Some path.now
-IsSomeSight w (Chart path) = option_map (λ x. x.now) w.chart ≡ Some path.now
-IsSomeSight w (Coverage path) = option_map (λ x. x.now) w.coverage ≡ Some path.now
-IsSomeSight w (Thrown path) = option_map (λ x. x.now) w.thrown ≡ Some path.now
-IsSomeSight w (Capture path) = option_map (λ x. x.now) w.capture ≡ Some path.now
-
-abbrev pub IsLaterSight : SeeingWords → Option Sight → Type 0
-IsLaterSight w None = (w.coverage ≡ None) × (w.thrown ≡ None) × (w.capture ≡ None)
-IsLaterSight w (Some sight) = IsSomeSight w sight
-
 abbrev pub IsSight : SeeingWords → Option Sight → Type 0
 IsSight w None =
     (w.trace ≡ None) × (w.chart ≡ None) × (w.thrown ≡ None) × (w.capture ≡ None)

@@ -26,9 +26,7 @@ pub struct LineEnd<'a> {
     pub ahead: usize,
     /// Where a capture of its line goes; none is made, where nothing is said.
     pub capture: Option<&'a str>,
-    /// Where a trace of its processes goes; none is made, where nothing is said.
-    pub trace: Option<&'a str>,
-    /// Whether every unit is captured, and what has no effect traced; else repeats, and what has none, are left out.
+    /// Whether every unit is captured; else repeats are left out.
     pub every: bool,
     /// Where its measurements go at the end of the run; nowhere, where nothing is said.
     pub measures: Option<&'a str>,
@@ -53,9 +51,7 @@ pub struct LineWords<'a> {
     pub ahead: Option<&'a str>,
     /// A file or a FIFO for a capture.
     pub capture: Option<&'a str>,
-    /// A file or a FIFO for a trace.
-    pub trace: Option<&'a str>,
-    /// Whether every unit is captured, and what has no effect traced.
+    /// Whether every unit is captured.
     pub every: bool,
     /// A file for measurements.
     pub measures: Option<&'a str>,
@@ -135,7 +131,6 @@ pub fn line_end<'a>(words: &LineWords<'a>) -> Option<LineEnd<'a>>
         bits,
         ahead,
         capture: words.capture,
-        trace: words.trace,
         every: words.every,
         measures: words.measures,
     })

@@ -11,8 +11,6 @@ pub enum Sight<'a> {
     Trace(&'a str),
     /// A chart of the turns.
     Chart(&'a str),
-    /// What of the set's text was taken.
-    Coverage(&'a str),
     /// Which signals and timers were thrown away.
     Thrown(&'a str),
     /// The units that go out and come in.
@@ -58,8 +56,6 @@ pub struct SeeingWords<'a> {
     pub chart: Option<&'a str>,
     /// Two numbers with two dots between them: which turns are drawn, all where nothing is said.
     pub turns: Option<&'a str>,
-    /// A file or a FIFO for what of the text was taken.
-    pub coverage: Option<&'a str>,
     /// A file or a FIFO for what was thrown away.
     pub thrown: Option<&'a str>,
     /// A file or a FIFO for a capture.
@@ -83,26 +79,9 @@ fn asked(words: &SeeingWords<'_>) -> usize
         words.echo,
         words.trace.is_some(),
         words.chart.is_some(),
-        words.coverage.is_some(),
         words.thrown.is_some(),
         words.capture.is_some(),
     ])
-}
-
-/// What goes to a file of what is told at the end of a run, or captured, where at most one thing is to.
-fn later_sight<'a>(words: &SeeingWords<'a>) -> Option<Sight<'a>>
-    ensures { IsLaterSight words.now result }
-{
-    match words.coverage {
-        Some(path) => Some(Sight::Coverage(path)),
-        None => match words.thrown {
-            Some(path) => Some(Sight::Thrown(path)),
-            None => match words.capture {
-                Some(path) => Some(Sight::Capture(path)),
-                None => None,
-            },
-        },
-    }
 }
 
 /// What goes to a file, where at most one thing is to.

@@ -219,12 +219,6 @@ fn pointed_set(
     }
 }
 
-/// The set of a text that was read, or why it has none, and where.
-pub fn find_in(alloc: Global, read: &TextRead) -> Result<Verified, Refusal> {
-    let loaded = set_in(alloc, read);
-    pointed_set(alloc, &read.kept, loaded)
-}
-
 /// The set of the text that a reader gives, or why it has none, and where.
 fn read_set<R: Read>(alloc: Global, reader: &mut R) -> Result<Verified, Refusal>
     ensures set { IfOk result (λ v. IsGiven (R.remaining reader.old) (λ bytes. IsSetOf bytes v)) }

@@ -8,26 +8,26 @@ use Rattle.script_play.specs.Seen.{IsWatchedInPart, has_lines_in_part, has_neith
 use Rattle.script_play.specs.declared.seeing.Wanted.{Wanted}
 use Rattle.script_play.specs.declared.seeing.Wanted.TheVariants.{Trace, Capture, AtEnd}
 
-pub with_lines : (name : List ℕ) (known : Option (List ℕ)) (usual : RoundLimits) (echo : Bool) (wanted : Wanted) (set script old new : Option (List ℕ)) (begun now : Option (Option (List ℕ))) → echo ≡ true
-    → IsOnSet set script (IsPlayed usual echo old new) → IsOnSet set script (IsWatched name known usual echo wanted old new begun now)
-with_lines name known usual echo wanted set script old new begun now echoed s = record {
+pub with_lines : (usual : RoundLimits) (echo : Bool) (wanted : Wanted) (set script old new : Option (List ℕ)) (begun now : Option (Option (List ℕ))) → echo ≡ true
+    → IsOnSet set script (IsPlayed usual echo old new) → IsOnSet set script (IsWatched usual echo wanted old new begun now)
+with_lines usual echo wanted set script old new begun now echoed s = record {
   draft = s.draft;
   is_set = s.is_set;
   of_script = record { bytes = s.of_script.bytes; are_known = s.of_script.are_known; holds = has_lines echoed s.of_script.holds };
 }
 
-pub with_neither : (name : List ℕ) (known : Option (List ℕ)) (usual : RoundLimits) (echo : Bool) (wanted : Wanted) (set script old new : Option (List ℕ)) (begun now : Option (Option (List ℕ))) → echo ≡ false
-    → begun ≡ None → IsOnSet set script (IsPlayed usual echo old new) → IsOnSet set script (IsWatched name known usual echo wanted old new begun now)
-with_neither name known usual echo wanted set script old new begun now unlined none s = record {
+pub with_neither : (usual : RoundLimits) (echo : Bool) (wanted : Wanted) (set script old new : Option (List ℕ)) (begun now : Option (Option (List ℕ))) → echo ≡ false
+    → begun ≡ None → IsOnSet set script (IsPlayed usual echo old new) → IsOnSet set script (IsWatched usual echo wanted old new begun now)
+with_neither usual echo wanted set script old new begun now unlined none s = record {
   draft = s.draft;
   is_set = s.is_set;
   of_script = record { bytes = s.of_script.bytes; are_known = s.of_script.are_known; holds = has_neither unlined none s.of_script.holds };
 }
 
-pub with_file : (name : List ℕ) (known : Option (List ℕ)) (usual : RoundLimits) (echo : Bool) (wanted : Wanted) (set script old new was has : Option (List ℕ)) (begun now : Option (Option (List ℕ)))
-    → echo ≡ false → begun ≡ Some was → now ≡ Some has → IsOnSet set script (IsPlaySeen name known usual wanted old new was has)
-    → IsOnSet set script (IsWatched name known usual echo wanted old new begun now)
-with_file name known usual echo wanted set script old new was has begun now unlined first last s = record {
+pub with_file : (usual : RoundLimits) (echo : Bool) (wanted : Wanted) (set script old new was has : Option (List ℕ)) (begun now : Option (Option (List ℕ)))
+    → echo ≡ false → begun ≡ Some was → now ≡ Some has → IsOnSet set script (IsPlaySeen usual wanted old new was has)
+    → IsOnSet set script (IsWatched usual echo wanted old new begun now)
+with_file usual echo wanted set script old new was has begun now unlined first last s = record {
   draft = s.draft;
   is_set = s.is_set;
   of_script = record { bytes = s.of_script.bytes; are_known = s.of_script.are_known; holds = has_file was has unlined first last s.of_script.holds };
@@ -39,48 +39,48 @@ was_seen usual (Trace every) old new begun now d bytes p = record { utf8 = p.utf
 was_seen usual (Capture every) old new begun now d bytes p = record { utf8 = p.utf8; script = p.script; reads = p.reads; run = p.run }
 was_seen usual (AtEnd told) old new begun now d bytes p = record { utf8 = p.utf8; script = p.script; reads = p.reads; run = p.run }
 
-was_played_in : (name : List ℕ) (known : Option (List ℕ)) (usual : RoundLimits) (echo : Bool) (wanted : Wanted) (old new : Option (List ℕ)) (begun now : Option (Option (List ℕ))) (d : Draft) (bytes : List ℕ)
-    → IsWatched name known usual echo wanted old new begun now d bytes → IsPlayed usual echo old new d bytes
-was_played_in name known usual echo wanted old new begun now d bytes (has_lines echoed p) = p
-was_played_in name known usual echo wanted old new begun now d bytes (has_neither unlined none p) = p
-was_played_in name known usual echo wanted old new begun now d bytes (has_file was has unlined first last p) =
+was_played_in : (usual : RoundLimits) (echo : Bool) (wanted : Wanted) (old new : Option (List ℕ)) (begun now : Option (Option (List ℕ))) (d : Draft) (bytes : List ℕ)
+    → IsWatched usual echo wanted old new begun now d bytes → IsPlayed usual echo old new d bytes
+was_played_in usual echo wanted old new begun now d bytes (has_lines echoed p) = p
+was_played_in usual echo wanted old new begun now d bytes (has_neither unlined none p) = p
+was_played_in usual echo wanted old new begun now d bytes (has_file was has unlined first last p) =
     let E : Bool → Type 0 = λ e. IsPlayed usual e old new d bytes in
-    subst E (sym unlined) (was_seen name known usual wanted old new was has d bytes p)
+    subst E (sym unlined) (was_seen usual wanted old new was has d bytes p)
 
-pub was_played : (name : List ℕ) (known : Option (List ℕ)) (usual : RoundLimits) (echo : Bool) (wanted : Wanted) (set script old new : Option (List ℕ)) (begun now : Option (Option (List ℕ)))
-    → IsOnSet set script (IsWatched name known usual echo wanted old new begun now) → IsOnSet set script (IsPlayed usual echo old new)
-was_played name known usual echo wanted set script old new begun now s = record {
+pub was_played : (usual : RoundLimits) (echo : Bool) (wanted : Wanted) (set script old new : Option (List ℕ)) (begun now : Option (Option (List ℕ)))
+    → IsOnSet set script (IsWatched usual echo wanted old new begun now) → IsOnSet set script (IsPlayed usual echo old new)
+was_played usual echo wanted set script old new begun now s = record {
   draft = s.draft;
   is_set = s.is_set;
   of_script = record {
     bytes = s.of_script.bytes;
     are_known = s.of_script.are_known;
-    holds = was_played_in name known usual echo wanted old new begun now s.draft s.of_script.bytes s.of_script.holds;
+    holds = was_played_in usual echo wanted old new begun now s.draft s.of_script.bytes s.of_script.holds;
   };
 }
 
 -- ---- up to an expectation that fails
 
-pub with_lines_in_part : (name : List ℕ) (known : Option (List ℕ)) (usual : RoundLimits) (echo : Bool) (wanted : Wanted) (set script old new : Option (List ℕ)) (begun now : Option (Option (List ℕ))) → echo ≡ true
-    → IsOnSet set script (IsPlayedInPart usual echo old new) → IsOnSet set script (IsWatchedInPart name known usual echo wanted old new begun now)
-with_lines_in_part name known usual echo wanted set script old new begun now echoed s = record {
+pub with_lines_in_part : (usual : RoundLimits) (echo : Bool) (wanted : Wanted) (set script old new : Option (List ℕ)) (begun now : Option (Option (List ℕ))) → echo ≡ true
+    → IsOnSet set script (IsPlayedInPart usual echo old new) → IsOnSet set script (IsWatchedInPart usual echo wanted old new begun now)
+with_lines_in_part usual echo wanted set script old new begun now echoed s = record {
   draft = s.draft;
   is_set = s.is_set;
   of_script = record { bytes = s.of_script.bytes; are_known = s.of_script.are_known; holds = has_lines_in_part echoed s.of_script.holds };
 }
 
-pub with_neither_in_part : (name : List ℕ) (known : Option (List ℕ)) (usual : RoundLimits) (echo : Bool) (wanted : Wanted) (set script old new : Option (List ℕ)) (begun now : Option (Option (List ℕ))) → echo ≡ false
-    → begun ≡ None → IsOnSet set script (IsPlayedInPart usual echo old new) → IsOnSet set script (IsWatchedInPart name known usual echo wanted old new begun now)
-with_neither_in_part name known usual echo wanted set script old new begun now unlined none s = record {
+pub with_neither_in_part : (usual : RoundLimits) (echo : Bool) (wanted : Wanted) (set script old new : Option (List ℕ)) (begun now : Option (Option (List ℕ))) → echo ≡ false
+    → begun ≡ None → IsOnSet set script (IsPlayedInPart usual echo old new) → IsOnSet set script (IsWatchedInPart usual echo wanted old new begun now)
+with_neither_in_part usual echo wanted set script old new begun now unlined none s = record {
   draft = s.draft;
   is_set = s.is_set;
   of_script = record { bytes = s.of_script.bytes; are_known = s.of_script.are_known; holds = has_neither_in_part unlined none s.of_script.holds };
 }
 
-pub with_file_in_part : (name : List ℕ) (known : Option (List ℕ)) (usual : RoundLimits) (echo : Bool) (wanted : Wanted) (set script old new was has : Option (List ℕ)) (begun now : Option (Option (List ℕ)))
-    → echo ≡ false → begun ≡ Some was → now ≡ Some has → IsOnSet set script (IsPlaySeenInPart name known usual wanted old new was has)
-    → IsOnSet set script (IsWatchedInPart name known usual echo wanted old new begun now)
-with_file_in_part name known usual echo wanted set script old new was has begun now unlined first last s = record {
+pub with_file_in_part : (usual : RoundLimits) (echo : Bool) (wanted : Wanted) (set script old new was has : Option (List ℕ)) (begun now : Option (Option (List ℕ)))
+    → echo ≡ false → begun ≡ Some was → now ≡ Some has → IsOnSet set script (IsPlaySeenInPart usual wanted old new was has)
+    → IsOnSet set script (IsWatchedInPart usual echo wanted old new begun now)
+with_file_in_part usual echo wanted set script old new was has begun now unlined first last s = record {
   draft = s.draft;
   is_set = s.is_set;
   of_script = record { bytes = s.of_script.bytes; are_known = s.of_script.are_known; holds = has_file_in_part was has unlined first last s.of_script.holds };
@@ -92,22 +92,22 @@ was_seen_in_part usual (Trace every) old new begun now d bytes p = record { utf8
 was_seen_in_part usual (Capture every) old new begun now d bytes p = record { utf8 = p.utf8; script = p.script; reads = p.reads; missed = p.missed }
 was_seen_in_part usual (AtEnd told) old new begun now d bytes p = record { utf8 = p.utf8; script = p.script; reads = p.reads; missed = p.missed }
 
-was_played_in_part_in : (name : List ℕ) (known : Option (List ℕ)) (usual : RoundLimits) (echo : Bool) (wanted : Wanted) (old new : Option (List ℕ)) (begun now : Option (Option (List ℕ))) (d : Draft) (bytes : List ℕ)
-    → IsWatchedInPart name known usual echo wanted old new begun now d bytes → IsPlayedInPart usual echo old new d bytes
-was_played_in_part_in name known usual echo wanted old new begun now d bytes (has_lines_in_part echoed p) = p
-was_played_in_part_in name known usual echo wanted old new begun now d bytes (has_neither_in_part unlined none p) = p
-was_played_in_part_in name known usual echo wanted old new begun now d bytes (has_file_in_part was has unlined first last p) =
+was_played_in_part_in : (usual : RoundLimits) (echo : Bool) (wanted : Wanted) (old new : Option (List ℕ)) (begun now : Option (Option (List ℕ))) (d : Draft) (bytes : List ℕ)
+    → IsWatchedInPart usual echo wanted old new begun now d bytes → IsPlayedInPart usual echo old new d bytes
+was_played_in_part_in usual echo wanted old new begun now d bytes (has_lines_in_part echoed p) = p
+was_played_in_part_in usual echo wanted old new begun now d bytes (has_neither_in_part unlined none p) = p
+was_played_in_part_in usual echo wanted old new begun now d bytes (has_file_in_part was has unlined first last p) =
     let E : Bool → Type 0 = λ e. IsPlayedInPart usual e old new d bytes in
-    subst E (sym unlined) (was_seen_in_part name known usual wanted old new was has d bytes p)
+    subst E (sym unlined) (was_seen_in_part usual wanted old new was has d bytes p)
 
-pub was_played_in_part : (name : List ℕ) (known : Option (List ℕ)) (usual : RoundLimits) (echo : Bool) (wanted : Wanted) (set script old new : Option (List ℕ)) (begun now : Option (Option (List ℕ)))
-    → IsOnSet set script (IsWatchedInPart name known usual echo wanted old new begun now) → IsOnSet set script (IsPlayedInPart usual echo old new)
-was_played_in_part name known usual echo wanted set script old new begun now s = record {
+pub was_played_in_part : (usual : RoundLimits) (echo : Bool) (wanted : Wanted) (set script old new : Option (List ℕ)) (begun now : Option (Option (List ℕ)))
+    → IsOnSet set script (IsWatchedInPart usual echo wanted old new begun now) → IsOnSet set script (IsPlayedInPart usual echo old new)
+was_played_in_part usual echo wanted set script old new begun now s = record {
   draft = s.draft;
   is_set = s.is_set;
   of_script = record {
     bytes = s.of_script.bytes;
     are_known = s.of_script.are_known;
-    holds = was_played_in_part_in name known usual echo wanted old new begun now s.draft s.of_script.bytes s.of_script.holds;
+    holds = was_played_in_part_in usual echo wanted old new begun now s.draft s.of_script.bytes s.of_script.holds;
   };
 }

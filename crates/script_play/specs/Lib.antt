@@ -1,12 +1,7 @@
 pub mod Captured
 pub mod CapturedSets
 pub mod Charted
-pub mod Covered
-pub mod Lcov
 pub mod Played
 pub mod Seen
 pub mod Thrown
 pub mod Traced
-pub mod Ways
-pub use Rattle.script_seen.specs.TracedActs
-pub use Rattle.script_seen.specs.declared as script_seen_types

@@ -1,27 +1,22 @@
 -- What the status of `play` says of what is told at the end of a run, and of a capture.
 use Rattle.std.specs.Prelude.{◌≡◌, ℕ, Bool, true, false, List, Option, Some, None, Result, Ok}
-use Rattle.std.specs.Prelude.{Err, IfSome, IsUtf8}
+use Rattle.std.specs.Prelude.{Err, IsUtf8}
 use Rattle.std.specs.Global.{Vec}
 use Rattle.std.specs.Io.KnownBytes.{Appends}
 use Rattle.turn_code.specs.declared.draft.Draft.{Draft}
-use Rattle.sdl_sound.specs.Plain.{PlainBlock}
-use Rattle.script_check.specs.Checked.{IsGiven, IsSetOf}
 use Rattle.script_seen.specs.resend_store_types.messages.RoundLimits.{RoundLimits}
 use Rattle.script_seen.specs.TermScripts.{PlainAnyScript, book, terminal, asks_told}
 use Rattle.script_seen.specs.GroupScripts.{PlainPlayScript, other, group, play_script_of}
 use Rattle.script_seen.specs.Played.{first_book}
 use Rattle.script_seen.specs.GroupRuns.{IsOfNewSet}
 use Rattle.script_seen.specs.TermRuns.{IsOfNew}
-use Rattle.script_seen.specs.Watched.{Notice, turns_in}
+use Rattle.script_seen.specs.Watched.{Notice}
 use Rattle.script_seen.specs.WatchedKinds.{IsBookWatched, IsBookWatchedInPart, IsTermWatched}
 use Rattle.script_seen.specs.WatchedKinds.{IsTermWatchedInPart}
 use Rattle.script_play.specs.Captured.{IsCaptured, IsCapturedInPart}
 use Rattle.script_play.specs.CapturedSets.{IsSetCaptured, IsSetCapturedInPart}
 use Rattle.script_play.specs.Played.{IsObeyed, IsMissedIn, IsPlayed, IsPlayedInPart}
-use Rattle.script_play.specs.Captured.{IsCaptured, IsCapturedInPart}
-use Rattle.script_play.specs.CapturedSets.{IsSetCaptured, IsSetCapturedInPart}
 use Rattle.script_play.specs.Charted.{charted_of}
-use Rattle.script_play.specs.Lcov.{lcov_text}
 use Rattle.script_play.specs.Thrown.{thrown_of}
 use Rattle.script_play.specs.Traced.{IsPlayTraced, IsPlayTracedInPart}
 use Rattle.script_play.specs.declared.seeing.Wanted.{Wanted}
@@ -143,51 +138,47 @@ told_of Thrown d ns = thrown_of d ns
 
 -- the bytes are a script that was run, and what is wanted of that was written
 abbrev pub IsPlaySeen :
-    List ℕ → Option (List ℕ) → RoundLimits → Wanted → Option (List ℕ) → Option (List ℕ)
-    → Option (List ℕ) → Option (List ℕ) → Draft → List ℕ → Type 0
-IsPlaySeen name known usual (Trace every) old new from to d bytes =
+    RoundLimits → Wanted → Option (List ℕ) → Option (List ℕ) → Option (List ℕ) → Option (List ℕ)
+    → Draft → List ℕ → Type 0
+IsPlaySeen usual (Trace every) old new from to d bytes =
     IsPlayTraced usual every old new from to d bytes
 IsPlaySeen usual (Capture every) old new from to d bytes =
     IsPlayCaptured usual every old new from to d bytes
 IsPlaySeen usual (AtEnd told) old new from to d bytes =
     IsPlayTold usual old new (Grew (told_of told) d from to) d bytes
-IsPlaySeen name known usual Coverage old new from to d bytes =
-    IsCovered name known usual old new from to d bytes
 
 abbrev pub IsPlaySeenInPart :
-    List ℕ → Option (List ℕ) → RoundLimits → Wanted → Option (List ℕ) → Option (List ℕ)
-    → Option (List ℕ) → Option (List ℕ) → Draft → List ℕ → Type 0
-IsPlaySeenInPart name known usual (Trace every) old new from to d bytes =
+    RoundLimits → Wanted → Option (List ℕ) → Option (List ℕ) → Option (List ℕ) → Option (List ℕ)
+    → Draft → List ℕ → Type 0
+IsPlaySeenInPart usual (Trace every) old new from to d bytes =
     IsPlayTracedInPart usual every old new from to d bytes
 IsPlaySeenInPart usual (Capture every) old new from to d bytes =
     IsPlayCapturedInPart usual every old new from to d bytes
 IsPlaySeenInPart usual (AtEnd told) old new from to d bytes =
     IsPlayToldInPart usual old new (Grew (told_of told) d from to) d bytes
-IsPlaySeenInPart name known usual Coverage old new from to d bytes =
-    IsCoveredInPart name known usual old new from to d bytes
 
 -- ---- with lines, with something in a file, or with neither
 
 -- A script was played as it is to be seen: with the lines of its commands, where that is asked for;
 -- else with what is wanted of it in a file, where there is one, which had this and now has that.
-pub data IsWatched (name : List ℕ) (known : Option (List ℕ)) (usual : RoundLimits)
-    (echo : Bool) (wanted : Wanted) (old new : Option (List ℕ))
-    (begun now : Option (Option (List ℕ))) (d : Draft) (bytes : List ℕ) : Type 0 where
+pub data IsWatched (usual : RoundLimits) (echo : Bool) (wanted : Wanted)
+    (old new : Option (List ℕ)) (begun now : Option (Option (List ℕ))) (d : Draft)
+    (bytes : List ℕ) : Type 0 where
   has_lines : echo ≡ true → IsPlayed usual echo old new d bytes
-      → IsWatched name known usual echo wanted old new begun now d bytes
+      → IsWatched usual echo wanted old new begun now d bytes
   has_neither : echo ≡ false → begun ≡ None → IsPlayed usual echo old new d bytes
-      → IsWatched name known usual echo wanted old new begun now d bytes
+      → IsWatched usual echo wanted old new begun now d bytes
   has_file : (was has : Option (List ℕ)) → echo ≡ false → begun ≡ Some was → now ≡ Some has
-      → IsPlaySeen name known usual wanted old new was has d bytes
-      → IsWatched name known usual echo wanted old new begun now d bytes
+      → IsPlaySeen usual wanted old new was has d bytes
+      → IsWatched usual echo wanted old new begun now d bytes
 
-pub data IsWatchedInPart (name : List ℕ) (known : Option (List ℕ)) (usual : RoundLimits)
-    (echo : Bool) (wanted : Wanted) (old new : Option (List ℕ))
-    (begun now : Option (Option (List ℕ))) (d : Draft) (bytes : List ℕ) : Type 0 where
+pub data IsWatchedInPart (usual : RoundLimits) (echo : Bool) (wanted : Wanted)
+    (old new : Option (List ℕ)) (begun now : Option (Option (List ℕ))) (d : Draft)
+    (bytes : List ℕ) : Type 0 where
   has_lines_in_part : echo ≡ true → IsPlayedInPart usual echo old new d bytes
-      → IsWatchedInPart name known usual echo wanted old new begun now d bytes
+      → IsWatchedInPart usual echo wanted old new begun now d bytes
   has_neither_in_part : echo ≡ false → begun ≡ None → IsPlayedInPart usual echo old new d bytes
-      → IsWatchedInPart name known usual echo wanted old new begun now d bytes
+      → IsWatchedInPart usual echo wanted old new begun now d bytes
   has_file_in_part : (was has : Option (List ℕ)) → echo ≡ false → begun ≡ Some was → now ≡ Some has
-      → IsPlaySeenInPart name known usual wanted old new was has d bytes
-      → IsWatchedInPart name known usual echo wanted old new begun now d bytes
+      → IsPlaySeenInPart usual wanted old new was has d bytes
+      → IsWatchedInPart usual echo wanted old new begun now d bytes

@@ -21,8 +21,6 @@ pub enum Wanted {
     Capture(bool),
     /// What is told at its end.
     AtEnd(Told),
-    /// What of the set's text was taken, in the format of lcov.
-    Coverage,
 }
 
 /// Runs a script as `play` does without the lines of its commands, and writes what is wanted of the run to `out`: a trace or a capture as it runs, or at
@@ -44,10 +42,10 @@ pub fn play_seen<S: Read + Drop, R: Read + Drop, T: Write, W: Write, E: Write>(
     ensures accepted { (result ≡ 0) ⊎ (result ≡ 1) → IfSome (given S.remaining set) IsAccepted }
     ensures held { result ≡ 0
         → IsOnSet (given S.remaining set) (R.remaining script)
-        (IsPlaySeen name.now (given S.remaining set) usual wanted (W.contents writer.old) (W.contents writer.new) (T.contents out.old) (T.contents out.new)) }
+        (IsPlaySeen usual wanted (W.contents writer.old) (W.contents writer.new) (T.contents out.old) (T.contents out.new)) }
     ensures missed { result ≡ 1
         → IsOnSet (given S.remaining set) (R.remaining script)
-        (IsPlaySeenInPart name.now (given S.remaining set) usual wanted (W.contents writer.old) (W.contents writer.new) (T.contents out.old) (T.contents out.new)) }
+        (IsPlaySeenInPart usual wanted (W.contents writer.old) (W.contents writer.new) (T.contents out.old) (T.contents out.new)) }
     ensures refused { result ≡ 2
         → IsRefused (given S.remaining set) (R.remaining script) (W.contents writer.old) (W.contents writer.new) }
     ensures status { (result ≡ 0) ⊎ (result ≡ 1) ⊎ (result ≡ 2) ⊎ (result ≡ 4) }

@@ -3,7 +3,6 @@ pub mod Kinds
 pub mod Told
 pub mod Traced
 pub mod TracedKinds
-pub mod TracedGroups
 pub mod Following
 pub mod Watched
 pub mod WatchedKinds
@@ -30,10 +29,3 @@ pub use Rattle.script_group.specs.group_members_types
 pub use Rattle.script_links.specs.GroupScripts
 pub use Rattle.script_links.specs.TermScripts
 pub use Rattle.script_links.specs.resend_store_types
-pub use Rattle.script_group.specs.Doing
-pub use Rattle.script_group.specs.GroupAnswers
-pub use Rattle.script_group.specs.Set
-pub use Rattle.script_group.specs.SetLines
-pub use Rattle.script_group.specs.Term
-pub use Rattle.script_group.specs.TermAnswers
-pub use Rattle.script_group.specs.UnitLines

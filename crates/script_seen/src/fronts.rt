@@ -1,13 +1,12 @@
 //! The lines of a script as they are shown.
-ghost use Rattle.std.specs.Prelude.{◌≡◌, ◌||◌, ◌++◌, ◌∷◌, [], ℕ, List, length, map, drop, codes, bytes_eq, OnOk, IfOk};
+ghost use Rattle.std.specs.Prelude.{◌≡◌, ◌++◌, ◌∷◌, [], ℕ, List, length, map, drop, codes, OnOk, IfOk};
 ghost use Rattle.std.specs.List.{flat_map};
 ghost use Rattle.std.specs.Io.KnownBytes.{Appends};
 ghost use Rattle.script_lines.specs.Lines.{texts, plain_line};
 ghost use Rattle.script_group.specs.Lines.{line_of};
 ghost use Rattle.script_seen.specs.Shown.{parted, IsLine};
-ghost use Rattle.script_seen.specs.TracedActs.{is_reset, asks_measure, front_of_words, order_front};
 
-use script_lines::{Line, words_in};
+use script_lines::Line;
 use std::alloc::{AllocError, Global};
 use std::io::{self, ErrorKind, Write};
 
@@ -99,54 +98,4 @@ pub(crate) fn no_octets(alloc: Global) -> Vec<u8>
     ensures { result.items ≡ [] }
 {
     Vec::new(alloc)
-}
-
-/// Whether these words ask what was measured.
-fn asks_measure(words: &[&str]) -> bool
-    ensures { result ≡ asks_measure (texts words.now) }
-{
-    match words {
-        [word, more @ ..] => *word == "measure" && !is_reset(more),
-        [] => false,
-    }
-}
-
-/// Whether these words are `reset`.
-fn is_reset(words: &[&str]) -> bool
-    ensures { result ≡ is_reset (texts words.now) }
-{
-    match words {
-        [word] => *word == "reset",
-        _ => false,
-    }
-}
-
-/// Whether an order that begins with this word only asks.
-fn only_asks(word: &str) -> bool
-    ensures { result ≡ (bytes_eq word.now (codes "state") || bytes_eq word.now (codes "value")) }
-{
-    word == "state" || word == "value"
-}
-
-/// The line of an order whose words these are.
-fn front_of_words(alloc: Global, words: &[&str]) -> Result<Vec<u8>, AllocError>
-    ensures { IfOk result (λ v. v.items ≡ front_of_words (texts words.now)) }
-{
-    let [first, ..] = words else {
-        return Ok(Vec::new(alloc));
-    };
-    if only_asks(first) || asks_measure(words) {
-        return Ok(Vec::new(alloc));
-    }
-    front_of(alloc, words)
-}
-
-/// `> ` and the words of an order of a line, parted by one space, with the end of the line; nothing for one that only asks, `state P`,
-/// `value P x`, `measure` or `measure NAME`, and where it has no words.
-pub fn order_front(alloc: Global, order: &str) -> Result<Vec<u8>, AllocError>
-    ensures { IfOk result (λ v. v.items ≡ order_front order.now) }
-{
-    let words = words_in(alloc, order)?;
-    let front = front_of_words(alloc, &words)?;
-    Ok(front)
 }

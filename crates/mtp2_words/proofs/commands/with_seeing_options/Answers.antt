@@ -1,7 +1,7 @@
-use Rattle.std.proofs.Common.{codes, refl, subst}
-use Rattle.std.specs.Prelude.{IfOk}
-use Rattle.clap.specs.Words.{App, app_of}
-use Rattle.mtp2_words.specs.Commands.{option_word, flag_word, with_told_options, IsCommand}
+use Rattle.std.proofs.Common.{codes, refl}
+use Rattle.std.proofs.lemmas.Result.{IfOk-weaker}
+use Rattle.clap.specs.Words.{app_of}
+use Rattle.mtp2_words.specs.Commands.{option_word, flag_word, IsCommand}
 use Rattle.mtp2_words.proofs.Building.{with_word}
 use Rattle.mtp2_words.proofs.commands.with_seeing_options.Goals as goal
 
