@@ -11,7 +11,8 @@ use Rattle.actor_machine.specs.Kept.{opened_book}
 use Rattle.actor_machine.specs.Ledger.{Ledger, state_of}
 use Rattle.script_seen.specs.Traced.{since, told_text, IsAt}
 use Rattle.script_seen.specs.TracedKinds.{IsAtStart}
-use Rattle.script_seen.specs.TracedGroups.{Reached, reach, IsReached, under_name, links_text, all_reach, AreReached, none_reached, one_reached, IsAtLink, AreAtLinks, none_at, one_at, IsNewBook, reached_at}
+use Rattle.script_seen.specs.TracedGroups.{Reached, reach, IsReached, under_name, links_text, all_reach, AreReached, none_reached, one_reached, IsNewBook, reached_at}
+use Rattle.script_seen.specs.TracingGroups.{IsAtLink, AreAtLinks, none_at, one_at}
 use Rattle.script_seen.specs.declared.tracing.Tracer.{Tracer}
 
 -- ---- the first links of a set

@@ -1,6 +1,7 @@
 -- What is traced of a link set's run, one command more.
-use Rattle.std.proofs.Common.{◌≡◌, ◌∙◌, ℕ, ◌+◌, ◌<◌, ◌≤◌, Bool, true, false, List, [], ◌∷◌, ◌++◌, length, map, take, drop, get_or, Option, None, Some, arith, refl, sym, ap, subst}
+use Rattle.std.proofs.Common.{◌≡◌, ◌∙◌, ℕ, ◌+◌, ◌<◌, ◌≤◌, ◌==◌, Bool, true, false, List, [], ◌∷◌, ◌++◌, length, map, take, drop, get_or, Option, None, Some, codes, arith, refl, sym, ap, subst}
 use Rattle.std.specs.Prelude.{All, slice_get, option_map}
+use Rattle.std.specs.Fmt.{decimal}
 use Rattle.std.specs.Io.KnownBytes.{Appends}
 use Rattle.std.proofs.KnownBytes.{Appends-nil, Appends-trans}
 use Rattle.std.proofs.lemmas.List.{length-map}
@@ -25,15 +26,18 @@ use Rattle.script_group.specs.group_members_types.link.Link.{Link}
 use Rattle.script_group.specs.TermRuns.{latest, IsNewWithin}
 use Rattle.script_group.specs.GroupAnswers.{Playing, Obeys}
 use Rattle.script_group.specs.GroupRuns.{OWN_POINT, OTHER_POINT, begun as begun_set, AreNew, begins as group_begins, IsGroupRun, IsGroupWritten, IsGroupMissed, IsGroupMissedBy, HasObeyed, was_met, was_done}
+use Rattle.script_group.specs.Lines.{line_of}
 use Rattle.script_seen.specs.Kinds.{group_line}
-use Rattle.script_seen.specs.Traced.{since, are_in_step, IsFront}
+use Rattle.script_seen.specs.Traced.{since, told_text, are_in_step, IsFront}
 use Rattle.script_seen.specs.Following.{Agree, IsFollowed}
-use Rattle.script_seen.specs.TracedGroups.{group_only_asks, is_expectation, IsChangeoverTold, Reached, reach, under_name, links_text, all_reach, AreReached, IsAtLink, AreAtLinks, reached_at, books_of, clock_in, IsNewBook, AreNewLinks}
-use Rattle.script_seen.specs.TracedGroups.{IsToldBehind, Traces, begins, more, holds, IsGroupTracing, IsGroupTraced, IsGroupTracedInPart}
+use Rattle.script_seen.specs.TracedGroups.{group_only_asks, Reached, reach, under_name, links_text, all_reach, AreReached, reached_at, books_of, clock_in, IsNewBook, AreNewLinks}
+use Rattle.script_seen.specs.TracedGroups.{Traces, begins, more, holds, IsGroupTraced, IsGroupTracedInPart}
+use Rattle.script_seen.specs.TracingGroups.{is_expectation, IsToldBy, IsAtLink, AreAtLinks, IsToldBehind, IsGroupTracing}
 use Rattle.script_seen.specs.declared.tracing.Tracer.{Tracer}
 use Rattle.script_seen.proofs.Showings.{one_more, parts_at, all_taken}
 use Rattle.script_seen.proofs.Tracings.{came_to}
 use Rattle.script_seen.proofs.LinkTraces.{TracedOne}
+use Rattle.script_seen.proofs.SetMessages.{told_so}
 
 -- ---- links
 
@@ -60,12 +64,25 @@ clock_first p b time is ran = ran ∙ first_clock (books_of p) b (book_there p 0
 pub clock_nowhere : (p : Playing) → None ≡ read_at book_of (slice_get p.set.links 0) → 0 ≡ clock_in (books_of p)
 clock_nowhere p is = no_clock (books_of p) (slice_get-map book_of p.set.links 0 ∙ (read_in (slice_get p.set.links 0) ∙ sym is))
 
+-- the line that names a link is written where anything is behind it
+pub under_none : (link : ℕ) (text : List ℕ) (old : Option (List ℕ)) → (length text == 0) ≡ true → Appends old old (under_name link text)
+under_none link [] old is = Appends-nil old
+under_none link (x ∷ text) old is = cc
+
+pub under_some : (link : ℕ) (text name : List ℕ) (old mid new : Option (List ℕ)) → (length text == 0) ≡ false → name ≡ line_of (codes "on " ++ decimal link)
+    → Appends old mid name → Appends mid new text → Appends old new (under_name link text)
+under_some link [] name old mid new is same named more = cc
+under_some link (x ∷ text) name old mid new is same named more =
+    let N : List ℕ → Type 0 = λ bs. Appends old mid bs in
+    Appends-trans old mid new (line_of (codes "on " ++ decimal link)) (x ∷ text) (subst N same named) more
+
 -- what a tracer of a link told
-pub followed_one : (d : Draft) (r : Reached) (bs : List Ledger) (n : ℕ) (b : Ledger) (t u : Tracer) (text shown : List ℕ) (old new : Option (List ℕ))
-    → slice_get bs n ≡ Some b → IsAtLink d r t → b.first ≤ next t.again → IsFollowed t (since (next t.again) b) u (Some []) (Some text)
+pub followed_one : (d : Draft) (r : Reached) (bs : List Ledger) (n : ℕ) (b : Ledger) (t u : Tracer) (before text shown : List ℕ) (old new : Option (List ℕ)) → before ≡ []
+    → slice_get bs n ≡ Some b → IsAtLink d r t → b.first ≤ next t.again → IsFollowed t (since (next t.again) b) u (Some before) (Some text)
     → are_in_step (state_of u.again) (state_of b) ≡ true → shown ≡ text → Appends old new (under_name n shown) → TracedOne d r bs n t.every u old new
-followed_one d r bs n b t u text shown old new there at within followed in_step is written =
-    let came = came_to d r.place r.core b t u (Some []) (Some text) at followed in
+followed_one d r bs n b t u before text shown old new empty there at within followed in_step is written =
+    let came = came_to d r.place r.core b t u (Some before) (Some text) at followed in
+    let told = told_text t.every d r.core (since r.place b) in
     let agree : Agree t = at.timers ∙ ap (λ (x : Core). x.timers) (sym at.state) in
     let F : ℕ → Type 0 = λ m. b.first ≤ m in
     let S : Core → Type 0 = λ w. are_in_step w (state_of b) ≡ true in
@@ -79,28 +96,28 @@ followed_one d r bs n b t u text shown old new there at within followed in_step 
         state = came.state;
         timers = followed.agree agree ∙ ap (λ (x : Core). x.timers) came.state;
       },
-      subst W (is ∙ came.told) written,
+      subst W (is ∙ (came.told ∙ ap (λ (bs : List ℕ). bs ++ told) empty)) written,
     )
 
 -- ---- one command
 
 pub told_behind : (every : Bool) (lines : List PlainLine) (d : Draft) (said : PlainGroupSaid) (q : Playing) (last : Option (List ℕ)) (rs : List Reached)
-    (old mid later new : Option (List ℕ)) (tracers : List Tracer) (clock : ℕ) → clock ≡ clock_in (books_of q)
+    (old mid later new : Option (List ℕ)) (tracers : List Tracer) (clock : ℕ) (told : List ℕ) → clock ≡ clock_in (books_of q)
     → ((front : List ℕ) × IsFront (group_only_asks said.command) lines (group_line said) front × Appends old mid front)
-    → ((told : List ℕ) × IsChangeoverTold clock said.command last told × Appends mid later told)
+    → IsToldBy clock said.command last told → Appends mid later told
     → AreReached d rs (books_of q) × AreAtLinks every d (all_reach d rs (books_of q)) tracers × Appends later new (links_text every d 0 rs (books_of q))
     → IsToldBehind every lines d said q last rs old new tracers
-told_behind every lines d said q last rs old mid later new tracers clock now f c l =
-    let K : ℕ → Type 0 = λ k. IsChangeoverTold k said.command last c.0 in
+told_behind every lines d said q last rs old mid later new tracers clock told now f is grew l =
+    let K : ℕ → Type 0 = λ k. IsToldBy k said.command last told in
     let text = links_text every d 0 rs (books_of q) in
     record {
       front = f.0;
-      told = c.0;
+      told = told;
       is_front = f.1;
-      is_told = subst K now c.1;
+      is_told = subst K now is;
       reached = l.0;
       are_at = l.1;
-      written = Appends-trans old mid new f.0 (c.0 ++ text) f.2 (Appends-trans mid later new c.0 text c.2 l.2);
+      written = Appends-trans old mid new f.0 (told ++ text) f.2 (Appends-trans mid later new told text grew l.2);
     }
 
 no_expectation : (c : PlainGroupCommand) (text : List ℕ) → c ≡ group.expected text → is_expectation c ≡ false → ⊥
@@ -124,13 +141,14 @@ set_traced every lines d first before said begun old new from to last printed p 
 set_traced every lines d first before said begun old new from to last printed p q ts us not (was_done given obeys has) so_far behind =
     let b = behind so_far.reached so_far.are_at in
     let text = links_text every d 0 so_far.reached (books_of q) in
-    let L : Option (List ℕ) → Type 0 = λ l. IsChangeoverTold (clock_in (books_of q)) said.command l b.told in
+    let L : Option (List ℕ) → Type 0 = λ l. IsToldBy (clock_in (books_of q)) said.command l b.told in
+    let told = told_so (clock_in (books_of q)) said.command p q given last b.told obeys (subst L has.latest_is b.is_told) in
     let T : Option (List ℕ) → Type 0 =
     λ l. Traces every lines d first (before ++ said ∷ []) q l (all_reach d so_far.reached (books_of q)) (so_far.text ++ (b.front ++ (b.told ++ text))) in
     record {
       reached = all_reach d so_far.reached (books_of q);
       text = so_far.text ++ (b.front ++ (b.told ++ text));
-      traces = subst T (sym has.latest_is) (more said b.front b.told given q so_far.traces b.is_front obeys (subst L has.latest_is b.is_told) b.reached);
+      traces = subst T (sym has.latest_is) (more said b.front b.told given q so_far.traces b.is_front obeys told b.reached);
       are_at = b.are_at;
       written = Appends-trans begun old new so_far.text (b.front ++ (b.told ++ text)) so_far.written b.written;
     }

@@ -1,8 +1,7 @@
 -- What is traced of a run of a link set's script: of each command what messages of changeover said
 -- by it, and what happened on each link.
 use Rattle.std.specs.Prelude.{◌≡◌, ◌≤◌, ◌+◌, ℕ, Bool, true, false, List, [], ◌∷◌, ◌++◌, length}
-use Rattle.std.specs.Prelude.{Option, None, Some, codes, map, take, drop, unwrap_or, bytes_eq, All}
-use Rattle.std.specs.Prelude.{if◌then◌else◌}
+use Rattle.std.specs.Prelude.{Option, None, Some, codes, map, All}
 use Rattle.std.specs.Io.KnownBytes.{Appends}
 use Rattle.std.specs.Fmt.{decimal}
 use Rattle.turn_code.specs.declared.draft.Draft.{Draft}
@@ -10,10 +9,11 @@ use Rattle.plain_laws.specs.Limits.{MOST_PORT, MOST_ENVIRONMENT, MOST_JOURNAL}
 use Rattle.actor_machine.specs.Core.{Core}
 use Rattle.actor_machine.specs.Kept.{opened_book}
 use Rattle.actor_machine.specs.Ledger.{Ledger, runs, replay, state_of}
-use Rattle.group_changeover.specs.Changeovers.{Reads}
-use Rattle.group_changeover.specs.declared.changeover.Changeover.{Changeover}
-use Rattle.group_changeover.specs.declared.changeover.Kind.{Kind}
-use Rattle.group_changeover.specs.declared.changeover.Kind.TheVariants as kind
+use Rattle.script_group.specs.group_changeover_types.changeover.Changeover.{Changeover}
+use Rattle.script_group.specs.group_changeover_types.changeover.Kind.{Kind}
+use Rattle.script_group.specs.group_changeover_types.changeover.Kind.TheVariants as kind
+use Rattle.script_group.specs.group_changeover_types.errors.FailError.{FailError}
+use Rattle.script_group.specs.Changing.{IsRead, reply_to, fail_fault, order_at}
 use Rattle.script_links.specs.GroupCommands.{PlainGroupCommand}
 use Rattle.script_links.specs.GroupCommands as group
 use Rattle.script_links.specs.GroupScripts.{PlainGroupSaid}
@@ -21,13 +21,11 @@ use Rattle.script_links.specs.declared.heads.GroupHead.{GroupHead}
 use Rattle.script_links.specs.declared.words.GroupWord.{GroupWord}
 use Rattle.script_links.specs.declared.words.GroupWord.TheVariants as words
 use Rattle.script_lines.specs.Lines.{PlainLine}
-use Rattle.script_links.specs.Octets.{octets_of}
 use Rattle.script_group.specs.GroupAnswers.{Playing, Obeys}
 use Rattle.script_group.specs.TermRuns.{latest}
 use Rattle.script_group.specs.Lines.{line_of}
 use Rattle.script_seen.specs.Kinds.{group_line}
-use Rattle.script_seen.specs.Traced.{since, told_text, are_in_step, IsFront, IsAt}
-use Rattle.script_seen.specs.declared.tracing.Tracer.{Tracer}
+use Rattle.script_seen.specs.Traced.{since, told_text, are_in_step, IsFront}
 
 -- ---- commands
 
@@ -59,10 +57,6 @@ group_only_asks (group.message octets) = false
 group_only_asks (group.admitting way) = false
 group_only_asks (group.own word) = word_only_asks word
 
-abbrev pub is_expectation : PlainGroupCommand → Bool
-is_expectation (group.expected text) = true
-is_expectation c = false
-
 -- ---- messages of changeover (Q.704, 5 and 15)
 
 -- the heading of a message, and the number that it tells
@@ -74,41 +68,34 @@ kind_text (kind.Acknowledgement fsn) link =
 kind_text kind.EmergencyOrder link = codes "ECO link " ++ decimal link
 kind_text kind.EmergencyAcknowledgement link = codes "ECA link " ++ decimal link
 
--- a message that was heard or said at this tick
+-- the line of a message that was heard or said at this tick
 abbrev pub message_line : ℕ → List ℕ → Changeover → List ℕ
 message_line clock way m = line_of (decimal clock ++ way ++ kind_text m.kind m.label.sls)
 
--- octets that went this way: a line where they are a message of changeover, else none
-pub data IsMessageTold (clock : ℕ) (way octets : List ℕ) : List ℕ → Type 0 where
-  is_one : (m : Changeover) → Reads octets m
-      → IsMessageTold clock way octets (message_line clock way m)
-  is_none : ((m : Changeover) → Reads octets m → ⊥) → IsMessageTold clock way octets []
+abbrev pub message_text : ℕ → List ℕ → Option Changeover → List ℕ
+message_text clock way None = []
+message_text clock way (Some m) = message_line clock way m
 
--- the octets of a line `ok HEX`; none where the line is another
-abbrev pub said_octets : List ℕ → List ℕ
-said_octets line =
-    if bytes_eq (take 3 line) (codes "ok ") then unwrap_or (octets_of (drop 3 line)) [] else []
+abbrev pub heard_text : ℕ → Option Changeover → List ℕ
+heard_text clock m = message_text clock (codes " heard ") m
 
-abbrev pub IsHeardTold : ℕ → List ℕ → List ℕ → Type 0
-IsHeardTold clock octets text = IsMessageTold clock (codes " heard ") octets text
+abbrev pub said_text : ℕ → Option Changeover → List ℕ
+said_text clock m = message_text clock (codes " said ") m
 
--- what the line that was printed says
-abbrev pub IsSaidTold : ℕ → List ℕ → List ℕ → Type 0
-IsSaidTold clock line text = IsMessageTold clock (codes " said ") (said_octets line) text
+-- the order for a link that fails, if it isn't refused
+abbrev pub order_unless : Option FailError → Changeover → Option Changeover
+order_unless None m = Some m
+order_unless (Some e) m = None
 
-pub record AreBothTold (clock : ℕ) (octets line text : List ℕ) : Type 0 where
-  pub heard : List ℕ
-  pub said : List ℕ
-  pub is_heard : IsHeardTold clock octets heard
-  pub is_said : IsSaidTold clock line said
-  pub are : text ≡ heard ++ said
-
--- what is told of messages by a command behind which this line was printed last: of one that came
--- in, and of the order or the answer that goes out
-abbrev pub IsChangeoverTold : ℕ → PlainGroupCommand → Option (List ℕ) → List ℕ → Type 0
-IsChangeoverTold clock (group.message octets) (Some line) text = AreBothTold clock octets line text
-IsChangeoverTold clock (group.own words.Fail) (Some line) text = IsSaidTold clock line text
-IsChangeoverTold clock c last text = text ≡ []
+-- What is told of messages of changeover by a command to this set: of one that came in and of the
+-- answer to it, and of the order for a link that fails.
+abbrev pub IsChangeoverTold : ℕ → PlainGroupCommand → Playing → List ℕ → Type 0
+IsChangeoverTold clock (group.message octets) p text =
+    (m : Option Changeover) → IsRead octets m
+    → text ≡ heard_text clock m ++ said_text clock (reply_to p.set m)
+IsChangeoverTold clock (group.own words.Fail) p text =
+    text ≡ said_text clock (order_unless (fail_fault p.set p.on) (order_at p.set p.on))
+IsChangeoverTold clock c p text = text ≡ []
 
 -- ---- links
 
@@ -163,16 +150,6 @@ clock_in (b ∷ bs) = (state_of b).timers.clock
 abbrev pub reached_at : Ledger → Reached
 reached_at b = record { place = 0; core = state_of b }
 
--- a tracer came there
-abbrev pub IsAtLink : Draft → Reached → Tracer → Type 0
-IsAtLink d r t = IsAt d r.place r.core t
-
-pub data AreAtLinks (every : Bool) (d : Draft) : List Reached → List Tracer → Type 0 where
-  none_at : AreAtLinks every d [] []
-  one_at : (r : Reached) (t : Tracer) (rs : List Reached) (ts : List Tracer)
-      → t.every ≡ every → IsAtLink d r t → AreAtLinks every d rs ts
-      → AreAtLinks every d (r ∷ rs) (t ∷ ts)
-
 -- the book of a link's terminal that has just been opened over a set
 abbrev pub IsNewBook : Draft → Ledger → Type 0
 IsNewBook d b = b ≡ opened_book d MOST_PORT MOST_ENVIRONMENT MOST_JOURNAL
@@ -183,19 +160,6 @@ pub record AreNewLinks (d : Draft) (head : GroupHead) (p : Playing) : Type 0 whe
   pub new : All (IsNewBook d) (books_of p)
 
 -- ---- the trace
-
--- What is told of a command that was obeyed: its line, what messages said, and what happened on
--- each link, where they had come so far.
-pub record IsToldBehind (every : Bool) (lines : List PlainLine) (d : Draft)
-    (said : PlainGroupSaid) (q : Playing) (last : Option (List ℕ)) (rs : List Reached)
-    (old new : Option (List ℕ)) (tracers : List Tracer) : Type 0 where
-  pub front : List ℕ
-  pub told : List ℕ
-  pub is_front : IsFront (group_only_asks said.command) lines (group_line said) front
-  pub is_told : IsChangeoverTold (clock_in (books_of q)) said.command last told
-  pub reached : AreReached d rs (books_of q)
-  pub are_at : AreAtLinks every d (all_reach d rs (books_of q)) tracers
-  pub written : Appends old new (front ++ (told ++ links_text every d 0 rs (books_of q)))
 
 -- What is traced of commands in their order, from a set on: the set now, the line printed last, how
 -- far each link is told, and the text. Each command's line is in front, behind it what messages
@@ -210,7 +174,7 @@ pub data Traces (every : Bool) (lines : List PlainLine) (d : Draft) (first : Pla
       → Traces every lines d first commands p last rs text
       → IsFront (group_only_asks said.command) lines (group_line said) front
       → Obeys said.command p printed q
-      → IsChangeoverTold (clock_in (books_of q)) said.command (latest last printed) told
+      → IsChangeoverTold (clock_in (books_of q)) said.command p told
       → AreReached d rs (books_of q)
       → Traces every lines d first (commands ++ said ∷ []) q (latest last printed)
       (all_reach d rs (books_of q))
@@ -220,16 +184,6 @@ pub data Traces (every : Bool) (lines : List PlainLine) (d : Draft) (first : Pla
       → said.command ≡ group.expected expectation
       → Traces every lines d first commands p (Some expectation) rs text
       → Traces every lines d first (commands ++ said ∷ []) p (Some expectation) rs text
-
--- so far these commands are traced, and what is written grew by that
-pub record IsGroupTracing (every : Bool) (lines : List PlainLine) (d : Draft) (first : Playing)
-    (commands : List PlainGroupSaid) (old new : Option (List ℕ)) (now : Playing)
-    (last : Option (List ℕ)) (tracers : List Tracer) : Type 0 where
-  pub reached : List Reached
-  pub text : List ℕ
-  pub traces : Traces every lines d first commands now last reached text
-  pub are_at : AreAtLinks every d reached tracers
-  pub written : Appends old new text
 
 -- all commands are traced
 pub record IsGroupTraced (every : Bool) (lines : List PlainLine) (d : Draft)

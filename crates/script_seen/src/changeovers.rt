@@ -1,13 +1,16 @@
 //! Messages of changeover, in words.
-ghost use Rattle.std.specs.Prelude.{◌≡◌, ◌++◌, codes, OnOk, IfOk};
+ghost use Rattle.std.specs.Prelude.{◌≡◌, ◌++◌, List, ℕ, codes, IsNone, OnOk, IfOk, IfSome, option_map, unwrap_or, []};
 ghost use Rattle.std.specs.Fmt.{decimal};
+ghost use Rattle.script_links.specs.GroupCommands.{plain_group_command};
+ghost use Rattle.script_links.specs.Octets.{octets_of};
 ghost use Rattle.script_group.specs.Lines.{line_of};
-ghost use Rattle.script_seen.specs.TracedGroups.{kind_text, said_octets, IsMessageTold};
+ghost use Rattle.script_seen.specs.TracedGroups.{kind_text};
+ghost use Rattle.script_seen.specs.TracingGroups.{IsMessageTold, AreSaid, IsSaidTold, IsLastTold, AreBothTold, IsWordTold, IsToldBy};
 
 use crate::pushing::push_number;
 use crate::tracing::lost;
 use script_group::{Kind, read_changeover};
-use script_links::octets_in;
+use script_links::{GroupCommand, GroupWord, octets_in};
 use std::alloc::{AllocError, Global};
 use std::{io, str};
 
@@ -24,10 +27,17 @@ fn push_heading(
     push_number(alloc, line, u64::from(link))
 }
 
-/// The number of the message that was accepted last.
-fn push_accepted(alloc: Global, line: &mut Vec<u8>, number: u8) -> Result<(), AllocError>
-    ensures { OnOk result (line.new.items ≡ line.old.items ++ (codes " fsn " ++ decimal number)) }
+/// A heading, the link of which a message speaks, and the number of the message that was accepted last there.
+fn push_numbered(
+    alloc: Global,
+    line: &mut Vec<u8>,
+    heading: &str,
+    link: u8,
+    number: u8,
+) -> Result<(), AllocError>
+    ensures { OnOk result (line.new.items ≡ line.old.items ++ (heading.now ++ decimal link ++ codes " fsn " ++ decimal number)) }
 {
+    push_heading(alloc, line, heading, link)?;
     line.extend_from_slice(b" fsn ")?;
     push_number(alloc, line, u64::from(number))
 }
@@ -37,14 +47,8 @@ fn push_kind(alloc: Global, line: &mut Vec<u8>, kind: Kind, link: u8) -> Result<
     ensures { OnOk result (line.new.items ≡ line.old.items ++ kind_text kind link) }
 {
     match kind {
-        Kind::Order(number) => {
-            push_heading(alloc, line, "COO link ", link)?;
-            push_accepted(alloc, line, number)
-        }
-        Kind::Acknowledgement(number) => {
-            push_heading(alloc, line, "COA link ", link)?;
-            push_accepted(alloc, line, number)
-        }
+        Kind::Order(number) => push_numbered(alloc, line, "COO link ", link, number),
+        Kind::Acknowledgement(number) => push_numbered(alloc, line, "COA link ", link, number),
         Kind::EmergencyOrder => push_heading(alloc, line, "ECO link ", link),
         Kind::EmergencyAcknowledgement => push_heading(alloc, line, "ECA link ", link),
     }
@@ -70,7 +74,7 @@ fn message_line(
 
 /// The line of a message of changeover that came in or went out at a tick: its heading, the link of which it speaks, and the number of the message
 /// that was accepted last there. None where the octets are no such message.
-pub(crate) fn changeover_text(
+fn message_text(
     alloc: Global,
     clock: u64,
     way: &str,
@@ -84,18 +88,117 @@ pub(crate) fn changeover_text(
     }
 }
 
-/// The octets of a line `ok HEX`; none where the line is another.
-pub(crate) fn said_octets(alloc: Global, line: &[u8]) -> io::Result<Vec<u8>>
-    ensures { IfOk result (λ v. v.items ≡ said_octets line.now) }
+/// What stands behind `ok ` in a line, where it begins so.
+fn digits_in(line: &[u8]) -> Option<&[u8]>
+    ensures some { IfSome result (λ digits. line.now ≡ codes "ok " ++ digits.now) }
+    ensures none { IsNone result → (digits : List ℕ) → line.now ≡ codes "ok " ++ digits → ⊥ }
 {
-    let [b'o', b'k', b' ', digits @ ..] = line else {
-        return Ok(Vec::new(alloc));
-    };
+    line.strip_prefix(b"ok ")
+}
+
+/// The octets that hexadecimal digits are, none where they are no such digits.
+fn octets_of(alloc: Global, digits: &[u8]) -> io::Result<Vec<u8>>
+    ensures { IfOk result (λ v. v.items ≡ unwrap_or (octets_of digits.now) []) }
+{
     let Ok(digits) = str::from_utf8(digits) else {
         return Err(lost());
     };
     match octets_in(alloc, digits)? {
         Some(octets) => Ok(octets),
         None => Ok(Vec::new(alloc)),
+    }
+}
+
+/// The octets of a line `ok HEX`; none where the line is another.
+fn said_octets(alloc: Global, line: &[u8]) -> io::Result<Vec<u8>>
+    ensures { IfOk result (λ v. AreSaid line.now v.items) }
+{
+    match digits_in(line) {
+        Some(digits) => octets_of(alloc, digits),
+        None => Ok(Vec::new(alloc)),
+    }
+}
+
+/// What the octets of a printed line say.
+fn said_text(alloc: Global, clock: u64, line: &[u8]) -> io::Result<Vec<u8>>
+    ensures { IfOk result (λ v. IsSaidTold clock line.now v.items) }
+{
+    let octets = said_octets(alloc, line)?;
+    let text = message_text(alloc, clock, " said ", &octets)?;
+    Ok(text)
+}
+
+/// What the line that was printed last says, where there is one.
+fn last_text(alloc: Global, clock: u64, last: &Option<Vec<u8>>) -> io::Result<Vec<u8>>
+    ensures { IfOk result (λ v. IsLastTold clock (option_map (λ l. l.items) last.now) v.items) }
+{
+    match last {
+        Some(line) => said_text(alloc, clock, line),
+        None => Ok(Vec::new(alloc)),
+    }
+}
+
+/// What was heard by a message, and what the line that was printed last says.
+fn both_text(
+    alloc: Global,
+    clock: u64,
+    octets: &[u8],
+    last: &Option<Vec<u8>>,
+) -> io::Result<Vec<u8>>
+    ensures { IfOk result (λ v. AreBothTold clock octets.now (option_map (λ l. l.items) last.now) v.items) }
+{
+    let mut text = message_text(alloc, clock, " heard ", octets)?;
+    let said = last_text(alloc, clock, last)?;
+    text.extend_from_slice(&said)?;
+    Ok(text)
+}
+
+/// What was said by messages of changeover at a command of one word.
+fn word_text(
+    alloc: Global,
+    clock: u64,
+    word: GroupWord,
+    last: &Option<Vec<u8>>,
+) -> io::Result<Vec<u8>>
+    ensures { IfOk result (λ v. IsWordTold clock word (option_map (λ l. l.items) last.now) v.items) }
+{
+    match word {
+        GroupWord::Fail => last_text(alloc, clock, last),
+        GroupWord::Retrieve
+        | GroupWord::Abandon
+        | GroupWord::Divert
+        | GroupWord::Rebalance
+        | GroupWord::Table
+        | GroupWord::Held
+        | GroupWord::Unsure
+        | GroupWord::Link => Ok(Vec::new(alloc)),
+    }
+}
+
+/// What was said by messages of changeover at a command behind which this line was printed last: by one that came in, and by the order or the
+/// answer that goes out.
+pub(crate) fn changeover_text(
+    alloc: Global,
+    clock: u64,
+    command: &GroupCommand<'_>,
+    last: &Option<Vec<u8>>,
+) -> io::Result<Vec<u8>>
+    ensures { IfOk result (λ v. IsToldBy clock (plain_group_command command.now) (option_map (λ l. l.items) last.now) v.items) }
+{
+    match command {
+        GroupCommand::Message(octets) => both_text(alloc, clock, octets, last),
+        GroupCommand::Own(word) => word_text(alloc, clock, *word, last),
+        GroupCommand::Order(_)
+        | GroupCommand::Unit(_)
+        | GroupCommand::Line(_)
+        | GroupCommand::Out(_)
+        | GroupCommand::Tick(_)
+        | GroupCommand::State(_)
+        | GroupCommand::Value(_, _)
+        | GroupCommand::Expect(_)
+        | GroupCommand::On(_)
+        | GroupCommand::Send(_)
+        | GroupCommand::Bound(_)
+        | GroupCommand::Admit(_) => Ok(Vec::new(alloc)),
     }
 }

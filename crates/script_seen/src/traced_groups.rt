@@ -1,22 +1,25 @@
 //! Link sets' scripts as they run, with a trace.
-ghost use Rattle.std.specs.Prelude.{◌≡◌, ◌⊎◌, ◌++◌, ◌∷◌, [], List, ℕ, Option, None, Some, map, slice_get, length, option_map, OnOk, IfOk, true, false, Bool, All};
+ghost use Rattle.std.specs.Prelude.{◌≡◌, ◌⊎◌, ◌++◌, ◌∷◌, [], List, ℕ, Option, None, Some, map, slice_get, length, codes, OnOk, IfOk, true, false, Bool, All};
+ghost use Rattle.std.specs.Fmt.{decimal};
 ghost use Rattle.std.specs.Io.KnownBytes.{Appends};
 ghost use Rattle.turn_code.specs.declared.draft.Draft.{Draft};
 ghost use Rattle.actor_machine.specs.Ledger.{Ledger};
 ghost use Rattle.script_lines.specs.Lines.{plain_line, lines_of};
 ghost use Rattle.script_links.specs.GroupCommands.{plain_group_command};
 ghost use Rattle.script_links.specs.GroupScripts.{PlainGroupSaid, plain_group_said, IsFew};
+ghost use Rattle.script_group.specs.Lines.{line_of};
 ghost use Rattle.script_group.specs.TermRuns.{LacksName};
 ghost use Rattle.script_group.specs.GroupAnswers.{Playing};
 ghost use Rattle.script_group.specs.GroupRuns.{playing_of, last_of, IsGroupRun, IsGroupMissedBy, IsGroupWritten, IsGroupMissed, IsOfNewSet};
 ghost use Rattle.script_seen.specs.Traced.{IsFront, since, told_text};
-ghost use Rattle.script_seen.specs.TracedGroups.{word_only_asks, group_only_asks, is_expectation, Reached, reached_at, IsReached, IsAtLink, AreAtLinks, AreReached, reach, all_reach, books_of, clock_in, links_text, under_name, IsSaidTold, IsChangeoverTold, IsNewBook, AreNewLinks, IsToldBehind, IsGroupTracing, IsGroupTraced, IsGroupTracedInPart};
+ghost use Rattle.script_seen.specs.TracedGroups.{word_only_asks, group_only_asks, Reached, reached_at, IsReached, AreReached, reach, all_reach, books_of, clock_in, links_text, under_name, IsNewBook, AreNewLinks, IsGroupTraced, IsGroupTracedInPart};
+ghost use Rattle.script_seen.specs.TracingGroups.{is_expectation, IsAtLink, AreAtLinks, IsToldBehind, IsGroupTracing};
 
-use crate::changeovers::{changeover_text, said_octets};
+use crate::changeovers::changeover_text;
 use crate::fronts::{first_of, show_line};
 use crate::traced_terminals::open_tracer;
 use crate::tracing::{Tracer, lost};
-use script_group::{FAILED, GroupPlayer, HELD, MISSED, end_player, open_group, refuse_set};
+use script_group::{FAILED, GroupPlayer, HELD, MISSED, open_group, refuse_set, text_line};
 use script_lines::{Line, lines_in};
 use script_links::{GroupCommand, GroupSaid, GroupScript, GroupWord, RoundLimits};
 use std::alloc::{AllocError, Global};
@@ -116,7 +119,7 @@ fn open_tracers(
 }
 
 /// The ticks gone by on a link set.
-pub fn clock_of(player: &GroupPlayer) -> u64
+fn clock_of(player: &GroupPlayer) -> u64
     ensures { result ≡ clock_in (books_of (playing_of player.now)) }
 {
     match player.group.book(0) {
@@ -125,54 +128,26 @@ pub fn clock_of(player: &GroupPlayer) -> u64
     }
 }
 
-/// What the line that was printed last says of a changeover.
-fn tell_said<T: Write>(alloc: Global, clock: u64, line: &[u8], trace: &mut T) -> io::Result<()>
-    ensures { OnOk result ((said : List ℕ) × IsSaidTold clock line.now said × Appends (T.contents trace.old) (T.contents trace.new) said) }
+/// The line that names a link.
+fn name_line(alloc: Global, link: usize) -> Result<Vec<u8>, AllocError>
+    ensures { IfOk result (λ v. v.items ≡ line_of (codes "on " ++ decimal link)) }
 {
-    let octets = said_octets(alloc, line)?;
-    let said = changeover_text(alloc, clock, " said ", &octets)?;
-    trace.write_all(&said)?;
-    Ok(())
-}
-
-/// What was said by messages of changeover at a command behind which this line was printed last.
-fn tell_changeover<T: Write>(
-    alloc: Global,
-    command: &GroupCommand<'_>,
-    clock: u64,
-    last: &Option<Vec<u8>>,
-    trace: &mut T,
-) -> io::Result<()>
-    ensures { OnOk result ((told : List ℕ) × IsChangeoverTold clock (plain_group_command command.now) (option_map (λ l. l.items) last.now) told
-        × Appends (T.contents trace.old) (T.contents trace.new) told) }
-{
-    let Some(line) = last else {
-        return Ok(());
-    };
-    match command {
-        GroupCommand::Message(octets) => {
-            let heard = changeover_text(alloc, clock, " heard ", octets)?;
-            trace.write_all(&heard)?;
-            tell_said(alloc, clock, line, trace)
-        }
-        GroupCommand::Own(GroupWord::Fail) => tell_said(alloc, clock, line, trace),
-        _ => Ok(()),
-    }
+    let mut line = text_line(alloc, &format_args!("on {link}"))?;
+    line.push(b'\n')?;
+    Ok(line)
 }
 
 /// Writes what happened on a link behind a line that names it, where anything did.
 fn write_under<T: Write>(alloc: Global, link: usize, text: &[u8], trace: &mut T) -> io::Result<()>
     ensures { OnOk result (Appends (T.contents trace.old) (T.contents trace.new) (under_name link text.now)) }
 {
-    match text {
-        [] => Ok(()),
-        [_, ..] => {
-            let head = format!(in alloc; "on {link}\n")?;
-            trace.write_all(head.as_bytes())?;
-            trace.write_all(text)?;
-            Ok(())
-        }
+    if text.is_empty() {
+        return Ok(());
     }
+    let name = name_line(alloc, link)?;
+    trace.write_all(&name)?;
+    trace.write_all(text)?;
+    Ok(())
 }
 
 /// What has happened to a link since is traced, behind a line that names it.
@@ -232,13 +207,9 @@ fn trace_behind<T: Write>(
         (T.contents trace.old) (T.contents trace.new) tracers.new) }
 {
     show_front(alloc, said, lines, place, trace)?;
-    tell_changeover(
-        alloc,
-        &said.command,
-        clock_of(player),
-        &player.printer.last,
-        trace,
-    )?;
+    let clock = clock_of(player);
+    let told = changeover_text(alloc, clock, &said.command, &player.printer.last)?;
+    trace.write_all(&told)?;
     trace_links(alloc, player, tracers, trace)?;
     Ok(())
 }
@@ -400,9 +371,7 @@ pub fn trace_group<W: Write, T: Write>(
     match open_group(alloc, set, limits, script.head) {
         Ok(player) => {
             let mut player = player;
-            let status = trace_all(alloc, set, &mut player, script, text, every, trace, writer);
-            end_player(player);
-            status
+            trace_all(alloc, set, &mut player, script, text, every, trace, writer)
         }
         Err(error) => refuse_set(alloc, writer, error),
     }

@@ -14,7 +14,7 @@ loop-link-preserved c =
     let so_far = c.loop-link.invariant in
     let items = c.loop-link.tracers.items in
     let t = c.in_ok-tracer.tracer in
-    let n = c.loop-link.link in
+    let n = c.loop-link._link in
     let P : List Tracer → Type 0 = λ ts. AreFresh c.args.every c.args.set.now (n + 1) ts in
     subst P (sym c.in_ok-push.ensures.items) (record {
       fresh = fresh_more c.args.every c.args.set.now items t so_far.fresh (record { every_is = c.in_ok-tracer.ensures.every; start = c.in_ok-tracer.ensures.start });

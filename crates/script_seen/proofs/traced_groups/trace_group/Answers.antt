@@ -10,21 +10,21 @@ use Rattle.script_seen.proofs.traced_groups.trace_group.Goals as goal
 pub returns-in-Ok-clause-held : goal.returns-in-Ok-clause-held
 returns-in-Ok-clause-held g c zero =
     let made = c.in-Ok.ensures.ok in
-    let P : Playing → Type 0 = λ p. IsGroupWritten (map plain_group_said c.args.script.now.commands.items) (g.W.Write.contents c.args.writer.now) (g.W.Write.contents c.trace_all-status.new.writer) p in
+    let P : Playing → Type 0 = λ p. IsGroupWritten (map plain_group_said c.args.script.now.commands.items) (g.W.Write.contents c.args.writer.now) (g.W.Write.contents c.trace_all.new.writer) p in
     record {
       terminals = made.1.terminals;
       new = made.1.new;
-      holds = subst P (made.2 ∙ ap begun made.1.set) (c.trace_all-status.ensures.held zero c.in-Ok.ensures.last);
+      holds = subst P (made.2 ∙ ap begun made.1.set) (c.trace_all.ensures.held zero c.in-Ok.ensures.last);
     }
 
 pub returns-in-Ok-clause-missed : goal.returns-in-Ok-clause-missed
 returns-in-Ok-clause-missed g c one =
     let made = c.in-Ok.ensures.ok in
-    let P : Playing → Type 0 = λ p. IsGroupMissed (map plain_group_said c.args.script.now.commands.items) (g.W.Write.contents c.args.writer.now) (g.W.Write.contents c.trace_all-status.new.writer) p in
+    let P : Playing → Type 0 = λ p. IsGroupMissed (map plain_group_said c.args.script.now.commands.items) (g.W.Write.contents c.args.writer.now) (g.W.Write.contents c.trace_all.new.writer) p in
     record {
       terminals = made.1.terminals;
       new = made.1.new;
-      holds = subst P (made.2 ∙ ap begun made.1.set) (c.trace_all-status.ensures.missed one c.in-Ok.ensures.last);
+      holds = subst P (made.2 ∙ ap begun made.1.set) (c.trace_all.ensures.missed one c.in-Ok.ensures.last);
     }
 
 pub returns-in-Ok-clause-traced : goal.returns-in-Ok-clause-traced
@@ -34,12 +34,12 @@ returns-in-Ok-clause-traced g c zero =
     let is = made.2 ∙ ap begun made.1.set in
     let N : Playing → Type 0 = λ p. AreNewLinks c.args.set.now head p in
     let P : Playing → Type 0 =
-    λ p. IsGroupTraced c.args.every (lines_of c.args.text.now) c.args.set.now (map plain_group_said c.args.script.now.commands.items) (g.T.Write.contents c.args.trace.now) (g.T.Write.contents c.trace_all-status.new.trace) p in
+    λ p. IsGroupTraced c.args.every (lines_of c.args.text.now) c.args.set.now (map plain_group_said c.args.script.now.commands.items) (g.T.Write.contents c.args.trace.now) (g.T.Write.contents c.trace_all.new.trace) p in
     record {
       terminals = made.1.terminals;
       new = made.1.new;
       holds = subst P is
-          (c.trace_all-status.ensures.traced zero c.in-Ok.ensures.last (subst N (sym is) (new_links c.args.set.now c.args.limits head made.1.terminals made.1.new)));
+          (c.trace_all.ensures.traced zero c.in-Ok.ensures.last (subst N (sym is) (new_links c.args.set.now c.args.limits head made.1.terminals made.1.new)));
     }
 
 pub returns-in-Ok-clause-in_part : goal.returns-in-Ok-clause-in_part
@@ -49,10 +49,10 @@ returns-in-Ok-clause-in_part g c one =
     let is = made.2 ∙ ap begun made.1.set in
     let N : Playing → Type 0 = λ p. AreNewLinks c.args.set.now head p in
     let P : Playing → Type 0 =
-    λ p. IsGroupTracedInPart c.args.every (lines_of c.args.text.now) c.args.set.now (map plain_group_said c.args.script.now.commands.items) (g.T.Write.contents c.args.trace.now) (g.T.Write.contents c.trace_all-status.new.trace) p in
+    λ p. IsGroupTracedInPart c.args.every (lines_of c.args.text.now) c.args.set.now (map plain_group_said c.args.script.now.commands.items) (g.T.Write.contents c.args.trace.now) (g.T.Write.contents c.trace_all.new.trace) p in
     record {
       terminals = made.1.terminals;
       new = made.1.new;
       holds = subst P is
-          (c.trace_all-status.ensures.in_part one c.in-Ok.ensures.last (subst N (sym is) (new_links c.args.set.now c.args.limits head made.1.terminals made.1.new)));
+          (c.trace_all.ensures.in_part one c.in-Ok.ensures.last (subst N (sym is) (new_links c.args.set.now c.args.limits head made.1.terminals made.1.new)));
     }

@@ -2,7 +2,8 @@
 use Rattle.std.proofs.Common.{Bool, List}
 use Rattle.turn_code.specs.declared.draft.Draft.{Draft}
 use Rattle.script_group.specs.GroupRuns.{playing_of}
-use Rattle.script_seen.specs.TracedGroups.{Reached, AreAtLinks, books_of}
+use Rattle.script_seen.specs.TracedGroups.{Reached, books_of}
+use Rattle.script_seen.specs.TracingGroups.{AreAtLinks}
 use Rattle.script_seen.proofs.LinkTraces.{LinksTraced}
 use Rattle.script_seen.proofs.traced_groups.trace_links.Given as goal
 
