@@ -1,9 +1,10 @@
 -- What is traced of a link set's run, one command more.
-use Rattle.std.proofs.Common.{◌≡◌, ◌∙◌, ℕ, ◌+◌, ◌<◌, ◌≤◌, ◌==◌, Bool, true, false, List, [], ◌∷◌, ◌++◌, length, map, take, drop, get_or, Option, None, Some, codes, arith, refl, sym, ap, subst}
+use Rattle.std.proofs.Common.{◌≡◌, ◌∙◌, ℕ, suc, ◌+◌, ◌<◌, ◌≤◌, ◌==◌, Bool, true, false, List, [], ◌∷◌, ◌++◌, length, map, take, drop, get_or, Option, None, Some, codes, eqb-true, arith, refl, sym, ap, subst}
 use Rattle.std.specs.Prelude.{All, slice_get, option_map}
 use Rattle.std.specs.Fmt.{decimal}
 use Rattle.std.specs.Io.KnownBytes.{Appends}
 use Rattle.std.proofs.KnownBytes.{Appends-nil, Appends-trans}
+use Rattle.std.proofs.lemmas.Bool.{false≢true}
 use Rattle.std.proofs.lemmas.List.{length-map}
 use Rattle.std.proofs.lemmas.List.Elements.{All-nil, All-cons, All-head, All-tail}
 use Rattle.std.proofs.lemmas.Option.{slice_get-map, none-some, same_Some}
@@ -67,11 +68,11 @@ clock_nowhere p is = no_clock (books_of p) (slice_get-map book_of p.set.links 0 
 -- the line that names a link is written where anything is behind it
 pub under_none : (link : ℕ) (text : List ℕ) (old : Option (List ℕ)) → (length text == 0) ≡ true → Appends old old (under_name link text)
 under_none link [] old is = Appends-nil old
-under_none link (x ∷ text) old is = cc
+under_none link (x ∷ text) old is = absurd (let e : suc (length text) ≡ 0 = eqb-true (length (x ∷ text)) 0 is in omega (arith, e))
 
 pub under_some : (link : ℕ) (text name : List ℕ) (old mid new : Option (List ℕ)) → (length text == 0) ≡ false → name ≡ line_of (codes "on " ++ decimal link)
     → Appends old mid name → Appends mid new text → Appends old new (under_name link text)
-under_some link [] name old mid new is same named more = cc
+under_some link [] name old mid new is same named more = absurd (false≢true (sym is))
 under_some link (x ∷ text) name old mid new is same named more =
     let N : List ℕ → Type 0 = λ bs. Appends old mid bs in
     Appends-trans old mid new (line_of (codes "on " ++ decimal link)) (x ∷ text) (subst N same named) more

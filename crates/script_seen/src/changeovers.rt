@@ -96,16 +96,24 @@ fn digits_in(line: &[u8]) -> Option<&[u8]>
     line.strip_prefix(b"ok ")
 }
 
-/// The octets that hexadecimal digits are, none where they are no such digits.
+/// The octets that the hexadecimal digits of a text are, none where it has no such digits.
+fn octets_of_text(alloc: Global, text: &str) -> Result<Vec<u8>, AllocError>
+    ensures { IfOk result (λ v. v.items ≡ unwrap_or (octets_of text.now) []) }
+{
+    let read = octets_in(alloc, text)?;
+    match read {
+        Some(octets) => Ok(octets),
+        None => Ok(Vec::new(alloc)),
+    }
+}
+
+/// The same of digits that aren't known to be text.
 fn octets_of(alloc: Global, digits: &[u8]) -> io::Result<Vec<u8>>
     ensures { IfOk result (λ v. v.items ≡ unwrap_or (octets_of digits.now) []) }
 {
-    let Ok(digits) = str::from_utf8(digits) else {
-        return Err(lost());
-    };
-    match octets_in(alloc, digits)? {
-        Some(octets) => Ok(octets),
-        None => Ok(Vec::new(alloc)),
+    match str::from_utf8(digits) {
+        Ok(text) => Ok(octets_of_text(alloc, text)?),
+        Err(_) => Err(lost()),
     }
 }
 
