@@ -122,7 +122,8 @@ there_at every d _ _ (suc n) x (one_at r t rs ts same at rest) is =
 -- it came further
 came_on : (every : Bool) (d : Draft) (rs : List Reached) (ts : List Tracer) (n : ℕ) (r : Reached) (x : Tracer) → x.every ≡ every → IsAtLink d r x
     → AreAtLinks every d rs ts → AreAtLinks every d (slice_set rs n r) (slice_set ts n x)
-came_on every d _ _ n r x same at none_at = none_at
+came_on every d _ _ zero r x same at none_at = none_at
+came_on every d _ _ (suc n) r x same at none_at = none_at
 came_on every d _ _ zero r x same at (one_at q t rs ts before there rest) = one_at r x rs ts same at rest
 came_on every d _ _ (suc n) r x same at (one_at q t rs ts before there rest) = one_at q t (slice_set rs n r) (slice_set ts n x) before there (came_on every d rs ts n r x same at rest)
 

@@ -142,6 +142,7 @@ pub data AreReached (d : Draft) : List Reached → List Ledger → Type 0 where
 abbrev pub books_of : Playing → List Ledger
 books_of p = map (λ k. k.terminal.processes.book) p.set.links
 
+-- the ticks gone by on a set, whose links have one clock
 abbrev pub clock_in : List Ledger → ℕ
 clock_in [] = 0
 clock_in (b ∷ bs) = (state_of b).timers.clock

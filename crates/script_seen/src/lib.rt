@@ -39,7 +39,7 @@ pub use script_links::{
 pub use terminals::show_terminal;
 pub use timing::delay_of;
 pub use traced_books::trace_book;
-pub use traced_groups::trace_group;
+pub use traced_groups::{clock_of, trace_group};
 pub use traced_terminals::trace_terminal;
 pub use turn_machine::Job;
 pub use turns::{Ended, is_dull, loss_at, stays_in};

@@ -118,8 +118,8 @@ fn open_tracers(
     Ok(tracers)
 }
 
-/// The ticks gone by on a link set.
-fn clock_of(player: &GroupPlayer) -> u64
+/// The ticks gone by on a link set, whose links have one clock.
+pub fn clock_of(player: &GroupPlayer) -> u64
     ensures { result ≡ clock_in (books_of (playing_of player.now)) }
 {
     match player.group.book(0) {
