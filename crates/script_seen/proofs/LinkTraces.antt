@@ -1,6 +1,6 @@
 -- What is traced of the links of a set, link by link.
 use Rattle.std.proofs.Common.{◌≡◌, ◌∙◌, ℕ, zero, suc, ◌+◌, ◌<◌, ◌≤◌, Bool, List, [], ◌∷◌, ◌++◌, append-nil, append_assoc, length, map, slice_set, Option, None, Some, arith, refl, sym, ap, subst}
-use Rattle.std.specs.Prelude.{⊤, slice_get, All}
+use Rattle.std.specs.Prelude.{slice_get, All}
 use Rattle.std.specs.Io.KnownBytes.{Appends}
 use Rattle.std.proofs.KnownBytes.{Appends-nil, Appends-trans}
 use Rattle.std.proofs.lemmas.List.Elements.{All-nil, All-cons, All-head, All-tail, All-append}
@@ -31,7 +31,7 @@ some_text every d l (suc n) (r ∷ rs) [] = []
 some_text every d l (suc n) (r ∷ rs) (b ∷ bs) = under_name l (told_text every d r.core (since r.place b)) ++ some_text every d (l + 1) n rs bs
 
 abbrev pub AreSomeReached : Draft → ℕ → List Reached → List Ledger → Type 0
-AreSomeReached d zero rs bs = ⊤
+AreSomeReached d zero rs bs = Unit {0}
 AreSomeReached d (suc n) [] bs = ⊥
 AreSomeReached d (suc n) (r ∷ rs) [] = ⊥
 AreSomeReached d (suc n) (r ∷ rs) (b ∷ bs) = IsReached d r b × AreSomeReached d n rs bs

@@ -128,7 +128,19 @@ no_expectation c text is not =
 
 expects_nothing : (c : PlainGroupCommand) (p : Playing) (printed : List (List ℕ)) (q : Playing) → is_expectation c ≡ true → Obeys c p printed q → ⊥
 expects_nothing (group.expected text) p printed q is obeys = obeys
-expects_nothing c p printed q is obeys = cc
+expects_nothing (group.order o) p printed q is obeys = absurd (false≢true is)
+expects_nothing (group.unit octets) p printed q is obeys = absurd (false≢true is)
+expects_nothing (group.line octets) p printed q is obeys = absurd (false≢true is)
+expects_nothing (group.out n) p printed q is obeys = absurd (false≢true is)
+expects_nothing (group.ticks n) p printed q is obeys = absurd (false≢true is)
+expects_nothing (group.state process) p printed q is obeys = absurd (false≢true is)
+expects_nothing (group.shown process variable) p printed q is obeys = absurd (false≢true is)
+expects_nothing (group.on link) p printed q is obeys = absurd (false≢true is)
+expects_nothing (group.sending octets) p printed q is obeys = absurd (false≢true is)
+expects_nothing (group.bound octets) p printed q is obeys = absurd (false≢true is)
+expects_nothing (group.message octets) p printed q is obeys = absurd (false≢true is)
+expects_nothing (group.admitting way) p printed q is obeys = absurd (false≢true is)
+expects_nothing (group.own word) p printed q is obeys = absurd (false≢true is)
 
 -- a command that is no expectation was obeyed, and told
 pub set_traced : (every : Bool) (lines : List PlainLine) (d : Draft) (first : Playing) (before : List PlainGroupSaid) (said : PlainGroupSaid)
