@@ -1,6 +1,7 @@
 -- What is told of messages of changeover by the line that was printed, as what is said and answered.
-use Rattle.std.proofs.Common.{◌≡◌, ◌∙◌, ℕ, zero, suc, ◌%◌, ◌<◌, ◌==◌, true, false, List, [], ◌∷◌, ◌++◌, drop, get_or, Option, None, Some, Result, arith, refl, sym, ap, subst}
+use Rattle.std.proofs.Common.{◌≡◌, ◌∙◌, ℕ, zero, suc, ◌%◌, ◌<◌, ◌==◌, List, [], ◌∷◌, ◌++◌, drop, get_or, Option, None, Some, Result, arith, refl, sym, ap, subst}
 use Rattle.std.specs.Prelude.{◌↔◌, codes, unwrap_or}
+use Rattle.std.proofs.lemmas.Bool.{false≢true}
 use Rattle.std.proofs.lemmas.Option.{none-some}
 use Rattle.hex.specs.Hex.{encode_upper, IsBytes}
 use Rattle.hex.specs.declared.error.FromHexError.{FromHexError}
@@ -70,10 +71,10 @@ said_back sif digits are is =
     ap (λ (ds : List ℕ). unwrap_or (octets_of ds) []) (sym same) ∙ digits_back sif are
 
 too_short : (digits : List ℕ) → codes "ok" ≡ codes "ok " ++ digits → ⊥
-too_short digits is = let e : [] ≡ 32 ∷ digits = ap (drop 2) is in cc
+too_short digits is = false≢true (ap (λ (xs : List ℕ). get_or xs 2 0 == 32) is)
 
 another : (why digits : List ℕ) → codes "refused " ++ why ≡ codes "ok " ++ digits → ⊥
-another why digits is = let e : true ≡ false = ap (λ (xs : List ℕ). get_or xs 0 0 == 114) is in cc
+another why digits is = false≢true (ap (λ (xs : List ℕ). get_or xs 0 0 == 111) is)
 
 -- the line of an answer
 reply_read : (r : Option Changeover) (line octets : List ℕ) → IsReplied r line → AreSaid line octets → IsRead octets r

@@ -124,7 +124,7 @@ told_behind every lines d said q last rs old mid later new tracers clock told no
 no_expectation : (c : PlainGroupCommand) (text : List ℕ) → c ≡ group.expected text → is_expectation c ≡ false → ⊥
 no_expectation c text is not =
     let P : PlainGroupCommand → Type 0 = λ x. is_expectation x ≡ false in
-    let contrary : true ≡ false = subst P is not in cc
+    absurd (false≢true (sym (subst P is not)))
 
 expects_nothing : (c : PlainGroupCommand) (p : Playing) (printed : List (List ℕ)) (q : Playing) → is_expectation c ≡ true → Obeys c p printed q → ⊥
 expects_nothing (group.expected text) p printed q is obeys = obeys
