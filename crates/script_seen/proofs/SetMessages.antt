@@ -148,3 +148,29 @@ told_so clock (group.message octets) p q lines last text obeys told =
     heard_so clock octets p.set q.set obeys.text text obeys.answers.set (subst L obeys.one told)
 told_so clock (group.admitting way) p q lines last text obeys told = told
 told_so clock (group.own w) p q lines last text obeys told = word_so clock w p q lines last text obeys told
+
+-- ---- what is told, as the code comes by it
+
+pub last_as : (clock : ℕ) (last : Option (List ℕ)) (line given text : List ℕ) → last ≡ Some line → given ≡ line → IsSaidTold clock given text
+    → IsLastTold clock last text
+last_as clock last line given text is same told =
+    let S : List ℕ → Type 0 = λ it. IsSaidTold clock it text in
+    let L : Option (List ℕ) → Type 0 = λ it. IsLastTold clock it text in
+    subst L (sym is) (subst S same told)
+
+pub last_none : (clock : ℕ) (last : Option (List ℕ)) (text : List ℕ) → last ≡ None → text ≡ [] → IsLastTold clock last text
+last_none clock last text is empty = let L : Option (List ℕ) → Type 0 = λ it. IsLastTold clock it text in subst L (sym is) empty
+
+pub fail_as : (clock : ℕ) (w : GroupWord) (last : Option (List ℕ)) (text : List ℕ) → w ≡ words.Fail → IsLastTold clock last text → IsWordTold clock w last text
+fail_as clock w last text is told = let W : GroupWord → Type 0 = λ it. IsWordTold clock it last text in subst W (sym is) told
+
+pub message_as : (clock : ℕ) (c : PlainGroupCommand) (octets given : List ℕ) (last : Option (List ℕ)) (text : List ℕ) → c ≡ group.message octets → given ≡ octets
+    → AreBothTold clock given last text → IsToldBy clock c last text
+message_as clock c octets given last text is same told =
+    let B : List ℕ → Type 0 = λ it. AreBothTold clock it last text in
+    let C : PlainGroupCommand → Type 0 = λ it. IsToldBy clock it last text in
+    subst C (sym is) (subst B same told)
+
+pub word_as : (clock : ℕ) (c : PlainGroupCommand) (w : GroupWord) (last : Option (List ℕ)) (text : List ℕ) → c ≡ group.own w → IsWordTold clock w last text
+    → IsToldBy clock c last text
+word_as clock c w last text is told = let C : PlainGroupCommand → Type 0 = λ it. IsToldBy clock it last text in subst C (sym is) told
