@@ -3,6 +3,7 @@ use Rattle.std.proofs.Common.{◌≡◌, ◌∙◌, ℕ, zero, suc, ◌+◌, ◌
 use Rattle.std.specs.Prelude.{slice_get, All}
 use Rattle.std.specs.Io.KnownBytes.{Appends}
 use Rattle.std.proofs.KnownBytes.{Appends-nil, Appends-trans}
+use Rattle.std.proofs.lemmas.List.{length_push}
 use Rattle.std.proofs.lemmas.List.Elements.{All-nil, All-cons, All-head, All-tail, All-append}
 use Rattle.std.proofs.lemmas.Option.{none-some, same_Some}
 use Rattle.turn_code.specs.declared.draft.Draft.{Draft}
@@ -216,13 +217,21 @@ all_fresh every d (b ∷ bs) (t ∷ ts) many new fresh =
     one_at (reached_at b) t (map reached_at bs) ts f.every_is (fresh_at every d b t (All-head (IsNewBook d) b bs new) f)
     (all_fresh every d bs ts (omega (arith, many)) (All-tail (IsNewBook d) b bs new) (All-tail (IsFresh every d) t ts fresh))
 
-pub fresh_more : (every : Bool) (d : Draft) (ts : List Tracer) (t : Tracer) → All (IsFresh every d) ts → IsFresh every d t → All (IsFresh every d) (ts ++ t ∷ [])
+fresh_more : (every : Bool) (d : Draft) (ts : List Tracer) (t : Tracer) → All (IsFresh every d) ts → IsFresh every d t → All (IsFresh every d) (ts ++ t ∷ [])
 fresh_more every d ts t all this = All-append (IsFresh every d) ts (t ∷ []) all (All-cons (IsFresh every d) t [] this (All-nil (IsFresh every d)))
-
-pub none_fresh : (every : Bool) (d : Draft) → All (IsFresh every d) []
-none_fresh every d = All-nil (IsFresh every d)
 
 -- so many fresh tracers
 pub record AreFresh (every : Bool) (d : Draft) (n : ℕ) (ts : List Tracer) : Type 0 where
   pub fresh : All (IsFresh every d) ts
   pub many : length ts ≡ n
+
+pub fresh_begins : (every : Bool) (d : Draft) (ts : List Tracer) → ts ≡ [] → AreFresh every d 0 ts
+fresh_begins every d ts is =
+    let P : List Tracer → Type 0 = λ l. AreFresh every d 0 l in subst P (sym is) (record { fresh = All-nil (IsFresh every d); many = refl })
+
+pub fresh_on : (every : Bool) (d : Draft) (n : ℕ) (ts us : List Tracer) (t : Tracer) → us ≡ ts ++ t ∷ [] → AreFresh every d n ts → IsFresh every d t
+    → AreFresh every d (n + 1) us
+fresh_on every d n ts us t is so_far this =
+    let P : List Tracer → Type 0 = λ l. AreFresh every d (n + 1) l in
+    let long : length (ts ++ t ∷ []) ≡ length ts + 1 = length_push ts t in
+    subst P (sym is) (record { fresh = fresh_more every d ts t so_far.fresh this; many = long ∙ ap (λ (m : ℕ). m + 1) so_far.many })
