@@ -74,12 +74,7 @@ fn message_line(
 
 /// The line of a message of changeover that came in or went out at a tick: its heading, the link of which it speaks, and the number of the message
 /// that was accepted last there. None where the octets are no such message.
-fn message_text(
-    alloc: Global,
-    clock: u64,
-    way: &str,
-    octets: &[u8],
-) -> Result<Vec<u8>, AllocError>
+fn message_text(alloc: Global, clock: u64, way: &str, octets: &[u8]) -> Result<Vec<u8>, AllocError>
     ensures { IfOk result (λ v. IsMessageTold clock way.now octets.now v.items) }
 {
     match read_changeover(octets) {
