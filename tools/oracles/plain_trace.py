@@ -2,7 +2,7 @@
 """What happens as a script runs, by the plain players of plain_play.py, plain_term.py and plain_group.py, which were written apart from the program: a line for
 each event, a chart, and what of the text was taken.
 
-usage: tools/oracles/plain_trace.py SET SCRIPT [--every]      prints the trace of a script of a book or of a terminal
+usage: tools/oracles/plain_trace.py SET SCRIPT [--every]      prints the trace of a script
        tools/oracles/plain_trace.py SET SCRIPT --chart [--turns A..B]     prints it as a chart in mscgen's language
        tools/oracles/plain_trace.py SET SCRIPT --coverage     prints which transitions, answers and lines of the text were taken, in lcov's format
        tools/oracles/plain_trace.py SET SCRIPT --thrown       prints which signals were thrown away in which states, and how often, in the order of the first time
@@ -15,6 +15,7 @@ SET and SCRIPT are as plain_term.py has them; the status is that of the script. 
     T skip ACTOR STATE/SIG v .. from SENDER                 with --every; a timer has no sender
     T turn N ACTOR STATE/SIG v .. from SENDER, STATE count C of BUDGET, EFFECT .., VAR := V ..
 
+In a script of a link set what happens on a link stands behind `on L`, link by link; in front of that stands what messages of changeover said: T heard COO link L fsn N, T said ...
 A turn has a line as it ends, with its number from 0 as it began, in the order of all turns. Without --every one that keeps its state and has no effect has none.
 EFFECT is `SIG v .. to ACTOR`, with `lost WHY` behind it where nobody got it, `set TIMER at T` or `reset TIMER`; of variables those stand there that the turn changed."""
 import collections
@@ -344,14 +345,72 @@ def run_terminal(text, script, seen, say, usual):
     return 0
 
 
+HEADINGS = {0x11: "COO", 0x21: "COA", 0x12: "ECO", 0x22: "ECA"}
+
+
+def changeover_line(clock, way, sif):
+    """The line of a message of changeover, if octets are one."""
+    found = plain_group.changeover_in(sif)
+    if found is None:
+        return []
+    (_, _, selection), heading, fsn = found
+    return [words(str(clock), way, HEADINGS[heading], f"link {selection}", "" if fsn is None else f"fsn {fsn}")]
+
+
+# Commands of a link set's script that only ask, or turn to another link.
+QUESTIONS = ("state", "value", "expect", "on", "table", "held", "unsure", "link")
+
+
+def changeover_lines(clock, word, rest, said):
+    """What messages of changeover said by a command: one that came in, and what the line that was printed has of the order or the answer."""
+    heard = changeover_line(clock, "heard", rest[0]) if word == "message" else []
+    answers = word in ("message", "fail") and said[0].startswith("ok ")
+    return heard + (changeover_line(clock, "said", bytes.fromhex(said[0][3:])) if answers else [])
+
+
+def run_group(text, script, seen, say, usual):
+    player, last, lines = plain_group.Player(text, *plain_group.head(script), *usual), None, lines_of(script)
+    links = player.group.links
+    seen.book = links[0].book
+    commands = [(at, it[0], plain_group.command(it)) for at, it in plain_term.spoken(script)[1:]]
+    lacking = plain_term.lacking_in(seen.book)
+    if lacking:
+        say(f"refused X2 NoName {lacking[0]}")
+        return 2
+    for link in links:
+        link.book.seen = Seen(text, seen.every)
+    for at, spoken, (word, *rest) in commands:
+        if word == "expect":
+            if rest[0] != last:
+                say(f"failed line {at}")
+                return 1
+            continue
+        if spoken not in QUESTIONS:
+            seen.lines.append(f"> {lines[at]}")
+        try:
+            said = player.do(word, *rest)
+        except Refused as why:
+            said = [f"refused {why}"]
+        for last in said:
+            say(last)
+        seen.lines += changeover_lines(links[0].book.clock, word, rest, said)
+        for number, link in enumerate(links):
+            if link.book.seen.lines:
+                seen.lines += [f"on {number}", *link.book.seen.lines]
+                link.book.seen.lines = []
+        # (of which it is asked whether its journal began anew)
+        seen.book = max((it.book for it in links), key=lambda it: it.events)
+    return 0
+
+
 def seen_of(text, script, every=False, say=lambda line: None, usual=()):
     """What is seen of a script on a text, and the status; with these N1 and N2 where a terminal's script says none."""
-    if plain_group.is_group(script) if hasattr(plain_group, "is_group") else False:
-        raise SystemExit("scripts of link sets have no trace here")
     seen = SeenBook.seen = Seen(text, every)
     plain = plain_play.Turn, plain_term.Book
     plain_play.Turn, plain_term.Book = SeenTurn, SeenBook
     try:
+        if plain_group.head(script) is not None:
+            return seen, run_group(text, script, seen, say, usual)
         if plain_term.is_terminal(script):
             return seen, run_terminal(text, script, seen, say, usual)
         return seen, run_book(text, script, seen, say)

@@ -3,6 +3,8 @@ pub mod Kinds
 pub mod Told
 pub mod Traced
 pub mod TracedKinds
+pub mod TracedGroups
+pub mod TracingGroups
 pub mod Following
 pub mod Watched
 pub mod WatchedKinds

@@ -2,6 +2,7 @@
 #![tactic(auto)]
 
 mod books;
+mod changeovers;
 mod events;
 mod fronts;
 mod groups;
@@ -9,6 +10,7 @@ mod pushing;
 mod terminals;
 mod timing;
 mod traced_books;
+mod traced_groups;
 mod traced_terminals;
 mod tracing;
 mod turns;
@@ -37,6 +39,7 @@ pub use script_links::{
 pub use terminals::show_terminal;
 pub use timing::delay_of;
 pub use traced_books::trace_book;
+pub use traced_groups::{clock_of, trace_group};
 pub use traced_terminals::trace_terminal;
 pub use turn_machine::Job;
 pub use turns::{Ended, is_dull, loss_at, stays_in};
