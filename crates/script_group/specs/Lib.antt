@@ -14,7 +14,3 @@ pub use Rattle.link_group.specs.Reading
 pub use Rattle.link_group.specs.Links
 pub use Rattle.link_group.specs.group_members_types
 pub use Rattle.link_group.specs.New
-pub use Rattle.link_group.specs.Changing
-pub use Rattle.group_changeover.specs.Changeovers
-pub use Rattle.group_changeover.specs.declared as group_changeover_types
-pub use Rattle.su_octets.specs.Bits

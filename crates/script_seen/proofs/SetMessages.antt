@@ -11,16 +11,16 @@ use Rattle.script_links.specs.GroupCommands.{PlainGroupCommand}
 use Rattle.script_links.specs.GroupCommands as group
 use Rattle.script_links.specs.declared.words.GroupWord.{GroupWord}
 use Rattle.script_links.specs.declared.words.GroupWord.TheVariants as words
-use Rattle.script_group.specs.Bits.{AreOctets}
-use Rattle.script_group.specs.Changeovers.{behind_label, IsKind, without_spare, Reads, Says}
-use Rattle.script_group.specs.Changing.{IsRead, reply_to, fail_fault, order_at}
+use Rattle.su_octets.specs.Bits.{AreOctets}
+use Rattle.group_changeover.specs.Changeovers.{behind_label, IsKind, without_spare, Reads, Says}
+use Rattle.link_group.specs.Changing.{IsRead, reply_to, fail_fault, order_at}
 use Rattle.script_group.specs.Set.{LinkSet}
 use Rattle.script_group.specs.TermRuns.{latest}
 use Rattle.script_group.specs.GroupAnswers.{Playing, octets_line, Fails, fails_refused, fails_begins, IsReplied, IsHeard, Obeys}
-use Rattle.script_group.specs.group_changeover_types.changeover.Changeover.{Changeover}
-use Rattle.script_group.specs.group_changeover_types.changeover.Kind.{Kind}
-use Rattle.script_group.specs.group_changeover_types.changeover.Kind.TheVariants as kind
-use Rattle.script_group.specs.group_changeover_types.errors.FailError.{FailError}
+use Rattle.group_changeover.specs.declared.changeover.Changeover.{Changeover}
+use Rattle.group_changeover.specs.declared.changeover.Kind.{Kind}
+use Rattle.group_changeover.specs.declared.changeover.Kind.TheVariants as kind
+use Rattle.group_changeover.specs.declared.errors.FailError.{FailError}
 use Rattle.script_seen.specs.TracedGroups.{message_text, heard_text, said_text, order_unless, IsChangeoverTold}
 use Rattle.script_seen.specs.TracingGroups.{IsMessageTold, AreSaid, says_none, says_some, IsSaidTold, IsLastTold, AreBothTold, IsWordTold, IsToldBy}
 

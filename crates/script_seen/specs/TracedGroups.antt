@@ -9,11 +9,11 @@ use Rattle.plain_laws.specs.Limits.{MOST_PORT, MOST_ENVIRONMENT, MOST_JOURNAL}
 use Rattle.actor_machine.specs.Core.{Core}
 use Rattle.actor_machine.specs.Kept.{opened_book}
 use Rattle.actor_machine.specs.Ledger.{Ledger, runs, replay, state_of}
-use Rattle.script_group.specs.group_changeover_types.changeover.Changeover.{Changeover}
-use Rattle.script_group.specs.group_changeover_types.changeover.Kind.{Kind}
-use Rattle.script_group.specs.group_changeover_types.changeover.Kind.TheVariants as kind
-use Rattle.script_group.specs.group_changeover_types.errors.FailError.{FailError}
-use Rattle.script_group.specs.Changing.{IsRead, reply_to, fail_fault, order_at}
+use Rattle.group_changeover.specs.declared.changeover.Changeover.{Changeover}
+use Rattle.group_changeover.specs.declared.changeover.Kind.{Kind}
+use Rattle.group_changeover.specs.declared.changeover.Kind.TheVariants as kind
+use Rattle.group_changeover.specs.declared.errors.FailError.{FailError}
+use Rattle.link_group.specs.Changing.{IsRead, reply_to, fail_fault, order_at}
 use Rattle.script_links.specs.GroupCommands.{PlainGroupCommand}
 use Rattle.script_links.specs.GroupCommands as group
 use Rattle.script_links.specs.GroupScripts.{PlainGroupSaid}

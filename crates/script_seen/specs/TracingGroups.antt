@@ -3,8 +3,8 @@ use Rattle.std.specs.Prelude.{◌≡◌, ℕ, Bool, true, false, List, [], ◌�
 use Rattle.std.specs.Prelude.{codes, unwrap_or}
 use Rattle.std.specs.Io.KnownBytes.{Appends}
 use Rattle.turn_code.specs.declared.draft.Draft.{Draft}
-use Rattle.script_group.specs.group_changeover_types.changeover.Changeover.{Changeover}
-use Rattle.script_group.specs.Changing.{IsRead}
+use Rattle.group_changeover.specs.declared.changeover.Changeover.{Changeover}
+use Rattle.link_group.specs.Changing.{IsRead}
 use Rattle.script_links.specs.GroupCommands.{PlainGroupCommand}
 use Rattle.script_links.specs.GroupCommands as group
 use Rattle.script_links.specs.GroupScripts.{PlainGroupSaid}

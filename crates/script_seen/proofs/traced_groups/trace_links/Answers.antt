@@ -1,6 +1,6 @@
-use Rattle.std.proofs.Common.{ℕ, ◌≡◌, ◌≤◌, length, rules, refl, sym, ◌∙◌}
+use Rattle.std.proofs.Common.{◌≡◌, ◌<◌, ◌≤◌, length, get_or, rules, ◌∙◌}
 use Rattle.std.proofs.lemmas.List.{length-map}
-use Rattle.std.proofs.lemmas.Option.{slice_get_read}
+use Rattle.std.proofs.lemmas.Option.{slice_get-get_or}
 use Rattle.script_group.specs.GroupRuns.{playing_of}
 use Rattle.script_group.specs.Reading.{book_of}
 use Rattle.script_seen.specs.TracedGroups.{books_of}
@@ -14,8 +14,9 @@ pub loop-link-preserved : goal.loop-link-preserved
 loop-link-preserved g c every d rs at =
     let ts = c.loop-link.tracers in
     let n = c.loop-link.link in
-    one_link every d rs (books_of (playing_of c.args.player.now)) n ts c.index-tracers-link.result c.trace_one.new.tracer _ _ _
-    (slice_get_read ts (length ts) n c.index-tracers-link.result refl (search rules) c.index-tracers-link.is) c.in_ok-trace_one.ensures.every
+    let within : n < length ts = search rules in
+    one_link every d rs (books_of (playing_of c.args.player.now)) n ts (get_or ts n c.index-tracers-link.result) c.trace_one.new.tracer _ _ _
+    (slice_get-get_or ts n c.index-tracers-link.result within) c.in_ok-trace_one.ensures.every
     (λ r there. c.in_ok-trace_one.ensures.traced d r there) (c.loop-link.invariant every d rs at)
 
 pub returns : goal.returns

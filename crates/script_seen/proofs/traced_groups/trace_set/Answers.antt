@@ -1,4 +1,4 @@
-use Rattle.std.proofs.Common.{List, map, ap, subst, ◌∙◌}
+use Rattle.std.proofs.Common.{List, map, ap, sym, subst, ◌∙◌}
 use Rattle.script_lines.specs.Lines.{PlainLine, plain_line, lines_of}
 use Rattle.script_links.specs.GroupScripts.{plain_group_said}
 use Rattle.script_links.specs.declared.group_script.GroupSaid.{GroupSaid}
@@ -31,7 +31,7 @@ returns-clause-traced g c zero none new =
     subst C c.deref.ensures.value
     (subst L (ap (map plain_line) c.deref-2.ensures.value ∙ c.in_ok-lines.ensures)
     (c.in_ok-status.ensures.traced zero none c.args.every c.args.set.now
-    (subst A c.deref_mut.ensures.value (c.in_ok-tracers.ensures (books_of p) new.number new.new))))
+    (subst A (sym c.deref_mut.ensures.value) (c.in_ok-tracers.ensures (books_of p) new.number new.new))))
 
 pub returns-clause-in_part : goal.returns-clause-in_part
 returns-clause-in_part g c one none new =
@@ -44,4 +44,4 @@ returns-clause-in_part g c one none new =
     subst C c.deref.ensures.value
     (subst L (ap (map plain_line) c.deref-2.ensures.value ∙ c.in_ok-lines.ensures)
     (c.in_ok-status.ensures.in_part one none c.args.every c.args.set.now
-    (subst A c.deref_mut.ensures.value (c.in_ok-tracers.ensures (books_of p) new.number new.new))))
+    (subst A (sym c.deref_mut.ensures.value) (c.in_ok-tracers.ensures (books_of p) new.number new.new))))
