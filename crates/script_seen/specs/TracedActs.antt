@@ -1,11 +1,20 @@
 -- What is traced as something happens to a link, step by step.
-use Rattle.std.specs.Prelude.{◌≡◌, ◌≤◌, true, List, ◌++◌, ℕ, Option, codes}
+use Rattle.std.specs.Prelude.{◌≡◌, ◌≤◌, Bool, true, List, ◌++◌, ℕ, Option, codes}
+use Rattle.plain_laws.specs.Limits.{MOST_PORT, MOST_ENVIRONMENT, MOST_JOURNAL}
+use Rattle.turn_code.specs.declared.draft.Draft.{Draft}
+use Rattle.actor_machine.specs.Kept.{opened_book}
 use Rattle.actor_machine.specs.Ledger.{Ledger, next, state_of}
 use Rattle.script_group.specs.Lines.{line_of}
 use Rattle.script_seen.specs.Following.{IsFollowed}
 use Rattle.script_seen.specs.Shown.{parted}
 use Rattle.script_seen.specs.Traced.{since, are_in_step}
+use Rattle.script_seen.specs.TracedKinds.{IsAtStart}
 use Rattle.script_seen.specs.declared.tracing.Tracer.{Tracer}
+
+-- a tracer of a terminal over a set, before anything happened
+pub record IsNewTracer (d : Draft) (every : Bool) (t : Tracer) : Type 0 where
+  pub every_is : t.every ≡ every
+  pub start : IsAtStart (opened_book d MOST_PORT MOST_ENVIRONMENT MOST_JOURNAL) t
 
 -- what has happened to a book since is told, none of it lost, and what is written grew by that;
 -- behind it a tracer is in step with the book
