@@ -24,6 +24,7 @@ import sys
 
 sys.path += map(str, pathlib.Path(__file__).resolve().parents[1].glob("*"))
 
+import plain_filter
 import plain_group
 import plain_play
 import plain_term
@@ -416,6 +417,25 @@ def seen_of(text, script, every=False, say=lambda line: None, usual=()):
         return seen, run_book(text, script, seen, say)
     finally:
         plain_play.Turn, plain_term.Book = plain
+
+
+def line_seen(text, cyclic, octets, orders, every=False):
+    """What is seen of an end of a link on a line, as these octets come in and by these orders."""
+    seen = SeenBook.seen = Seen(text, every)
+    plain = plain_play.Turn, plain_term.Book, plain_filter.obeyed
+
+    def obeyed(end, order):
+        word, *rest = order.split(" ")
+        if word not in ("state", "value") and (word != "measure" or rest == ["reset"]):
+            seen.lines.append(f"> {order}")
+        return plain[2](end, order)
+
+    plain_play.Turn, plain_term.Book, plain_filter.obeyed = SeenTurn, SeenBook, obeyed
+    try:
+        plain_filter.run(text, cyclic, octets, orders, lambda _: None)
+    finally:
+        plain_play.Turn, plain_term.Book, plain_filter.obeyed = plain
+    return seen
 
 
 def main(given):
