@@ -426,7 +426,7 @@ def line_seen(text, cyclic, octets, orders, every=False):
 
     def obeyed(end, order):
         word, *rest = order.split(" ")
-        if word not in ("state", "value") and (word != "measure" or rest == ["reset"]):
+        if word not in ("", "state", "value") and (word != "measure" or rest == ["reset"]):
             seen.lines.append(f"> {order}")
         return plain[2](end, order)
 
