@@ -1,10 +1,11 @@
 //! The commands of the program, and the words that they take.
 ghost use Rattle.std.specs.Prelude.{◌≡◌, IfOk, false};
-ghost use Rattle.clap.specs.Words.{rule_of, new_app, new_rule, app_of};
-ghost use Rattle.mtp2_words.specs.Commands.{plain_word, option_word, flag_word, check_command, play_command, soak_command, line_begun, line_command, frame_command, draw_command, diff_command, text_command, play_begun, with_seeing_options, all_commands, program_begun, with_line_options, with_limit_options, with_capture_options, with_measures_option, has_globals, IsCommand};
+ghost use Rattle.clap.specs.Words.{app_of};
+ghost use Rattle.mtp2_words.specs.Commands.{check_command, play_command, soak_command, line_begun, line_command, frame_command, draw_command, diff_command, text_command, play_begun, with_seeing_options, all_commands, program_begun, with_line_options, with_limit_options, with_capture_options, with_measures_option, has_globals, IsCommand};
 
+use crate::arguments::{bare_command, flag_word, option_word, optional_word, plain_word};
 use crate::set_commands::set_command;
-use clap::{Arg, ArgAction, Command};
+use clap::{ArgAction, Command};
 use std::alloc::{AllocError, Global};
 
 /// The program's commands.
@@ -35,61 +36,6 @@ fn program_begun<'a>(alloc: Global) -> Command<'a>
     )
     .version("1.0")
     .subcommand_required(true)
-}
-
-/// A command without words, with what its help says before them and behind them.
-pub(crate) fn bare_command<'a>(
-    alloc: Global,
-    name: &'a str,
-    about: &'a str,
-    after: &'a str,
-) -> Command<'a>
-    ensures { IsCommand (new_app name.entry.now) result }
-{
-    Command::new(alloc, name).about(about).after_help(after)
-}
-
-/// A word that has to be there.
-pub(crate) fn plain_word<'a>(alloc: Global, id: &'a str, help: &'a str) -> Arg<'a>
-    ensures rule { rule_of result ≡ plain_word id.entry.now }
-    ensures local { result.global ≡ false }
-{
-    Arg::new(alloc, id).help(help).required(true)
-}
-
-/// An option with a word behind it.
-pub(crate) fn option_word<'a>(
-    alloc: Global,
-    name: &'a str,
-    value: &'a str,
-    help: &'a str,
-) -> Arg<'a>
-    ensures rule { rule_of result ≡ option_word name.entry.now }
-    ensures local { result.global ≡ false }
-{
-    Arg::new(alloc, name)
-        .long(name)
-        .value_name(value)
-        .help(help)
-}
-
-/// A word that may be there.
-fn optional_word<'a>(alloc: Global, id: &'a str, help: &'a str) -> Arg<'a>
-    ensures rule { rule_of result ≡ new_rule id.entry.now }
-    ensures local { result.global ≡ false }
-{
-    Arg::new(alloc, id).help(help)
-}
-
-/// An option without a word behind it.
-pub(crate) fn flag_word<'a>(alloc: Global, name: &'a str, help: &'a str) -> Arg<'a>
-    ensures rule { rule_of result ≡ flag_word name.entry.now }
-    ensures local { result.global ≡ false }
-{
-    Arg::new(alloc, name)
-        .long(name)
-        .action(ArgAction::SetTrue)
-        .help(help)
 }
 
 /// The command `check`.
