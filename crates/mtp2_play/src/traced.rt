@@ -58,11 +58,7 @@ pub fn open_traced<H: Files<File = File> + Threads + Eprint + AllocGlobal>(
 }
 
 /// An end on a line, before any octet came or went, with what gives it orders and where it tells what becomes of it.
-pub fn traced_desk<T, O, P>(
-    traced: TracedEnd<T>,
-    orders: O,
-    reports: P,
-) -> Desk<TracedEnd<T>, O, P>
+pub fn traced_desk<T, O, P>(traced: TracedEnd<T>, orders: O, reports: P) -> Desk<TracedEnd<T>, O, P>
     ensures terminal { result.terminal ≡ traced }
     ensures silent { IsSilent result.voice }
     ensures orders { result.orders ≡ orders }
