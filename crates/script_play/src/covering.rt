@@ -240,14 +240,8 @@ pub(crate) fn play_covered<S: Read + Drop, R: Read + Drop, T: Write, W: Write, E
             Ok(of_set) => cover_read(alloc, &of_set, usual, name, script, out, writer, errors),
             Err(_) => FAILED,
         },
-        SetWord::Standard => {
-            cover_own(alloc, STANDARD, usual, name, script, out, writer, errors)
-        }
-        SetWord::Q703 => {
-            cover_own(alloc, Q703, usual, name, script, out, writer, errors)
-        }
-        SetWord::Monitors => {
-            cover_own(alloc, MONITORS, usual, name, script, out, writer, errors)
-        }
+        SetWord::Standard => cover_own(alloc, STANDARD, usual, name, script, out, writer, errors),
+        SetWord::Q703 => cover_own(alloc, Q703, usual, name, script, out, writer, errors),
+        SetWord::Monitors => cover_own(alloc, MONITORS, usual, name, script, out, writer, errors),
     }
 }
