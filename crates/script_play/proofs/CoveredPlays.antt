@@ -12,7 +12,9 @@ use Rattle.script_seen.specs.Watched.{Notice, TurnEnd, Throw as OneThrow, ends, 
 use Rattle.script_covered.specs.Texts.{IsCovering, IsLcov}
 use Rattle.script_covered.specs.declared.text_coverage.TextCoverage.{TextCoverage}
 use Rattle.script_play.specs.Played.{IsOnSet, IsRefused, set_refused, script_refused}
-use Rattle.script_play.specs.Seen.{IsToldTo, IsPlayTold, IsPlayToldInPart, turns_run, IsCoveredBy, IsTextCovered, IsTextCoveredInPart, IsSomeCovered, IsSomeCoveredInPart}
+use Rattle.script_play.specs.Seen.{IsToldTo, IsPlayTold, IsPlayToldInPart, turns_run, IsCoveredBy, IsTextCovered, IsTextCoveredInPart, IsPlaySeen, IsPlaySeenInPart}
+use Rattle.script_play.specs.declared.seeing.Wanted.{Wanted}
+use Rattle.script_play.specs.declared.seeing.Wanted.TheVariants.{Coverage}
 
 -- ---- a turn that ends, and what is thrown away
 
@@ -93,28 +95,40 @@ covered_in_part_as name known bytes usual script old new from to is s = record {
 }
 
 -- so of some text
-pub some_covered : (name : List ℕ) (known : Option (List ℕ)) (usual : RoundLimits) (set script old new from to : Option (List ℕ))
-    → IsOnSet set script (IsTextCovered name known usual old new from to) → IsOnSet set script (IsSomeCovered usual old new from to)
-some_covered name known usual set script old new from to s = record {
+as_some : (name : List ℕ) (known : Option (List ℕ)) (usual : RoundLimits) (old new from to : Option (List ℕ)) (d : Draft) (said : List ℕ)
+    → IsTextCovered name known usual old new from to d said → IsPlaySeen usual Coverage old new from to d said
+as_some name known usual old new from to d said c = record { name = name; text = c.text; is_set = c.is_set; told = c.told }
+
+as_some_in_part : (name : List ℕ) (known : Option (List ℕ)) (usual : RoundLimits) (old new from to : Option (List ℕ)) (d : Draft) (said : List ℕ)
+    → IsTextCoveredInPart name known usual old new from to d said → IsPlaySeenInPart usual Coverage old new from to d said
+as_some_in_part name known usual old new from to d said c = record { name = name; text = c.text; is_set = c.is_set; told = c.told }
+
+pub some_covered : (name : List ℕ) (known : Option (List ℕ)) (usual : RoundLimits) (wanted : Wanted) (set script old new from to : Option (List ℕ)) → wanted ≡ Coverage
+    → IsOnSet set script (IsTextCovered name known usual old new from to) → IsOnSet set script (IsPlaySeen usual wanted old new from to)
+some_covered name known usual wanted set script old new from to is s = record {
   draft = s.draft;
   is_set = s.is_set;
-  of_script = record {
-    bytes = s.of_script.bytes;
-    are_known = s.of_script.are_known;
-    holds = record { name = name; text = s.of_script.holds.text; is_set = s.of_script.holds.is_set; told = s.of_script.holds.told };
-  };
+  of_script =
+      let P : Wanted → Type 0 = λ w. IsPlaySeen usual w old new from to s.draft s.of_script.bytes in
+      record {
+        bytes = s.of_script.bytes;
+        are_known = s.of_script.are_known;
+        holds = subst P (sym is) (as_some name known usual old new from to s.draft s.of_script.bytes s.of_script.holds);
+      };
 }
 
-pub some_covered_in_part : (name : List ℕ) (known : Option (List ℕ)) (usual : RoundLimits) (set script old new from to : Option (List ℕ))
-    → IsOnSet set script (IsTextCoveredInPart name known usual old new from to) → IsOnSet set script (IsSomeCoveredInPart usual old new from to)
-some_covered_in_part name known usual set script old new from to s = record {
+pub some_covered_in_part : (name : List ℕ) (known : Option (List ℕ)) (usual : RoundLimits) (wanted : Wanted) (set script old new from to : Option (List ℕ)) → wanted ≡ Coverage
+    → IsOnSet set script (IsTextCoveredInPart name known usual old new from to) → IsOnSet set script (IsPlaySeenInPart usual wanted old new from to)
+some_covered_in_part name known usual wanted set script old new from to is s = record {
   draft = s.draft;
   is_set = s.is_set;
-  of_script = record {
-    bytes = s.of_script.bytes;
-    are_known = s.of_script.are_known;
-    holds = record { name = name; text = s.of_script.holds.text; is_set = s.of_script.holds.is_set; told = s.of_script.holds.told };
-  };
+  of_script =
+      let P : Wanted → Type 0 = λ w. IsPlaySeenInPart usual w old new from to s.draft s.of_script.bytes in
+      record {
+        bytes = s.of_script.bytes;
+        are_known = s.of_script.are_known;
+        holds = subst P (sym is) (as_some_in_part name known usual old new from to s.draft s.of_script.bytes s.of_script.holds);
+      };
 }
 
 pub refused_as : (known : Option (List ℕ)) (bytes : List ℕ) (script old new : Option (List ℕ)) → IfSome known (λ all. bytes ≡ all) → IsRefused (Some bytes) script old new

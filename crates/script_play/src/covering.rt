@@ -144,8 +144,31 @@ fn cover_bytes<R: Read + Drop, T: Write, W: Write, E: Write>(
     }
 }
 
+/// Runs a script on the set of a text of the program's own.
+fn cover_own<R: Read + Drop, T: Write, W: Write, E: Write>(
+    alloc: Global,
+    text: &str,
+    usual: RoundLimits,
+    name: &str,
+    script: R,
+    out: &mut T,
+    writer: &mut W,
+    errors: &mut E,
+) -> u8
+    ensures accepted { (result ≡ 0) ⊎ (result ≡ 1) → IsAccepted text.now }
+    ensures held { result ≡ 0 → IsOnSet (Some text.now) (R.remaining script)
+        (IsTextCovered name.now (Some text.now) usual (W.contents writer.old) (W.contents writer.new) (T.contents out.old) (T.contents out.new)) }
+    ensures missed { result ≡ 1 → IsOnSet (Some text.now) (R.remaining script)
+        (IsTextCoveredInPart name.now (Some text.now) usual (W.contents writer.old) (W.contents writer.new) (T.contents out.old) (T.contents out.new)) }
+    ensures refused { result ≡ 2 → IsRefused (Some text.now) (R.remaining script) (W.contents writer.old) (W.contents writer.new) }
+    ensures status { (result ≡ 0) ⊎ (result ≡ 1) ⊎ (result ≡ 2) ⊎ (result ≡ 4) }
+{
+    let bytes = text.as_bytes();
+    cover_bytes(alloc, bytes, usual, name, script, out, writer, errors)
+}
+
 /// Tells that a text has more octets than a text may have. Gives the exit status.
-fn is_too_long<E: Write>(alloc: Global, name: &str, errors: &mut E) -> u8
+fn tell_too_long<E: Write>(alloc: Global, name: &str, errors: &mut E) -> u8
     ensures { result ≡ 4 }
 {
     let _name = errors.write_all(name.as_bytes());
@@ -174,7 +197,7 @@ fn cover_read<R: Read + Drop, T: Write, W: Write, E: Write>(
     ensures status { (result ≡ 0) ⊎ (result ≡ 1) ⊎ (result ≡ 2) ⊎ (result ≡ 4) }
 {
     if of_set.is_too_long() {
-        return is_too_long(alloc, name, errors);
+        return tell_too_long(alloc, name, errors);
     }
     cover_bytes(
         alloc,
@@ -217,17 +240,8 @@ pub(crate) fn play_covered<S: Read + Drop, R: Read + Drop, T: Write, W: Write, E
             Ok(of_set) => cover_read(alloc, &of_set, usual, name, script, out, writer, errors),
             Err(_) => FAILED,
         },
-        SetWord::Standard => {
-            let text = STANDARD.as_bytes();
-            cover_bytes(alloc, text, usual, name, script, out, writer, errors)
-        }
-        SetWord::Q703 => {
-            let text = Q703.as_bytes();
-            cover_bytes(alloc, text, usual, name, script, out, writer, errors)
-        }
-        SetWord::Monitors => {
-            let text = MONITORS.as_bytes();
-            cover_bytes(alloc, text, usual, name, script, out, writer, errors)
-        }
+        SetWord::Standard => cover_own(alloc, STANDARD, usual, name, script, out, writer, errors),
+        SetWord::Q703 => cover_own(alloc, Q703, usual, name, script, out, writer, errors),
+        SetWord::Monitors => cover_own(alloc, MONITORS, usual, name, script, out, writer, errors),
     }
 }

@@ -22,7 +22,7 @@ use Rattle.script_seen.specs.declared.tracing.Tracer.{Tracer}
 abbrev pub some_reach : Draft → ℕ → List Reached → List Ledger → List Reached
 some_reach d zero rs bs = rs
 some_reach d (suc n) [] bs = []
-some_reach d (suc n) (r ∷ rs) [] = r ∷ rs
+some_reach d (suc n) (r ∷ rs) [] = []
 some_reach d (suc n) (r ∷ rs) (b ∷ bs) = reach d r b ∷ some_reach d n rs bs
 
 abbrev pub some_text : Bool → Draft → ℕ → ℕ → List Reached → List Ledger → List ℕ
@@ -41,7 +41,7 @@ AreSomeReached d (suc n) (r ∷ rs) (b ∷ bs) = IsReached d r b × AreSomeReach
 some_at : (d : Draft) (n : ℕ) (rs : List Reached) (bs : List Ledger) (r : Reached) → slice_get (some_reach d n rs bs) n ≡ Some r → slice_get rs n ≡ Some r
 some_at d zero rs bs r h = h
 some_at d (suc n) [] bs r h = h
-some_at d (suc n) (x ∷ rs) [] r h = h
+some_at d (suc n) (x ∷ rs) [] r h = absurd (none-some r h)
 some_at d (suc n) (x ∷ rs) (b ∷ bs) r h = some_at d n rs bs r h
 
 -- one link more

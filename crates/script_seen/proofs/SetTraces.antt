@@ -72,10 +72,10 @@ under_none link (x ∷ text) old is = absurd (let e : suc (length text) ≡ 0 = 
 
 pub under_some : (link : ℕ) (text name : List ℕ) (old mid new : Option (List ℕ)) → (length text == 0) ≡ false → name ≡ line_of (codes "on " ++ decimal link)
     → Appends old mid name → Appends mid new text → Appends old new (under_name link text)
-under_some link [] name old mid new is same named more = absurd (false≢true (sym is))
-under_some link (x ∷ text) name old mid new is same named more =
+under_some link [] name old mid new is same named behind = absurd (false≢true (sym is))
+under_some link (x ∷ text) name old mid new is same named behind =
     let N : List ℕ → Type 0 = λ bs. Appends old mid bs in
-    Appends-trans old mid new (line_of (codes "on " ++ decimal link)) (x ∷ text) (subst N same named) more
+    Appends-trans old mid new (line_of (codes "on " ++ decimal link)) (x ∷ text) (subst N same named) behind
 
 -- what a tracer of a link told
 pub followed_one : (d : Draft) (r : Reached) (bs : List Ledger) (n : ℕ) (b : Ledger) (t u : Tracer) (before text shown : List ℕ) (old new : Option (List ℕ)) → before ≡ []
@@ -189,11 +189,11 @@ set_met every lines d first before said begun old from to last printed p q ts ex
 -- ---- a list of commands
 
 -- how far the run of a list of commands came
-pub record SetGoing (lines : List PlainLine) (p : Playing) (commands : List PlainGroupSaid) (last first now begun traced : Option (List ℕ)) (q : Playing)
+pub record SetGoing (lines : List PlainLine) (p : Playing) (commands : List PlainGroupSaid) (last first now begun told : Option (List ℕ)) (q : Playing)
     (printed : Option (List ℕ)) (ts us : List Tracer) : Type 0 where
   pub run : last ≡ None → IsGroupRun p commands first now q printed
   pub traced : last ≡ None → (every : Bool) (d : Draft) → AreAtLinks every d (map reached_at (books_of p)) ts
-      → IsGroupTracing every lines d p commands begun traced q printed us
+      → IsGroupTracing every lines d p commands begun told q printed us
 
 run_begins : (p : Playing) (old last : Option (List ℕ)) → last ≡ None → IsGroupRun p [] old old p last
 run_begins p old last none =

@@ -1,4 +1,3 @@
-use Rattle.std.proofs.Common.{◌∙◌}
 use Rattle.script_check.proofs.Prints.{accepted_bytes, of_refusal, refusal_printed}
 use Rattle.script_play.specs.Played.{set_refused, script_refused}
 use Rattle.script_play.proofs.Texts.{not_held, not_missed}

@@ -7,7 +7,7 @@ use Rattle.script_seen.proofs.changeovers.last_text.Goals as goal
 pub returns-in-Some : goal.returns-in-Some
 returns-in-Some c =
     IfOk-weaker c.said_text.result _ (λ v. IsLastTold c.args.clock (option_map (λ l. l.items) c.args.last.now) v.items)
-    (λ v told. last_as c.args.clock _ c.in-Some.line.now.items c.deref.result.now v.items (ap (option_map (λ l. l.items)) c.in-Some.is) c.deref.ensures.value told)
+    (λ v told. last_as c.args.clock _ c.in-Some.line.items c.deref.result.now v.items (ap (option_map (λ l. l.items)) c.in-Some.is) c.deref.ensures.value told)
     c.said_text.ensures
 
 pub returns-in-None : goal.returns-in-None

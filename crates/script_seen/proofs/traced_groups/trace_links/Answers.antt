@@ -1,4 +1,4 @@
-use Rattle.std.proofs.Common.{◌≡◌, ◌<◌, ◌≤◌, length, get_or, rules, ◌∙◌}
+use Rattle.std.proofs.Common.{◌≡◌, ◌<◌, ◌≤◌, length, rules, ◌∙◌}
 use Rattle.std.proofs.lemmas.List.{length-map}
 use Rattle.std.proofs.lemmas.Option.{slice_get-get_or}
 use Rattle.script_group.specs.GroupRuns.{playing_of}
@@ -15,8 +15,8 @@ loop-link-preserved g c every d rs at =
     let ts = c.loop-link.tracers in
     let n = c.loop-link.link in
     let within : n < length ts = search rules in
-    one_link every d rs (books_of (playing_of c.args.player.now)) n ts (get_or ts n c.index-tracers-link.result) c.trace_one.new.tracer _ _ _
-    (slice_get-get_or ts n c.index-tracers-link.result within) c.in_ok-trace_one.ensures.every
+    one_link every d rs (books_of (playing_of c.args.player.now)) n ts _ c.trace_one.new.tracer _ _ _
+    (slice_get-get_or ts n _ within) c.in_ok-trace_one.ensures.every
     (λ r there. c.in_ok-trace_one.ensures.traced d r there) (c.loop-link.invariant every d rs at)
 
 pub returns : goal.returns
