@@ -1,4 +1,4 @@
-use Rattle.std.proofs.Common.{List, ℕ, Vec, [], Option, option_map, sym, ap, ◌∙◌}
+use Rattle.std.proofs.Common.{List, ℕ, [], Option, option_map, sym, ap, ◌∙◌}
 use Rattle.std.specs.Prelude.{unwrap_or}
 use Rattle.script_seen.proofs.changeovers.octets_of_text.Goals as goal
 
