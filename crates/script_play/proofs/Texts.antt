@@ -11,11 +11,3 @@ not_held status (inr four) zero = omega arith
 pub not_missed : (status : ℕ) → (status ≡ 2) ⊎ (status ≡ 4) → status ≡ 1 → ⊥
 not_missed status (inl two) one = omega arith
 not_missed status (inr four) one = omega arith
-
--- what failed is neither
-pub no_end : (status : ℕ) → status ≡ 4 → (status ≡ 0) ⊎ (status ≡ 1) → ⊥
-no_end status failed (inl zero) = omega (arith, failed, zero)
-no_end status failed (inr one) = omega (arith, failed, one)
-
-pub no_refusal : (status : ℕ) → status ≡ 4 → status ≡ 2 → ⊥
-no_refusal status failed two = omega (arith, failed, two)

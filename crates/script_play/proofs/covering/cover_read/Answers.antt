@@ -1,7 +1,14 @@
-use Rattle.std.proofs.Common.{inl, inr, sym, ◌∙◌}
-use Rattle.script_play.proofs.Texts.{no_end, no_refusal}
+use Rattle.std.proofs.Common.{◌≡◌, ◌∙◌, ℕ, inl, inr, arith, sym}
+use Rattle.std.specs.Prelude.{◌⊎◌}
 use Rattle.script_play.proofs.CoveredPlays.{is_kept, accepted_as, covered_as, covered_in_part_as, refused_as}
 use Rattle.script_play.proofs.covering.cover_read.Goals as goal
+
+no_end : (status : ℕ) → status ≡ 4 → (status ≡ 0) ⊎ (status ≡ 1) → ⊥
+no_end status failed (inl zero) = omega (arith, failed, zero)
+no_end status failed (inr one) = omega (arith, failed, one)
+
+no_refusal : (status : ℕ) → status ≡ 4 → status ≡ 2 → ⊥
+no_refusal status failed two = omega (arith, failed, two)
 
 pub returns-then-is_too_long-clause-accepted : goal.returns-then-is_too_long-clause-accepted
 returns-then-is_too_long-clause-accepted g c done known reading = absurd (no_end c.tell_too_long.result c.tell_too_long.ensures done)
