@@ -137,21 +137,34 @@ refused_as known bytes script old new is (set_refused g) = set_refused (given_as
 refused_as known bytes script old new is (script_refused s) =
     script_refused (record { draft = s.draft; is_set = given_as known bytes (λ all. IsSetOf all s.draft) is s.is_set; of_script = s.of_script })
 
--- of the set of these bytes, as a text
-pub bytes_covered : (name text bytes : List ℕ) (usual : RoundLimits) (old new from to : Option (List ℕ)) (d : Draft) (said : List ℕ) (g : IsGiven (Some bytes) (λ all. IsSetOf all d)) → text ≡ bytes
-    → IsPlayTold usual old new (IsCoveredBy name text from to) d said → IsTextCovered name (Some bytes) usual old new from to d said
-bytes_covered name text bytes usual old new from to d said g same told = record {
-  text = text;
-  is_known = same;
-  is_set = subst (λ (all : List ℕ). IsSetOf all d) (g.are_known ∙ sym same) g.holds;
+-- of the bytes of a text
+pub of_bytes : (usual : RoundLimits) (old new from to : Option (List ℕ)) (name text bytes : List ℕ) (d : Draft) (said : List ℕ) → text ≡ bytes
+    → IsPlayTold usual old new (IsCoveredBy name text from to) d said → IsPlayTold usual old new (IsCoveredBy name bytes from to) d said
+of_bytes usual old new from to name text bytes d said is told =
+    let P : List ℕ → Type 0 = λ bs. IsPlayTold usual old new (IsCoveredBy name bs from to) d said in
+    subst P is told
+
+pub of_bytes_in_part : (usual : RoundLimits) (old new from to : Option (List ℕ)) (name text bytes : List ℕ) (d : Draft) (said : List ℕ) → text ≡ bytes
+    → IsPlayToldInPart usual old new (IsCoveredBy name text from to) d said → IsPlayToldInPart usual old new (IsCoveredBy name bytes from to) d said
+of_bytes_in_part usual old new from to name text bytes d said is told =
+    let P : List ℕ → Type 0 = λ bs. IsPlayToldInPart usual old new (IsCoveredBy name bs from to) d said in
+    subst P is told
+
+-- of the set of these bytes
+pub bytes_covered : (name bytes : List ℕ) (usual : RoundLimits) (old new from to : Option (List ℕ)) (d : Draft) (said : List ℕ) → IsGiven (Some bytes) (λ all. IsSetOf all d)
+    → IsPlayTold usual old new (IsCoveredBy name bytes from to) d said → IsTextCovered name (Some bytes) usual old new from to d said
+bytes_covered name bytes usual old new from to d said given told = record {
+  text = bytes;
+  is_known = refl;
+  is_set = subst (λ (all : List ℕ). IsSetOf all d) given.are_known given.holds;
   told = told;
 }
 
-pub bytes_covered_in_part : (name text bytes : List ℕ) (usual : RoundLimits) (old new from to : Option (List ℕ)) (d : Draft) (said : List ℕ) (g : IsGiven (Some bytes) (λ all. IsSetOf all d)) → text ≡ bytes
-    → IsPlayToldInPart usual old new (IsCoveredBy name text from to) d said → IsTextCoveredInPart name (Some bytes) usual old new from to d said
-bytes_covered_in_part name text bytes usual old new from to d said g same told = record {
-  text = text;
-  is_known = same;
-  is_set = subst (λ (all : List ℕ). IsSetOf all d) (g.are_known ∙ sym same) g.holds;
+pub bytes_covered_in_part : (name bytes : List ℕ) (usual : RoundLimits) (old new from to : Option (List ℕ)) (d : Draft) (said : List ℕ) → IsGiven (Some bytes) (λ all. IsSetOf all d)
+    → IsPlayToldInPart usual old new (IsCoveredBy name bytes from to) d said → IsTextCoveredInPart name (Some bytes) usual old new from to d said
+bytes_covered_in_part name bytes usual old new from to d said given told = record {
+  text = bytes;
+  is_known = refl;
+  is_set = subst (λ (all : List ℕ). IsSetOf all d) given.are_known given.holds;
   told = told;
 }

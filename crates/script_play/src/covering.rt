@@ -111,6 +111,31 @@ fn cover<T: Write, W: Write, E: Write>(
     }
 }
 
+/// The same of the bytes of a text.
+fn cover_set<T: Write, W: Write, E: Write>(
+    alloc: Global,
+    set: &Verified,
+    bytes: &[u8],
+    name: &str,
+    usual: RoundLimits,
+    read: &TextRead,
+    out: &mut T,
+    writer: &mut W,
+    errors: &mut E,
+) -> u8
+    ensures held { result ≡ 0 → (said : List ℕ) → Keeps said read.now
+        → IsPlayTold usual (W.contents writer.old) (W.contents writer.new) (IsCoveredBy name.now bytes.now (T.contents out.old) (T.contents out.new)) set.now said }
+    ensures missed { result ≡ 1 → (said : List ℕ) → Keeps said read.now
+        → IsPlayToldInPart usual (W.contents writer.old) (W.contents writer.new) (IsCoveredBy name.now bytes.now (T.contents out.old) (T.contents out.new)) set.now said }
+    ensures refused { result ≡ 2 → (said : List ℕ) → Keeps said read.now → IsNotRun (W.contents writer.old) (W.contents writer.new) set.now said }
+    ensures status { (result ≡ 0) ⊎ (result ≡ 1) ⊎ (result ≡ 2) ⊎ (result ≡ 4) }
+{
+    match str::from_utf8(bytes) {
+        Ok(text) => cover(alloc, set, text, name, usual, read, out, writer, errors),
+        Err(_) => FAILED,
+    }
+}
+
 /// Runs a script on the set of a text, which has these bytes.
 fn cover_bytes<R: Read + Drop, T: Write, W: Write, E: Write>(
     alloc: Global,
@@ -133,11 +158,8 @@ fn cover_bytes<R: Read + Drop, T: Write, W: Write, E: Write>(
     let set = find_set(alloc, SetWord::Text(bytes));
     let read = read_text(alloc, &mut script);
     match set {
-        Ok(set) => match str::from_utf8(bytes) {
-            Ok(text) => match read {
-                Ok(read) => cover(alloc, &set, text, name, usual, &read, out, writer, errors),
-                Err(_) => FAILED,
-            },
+        Ok(set) => match read {
+            Ok(read) => cover_set(alloc, &set, bytes, name, usual, &read, out, writer, errors),
             Err(_) => FAILED,
         },
         Err(refusal) => refuse_set(alloc, name, &refusal, writer, errors),

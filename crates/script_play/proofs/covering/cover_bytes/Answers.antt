@@ -1,3 +1,4 @@
+use Rattle.std.proofs.Common.{Some}
 use Rattle.script_check.proofs.Prints.{accepted_bytes, of_refusal, refusal_printed}
 use Rattle.script_play.specs.Played.{set_refused, script_refused}
 use Rattle.script_play.proofs.Texts.{not_held, not_missed}
@@ -5,7 +6,7 @@ use Rattle.script_play.proofs.CoveredPlays.{bytes_covered, bytes_covered_in_part
 use Rattle.script_play.proofs.covering.cover_bytes.Goals as goal
 
 pub returns-in-Ok-read-clause-accepted : goal.returns-in-Ok-read-clause-accepted
-returns-in-Ok-read-clause-accepted g c done = accepted_bytes _ c.in-Ok.set c.in-Ok.ensures.set
+returns-in-Ok-read-clause-accepted g c done = accepted_bytes (Some c.args.bytes.now) c.in-Ok.set c.in-Ok.ensures.set
 
 pub returns-in-Ok-read-clause-held : goal.returns-in-Ok-read-clause-held
 returns-in-Ok-read-clause-held g c zero = record {
@@ -14,8 +15,9 @@ returns-in-Ok-read-clause-held g c zero = record {
   of_script = record {
     bytes = c.in-Ok-read.ensures.bytes;
     are_known = c.in-Ok-read.ensures.are_known;
-    holds = bytes_covered c.args.name.now c.in-Ok-from_utf8.text.now c.args.bytes.now c.args.usual _ _ _ _ c.in-Ok.set c.in-Ok-read.ensures.bytes c.in-Ok.ensures.set
-        c.in-Ok-from_utf8.ensures.cases.0 (c.cover.ensures.held zero c.in-Ok-read.ensures.bytes c.in-Ok-read.ensures.keeps);
+    holds =
+        bytes_covered c.args.name.now c.args.bytes.now c.args.usual _ _ _ _ c.in-Ok.set c.in-Ok-read.ensures.bytes c.in-Ok.ensures.set
+        (c.cover_set.ensures.held zero c.in-Ok-read.ensures.bytes c.in-Ok-read.ensures.keeps);
   };
 }
 
@@ -29,8 +31,9 @@ returns-in-Ok-read-clause-missed g c one = record {
   of_script = record {
     bytes = c.in-Ok-read.ensures.bytes;
     are_known = c.in-Ok-read.ensures.are_known;
-    holds = bytes_covered_in_part c.args.name.now c.in-Ok-from_utf8.text.now c.args.bytes.now c.args.usual _ _ _ _ c.in-Ok.set c.in-Ok-read.ensures.bytes c.in-Ok.ensures.set
-        c.in-Ok-from_utf8.ensures.cases.0 (c.cover.ensures.missed one c.in-Ok-read.ensures.bytes c.in-Ok-read.ensures.keeps);
+    holds =
+        bytes_covered_in_part c.args.name.now c.args.bytes.now c.args.usual _ _ _ _ c.in-Ok.set c.in-Ok-read.ensures.bytes c.in-Ok.ensures.set
+        (c.cover_set.ensures.missed one c.in-Ok-read.ensures.bytes c.in-Ok-read.ensures.keeps);
   };
 }
 
@@ -45,7 +48,7 @@ returns-in-Ok-read-clause-refused g c two =
       of_script = record {
         bytes = c.in-Ok-read.ensures.bytes;
         are_known = c.in-Ok-read.ensures.are_known;
-        holds = c.cover.ensures.refused two c.in-Ok-read.ensures.bytes c.in-Ok-read.ensures.keeps;
+        holds = c.cover_set.ensures.refused two c.in-Ok-read.ensures.bytes c.in-Ok-read.ensures.keeps;
       };
     })
 
