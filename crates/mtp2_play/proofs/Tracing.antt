@@ -1,11 +1,14 @@
 -- An end of a link with a trace does on its line what it does without.
-use Rattle.std.proofs.Common.{ℕ, List, Option}
+use Rattle.std.proofs.Common.{◌≡◌, ℕ, List, Option, subst, sym}
 use Rattle.line_filter.specs.Filters.{IsOver, IsBegun, Streams, Line}
 use Rattle.line_filter.specs.Runs.{State}
 use Rattle.line_filter.specs.declared.desk.Desk.{Desk}
 use Rattle.line_filter.specs.declared.filter.Bits.{Bits}
+use Rattle.line_filter.specs.declared.stream.LineOrders.{LineOrders}
 use Rattle.line_play.specs.Lines.{end_acts}
+use Rattle.line_play.specs.Term.{Term}
 use Rattle.line_play.specs.declared.link_end.LinkEnd.{LinkEnd}
+use Rattle.mtp2_play.specs.Spoken.{AreGiven}
 use Rattle.mtp2_play.specs.TracedEnds.{traced_acts}
 use Rattle.mtp2_play.specs.declared.traces.TracedEnd.{TracedEnd}
 use Rattle.mtp2_play.proofs.Mapped.{Maps, at, over, begun}
@@ -28,3 +31,16 @@ over_alone contents bits ahead count s next t old new x =
 pub begun_alone : {W : Type 0} (contents : W → Option (List ℕ)) (bits : Bits) (ahead count : ℕ) (s : State (TracedEnd W)) (old new : Line)
     → IsBegun (traced_acts contents) bits ahead count s old new → IsBegun end_acts bits ahead count (at end_of s) old new
 begun_alone contents bits ahead count s old new x = begun end_of (traced_acts contents) end_acts (acts_alone contents) bits ahead count s old new x
+
+-- the orders that a desk has are those that it was made with
+pub given_to : {A R : Type 0} (orders : Option A) (known : R → Option (List ℕ)) (one other : LineOrders R) → other ≡ one → AreGiven orders (known one.reader)
+    → AreGiven orders (known other.reader)
+given_to {R = R} orders known one other same given =
+    let P : LineOrders R → Type 0 = λ o. AreGiven orders (known o.reader) in
+    subst P (sym same) given
+
+-- so is its terminal that of its end
+pub terminal_of : {W : Type 0} (one other : TracedEnd W) (term : Term) → other ≡ one → one.end.terminal ≡ term → other.end.terminal ≡ term
+terminal_of {W = W} one other term same is =
+    let P : TracedEnd W → Type 0 = λ t. t.end.terminal ≡ term in
+    subst P (sym same) is
