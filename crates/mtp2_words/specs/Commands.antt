@@ -164,8 +164,8 @@ all_commands =
     (with_subcommand
     (with_subcommand
     (with_subcommand
-    (with_subcommand (with_subcommand program_begun check_command.top) play_command.top)
-    soak_command.top) line_command.top) set_command.top) frame_command.top) draw_command.top)
+    (with_subcommand (with_subcommand program_begun set_command.top) line_command.top)
+    check_command.top) play_command.top) soak_command.top) frame_command.top) draw_command.top)
     text_command.top) diff_command.top
 
 -- a word of the command is one of its commands' too

@@ -12,11 +12,11 @@ pub fn all_commands<'a>(alloc: Global) -> Result<Command<'a>, AllocError>
     ensures { IfOk result (IsCommand all_commands) }
 {
     program_begun(alloc)
+        .subcommand(set_command(alloc)?)?
+        .subcommand(line_command(alloc)?)?
         .subcommand(check_command(alloc)?)?
         .subcommand(play_command(alloc)?)?
         .subcommand(soak_command(alloc)?)?
-        .subcommand(line_command(alloc)?)?
-        .subcommand(set_command(alloc)?)?
         .subcommand(frame_command(alloc)?)?
         .subcommand(draw_command(alloc)?)?
         .subcommand(text_command(alloc)?)?
@@ -30,7 +30,7 @@ fn program_begun<'a>(alloc: Global) -> Command<'a>
     bare_command(
         alloc,
         "mtp2_play",
-        "Checks and plays SDL process texts of signalling links, and reads signal units",
+        "Runs sets of SS7 signalling links, checks and plays the SDL process texts of their terminals, and reads signal units",
         "Exit statuses: 0 done, 1 an expectation of a script failed or something differs, 2 refused, 3 usage, 4 memory or a file failed.",
     )
     .version("1.0")

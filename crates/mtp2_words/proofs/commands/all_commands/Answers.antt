@@ -5,17 +5,17 @@ use Rattle.mtp2_words.proofs.commands.all_commands.Goals as goal
 
 pub returns : goal.returns
 returns c =
-    let check = with_command program_begun check_command _ c.in_ok-check_command.field-0 c.in_ok-subcommand.field-0 c.program_begun.ensures
-    c.in_ok-check_command.ensures c.in_ok-subcommand.ensures in
-    let play = with_command _ play_command _ c.in_ok-play_command.field-0 c.in_ok-subcommand-2.field-0 check
-    c.in_ok-play_command.ensures c.in_ok-subcommand-2.ensures in
-    let soak = with_command _ soak_command _ c.in_ok-soak_command.field-0 c.in_ok-subcommand-3.field-0 play
-    c.in_ok-soak_command.ensures c.in_ok-subcommand-3.ensures in
-    let line = with_command _ line_command _ c.in_ok-line_command.field-0 c.in_ok-subcommand-4.field-0 soak
-    c.in_ok-line_command.ensures c.in_ok-subcommand-4.ensures in
-    let set = with_command _ set_command _ c.in_ok-set_command.field-0 c.in_ok-subcommand-5.field-0 line
-    c.in_ok-set_command.ensures c.in_ok-subcommand-5.ensures in
-    let frame = with_command _ frame_command _ c.in_ok-frame_command.field-0 c.in_ok-subcommand-6.field-0 set
+    let set = with_command program_begun set_command _ c.in_ok-set_command.field-0 c.in_ok-subcommand.field-0 c.program_begun.ensures
+    c.in_ok-set_command.ensures c.in_ok-subcommand.ensures in
+    let line = with_command _ line_command _ c.in_ok-line_command.field-0 c.in_ok-subcommand-2.field-0 set
+    c.in_ok-line_command.ensures c.in_ok-subcommand-2.ensures in
+    let check = with_command _ check_command _ c.in_ok-check_command.field-0 c.in_ok-subcommand-3.field-0 line
+    c.in_ok-check_command.ensures c.in_ok-subcommand-3.ensures in
+    let play = with_command _ play_command _ c.in_ok-play_command.field-0 c.in_ok-subcommand-4.field-0 check
+    c.in_ok-play_command.ensures c.in_ok-subcommand-4.ensures in
+    let soak = with_command _ soak_command _ c.in_ok-soak_command.field-0 c.in_ok-subcommand-5.field-0 play
+    c.in_ok-soak_command.ensures c.in_ok-subcommand-5.ensures in
+    let frame = with_command _ frame_command _ c.in_ok-frame_command.field-0 c.in_ok-subcommand-6.field-0 soak
     c.in_ok-frame_command.ensures c.in_ok-subcommand-6.ensures in
     let draw = with_command _ draw_command _ c.in_ok-draw_command.field-0 c.in_ok-subcommand-7.field-0 frame
     c.in_ok-draw_command.ensures c.in_ok-subcommand-7.ensures in
