@@ -18,7 +18,8 @@ use Rattle.set_tending.specs.declared.wire.Wire.{Wire}
 use Rattle.line_play.specs.LineTraffic.{Traffic, octets_go, line_says, Grows, coming, given, front_of, arrived, silence_for}
 use Rattle.line_play.specs.declared.set_lines.Came.{Came}
 use Rattle.line_play.specs.declared.set_lines.Came.TheVariants as line
-use Rattle.line_play.specs.SetObeying.{Obeys, SendsNone, sent_by}
+use Rattle.line_play.specs.SetObeying.{Obeys, sent_by}
+use Rattle.line_play.specs.SetOrders.{set_order_of}
 use Rattle.line_play.specs.SetRounds.{Made, line_told, passed_told, PassesOn, Carries, passes, misses, ends, fails, opens, CarriesAt, CarriesAll, no_link, one_link, TellsAll, ObeysWaiting, rests, obeys, TakesOrder, at_once, behind, report, Attends, waited, comes, AttendsAll, none_due, full, quits, MOST_WAITING, SetPlace, IsRound}
 
 -- ---- what is given
@@ -269,7 +270,7 @@ pub taken_behind : (order : List ℕ) (t : Tended) (waiting later : List (List �
 taken_behind order t waiting later a is =
     subst (λ (l : List (List ℕ)). TellsSuch (λ bytes. TakesOrder order t waiting bytes t l) a a) (sym is) (record { bytes = []; are = behind; tells = tells_none a })
 
-pub taken_report : (order said : List ℕ) (t : Tended) (waiting : List (List ℕ)) (a : Stand) → said ≡ order → SendsNone said
+pub taken_report : (order said : List ℕ) (t : Tended) (waiting : List (List ℕ)) (a : Stand) → said ≡ order → set_order_of (words_of said) ≡ None
     → TellsSuch (λ bytes. TakesOrder order t waiting bytes t waiting) a a
 taken_report order said t waiting a is none_there =
     subst (λ (o : List ℕ). TellsSuch (λ bytes. TakesOrder o t waiting bytes t waiting) a a) is (record { bytes = []; are = report none_there; tells = tells_none a })

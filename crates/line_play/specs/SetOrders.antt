@@ -18,7 +18,7 @@ use Rattle.line_play.specs.declared.set_orders.SetOrder.TheVariants as code
 
 pub data PlainSetOrder : Type 0 where
   on : Focus → PlainSetOrder
-  link : Order → PlainSetOrder
+  links : Order → PlainSetOrder
   state : List ℕ → PlainSetOrder
   value : List ℕ → List ℕ → PlainSetOrder
   measuring : Measure → PlainSetOrder
@@ -33,7 +33,7 @@ pub data PlainSetOrder : Type 0 where
 
 abbrev pub plain_set_order : SetOrder → PlainSetOrder
 plain_set_order (code.On focus) = on focus
-plain_set_order (code.Link order) = link order
+plain_set_order (code.Link order) = links order
 plain_set_order (code.State process) = state process.now
 plain_set_order (code.Value process variable) = value process.now variable.now
 plain_set_order (code.Measure measure) = measuring measure
@@ -56,7 +56,7 @@ alone_of word =
     else (if bytes_eq word (codes "held") then Some held
     else (if bytes_eq word (codes "unsure") then Some unsure
     else (if bytes_eq word (codes "rebalance") then Some rebalance
-    else option_map link (order_of word)))))
+    else option_map links (order_of word)))))
 
 -- behind `on`: a link's number, or all
 abbrev pub focus_of : List ℕ → Option Focus

@@ -3,7 +3,8 @@ ghost use Rattle.std.specs.Prelude.{◌≡◌, ◌↔◌, [], true, false, IfOk,
 ghost use Rattle.script_lines.specs.Words.{words_of};
 ghost use Rattle.line_filter.specs.Desks.{Told as TellsSuch};
 ghost use Rattle.line_filter.specs.Orders.{QUIT};
-ghost use Rattle.line_play.specs.SetObeying.{SendsNone, octets_sent, sent_by};
+ghost use Rattle.line_play.specs.SetObeying.{octets_sent, sent_by};
+ghost use Rattle.line_play.specs.SetOrders.{set_order_of};
 ghost use Rattle.line_play.specs.SetRounds.{waiting_in, ObeysWaiting, TakesOrder, AttendsAll};
 
 use crate::set_orders::{SetOrder, is_set_report, set_order_in};
@@ -15,9 +16,7 @@ use std::alloc::{AllocError, Global};
 use std::io::{self, ErrorKind};
 
 /// Whether an order sends a message.
-fn sends(order: &SetOrder<'_>) -> bool
-    ensures { result ≡ false → octets_sent order.now ≡ None }
-{
+fn sends(order: &SetOrder<'_>) -> bool {
     match order {
         SetOrder::Send(_) => true,
         _ => false,
@@ -25,9 +24,7 @@ fn sends(order: &SetOrder<'_>) -> bool
 }
 
 /// Whether a line sends a message.
-fn is_send(alloc: Global, text: &str) -> Result<bool, AllocError>
-    ensures { IfOk result (λ sends. sends ≡ false → SendsNone text.now) }
-{
+fn is_send(alloc: Global, text: &str) -> Result<bool, AllocError> {
     match set_order_in(alloc, text)? {
         Some(order) => Ok(sends(&order)),
         None => Ok(false),
@@ -55,14 +52,14 @@ fn may_overtake(alloc: Global, queue: &Queue, text: &str) -> Result<bool, AllocE
     }
 }
 
-/// Whether a line says nothing to a set: it is a report, and no order that sends a message.
+/// Whether a line says nothing to a set: it is a report, and no order.
 fn says_nothing(alloc: Global, text: &str) -> Result<bool, AllocError>
-    ensures { IfOk result (λ nothing. nothing ≡ true → SendsNone text.now) }
+    ensures { IfOk result (λ nothing. nothing ≡ true → set_order_of (words_of text.now) ≡ None) }
 {
-    if is_send(alloc, text)? {
-        return Ok(false);
+    match set_order_in(alloc, text)? {
+        Some(_) => Ok(false),
+        None => is_set_report(alloc, text),
     }
-    is_set_report(alloc, text)
 }
 
 /// Whether an order ends the run.

@@ -1,12 +1,12 @@
 //! Orders to a set, as they are written.
-ghost use Rattle.std.specs.Prelude.{◌≡◌, ◌∷◌, [], IfOk, IfSome, IsNone, None, Some, option_map, option_and_then};
+ghost use Rattle.std.specs.Prelude.{◌≡◌, IfOk, IfSome, None, Some, option_map, option_and_then};
 ghost use Rattle.script_lines.specs.Lines.{texts};
 ghost use Rattle.script_lines.specs.Words.{words_of};
 ghost use Rattle.script_links.specs.Octets.{octets_of};
 ghost use Rattle.script_links.specs.Orders.{order_of};
 ghost use Rattle.script_links.specs.TermCommands.{plain_term_command};
-ghost use Rattle.line_play.specs.SetObeying.{octets_sent, sent_by, AreNoMessage, SendsNone};
-ghost use Rattle.line_play.specs.SetOrders.{plain_set_order, link as to_links, alone_of, focus_of, question_of, asked_of, pair_of, other_order_of, sent_word as word_sent, send_of, set_order_of};
+ghost use Rattle.line_play.specs.SetObeying.{octets_sent, sent_by};
+ghost use Rattle.line_play.specs.SetOrders.{plain_set_order, links as to_links, alone_of, focus_of, question_of, asked_of, pair_of, other_order_of, sent_word as word_sent, send_of, set_order_of};
 
 use script_lines::words_in;
 use script_links::{Order, TermCommand, count, octets_in, order_in, term_command_in};
@@ -101,7 +101,6 @@ fn word_in<'a>(word: &str) -> Option<SetOrder<'a>>
 /// An order to send these octets, where they are a message.
 fn sent<'a>(octets: Vec<u8>) -> Option<SetOrder<'a>>
     ensures some { IfSome result (λ s. octets_sent s ≡ Some octets.items) }
-    ensures none { IsNone result → AreNoMessage octets.items }
     ensures reads { option_map plain_set_order result ≡ send_of octets.items }
 {
     if octets.len() < LEAST {
@@ -116,7 +115,6 @@ fn sent<'a>(octets: Vec<u8>) -> Option<SetOrder<'a>>
 /// `send HEX`.
 fn send_in<'a>(alloc: Global, word: &str) -> Result<Option<SetOrder<'a>>, AllocError>
     ensures some { IfOk result (λ o. IfSome o (λ s. octets_sent s ≡ octets_of word.now)) }
-    ensures none { IfOk result (λ o. IsNone o → IfSome (octets_of word.now) AreNoMessage) }
     ensures reads { IfOk result (λ o. option_map plain_set_order o ≡ option_and_then send_of (octets_of word.now)) }
 {
     match octets_in(alloc, word)? {
@@ -220,12 +218,12 @@ fn other_in<'a>(alloc: Global, words: &[&'a str]) -> Result<Option<SetOrder<'a>>
 /// The order that a line says; none where it says none.
 pub fn set_order_in<'a>(alloc: Global, line: &'a str) -> Result<Option<SetOrder<'a>>, AllocError>
     ensures some { IfOk result (λ o. IfSome o (λ s. octets_sent s ≡ sent_by (words_of line.now))) }
-    ensures none { IfOk result (λ o. IsNone o → SendsNone line.now) }
     ensures reads { IfOk result (λ o. option_map plain_set_order o ≡ set_order_of (words_of line.now)) }
 {
     let words = words_in(alloc, line)?;
-    match sent_word(words.as_slice()) {
+    let said = words.as_slice();
+    match sent_word(said) {
         Some(word) => send_in(alloc, word),
-        None => other_in(alloc, words.as_slice()),
+        None => other_in(alloc, said),
     }
 }

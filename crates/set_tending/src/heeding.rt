@@ -1,8 +1,7 @@
 //! What links tell.
-ghost use Rattle.std.specs.Prelude.{◌≡◌, [], OnOk, IfSome, IsNone};
-ghost use Rattle.link_transceiver.specs.declared.signals.Report.TheVariants.{Message};
+ghost use Rattle.std.specs.Prelude.{◌≡◌, ◌∷◌, [], OnOk, IfSome, IsNone};
 ghost use Rattle.set_tending.specs.Rounds.{Acts, Adds, AddsHeeded, HandsOut, HeedsEach, ToldAll};
-ghost use Rattle.set_tending.specs.Telling.{user_message};
+ghost use Rattle.set_tending.specs.Telling.{report_told, message_told, status_told};
 
 use crate::came::Came;
 use crate::care::Testing;
@@ -57,7 +56,7 @@ impl Tender {
 
     /// Takes what a link told.
     fn heed(&mut self, link: usize, report: Report) -> Result<(), TendError>
-        ensures { OnOk result (Acts [] (user_message self.old.plan report) self.old self.new) }
+        ensures { OnOk result (Acts [] (report_told self.old.plan link report) self.old self.new) }
     {
         match report {
             Report::Message(msu) => self.heed_message(link, msu),
@@ -67,26 +66,26 @@ impl Tender {
 
     /// Takes what was told of a link.
     fn heed_status(&mut self, link: usize, status: LinkStatus) -> Result<(), TendError>
-        ensures { OnOk result (Adds self.old self.new) }
+        ensures { OnOk result (Acts [] (status_told link status) self.old self.new) }
     {
         match status {
             LinkStatus::InService => {
                 let care = self.care(link).risen(self.ticks);
                 self.keep(link, care);
-                self.tell(Told::InService(link))
+                self.tell_report(Told::InService(link))
             }
             LinkStatus::Down(reason) => self.go_down(link, reason),
-            LinkStatus::RemoteOut => self.tell(Told::FarOut(link)),
-            LinkStatus::RemoteBack => self.tell(Told::FarBack(link)),
+            LinkStatus::RemoteOut => self.tell_report(Told::FarOut(link)),
+            LinkStatus::RemoteBack => self.tell_report(Told::FarBack(link)),
             LinkStatus::Cleared => Ok(()),
         }
     }
 
     /// A link went down: its changeover begins, unless it wasn't in service or its changeover goes on.
     fn go_down(&mut self, link: usize, reason: i32) -> Result<(), TendError>
-        ensures { OnOk result (Adds self.old self.new) }
+        ensures { OnOk result (Acts [] (Told.Down link reason ∷ []) self.old self.new) }
     {
-        self.tell(Told::Down(link, reason))?;
+        self.tell_report(Told::Down(link, reason))?;
         self.withdraw(link);
         let care = self.care(link);
         self.keep(link, care.fallen(self.ticks));
@@ -109,10 +108,10 @@ impl Tender {
 
     /// Takes a message that came by a link.
     fn heed_message(&mut self, link: usize, msu: Msu) -> Result<(), TendError>
-        ensures { OnOk result (Acts [] (user_message self.old.plan (Message msu)) self.old self.new) }
+        ensures { OnOk result (Acts [] (message_told self.old.plan link msu) self.old self.new) }
     {
         match self.plan.ends.came(&msu) {
-            Came::Message => self.tell_message(link, msu),
+            Came::Message => self.tell_report(Told::Message(link, msu)),
             Came::Changeover(about, kind) => {
                 if about == link || about >= self.len() {
                     return Ok(());
@@ -125,7 +124,7 @@ impl Tender {
                     self.acknowledge_declaration(link, about, code);
                     return Ok(());
                 }
-                self.tell_message(link, msu)
+                self.tell_report(Told::Message(link, msu))
             }
             Came::Test(about) => {
                 self.answer_test(link, about, &msu);

@@ -1,5 +1,6 @@
 //! Selections are shared out anew.
-ghost use Rattle.std.specs.Prelude.{◌≡◌, OnOk};
+ghost use Rattle.std.specs.Prelude.{◌≡◌, OnOk, map};
+ghost use Rattle.group_changeover.specs.Sharing.{link_of, selections};
 ghost use Rattle.set_tending.specs.Rounds.{Adds};
 
 use crate::tender::{TendError, Tender};
@@ -119,12 +120,27 @@ impl Tender {
     }
 
     /// The links of selections.
-    pub(crate) fn table(&self) -> SharedOut {
-        let mut table = [None; 16];
-        for selection in 0..16u8 {
-            table[usize::from(selection % 16)] = self.set.link_of(selection);
-        }
-        table
+    pub(crate) fn table(&self) -> SharedOut
+        ensures { result ≡ map (link_of self.now.set.table) selections }
+    {
+        [
+            self.set.link_of(0),
+            self.set.link_of(1),
+            self.set.link_of(2),
+            self.set.link_of(3),
+            self.set.link_of(4),
+            self.set.link_of(5),
+            self.set.link_of(6),
+            self.set.link_of(7),
+            self.set.link_of(8),
+            self.set.link_of(9),
+            self.set.link_of(10),
+            self.set.link_of(11),
+            self.set.link_of(12),
+            self.set.link_of(13),
+            self.set.link_of(14),
+            self.set.link_of(15),
+        ]
     }
 
     /// Tells the links of selections, where they are others than were told last.
