@@ -18,8 +18,8 @@ use Rattle.set_tending.specs.declared.wire.Wire.{Wire}
 use Rattle.line_play.specs.LineTraffic.{Traffic, octets_go, line_says, Grows, coming, given, front_of, arrived, silence_for}
 use Rattle.line_play.specs.declared.set_lines.Came.{Came}
 use Rattle.line_play.specs.declared.set_lines.Came.TheVariants as line
-use Rattle.line_play.specs.SetObeying.{Obeys, sent_by}
-use Rattle.line_play.specs.SetOrders.{set_order_of}
+use Rattle.line_play.specs.SetObeying.{Obeys}
+use Rattle.line_play.specs.SetOrders.{Overtakes, set_order_of}
 use Rattle.line_play.specs.SetRounds.{Made, line_told, passed_told, PassesOn, Carries, passes, misses, ends, fails, opens, CarriesAt, CarriesAll, no_link, one_link, TellsAll, ObeysWaiting, rests, obeys, TakesOrder, at_once, behind, report, Attends, waited, comes, AttendsAll, none_due, full, quits, MOST_WAITING, SetPlace, IsRound}
 
 -- ---- what is given
@@ -259,7 +259,7 @@ taken_as r order said t u waiting later a b is made =
     subst (λ (o : List ℕ). OnOk r (TellsSuch (λ bytes. TakesOrder o t waiting bytes u later) a b)) is made
 
 pub taken_at_once : {A E : Type 0} (r : Result A E) (order said : List ℕ) (t u : Tended) (waiting : List (List ℕ)) (a b : Stand) → said ≡ order
-    → (waiting ≡ []) ⊎ (sent_by (words_of said) ≡ None) → OnOk r (TellsSuch (λ bytes. Obeys said t bytes u) a b)
+    → (waiting ≡ []) ⊎ Overtakes said → OnOk r (TellsSuch (λ bytes. Obeys said t bytes u) a b)
     → OnOk r (TellsSuch (λ bytes. TakesOrder order t waiting bytes u waiting) a b)
 taken_at_once r order said t u waiting a b is may made =
     taken_as r order said t u waiting waiting a b is

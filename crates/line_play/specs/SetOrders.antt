@@ -1,11 +1,13 @@
 -- What an order to a set says.
-use Rattle.std.specs.Prelude.{ℕ, nat_lt, if◌then◌else◌, List, [], ◌∷◌, length, codes}
+use Rattle.std.specs.Prelude.{◌≡◌, ℕ, nat_lt, Bool, true, false, if◌then◌else◌, List, [], ◌∷◌, length, codes}
 use Rattle.std.specs.Prelude.{Option, None, Some, option_map, option_and_then}
 use Rattle.std.specs.Str.{bytes_eq}
 use Rattle.script_lines.specs.Numbers.{count_of}
+use Rattle.script_lines.specs.Words.{words_of}
 use Rattle.script_links.specs.Octets.{octets_of}
 use Rattle.script_links.specs.Orders.{order_of}
 use Rattle.script_links.specs.declared.orders.Order.{Order}
+use Rattle.script_links.specs.declared.orders.Order.TheVariants as orders
 use Rattle.script_links.specs.resend_store_types.measures.Measure.{Measure}
 use Rattle.script_links.specs.TermCommands as term
 use Rattle.script_links.specs.TermCommands.{PlainTermCommand, term_command_of}
@@ -121,3 +123,41 @@ by_sent_word (Some word) other = option_and_then send_of (octets_of word)
 
 abbrev pub set_order_of : List (List ℕ) → Option PlainSetOrder
 set_order_of words = by_sent_word (sent_word words) (other_order_of words)
+
+-- ---- which orders need not wait behind others
+
+abbrev pub is_stop : Order → Bool
+is_stop orders.Power = false
+is_stop orders.Start = false
+is_stop orders.Stop = true
+is_stop orders.Emergency = false
+is_stop orders.Calm = false
+is_stop orders.Outage = false
+is_stop orders.Back = false
+is_stop orders.Busy = false
+is_stop orders.Free = false
+is_stop orders.Flush = false
+is_stop orders.Continue = false
+is_stop orders.Overload = false
+
+-- `stop`, and which links orders speak of
+abbrev pub overtakes : PlainSetOrder → Bool
+overtakes (on focus) = true
+overtakes (links order) = is_stop order
+overtakes (state process) = false
+overtakes (value process variable) = false
+overtakes (measuring measure) = false
+overtakes aborted = false
+overtakes measures = false
+overtakes resetting = false
+overtakes (send octets) = false
+overtakes table = false
+overtakes held = false
+overtakes unsure = false
+overtakes rebalance = false
+
+-- an order that may overtake others
+pub record Overtakes (order : List ℕ) : Type 0 where
+  pub said : PlainSetOrder
+  pub is : set_order_of (words_of order) ≡ Some said
+  pub may : overtakes said ≡ true

@@ -16,8 +16,8 @@ use Rattle.set_tending.specs.declared.wire.Passed.{Passed}
 use Rattle.set_tending.specs.declared.wire.Passed.TheVariants.{Same, Silent, Back}
 use Rattle.set_tending.specs.declared.wire.Wire.{Wire}
 use Rattle.line_play.specs.declared.set_queue.Queue.{Queue}
-use Rattle.line_play.specs.SetObeying.{Obeys, sent_by}
-use Rattle.line_play.specs.SetOrders.{set_order_of}
+use Rattle.line_play.specs.SetObeying.{Obeys}
+use Rattle.line_play.specs.SetOrders.{Overtakes, set_order_of}
 use Rattle.line_play.specs.LineTraffic.{Traffic, line_says, Grows, coming, given, silence_for}
 use Rattle.line_play.specs.declared.set_lines.Came.TheVariants as line
 
@@ -123,12 +123,12 @@ pub data ObeysWaiting (t : Tended) (waiting : List (List ℕ)) :
       → ObeysWaiting t waiting bytes u now → now ≡ order ∷ left → Obeys order u more w
       → ObeysWaiting t waiting (bytes ++ more) w left
 
--- An order comes. It is obeyed at once, where none waits, or it sends nothing; or it waits behind
--- the others; or it reads as no order.
+-- An order comes. It is obeyed at once, where none waits, or it may overtake these; or it waits
+-- behind the others; or it reads as no order.
 pub data TakesOrder (order : List ℕ) (t : Tended) (waiting : List (List ℕ)) :
     List ℕ → Tended → List (List ℕ) → Type 0 where
   at_once : {bytes : List ℕ} {u : Tended}
-      → (waiting ≡ []) ⊎ (sent_by (words_of order) ≡ None) → Obeys order t bytes u
+      → (waiting ≡ []) ⊎ Overtakes order → Obeys order t bytes u
       → TakesOrder order t waiting bytes u waiting
   behind : TakesOrder order t waiting [] t (waiting ++ order ∷ [])
   report : set_order_of (words_of order) ≡ None → TakesOrder order t waiting [] t waiting

@@ -3,8 +3,7 @@ ghost use Rattle.std.specs.Prelude.{◌≡◌, ◌↔◌, [], true, false, IfOk,
 ghost use Rattle.script_lines.specs.Words.{words_of};
 ghost use Rattle.line_filter.specs.Desks.{Told as TellsSuch};
 ghost use Rattle.line_filter.specs.Orders.{QUIT};
-ghost use Rattle.line_play.specs.SetObeying.{octets_sent, sent_by};
-ghost use Rattle.line_play.specs.SetOrders.{set_order_of};
+ghost use Rattle.line_play.specs.SetOrders.{Overtakes, is_stop, overtakes as may_overtake, plain_set_order, set_order_of};
 ghost use Rattle.line_play.specs.SetRounds.{waiting_in, ObeysWaiting, TakesOrder, AttendsAll};
 
 use crate::set_orders::{SetOrder, is_set_report, set_order_in};
@@ -31,12 +30,32 @@ fn is_send(alloc: Global, text: &str) -> Result<bool, AllocError> {
     }
 }
 
-/// Whether an order may overtake others that wait: it stops links, and none that waits starts some, or it says which links orders speak of.
-fn overtakes(order: &SetOrder<'_>, starts: bool) -> bool
-    ensures { result ≡ true → octets_sent order.now ≡ None }
+/// Whether an order stops links.
+fn is_stop(order: Order) -> bool
+    ensures { result ≡ is_stop order }
 {
     match order {
-        SetOrder::Link(order) => !starts && *order == Order::Stop,
+        Order::Stop => true,
+        Order::Power
+        | Order::Start
+        | Order::Emergency
+        | Order::Calm
+        | Order::Outage
+        | Order::Back
+        | Order::Busy
+        | Order::Free
+        | Order::Flush
+        | Order::Continue
+        | Order::Overload => false,
+    }
+}
+
+/// Whether an order may overtake others that wait: it stops links, and none that waits starts some, or it says which links orders speak of.
+fn overtakes(order: &SetOrder<'_>, starts: bool) -> bool
+    ensures { result ≡ true → may_overtake (plain_set_order order.now) ≡ true }
+{
+    match order {
+        SetOrder::Link(order) => is_stop(*order) && !starts,
         SetOrder::On(_) => true,
         _ => false,
     }
@@ -44,7 +63,7 @@ fn overtakes(order: &SetOrder<'_>, starts: bool) -> bool
 
 /// Whether a line may overtake the orders that wait.
 fn may_overtake(alloc: Global, queue: &Queue, text: &str) -> Result<bool, AllocError>
-    ensures { IfOk result (λ first. first ≡ true → sent_by (words_of text.now) ≡ None) }
+    ensures { IfOk result (λ first. first ≡ true → Overtakes text.now) }
 {
     match set_order_in(alloc, text)? {
         Some(order) => Ok(overtakes(&order, queue.has_start())),
