@@ -55,12 +55,12 @@ lived_waiting t s sent told waiting _ _ _ l (obeys {bytes} {u} {w} {now} order m
 lived_taking : (t s : Tended) (sent : List Msu) (told : List Told) (order : List ℕ) (waiting : List (List ℕ)) (bytes : List ℕ) (v : Tended) (now : List (List ℕ)) → Lived t sent told s
     → (made : TakesOrder order s waiting bytes v now) → Lived t (sent ++ sent_taking made) told v
 lived_taking t s sent told order waiting _ _ _ l (at_once {bytes} {u} may made) = lived_obeys t s sent told order bytes u l made
-lived_taking t s sent told order waiting _ _ _ l behind = sent_none t s sent told l
+lived_taking t s sent told order waiting _ _ _ l (behind waits) = sent_none t s sent told l
 lived_taking t s sent told order waiting _ _ _ l (report none_there) = sent_none t s sent told l
 
 lived_attending : (t s : Tended) (sent : List Msu) (told : List Told) (waiting : List (List ℕ)) (left : Option (List Timed)) (bytes : List ℕ) (v : Tended) (last : List (List ℕ))
     (still : Option (List Timed)) → Lived t sent told s → (made : Attends s waiting left bytes v last still) → Lived t (sent ++ sent_attending made) told v
-lived_attending t s sent told waiting left _ _ _ _ l (waited {bytes} {u} {now} before) = lived_waiting t s sent told waiting bytes u now l before
+lived_attending t s sent told waiting left _ _ _ _ l (waited {bytes} {u} {now} before last) = lived_waiting t s sent told waiting bytes u now l before
 lived_attending t s sent told waiting left _ _ _ _ l (comes {bytes} {u} {now} {fewer} order more w later last before next no_end taken) =
     sent_more t w sent (sent_attending before) (sent_taking taken) told
     (lived_taking t u (sent ++ sent_attending before) told order now more w later (lived_attending t s sent told waiting left bytes u now fewer l before) taken)

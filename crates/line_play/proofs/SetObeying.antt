@@ -99,6 +99,10 @@ pub waits_so : {E : Type 0} (r : Result Bool E) (P : Type 0) → P → IfOk r (�
 waits_so (Ok b) P h = λ denied. h
 waits_so (Err e) P h = tt
 
+pub sends_so : {E : Type 0} (r : Result Bool E) (P Q : Type 0) → IfOk r (λ (b : Bool). b ≡ true → P) → IfOk r (λ (b : Bool). b ≡ true → Q → P)
+sends_so (Ok b) P Q h = λ shown q. h shown
+sends_so (Err e) P Q h = tt
+
 pub nothing_said : {E : Type 0} (r : Result Bool E) (P : Type 0) → P → IfOk r (λ (b : Bool). b ≡ true → P)
 nothing_said (Ok b) P h = λ shown. h
 nothing_said (Err e) P h = tt

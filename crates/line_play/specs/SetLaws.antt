@@ -31,14 +31,14 @@ abbrev pub sent_taking :
     {order : List ℕ} {t : Tended} {waiting : List (List ℕ)} {bytes : List ℕ} {u : Tended}
     {now : List (List ℕ)} → TakesOrder order t waiting bytes u now → List Msu
 sent_taking (at_once may made) = sent_in made
-sent_taking behind = []
+sent_taking (behind waits) = []
 sent_taking (report none_there) = []
 
 abbrev pub sent_attending :
     {t : Tended} {waiting : List (List ℕ)} {left : Option (List Timed)} {bytes : List ℕ}
     {u : Tended} {now : List (List ℕ)} {last : Option (List Timed)}
     → Attends t waiting left bytes u now last → List Msu
-sent_attending (waited before) = sent_waiting before
+sent_attending (waited before last) = sent_waiting before
 sent_attending (comes order more w later last before next no_end taken) =
     sent_attending before ++ sent_taking taken
 

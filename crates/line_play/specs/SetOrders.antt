@@ -156,8 +156,24 @@ overtakes held = false
 overtakes unsure = false
 overtakes rebalance = false
 
--- an order that may overtake others
-pub record Overtakes (order : List ℕ) : Type 0 where
+-- what sends a message
+abbrev pub is_send : PlainSetOrder → Bool
+is_send (on focus) = false
+is_send (links order) = false
+is_send (state process) = false
+is_send (value process variable) = false
+is_send (measuring measure) = false
+is_send aborted = false
+is_send measures = false
+is_send resetting = false
+is_send (send octets) = true
+is_send table = false
+is_send held = false
+is_send unsure = false
+is_send rebalance = false
+
+-- a line says an order of which this is so
+pub record SaysSuch (test : PlainSetOrder → Bool) (order : List ℕ) : Type 0 where
   pub said : PlainSetOrder
   pub is : set_order_of (words_of order) ≡ Some said
-  pub may : overtakes said ≡ true
+  pub so : test said ≡ true

@@ -17,7 +17,7 @@ use Rattle.set_tending.specs.declared.wire.Passed.TheVariants.{Same, Silent, Bac
 use Rattle.set_tending.specs.declared.wire.Wire.{Wire}
 use Rattle.line_play.specs.declared.set_queue.Queue.{Queue}
 use Rattle.line_play.specs.SetObeying.{Obeys}
-use Rattle.line_play.specs.SetOrders.{Overtakes, set_order_of}
+use Rattle.line_play.specs.SetOrders.{SaysSuch, overtakes, is_send, set_order_of}
 use Rattle.line_play.specs.LineTraffic.{Traffic, line_says, Grows, coming, given, silence_for}
 use Rattle.line_play.specs.declared.set_lines.Came.TheVariants as line
 
@@ -123,21 +123,28 @@ pub data ObeysWaiting (t : Tended) (waiting : List (List ℕ)) :
       → ObeysWaiting t waiting bytes u now → now ≡ order ∷ left → Obeys order u more w
       → ObeysWaiting t waiting (bytes ++ more) w left
 
+-- the first of those that wait, if any do, sends a message
+abbrev pub Rests : List (List ℕ) → Type 0
+Rests [] = Unit {0}
+Rests (order ∷ more) = SaysSuch is_send order
+
 -- An order comes. It is obeyed at once, where none waits, or it may overtake these; or it waits
--- behind the others; or it reads as no order.
+-- behind others, or since it sends a message; or it reads as no order.
 pub data TakesOrder (order : List ℕ) (t : Tended) (waiting : List (List ℕ)) :
     List ℕ → Tended → List (List ℕ) → Type 0 where
   at_once : {bytes : List ℕ} {u : Tended}
-      → (waiting ≡ []) ⊎ Overtakes order → Obeys order t bytes u
+      → (waiting ≡ []) ⊎ SaysSuch overtakes order → Obeys order t bytes u
       → TakesOrder order t waiting bytes u waiting
-  behind : TakesOrder order t waiting [] t (waiting ++ order ∷ [])
+  behind : (waiting ≡ [] → SaysSuch is_send order)
+      → TakesOrder order t waiting [] t (waiting ++ order ∷ [])
   report : set_order_of (words_of order) ≡ None → TakesOrder order t waiting [] t waiting
 
--- Orders that wait are obeyed, then those that are due come in their order.
+-- Orders that wait are obeyed, up to a message that still has to wait, then those that are due come
+-- in their order.
 pub data Attends (t : Tended) (waiting : List (List ℕ)) (left : Option (List Timed)) :
     List ℕ → Tended → List (List ℕ) → Option (List Timed) → Type 0 where
   waited : {bytes : List ℕ} {u : Tended} {now : List (List ℕ)}
-      → ObeysWaiting t waiting bytes u now → Attends t waiting left bytes u now left
+      → ObeysWaiting t waiting bytes u now → Rests now → Attends t waiting left bytes u now left
   comes : {bytes : List ℕ} {u : Tended} {now : List (List ℕ)} {fewer : Option (List Timed)}
       (order more : List ℕ) (w : Tended) (later : List (List ℕ)) (last : Option (List Timed))
       → Attends t waiting left bytes u now fewer → NextIs u.ticks fewer order last

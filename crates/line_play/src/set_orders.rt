@@ -6,7 +6,7 @@ ghost use Rattle.script_links.specs.Octets.{octets_of};
 ghost use Rattle.script_links.specs.Orders.{order_of};
 ghost use Rattle.script_links.specs.TermCommands.{plain_term_command};
 ghost use Rattle.line_play.specs.SetObeying.{octets_sent, sent_by};
-ghost use Rattle.line_play.specs.SetOrders.{plain_set_order, links as to_links, alone_of, focus_of, question_of, asked_of, pair_of, other_order_of, sent_word as word_sent, send_of, set_order_of};
+ghost use Rattle.line_play.specs.SetOrders.{plain_set_order, on, links as to_links, alone_of, focus_of, question_of, asked_of, pair_of, other_order_of, sent_word as word_sent, send_of, set_order_of};
 
 use script_lines::words_in;
 use script_links::{Order, TermCommand, count, octets_in, order_in, term_command_in};
@@ -184,6 +184,17 @@ fn sent_word<'a>(words: &[&'a str]) -> Option<&'a str>
     }
 }
 
+/// What stands behind `on`.
+fn on_in<'a>(word: &str) -> Option<SetOrder<'a>>
+    ensures sends { IfSome result (λ s. octets_sent s ≡ None) }
+    ensures reads { option_map plain_set_order result ≡ option_map on (focus_of word.now) }
+{
+    match focus_in(word) {
+        Some(focus) => Some(SetOrder::On(focus)),
+        None => None,
+    }
+}
+
 /// What two words say, where the first isn't `send`: `on L`, `on all`, or what is asked of links.
 fn pair_in<'a>(
     alloc: Global,
@@ -193,13 +204,10 @@ fn pair_in<'a>(
     ensures sends { IfOk result (λ o. IfSome o (λ s. octets_sent s ≡ None)) }
     ensures reads { IfOk result (λ o. option_map plain_set_order o ≡ pair_of first.now word.now) }
 {
-    if first != "on" {
-        return asked_in(alloc, &[first, word]);
+    if first == "on" {
+        return Ok(on_in(word));
     }
-    match focus_in(word) {
-        Some(focus) => Ok(Some(SetOrder::On(focus))),
-        None => Ok(None),
-    }
+    asked_in(alloc, &[first, word])
 }
 
 /// An order that sends nothing.

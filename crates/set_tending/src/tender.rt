@@ -1,7 +1,8 @@
 //! The set with what is kept of it.
-ghost use Rattle.std.specs.Prelude.{◌≡◌, ◌++◌, [], true, false, IfSome, IsNone};
+ghost use Rattle.std.specs.Prelude.{◌≡◌, ◌++◌, [], true, false, length, slice_get, IfSome, IsNone};
 ghost use Rattle.std.specs.List.{list_any};
 ghost use Rattle.link_group.specs.OneLink.{is_changing};
+ghost use Rattle.link_group.specs.Tables.{changing_by};
 ghost use Rattle.set_tending.specs.Telling.{report_in};
 ghost use Rattle.set_tending.specs.Tended.{IsNewTended};
 
@@ -140,12 +141,26 @@ impl Tender {
         care.owed.is_none() && care.due.is_none()
     }
 
+    /// Whether a changeover of a link goes on.
+    pub(crate) fn in_changeover(&self, link: usize) -> bool
+        ensures { result ≡ changing_by (slice_get self.now.set.links link) }
+    {
+        self.set.in_changeover(link)
+    }
+
+    /// How many links the set has.
+    fn count(&self) -> usize
+        ensures { result ≡ length self.now.set.links }
+    {
+        self.set.len()
+    }
+
     /// Whether nothing is owed or in changeover, and no Start is to come.
     pub fn is_calm(&self) -> bool
         ensures { result ≡ true → list_any is_changing self.now.set.links ≡ false }
     {
-        for link in 0..self.set.len() {
-            if self.set.in_changeover(link) || !self.is_quiet(link) {
+        for link in 0..self.count() {
+            if self.in_changeover(link) || !self.is_quiet(link) {
                 return false;
             }
         }

@@ -6,5 +6,5 @@ pub returns-in-Some : goal.returns-in-Some
 returns-in-Some c = λ shown. record {
   said = plain_set_order c.in-Some.order;
   is = reads_some _ _ c.in-Some.order c.in-Some.is c.in_ok-order.ensures.reads;
-  may = c.overtakes.ensures shown;
+  so = c.overtakes.ensures shown;
 }
