@@ -79,7 +79,8 @@ fn may_overtake(alloc: Global, queue: &Queue, text: &str) -> Result<bool, AllocE
 fn says_nothing(alloc: Global, text: &str) -> Result<bool, AllocError>
     ensures { IfOk result (λ nothing. nothing ≡ true → set_order_of (words_of text.now) ≡ None) }
 {
-    match set_order_in(alloc, text)? {
+    let order = set_order_in(alloc, text)?;
+    match order {
         Some(_) => Ok(false),
         None => is_set_report(alloc, text),
     }

@@ -160,7 +160,10 @@ impl Tender {
         ensures { result ≡ true → list_any is_changing self.now.set.links ≡ false }
     {
         for link in 0..self.count() {
-            if self.in_changeover(link) || !self.is_quiet(link) {
+            if self.in_changeover(link) {
+                return false;
+            }
+            if !self.is_quiet(link) {
                 return false;
             }
         }

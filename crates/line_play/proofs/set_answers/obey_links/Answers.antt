@@ -3,16 +3,16 @@ use Rattle.line_play.specs.SetDoing.{no_command, one_command}
 use Rattle.line_play.proofs.set_answers.obey_links.Goals as goal
 
 pub loop-link-init : goal.loop-link-init
-loop-link-init c = (adds_nothing _, λ none. no_command)
+loop-link-init c = record { adds = adds_nothing _; each = λ none. no_command }
 
 pub loop-link-preserved : goal.loop-link-preserved
-loop-link-preserved c = (
-  adds_then _ _ _ c.loop-link.invariant.0 c.in_ok-obey_one.ensures.adds,
-  λ none. one_command (c.loop-link.invariant.1 (c.in_ok-obey_one.ensures.none none)) (c.in_ok-obey_one.ensures.obeys none),
-)
+loop-link-preserved c = record {
+  adds = adds_then _ _ _ c.loop-link.invariant.adds c.in_ok-first.ensures.adds;
+  each = λ none. one_command (c.loop-link.invariant.each (c.in_ok-first.ensures.none none)) (c.in_ok-first.ensures.obeys none);
+}
 
 pub returns-clause-adds : goal.returns-clause-adds
-returns-clause-adds c = c.loop-link.invariant.0
+returns-clause-adds c = c.loop-link.invariant.adds
 
 pub returns-clause-obeys : goal.returns-clause-obeys
-returns-clause-obeys c = λ none. record { first = c.args.from; last = c.loop-link.link; each = c.loop-link.invariant.1 none }
+returns-clause-obeys c = λ none. record { first = c.args.from; last = c.loop-link.link; each = c.loop-link.invariant.each none }

@@ -5,4 +5,7 @@ use Rattle.line_play.specs.SetDoing.{ObeyEach}
 use Rattle.line_play.proofs.set_answers.obey_links.Given as goal
 
 abbrev pub invariant-loop-link : goal.invariant-loop-link
-invariant-loop-link l = Adds l.initial.tender l.tender × (IsNone l.first → ObeyEach (command_of l.order) l.from l.initial.tender l.link l.tender)
+invariant-loop-link l = record {
+  adds : Adds l.initial.tender l.tender;
+  each : IsNone l.first → ObeyEach (command_of l.order) l.from l.initial.tender l.link l.tender;
+}

@@ -2,8 +2,8 @@ use Rattle.std.proofs.Common.{refl}
 use Rattle.line_play.proofs.SetObeying.{reads_none, reads_some, refused_bad}
 use Rattle.line_play.proofs.set_state.SetState.obey.Goals as goal
 
-pub obey_order-requires-reads : goal.obey_order-requires-reads
-obey_order-requires-reads g c = reads_some _ _ c.in-Some.order c.in-Some.is c.in_ok-order.ensures.reads
+pub obey_order-requires-clause-reads : goal.obey_order-requires-clause-reads
+obey_order-requires-clause-reads g c = reads_some _ _ c.in-Some.order c.in-Some.is c.in_ok-order.ensures.reads
 
 pub returns-in-None : goal.returns-in-None
 returns-in-None g c =
