@@ -81,11 +81,18 @@ impl Tender {
         }
     }
 
-    /// A link went down: its changeover begins, unless it wasn't in service or its changeover goes on.
+    /// A link went down.
     fn go_down(&mut self, link: usize, reason: i32) -> Result<(), TendError>
         ensures { OnOk result (Acts [] (Told.Down link reason ∷ []) self.old self.new) }
     {
         self.tell_report(Told::Down(link, reason))?;
+        self.fall(link)
+    }
+
+    /// What is done for a link that went down: its changeover begins, unless it wasn't in service or its changeover goes on.
+    fn fall(&mut self, link: usize) -> Result<(), TendError>
+        ensures { OnOk result (Adds self.old self.new) }
+    {
         self.withdraw(link);
         let care = self.care(link);
         self.keep(link, care.fallen(self.ticks));
