@@ -1,5 +1,5 @@
 -- What an order to a set changes, and what is told of what it asked for.
-use Rattle.std.specs.Prelude.{◌≡◌, ℕ, ◌+◌, ◌≤◌, true, false, List, [], ◌++◌, Option, None, map, slice_get}
+use Rattle.std.specs.Prelude.{◌≡◌, ℕ, ◌+◌, ◌≤◌, true, false, List, [], ◌++◌, None, map, slice_get}
 use Rattle.std.specs.Prelude.{unwrap_or, codes}
 use Rattle.std.specs.Fmt.{decimal}
 use Rattle.script_terminal.specs.MeasureNames.{measure_word}
@@ -106,7 +106,8 @@ pub record IsValue (process variable text : List ℕ) : Type 0 where
   pub what : List ℕ
   pub are :
       text
-      ≡ decimal link ++ (codes " value " ++ (process ++ (codes " " ++ (variable ++ (codes " " ++ what)))))
+      ≡ decimal link
+      ++ (codes " value " ++ (process ++ (codes " " ++ (variable ++ (codes " " ++ what)))))
 
 -- a count that has this name
 pub record IsCount (name text : List ℕ) : Type 0 where

@@ -14,8 +14,8 @@ use Rattle.set_tending.specs.declared.told.Told.{Told}
 -- what is told is taken from the front.
 pub data Lives (t : Tended) : List Msu → List Handed → List Told → Tended → Type 0 where
   begins : Lives t [] [] [] t
-  calls : {sent : List Msu} {handed : List Handed} {told : List Told} {u : Tended} (taken : List Msu)
-      (d : LinkSet)
+  calls : {sent : List Msu} {handed : List Handed} {told : List Told} {u : Tended}
+      (taken : List Msu) (d : LinkSet)
       → Lives t sent handed told u → ByCalls u.set taken d
       → Lives t (sent ++ taken) handed told (record u { set = d })
   hands : {sent : List Msu} {handed : List Handed} {told : List Told} {u : Tended} (h : Handed)

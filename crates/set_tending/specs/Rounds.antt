@@ -56,8 +56,8 @@ pub data Heeds (t : Tended) : List Handed → Tended → Type 0 where
 abbrev pub reports_told : Plan → List Handed → List Told
 reports_told p hs = flat_map (λ h. report_told p h.link h.report) hs
 
--- Links were heeded: each message for level 3 that they handed out, and what became of them, is told
--- once, in their order, with the link of which it is.
+-- Links were heeded: each message for level 3 that they handed out, and what became of them, is
+-- told once, in their order, with the link of which it is.
 pub record IsHeeded (old new : Tended) : Type 0 where
   pub handed : List Handed
   pub heeds : Heeds old handed new
