@@ -1,5 +1,5 @@
 -- What follows for all that a set on lines did.
-use Rattle.std.proofs.Common.{◌≡◌, ◌∙◌, ℕ, Bool, true, List, [], ◌∷◌, ◌++◌, append-nil, append_assoc, length, Option, refl, sym, ap, subst}
+use Rattle.std.proofs.Common.{◌≡◌, ◌∙◌, ℕ, Bool, true, List, [], ◌∷◌, ◌++◌, append-nil, append_assoc, length, Option, sym, subst}
 use Rattle.script_links.specs.resend_store_types.messages.Msu.{Msu}
 use Rattle.line_filter.specs.Orders.{Timed}
 use Rattle.set_tending.specs.Lives.{Lived}
@@ -9,7 +9,6 @@ use Rattle.set_tending.specs.declared.told.Told.{Told}
 use Rattle.set_tending.specs.Wires.{Passes, some, none}
 use Rattle.set_tending.specs.declared.wire.Wire.{Wire}
 use Rattle.set_tending.specs.declared.wire.Passed.{Passed}
-use Rattle.set_tending.proofs.Doing.{adds_nothing}
 use Rattle.set_tending.proofs.Lives.{lived_none, lived_adds, lived_sends, lived_ticks, lived_tends, lived_hears, lived_speaks, lived_tells}
 use Rattle.line_play.specs.LineTraffic.{Traffic}
 use Rattle.line_play.specs.SetObeying.{IsRefused, bad, unsent, untaken, other, Obeys, sends, does, refuses}

@@ -1,5 +1,5 @@
 -- Orders to a set, obeyed and told.
-use Rattle.std.proofs.Common.{◌≡◌, ◌∙◌, ◌⊎◌, inl, inr, ℕ, ◌+◌, ◌<◌, Bool, true, false, List, [], ◌∷◌, ◌++◌, length, codes, Option, None, Some, is_some, Result, Ok, Err, OnOk, IfOk, IfSome, IsSome, IsNone, IsTrue, option_map, true≢false, refl, sym, ap, subst, arith}
+use Rattle.std.proofs.Common.{◌≡◌, ◌∙◌, ◌⊎◌, inl, inr, ℕ, ◌+◌, ◌<◌, Bool, true, false, List, [], ◌∷◌, ◌++◌, length, codes, Option, None, Some, Result, Ok, Err, OnOk, IfOk, IfSome, IsSome, IsNone, option_map, true≢false, refl, sym, ap, subst, arith}
 use Rattle.std.proofs.lemmas.Result.{on_ok_weaker}
 use Rattle.std.proofs.lemmas.Option.{none-some}
 use Rattle.script_links.specs.resend_store_types.messages.Msu.{Msu}
@@ -8,18 +8,16 @@ use Rattle.script_terminal.specs.TermAnswers.{IsMessageOf, AreNoMessage as AreUn
 use Rattle.line_filter.specs.Desks.{Told as TellsSuch}
 use Rattle.line_filter.specs.Orders.{told}
 use Rattle.line_filter.specs.Reporting.{Stand, TellsLines}
-use Rattle.line_filter.proofs.Reporting.{tells_none, tells_trans}
+use Rattle.line_filter.proofs.Reporting.{tells_trans}
 use Rattle.set_tending.specs.Labels.{label_in}
-use Rattle.set_tending.specs.group_changeover_types.labels.Label.{Label}
 use Rattle.set_tending.specs.group_changeover_types.errors.SendError.{SendError}
 use Rattle.set_tending.specs.Rounds.{Acts, Adds}
 use Rattle.set_tending.specs.Sending.{tended_send_fault}
 use Rattle.set_tending.specs.Tended.{Tended}
-use Rattle.set_tending.proofs.Doing.{adds_nothing, adds_same}
 use Rattle.line_play.specs.declared.set_orders.SetOrder.{SetOrder}
 use Rattle.line_play.specs.declared.set_orders.SetOrder.TheVariants as order
 use Rattle.line_play.specs.SetDoing.{Changes, Refuses, Shows, IsAnswer}
-use Rattle.line_play.specs.SetObeying.{sent_by, octets_sent, AreNoMessage, Sends, IsSent, IsUntaken, no_label, fault, IsTurnedDown, no_message, full, IsRefused, bad, unsent, untaken, other, Obeys, sends, does, refuses}
+use Rattle.line_play.specs.SetObeying.{sent_by, octets_sent, AreNoMessage, IsSent, IsUntaken, no_label, fault, IsTurnedDown, no_message, full, IsRefused, bad, unsent, untaken, other, Obeys, sends, does, refuses}
 use Rattle.line_play.specs.SetOrders.{PlainSetOrder, plain_set_order, set_order_of}
 
 -- ---- what is no message

@@ -1,12 +1,12 @@
 -- What the words of an order to a set say.
-use Rattle.std.proofs.Common.{◌≡◌, ◌∙◌, ℕ, ◌≤◌, List, [], ◌∷◌, length, Option, None, Some, option_map, Result, IfOk, refl, ap, subst, arith}
-use Rattle.std.specs.Prelude.{◌≢◌, option_and_then, Bor, codes}
+use Rattle.std.proofs.Common.{◌≡◌, ◌∙◌, ℕ, ◌≤◌, List, [], ◌∷◌, length, Bor, Option, None, Some, option_map, Result, IfOk, refl, ap, arith}
+use Rattle.std.specs.Prelude.{◌≢◌, option_and_then, codes}
 use Rattle.std.proofs.lemmas.Result.{IfOk-weaker}
 use Rattle.script_lines.specs.Lines.{texts}
 use Rattle.script_lines.proofs.NumberLemmas.{bytes_ne}
 use Rattle.script_links.specs.Octets.{octets_of}
 use Rattle.script_links.specs.Orders.{order_of}
-use Rattle.line_play.specs.SetOrders.{PlainSetOrder, plain_set_order, links, alone_of, asked_of, other_order_of, sent_word, send_of, by_sent_word, set_order_of}
+use Rattle.line_play.specs.SetOrders.{plain_set_order, links, alone_of, asked_of, other_order_of, sent_word, send_of, by_sent_word, set_order_of}
 use Rattle.line_play.specs.declared.set_orders.SetOrder.{SetOrder}
 
 -- a word that is none of these

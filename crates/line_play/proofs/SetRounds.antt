@@ -1,5 +1,5 @@
 -- A round of a set on lines, part by part.
-use Rattle.std.proofs.Common.{◌≡◌, ◌∙◌, ◌⊎◌, inl, inr, ℕ, ◌+◌, ◌≤◌, ◌<◌, ◌==◌, nat_le, if◌then◌else◌, true≢false, Bool, true, false, List, [], ◌∷◌, ◌++◌, append-nil, append_assoc, length, map, replicate, take, drop, get_or, slice_get, slice_set, codes, string_bytes, decimal, Option, None, Some, Result, Ok, Err, OnOk, IfOk, IfSome, refl, sym, ap, subst, arith}
+use Rattle.std.proofs.Common.{◌≡◌, ◌∙◌, ◌⊎◌, ℕ, ◌+◌, ◌≤◌, ◌<◌, ◌==◌, nat_le, if◌then◌else◌, true≢false, Bool, true, false, List, [], ◌∷◌, ◌++◌, append-nil, append_assoc, length, replicate, take, drop, get_or, slice_get, slice_set, codes, Option, None, Some, Result, Ok, Err, OnOk, IfOk, refl, sym, ap, subst, arith}
 use Rattle.std.proofs.lemmas.Bool.Decides.{nat_tests}
 use Rattle.std.proofs.lemmas.Option.{none-some, same_Some, slice_get-get_or}
 use Rattle.std.proofs.lemmas.Result.{on_ok_weaker}
@@ -13,7 +13,7 @@ use Rattle.set_tending.specs.Rounds.{Tends, Ticks}
 use Rattle.set_tending.specs.Tended.{Tended}
 use Rattle.set_tending.specs.Wires.{Hears, Passes, SILENT}
 use Rattle.set_tending.specs.declared.wire.Passed.{Passed}
-use Rattle.set_tending.specs.declared.wire.Passed.TheVariants.{Same, Silent, Back}
+use Rattle.set_tending.specs.declared.wire.Passed.TheVariants.{Same}
 use Rattle.set_tending.specs.declared.wire.Wire.{Wire}
 use Rattle.line_play.specs.LineTraffic.{Traffic, octets_go, line_says, Grows, coming, given, front_of, arrived, silence_for}
 use Rattle.line_play.specs.declared.set_lines.Came.{Came}

@@ -1,5 +1,5 @@
 -- What a set on lines tells, line by line.
-use Rattle.std.proofs.Common.{◌≡◌, ◌∙◌, ℕ, ◌+◌, List, [], ◌∷◌, ◌++◌, codes, append-nil, append_assoc, slice_get, unwrap_or, Option, None, Some, Result, Ok, Err, OnOk, IfOk, refl, sym, ap, subst}
+use Rattle.std.proofs.Common.{◌≡◌, ◌∙◌, ℕ, ◌+◌, List, [], ◌∷◌, ◌++◌, codes, append-nil, append_assoc, slice_get, unwrap_or, Option, Result, Ok, Err, OnOk, refl, sym, ap, subst}
 use Rattle.std.proofs.lemmas.Result.{on_ok_weaker}
 use Rattle.std.specs.Fmt.{decimal}
 use Rattle.script_links.specs.resend_store_types.measures.Measure.{Measure}

@@ -1,6 +1,6 @@
 -- Orders that wait.
-use Rattle.std.proofs.Common.{◌≡◌, ◌∙◌, ℕ, zero, suc, ◌<◌, ◌≤◌, ◌==◌, nat_le, Bool, true, false, List, [], ◌∷◌, ◌++◌, length, map, string_bytes, Option, None, Some, IfSome, IsSome, IsNone, IsTrue, Result, is_ok, if◌then◌else◌, option_to_list, option_map, slice_get, true≢false, refl, sym, ap, arith}
-use Rattle.std.specs.Prelude.{Bor, ◌↔◌}
+use Rattle.std.proofs.Common.{◌≡◌, ◌∙◌, ℕ, zero, suc, ◌<◌, ◌≤◌, ◌==◌, Bool, true, false, List, [], ◌∷◌, ◌++◌, length, map, string_bytes, Bor, Option, None, Some, IfSome, IsSome, IsNone, IsTrue, Result, is_ok, if◌then◌else◌, option_to_list, option_map, slice_get, true≢false, refl, sym, ap, arith}
+use Rattle.std.specs.Prelude.{◌↔◌}
 use Rattle.std.specs.Slice.{IsItemAt}
 use Rattle.std.proofs.lemmas.Bool.Decides.{nat_tests}
 use Rattle.std.proofs.lemmas.List.{map-append, length-map}

@@ -10,7 +10,7 @@ use Rattle.line_play.specs.LineTraffic.{Traffic}
 use Rattle.line_play.specs.SetObeying.{Obeys, sends, does, refuses}
 use Rattle.line_play.specs.SetRounds.{Tells, nothing, one, ObeysWaiting, rests, obeys}
 use Rattle.line_play.specs.SetRounds.{TakesOrder, at_once, behind, report, Attends, waited, comes}
-use Rattle.line_play.specs.SetRounds.{AttendsAll, none_due, full, quits, SetPlace, IsRound}
+use Rattle.line_play.specs.SetRounds.{AttendsAll, none_due, full, quits, SetPlace}
 use Rattle.line_play.specs.SetRounds.{Rounds, begins, round}
 
 -- ---- the messages of orders that were told as ok, in their order

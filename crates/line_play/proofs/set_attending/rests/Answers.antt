@@ -1,5 +1,4 @@
-use Rattle.std.proofs.Common.{sym, ap, option_map, string_bytes, ◌∙◌}
-use Rattle.std.specs.Prelude.{Bor}
+use Rattle.std.proofs.Common.{sym, ap, option_map, string_bytes, Bor, ◌∙◌}
 use Rattle.line_play.specs.declared.set_queue.Waiting.{Waiting}
 use Rattle.line_play.proofs.SetRounds.{rests_none, rests_when}
 use Rattle.line_play.proofs.set_attending.rests.Goals as goal

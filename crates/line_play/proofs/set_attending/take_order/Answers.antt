@@ -1,4 +1,4 @@
-use Rattle.std.proofs.Common.{inl, inr, sym}
+use Rattle.std.proofs.Common.{inl, inr}
 use Rattle.line_play.proofs.SetRounds.{taken_at_once, taken_behind, taken_report}
 use Rattle.line_play.proofs.set_attending.take_order.Goals as goal
 

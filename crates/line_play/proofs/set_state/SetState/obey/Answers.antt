@@ -1,4 +1,3 @@
-use Rattle.std.proofs.Common.{refl}
 use Rattle.line_play.proofs.SetObeying.{reads_none, reads_some, refused_bad}
 use Rattle.line_play.proofs.set_state.SetState.obey.Goals as goal
 

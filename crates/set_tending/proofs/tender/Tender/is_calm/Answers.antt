@@ -1,4 +1,4 @@
-use Rattle.std.proofs.Common.{refl, sym, arith, ◌∙◌}
+use Rattle.std.proofs.Common.{sym, arith, ◌∙◌}
 use Rattle.set_tending.proofs.Calm.{any_more, any_all}
 use Rattle.set_tending.proofs.tender.Tender.is_calm.Goals as goal
 
