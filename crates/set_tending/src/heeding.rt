@@ -147,14 +147,14 @@ impl Tender {
         }
         let noted = self.note(msu.sif.as_slice());
         self.owe_answer(about, noted.answer);
-        match noted.hearing {
-            Hearing::Began => {
-                self.keep(about, self.care(about).changing());
-                self.tell(Told::Changeover(about))
-            }
-            Hearing::Order if self.care(about).serves => self.begin_changeover(about),
-            _ => Ok(()),
+        if noted.hearing == Hearing::Order && self.care(about).serves {
+            return self.begin_changeover(about);
         }
+        if noted.hearing != Hearing::Began {
+            return Ok(());
+        }
+        self.keep(about, self.care(about).changing());
+        self.tell(Told::Changeover(about))
     }
 
     /// An order about a link that hasn't been in service is answered.
