@@ -142,7 +142,8 @@ impl Tender {
     }
 
     /// A message of changeover came about a link that is there, by another one. About one that hasn't been in service an order is answered
-    /// without the set.
+    /// without the set. One that begins no changeover, since it may be a late one, has this end begin its own, if the link is in service: its order
+    /// goes in place of the answer, so that the other end, whose changeover goes on, tells its number once more.
     fn hear_changeover(&mut self, about: usize, kind: Kind, msu: &Msu) -> Result<(), TendError>
         ensures { OnOk result (Adds self.old self.new) }
     {
@@ -152,6 +153,9 @@ impl Tender {
         }
         let noted = self.note(msu.sif.as_slice());
         self.owe_answer(about, noted.answer);
+        if noted.hearing == Hearing::Order && self.care(about).serves {
+            return self.begin_changeover(about);
+        }
         if noted.hearing != Hearing::Began {
             return Ok(());
         }
