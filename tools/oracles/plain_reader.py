@@ -55,7 +55,7 @@ def height(x):
     if x[0] == 'un': return 1 + height(x[2])
     return 1
 class P:
-    def __init__(s, b, toks): s.b = b; s.t = toks; s.i = 0; s.high = None; s.inner = [0]
+    def __init__(s, b, toks): s.b = b; s.t = toks; s.i = 0; s.high = None; s.inner = [0]; s.opened = {}
     def k(s): return s.t[s.i][0] if s.i < len(s.t) else 'end'
     def at(s): return s.t[s.i][2] if s.i < len(s.t) else None
     def fail(s):
@@ -179,7 +179,7 @@ class P:
         # a too high statement inside makes this one too high, and this one stands first
         keep, s.high = s.high, None; s.inner.append(0)
         while s.k() == '(':
-            s.i += 1; rs = [s.range()]
+            opened = s.at(); s.i += 1; rs = [s.range()]; s.opened[id(rs)] = opened
             while s.opt(','): rs.append(s.range())
             s.take(')'); s.take(':'); ans.append((rs, s.trans()))
         if not ans and s.k() != 'ELSE': s.fail()

@@ -2,7 +2,7 @@
 """What happens as a script runs, by the plain players of plain_play.py, plain_term.py and plain_group.py, which were written apart from the program: a line for
 each event, a chart, and what of the text was taken.
 
-usage: tools/oracles/plain_trace.py SET SCRIPT [--every]      prints the trace of a script of a book or of a terminal
+usage: tools/oracles/plain_trace.py SET SCRIPT [--every]      prints the trace of a script
        tools/oracles/plain_trace.py SET SCRIPT --chart [--turns A..B]     prints it as a chart in mscgen's language
        tools/oracles/plain_trace.py SET SCRIPT --coverage     prints which transitions, answers and lines of the text were taken, in lcov's format
        tools/oracles/plain_trace.py SET SCRIPT --thrown       prints which signals were thrown away in which states, and how often, in the order of the first time
@@ -15,6 +15,7 @@ SET and SCRIPT are as plain_term.py has them; the status is that of the script. 
     T skip ACTOR STATE/SIG v .. from SENDER                 with --every; a timer has no sender
     T turn N ACTOR STATE/SIG v .. from SENDER, STATE count C of BUDGET, EFFECT .., VAR := V ..
 
+In a script of a link set what happens on a link stands behind `on L`, link by link; in front of that stands what messages of changeover said: T heard COO link L fsn N, T said ...
 A turn has a line as it ends, with its number from 0 as it began, in the order of all turns. Without --every one that keeps its state and has no effect has none.
 EFFECT is `SIG v .. to ACTOR`, with `lost WHY` behind it where nobody got it, `set TIMER at T` or `reset TIMER`; of variables those stand there that the turn changed."""
 import collections
@@ -23,6 +24,7 @@ import sys
 
 sys.path += map(str, pathlib.Path(__file__).resolve().parents[1].glob("*"))
 
+import plain_filter
 import plain_group
 import plain_play
 import plain_term
@@ -48,8 +50,11 @@ class Taken:
 
     def __init__(self, text):
         self.text = text
-        entities = P(text, lex(text)).block()
-        self.transitions, self.decisions, self.lines = {}, {}, {}
+        self.parser = P(text, lex(text))
+        entities = self.parser.block()
+        # of each decision the places of its answers, None for ELSE; and where something begins
+        self.transitions, self.decisions, self.begun = {}, {}, set()
+        self.printed = {it.lower(): it for it in (line.split(" budget ")[0] for line in check(text)[:-1])}
         for it in entities:
             if it[0] == "process":
                 self.process(it[1])
@@ -62,7 +67,7 @@ class Taken:
 
     def process(self, parsed):
         (name, _), _, (at, start), states, connections, _ = parsed
-        self.transitions[name.lower(), "START", None] = (f"{name} START", self.at(at))
+        self.transitions[name.lower(), "START", None] = (self.printed[f"{name} START".lower()], at)
         self.body(start)
         for names, clauses in states:
             for it in clauses:
@@ -70,7 +75,7 @@ class Taken:
                     for state in names:
                         for (signal, _), _ in it[2]:
                             key = name.lower(), lo(state), signal.lower()
-                            self.transitions[key] = (f"{name} {state[0]}/{signal}", self.at(it[1]))
+                            self.transitions[key] = (self.printed[f"{name} {state[0]}/{signal}".lower()], it[1])
                     self.body(it[3])
         for _, _, body in connections:
             self.body(body)
@@ -78,34 +83,39 @@ class Taken:
     def body(self, text):
         for act in text[0]:
             if act[0] == "decide":
-                self.decisions[act[1]] = len(act[3]) + (act[4] is not None)
-                self.lines[self.at(act[1])] = 0
+                answers = [self.parser.opened[id(ranges)] for ranges, _ in act[3]]
+                self.decisions[act[1]] = answers + [None] * (act[4] is not None)
+                self.begun |= {act[1], *answers}
                 for _, body in act[3]:
                     self.body(body)
                 if act[4] is not None:
                     self.body(act[4])
             else:
-                self.lines[self.at(act[-1])] = 0
+                self.begun.add(act[-1])
         if text[1] is not None:
-            self.lines[self.at(text[1][1])] = 0
+            self.begun.add(text[1][1])
 
     def lcov(self, path):
         """In lcov's format, for the file of this path."""
         out = ["TN:scripts", f"SF:{path}"]
         ordered = sorted(self.transitions.items(), key=lambda it: (it[1][1], it[1][0]))
-        out += [f"FN:{line},{name}" for _, (name, line) in ordered]
+        out += [f"FN:{self.at(place)},{name}" for _, (name, place) in ordered]
         out += [f"FNDA:{self.turns[key]},{name}" for key, (name, _) in ordered]
         out += [f"FNF:{len(ordered)}", f"FNH:{sum(self.turns[key] > 0 for key, _ in ordered)}"]
-        branches = [(place, number, answer) for number, (place, count) in enumerate(sorted(self.decisions.items())) for answer in range(count)]
-        for place, number, answer in branches:
+        branches = [(place, answer) for place, answers in sorted(self.decisions.items()) for answer in range(len(answers))]
+        for place, answer in branches:
             times = self.answers[place, answer] if self.asked[place] else "-"
-            out.append(f"BRDA:{self.at(place)},{number},{answer},{times}")
-        out += [f"BRF:{len(branches)}", f"BRH:{sum(self.answers[place, answer] > 0 for place, _, answer in branches)}"]
-        lines = dict(self.lines)
-        for place, times in self.passed.items():
-            lines[self.at(place)] = lines.get(self.at(place), 0) + times
-        for key, (_, line) in self.transitions.items():
-            lines[line] = lines.get(line, 0) + self.turns[key]
+            out.append(f"BRDA:{self.at(place)},{place},{answer},{times}")
+        out += [f"BRF:{len(branches)}", f"BRH:{sum(self.answers[it] > 0 for it in branches)}"]
+        taken, lines = collections.Counter(self.passed), {}
+        for key, (_, place) in self.transitions.items():
+            taken[place] += self.turns[key]
+        for place, answers in self.decisions.items():
+            for answer, opened in enumerate(answers):
+                if opened is not None:
+                    taken[opened] += self.answers[place, answer]
+        for place in self.begun | {place for _, place in self.transitions.values()}:
+            lines[self.at(place)] = max(lines.get(self.at(place), 0), taken[place])
         out += [f"DA:{line},{times}" for line, times in sorted(lines.items())]
         return out + [f"LF:{len(lines)}", f"LH:{sum(times > 0 for times in lines.values())}", "end_of_record"]
 
@@ -336,19 +346,96 @@ def run_terminal(text, script, seen, say, usual):
     return 0
 
 
+HEADINGS = {0x11: "COO", 0x21: "COA", 0x12: "ECO", 0x22: "ECA"}
+
+
+def changeover_line(clock, way, sif):
+    """The line of a message of changeover, if octets are one."""
+    found = plain_group.changeover_in(sif)
+    if found is None:
+        return []
+    (_, _, selection), heading, fsn = found
+    return [words(str(clock), way, HEADINGS[heading], f"link {selection}", "" if fsn is None else f"fsn {fsn}")]
+
+
+# Commands of a link set's script that only ask, or turn to another link.
+QUESTIONS = ("state", "value", "expect", "on", "table", "held", "unsure", "link")
+
+
+def changeover_lines(clock, word, rest, said):
+    """What messages of changeover said by a command: one that came in, and what the line that was printed has of the order or the answer."""
+    heard = changeover_line(clock, "heard", rest[0]) if word == "message" else []
+    answers = word in ("message", "fail") and said[0].startswith("ok ")
+    return heard + (changeover_line(clock, "said", bytes.fromhex(said[0][3:])) if answers else [])
+
+
+def run_group(text, script, seen, say, usual):
+    player, last, lines = plain_group.Player(text, *plain_group.head(script), *usual), None, lines_of(script)
+    links = player.group.links
+    seen.book = links[0].book
+    commands = [(at, it[0], plain_group.command(it)) for at, it in plain_term.spoken(script)[1:]]
+    lacking = plain_term.lacking_in(seen.book)
+    if lacking:
+        say(f"refused X2 NoName {lacking[0]}")
+        return 2
+    for link in links:
+        link.book.seen = Seen(text, seen.every)
+    for at, spoken, (word, *rest) in commands:
+        if word == "expect":
+            if rest[0] != last:
+                say(f"failed line {at}")
+                return 1
+            continue
+        if spoken not in QUESTIONS:
+            seen.lines.append(f"> {lines[at]}")
+        try:
+            said = player.do(word, *rest)
+        except Refused as why:
+            said = [f"refused {why}"]
+        for last in said:
+            say(last)
+        seen.lines += changeover_lines(links[0].book.clock, word, rest, said)
+        for number, link in enumerate(links):
+            if link.book.seen.lines:
+                seen.lines += [f"on {number}", *link.book.seen.lines]
+                link.book.seen.lines = []
+        # (of which it is asked whether its journal began anew)
+        seen.book = max((it.book for it in links), key=lambda it: it.events)
+    return 0
+
+
 def seen_of(text, script, every=False, say=lambda line: None, usual=()):
     """What is seen of a script on a text, and the status; with these N1 and N2 where a terminal's script says none."""
-    if plain_group.is_group(script) if hasattr(plain_group, "is_group") else False:
-        raise SystemExit("scripts of link sets have no trace here")
     seen = SeenBook.seen = Seen(text, every)
     plain = plain_play.Turn, plain_term.Book
     plain_play.Turn, plain_term.Book = SeenTurn, SeenBook
     try:
+        if plain_group.head(script) is not None:
+            return seen, run_group(text, script, seen, say, usual)
         if plain_term.is_terminal(script):
             return seen, run_terminal(text, script, seen, say, usual)
         return seen, run_book(text, script, seen, say)
     finally:
         plain_play.Turn, plain_term.Book = plain
+
+
+def line_seen(text, cyclic, octets, orders, every=False):
+    """What is seen of an end of a link on a line, as these octets come in and by these orders."""
+    seen = SeenBook.seen = Seen(text, every)
+    plain = plain_play.Turn, plain_term.Book, plain_filter.obeyed
+
+    def obeyed(end, order):
+        word, *rest = order.split(" ")
+        if word not in ("", "state", "value") and (word != "measure" or rest == ["reset"]):
+            seen.lines.append(f"> {order}")
+        return plain[2](end, order)
+
+    plain_play.Turn, plain_term.Book, plain_filter.obeyed = SeenTurn, SeenBook, obeyed
+    try:
+        plain_filter.run(text, cyclic, octets, orders, lambda _: None)
+    finally:
+        plain_play.Turn, plain_term.Book, plain_filter.obeyed = plain
+    return seen
 
 
 def main(given):
@@ -362,7 +449,7 @@ def main(given):
         cut = options[options.index("--turns") + 1].split("..") if "--turns" in options else ["0", ""]
         print("\n".join(chart(seen, int(cut[0] or 0), int(cut[1]) if cut[1] else None)))
     elif "--coverage" in options:
-        print("\n".join(seen.taken.lcov(f"examples/{plain_term.SETS[word]}" if word in plain_term.SETS else word)))
+        print("\n".join(seen.taken.lcov(word)))
     elif "--thrown" in options:
         print("\n".join(seen.thrown()))
     else:

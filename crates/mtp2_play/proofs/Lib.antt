@@ -2,6 +2,8 @@ mod Comparing
 mod Failing
 mod InTurn
 mod Known
+mod Mapped
 mod Serving
 mod Speaking
+mod Tracing
 mod Written

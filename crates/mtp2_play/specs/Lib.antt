@@ -5,3 +5,4 @@ pub mod Served
 pub mod SetRuns
 pub mod Sets
 pub mod Spoken
+pub mod TracedEnds

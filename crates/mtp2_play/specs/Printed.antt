@@ -86,6 +86,7 @@ pub record IsWatchedOn (set : Named) (echo : Bool) (wanted : Wanted) (status : �
 abbrev pub path_by : Sight → List ℕ
 path_by (sights.Trace path) = path.now
 path_by (sights.Chart path) = path.now
+path_by (sights.Coverage path) = path.now
 path_by (sights.Thrown path) = path.now
 path_by (sights.Capture path) = path.now
 
@@ -94,6 +95,7 @@ abbrev pub wanted_for : Bool → Turns → Sight → Wanted
 wanted_for every turns (sights.Trace path) = wants.Trace every
 wanted_for every turns (sights.Chart path) =
     wants.AtEnd (told.Chart (record { first = turns.first; last = turns.last }))
+wanted_for every turns (sights.Coverage path) = wants.Coverage
 wanted_for every turns (sights.Thrown path) = wants.AtEnd told.Thrown
 wanted_for every turns (sights.Capture path) = wants.Capture every
 

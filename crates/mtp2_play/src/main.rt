@@ -14,6 +14,7 @@ mod checks;
 mod differences;
 mod lines;
 mod measuring;
+mod order_fronts;
 mod pictures;
 mod plays;
 mod running;
@@ -23,6 +24,8 @@ mod sets;
 mod soaks;
 mod tended;
 mod texts;
+mod traced;
+mod traces;
 
 use crate::asked::Came;
 use crate::captures::{capture_of, end_capture};

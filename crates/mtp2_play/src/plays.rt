@@ -240,6 +240,7 @@ fn path_of<'a>(sight: &Sight<'a>) -> &'a str
     match sight {
         Sight::Trace(path) => path,
         Sight::Chart(path) => path,
+        Sight::Coverage(path) => path,
         Sight::Thrown(path) => path,
         Sight::Capture(path) => path,
     }
@@ -255,6 +256,7 @@ fn wanted_for(sight: &Sight<'_>, seen: &Seeing<'_>) -> Wanted
             first: seen.turns.first,
             last: seen.turns.last,
         })),
+        Sight::Coverage(_) => Wanted::Coverage,
         Sight::Thrown(_) => Wanted::AtEnd(Told::Thrown),
         Sight::Capture(_) => Wanted::Capture(seen.every),
     }

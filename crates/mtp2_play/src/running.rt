@@ -10,6 +10,7 @@ ghost use Rattle.mtp2_words.specs.Limits.{usual_limits_of};
 ghost use Rattle.mtp2_play.specs.Spoken.{AreGiven, ordered_by, SpokeBy, Spoke, SpokeOver, Begun, BegunOver, IsUntouched};
 
 use crate::measuring::write_measures;
+use crate::traced::{end_trace, open_traced, serve_traced, traced_desk};
 use line_filter::{LineOrders, Reports};
 use line_play::{Desk, LinkEnd, MOST_AHEAD, SetWord, Terminal, link_desk, new_terminal, run_link};
 use line_streams::{OrderStream, ReportStream, open_orders, open_reports};
@@ -126,7 +127,7 @@ fn serve<O: Read, P: Reports, R: Read, W: Write>(
     run_link(alloc, desk, end.bits, ahead, reader, writer)
 }
 
-/// Has a terminal speak on its line.
+/// Has a terminal speak on its line, without a trace.
 fn speak<H: Files<File = File> + Threads + Eprint + Clock + AllocGlobal, R: Read, W: Write>(
     host: &H,
     teller: &Teller<'_, H>,
@@ -165,14 +166,88 @@ fn speak<H: Files<File = File> + Threads + Eprint + Clock + AllocGlobal, R: Read
     }
 }
 
+/// Has a terminal speak on its line, with a trace to a file of this name.
+fn speak_traced<H: Files<File = File> + Threads + Eprint + Clock + AllocGlobal, R: Read, W: Write>(
+    host: &H,
+    teller: &Teller<'_, H>,
+    end: &LineEnd<'_>,
+    path: &str,
+    terminal: Terminal,
+    reader: &mut R,
+    writer: &mut W,
+) -> u8
+    ensures spoke { result ≡ 0 → Spoke end.now.orders terminal end.now.bits (min end.now.ahead MOST_AHEAD)
+        (record { read = R.remaining reader.old; written = W.contents writer.old })
+        (record { read = R.remaining reader.new; written = W.contents writer.new }) }
+    ensures begun { IsUntouched (record { read = R.remaining reader.old; written = W.contents writer.old })
+        (record { read = R.remaining reader.new; written = W.contents writer.new })
+        ⊎ Begun end.now.orders terminal end.now.bits (min end.now.ahead MOST_AHEAD)
+        (record { read = R.remaining reader.old; written = W.contents writer.old })
+        (record { read = R.remaining reader.new; written = W.contents writer.new }) }
+    ensures status { (result ≡ 0) ⊎ (result ≡ 4) }
+{
+    let Ok(
+        Streams {
+            orders,
+            reports,
+            measures,
+        },
+    ) = open_streams(host, teller, end)
+    else {
+        return FAILED;
+    };
+    let Ok(traced) = open_traced(host, teller, path, end.every, terminal) else {
+        return FAILED;
+    };
+    let mut desk = traced_desk(traced, orders, reports);
+    let status = serve_traced(host.alloc(), end, &mut desk, reader, writer);
+    let now = desk.millisecond();
+    let ended = end_trace(host, teller, path, status, now, &mut desk.terminal.trace);
+    let measured = end_measures(host.alloc(), measures, &desk.terminal.end.terminal);
+    match desk.reports.end(host, now) {
+        Ok(()) => status_of(ended, measured),
+        Err(_) => FAILED,
+    }
+}
+
+/// Has a terminal speak on its line, with a trace where one is asked for.
+fn speak_as_asked<
+    H: Files<File = File> + Threads + Eprint + Clock + AllocGlobal,
+    R: Read,
+    W: Write,
+>(
+    host: &H,
+    teller: &Teller<'_, H>,
+    end: &LineEnd<'_>,
+    terminal: Terminal,
+    reader: &mut R,
+    writer: &mut W,
+) -> u8
+    ensures spoke { result ≡ 0 → Spoke end.now.orders terminal end.now.bits (min end.now.ahead MOST_AHEAD)
+        (record { read = R.remaining reader.old; written = W.contents writer.old })
+        (record { read = R.remaining reader.new; written = W.contents writer.new }) }
+    ensures begun { IsUntouched (record { read = R.remaining reader.old; written = W.contents writer.old })
+        (record { read = R.remaining reader.new; written = W.contents writer.new })
+        ⊎ Begun end.now.orders terminal end.now.bits (min end.now.ahead MOST_AHEAD)
+        (record { read = R.remaining reader.old; written = W.contents writer.old })
+        (record { read = R.remaining reader.new; written = W.contents writer.new }) }
+    ensures status { (result ≡ 0) ⊎ (result ≡ 4) }
+{
+    match end.trace {
+        Some(path) => speak_traced(host, teller, end, path, terminal, reader, writer),
+        None => speak(host, teller, end, terminal, reader, writer),
+    }
+}
+
 /// Puts one end of a link on a line: line octets come from a reader, and one goes to a writer for each, behind those that go ahead (of which
 /// 8,000 are the most). Cyclic retransmission is forced within the limits
-/// of the set that is named, but for those that are chosen. Orders and reports that can't be opened are told by their names.
+/// of the set that is named, but for those that are chosen. A trace of its processes goes to a file where one is named. Orders, reports and a
+/// trace that can't be opened are told by their names.
 ///
 /// Gives the exit status: 0 at the end of what there is to read, or at the order `quit`; 2 where the text is refused or lacks a name that a
-/// terminal wants; 4 where memory, a file, a read or a write fails, of reports too. However it ends, what is written on the line is a beginning
-/// of what the terminal gives for octets that were read. (Tests alone show that a refusal is told on standard error, and that the text of its
-/// processes is read first, then its orders and reports are opened, and then its line.)
+/// terminal wants; 4 where memory, a file, a read or a write fails, of reports and of a trace too. However it ends, what is written on the line
+/// is a beginning of what the terminal gives for octets that were read. (Tests alone show that a refusal is told on standard error, and that the
+/// text of its processes is read first, then its orders and reports are opened, then its trace, and then its line.)
 pub fn run_line<
     H: Files<File = File> + Threads + Eprint + Clock + AllocGlobal,
     S: Read + Drop,
@@ -209,7 +284,7 @@ pub fn run_line<
         set,
         &mut Errors { rt: host },
     ) {
-        Ok(terminal) => speak(host, teller, end, terminal, reader, writer),
+        Ok(terminal) => speak_as_asked(host, teller, end, terminal, reader, writer),
         Err(status) => status,
     }
 }

@@ -48,6 +48,7 @@ pub record AreSeenUnder (given : Given) (words : SeeingWords) : Type 0 where
   pub trace : given (codes "trace") ≡ option_map (λ w. w.now) words.trace
   pub chart : given (codes "chart") ≡ option_map (λ w. w.now) words.chart
   pub turns : given (codes "turns") ≡ option_map (λ w. w.now) words.turns
+  pub coverage : given (codes "coverage") ≡ option_map (λ w. w.now) words.coverage
   pub thrown : given (codes "thrown") ≡ option_map (λ w. w.now) words.thrown
   pub capture : given (codes "capture") ≡ option_map (λ w. w.now) words.capture
   pub every : says_true (given (codes "every")) ≡ words.every
@@ -88,11 +89,12 @@ pub record AreUnderIds (given : Given) (words : LineWords) : Type 0 where
   pub bits : given (codes "bits") ≡ option_map (λ w. w.now) words.bits
   pub ahead : given (codes "ahead") ≡ option_map (λ w. w.now) words.ahead
   pub capture : given (codes "capture") ≡ option_map (λ w. w.now) words.capture
+  pub trace : given (codes "trace") ≡ option_map (λ w. w.now) words.trace
   pub every : says_true (given (codes "every")) ≡ words.every
   pub measures : given (codes "measures") ≡ option_map (λ w. w.now) words.measures
 
--- the end of a link that MODE, --n1, --n2, --orders, --reports, --bits, --ahead, --capture, --every
--- and --measures say
+-- the end of a link that MODE, --n1, --n2, --orders, --reports, --bits, --ahead, --capture,
+-- --trace, --every and --measures say
 pub record AsksEnd (given : Given) (end : LineEnd) : Type 0 where
   pub words : LineWords
   pub under_ids : AreUnderIds given words

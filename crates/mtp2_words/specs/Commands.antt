@@ -40,8 +40,10 @@ with_seeing_options command =
     (with_rule
     (with_rule
     (with_rule
+    (with_rule
     (with_rule (with_rule command (flag_word (codes "echo"))) (option_word (codes "trace")))
-    (option_word (codes "chart"))) (option_word (codes "turns"))) (option_word (codes "thrown")))
+    (option_word (codes "chart"))) (option_word (codes "turns")))
+    (option_word (codes "coverage"))) (option_word (codes "thrown")))
     (option_word (codes "capture"))) (flag_word (codes "every"))
 
 -- `play SET SCRIPT`, with its options
@@ -74,10 +76,12 @@ abbrev pub with_limit_options : App → App
 with_limit_options command =
     with_rule (with_rule command (option_word (codes "n1"))) (option_word (codes "n2"))
 
--- a command with the options that say what is captured of a line
+-- a command with the options that say what is captured and what is traced of a line
 abbrev pub with_capture_options : App → App
 with_capture_options command =
-    with_rule (with_rule command (option_word (codes "capture"))) (flag_word (codes "every"))
+    with_rule
+    (with_rule (with_rule command (option_word (codes "capture"))) (option_word (codes "trace")))
+    (flag_word (codes "every"))
 
 -- a command with the option that says where measurements go
 abbrev pub with_measures_option : App → App

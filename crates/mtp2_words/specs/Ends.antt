@@ -57,6 +57,7 @@ pub record IsEndOf (words : LineWords) (end : LineEnd) : Type 0 where
   pub orders_are : option_map (λ w. w.now) end.orders ≡ option_map (λ w. w.now) words.orders
   pub reports_are : option_map (λ w. w.now) end.reports ≡ option_map (λ w. w.now) words.reports
   pub capture_is : option_map (λ w. w.now) end.capture ≡ option_map (λ w. w.now) words.capture
+  pub trace_is : option_map (λ w. w.now) end.trace ≡ option_map (λ w. w.now) words.trace
   pub every_is : end.every ≡ words.every
   pub measures_are : option_map (λ w. w.now) end.measures ≡ option_map (λ w. w.now) words.measures
 

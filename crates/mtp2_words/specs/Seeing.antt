@@ -6,28 +6,32 @@ use Rattle.script_links.specs.Numbers.{count_of}
 use Rattle.mtp2_words.specs.declared.seeing.Seeing.{Seeing}
 use Rattle.mtp2_words.specs.declared.seeing.SeeingWords.{SeeingWords}
 use Rattle.mtp2_words.specs.declared.seeing.Sight.{Sight}
-use Rattle.mtp2_words.specs.declared.seeing.Sight.TheVariants.{Trace, Chart, Thrown, Capture}
+use Rattle.mtp2_words.specs.declared.seeing.Sight.TheVariants.{Trace, Chart, Coverage, Thrown}
+use Rattle.mtp2_words.specs.declared.seeing.Sight.TheVariants.{Capture}
 use Rattle.mtp2_words.specs.declared.seeing.Turns.{Turns}
 
 -- what goes to a file
 abbrev pub IsSight : SeeingWords → Option Sight → Type 0
 IsSight w None =
-    (w.trace ≡ None) × (w.chart ≡ None) × (w.thrown ≡ None) × (w.capture ≡ None)
+    (w.trace ≡ None) × (w.chart ≡ None) × (w.coverage ≡ None) × (w.thrown ≡ None)
+    × (w.capture ≡ None)
 IsSight w (Some (Trace path)) = option_map (λ x. x.now) w.trace ≡ Some path.now
 IsSight w (Some (Chart path)) = option_map (λ x. x.now) w.chart ≡ Some path.now
+IsSight w (Some (Coverage path)) = option_map (λ x. x.now) w.coverage ≡ Some path.now
 IsSight w (Some (Thrown path)) = option_map (λ x. x.now) w.thrown ≡ Some path.now
 IsSight w (Some (Capture path)) = option_map (λ x. x.now) w.capture ≡ Some path.now
 
--- of what was thrown away, and of units
+-- of the text, of what was thrown away, and of units
 abbrev pub IsLaterSight : SeeingWords → Option Sight → Type 0
-IsLaterSight w None = (w.thrown ≡ None) × (w.capture ≡ None)
+IsLaterSight w None = (w.coverage ≡ None) × (w.thrown ≡ None) × (w.capture ≡ None)
 IsLaterSight w (Some sight) = IsSight w (Some sight)
 
 -- how much is asked for of which one thing is had at a time
 abbrev pub asked_of : SeeingWords → ℕ
 asked_of w =
     count_by (λ b. b)
-    (w.echo ∷ is_some w.trace ∷ is_some w.chart ∷ is_some w.thrown ∷ is_some w.capture ∷ [])
+    (w.echo ∷ is_some w.trace ∷ is_some w.chart ∷ is_some w.coverage ∷ is_some w.thrown
+    ∷ is_some w.capture ∷ [])
 
 -- ---- turns
 

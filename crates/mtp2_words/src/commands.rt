@@ -1,10 +1,11 @@
 //! The commands of the program, and the words that they take.
 ghost use Rattle.std.specs.Prelude.{◌≡◌, IfOk, false};
-ghost use Rattle.clap.specs.Words.{rule_of, new_app, new_rule, app_of};
-ghost use Rattle.mtp2_words.specs.Commands.{plain_word, option_word, flag_word, check_command, play_command, soak_command, line_begun, line_command, frame_command, draw_command, diff_command, text_command, play_begun, with_seeing_options, all_commands, program_begun, with_line_options, with_limit_options, with_capture_options, with_measures_option, has_globals, IsCommand};
+ghost use Rattle.clap.specs.Words.{app_of};
+ghost use Rattle.mtp2_words.specs.Commands.{check_command, play_command, soak_command, line_begun, line_command, frame_command, draw_command, diff_command, text_command, play_begun, with_seeing_options, all_commands, program_begun, with_line_options, with_limit_options, with_capture_options, with_measures_option, has_globals, IsCommand};
 
+use crate::arguments::{bare_command, flag_word, option_word, optional_word, plain_word};
 use crate::set_commands::set_command;
-use clap::{Arg, ArgAction, Command};
+use clap::{ArgAction, Command};
 use std::alloc::{AllocError, Global};
 
 /// The program's commands.
@@ -35,61 +36,6 @@ fn program_begun<'a>(alloc: Global) -> Command<'a>
     )
     .version("1.0")
     .subcommand_required(true)
-}
-
-/// A command without words, with what its help says before them and behind them.
-pub(crate) fn bare_command<'a>(
-    alloc: Global,
-    name: &'a str,
-    about: &'a str,
-    after: &'a str,
-) -> Command<'a>
-    ensures { IsCommand (new_app name.entry.now) result }
-{
-    Command::new(alloc, name).about(about).after_help(after)
-}
-
-/// A word that has to be there.
-pub(crate) fn plain_word<'a>(alloc: Global, id: &'a str, help: &'a str) -> Arg<'a>
-    ensures rule { rule_of result ≡ plain_word id.entry.now }
-    ensures local { result.global ≡ false }
-{
-    Arg::new(alloc, id).help(help).required(true)
-}
-
-/// An option with a word behind it.
-pub(crate) fn option_word<'a>(
-    alloc: Global,
-    name: &'a str,
-    value: &'a str,
-    help: &'a str,
-) -> Arg<'a>
-    ensures rule { rule_of result ≡ option_word name.entry.now }
-    ensures local { result.global ≡ false }
-{
-    Arg::new(alloc, name)
-        .long(name)
-        .value_name(value)
-        .help(help)
-}
-
-/// A word that may be there.
-fn optional_word<'a>(alloc: Global, id: &'a str, help: &'a str) -> Arg<'a>
-    ensures rule { rule_of result ≡ new_rule id.entry.now }
-    ensures local { result.global ≡ false }
-{
-    Arg::new(alloc, id).help(help)
-}
-
-/// An option without a word behind it.
-pub(crate) fn flag_word<'a>(alloc: Global, name: &'a str, help: &'a str) -> Arg<'a>
-    ensures rule { rule_of result ≡ flag_word name.entry.now }
-    ensures local { result.global ≡ false }
-{
-    Arg::new(alloc, name)
-        .long(name)
-        .action(ArgAction::SetTrue)
-        .help(help)
 }
 
 /// The command `check`.
@@ -162,6 +108,12 @@ fn with_seeing_options<'a>(alloc: Global, command: Command<'a>) -> Result<Comman
         "A..B",
         "Which turns are drawn, by their numbers in a trace; all where nothing is said",
     );
+    let coverage = option_word(
+        alloc,
+        "coverage",
+        "PATH",
+        "A file or a FIFO for what of the set's text was taken, in the format of lcov",
+    );
     let thrown = option_word(
         alloc,
         "thrown",
@@ -184,6 +136,7 @@ fn with_seeing_options<'a>(alloc: Global, command: Command<'a>) -> Result<Comman
         .arg(trace)?
         .arg(chart)?
         .arg(turns)?
+        .arg(coverage)?
         .arg(thrown)?
         .arg(capture)?
         .arg(every)
@@ -272,7 +225,7 @@ fn with_limit_options<'a>(alloc: Global, command: Command<'a>) -> Result<Command
     command.arg(messages)?.arg(octets)
 }
 
-/// The options that say what is captured of a line.
+/// The options that say what is captured and what is traced of a line.
 fn with_capture_options<'a>(alloc: Global, command: Command<'a>) -> Result<Command<'a>, AllocError>
     ensures { has_globals command.entry ≡ false → IfOk result (IsCommand (with_capture_options (app_of command.entry))) }
 {
@@ -282,8 +235,18 @@ fn with_capture_options<'a>(alloc: Global, command: Command<'a>) -> Result<Comma
         "PATH",
         "A file or a FIFO for the units that go out and come in, in pcap's format; those that say nothing new are left out",
     );
-    let every = flag_word(alloc, "every", "Has every unit captured");
-    command.arg(capture)?.arg(every)
+    let trace = option_word(
+        alloc,
+        "trace",
+        "PATH",
+        "A file or a FIFO for a trace: a line for each order, each signal of the environment, each timer that runs out and each turn",
+    );
+    let every = flag_word(
+        alloc,
+        "every",
+        "Has every unit captured; and signals that are thrown away traced too, and turns that change nothing",
+    );
+    command.arg(capture)?.arg(trace)?.arg(every)
 }
 
 /// The option that says where measurements go.
@@ -314,7 +277,7 @@ fn line_begun<'a>(alloc: Global) -> Result<Command<'a>, AllocError>
         alloc,
         "line",
         "Puts one end of a signalling link on a channel of 64 kbit/s: line octets come on standard input and go to standard output",
-        "Writes one octet for each that it reads; 8 octets are a millisecond, and no clock is read. Orders: power, start, stop, emergency, calm,\noutage, back, busy, free, flush, continue, overload, msu HEX, told, accepted, retrieve, retrieve N, measure, measure NAME, measure reset, at MS (what follows waits until that millisecond), state P, value P x, quit; # begins a comment,\nand a report MS ok ORDER is obeyed as at MS and that order. Reports, each behind its millisecond: in service, down R, far out,\nfar back, cleared, message HEX, state P S, value P x V, told TEXT, accepted ok N, retrieve ok N, measure NAME ok N, measure NAME N, ok ORDER, refused CODE Name, lost N (what a FIFO had no room for).\nUnits that a capture's FIFO had no room for are told at the end on standard error: MS lost N capture.\nExits with 0 at the end of input or after quit, 2 after refused CODE Name on standard error where the text is refused, 4 where memory,\na file, a read or a write fails.",
+        "Writes one octet for each that it reads; 8 octets are a millisecond, and no clock is read. Orders: power, start, stop, emergency, calm,\noutage, back, busy, free, flush, continue, overload, msu HEX, told, accepted, retrieve, retrieve N, measure, measure NAME, measure reset, at MS (what follows waits until that millisecond), state P, value P x, quit; # begins a comment,\nand a report MS ok ORDER is obeyed as at MS and that order. Reports, each behind its millisecond: in service, down R, far out,\nfar back, cleared, message HEX, state P S, value P x V, told TEXT, accepted ok N, retrieve ok N, measure NAME ok N, measure NAME N, ok ORDER, refused CODE Name, lost N (what a FIFO had no room for).\nUnits that a capture's FIFO had no room for, and lines that a trace's had none for, are told at the end on standard error: MS lost N capture, MS lost N trace.\nExits with 0 at the end of input or after quit, 2 after refused CODE Name on standard error where the text is refused, 4 where memory,\na file, a read or a write fails.",
     )
     .arg(mode)?
     .arg(text)

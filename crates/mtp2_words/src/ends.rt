@@ -26,7 +26,9 @@ pub struct LineEnd<'a> {
     pub ahead: usize,
     /// Where a capture of its line goes; none is made, where nothing is said.
     pub capture: Option<&'a str>,
-    /// Whether every unit is captured; else repeats are left out.
+    /// Where a trace of its processes goes; none is made, where nothing is said.
+    pub trace: Option<&'a str>,
+    /// Whether every unit is captured, and what has no effect is traced; else repeats, and what has none, are left out.
     pub every: bool,
     /// Where its measurements go at the end of the run; nowhere, where nothing is said.
     pub measures: Option<&'a str>,
@@ -51,7 +53,9 @@ pub struct LineWords<'a> {
     pub ahead: Option<&'a str>,
     /// A file or a FIFO for a capture.
     pub capture: Option<&'a str>,
-    /// Whether every unit is captured.
+    /// A file or a FIFO for a trace.
+    pub trace: Option<&'a str>,
+    /// Whether every unit is captured, and what has no effect is traced.
     pub every: bool,
     /// A file for measurements.
     pub measures: Option<&'a str>,
@@ -131,6 +135,7 @@ pub fn line_end<'a>(words: &LineWords<'a>) -> Option<LineEnd<'a>>
         bits,
         ahead,
         capture: words.capture,
+        trace: words.trace,
         every: words.every,
         measures: words.measures,
     })

@@ -29,7 +29,7 @@ pub(crate) fn complaint_of(matches: &ArgMatches<'_>) -> &'static str {
     };
     match name {
         "play" => {
-            "standard input can be the set or the script, not both; one of --echo, --trace, --chart, --thrown and --capture is had at a time, and --turns A..B is for a chart"
+            "standard input can be the set or the script, not both; one of --echo, --trace, --chart, --coverage, --thrown and --capture is had at a time, and --turns A..B is for a chart"
         }
         "soak" => "--workers is a number from 1 to 16",
         "line" => {

@@ -11,6 +11,8 @@ pub enum Sight<'a> {
     Trace(&'a str),
     /// A chart of the turns.
     Chart(&'a str),
+    /// What turns took of the set's text.
+    Coverage(&'a str),
     /// Which signals and timers were thrown away.
     Thrown(&'a str),
     /// The units that go out and come in.
@@ -56,6 +58,8 @@ pub struct SeeingWords<'a> {
     pub chart: Option<&'a str>,
     /// Two numbers with two dots between them: which turns are drawn, all where nothing is said.
     pub turns: Option<&'a str>,
+    /// A file or a FIFO for what turns took of the set's text.
+    pub coverage: Option<&'a str>,
     /// A file or a FIFO for what was thrown away.
     pub thrown: Option<&'a str>,
     /// A file or a FIFO for a capture.
@@ -79,6 +83,7 @@ fn asked(words: &SeeingWords<'_>) -> usize
         words.echo,
         words.trace.is_some(),
         words.chart.is_some(),
+        words.coverage.is_some(),
         words.thrown.is_some(),
         words.capture.is_some(),
     ])
@@ -97,15 +102,18 @@ fn sight_of<'a>(words: &SeeingWords<'a>) -> Option<Sight<'a>>
     }
 }
 
-/// What goes to a file of what was thrown away, and of units, where at most one thing is to.
+/// What goes to a file of the text, of what was thrown away, and of units, where at most one thing is to.
 fn later_sight<'a>(words: &SeeingWords<'a>) -> Option<Sight<'a>>
     ensures { IsLaterSight words.now result }
 {
-    match words.thrown {
-        Some(path) => Some(Sight::Thrown(path)),
-        None => match words.capture {
-            Some(path) => Some(Sight::Capture(path)),
-            None => None,
+    match words.coverage {
+        Some(path) => Some(Sight::Coverage(path)),
+        None => match words.thrown {
+            Some(path) => Some(Sight::Thrown(path)),
+            None => match words.capture {
+                Some(path) => Some(Sight::Capture(path)),
+                None => None,
+            },
         },
     }
 }

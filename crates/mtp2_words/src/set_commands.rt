@@ -3,7 +3,7 @@ ghost use Rattle.std.specs.Prelude.{◌≡◌, IfOk, false};
 ghost use Rattle.clap.specs.Words.{rule_of, app_of};
 ghost use Rattle.mtp2_words.specs.Commands.{needed_word, needed_words, set_begun, with_links, with_streams, set_command, has_globals, IsCommand};
 
-use crate::commands::{bare_command, flag_word, option_word, plain_word};
+use crate::arguments::{bare_command, flag_word, option_word, plain_word};
 use clap::{Arg, ArgAction, Command};
 use std::alloc::{AllocError, Global};
 

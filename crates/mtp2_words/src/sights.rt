@@ -16,6 +16,7 @@ pub(crate) fn seen_of<'a>(given: &ArgMatches<'a>) -> Option<Seeing<'a>>
         trace: given.get_str("trace"),
         chart: given.get_str("chart"),
         turns: given.get_str("turns"),
+        coverage: given.get_str("coverage"),
         thrown: given.get_str("thrown"),
         capture: given.get_str("capture"),
         every: is_given(given.get_str("every")),

@@ -184,6 +184,7 @@ fn line_of<'a>(given: &ArgMatches<'a>) -> Option<LineEnd<'a>>
         bits: given.get_str("bits"),
         ahead: given.get_str("ahead"),
         capture: given.get_str("capture"),
+        trace: given.get_str("trace"),
         every: is_given(given.get_str("every")),
         measures: given.get_str("measures"),
     })

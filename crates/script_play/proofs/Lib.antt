@@ -12,3 +12,4 @@ mod SetCaptures
 mod SetClocks
 mod SetOutGoing
 mod SetCommands
+mod CoveredPlays

@@ -16,7 +16,8 @@ use Rattle.script_seen.specs.GroupAnswers.{Playing}
 use Rattle.script_seen.specs.GroupRuns.{begins as group_begins, IsGroupRun, IsGroupWritten, IsGroupMissed, IsGroupMissedBy, HasObeyed, was_met, was_done}
 use Rattle.script_seen.proofs.Showings.{one_more, parts_at, all_taken}
 use Rattle.script_play.specs.Captured.{IsHeard, IsCapturing}
-use Rattle.script_play.specs.CapturedSets.{books_of, Goes, begins, is_nowhere, holds, AreHeard, none, more, IsCapturedThere, IsSetCapturing, IsSetCaptured, IsSetCapturedInPart}
+use Rattle.script_seen.specs.TracedGroups.{books_of}
+use Rattle.script_play.specs.CapturedSets.{Goes, begins, is_nowhere, holds, AreHeard, none, more, IsCapturedThere, IsSetCapturing, IsSetCaptured, IsSetCapturedInPart}
 use Rattle.script_play.specs.declared.capturing.LinkSeen.{LinkSeen}
 use Rattle.script_play.proofs.OtherLinks.{known_still, one_known}
 

@@ -6,7 +6,7 @@ use Rattle.script_play.specs.Played.{IsOnSet, IsPlayed, IsPlayedInPart}
 use Rattle.script_play.specs.Seen.{IsPlaySeen, IsPlaySeenInPart, IsWatched, has_lines, has_neither, has_file}
 use Rattle.script_play.specs.Seen.{IsWatchedInPart, has_lines_in_part, has_neither_in_part, has_file_in_part}
 use Rattle.script_play.specs.declared.seeing.Wanted.{Wanted}
-use Rattle.script_play.specs.declared.seeing.Wanted.TheVariants.{Trace, Capture, AtEnd}
+use Rattle.script_play.specs.declared.seeing.Wanted.TheVariants.{Trace, Capture, AtEnd, Coverage}
 
 pub with_lines : (usual : RoundLimits) (echo : Bool) (wanted : Wanted) (set script old new : Option (List ℕ)) (begun now : Option (Option (List ℕ))) → echo ≡ true
     → IsOnSet set script (IsPlayed usual echo old new) → IsOnSet set script (IsWatched usual echo wanted old new begun now)
@@ -38,6 +38,7 @@ was_seen : (usual : RoundLimits) (wanted : Wanted) (old new begun now : Option (
 was_seen usual (Trace every) old new begun now d bytes p = record { utf8 = p.utf8; script = p.script; reads = p.reads; run = p.run }
 was_seen usual (Capture every) old new begun now d bytes p = record { utf8 = p.utf8; script = p.script; reads = p.reads; run = p.run }
 was_seen usual (AtEnd told) old new begun now d bytes p = record { utf8 = p.utf8; script = p.script; reads = p.reads; run = p.run }
+was_seen usual Coverage old new begun now d bytes p = record { utf8 = p.told.utf8; script = p.told.script; reads = p.told.reads; run = p.told.run }
 
 was_played_in : (usual : RoundLimits) (echo : Bool) (wanted : Wanted) (old new : Option (List ℕ)) (begun now : Option (Option (List ℕ))) (d : Draft) (bytes : List ℕ)
     → IsWatched usual echo wanted old new begun now d bytes → IsPlayed usual echo old new d bytes
@@ -91,6 +92,7 @@ was_seen_in_part : (usual : RoundLimits) (wanted : Wanted) (old new begun now : 
 was_seen_in_part usual (Trace every) old new begun now d bytes p = record { utf8 = p.utf8; script = p.script; reads = p.reads; missed = p.missed }
 was_seen_in_part usual (Capture every) old new begun now d bytes p = record { utf8 = p.utf8; script = p.script; reads = p.reads; missed = p.missed }
 was_seen_in_part usual (AtEnd told) old new begun now d bytes p = record { utf8 = p.utf8; script = p.script; reads = p.reads; missed = p.missed }
+was_seen_in_part usual Coverage old new begun now d bytes p = record { utf8 = p.told.utf8; script = p.told.script; reads = p.told.reads; missed = p.told.missed }
 
 was_played_in_part_in : (usual : RoundLimits) (echo : Bool) (wanted : Wanted) (old new : Option (List ℕ)) (begun now : Option (Option (List ℕ))) (d : Draft) (bytes : List ℕ)
     → IsWatchedInPart usual echo wanted old new begun now d bytes → IsPlayedInPart usual echo old new d bytes

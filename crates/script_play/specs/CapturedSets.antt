@@ -17,18 +17,9 @@ use Rattle.script_links.specs.GroupCommands as group
 use Rattle.script_links.specs.GroupScripts.{PlainGroupSaid}
 use Rattle.script_seen.specs.GroupAnswers.{Playing, Obeys}
 use Rattle.script_seen.specs.TermRuns.{latest}
-use Rattle.actor_machine.specs.Ledger.{Ledger, state_of}
+use Rattle.script_seen.specs.TracedGroups.{books_of, clock_in}
 use Rattle.script_play.specs.Captured.{TICK, AreRepeated, Hears, IsGone, IsHeard, IsCapturing}
 use Rattle.script_play.specs.declared.capturing.LinkSeen.{LinkSeen}
-
--- the books of the links of a set
-abbrev pub books_of : Playing → List Ledger
-books_of p = map (λ k. k.terminal.processes.book) p.set.links
-
--- the ticks gone by on a set, whose links have one clock
-abbrev pub clock_in : List Ledger → ℕ
-clock_in [] = 0
-clock_in (b ∷ bs) = (state_of b).timers.clock
 
 abbrev pub set_time : Playing → ℕ
 set_time p = TICK * clock_in (books_of p)

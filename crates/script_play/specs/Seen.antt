@@ -1,18 +1,21 @@
 -- What the status of `play` says of what is told at the end of a run, and of a capture.
 use Rattle.std.specs.Prelude.{◌≡◌, ℕ, Bool, true, false, List, Option, Some, None, Result, Ok}
-use Rattle.std.specs.Prelude.{Err, IsUtf8}
+use Rattle.std.specs.Prelude.{Err, IfSome, IsUtf8, map}
 use Rattle.std.specs.Global.{Vec}
 use Rattle.std.specs.Io.KnownBytes.{Appends}
 use Rattle.turn_code.specs.declared.draft.Draft.{Draft}
+use Rattle.script_check.specs.Checked.{IsSetOf}
 use Rattle.script_seen.specs.resend_store_types.messages.RoundLimits.{RoundLimits}
 use Rattle.script_seen.specs.TermScripts.{PlainAnyScript, book, terminal, asks_told}
 use Rattle.script_seen.specs.GroupScripts.{PlainPlayScript, other, group, play_script_of}
 use Rattle.script_seen.specs.Played.{first_book}
 use Rattle.script_seen.specs.GroupRuns.{IsOfNewSet}
 use Rattle.script_seen.specs.TermRuns.{IsOfNew}
-use Rattle.script_seen.specs.Watched.{Notice}
+use Rattle.script_seen.specs.Turn.{Turn}
+use Rattle.script_seen.specs.Watched.{Notice, TurnEnd, turns_in}
 use Rattle.script_seen.specs.WatchedKinds.{IsBookWatched, IsBookWatchedInPart, IsTermWatched}
 use Rattle.script_seen.specs.WatchedKinds.{IsTermWatchedInPart}
+use Rattle.script_covered.specs.Texts.{IsLcov}
 use Rattle.script_play.specs.Captured.{IsCaptured, IsCapturedInPart}
 use Rattle.script_play.specs.CapturedSets.{IsSetCaptured, IsSetCapturedInPart}
 use Rattle.script_play.specs.Played.{IsObeyed, IsMissedIn, IsPlayed, IsPlayedInPart}
@@ -21,6 +24,7 @@ use Rattle.script_play.specs.Thrown.{thrown_of}
 use Rattle.script_play.specs.Traced.{IsPlayTraced, IsPlayTracedInPart}
 use Rattle.script_play.specs.declared.seeing.Wanted.{Wanted}
 use Rattle.script_play.specs.declared.seeing.Wanted.TheVariants.{Trace, Capture, AtEnd}
+use Rattle.script_play.specs.declared.seeing.Wanted.TheVariants.{Coverage}
 use Rattle.script_play.specs.declared.watching.Told.{Told}
 use Rattle.script_play.specs.declared.watching.Told.TheVariants.{Chart, Thrown}
 
@@ -129,6 +133,49 @@ pub record IsPlayCapturedInPart (usual : RoundLimits) (every : Bool)
   pub missed : IsMissedIn usual d script old new
   pub captured : AreCapturedInPart usual every d script from to
 
+-- ---- what of the set's text was taken
+
+-- the turns of a run
+abbrev pub turns_run : List Notice → List Turn
+turns_run ns = map (λ (t : TurnEnd). t.turn) (turns_in ns)
+
+-- what the turns of a run took of a text was written, in which its file has this name
+pub record IsCoveredBy (name text : List ℕ) (old new : Option (List ℕ)) (ns : List Notice) :
+    Type 0 where
+  pub out : List ℕ
+  pub is_lcov : IsLcov name text (turns_run ns) out
+  pub written : Appends old new out
+
+-- of the text of the set, which has these bytes where they are known
+pub record IsTextCovered (name : List ℕ) (known : Option (List ℕ)) (usual : RoundLimits)
+    (old new from to : Option (List ℕ)) (d : Draft) (bytes : List ℕ) : Type 0 where
+  pub text : List ℕ
+  pub is_known : IfSome known (λ all. text ≡ all)
+  pub is_set : IsSetOf text d
+  pub told : IsPlayTold usual old new (IsCoveredBy name text from to) d bytes
+
+pub record IsTextCoveredInPart (name : List ℕ) (known : Option (List ℕ)) (usual : RoundLimits)
+    (old new from to : Option (List ℕ)) (d : Draft) (bytes : List ℕ) : Type 0 where
+  pub text : List ℕ
+  pub is_known : IfSome known (λ all. text ≡ all)
+  pub is_set : IsSetOf text d
+  pub told : IsPlayToldInPart usual old new (IsCoveredBy name text from to) d bytes
+
+-- of some text of the set, in a file of some name
+pub record IsSomeCovered (usual : RoundLimits) (old new from to : Option (List ℕ)) (d : Draft)
+    (bytes : List ℕ) : Type 0 where
+  pub name : List ℕ
+  pub text : List ℕ
+  pub is_set : IsSetOf text d
+  pub told : IsPlayTold usual old new (IsCoveredBy name text from to) d bytes
+
+pub record IsSomeCoveredInPart (usual : RoundLimits) (old new from to : Option (List ℕ))
+    (d : Draft) (bytes : List ℕ) : Type 0 where
+  pub name : List ℕ
+  pub text : List ℕ
+  pub is_set : IsSetOf text d
+  pub told : IsPlayToldInPart usual old new (IsCoveredBy name text from to) d bytes
+
 -- ---- what is wanted of a run
 
 -- what is told of a run at its end, by all that was noticed
@@ -146,6 +193,7 @@ IsPlaySeen usual (Capture every) old new from to d bytes =
     IsPlayCaptured usual every old new from to d bytes
 IsPlaySeen usual (AtEnd told) old new from to d bytes =
     IsPlayTold usual old new (Grew (told_of told) d from to) d bytes
+IsPlaySeen usual Coverage old new from to d bytes = IsSomeCovered usual old new from to d bytes
 
 abbrev pub IsPlaySeenInPart :
     RoundLimits → Wanted → Option (List ℕ) → Option (List ℕ) → Option (List ℕ) → Option (List ℕ)
@@ -156,6 +204,8 @@ IsPlaySeenInPart usual (Capture every) old new from to d bytes =
     IsPlayCapturedInPart usual every old new from to d bytes
 IsPlaySeenInPart usual (AtEnd told) old new from to d bytes =
     IsPlayToldInPart usual old new (Grew (told_of told) d from to) d bytes
+IsPlaySeenInPart usual Coverage old new from to d bytes =
+    IsSomeCoveredInPart usual old new from to d bytes
 
 -- ---- with lines, with something in a file, or with neither
 

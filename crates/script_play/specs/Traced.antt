@@ -7,6 +7,8 @@ use Rattle.script_seen.specs.GroupScripts.{PlainPlayScript, other, group, play_s
 use Rattle.script_lines.specs.Lines.{PlainLine, lines_of}
 use Rattle.script_seen.specs.Played.{first_book}
 use Rattle.script_seen.specs.TermRuns.{IsOfNew}
+use Rattle.script_seen.specs.GroupRuns.{IsOfNewSet}
+use Rattle.script_seen.specs.TracedGroups.{IsGroupTraced, IsGroupTracedInPart}
 use Rattle.script_seen.specs.TracedKinds.{IsBookTraced, IsBookTracedInPart, IsTermTraced}
 use Rattle.script_seen.specs.TracedKinds.{IsTermTracedInPart}
 use Rattle.script_play.specs.Played.{IsObeyed, IsMissedIn}
@@ -22,12 +24,13 @@ IsOtherTraced usual every lines d (terminal s) old new =
     IsOfNew d usual s.head
     (λ t. IsTermTraced every (asks_told s.commands) lines t s.commands old new)
 
--- a script of a link set has no trace
+-- or of links with such terminals
 abbrev pub AreTraced :
     RoundLimits → Bool → List PlainLine → Draft → PlainPlayScript → Option (List ℕ)
     → Option (List ℕ) → Type 0
 AreTraced usual every lines d (other s) old new = IsOtherTraced usual every lines d s old new
-AreTraced usual every lines d (group s) old new = ⊥
+AreTraced usual every lines d (group s) old new =
+    IsOfNewSet d usual s.head (IsGroupTraced every lines d s.commands old new)
 
 -- so are those in front of an expectation that failed
 abbrev pub IsOtherTracedInPart :
@@ -44,7 +47,8 @@ abbrev pub AreTracedInPart :
     → Option (List ℕ) → Type 0
 AreTracedInPart usual every lines d (other s) old new =
     IsOtherTracedInPart usual every lines d s old new
-AreTracedInPart usual every lines d (group s) old new = ⊥
+AreTracedInPart usual every lines d (group s) old new =
+    IsOfNewSet d usual s.head (IsGroupTracedInPart every lines d s.commands old new)
 
 -- the bytes are a script, all of whose commands were obeyed and are traced
 pub record IsPlayTraced (usual : RoundLimits) (every : Bool) (old new begun now : Option (List ℕ))

@@ -13,27 +13,18 @@ ghost use Rattle.script_seen.specs.TermRuns.{HasPrinted, LacksName};
 ghost use Rattle.script_seen.specs.GroupAnswers.{Playing};
 ghost use Rattle.script_seen.specs.GroupRuns.{playing_of, last_of, HasGivenOut, IsGroupRun, IsGroupWritten, IsGroupMissed, IsGroupMissedBy, IsOfNewSet};
 ghost use Rattle.script_play.specs.Captured.{repeated, Hears, IsCapturing};
-ghost use Rattle.script_play.specs.CapturedSets.{IsComing, is_noted, books_of, clock_in, SendsOn, Goes, AreHeard, IsCapturedThere, IsSetCapturing, IsSetCaptured, IsSetCapturedInPart};
+ghost use Rattle.script_seen.specs.TracedGroups.{books_of};
+ghost use Rattle.script_play.specs.CapturedSets.{IsComing, is_noted, SendsOn, Goes, AreHeard, IsCapturedThere, IsSetCapturing, IsSetCaptured, IsSetCapturedInPart};
 
 use crate::captured_terminals::{Coming, line_of};
 use crate::capturing::{LinkSeen, begin, lost, time_of};
 use script_seen::{
     FAILED, GroupCommand, GroupPlayer, GroupSaid, GroupScript, HELD, MISSED, RoundLimits, Unit,
-    line_of_unit, open_group, refuse_set,
+    clock_of, line_of_unit, open_group, refuse_set,
 };
 use std::alloc::{AllocError, Global};
 use std::io::{self, Write};
 use turn_check::Verified;
-
-/// The ticks gone by on a link set.
-fn clock_of(player: &GroupPlayer) -> u64
-    ensures { result ≡ clock_in (books_of (playing_of player.now)) }
-{
-    match player.group.book(0) {
-        Some(book) => book.clock(),
-        None => 0,
-    }
-}
 
 /// So many links of which nothing was seen; whether every unit is recorded.
 fn new_links(alloc: Global, count: u32, every: bool) -> Result<Vec<LinkSeen>, AllocError>

@@ -8,6 +8,7 @@ mod capturing;
 mod chart_rows;
 mod charts;
 mod columns;
+mod covering;
 mod playing;
 mod seeing;
 mod thrown;
@@ -16,5 +17,7 @@ mod watching;
 
 pub use charts::Cut;
 pub use playing::play;
+pub use script_lines::words_in;
+pub use script_seen::{Tracer, front_of, open_tracer};
 pub use seeing::{Wanted, play_seen};
 pub use watching::Told;

@@ -2,9 +2,11 @@
 ghost use Rattle.std.specs.Prelude.{◌≡◌, ◌⊎◌, IfSome};
 ghost use Rattle.script_check.specs.Checked.{given, IsAccepted};
 ghost use Rattle.script_play.specs.Played.{IsOnSet, IsRefused};
-ghost use Rattle.script_play.specs.Seen.{IsPlaySeen, IsPlaySeenInPart};
+ghost use Rattle.script_play.specs.Seen.{IsPlaySeen, IsPlaySeenInPart, IsTextCovered, IsTextCoveredInPart};
+ghost use Rattle.script_play.specs.declared.seeing.Wanted.TheVariants.{Coverage as Covers};
 
 use crate::captured_plays::play_captured;
+use crate::covering::play_covered;
 use crate::tracing::play_traced;
 use crate::watching::{Told, play_told};
 use script_check::SetWord;
@@ -21,13 +23,17 @@ pub enum Wanted {
     Capture(bool),
     /// What is told at its end.
     AtEnd(Told),
+    /// What turns took of the set's text, in the format of lcov.
+    Coverage,
 }
 
 /// Runs a script as `play` does without the lines of its commands, and writes what is wanted of the run to `out`: a trace or a capture as it runs, or at
-/// its end, or at an expectation that fails, a chart of its turns or what was thrown away.
+/// its end, or at an expectation that fails, a chart of its turns, what was thrown away, or what turns took of the set's text, which is called by the name
+/// there.
 ///
 /// Gives the exit status, as `play` does: 4 where a write to `out` fails too, where a terminal's journal begins anew within a command, as it does
-/// behind 32,768 events, and for a script of a link set, but with a capture; with a capture for a script of a book.
+/// behind 32,768 events, and for a script of a link set, but with a capture; with a capture for a script of a book; and with coverage where the set's
+/// text has more octets than a text may have.
 pub fn play_seen<S: Read + Drop, R: Read + Drop, T: Write, W: Write, E: Write>(
     alloc: Global,
     set: SetWord<S>,
@@ -46,6 +52,12 @@ pub fn play_seen<S: Read + Drop, R: Read + Drop, T: Write, W: Write, E: Write>(
     ensures missed { result ≡ 1
         → IsOnSet (given S.remaining set) (R.remaining script)
         (IsPlaySeenInPart usual wanted (W.contents writer.old) (W.contents writer.new) (T.contents out.old) (T.contents out.new)) }
+    ensures covered { result ≡ 0 → wanted ≡ Covers
+        → IsOnSet (given S.remaining set) (R.remaining script)
+        (IsTextCovered name.now (given S.remaining set) usual (W.contents writer.old) (W.contents writer.new) (T.contents out.old) (T.contents out.new)) }
+    ensures covered_in_part { result ≡ 1 → wanted ≡ Covers
+        → IsOnSet (given S.remaining set) (R.remaining script)
+        (IsTextCoveredInPart name.now (given S.remaining set) usual (W.contents writer.old) (W.contents writer.new) (T.contents out.old) (T.contents out.new)) }
     ensures refused { result ≡ 2
         → IsRefused (given S.remaining set) (R.remaining script) (W.contents writer.old) (W.contents writer.new) }
     ensures status { (result ≡ 0) ⊎ (result ≡ 1) ⊎ (result ≡ 2) ⊎ (result ≡ 4) }
@@ -57,6 +69,7 @@ pub fn play_seen<S: Read + Drop, R: Read + Drop, T: Write, W: Write, E: Write>(
         Wanted::Capture(every) => {
             play_captured(alloc, set, usual, name, script, every, out, writer, errors)
         }
+        Wanted::Coverage => play_covered(alloc, set, usual, name, script, out, writer, errors),
         Wanted::AtEnd(told) => {
             play_told(alloc, set, usual, name, script, told, out, writer, errors)
         }

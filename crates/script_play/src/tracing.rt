@@ -13,8 +13,8 @@ use plain_text::{TextRead, line_at_limit, read_text};
 use script_check::{SetWord, find_set, refuse_set};
 use script_lines::ScriptFault;
 use script_seen::{
-    AnyScript, FAILED, PlayScript, RoundLimits, play_script_in, refuse, trace_book, trace_terminal,
-    write_line,
+    AnyScript, FAILED, PlayScript, RoundLimits, play_script_in, refuse, trace_book, trace_group,
+    trace_terminal,
 };
 use std::alloc::Global;
 use std::io::{Read, Write};
@@ -53,18 +53,6 @@ fn trace_other<W: Write, T: Write, E: Write>(
     }
 }
 
-/// Tells that a script of a link set has no trace. Gives the exit status.
-fn lacks_trace<E: Write>(alloc: Global, errors: &mut E) -> u8
-    ensures { result ≡ 4 }
-{
-    let _told = write_line(
-        alloc,
-        errors,
-        &"mtp2_play: a script of a link set has no trace",
-    );
-    FAILED
-}
-
 /// Runs a script, and traces it.
 fn trace_script<W: Write, T: Write, E: Write>(
     alloc: Global,
@@ -93,7 +81,9 @@ fn trace_script<W: Write, T: Write, E: Write>(
                 alloc, set, usual, script, text, every, trace, writer, errors,
             )
         }
-        PlayScript::Group(_) => lacks_trace(alloc, errors),
+        PlayScript::Group(script) => {
+            trace_group(alloc, set, usual, script, text, every, trace, writer)
+        }
     }
 }
 
@@ -141,8 +131,8 @@ fn trace_text<W: Write, T: Write, E: Write>(
 /// `state`, `value`, `measure NAME` and `expect`, and behind it a line for each event that happened by it, as the journal of its actors has them.
 /// Where `every` says so, signals that are thrown away have a line too, and turns that keep their state and have no effect.
 ///
-/// Gives the exit status, as `play` does: 4 where a write to `trace` fails too, where a terminal's journal begins anew within a command, and for a
-/// script of a link set, which has no trace.
+/// Gives the exit status, as `play` does: 4 where a write to `trace` fails too, and where the journal of a terminal, or of a link of a set, begins anew
+/// within a command.
 pub(crate) fn play_traced<S: Read + Drop, R: Read + Drop, W: Write, T: Write, E: Write>(
     alloc: Global,
     set: SetWord<S>,

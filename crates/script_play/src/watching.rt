@@ -55,7 +55,7 @@ fn lacks_watcher<E: Write>(alloc: Global, errors: &mut E) -> u8
     let _told = write_line(
         alloc,
         errors,
-        &"mtp2_play: a chart, and what is thrown away, are told of a script of a book or a terminal",
+        &"mtp2_play: a chart, coverage, and what is thrown away, are told of a script of a book or a terminal",
     );
     FAILED
 }
@@ -87,7 +87,7 @@ fn watch_script<N: Watcher, W: Write, E: Write>(
 }
 
 /// Runs the script of a text that was read, and tells a watcher what happens.
-fn watch_text<N: Watcher, W: Write, E: Write>(
+pub(crate) fn watch_text<N: Watcher, W: Write, E: Write>(
     alloc: Global,
     set: &Verified,
     usual: RoundLimits,
@@ -124,7 +124,7 @@ fn watch_text<N: Watcher, W: Write, E: Write>(
 }
 
 /// Writes what is told of a run that came to its end, or to an expectation that failed. Gives the exit status.
-fn tell<T: Write>(status: u8, told: Result<Vec<u8>, AllocError>, out: &mut T) -> u8
+pub(crate) fn tell<T: Write>(status: u8, told: Result<Vec<u8>, AllocError>, out: &mut T) -> u8
     ensures status { (result ≡ status) ⊎ (result ≡ 4) }
     ensures told { (result ≡ 0) ⊎ (result ≡ 1) → IsToldTo told (T.contents out.old) (T.contents out.new) }
 {

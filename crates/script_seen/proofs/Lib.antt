@@ -8,3 +8,6 @@ pub mod TracedRuns
 mod Noticing
 mod Watchings
 pub mod WatchedRuns
+mod LinkTraces
+mod SetMessages
+mod SetTraces

@@ -23,7 +23,7 @@ pub record CameTo (every : Bool) (d : Draft) (place : ℕ) (w : Core) (b : Ledge
   pub state : state_of u.again ≡ replay d (runs d) w (since place b)
   pub told : Appends from to (told_text every d w (since place b))
 
-came_to : (d : Draft) (place : ℕ) (w : Core) (b : Ledger) (t u : Tracer) (from to : Option (List ℕ)) → IsAt d place w t
+pub came_to : (d : Draft) (place : ℕ) (w : Core) (b : Ledger) (t u : Tracer) (from to : Option (List ℕ)) → IsAt d place w t
     → IsFollowed t (since (next t.again) b) u from to → CameTo t.every d place w b u from to
 came_to d place w b t u from to at f =
     let agree : Agree t = at.timers ∙ ap (λ (x : Core). x.timers) (sym at.state) in

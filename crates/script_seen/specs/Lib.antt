@@ -3,7 +3,10 @@ pub mod Kinds
 pub mod Told
 pub mod Traced
 pub mod TracedKinds
+pub mod TracedGroups
+pub mod TracingGroups
 pub mod Following
+pub mod TracedActs
 pub mod Watched
 pub mod WatchedKinds
 pub use Rattle.actor_machine.specs.declared as actor_machine_types

@@ -33,7 +33,7 @@ fn push_spaced(text: &mut Vec<u8>, words: &[&str]) -> Result<(), AllocError>
 }
 
 /// `> ` and words, parted by one space, with the end of the line.
-fn front_of(alloc: Global, words: &[&str]) -> Result<Vec<u8>, AllocError>
+pub fn front_of(alloc: Global, words: &[&str]) -> Result<Vec<u8>, AllocError>
     ensures { IfOk result (λ v. v.items ≡ line_of (codes "> " ++ parted (texts words.now))) }
 {
     let mut front = Vec::from_slice(alloc, b"> ")?;

@@ -2,6 +2,7 @@
 #![tactic(auto)]
 
 mod books;
+mod changeovers;
 mod events;
 mod fronts;
 mod groups;
@@ -9,6 +10,7 @@ mod pushing;
 mod terminals;
 mod timing;
 mod traced_books;
+mod traced_groups;
 mod traced_terminals;
 mod tracing;
 mod turns;
@@ -19,6 +21,7 @@ mod watching;
 pub use actor_machine::{ActorName, Lost};
 pub use books::show_book;
 pub use events::{same_trigger, trigger_of};
+pub use fronts::front_of;
 pub use groups::show_group;
 pub use input_port::Item;
 pub use pushing::{
@@ -37,7 +40,9 @@ pub use script_links::{
 pub use terminals::show_terminal;
 pub use timing::delay_of;
 pub use traced_books::trace_book;
-pub use traced_terminals::trace_terminal;
+pub use traced_groups::{clock_of, trace_group};
+pub use traced_terminals::{open_tracer, trace_terminal};
+pub use tracing::Tracer;
 pub use turn_machine::Job;
 pub use turns::{Ended, is_dull, loss_at, stays_in};
 pub use watched_books::watch_book;

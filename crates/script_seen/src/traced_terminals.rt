@@ -146,8 +146,8 @@ fn terminal_limits() -> Limits
     }
 }
 
-/// The tracer of a terminal over a set.
-pub(crate) fn open_tracer(alloc: Global, set: &Verified, every: bool) -> Result<Tracer, AllocError>
+/// The tracer of a terminal over a set, before anything happened; whether skips and turns that have no effect are told too.
+pub fn open_tracer(alloc: Global, set: &Verified, every: bool) -> Result<Tracer, AllocError>
     ensures every { IfOk result (λ t. t.every ≡ every) }
     ensures start { IfOk result (IsAtStart (opened_book set.now MOST_PORT MOST_ENVIRONMENT MOST_JOURNAL)) }
 {

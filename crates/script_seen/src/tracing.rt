@@ -211,12 +211,7 @@ impl Tracer {
     /// # Errors
     ///
     /// Where the book's journal began anew behind an event that didn't happen here, there is no memory, or a write fails.
-    pub(crate) fn follow<T: Write>(
-        &mut self,
-        alloc: Global,
-        book: &Book,
-        out: &mut T,
-    ) -> io::Result<()>
+    pub fn follow<T: Write>(&mut self, alloc: Global, book: &Book, out: &mut T) -> io::Result<()>
         ensures first { OnOk result (book.now.first ≤ next self.old.again) }
         ensures followed { OnOk result (IsFollowed self.old (since (next self.old.again) book.now) self.new (T.contents out.old) (T.contents out.new)) }
         ensures in_step { OnOk result (are_in_step (state_of self.new.again) (state_of book.now) ≡ true) }

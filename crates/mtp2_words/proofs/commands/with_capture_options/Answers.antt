@@ -10,5 +10,7 @@ returns c = λ local.
     let begun : IsCommand (app_of c.args.command) c.args.command = record { app_is = refl; local = local } in
     let capture = with_word _ (option_word (codes "capture")) _ c.option_word-capture.result c.in_ok-arg.field-0 begun
     c.option_word-capture.ensures.rule c.option_word-capture.ensures.local c.in_ok-arg.ensures in
-    IfOk-weaker c.arg-2.result _ _ (λ r a. with_word _ (flag_word (codes "every")) _ c.flag_word-every.result r capture
-    c.flag_word-every.ensures.rule c.flag_word-every.ensures.local a) c.arg-2.ensures
+    let trace = with_word _ (option_word (codes "trace")) _ c.option_word-trace.result c.in_ok-arg-2.field-0 capture
+    c.option_word-trace.ensures.rule c.option_word-trace.ensures.local c.in_ok-arg-2.ensures in
+    IfOk-weaker c.arg-3.result _ _ (λ r a. with_word _ (flag_word (codes "every")) _ c.flag_word-every.result r trace
+    c.flag_word-every.ensures.rule c.flag_word-every.ensures.local a) c.arg-3.ensures

@@ -16,9 +16,11 @@ returns c = λ local.
     c.option_word-chart.ensures.rule c.option_word-chart.ensures.local c.in_ok-arg-3.ensures in
     let turns = with_word _ (option_word (codes "turns")) _ c.option_word-turns.result c.in_ok-arg-4.field-0 chart
     c.option_word-turns.ensures.rule c.option_word-turns.ensures.local c.in_ok-arg-4.ensures in
-    let thrown = with_word _ (option_word (codes "thrown")) _ c.option_word-thrown.result c.in_ok-arg-5.field-0 turns
-    c.option_word-thrown.ensures.rule c.option_word-thrown.ensures.local c.in_ok-arg-5.ensures in
-    let capture = with_word _ (option_word (codes "capture")) _ c.option_word-capture.result c.in_ok-arg-6.field-0 thrown
-    c.option_word-capture.ensures.rule c.option_word-capture.ensures.local c.in_ok-arg-6.ensures in
-    IfOk-weaker c.arg-7.result _ _ (λ r a. with_word _ (flag_word (codes "every")) _ c.flag_word-every.result r capture
-    c.flag_word-every.ensures.rule c.flag_word-every.ensures.local a) c.arg-7.ensures
+    let coverage = with_word _ (option_word (codes "coverage")) _ c.option_word-coverage.result c.in_ok-arg-5.field-0 turns
+    c.option_word-coverage.ensures.rule c.option_word-coverage.ensures.local c.in_ok-arg-5.ensures in
+    let thrown = with_word _ (option_word (codes "thrown")) _ c.option_word-thrown.result c.in_ok-arg-6.field-0 coverage
+    c.option_word-thrown.ensures.rule c.option_word-thrown.ensures.local c.in_ok-arg-6.ensures in
+    let capture = with_word _ (option_word (codes "capture")) _ c.option_word-capture.result c.in_ok-arg-7.field-0 thrown
+    c.option_word-capture.ensures.rule c.option_word-capture.ensures.local c.in_ok-arg-7.ensures in
+    IfOk-weaker c.arg-8.result _ _ (λ r a. with_word _ (flag_word (codes "every")) _ c.flag_word-every.result r capture
+    c.flag_word-every.ensures.rule c.flag_word-every.ensures.local a) c.arg-8.ensures

@@ -11,8 +11,9 @@ words c = record {
   trace = c.get_str-2.result;
   chart = c.get_str-3.result;
   turns = c.get_str-4.result;
-  thrown = c.get_str-5.result;
-  capture = c.get_str-6.result;
+  coverage = c.get_str-5.result;
+  thrown = c.get_str-6.result;
+  capture = c.get_str-7.result;
   every = c.is_given-2.result;
 }
 
@@ -22,9 +23,10 @@ under_ids c = record {
   trace = sym c.get_str-2.ensures;
   chart = sym c.get_str-3.ensures;
   turns = sym c.get_str-4.ensures;
-  thrown = sym c.get_str-5.ensures;
-  capture = sym c.get_str-6.ensures;
-  every = ap says_true (sym c.get_str-7.ensures) ∙ sym c.is_given-2.ensures;
+  coverage = sym c.get_str-5.ensures;
+  thrown = sym c.get_str-6.ensures;
+  capture = sym c.get_str-7.ensures;
+  every = ap says_true (sym c.get_str-8.ensures) ∙ sym c.is_given-2.ensures;
 }
 
 pub returns-clause-some : goal.returns-clause-some

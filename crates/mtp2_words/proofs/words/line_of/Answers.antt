@@ -15,8 +15,9 @@ words c = record {
   bits = c.get_str-6.result;
   ahead = c.get_str-7.result;
   capture = c.get_str-8.result;
+  trace = c.get_str-9.result;
   every = c.is_given.result;
-  measures = c.get_str-10.result;
+  measures = c.get_str-11.result;
 }
 
 under_ids : (c : goal.After-line_end) → AreUnderIds (given_by c.args.given.now) (words c)
@@ -29,8 +30,9 @@ under_ids c = record {
   bits = sym c.get_str-6.ensures;
   ahead = sym c.get_str-7.ensures;
   capture = sym c.get_str-8.ensures;
-  every = ap says_true (sym c.get_str-9.ensures) ∙ sym c.is_given.ensures;
-  measures = sym c.get_str-10.ensures;
+  trace = sym c.get_str-9.ensures;
+  every = ap says_true (sym c.get_str-10.ensures) ∙ sym c.is_given.ensures;
+  measures = sym c.get_str-11.ensures;
 }
 
 pub returns-clause-some : goal.returns-clause-some

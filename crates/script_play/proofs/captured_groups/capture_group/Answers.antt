@@ -2,7 +2,8 @@ use Rattle.std.proofs.Common.{◌≡◌, ◌∙◌, length, map, ap, subst, sym}
 use Rattle.script_links.specs.GroupScripts.{plain_group_said}
 use Rattle.script_seen.specs.GroupAnswers.{Playing}
 use Rattle.script_seen.specs.GroupRuns.{begun, IsGroupWritten, IsGroupMissed}
-use Rattle.script_play.specs.CapturedSets.{books_of, IsSetCaptured, IsSetCapturedInPart}
+use Rattle.script_seen.specs.TracedGroups.{books_of}
+use Rattle.script_play.specs.CapturedSets.{IsSetCaptured, IsSetCapturedInPart}
 use Rattle.script_play.proofs.SetClocks.{links_made}
 use Rattle.script_play.proofs.captured_groups.capture_group.Goals as goal
 

@@ -3,7 +3,8 @@ use Rattle.script_links.specs.GroupScripts.{plain_group_said}
 use Rattle.script_links.specs.declared.group_script.GroupSaid.{GroupSaid}
 use Rattle.script_seen.specs.GroupRuns.{playing_of, IsGroupWritten, IsGroupMissed}
 use Rattle.script_play.specs.declared.capturing.LinkSeen.{LinkSeen}
-use Rattle.script_play.specs.CapturedSets.{books_of, AreHeard, IsSetCaptured, IsSetCapturedInPart}
+use Rattle.script_seen.specs.TracedGroups.{books_of}
+use Rattle.script_play.specs.CapturedSets.{AreHeard, IsSetCaptured, IsSetCapturedInPart}
 use Rattle.script_play.proofs.captured_groups.capture_set.Goals as goal
 
 pub returns-clause-held : goal.returns-clause-held

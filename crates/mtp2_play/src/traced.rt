@@ -1,0 +1,151 @@
+//! One end of a link on its line, with a trace.
+ghost use Rattle.std.specs.Prelude.{◌≡◌, ◌≤◌, ◌⊎◌, None, IfOk, min};
+ghost use Rattle.line_filter.specs.Desks.{state_of};
+ghost use Rattle.line_filter.specs.Filters.{MOST_AHEAD, IsOver, IsBegun};
+ghost use Rattle.line_filter.specs.Reading.{left_of};
+ghost use Rattle.line_filter.specs.Speaking.{IsSilent};
+ghost use Rattle.script_play.specs.TracedActs.{IsNewTracer};
+ghost use Rattle.mtp2_play.specs.Spoken.{AreGiven, ordered_by, SpokeBy, Begun};
+ghost use Rattle.mtp2_play.specs.TracedEnds.{traced_acts};
+
+use crate::traces::{Trace, TracedEnd};
+use line_filter::{Bits, LineOrders, Orders, Reports, Voice, run_line};
+use line_play::{Desk, LinkEnd, MOST_AHEAD, Terminal};
+use line_streams::{RecordStream, open_records};
+use mtp2_words::LineEnd;
+use plain_text::{FAILED, HELD, Teller, write_line};
+use script_play::open_tracer;
+use std::alloc::Global;
+use std::fs::File;
+use std::io::{self, Read, Write};
+use std::rt::Files;
+use std::thread::Threads;
+use std::time::Clock;
+
+/// A terminal to which nothing happened, with a trace to a file of this name; whether what has no effect is traced too. What can't be opened is
+/// told by its name.
+pub fn open_traced<H: Files<File = File> + Threads + Eprint + AllocGlobal>(
+    host: &H,
+    teller: &Teller<'_, H>,
+    path: &str,
+    every: bool,
+    terminal: Terminal,
+) -> io::Result<TracedEnd<RecordStream>>
+    ensures terminal { IfOk result (λ t. t.end.terminal ≡ terminal) }
+    ensures none_held { IfOk result (λ t. t.end.held ≡ None) }
+    ensures new { IfOk result (λ t. IsNewTracer terminal.processes.book.set every t.trace.tracer) }
+{
+    let alloc = host.alloc();
+    let out = match open_records(host, alloc, path) {
+        Ok(out) => out,
+        Err(error) => {
+            teller.tell(path, &error);
+            return Err(error);
+        }
+    };
+    let tracer = open_tracer(alloc, terminal.book().set(), every)?;
+    let end = LinkEnd {
+        terminal,
+        held: None,
+    };
+    let trace = Trace {
+        alloc,
+        tracer,
+        out,
+        trouble: None,
+    };
+    Ok(TracedEnd { end, trace })
+}
+
+/// An end on a line, before any octet came or went, with what gives it orders and where it tells what becomes of it.
+pub fn traced_desk<T, O, P>(traced: TracedEnd<T>, orders: O, reports: P) -> Desk<TracedEnd<T>, O, P>
+    ensures terminal { result.terminal ≡ traced }
+    ensures silent { IsSilent result.voice }
+    ensures orders { result.orders ≡ orders }
+    ensures count { result.count ≡ 0 }
+{
+    Desk {
+        terminal: traced,
+        voice: Voice::new(),
+        orders,
+        reports,
+        count: 0,
+    }
+}
+
+/// Runs an end on its line as `run_link` does, and traces what happens.
+fn run_traced<T: Write, O: Orders, P: Reports, R: Read, W: Write>(
+    alloc: Global,
+    desk: &mut Desk<TracedEnd<T>, O, P>,
+    bits: Bits,
+    ahead: usize,
+    reader: &mut R,
+    writer: &mut W,
+) -> u8
+    requires { ahead ≤ MOST_AHEAD }
+    ensures over { result ≡ 0 → IsOver (traced_acts T.contents) bits ahead desk.old.count (state_of O.left desk.old) desk.new.count (state_of O.left desk.new)
+        (record { read = R.remaining reader.old; written = W.contents writer.old; told = P.stand desk.old.reports })
+        (record { read = R.remaining reader.new; written = W.contents writer.new; told = P.stand desk.new.reports }) }
+    ensures begun { IsBegun (traced_acts T.contents) bits ahead desk.old.count (state_of O.left desk.old)
+        (record { read = R.remaining reader.old; written = W.contents writer.old })
+        (record { read = R.remaining reader.new; written = W.contents writer.new }) }
+    ensures status { (result ≡ 0) ⊎ (result ≡ 4) }
+{
+    match run_line(alloc, desk, bits, ahead, reader, writer) {
+        Ok(()) => HELD,
+        Err(_) => FAILED,
+    }
+}
+
+/// Runs an end on its line, behind the octets that go ahead, by the orders that whole lines say, and traces what happens.
+pub fn serve_traced<T: Write, O: Read, P: Reports, R: Read, W: Write>(
+    alloc: Global,
+    end: &LineEnd<'_>,
+    desk: &mut Desk<TracedEnd<T>, LineOrders<O>, P>,
+    reader: &mut R,
+    writer: &mut W,
+) -> u8
+    requires none_held { desk.old.terminal.end.held ≡ None }
+    requires silent { IsSilent desk.old.voice }
+    requires given { AreGiven end.now.orders (O.remaining desk.old.orders.reader) }
+    requires ordered { left_of O.remaining desk.old.orders ≡ ordered_by (O.remaining desk.old.orders.reader) }
+    requires new { desk.old.count ≡ 0 }
+    ensures spoke { result ≡ 0 → SpokeBy (O.remaining desk.old.orders.reader) desk.old.terminal.end.terminal end.now.bits (min end.now.ahead MOST_AHEAD)
+        (record { read = R.remaining reader.old; written = W.contents writer.old; told = P.stand desk.old.reports })
+        (record { read = R.remaining reader.new; written = W.contents writer.new; told = P.stand desk.new.reports }) }
+    ensures begun { Begun end.now.orders desk.old.terminal.end.terminal end.now.bits (min end.now.ahead MOST_AHEAD)
+        (record { read = R.remaining reader.old; written = W.contents writer.old })
+        (record { read = R.remaining reader.new; written = W.contents writer.new }) }
+    ensures status { (result ≡ 0) ⊎ (result ≡ 4) }
+{
+    let ahead = end.ahead.min(MOST_AHEAD);
+    run_traced(alloc, desk, end.bits, ahead, reader, writer)
+}
+
+/// Ends a trace: waits for lines that are still to go on, and tells how often some were lost, with the millisecond. Gives the exit status: the
+/// one that is given, or 4 where the trace went no further, or that couldn't be told.
+pub fn end_trace<H: Eprint + Clock + AllocGlobal>(
+    host: &H,
+    teller: &Teller<'_, H>,
+    path: &str,
+    status: u8,
+    now: u64,
+    trace: &mut Trace<RecordStream>,
+) -> u8
+    ensures { (result ≡ status) ⊎ (result ≡ 4) }
+{
+    if let Some(error) = &trace.trouble {
+        return teller.fail(path, error);
+    }
+    if let Err(error) = trace.out.end(host) {
+        return teller.fail(path, &error);
+    }
+    let lost = trace.out.lost();
+    if lost > 0 {
+        let line = format_args!("{now} lost {lost} trace");
+        if write_line(host.alloc(), &mut teller.errors(), &line).is_err() {
+            return FAILED;
+        }
+    }
+    status
+}

@@ -1,0 +1,9 @@
+mod Pieces
+mod Countings
+mod Walking
+mod Marking
+mod Rowing
+mod Printing
+mod TextCounts
+mod Readings
+mod Endings

@@ -1,0 +1,235 @@
+-- What expressions, actions and answers come to by their meaning, and on the way of a turn.
+use Rattle.std.proofs.Common.{◌≡◌, ◌∙◌, ℕ, ◌+◌, Bool, true, false, cond, ◌||◌, List, [], ◌∷◌, Option, None, Some, unwrap_or, refl, sym, ap, subst}
+use Rattle.std.specs.Prelude.{ℤ, pos, int_lt, slice_get, slice_set, option_and_then}
+use Rattle.sdl_ast.specs.declared.expression.Identifier.{Identifier}
+use Rattle.sdl_ast.specs.declared.expression.UnaryOperator.{UnaryOperator}
+use Rattle.sdl_ast.specs.declared.expression.UnaryOperator.TheVariants.{Negate, Not}
+use Rattle.sdl_ast.specs.declared.expression.BinaryOperator.{BinaryOperator}
+use Rattle.sdl_ast.specs.declared.expression.BinaryOperator.TheVariants.{Or, Xor, And, Equal, NotEqual, Less, LessEqual, Greater, GreaterEqual, Add, Subtract, Multiply, Divide, Modulo, Remainder}
+use Rattle.sdl_ast.specs.declared.tree.Destination.{Destination}
+use Rattle.sdl_ast.specs.declared.tree.Range.{Range}
+use Rattle.sdl_ast.specs.Plain.{Tree, number, truth, variable, unary, binary, PlainAssignment, PlainSending, PlainAction, task, output, set_timer, reset_timer}
+use Rattle.sdl_tables.specs.Names.{variable_names}
+use Rattle.sdl_sound.specs.Longest.{is_division}
+use Rattle.sdl_meaning.specs.Act as meaning
+use Rattle.sdl_meaning.specs.Act.{slot, read, written, write, Working, reckons, compares, joins, working, apply_one, apply_two, divisor_of, divide, value_of, values_of, assign, put_out, send, send_all, start_timer, stop_timer, perform, told, try_ranges, find_truth, pass, take_places, covers_integer, covers_truth, receiver_of}
+use Rattle.sdl_meaning.specs.Outcomes.{Scope, at_end, in_trouble, Outcome, goes_on, over, then_do, variable_at, signal_at, timer_at}
+use Rattle.turn_code.specs.declared.input.Address.{Address}
+use Rattle.turn_code.specs.declared.trouble.Trouble.TheVariants.{WrongSort}
+use Rattle.turn_code.specs.declared.value.Value.{Value}
+use Rattle.turn_code.specs.declared.value.Value.TheVariants.{Int, Bool as Truth}
+use Rattle.turn_code.specs.Run.{Progress, tick}
+use Rattle.script_covered.specs.Ways.{is_for, made_of_one, made_of_two, quotient_of, found, fresh, held, valued, put, put_at, assigned, behind_action, taken_in}
+
+abbrev pub Values : Type 0
+Values = List (Option Value)
+
+-- ---- what is read
+
+-- a part comes to a value, and leaves the variables; or it is stuck
+abbrev pub Reads : {A : Type 0} → Outcome A → Option A → Values → Type 0
+Reads (goes_on x s) o vs = (o ≡ Some x) × (s.variables ≡ vs)
+Reads (over (at_end e) s) o vs = ⊥
+Reads (over (in_trouble t) s) o vs = Unit {0}
+
+then_reads : {A B : Type 0} (o : Outcome A) (p : Option A) (vs : Values) (f : A → Progress → Outcome B) (g : A → Option B) → Reads o p vs
+    → ((x : A) (r : Progress) → r.variables ≡ vs → Reads (f x r) (g x) vs) → Reads (then_do o f) (option_and_then g p) vs
+then_reads (goes_on x s) p vs f g h step = subst (λ q. Reads (f x s) (option_and_then g q) vs) (sym h.0) (step x s h.1)
+then_reads (over (at_end e) s) p vs f g h step = h
+then_reads (over (in_trouble t) s) p vs f g h step = tt
+
+-- from variables that are these
+reads_at : {A : Type 0} (o : Outcome A) (p : Values → Option A) (us vs : Values) → us ≡ vs → Reads o (p us) us → Reads o (p vs) vs
+reads_at o p us vs is h = subst (λ ws. Reads o (p ws) ws) is h
+
+read_is : (p : Option (Option Value)) (s : Progress) → Reads (read p (tick s)) (unwrap_or p None) s.variables
+read_is None s = tt
+read_is (Some None) s = tt
+read_is (Some (Some x)) s = (refl, refl)
+
+slot_is : (n : Option ℕ) (s : Progress) → Reads (read (slot n s) (tick s)) (held n s.variables) s.variables
+slot_is None s = tt
+slot_is (Some n) s = read_is (slice_get s.variables n) s
+
+one_reads : (op : UnaryOperator) (x : Value) (r : Progress) (vs : Values) → r.variables ≡ vs → Reads (apply_one op x (tick r)) (made_of_one op x) vs
+one_reads Negate (Int x) r vs is = (refl, is)
+one_reads Negate (Truth b) r vs is = tt
+one_reads Not (Int x) r vs is = tt
+one_reads Not (Truth b) r vs is = (refl, is)
+
+same_reads : (w : Working) (x y : Value) (r : Progress) (vs : Values) → r.variables ≡ vs → Reads (apply_two w x y (tick r)) (found (apply_two w x y fresh)) vs
+same_reads (reckons f) (Int x) (Int y) r vs is = (refl, is)
+same_reads (reckons f) (Int x) (Truth y) r vs is = tt
+same_reads (reckons f) (Truth x) y r vs is = tt
+same_reads (compares f) (Int x) (Int y) r vs is = (refl, is)
+same_reads (compares f) (Int x) (Truth y) r vs is = tt
+same_reads (compares f) (Truth x) y r vs is = tt
+same_reads (joins f) (Truth x) (Truth y) r vs is = (refl, is)
+same_reads (joins f) (Truth x) (Int y) r vs is = tt
+same_reads (joins f) (Int x) y r vs is = tt
+
+two_reads : (b : Bool) (op : BinaryOperator) (x y : Value) (r : Progress) (vs : Values) → r.variables ≡ vs → Reads (apply_two (working b op) x y (tick r)) (made_of_two op x y) vs
+two_reads b Or x y r vs is = same_reads (working b Or) x y r vs is
+two_reads b Xor x y r vs is = same_reads (working b Xor) x y r vs is
+two_reads b And x y r vs is = same_reads (working b And) x y r vs is
+two_reads true Equal (Truth x) y r vs is = same_reads (working true Equal) (Truth x) y r vs is
+two_reads true Equal (Int x) y r vs is = tt
+two_reads false Equal (Int x) y r vs is = same_reads (working false Equal) (Int x) y r vs is
+two_reads false Equal (Truth x) y r vs is = tt
+two_reads true NotEqual (Truth x) y r vs is = same_reads (working true NotEqual) (Truth x) y r vs is
+two_reads true NotEqual (Int x) y r vs is = tt
+two_reads false NotEqual (Int x) y r vs is = same_reads (working false NotEqual) (Int x) y r vs is
+two_reads false NotEqual (Truth x) y r vs is = tt
+two_reads b Less x y r vs is = same_reads (working b Less) x y r vs is
+two_reads b LessEqual x y r vs is = same_reads (working b LessEqual) x y r vs is
+two_reads b Greater x y r vs is = same_reads (working b Greater) x y r vs is
+two_reads b GreaterEqual x y r vs is = same_reads (working b GreaterEqual) x y r vs is
+two_reads b Add x y r vs is = same_reads (working b Add) x y r vs is
+two_reads b Subtract x y r vs is = same_reads (working b Subtract) x y r vs is
+two_reads b Multiply x y r vs is = same_reads (working b Multiply) x y r vs is
+two_reads b Divide x y r vs is = same_reads (working b Divide) x y r vs is
+two_reads b Modulo x y r vs is = same_reads (working b Modulo) x y r vs is
+two_reads b Remainder x y r vs is = same_reads (working b Remainder) x y r vs is
+
+divided_reads : (op : BinaryOperator) (t : Tree) (x : Value) (r : Progress) (vs : Values) → r.variables ≡ vs → Reads (divide op (divisor_of t) x (tick r)) (quotient_of op t x) vs
+divided_reads op t (Truth b) r vs is = tt
+divided_reads op t (Int x) r vs is = by_test (int_lt (pos 0) (divisor_of t))
+  where
+    by_test : (b : Bool) → Reads (cond b (goes_on (Int (meaning.quotient op x (divisor_of t))) (tick r)) (over (in_trouble WrongSort) (tick r)))
+        (found (cond b (goes_on (Int (meaning.quotient op x (divisor_of t))) fresh) (over (in_trouble WrongSort) fresh))) vs
+    by_test true = (refl, is)
+    by_test false = tt
+
+module _ (c : Scope) where
+  abbrev pub ids : List Identifier
+  ids = variable_names c.process
+
+  pub value_reads : (t : Tree) (s : Progress) → Reads (value_of c t s) (valued ids t s.variables) s.variables
+  value_reads (number k n) s = (refl, refl)
+  value_reads (truth k b) s = (refl, refl)
+  value_reads (variable k n) s = slot_is (variable_at c n) s
+  value_reads (unary k op t) s =
+      then_reads (value_of c t s) (valued ids t s.variables) s.variables (λ x r. apply_one op x (tick r)) (made_of_one op) (value_reads t s) (λ x r is. one_reads op x r s.variables is)
+  value_reads (binary k op t u) s =
+      then_reads (value_of c t s) (valued ids t s.variables) s.variables
+      (λ x r. cond (is_division op) (divide op (divisor_of u) x (tick r)) (then_do (value_of c u r) (λ y r. apply_two (working (meaning.is_truth c t) op) x y (tick r))))
+      (λ x. cond (is_division op) (quotient_of op u x) (option_and_then (made_of_two op x) (valued ids u s.variables)))
+      (value_reads t s) (λ x r is. by_test x r is (is_division op) (value_reads u r))
+    where
+      by_test : (x : Value) (r : Progress) → r.variables ≡ s.variables → (b : Bool) → Reads (value_of c u r) (valued ids u r.variables) r.variables
+          → Reads (cond b (divide op (divisor_of u) x (tick r)) (then_do (value_of c u r) (λ y r. apply_two (working (meaning.is_truth c t) op) x y (tick r))))
+          (cond b (quotient_of op u x) (option_and_then (made_of_two op x) (valued ids u s.variables))) s.variables
+      by_test x r is true other = divided_reads op u x r s.variables is
+      by_test x r is false other =
+          then_reads (value_of c u r) (valued ids u s.variables) s.variables (λ y r. apply_two (working (meaning.is_truth c t) op) x y (tick r)) (made_of_two op x)
+          (reads_at (value_of c u r) (valued ids u) r.variables s.variables is other) (λ y q at. two_reads (meaning.is_truth c t) op x y q s.variables at)
+
+-- ---- what keeps the variables
+
+-- it goes on with these variables, or is stuck
+abbrev pub Keeps : {A : Type 0} → Outcome A → Values → Type 0
+Keeps (goes_on x s) vs = s.variables ≡ vs
+Keeps (over (at_end e) s) vs = ⊥
+Keeps (over (in_trouble t) s) vs = Unit {0}
+
+then_keeps : {A B : Type 0} (o : Outcome A) (us vs : Values) (f : A → Progress → Outcome B) → Keeps o us → ((x : A) (r : Progress) → r.variables ≡ us → Keeps (f x r) vs) → Keeps (then_do o f) vs
+then_keeps (goes_on x s) us vs f h step = step x s h
+then_keeps (over (at_end e) s) us vs f h step = h
+then_keeps (over (in_trouble t) s) us vs f h step = tt
+
+read_keeps : {A B : Type 0} (o : Outcome A) (p : Option A) (us vs : Values) (f : A → Progress → Outcome B) → Reads o p us
+    → ((x : A) (r : Progress) → p ≡ Some x → r.variables ≡ us → Keeps (f x r) vs) → Keeps (then_do o f) vs
+read_keeps (goes_on x s) p us vs f h step = step x s h.0 h.1
+read_keeps (over (at_end e) s) p us vs f h step = h
+read_keeps (over (in_trouble t) s) p us vs f h step = tt
+
+written_keeps : (o : Option (Option Value)) (n : ℕ) (x : Value) (r : Progress) (vs : Values) → r.variables ≡ vs → Keeps (written o n x r) (slice_set vs n (Some x))
+written_keeps None n x r vs is = tt
+written_keeps (Some old) n x r vs is = ap (λ (l : Values). slice_set l n (Some x)) is
+
+write_keeps : (o : Option ℕ) (x : Value) (r : Progress) (vs : Values) → r.variables ≡ vs → Keeps (write o x r) (put_at o (Some x) vs)
+write_keeps None x r vs is = tt
+write_keeps (Some n) x r vs is = written_keeps (slice_get r.variables n) n x (tick r) vs is
+
+put_out_keeps : (o : Option ℕ) (p : Option Address) (xs : List Value) (r : Progress) (vs : Values) → r.variables ≡ vs → Keeps (put_out o p xs r) vs
+put_out_keeps None p xs r vs is = tt
+put_out_keeps (Some n) None xs r vs is = tt
+put_out_keeps (Some n) (Some p) xs r vs is = is
+
+start_keeps : (o : Option ℕ) (x : Value) (r : Progress) (vs : Values) → r.variables ≡ vs → Keeps (start_timer o x r) vs
+start_keeps None x r vs is = tt
+start_keeps (Some t) (Int z) r vs is = is
+start_keeps (Some t) (Truth b) r vs is = tt
+
+stop_keeps : (o : Option ℕ) (r : Progress) → Keeps (stop_timer o r) r.variables
+stop_keeps None r = tt
+stop_keeps (Some t) r = refl
+
+module _ (c : Scope) where
+  assign_keeps : (ts : List PlainAssignment) (s : Progress) → Keeps (assign c ts s) (assigned (ids c) ts s.variables)
+  assign_keeps [] s = refl
+  assign_keeps (a ∷ rest) s =
+      read_keeps (value_of c a.value s) (valued (ids c) a.value s.variables) s.variables _ (λ x r. then_do (write (variable_at c a.variable) x r) (λ _ q. assign c rest q)) (value_reads c a.value s)
+      (λ x r is here. then_keeps (write (variable_at c a.variable) x r) (put (ids c) a.variable (Some x) s.variables) _ (λ _ q. assign c rest q)
+      (write_keeps (variable_at c a.variable) x r s.variables here)
+      (λ _ q there. subst (λ (us : Values). Keeps (assign c rest q) (assigned (ids c) rest us)) (there ∙ ap (λ (o : Option Value). put (ids c) a.variable o s.variables) (sym is)) (assign_keeps rest q)))
+
+  values_keep : (ts : List Tree) (s : Progress) → Keeps (values_of c ts s) s.variables
+  values_keep [] s = refl
+  values_keep (t ∷ ts) s =
+      read_keeps (value_of c t s) (valued (ids c) t s.variables) s.variables s.variables (λ x r. then_do (values_of c ts r) (λ xs q. goes_on (x ∷ xs) q)) (value_reads c t s)
+      (λ x r is here. then_keeps (values_of c ts r) r.variables s.variables (λ xs q. goes_on (x ∷ xs) q) (values_keep ts r) (λ xs q there. there ∙ here))
+
+  module _ (sender : Option Address) where
+    send_keeps : (to : Option Destination) (x : PlainSending) (s : Progress) → Keeps (send c sender to x s) s.variables
+    send_keeps to x s =
+        then_keeps (values_of c x.parameters s) s.variables s.variables (λ xs r. put_out (signal_at c x.signal) (receiver_of c sender to x.signal) xs (tick r)) (values_keep x.parameters s)
+        (λ xs r here. put_out_keeps (signal_at c x.signal) (receiver_of c sender to x.signal) xs (tick r) s.variables here)
+
+    sends_keep : (to : Option Destination) (xs : List PlainSending) (s : Progress) → Keeps (send_all c sender to xs s) s.variables
+    sends_keep to [] s = refl
+    sends_keep to (x ∷ xs) s =
+        then_keeps (send c sender to x s) s.variables s.variables (λ _ r. send_all c sender to xs r) (send_keeps to x s)
+        (λ _ r here. subst (Keeps (send_all c sender to xs r)) here (sends_keep to xs r))
+
+    pub perform_keeps : (a : PlainAction) (s : Progress) → Keeps (perform c sender a s) (behind_action (ids c) a s.variables)
+    perform_keeps (task k ts) s = assign_keeps ts s
+    perform_keeps (output k xs to) s = sends_keep to xs s
+    perform_keeps (set_timer k t n) s =
+        read_keeps (value_of c t s) (valued (ids c) t s.variables) s.variables s.variables (λ x r. start_timer (timer_at c n) x (tick r)) (value_reads c t s)
+        (λ x r is here. start_keeps (timer_at c n) x (tick r) s.variables here)
+    perform_keeps (reset_timer k n) s = stop_keeps (timer_at c n) (tick s)
+
+  pub places_keep : (ps : List Value) (j : ℕ) (places : List (Option Identifier)) (s : Progress) → Keeps (take_places c ps j places s) (taken_in (ids c) ps j places s.variables)
+  places_keep ps j [] s = refl
+  places_keep ps j (None ∷ places) s = places_keep ps (j + 1) places s
+  places_keep ps j (Some n ∷ places) s = by_parameter (slice_get ps j) (places_keep ps (j + 1) places)
+    where
+      by_parameter : (o : Option Value) → ((r : Progress) → Keeps (take_places c ps (j + 1) places r) (taken_in (ids c) ps (j + 1) places r.variables))
+          → Keeps (then_do (pass o (variable_at c n) s) (λ _ r. take_places c ps (j + 1) places r)) (taken_in (ids c) ps (j + 1) places (put (ids c) n o s.variables))
+      by_parameter None rest = tt
+      by_parameter (Some x) rest =
+          then_keeps (write (variable_at c n) x (tick s)) (put (ids c) n (Some x) s.variables) _ (λ _ r. take_places c ps (j + 1) places r) (write_keeps (variable_at c n) x (tick s) s.variables refl)
+          (λ _ r here. subst (λ (us : Values). Keeps (take_places c ps (j + 1) places r) (taken_in (ids c) ps (j + 1) places us)) here (rest r))
+
+-- ---- answers
+
+pub tried : (rs : List Range) (x : ℤ) (s : Progress) → Reads (try_ranges rs x s) (Some (is_for rs (Int x))) s.variables
+tried [] x s = (refl, refl)
+tried (r ∷ rs) x s = by_told (covers_integer r x) (tried rs x (tick s))
+  where
+    by_told : (o : Option Bool) → Reads (try_ranges rs x (tick s)) (Some (is_for rs (Int x))) s.variables
+        → Reads (then_do (told o (tick s)) (λ b q. cond b (goes_on true q) (try_ranges rs x q))) (Some (unwrap_or o false || is_for rs (Int x))) s.variables
+    by_told None rest = tt
+    by_told (Some true) rest = (refl, refl)
+    by_told (Some false) rest = rest
+
+pub found_so : (rs : List Range) (b : Bool) (s : Progress) → Reads (find_truth rs b s) (Some (is_for rs (Truth b))) s.variables
+found_so [] b s = (refl, refl)
+found_so (r ∷ rs) b s = by_told (covers_truth r b) (found_so rs b s)
+  where
+    by_told : (o : Option Bool) → Reads (find_truth rs b s) (Some (is_for rs (Truth b))) s.variables
+        → Reads (then_do (told o s) (λ d q. cond d (goes_on true q) (find_truth rs b q))) (Some (unwrap_or o false || is_for rs (Truth b))) s.variables
+    by_told None rest = tt
+    by_told (Some true) rest = (refl, refl)
+    by_told (Some false) rest = rest

@@ -1,0 +1,201 @@
+-- The way of a turn through a text: what it takes there, in order, and how it goes on. Only the
+-- values of variables have a say in it; what goes out, and what is set, has none.
+use Rattle.std.specs.Prelude.{ℕ, zero, suc, ◌+◌, pos, Bool, true, false, List, [], ◌∷◌, ◌++◌}
+use Rattle.std.specs.Prelude.{Option, None, Some, if◌then◌else◌, slice_get, slice_set, unwrap_or}
+use Rattle.std.specs.Prelude.{option_and_then}
+use Rattle.std.specs.List.{list_any}
+use Rattle.sdl_ast.specs.declared.expression.Identifier.{Identifier}
+use Rattle.sdl_ast.specs.declared.expression.UnaryOperator.{UnaryOperator}
+use Rattle.sdl_ast.specs.declared.expression.BinaryOperator.{BinaryOperator}
+use Rattle.sdl_ast.specs.declared.tree.End.{End}
+use Rattle.sdl_ast.specs.declared.tree.End.TheVariants.{NextState, Stop, Join}
+use Rattle.sdl_ast.specs.declared.tree.Range.{Range}
+use Rattle.sdl_ast.specs.Plain.{Tree, number, truth, variable, unary, binary, PlainAssignment}
+use Rattle.sdl_ast.specs.Plain.{PlainAction, task, output, set_timer, reset_timer, Text, falls}
+use Rattle.sdl_ast.specs.Plain.{ends, does, decides, Choice, nothing_else, otherwise, answer}
+use Rattle.sdl_ast.specs.Plain.{PlainConnection, PlainProcess}
+use Rattle.sdl_tables.specs.Names.{number_of, variable_names, connector_names}
+use Rattle.sdl_sound.specs.Longest.{is_division}
+use Rattle.sdl_meaning.specs.Act.{apply_one, apply_two, working, divide, divisor_of}
+use Rattle.sdl_meaning.specs.Act.{covers_integer, covers_truth}
+use Rattle.sdl_meaning.specs.Outcomes.{Outcome, goes_on, over}
+use Rattle.turn_code.specs.Run.{Progress}
+use Rattle.turn_code.specs.Values.{wrap}
+use Rattle.turn_code.specs.declared.value.Value.{Value}
+use Rattle.turn_code.specs.declared.value.Value.TheVariants.{Int, Bool as Truth}
+
+-- ---- what expressions come to
+
+-- nothing was done
+abbrev pub fresh : Progress
+fresh = record { variables = []; effects = []; count = 0 }
+
+abbrev pub found : Outcome Value → Option Value
+found (goes_on x s) = Some x
+found (over e s) = None
+
+-- the value of a variable, if it is set
+abbrev pub held : Option ℕ → List (Option Value) → Option Value
+held None vs = None
+held (Some n) vs = unwrap_or (slice_get vs n) None
+
+abbrev pub is_truth : Value → Bool
+is_truth (Int x) = false
+is_truth (Truth b) = true
+
+-- what an operator makes of a value, of two values, and of a value and a divisor; none where these
+-- have another sort than it wants
+abbrev pub made_of_one : UnaryOperator → Value → Option Value
+made_of_one op x = found (apply_one op x fresh)
+
+abbrev pub made_of_two : BinaryOperator → Value → Value → Option Value
+made_of_two op x y = found (apply_two (working (is_truth x) op) x y fresh)
+
+abbrev pub quotient_of : BinaryOperator → Tree → Value → Option Value
+quotient_of op t x = found (divide op (divisor_of t) x fresh)
+
+-- what an expression comes to, where variables of these names have these values
+abbrev pub valued : List Identifier → Tree → List (Option Value) → Option Value
+valued ids (number k n) vs = Some (Int (wrap (pos n)))
+valued ids (truth k b) vs = Some (Truth b)
+valued ids (variable k n) vs = held (number_of ids n.name) vs
+valued ids (unary k op t) vs = option_and_then (made_of_one op) (valued ids t vs)
+valued ids (binary k op t u) vs =
+    option_and_then (λ x. if is_division op then quotient_of op u x
+    else option_and_then (made_of_two op x) (valued ids u vs)) (valued ids t vs)
+
+-- ---- what variables become
+
+abbrev pub put_at : Option ℕ → Option Value → List (Option Value) → List (Option Value)
+put_at None x vs = vs
+put_at (Some n) x vs = slice_set vs n x
+
+abbrev pub put :
+    List Identifier → Identifier → Option Value → List (Option Value) → List (Option Value)
+put ids v x vs = put_at (number_of ids v.name) x vs
+
+-- assignments one after another
+abbrev pub assigned :
+    List Identifier → List PlainAssignment → List (Option Value) → List (Option Value)
+assigned ids [] vs = vs
+assigned ids (a ∷ rest) vs = assigned ids rest (put ids a.variable (valued ids a.value vs) vs)
+
+abbrev pub behind_action :
+    List Identifier → PlainAction → List (Option Value) → List (Option Value)
+behind_action ids (task k ts) vs = assigned ids ts vs
+behind_action ids (output k xs to) vs = vs
+behind_action ids (set_timer k t n) vs = vs
+behind_action ids (reset_timer k n) vs = vs
+
+-- each place of an INPUT from place j on that has a name gets the parameter there
+abbrev pub taken_in :
+    List Identifier → List Value → ℕ → List (Option Identifier) → List (Option Value)
+    → List (Option Value)
+taken_in ids ps j [] vs = vs
+taken_in ids ps j (None ∷ places) vs = taken_in ids ps (j + 1) places vs
+taken_in ids ps j (Some v ∷ places) vs =
+    taken_in ids ps (j + 1) places (put ids v (slice_get ps j) vs)
+
+-- ---- ways
+
+-- What is taken: what begins at a place, or the ELSE of the DECISION at a place.
+pub data Taken : Type 0 where
+  at : ℕ → Taken
+  else_of : ℕ → Taken
+
+abbrev pub action_place : PlainAction → ℕ
+action_place (task k ts) = k
+action_place (output k xs to) = k
+action_place (set_timer k t n) = k
+action_place (reset_timer k n) = k
+
+abbrev pub end_place : End → ℕ
+end_place (NextState n) = n.at
+end_place (Stop k) = k
+end_place (Join j) = j.at
+
+-- A way: what is taken on it, the end to which it comes, if it does, and the variables then.
+pub record Way : Type 0 where
+  pub taken : List Taken
+  pub end : Option End
+  pub values : List (Option Value)
+
+-- it takes nothing
+abbrev pub stands : Option End → List (Option Value) → Way
+stands e vs = record { taken = []; end = e; values = vs }
+
+-- this is taken first
+abbrev pub behind : List Taken → Way → Way
+behind xs w = record { taken = xs ++ w.taken; end = w.end; values = w.values }
+
+abbrev pub goes_with :
+    Option End → List Taken → List (Option Value) → (List (Option Value) → Way) → Way
+goes_with None xs vs f = behind xs (f vs)
+goes_with (Some e) xs vs f = record { taken = xs; end = Some e; values = vs }
+
+-- a way, and then one behind it, unless it comes to an end
+abbrev pub then_way : Way → (List (Option Value) → Way) → Way
+then_way w f = goes_with w.end w.taken w.values f
+
+-- whether an answer is for a value
+abbrev pub has_value : Value → Range → Bool
+has_value (Int x) r = unwrap_or (covers_integer r x) false
+has_value (Truth b) r = unwrap_or (covers_truth r b) false
+
+abbrev pub is_for : List Range → Value → Bool
+is_for rs x = list_any (has_value x) rs
+
+abbrev pub with_value : Option Value → List (Option Value) → (Value → Way) → Way
+with_value None vs f = stands None vs
+with_value (Some x) vs f = f x
+
+abbrev mutual
+  -- through a text, where variables of these names have these values
+  pub way_of : List Identifier → Text → List (Option Value) → Way
+  way_of ids falls vs = stands None vs
+  way_of ids (ends e) vs = behind (at (end_place e) ∷ []) (stands (Some e) vs)
+  way_of ids (does a rest) vs =
+      behind (at (action_place a) ∷ []) (way_of ids rest (behind_action ids a vs))
+  way_of ids (decides k q choice rest) vs =
+      then_way
+      (behind (at k ∷ [])
+      (with_value (valued ids q vs) vs (λ x. chosen_way ids k choice x vs)))
+      (λ ws. way_of ids rest ws)
+
+  -- by the first answer of the DECISION at place k that is for the value, or by its ELSE
+  pub chosen_way : List Identifier → ℕ → Choice → Value → List (Option Value) → Way
+  chosen_way ids k nothing_else x vs = stands None vs
+  chosen_way ids k (otherwise body) x vs = behind (else_of k ∷ []) (way_of ids body vs)
+  chosen_way ids k (answer a rs body others) x vs =
+      if is_for rs x then behind (at a ∷ []) (way_of ids body vs)
+      else chosen_way ids k others x vs
+
+-- ---- JOINs
+
+abbrev pub connection_at : PlainProcess → List ℕ → Option PlainConnection
+connection_at p x = option_and_then (slice_get p.connections) (number_of (connector_names p) x)
+
+-- the connection to which an end leads
+abbrev pub joined_at : PlainProcess → Option End → Option PlainConnection
+joined_at p None = None
+joined_at p (Some (NextState n)) = None
+joined_at p (Some (Stop k)) = None
+joined_at p (Some (Join j)) = connection_at p j.connector.name
+
+-- on through that, if there is one
+abbrev pub joined_way : Option PlainConnection → Way → (Text → Way) → Way
+joined_way None w f = w
+joined_way (Some k) w f = behind w.taken (f k.text)
+
+abbrev pub way_on : PlainProcess → Way → (Text → List (Option Value) → Way) → Way
+way_on p w f = joined_way (joined_at p w.end) w (λ t. f t w.values)
+
+-- through a text, and on through those that it joins, n at most
+abbrev pub whole_way : PlainProcess → ℕ → Text → List (Option Value) → Way
+whole_way p zero t vs = way_of (variable_names p) t vs
+whole_way p (suc n) t vs =
+    way_on p (way_of (variable_names p) t vs) (λ u ws. whole_way p n u ws)
+
+-- what is taken on that
+abbrev pub through : PlainProcess → ℕ → Text → List (Option Value) → List Taken
+through p n t vs = (whole_way p n t vs).taken

@@ -1,0 +1,294 @@
+//! What expressions of a text come to.
+ghost use Rattle.std.specs.Prelude.{◌≡◌, ◌≤ℤ◌, pos, unwrap_or, true, false};
+ghost use Rattle.sdl_ast.specs.Views.{tree_of};
+ghost use Rattle.sdl_tables.specs.Names.{number_of};
+ghost use Rattle.sdl_sound.specs.Longest.{is_division};
+ghost use Rattle.sdl_meaning.specs.Act.{divisor_of, quotient, relation_of, integer_in, compared, between, is_literal, covers_integer, covers_truth};
+ghost use Rattle.turn_code.specs.Values.{wrap};
+ghost use Rattle.turn_code.specs.declared.value.Value.TheVariants.{Int, Bool as Truth};
+ghost use Rattle.script_covered.specs.Ways.{made_of_one, made_of_two, quotient_of, held, valued, has_value, is_for};
+
+use sdl_ast::{BinaryOperator, Expression, Identifier, Literal, Range, Relation, UnaryOperator};
+use sdl_sound::is_division;
+use sdl_tables::NameTable;
+use turn_code::{Connective, Division, Operation, Relation as Standing, Value, negated};
+
+/// What an operator makes of a value; none where it has another sort.
+fn unary(operator: UnaryOperator, value: Value) -> Option<Value>
+    ensures { result ≡ made_of_one operator value }
+{
+    match operator {
+        UnaryOperator::Negate => match value {
+            Value::Int(number) => Some(Value::Int(negated(number))),
+            Value::Bool(_) => None,
+        },
+        UnaryOperator::Not => match value {
+            Value::Int(_) => None,
+            Value::Bool(truth) => Some(Value::Bool(!truth)),
+        },
+    }
+}
+
+/// The Integer of a number in a text.
+fn integer(value: u32) -> i32
+    ensures { result ≡ wrap (pos value) }
+{
+    value.cast_signed()
+}
+
+/// The number right of a division; 0 for all else that may stand there.
+fn divisor(expression: &Expression) -> i32
+    ensures { result ≡ divisor_of (tree_of expression.now) }
+{
+    match expression {
+        Expression::Number { value, .. } => integer(*value),
+        Expression::Truth { .. } => 0,
+        Expression::Variable { .. } => 0,
+        Expression::Unary { .. } => 0,
+        Expression::Binary { .. } => 0,
+    }
+}
+
+/// What a division makes of a number and a divisor.
+fn quotient(operator: BinaryOperator, number: i32, divisor: i32) -> i32
+    requires { pos 1 ≤ℤ divisor }
+    ensures { result ≡ quotient operator number divisor }
+{
+    match operator {
+        BinaryOperator::Divide => Division::Quotient.apply(number, divisor),
+        BinaryOperator::Modulo => Division::Modulo.apply(number, divisor),
+        _ => Division::Remainder.apply(number, divisor),
+    }
+}
+
+/// What a division makes of a value; none where that is no number, or the divisor isn't 1 or more.
+fn divided(operator: BinaryOperator, left: Value, right: &Expression) -> Option<Value>
+    ensures { result ≡ quotient_of operator (tree_of right.now) left }
+{
+    let divisor = divisor(right);
+    match left {
+        Value::Int(number) => {
+            if 0 < divisor {
+                Some(Value::Int(quotient(operator, number, divisor)))
+            } else {
+                None
+            }
+        }
+        Value::Bool(_) => None,
+    }
+}
+
+/// What an operator that is no division makes of two numbers; none where it wants Booleans.
+fn on_numbers(operator: BinaryOperator, left: i32, right: i32) -> Option<Value>
+    ensures { is_division operator ≡ false → result ≡ made_of_two operator (Int left) (Int right) }
+{
+    match operator {
+        BinaryOperator::Or => None,
+        BinaryOperator::Xor => None,
+        BinaryOperator::And => None,
+        BinaryOperator::Equal => Some(Value::Bool(Standing::Equal.holds(left, right))),
+        BinaryOperator::NotEqual => Some(Value::Bool(Standing::NotEqual.holds(left, right))),
+        BinaryOperator::Less => Some(Value::Bool(Standing::Less.holds(left, right))),
+        BinaryOperator::LessEqual => Some(Value::Bool(Standing::LessEqual.holds(left, right))),
+        BinaryOperator::Greater => Some(Value::Bool(Standing::Greater.holds(left, right))),
+        BinaryOperator::GreaterEqual => {
+            Some(Value::Bool(Standing::GreaterEqual.holds(left, right)))
+        }
+        BinaryOperator::Add => Some(Value::Int(Operation::Add.apply(left, right))),
+        BinaryOperator::Subtract => Some(Value::Int(Operation::Subtract.apply(left, right))),
+        BinaryOperator::Multiply => Some(Value::Int(Operation::Multiply.apply(left, right))),
+        BinaryOperator::Divide => None,
+        BinaryOperator::Modulo => None,
+        BinaryOperator::Remainder => None,
+    }
+}
+
+/// What an operator makes of two Booleans; none where it wants numbers.
+fn on_truths(operator: BinaryOperator, left: bool, right: bool) -> Option<Value>
+    ensures { result ≡ made_of_two operator (Truth left) (Truth right) }
+{
+    match operator {
+        BinaryOperator::Or => Some(Value::Bool(Connective::Or.apply(left, right))),
+        BinaryOperator::Xor => Some(Value::Bool(Connective::Xor.apply(left, right))),
+        BinaryOperator::And => Some(Value::Bool(Connective::And.apply(left, right))),
+        BinaryOperator::Equal => Some(Value::Bool(Connective::Same.apply(left, right))),
+        BinaryOperator::NotEqual => Some(Value::Bool(Connective::Xor.apply(left, right))),
+        BinaryOperator::Less => None,
+        BinaryOperator::LessEqual => None,
+        BinaryOperator::Greater => None,
+        BinaryOperator::GreaterEqual => None,
+        BinaryOperator::Add => None,
+        BinaryOperator::Subtract => None,
+        BinaryOperator::Multiply => None,
+        BinaryOperator::Divide => None,
+        BinaryOperator::Modulo => None,
+        BinaryOperator::Remainder => None,
+    }
+}
+
+/// What an operator that is no division makes of two values; none where these have other sorts.
+fn binary(operator: BinaryOperator, left: Value, right: Value) -> Option<Value>
+    ensures { is_division operator ≡ false → result ≡ made_of_two operator left right }
+{
+    match left {
+        Value::Int(one) => match right {
+            Value::Int(other) => on_numbers(operator, one, other),
+            Value::Bool(_) => None,
+        },
+        Value::Bool(one) => match right {
+            Value::Int(_) => None,
+            Value::Bool(other) => on_truths(operator, one, other),
+        },
+    }
+}
+
+/// The value of a variable, if it is set.
+fn held(names: &NameTable, values: &[Option<Value>], name: &Identifier) -> Option<Value>
+    ensures { result ≡ held (number_of names.now name.now.name) values.now }
+{
+    match names.number(name.name) {
+        Some(number) => match values.get(number) {
+            Some(value) => *value,
+            None => None,
+        },
+        None => None,
+    }
+}
+
+/// What an expression comes to, where variables of these names have these values.
+pub(crate) fn evaluate(
+    names: &NameTable,
+    values: &[Option<Value>],
+    expression: &Expression,
+) -> Option<Value>
+    ensures { result ≡ valued names.now (tree_of expression.now) values.now }
+{
+    match expression {
+        Expression::Number { value, .. } => Some(Value::Int(integer(*value))),
+        Expression::Truth { value, .. } => Some(Value::Bool(*value)),
+        Expression::Variable { name, .. } => held(names, values, name),
+        Expression::Unary {
+            operator,
+            operand,
+            ..
+        } => {
+            let value = evaluate(names, values, operand)?;
+            unary(*operator, value)
+        }
+        Expression::Binary {
+            operator,
+            left,
+            right,
+            ..
+        } => {
+            let one = evaluate(names, values, left)?;
+            if is_division(*operator) {
+                return divided(*operator, one, right);
+            }
+            let other = evaluate(names, values, right)?;
+            binary(*operator, one, other)
+        }
+    }
+}
+
+/// The relation of an answer.
+fn relation_of(relation: Relation) -> Standing
+    ensures { result ≡ relation_of relation }
+{
+    match relation {
+        Relation::Equal => Standing::Equal,
+        Relation::NotEqual => Standing::NotEqual,
+        Relation::Less => Standing::Less,
+        Relation::LessEqual => Standing::LessEqual,
+        Relation::Greater => Standing::Greater,
+        Relation::GreaterEqual => Standing::GreaterEqual,
+    }
+}
+
+/// The Integer that a constant is, if it is one.
+fn integer_in(literal: Literal) -> Option<i32>
+    ensures { result ≡ integer_in literal }
+{
+    match literal {
+        Literal::Integer(number) => Some(number),
+        Literal::Boolean(_) => None,
+    }
+}
+
+/// Whether a number stands so to a constant.
+fn stands(relation: Standing, number: i32, bound: Option<i32>) -> bool
+    ensures { result ≡ unwrap_or (compared relation number bound) false }
+{
+    match bound {
+        Some(bound) => relation.holds(number, bound),
+        None => false,
+    }
+}
+
+/// Whether a number is from one constant to another, both included.
+fn lies(number: i32, low: Option<i32>, high: Option<i32>) -> bool
+    ensures { result ≡ unwrap_or (between number low high) false }
+{
+    match low {
+        Some(low) => match high {
+            Some(high) => {
+                Standing::LessEqual.holds(low, number) && Standing::LessEqual.holds(number, high)
+            }
+            None => false,
+        },
+        None => false,
+    }
+}
+
+/// Whether a range has a number.
+fn has_number(range: &Range, number: i32) -> bool
+    ensures { result ≡ unwrap_or (covers_integer range.now number) false }
+{
+    match range {
+        Range::Value(constant) => stands(Standing::Equal, number, integer_in(constant.value)),
+        Range::Compared {
+            relation,
+            constant,
+            ..
+        } => stands(relation_of(*relation), number, integer_in(constant.value)),
+        Range::Between(low, high) => { lies(number, integer_in(low.value), integer_in(high.value)) }
+    }
+}
+
+/// Whether a constant is this truth value.
+fn is_truth(literal: Literal, truth: bool) -> bool
+    ensures { result ≡ unwrap_or (is_literal literal truth) false }
+{
+    match literal {
+        Literal::Integer(_) => false,
+        Literal::Boolean(value) => Connective::Same.apply(value, truth),
+    }
+}
+
+/// Whether a range has a truth value.
+fn has_truth(range: &Range, truth: bool) -> bool
+    ensures { result ≡ unwrap_or (covers_truth range.now truth) false }
+{
+    match range {
+        Range::Value(constant) => is_truth(constant.value, truth),
+        Range::Compared { .. } => false,
+        Range::Between(_, _) => false,
+    }
+}
+
+/// Whether a range has a value.
+fn has(range: &Range, value: Value) -> bool
+    ensures { result ≡ has_value value range.now }
+{
+    match value {
+        Value::Int(number) => has_number(range, number),
+        Value::Bool(truth) => has_truth(range, truth),
+    }
+}
+
+/// Whether an answer with these ranges is for a value.
+pub(crate) fn answers(ranges: &[Range], value: Value) -> bool
+    ensures { result ≡ is_for ranges.now value }
+{
+    ranges.iter().any(|range| has(range, value))
+}

@@ -1,0 +1,269 @@
+//! The command `play` with what is told at its end of the text of its set: what of it was taken, in the format of lcov.
+ghost use Rattle.std.specs.Prelude.{◌≡◌, ◌⊎◌, ℕ, List, IfSome, Option as Maybe, Some};
+ghost use Rattle.plain_text.specs.Reading.{Keeps, IsReading};
+ghost use Rattle.sdl_ast.specs.Views.{block_of};
+ghost use Rattle.script_check.specs.Checked.{given, IsAccepted};
+ghost use Rattle.script_covered.specs.Texts.{IsTextOf};
+ghost use Rattle.script_play.specs.Played.{IsNotRun, IsOnSet, IsRefused};
+ghost use Rattle.script_play.specs.Seen.{IsPlayTold, IsPlayToldInPart, IsCoveredBy, IsTextCovered, IsTextCoveredInPart};
+
+use crate::watching::{tell, watch_text};
+use plain_text::{TextRead, read_text};
+use script_check::{MONITORS, Q703, STANDARD, SetWord, find_set, refuse_set};
+use script_covered::{BlockTable, TextCoverage, parse, tokens};
+use script_seen::{ActorName, Ended, FAILED, Item, RoundLimits, Watcher, write_line};
+use std::alloc::Global;
+use std::io::{self, Read, Write};
+use std::str;
+use turn_check::Verified;
+use turn_code::StateNumber;
+
+/// Who is told of a run, and knows what its turns took of a text.
+#[derive(Drop)]
+struct Covering<'a, 'b> {
+    coverage: TextCoverage<'a, 'b>,
+}
+
+impl Watcher for Covering<'_, '_> {
+    ghost use Rattle.script_covered.specs.Texts.{IsCovering};
+    ghost use Rattle.script_play.specs.Seen.{turns_run};
+
+    ghost knows = { λ d ns c. IsCovering (turns_run ns) c.coverage };
+
+    fn end(&mut self, _alloc: Global, _set: &Verified, ended: &Ended) -> io::Result<()> {
+        Ok(self.coverage.take(&ended.done)?)
+    }
+
+    fn throw(
+        &mut self,
+        _alloc: Global,
+        _set: &Verified,
+        _me: ActorName,
+        _state: StateNumber,
+        _item: &Item,
+    ) -> io::Result<()> {
+        Ok(())
+    }
+}
+
+/// Runs the script of a text that was read, and tells what was taken of the text of its set, which has these tables.
+fn cover_block<T: Write, W: Write, E: Write>(
+    alloc: Global,
+    set: &Verified,
+    text: &str,
+    name: &str,
+    block: &BlockTable<'_>,
+    usual: RoundLimits,
+    read: &TextRead,
+    out: &mut T,
+    writer: &mut W,
+    errors: &mut E,
+) -> u8
+    requires { IsTextOf text.now (block_of block.now) }
+    ensures held { result ≡ 0 → (bytes : List ℕ) → Keeps bytes read.now
+        → IsPlayTold usual (W.contents writer.old) (W.contents writer.new) (IsCoveredBy name.now text.now (T.contents out.old) (T.contents out.new)) set.now bytes }
+    ensures missed { result ≡ 1 → (bytes : List ℕ) → Keeps bytes read.now
+        → IsPlayToldInPart usual (W.contents writer.old) (W.contents writer.new) (IsCoveredBy name.now text.now (T.contents out.old) (T.contents out.new)) set.now bytes }
+    ensures refused { result ≡ 2 → (bytes : List ℕ) → Keeps bytes read.now → IsNotRun (W.contents writer.old) (W.contents writer.new) set.now bytes }
+    ensures status { (result ≡ 0) ⊎ (result ≡ 1) ⊎ (result ≡ 2) ⊎ (result ≡ 4) }
+{
+    match TextCoverage::new(alloc, text, block) {
+        Ok(coverage) => {
+            let mut covering = Covering { coverage };
+            let status = watch_text(alloc, set, usual, read, &mut covering, writer, errors);
+            let told = covering.coverage.report(alloc, name, text);
+            tell(status, told, out)
+        }
+        Err(_) => FAILED,
+    }
+}
+
+/// The same with the text alone.
+fn cover<T: Write, W: Write, E: Write>(
+    alloc: Global,
+    set: &Verified,
+    text: &str,
+    name: &str,
+    usual: RoundLimits,
+    read: &TextRead,
+    out: &mut T,
+    writer: &mut W,
+    errors: &mut E,
+) -> u8
+    ensures held { result ≡ 0 → (bytes : List ℕ) → Keeps bytes read.now
+        → IsPlayTold usual (W.contents writer.old) (W.contents writer.new) (IsCoveredBy name.now text.now (T.contents out.old) (T.contents out.new)) set.now bytes }
+    ensures missed { result ≡ 1 → (bytes : List ℕ) → Keeps bytes read.now
+        → IsPlayToldInPart usual (W.contents writer.old) (W.contents writer.new) (IsCoveredBy name.now text.now (T.contents out.old) (T.contents out.new)) set.now bytes }
+    ensures refused { result ≡ 2 → (bytes : List ℕ) → Keeps bytes read.now → IsNotRun (W.contents writer.old) (W.contents writer.new) set.now bytes }
+    ensures status { (result ≡ 0) ⊎ (result ≡ 1) ⊎ (result ≡ 2) ⊎ (result ≡ 4) }
+{
+    match tokens(alloc, text) {
+        Ok(tokens) => match parse(alloc, &tokens) {
+            Ok(tree) => match BlockTable::new(alloc, &tree) {
+                Ok(block) => cover_block(
+                    alloc, set, text, name, &block, usual, read, out, writer, errors,
+                ),
+                Err(_) => FAILED,
+            },
+            Err(_) => FAILED,
+        },
+        Err(_) => FAILED,
+    }
+}
+
+/// The same of the bytes of a text.
+fn cover_set<T: Write, W: Write, E: Write>(
+    alloc: Global,
+    set: &Verified,
+    bytes: &[u8],
+    name: &str,
+    usual: RoundLimits,
+    read: &TextRead,
+    out: &mut T,
+    writer: &mut W,
+    errors: &mut E,
+) -> u8
+    ensures held { result ≡ 0 → (said : List ℕ) → Keeps said read.now
+        → IsPlayTold usual (W.contents writer.old) (W.contents writer.new) (IsCoveredBy name.now bytes.now (T.contents out.old) (T.contents out.new)) set.now said }
+    ensures missed { result ≡ 1 → (said : List ℕ) → Keeps said read.now
+        → IsPlayToldInPart usual (W.contents writer.old) (W.contents writer.new) (IsCoveredBy name.now bytes.now (T.contents out.old) (T.contents out.new)) set.now said }
+    ensures refused { result ≡ 2 → (said : List ℕ) → Keeps said read.now → IsNotRun (W.contents writer.old) (W.contents writer.new) set.now said }
+    ensures status { (result ≡ 0) ⊎ (result ≡ 1) ⊎ (result ≡ 2) ⊎ (result ≡ 4) }
+{
+    match str::from_utf8(bytes) {
+        Ok(text) => cover(alloc, set, text, name, usual, read, out, writer, errors),
+        Err(_) => FAILED,
+    }
+}
+
+/// Runs a script on the set of a text, which has these bytes.
+fn cover_bytes<R: Read + Drop, T: Write, W: Write, E: Write>(
+    alloc: Global,
+    bytes: &[u8],
+    usual: RoundLimits,
+    name: &str,
+    mut script: R,
+    out: &mut T,
+    writer: &mut W,
+    errors: &mut E,
+) -> u8
+    ensures accepted { (result ≡ 0) ⊎ (result ≡ 1) → IsAccepted bytes.now }
+    ensures held { result ≡ 0 → IsOnSet (Some bytes.now) (R.remaining script)
+        (IsTextCovered name.now (Some bytes.now) usual (W.contents writer.old) (W.contents writer.new) (T.contents out.old) (T.contents out.new)) }
+    ensures missed { result ≡ 1 → IsOnSet (Some bytes.now) (R.remaining script)
+        (IsTextCoveredInPart name.now (Some bytes.now) usual (W.contents writer.old) (W.contents writer.new) (T.contents out.old) (T.contents out.new)) }
+    ensures refused { result ≡ 2 → IsRefused (Some bytes.now) (R.remaining script) (W.contents writer.old) (W.contents writer.new) }
+    ensures status { (result ≡ 0) ⊎ (result ≡ 1) ⊎ (result ≡ 2) ⊎ (result ≡ 4) }
+{
+    let set = find_set(alloc, SetWord::Text(bytes));
+    let read = read_text(alloc, &mut script);
+    match set {
+        Ok(set) => match read {
+            Ok(read) => cover_set(alloc, &set, bytes, name, usual, &read, out, writer, errors),
+            Err(_) => FAILED,
+        },
+        Err(refusal) => refuse_set(alloc, name, &refusal, writer, errors),
+    }
+}
+
+/// Runs a script on the set of a text of the program's own.
+fn cover_own<R: Read + Drop, T: Write, W: Write, E: Write>(
+    alloc: Global,
+    text: &str,
+    usual: RoundLimits,
+    name: &str,
+    script: R,
+    out: &mut T,
+    writer: &mut W,
+    errors: &mut E,
+) -> u8
+    ensures accepted { (result ≡ 0) ⊎ (result ≡ 1) → IsAccepted text.now }
+    ensures held { result ≡ 0 → IsOnSet (Some text.now) (R.remaining script)
+        (IsTextCovered name.now (Some text.now) usual (W.contents writer.old) (W.contents writer.new) (T.contents out.old) (T.contents out.new)) }
+    ensures missed { result ≡ 1 → IsOnSet (Some text.now) (R.remaining script)
+        (IsTextCoveredInPart name.now (Some text.now) usual (W.contents writer.old) (W.contents writer.new) (T.contents out.old) (T.contents out.new)) }
+    ensures refused { result ≡ 2 → IsRefused (Some text.now) (R.remaining script) (W.contents writer.old) (W.contents writer.new) }
+    ensures status { (result ≡ 0) ⊎ (result ≡ 1) ⊎ (result ≡ 2) ⊎ (result ≡ 4) }
+{
+    let bytes = text.as_bytes();
+    cover_bytes(alloc, bytes, usual, name, script, out, writer, errors)
+}
+
+/// Tells that a text has more octets than a text may have. Gives the exit status.
+fn tell_too_long<E: Write>(alloc: Global, name: &str, errors: &mut E) -> u8
+    ensures { result ≡ 4 }
+{
+    let _name = errors.write_all(name.as_bytes());
+    let _told = write_line(alloc, errors, &": a text has 262144 octets at most");
+    FAILED
+}
+
+/// Runs a script on the set of a text that was read.
+fn cover_read<R: Read + Drop, T: Write, W: Write, E: Write>(
+    alloc: Global,
+    of_set: &TextRead,
+    usual: RoundLimits,
+    name: &str,
+    script: R,
+    out: &mut T,
+    writer: &mut W,
+    errors: &mut E,
+) -> u8
+    ensures accepted { (result ≡ 0) ⊎ (result ≡ 1) → (known : Maybe (List ℕ)) → IsReading known of_set.now → IfSome known IsAccepted }
+    ensures held { result ≡ 0 → (known : Maybe (List ℕ)) → IsReading known of_set.now → IsOnSet known (R.remaining script)
+        (IsTextCovered name.now known usual (W.contents writer.old) (W.contents writer.new) (T.contents out.old) (T.contents out.new)) }
+    ensures missed { result ≡ 1 → (known : Maybe (List ℕ)) → IsReading known of_set.now → IsOnSet known (R.remaining script)
+        (IsTextCoveredInPart name.now known usual (W.contents writer.old) (W.contents writer.new) (T.contents out.old) (T.contents out.new)) }
+    ensures refused { result ≡ 2 → (known : Maybe (List ℕ)) → IsReading known of_set.now
+        → IsRefused known (R.remaining script) (W.contents writer.old) (W.contents writer.new) }
+    ensures status { (result ≡ 0) ⊎ (result ≡ 1) ⊎ (result ≡ 2) ⊎ (result ≡ 4) }
+{
+    if of_set.is_too_long() {
+        return tell_too_long(alloc, name, errors);
+    }
+    cover_bytes(
+        alloc,
+        &of_set.kept,
+        usual,
+        name,
+        script,
+        out,
+        writer,
+        errors,
+    )
+}
+
+/// Runs a script of a book or of a terminal as `play` does without the lines of its commands, and tells at its end, or at an expectation that
+/// fails, which transitions, answers and lines of the set's text were taken, in the format of lcov, in which the text's file has this name.
+///
+/// Gives the exit status, as `play` does: 4 where the write to `out` fails too, where a terminal's journal begins anew within a command, as it does
+/// behind 32,768 events, for a script of a link set, and where the text has more octets than a text may have.
+pub(crate) fn play_covered<S: Read + Drop, R: Read + Drop, T: Write, W: Write, E: Write>(
+    alloc: Global,
+    set: SetWord<S>,
+    usual: RoundLimits,
+    name: &str,
+    script: R,
+    out: &mut T,
+    writer: &mut W,
+    errors: &mut E,
+) -> u8
+    ensures accepted { (result ≡ 0) ⊎ (result ≡ 1) → IfSome (given S.remaining set) IsAccepted }
+    ensures held { result ≡ 0 → IsOnSet (given S.remaining set) (R.remaining script)
+        (IsTextCovered name.now (given S.remaining set) usual (W.contents writer.old) (W.contents writer.new) (T.contents out.old) (T.contents out.new)) }
+    ensures missed { result ≡ 1 → IsOnSet (given S.remaining set) (R.remaining script)
+        (IsTextCoveredInPart name.now (given S.remaining set) usual (W.contents writer.old) (W.contents writer.new) (T.contents out.old) (T.contents out.new)) }
+    ensures refused { result ≡ 2
+        → IsRefused (given S.remaining set) (R.remaining script) (W.contents writer.old) (W.contents writer.new) }
+    ensures status { (result ≡ 0) ⊎ (result ≡ 1) ⊎ (result ≡ 2) ⊎ (result ≡ 4) }
+{
+    match set {
+        SetWord::Text(mut reader) => match read_text(alloc, &mut reader) {
+            Ok(of_set) => cover_read(alloc, &of_set, usual, name, script, out, writer, errors),
+            Err(_) => FAILED,
+        },
+        SetWord::Standard => cover_own(alloc, STANDARD, usual, name, script, out, writer, errors),
+        SetWord::Q703 => cover_own(alloc, Q703, usual, name, script, out, writer, errors),
+        SetWord::Monitors => cover_own(alloc, MONITORS, usual, name, script, out, writer, errors),
+    }
+}

@@ -1,0 +1,28 @@
+-- What is traced as something happens to a link, step by step.
+use Rattle.std.specs.Prelude.{◌≡◌, ◌≤◌, Bool, true, List, ◌++◌, ℕ, Option, codes}
+use Rattle.plain_laws.specs.Limits.{MOST_PORT, MOST_ENVIRONMENT, MOST_JOURNAL}
+use Rattle.turn_code.specs.declared.draft.Draft.{Draft}
+use Rattle.actor_machine.specs.Kept.{opened_book}
+use Rattle.actor_machine.specs.Ledger.{Ledger, next, state_of}
+use Rattle.script_group.specs.Lines.{line_of}
+use Rattle.script_seen.specs.Following.{IsFollowed}
+use Rattle.script_seen.specs.Shown.{parted}
+use Rattle.script_seen.specs.Traced.{since, are_in_step}
+use Rattle.script_seen.specs.TracedKinds.{IsAtStart}
+use Rattle.script_seen.specs.declared.tracing.Tracer.{Tracer}
+
+-- a tracer of a terminal over a set, before anything happened
+pub record IsNewTracer (d : Draft) (every : Bool) (t : Tracer) : Type 0 where
+  pub every_is : t.every ≡ every
+  pub start : IsAtStart (opened_book d MOST_PORT MOST_ENVIRONMENT MOST_JOURNAL) t
+
+-- what has happened to a book since is told, none of it lost, and what is written grew by that;
+-- behind it a tracer is in step with the book
+pub record Follows (b : Ledger) (old new : Tracer) (from to : Option (List ℕ)) : Type 0 where
+  pub first : b.first ≤ next old.again
+  pub followed : IsFollowed old (since (next old.again) b) new from to
+  pub in_step : are_in_step (state_of new.again) (state_of b) ≡ true
+
+-- words as a trace has them in front of what happened by them
+abbrev pub front_line : List (List ℕ) → List ℕ
+front_line words = line_of (codes "> " ++ parted words)
