@@ -267,7 +267,9 @@ class Tender:
         if self.set.links[about].changing and not was:
             self.cares[about].patience = PATIENCE
             self.tell(f"{about} changeover")
-        if answer is not None:
+        if message[5] in (COO, ECO) and not self.set.links[about].changing and self.cares[about].serves:
+            self.begin(about)
+        elif answer is not None:
             self.owe(about, b"\x80" + answer)
 
     def take_answer(self, by, about, pattern):

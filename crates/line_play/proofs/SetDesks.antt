@@ -1,5 +1,5 @@
 -- A set on lines as a run begins.
-use Rattle.std.proofs.Common.{◌≡◌, ◌∙◌, ℕ, ◌+◌, Bool, true, true≢false, List, [], ◌∷◌, ◌++◌, All, length, Option, Result, Ok, Err, OnOk, is_ok, refl, sym, ap, subst, arith, length-append}
+use Rattle.std.proofs.Common.{◌≡◌, ◌∙◌, ℕ, ◌+◌, Bool, true, true≢false, List, [], ◌∷◌, ◌++◌, length, Option, Result, Ok, Err, OnOk, is_ok, refl, sym, subst, arith, length-append}
 use Rattle.std.proofs.lemmas.List.Elements.{All-nil, All-cons, All-append}
 use Rattle.set_tending.specs.Wires.{IsNewWire}
 use Rattle.set_tending.specs.declared.wire.Wire.{Wire}
@@ -9,7 +9,7 @@ use Rattle.line_filter.specs.Reporting.{Stand}
 use Rattle.set_tending.specs.Tended.{Tended}
 use Rattle.line_play.proofs.SetRounds.{grows_none, grows_then, grows_last}
 use Rattle.line_play.specs.LineTraffic.{Traffic, Grows}
-use Rattle.line_play.specs.SetDesks.{AreNewWires, place_of, IsNewSetDesk, some_round, Ran, RanFrom}
+use Rattle.line_play.specs.SetDesks.{AreNewWires, place_of, IsNewSetDesk, Ran, RanFrom}
 use Rattle.line_play.specs.SetRounds.{Made, SetPlace, IsRound, Rounds, begins, round}
 use Rattle.line_play.specs.declared.set_desk.SetDesk.{SetDesk}
 

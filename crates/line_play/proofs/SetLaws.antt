@@ -1,69 +1,70 @@
 -- What follows for all that a set on lines did.
-use Rattle.std.proofs.Common.{◌≡◌, ◌∙◌, ℕ, Bool, true, List, [], ◌∷◌, ◌++◌, append-nil, append_assoc, length, Option, refl, sym, ap, subst}
+use Rattle.std.proofs.Common.{◌≡◌, ◌∙◌, ℕ, Bool, true, List, [], ◌∷◌, ◌++◌, append-nil, append_assoc, length, Option, sym, subst}
 use Rattle.script_links.specs.resend_store_types.messages.Msu.{Msu}
 use Rattle.line_filter.specs.Orders.{Timed}
 use Rattle.set_tending.specs.Lives.{Lived}
-use Rattle.set_tending.specs.Telling.{message_in}
+use Rattle.set_tending.specs.Telling.{report_in}
 use Rattle.set_tending.specs.Tended.{Tended}
+use Rattle.set_tending.specs.declared.told.Told.{Told}
 use Rattle.set_tending.specs.Wires.{Passes, some, none}
 use Rattle.set_tending.specs.declared.wire.Wire.{Wire}
 use Rattle.set_tending.specs.declared.wire.Passed.{Passed}
-use Rattle.set_tending.proofs.Doing.{adds_nothing}
 use Rattle.set_tending.proofs.Lives.{lived_none, lived_adds, lived_sends, lived_ticks, lived_tends, lived_hears, lived_speaks, lived_tells}
 use Rattle.line_play.specs.LineTraffic.{Traffic}
-use Rattle.line_play.specs.SetObeying.{IsRefused, bad, untaken, other, Obeys, sends, does, refuses}
+use Rattle.line_play.specs.SetObeying.{IsRefused, bad, unsent, untaken, other, Obeys, sends, does, refuses}
 use Rattle.line_play.specs.SetRounds.{Carries, passes, misses, ends, fails, opens, CarriesAll, no_link, one_link, Tells, nothing, one, ObeysWaiting, rests, obeys, TakesOrder, at_once, behind, report, Attends, waited, comes, AttendsAll, none_due, full, quits, SetPlace, IsRound, Rounds, begins, round}
 use Rattle.line_play.specs.SetLaws.{sent_in, sent_waiting, sent_taking, sent_attending, sent_by_all, sent_along, told_in, told_along}
 
 -- what was sent, one part behind another
-sent_more : (t u : Tended) (sent xs ys told : List Msu) → Lived t ((sent ++ xs) ++ ys) told u → Lived t (sent ++ (xs ++ ys)) told u
+sent_more : (t u : Tended) (sent xs ys : List Msu) (told : List Told) → Lived t ((sent ++ xs) ++ ys) told u → Lived t (sent ++ (xs ++ ys)) told u
 sent_more t u sent xs ys told l = subst (λ (zs : List Msu). Lived t zs told u) (append_assoc sent xs ys) l
 
-sent_none : (t u : Tended) (sent told : List Msu) → Lived t sent told u → Lived t (sent ++ []) told u
+sent_none : (t u : Tended) (sent : List Msu) (told : List Told) → Lived t sent told u → Lived t (sent ++ []) told u
 sent_none t u sent told l = subst (λ (zs : List Msu). Lived t zs told u) (sym (append-nil sent)) l
 
-told_more : (t u : Tended) (sent told xs ys : List Msu) → Lived t sent ((told ++ xs) ++ ys) u → Lived t sent (told ++ (xs ++ ys)) u
-told_more t u sent told xs ys l = subst (λ (zs : List Msu). Lived t sent zs u) (append_assoc told xs ys) l
+told_more : (t u : Tended) (sent : List Msu) (told xs ys : List Told) → Lived t sent ((told ++ xs) ++ ys) u → Lived t sent (told ++ (xs ++ ys)) u
+told_more t u sent told xs ys l = subst (λ (zs : List Told). Lived t sent zs u) (append_assoc told xs ys) l
 
-told_none : (t u : Tended) (sent told : List Msu) → Lived t sent told u → Lived t sent (told ++ []) u
-told_none t u sent told l = subst (λ (zs : List Msu). Lived t sent zs u) (sym (append-nil told)) l
+told_none : (t u : Tended) (sent : List Msu) (told : List Told) → Lived t sent told u → Lived t sent (told ++ []) u
+told_none t u sent told l = subst (λ (zs : List Told). Lived t sent zs u) (sym (append-nil told)) l
 
-lived_same : (t u w : Tended) (sent told : List Msu) → Lived t sent told u → w ≡ u → Lived t sent told w
+lived_same : (t u w : Tended) (sent : List Msu) (told : List Told) → Lived t sent told u → w ≡ u → Lived t sent told w
 lived_same t u w sent told l same = subst (λ (x : Tended). Lived t sent told x) (sym same) l
 
 -- ---- orders
 
-lived_refused : (t u w : Tended) (sent told : List Msu) (order : List ℕ) → Lived t sent told u → IsRefused order u w → Lived t sent told w
+lived_refused : (t u w : Tended) (sent : List Msu) (told : List Told) (order : List ℕ) → Lived t sent told u → IsRefused order u w → Lived t sent told w
 lived_refused t u w sent told order l (bad none_there same) = lived_same t u w sent told l same
+lived_refused t u w sent told order l (unsent octets said is same) = lived_same t u w sent told l same
 lived_refused t u w sent told order l (untaken m why said is same) = lived_same t u w sent told l same
-lived_refused t u w sent told order l (other none_there adds) = lived_adds t u w sent told l adds
+lived_refused t u w sent told order l (other said read none_there adds may) = lived_adds t u w sent told l adds
 
-lived_obeys : (t s : Tended) (sent told : List Msu) (order bytes : List ℕ) (w : Tended) → Lived t sent told s → (made : Obeys order s bytes w) → Lived t (sent ++ sent_in made) told w
+lived_obeys : (t s : Tended) (sent : List Msu) (told : List Told) (order bytes : List ℕ) (w : Tended) → Lived t sent told s → (made : Obeys order s bytes w) → Lived t (sent ++ sent_in made) told w
 lived_obeys t s sent told order _ _ l (sends {u} m said acts) = lived_sends t s u sent told (m ∷ []) l acts
-lived_obeys t s sent told order _ _ l (does {bytes} {u} none_there adds answer) = sent_none t u sent told (lived_adds t s u sent told l adds)
+lived_obeys t s sent told order _ _ l (does {bytes} {u} said read none_there adds changes answer) = sent_none t u sent told (lived_adds t s u sent told l adds)
 lived_obeys t s sent told order _ _ l (refuses {u} why is) = sent_none t u sent told (lived_refused t s u sent told order l is)
 
-lived_waiting : (t s : Tended) (sent told : List Msu) (waiting : List (List ℕ)) (bytes : List ℕ) (v : Tended) (last : List (List ℕ)) → Lived t sent told s
+lived_waiting : (t s : Tended) (sent : List Msu) (told : List Told) (waiting : List (List ℕ)) (bytes : List ℕ) (v : Tended) (last : List (List ℕ)) → Lived t sent told s
     → (made : ObeysWaiting s waiting bytes v last) → Lived t (sent ++ sent_waiting made) told v
 lived_waiting t s sent told waiting _ _ _ l rests = sent_none t s sent told l
 lived_waiting t s sent told waiting _ _ _ l (obeys {bytes} {u} {w} {now} order more left before first made) =
     sent_more t w sent (sent_waiting before) (sent_in made) told
     (lived_obeys t u (sent ++ sent_waiting before) told order more w (lived_waiting t s sent told waiting bytes u now l before) made)
 
-lived_taking : (t s : Tended) (sent told : List Msu) (order : List ℕ) (waiting : List (List ℕ)) (bytes : List ℕ) (v : Tended) (now : List (List ℕ)) → Lived t sent told s
+lived_taking : (t s : Tended) (sent : List Msu) (told : List Told) (order : List ℕ) (waiting : List (List ℕ)) (bytes : List ℕ) (v : Tended) (now : List (List ℕ)) → Lived t sent told s
     → (made : TakesOrder order s waiting bytes v now) → Lived t (sent ++ sent_taking made) told v
 lived_taking t s sent told order waiting _ _ _ l (at_once {bytes} {u} may made) = lived_obeys t s sent told order bytes u l made
-lived_taking t s sent told order waiting _ _ _ l behind = sent_none t s sent told l
+lived_taking t s sent told order waiting _ _ _ l (behind waits) = sent_none t s sent told l
 lived_taking t s sent told order waiting _ _ _ l (report none_there) = sent_none t s sent told l
 
-lived_attending : (t s : Tended) (sent told : List Msu) (waiting : List (List ℕ)) (left : Option (List Timed)) (bytes : List ℕ) (v : Tended) (last : List (List ℕ))
+lived_attending : (t s : Tended) (sent : List Msu) (told : List Told) (waiting : List (List ℕ)) (left : Option (List Timed)) (bytes : List ℕ) (v : Tended) (last : List (List ℕ))
     (still : Option (List Timed)) → Lived t sent told s → (made : Attends s waiting left bytes v last still) → Lived t (sent ++ sent_attending made) told v
-lived_attending t s sent told waiting left _ _ _ _ l (waited {bytes} {u} {now} before) = lived_waiting t s sent told waiting bytes u now l before
+lived_attending t s sent told waiting left _ _ _ _ l (waited {bytes} {u} {now} before last) = lived_waiting t s sent told waiting bytes u now l before
 lived_attending t s sent told waiting left _ _ _ _ l (comes {bytes} {u} {now} {fewer} order more w later last before next no_end taken) =
     sent_more t w sent (sent_attending before) (sent_taking taken) told
     (lived_taking t u (sent ++ sent_attending before) told order now more w later (lived_attending t s sent told waiting left bytes u now fewer l before) taken)
 
-lived_all : (t s : Tended) (sent told : List Msu) (waiting : List (List ℕ)) (left : Option (List Timed)) (bytes : List ℕ) (goes_on : Bool) (v : Tended) (last : List (List ℕ))
+lived_all : (t s : Tended) (sent : List Msu) (told : List Told) (waiting : List (List ℕ)) (left : Option (List Timed)) (bytes : List ℕ) (goes_on : Bool) (v : Tended) (last : List (List ℕ))
     (still : Option (List Timed)) → Lived t sent told s → (made : AttendsAll s waiting left bytes goes_on v last still) → Lived t (sent ++ sent_by_all made) told v
 lived_all t s sent told waiting left _ _ _ _ _ l (none_due {bytes} {u} {now} {fewer} last before none_there) = lived_attending t s sent told waiting left bytes u now fewer l before
 lived_all t s sent told waiting left _ _ _ _ _ l (full {bytes} {u} {now} {fewer} before many) = lived_attending t s sent told waiting left bytes u now fewer l before
@@ -71,21 +72,21 @@ lived_all t s sent told waiting left _ _ _ _ _ l (quits {bytes} {u} {now} {fewer
 
 -- ---- what is told
 
-lived_telling : (t s : Tended) (sent told : List Msu) (bytes : List ℕ) (v : Tended) → Lived t sent told s → (made : Tells s bytes v) → Lived t sent (told ++ told_in made) v
+lived_telling : (t s : Tended) (sent : List Msu) (told : List Told) (bytes : List ℕ) (v : Tended) → Lived t sent told s → (made : Tells s bytes v) → Lived t sent (told ++ told_in made) v
 lived_telling t s sent told _ _ l nothing = told_none t s sent told l
 lived_telling t s sent told _ _ l (one {bytes} {u} {w} x before takes) =
-    told_more t w sent told (told_in before) (message_in x)
-    (lived_tells t u w sent (told ++ told_in before) (message_in x) (lived_telling t s sent told bytes u l before) takes.messages takes.same)
+    told_more t w sent told (told_in before) (report_in x)
+    (lived_tells t u w sent (told ++ told_in before) (report_in x) (lived_telling t s sent told bytes u l before) takes.reports takes.same)
 
 -- ---- lines
 
-lived_passes : (t s v : Tended) (sent told : List Msu) (link ahead : ℕ) (octets out after : List ℕ) (passed : Passed) (w x : Wire) → Lived t sent told s
+lived_passes : (t s v : Tended) (sent : List Msu) (told : List Told) (link ahead : ℕ) (octets out after : List ℕ) (passed : Passed) (w x : Wire) → Lived t sent told s
     → Passes link ahead octets s w out passed v x after → Lived t sent told v
 lived_passes t s v sent told link ahead octets out after passed w x l (some heard more hears speaks quiet is) =
     lived_speaks t sent told link (length octets) heard v w.voice x.voice out after (lived_hears t s sent told link octets heard l hears) speaks
 lived_passes t s v sent told link ahead octets out after passed w x l (none empty voice waits) = lived_hears t s sent told link _ v l waits.hears
 
-lived_carries : (t s : Tended) (sent told : List Msu) (link ahead : ℕ) (w : Wire) (bytes : List ℕ) (traffic : List Traffic) (v : Tended) (y : Wire) → Lived t sent told s
+lived_carries : (t s : Tended) (sent : List Msu) (told : List Told) (link ahead : ℕ) (w : Wire) (bytes : List ℕ) (traffic : List Traffic) (v : Tended) (y : Wire) → Lived t sent told s
     → Carries link ahead s w bytes traffic v y → Lived t sent told v
 lived_carries t s sent told link ahead w _ _ _ _ l (passes {bytes} {traffic} {u} {x} octets is) =
     lived_passes t s u sent told link ahead octets [] is.out is.passed w x l is.is_passed
@@ -94,7 +95,7 @@ lived_carries t s sent told link ahead w _ _ _ _ l ends = l
 lived_carries t s sent told link ahead w _ _ _ _ l fails = l
 lived_carries t s sent told link ahead w _ _ _ _ l opens = l
 
-lived_lines : (t s : Tended) (sent told : List Msu) (ahead : ℕ) (ws : List Wire) (count : ℕ) (bytes : List ℕ) (traffic : List Traffic) (v : Tended) (ys : List Wire)
+lived_lines : (t s : Tended) (sent : List Msu) (told : List Told) (ahead : ℕ) (ws : List Wire) (count : ℕ) (bytes : List ℕ) (traffic : List Traffic) (v : Tended) (ys : List Wire)
     → Lived t sent told s → CarriesAll ahead s ws count bytes traffic v ys → Lived t sent told v
 lived_lines t s sent told ahead ws _ _ _ _ _ l no_link = l
 lived_lines t s sent told ahead ws _ _ _ _ _ l (one_link {link} {bytes} {traffic} {u} {v} {xs} {ys} more others before last) =
@@ -102,7 +103,7 @@ lived_lines t s sent told ahead ws _ _ _ _ _ l (one_link {link} {bytes} {traffic
 
 -- ---- rounds
 
-lived_round : (t : Tended) (p q : SetPlace) (sent told : List Msu) (ahead : ℕ) (bytes : List ℕ) (traffic : List Traffic) (goes_on : Bool) → Lived t sent told p.set
+lived_round : (t : Tended) (p q : SetPlace) (sent : List Msu) (told : List Told) (ahead : ℕ) (bytes : List ℕ) (traffic : List Traffic) (goes_on : Bool) → Lived t sent told p.set
     → (is : IsRound ahead p bytes traffic goes_on q) → Lived t (sent ++ sent_by_all is.attends) ((told ++ told_in is.tells.tells) ++ told_in is.tells_more.tells) q.set
 lived_round t p q sent told ahead bytes traffic goes_on l is =
     lived_telling t is.obeyed (sent ++ sent_by_all is.attends) (told ++ told_in is.tells.tells) is.fourth q.set

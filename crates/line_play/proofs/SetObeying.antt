@@ -1,5 +1,5 @@
 -- Orders to a set, obeyed and told.
-use Rattle.std.proofs.Common.{◌≡◌, ◌∙◌, ◌⊎◌, inl, inr, ℕ, ◌+◌, ◌<◌, Bool, true, false, List, [], ◌∷◌, ◌++◌, length, codes, Option, None, Some, is_some, Result, Ok, Err, OnOk, IfOk, IfSome, IsSome, IsNone, IsTrue, option_map, true≢false, refl, sym, ap, subst, arith}
+use Rattle.std.proofs.Common.{◌≡◌, ◌∙◌, ◌⊎◌, inl, inr, ℕ, ◌+◌, ◌<◌, Bool, true, false, List, [], ◌∷◌, ◌++◌, length, codes, Option, None, Some, Result, Ok, Err, OnOk, IfOk, IfSome, IsSome, IsNone, option_map, true≢false, refl, sym, ap, subst, arith}
 use Rattle.std.proofs.lemmas.Result.{on_ok_weaker}
 use Rattle.std.proofs.lemmas.Option.{none-some}
 use Rattle.script_links.specs.resend_store_types.messages.Msu.{Msu}
@@ -8,17 +8,17 @@ use Rattle.script_terminal.specs.TermAnswers.{IsMessageOf, AreNoMessage as AreUn
 use Rattle.line_filter.specs.Desks.{Told as TellsSuch}
 use Rattle.line_filter.specs.Orders.{told}
 use Rattle.line_filter.specs.Reporting.{Stand, TellsLines}
-use Rattle.line_filter.proofs.Reporting.{tells_none, tells_trans}
+use Rattle.line_filter.proofs.Reporting.{tells_trans}
 use Rattle.set_tending.specs.Labels.{label_in}
-use Rattle.set_tending.specs.group_changeover_types.labels.Label.{Label}
 use Rattle.set_tending.specs.group_changeover_types.errors.SendError.{SendError}
 use Rattle.set_tending.specs.Rounds.{Acts, Adds}
 use Rattle.set_tending.specs.Sending.{tended_send_fault}
 use Rattle.set_tending.specs.Tended.{Tended}
-use Rattle.set_tending.proofs.Doing.{adds_nothing, adds_same}
 use Rattle.line_play.specs.declared.set_orders.SetOrder.{SetOrder}
 use Rattle.line_play.specs.declared.set_orders.SetOrder.TheVariants as order
-use Rattle.line_play.specs.SetObeying.{sent_by, octets_sent, AreNoMessage, SendsNone, Sends, IsSent, IsUntaken, no_label, fault, IsTurnedDown, no_message, full, Shows, IsAnswer, IsRefused, bad, untaken, other, Obeys, sends, does, refuses}
+use Rattle.line_play.specs.SetDoing.{Changes, Refuses, Shows, IsAnswer}
+use Rattle.line_play.specs.SetObeying.{sent_by, octets_sent, AreNoMessage, IsSent, IsUntaken, no_label, fault, IsTurnedDown, no_message, full, IsRefused, bad, unsent, untaken, other, Obeys, sends, does, refuses}
+use Rattle.line_play.specs.SetOrders.{PlainSetOrder, plain_set_order, set_order_of}
 
 -- ---- what is no message
 
@@ -73,21 +73,6 @@ pub said_some : {E : Type 0} (r : Result (Option SetOrder) E) (x y : Option (Lis
     → IfOk r (λ (o : Option SetOrder). IfSome o (λ (s : SetOrder). octets_sent s ≡ y))
 said_some r x y same said = subst (λ (z : Option (List ℕ)). IfOk r (λ (o : Option SetOrder). IfSome o (λ (s : SetOrder). octets_sent s ≡ z))) same said
 
-pub said_none : {E : Type 0} (r : Result (Option SetOrder) E) (x y : Option (List ℕ)) → x ≡ y → IfOk r (λ (o : Option SetOrder). IsNone o → IfSome x AreNoMessage)
-    → IfOk r (λ (o : Option SetOrder). IsNone o → IfSome y AreNoMessage)
-said_none r x y same said = subst (λ (z : Option (List ℕ)). IfOk r (λ (o : Option SetOrder). IsNone o → IfSome z AreNoMessage)) same said
-
-pub silent : {E : Type 0} (r : Result (Option SetOrder) E) (y : Option (List ℕ)) → None ≡ y → IfOk r (λ (o : Option SetOrder). IsNone o → IfSome y AreNoMessage)
-silent (Ok o) y none_there = λ none. subst (λ (z : Option (List ℕ)). IfSome z AreNoMessage) none_there tt
-silent (Err e) y none_there = tt
-
--- an order that sends nothing sends no message
-pub sends_none : (order : List ℕ) → sent_by (words_of order) ≡ None → SendsNone order
-sends_none order none_there = subst (λ (o : Option (List ℕ)). IfSome o AreNoMessage) (sym none_there) tt
-
-sends_bad : (order octets : List ℕ) → sent_by (words_of order) ≡ Some octets → AreNoMessage octets → SendsNone order
-sends_bad order octets said none_there = subst (λ (o : Option (List ℕ)). IfSome o AreNoMessage) (sym said) none_there
-
 -- an order that isn't `send` sends nothing
 pub quiet : (s : SetOrder) → ((octets : _) → s ≡ order.Send octets → ⊥) → octets_sent s ≡ None
 quiet (order.On focus) not = refl
@@ -108,32 +93,39 @@ pub quiet_order : (s : SetOrder) (o : Option SetOrder) (order : List ℕ) → o 
     → octets_sent s ≡ None → sent_by (words_of order) ≡ None
 quiet_order s o order is said none_there = sym (subst (λ (x : Option SetOrder). IfSome x (λ (y : SetOrder). octets_sent y ≡ sent_by (words_of order))) is said) ∙ none_there
 
-pub says_none : {E : Type 0} (r : Result Bool E) (order : List ℕ) → SendsNone order → IfOk r (λ (b : Bool). b ≡ true → SendsNone order)
-says_none (Ok b) order none_there = λ shown. none_there
-says_none (Err e) order none_there = tt
-
 pub waits_so : {E : Type 0} (r : Result Bool E) (P : Type 0) → P → IfOk r (λ (b : Bool). b ≡ false → P)
 waits_so (Ok b) P h = λ denied. h
 waits_so (Err e) P h = tt
+
+pub sends_so : {E : Type 0} (r : Result Bool E) (P Q : Type 0) → IfOk r (λ (b : Bool). b ≡ true → P) → IfOk r (λ (b : Bool). b ≡ true → Q → P)
+sends_so (Ok b) P Q h = λ shown q. h shown
+sends_so (Err e) P Q h = tt
+
+pub nothing_said : {E : Type 0} (r : Result Bool E) (P : Type 0) → P → IfOk r (λ (b : Bool). b ≡ true → P)
+nothing_said (Ok b) P h = λ shown. h
+nothing_said (Err e) P h = tt
+
+-- ---- what a line's words say
+
+pub reads_none : (r : Option SetOrder) (words : List (List ℕ)) → r ≡ None → option_map plain_set_order r ≡ set_order_of words → set_order_of words ≡ None
+reads_none r words is read = sym read ∙ ap (option_map plain_set_order) is
+
+pub reads_some : (r : Option SetOrder) (words : List (List ℕ)) (s : SetOrder) → r ≡ Some s → option_map plain_set_order r ≡ set_order_of words
+    → set_order_of words ≡ Some (plain_set_order s)
+reads_some r words s is read = sym read ∙ ap (option_map plain_set_order) is
 
 -- octets that a word says
 pub sent_as : (r : Option SetOrder) (x y : Option (List ℕ)) → x ≡ y → IfSome r (λ (s : SetOrder). octets_sent s ≡ x) → IfSome r (λ (s : SetOrder). octets_sent s ≡ y)
 sent_as r x y same said = subst (λ (z : Option (List ℕ)). IfSome r (λ (s : SetOrder). octets_sent s ≡ z)) same said
 
-pub unsent_as : (r : Option SetOrder) (octets : List ℕ) (y : Option (List ℕ)) → Some octets ≡ y → (IsNone r → AreNoMessage octets) → IsNone r → IfSome y AreNoMessage
-unsent_as r octets y same none_there none = subst (λ (z : Option (List ℕ)). IfSome z AreNoMessage) same (none_there none)
-
-pub nothing_as : (y : Option (List ℕ)) → None ≡ y → IfSome y AreNoMessage
-nothing_as y same = subst (λ (z : Option (List ℕ)). IfSome z AreNoMessage) same tt
-
 -- ---- an order is obeyed
 
 not_taken : (order octets : List ℕ) (t u : Tended) (m : Msu) → sent_by (words_of order) ≡ Some octets → IsMessageOf octets m → IsUntaken m t u → IsRefused order t u
-not_taken order octets t u m said is (no_label none_there same) = bad (sends_bad order octets said (unlabelled octets m is none_there)) same
+not_taken order octets t u m said is (no_label none_there same) = unsent octets said (unlabelled octets m is none_there) same
 not_taken order octets t u m said is (fault why why_is same) = untaken m why (record { octets = octets; said = said; is = is }) why_is same
 
 turned_down : (order octets : List ℕ) (t u : Tended) → sent_by (words_of order) ≡ Some octets → IsTurnedDown octets t u → IsRefused order t u
-turned_down order octets t u said (no_message none_there same) = bad (sends_bad order octets said none_there) same
+turned_down order octets t u said (no_message none_there same) = unsent octets said none_there same
 turned_down order octets t u said (full m is down) = not_taken order octets t u m said is down
 
 refused : {A E : Type 0} (r : Result A E) (order why : List ℕ) (t u : Tended) (a b : Stand) → IsRefused order t u
@@ -146,13 +138,14 @@ pub refused_send : {A E : Type 0} (r : Result A E) (order octets why : List ℕ)
     → IsTurnedDown octets t u → OnOk r (TellsLines a b (told u.ticks (codes "refused " ++ why))) → OnOk r (TellsSuch (λ bytes. Obeys order t bytes u) a b)
 refused_send r order octets why t u a b said down line = refused r order why t u a b (turned_down order octets t u said down) line
 
-pub refused_bad : {A E : Type 0} (r : Result A E) (order why : List ℕ) (t : Tended) (a b : Stand) → SendsNone order
+pub refused_bad : {A E : Type 0} (r : Result A E) (order why : List ℕ) (t : Tended) (a b : Stand) → set_order_of (words_of order) ≡ None
     → OnOk r (TellsLines a b (told t.ticks (codes "refused " ++ why))) → OnOk r (TellsSuch (λ bytes. Obeys order t bytes t) a b)
 refused_bad r order why t a b none_there line = refused r order why t t a b (bad none_there refl) line
 
-pub refused_other : {A E : Type 0} (r : Result A E) (order why : List ℕ) (t u : Tended) (a b : Stand) → sent_by (words_of order) ≡ None → Adds t u
+pub refused_other : {A E : Type 0} (r : Result A E) (order why : List ℕ) (said : PlainSetOrder) (t u : Tended) (a b : Stand)
+    → set_order_of (words_of order) ≡ Some said → sent_by (words_of order) ≡ None → Adds t u → Refuses said t u
     → OnOk r (TellsLines a b (told u.ticks (codes "refused " ++ why))) → OnOk r (TellsSuch (λ bytes. Obeys order t bytes u) a b)
-refused_other r order why t u a b none_there adds line = refused r order why t u a b (other none_there adds) line
+refused_other r order why said t u a b read none_there adds may line = refused r order why t u a b (other said read none_there adds may) line
 
 -- its message was taken
 pub agreed_send : {A E : Type 0} (r : Result A E) (order octets : List ℕ) (t u : Tended) (a b : Stand) → sent_by (words_of order) ≡ Some octets
@@ -166,19 +159,22 @@ agreed_send r order octets t u a b said sent line =
     })
     line
 
-pub agreed_other : {A E : Type 0} (r : Result A E) (order : List ℕ) (t u : Tended) (a b : Stand) → sent_by (words_of order) ≡ None → Adds t u
-    → OnOk r (TellsSuch (IsAnswer u.ticks order) a b) → OnOk r (TellsSuch (λ bytes. Obeys order t bytes u) a b)
-agreed_other r order t u a b none_there adds answer =
-    on_ok_weaker r (λ (h : TellsSuch (IsAnswer u.ticks order) a b). record { bytes = h.bytes; are = does none_there adds h.are; tells = h.tells }) answer
-
-pub answered : {A E : Type 0} (r : Result A E) (now : ℕ) (order : List ℕ) (a b c : Stand) → TellsLines a b (told now (codes "ok " ++ order))
-    → OnOk r (TellsSuch (Shows now) b c) → OnOk r (TellsSuch (IsAnswer now order) a c)
-answered r now order a b c agreed asked =
+pub agreed_other : {A E : Type 0} (r : Result A E) (order : List ℕ) (said : PlainSetOrder) (t u : Tended) (a b : Stand)
+    → set_order_of (words_of order) ≡ Some said → sent_by (words_of order) ≡ None → Adds t u → Changes said t u
+    → OnOk r (TellsSuch (IsAnswer said u order) a b) → OnOk r (TellsSuch (λ bytes. Obeys order t bytes u) a b)
+agreed_other r order said t u a b read none_there adds changes answer =
     on_ok_weaker r
-    (λ (h : TellsSuch (Shows now) b c). record {
-      bytes = told now (codes "ok " ++ order) ++ h.bytes;
+    (λ (h : TellsSuch (IsAnswer said u order) a b). record { bytes = h.bytes; are = does said read none_there adds changes h.are; tells = h.tells })
+    answer
+
+pub answered : {A E : Type 0} (r : Result A E) (said : PlainSetOrder) (t : Tended) (order : List ℕ) (a b c : Stand)
+    → TellsLines a b (told t.ticks (codes "ok " ++ order)) → OnOk r (TellsSuch (Shows said t) b c) → OnOk r (TellsSuch (IsAnswer said t order) a c)
+answered r said t order a b c agreed asked =
+    on_ok_weaker r
+    (λ (h : TellsSuch (Shows said t) b c). record {
+      bytes = told t.ticks (codes "ok " ++ order) ++ h.bytes;
       are = record { more = h.bytes; shows = h.are; are = refl };
-      tells = tells_trans a b c (told now (codes "ok " ++ order)) h.bytes agreed h.tells;
+      tells = tells_trans a b c (told t.ticks (codes "ok " ++ order)) h.bytes agreed h.tells;
     })
     asked
 

@@ -1,7 +1,7 @@
 -- A round of a set on lines, part by part.
-use Rattle.std.proofs.Common.{◌≡◌, ◌∙◌, ◌⊎◌, inl, inr, ℕ, ◌+◌, ◌≤◌, ◌<◌, ◌==◌, nat_le, if◌then◌else◌, true≢false, Bool, true, false, List, [], ◌∷◌, ◌++◌, append-nil, append_assoc, length, map, replicate, take, drop, get_or, slice_get, slice_set, codes, string_bytes, decimal, Option, None, Some, Result, Ok, Err, OnOk, IfOk, IfSome, refl, sym, ap, subst, arith}
+use Rattle.std.proofs.Common.{◌≡◌, ◌∙◌, ◌⊎◌, ℕ, ◌+◌, ◌≤◌, ◌<◌, ◌==◌, nat_le, if◌then◌else◌, true≢false, Bool, true, false, List, [], ◌∷◌, ◌++◌, append-nil, append_assoc, length, replicate, take, drop, get_or, slice_get, slice_set, codes, Option, None, Some, Result, Ok, Err, OnOk, IfOk, refl, sym, ap, subst, arith}
 use Rattle.std.proofs.lemmas.Bool.Decides.{nat_tests}
-use Rattle.std.proofs.lemmas.Option.{slice_get-get_or}
+use Rattle.std.proofs.lemmas.Option.{none-some, same_Some, slice_get-get_or}
 use Rattle.std.proofs.lemmas.Result.{on_ok_weaker}
 use Rattle.std.proofs.lemmas.List.{replicate_more, take_all, take-append-le}
 use Rattle.script_lines.specs.Words.{words_of}
@@ -13,13 +13,14 @@ use Rattle.set_tending.specs.Rounds.{Tends, Ticks}
 use Rattle.set_tending.specs.Tended.{Tended}
 use Rattle.set_tending.specs.Wires.{Hears, Passes, SILENT}
 use Rattle.set_tending.specs.declared.wire.Passed.{Passed}
-use Rattle.set_tending.specs.declared.wire.Passed.TheVariants.{Same, Silent, Back}
+use Rattle.set_tending.specs.declared.wire.Passed.TheVariants.{Same}
 use Rattle.set_tending.specs.declared.wire.Wire.{Wire}
 use Rattle.line_play.specs.LineTraffic.{Traffic, octets_go, line_says, Grows, coming, given, front_of, arrived, silence_for}
 use Rattle.line_play.specs.declared.set_lines.Came.{Came}
 use Rattle.line_play.specs.declared.set_lines.Came.TheVariants as line
-use Rattle.line_play.specs.SetObeying.{Obeys, SendsNone, sent_by}
-use Rattle.line_play.specs.SetRounds.{Made, line_told, passed_told, PassesOn, Carries, passes, misses, ends, fails, opens, CarriesAt, CarriesAll, no_link, one_link, TellsAll, ObeysWaiting, rests, obeys, TakesOrder, at_once, behind, report, Attends, waited, comes, AttendsAll, none_due, full, quits, MOST_WAITING, SetPlace, IsRound}
+use Rattle.line_play.specs.SetObeying.{Obeys}
+use Rattle.line_play.specs.SetOrders.{SaysSuch, overtakes, is_send, set_order_of}
+use Rattle.line_play.specs.SetRounds.{Made, line_told, passed_told, PassesOn, Carries, passes, misses, ends, fails, opens, CarriesAt, CarriesAll, no_link, one_link, TellsAll, ObeysWaiting, rests, obeys, TakesOrder, at_once, behind, report, Attends, waited, comes, AttendsAll, none_due, full, quits, MOST_WAITING, SetPlace, IsRound, Rests}
 
 -- ---- what is given
 
@@ -258,25 +259,43 @@ taken_as r order said t u waiting later a b is made =
     subst (λ (o : List ℕ). OnOk r (TellsSuch (λ bytes. TakesOrder o t waiting bytes u later) a b)) is made
 
 pub taken_at_once : {A E : Type 0} (r : Result A E) (order said : List ℕ) (t u : Tended) (waiting : List (List ℕ)) (a b : Stand) → said ≡ order
-    → (waiting ≡ []) ⊎ (sent_by (words_of said) ≡ None) → OnOk r (TellsSuch (λ bytes. Obeys said t bytes u) a b)
+    → (waiting ≡ []) ⊎ SaysSuch overtakes said → OnOk r (TellsSuch (λ bytes. Obeys said t bytes u) a b)
     → OnOk r (TellsSuch (λ bytes. TakesOrder order t waiting bytes u waiting) a b)
 taken_at_once r order said t u waiting a b is may made =
     taken_as r order said t u waiting waiting a b is
     (on_ok_weaker r (λ (m : TellsSuch (λ bytes. Obeys said t bytes u) a b). record { bytes = m.bytes; are = at_once may m.are; tells = m.tells }) made)
 
-pub taken_behind : (order : List ℕ) (t : Tended) (waiting later : List (List ℕ)) (a : Stand) → later ≡ waiting ++ order ∷ []
-    → TellsSuch (λ bytes. TakesOrder order t waiting bytes t later) a a
-taken_behind order t waiting later a is =
-    subst (λ (l : List (List ℕ)). TellsSuch (λ bytes. TakesOrder order t waiting bytes t l) a a) (sym is) (record { bytes = []; are = behind; tells = tells_none a })
+pub taken_behind : (order said : List ℕ) (t : Tended) (waiting later : List (List ℕ)) (a : Stand) → said ≡ order
+    → (waiting ≡ [] → SaysSuch is_send said) → later ≡ waiting ++ order ∷ [] → TellsSuch (λ bytes. TakesOrder order t waiting bytes t later) a a
+taken_behind order said t waiting later a same waits is =
+    subst (λ (l : List (List ℕ)). TellsSuch (λ bytes. TakesOrder order t waiting bytes t l) a a) (sym is)
+    (record { bytes = []; are = behind (subst (λ (o : List ℕ). waiting ≡ [] → SaysSuch is_send o) same waits); tells = tells_none a })
 
-pub taken_report : (order said : List ℕ) (t : Tended) (waiting : List (List ℕ)) (a : Stand) → said ≡ order → SendsNone said
+pub taken_report : (order said : List ℕ) (t : Tended) (waiting : List (List ℕ)) (a : Stand) → said ≡ order → set_order_of (words_of said) ≡ None
     → TellsSuch (λ bytes. TakesOrder order t waiting bytes t waiting) a a
 taken_report order said t waiting a is none_there =
     subst (λ (o : List ℕ). TellsSuch (λ bytes. TakesOrder o t waiting bytes t waiting) a a) is (record { bytes = []; are = report none_there; tells = tells_none a })
 
 pub attends_first : (t u : Tended) (waiting now : List (List ℕ)) (left : Option (List Timed)) (a b : Stand)
-    → TellsSuch (λ bytes. ObeysWaiting t waiting bytes u now) a b → TellsSuch (λ bytes. Attends t waiting left bytes u now left) a b
-attends_first t u waiting now left a b before = record { bytes = before.bytes; are = waited before.are; tells = before.tells }
+    → TellsSuch (λ bytes. ObeysWaiting t waiting bytes u now) a b → Rests now → TellsSuch (λ bytes. Attends t waiting left bytes u now left) a b
+attends_first t u waiting now left a b before last = record { bytes = before.bytes; are = waited before.are last; tells = before.tells }
+
+-- none waits, or the first sends a message
+pub rests_none : (waiting : List (List ℕ)) → None ≡ slice_get waiting 0 → Rests waiting
+rests_none [] none_there = tt
+rests_none (order ∷ more) none_there = absurd (none-some order none_there)
+
+pub rests_first : (order : List ℕ) (waiting : List (List ℕ)) → Some order ≡ slice_get waiting 0 → SaysSuch is_send order → Rests waiting
+rests_first order [] first sends = absurd (none-some order (sym first))
+rests_first order (said ∷ more) first sends = subst (λ (o : List ℕ). SaysSuch is_send o) (same_Some order said first) sends
+
+pub rests_when : {E : Type 0} (r : Result Bool E) (text order : List ℕ) (waiting : List (List ℕ)) → text ≡ order → Some order ≡ slice_get waiting 0
+    → IfOk r (λ (b : Bool). b ≡ true → SaysSuch is_send text) → IfOk r (λ (b : Bool). b ≡ true → Rests waiting)
+rests_when (Ok b) text order waiting same first sends = λ shown. rests_first order waiting first (subst (λ (o : List ℕ). SaysSuch is_send o) same (sends shown))
+rests_when (Err e) text order waiting same first sends = tt
+
+pub rests_empty : (waiting : List (List ℕ)) → waiting ≡ [] → Rests waiting
+rests_empty waiting none_there = subst (λ (ws : List (List ℕ)). Rests ws) (sym none_there) tt
 
 pub attends_more : (t u w : Tended) (waiting now later : List (List ℕ)) (left fewer last : Option (List Timed)) (order : List ℕ) (ms : ℕ) (a b c : Stand)
     → TellsSuch (λ bytes. Attends t waiting left bytes u now fewer) a b → ms ≡ u.ticks → NextIs ms fewer order last → (order ≡ QUIT → ⊥)

@@ -1,14 +1,23 @@
 -- What a set on lines tells, line by line.
-use Rattle.std.proofs.Common.{◌≡◌, ◌∙◌, ℕ, List, [], ◌∷◌, ◌++◌, codes, append-nil, append_assoc, Option, None, Some, Result, Ok, Err, OnOk, IfOk, refl, sym, ap, subst}
+use Rattle.std.proofs.Common.{◌≡◌, ◌∙◌, ℕ, ◌+◌, List, [], ◌∷◌, ◌++◌, codes, append-nil, append_assoc, slice_get, unwrap_or, Option, Result, Ok, Err, OnOk, refl, sym, ap, subst}
 use Rattle.std.proofs.lemmas.Result.{on_ok_weaker}
+use Rattle.std.specs.Fmt.{decimal}
+use Rattle.script_links.specs.resend_store_types.measures.Measure.{Measure}
+use Rattle.script_terminal.specs.MeasureNames.{measure_word}
 use Rattle.line_filter.specs.Desks.{Told as TellsSuch}
 use Rattle.line_filter.specs.Orders.{told}
 use Rattle.line_filter.specs.Reporting.{Stand, TellsLines}
 use Rattle.line_filter.proofs.Reporting.{tells_none, tells_trans}
+use Rattle.set_tending.specs.Links.{read_at}
+use Rattle.set_tending.specs.Reading.{held_count, sent_count}
+use Rattle.set_tending.specs.Set.{LinkSet}
 use Rattle.set_tending.specs.Tended.{Tended}
 use Rattle.set_tending.specs.Texts.{told_text}
 use Rattle.set_tending.specs.declared.told.Told.{Told}
-use Rattle.line_play.specs.SetObeying.{IsShown, Shows, no_line, one_line}
+use Rattle.line_play.specs.SetDoing.{IsCount, IsMeasured, ABORTED, IsShown, ShowsLines, no_line, one_line, held_text, unsure_text, ShowsHeld, no_link, one_link, Shows}
+use Rattle.line_play.specs.SetOrders.{PlainSetOrder, plain_set_order, measuring, aborted, measures}
+use Rattle.line_play.specs.declared.set_orders.SetOrder.{SetOrder}
+use Rattle.line_play.specs.declared.set_orders.SetOrder.TheVariants as order
 use Rattle.line_play.specs.SetRounds.{Takes, Tells, nothing, one, TellsAll}
 
 -- the same line, by what its millisecond and its text are
@@ -24,30 +33,128 @@ ok_so (Err e) P h = tt
 
 -- ---- what orders ask for
 
-pub shows_none : (now : ℕ) (a : Stand) → TellsSuch (Shows now) a a
-shows_none now a = record { bytes = []; are = no_line; tells = tells_none a }
+pub shows_none : (said : PlainSetOrder) (now : ℕ) (a : Stand) → TellsSuch (ShowsLines said now) a a
+shows_none said now a = record { bytes = []; are = no_line; tells = tells_none a }
 
-both_shown : (now : ℕ) (xs ys : List ℕ) → Shows now xs → Shows now ys → Shows now (xs ++ ys)
-both_shown now xs _ before no_line = subst (λ (zs : List ℕ). Shows now zs) (sym (append-nil xs)) before
-both_shown now xs _ before (one_line {bytes} text behind shown) =
-    subst (λ (zs : List ℕ). Shows now zs) (append_assoc xs bytes (told now text)) (one_line text (both_shown now xs bytes before behind) shown)
+both_shown : (said : PlainSetOrder) (now : ℕ) (xs ys : List ℕ) → ShowsLines said now xs → ShowsLines said now ys → ShowsLines said now (xs ++ ys)
+both_shown said now xs _ before no_line = subst (λ (zs : List ℕ). ShowsLines said now zs) (sym (append-nil xs)) before
+both_shown said now xs _ before (one_line {bytes} text behind shown) =
+    subst (λ (zs : List ℕ). ShowsLines said now zs) (append_assoc xs bytes (told now text)) (one_line text (both_shown said now xs bytes before behind) shown)
 
-pub shows_then : (now : ℕ) (a b c : Stand) → TellsSuch (Shows now) a b → TellsSuch (Shows now) b c → TellsSuch (Shows now) a c
-shows_then now a b c first second = record {
+pub shows_then : (said : PlainSetOrder) (now : ℕ) (a b c : Stand) → TellsSuch (ShowsLines said now) a b → TellsSuch (ShowsLines said now) b c
+    → TellsSuch (ShowsLines said now) a c
+shows_then said now a b c first second = record {
   bytes = first.bytes ++ second.bytes;
-  are = both_shown now first.bytes second.bytes first.are second.are;
+  are = both_shown said now first.bytes second.bytes first.are second.are;
   tells = tells_trans a b c first.bytes second.bytes first.tells second.tells;
 }
 
-pub then_shows : {A E : Type 0} (r : Result A E) (now : ℕ) (a b c : Stand) → TellsSuch (Shows now) a b → OnOk r (TellsSuch (Shows now) b c)
-    → OnOk r (TellsSuch (Shows now) a c)
-then_shows r now a b c first second = on_ok_weaker r (λ (more : TellsSuch (Shows now) b c). shows_then now a b c first more) second
-
 -- one line
-pub shows_one : {A E : Type 0} (r : Result A E) (now : ℕ) (a b : Stand) (text : List ℕ) → IsShown text → OnOk r (TellsLines a b (told now text))
-    → OnOk r (TellsSuch (Shows now) a b)
-shows_one r now a b text shown line =
+pub shows_one : {A E : Type 0} (r : Result A E) (said : PlainSetOrder) (now : ℕ) (a b : Stand) (text : List ℕ) → IsShown said text
+    → OnOk r (TellsLines a b (told now text)) → OnOk r (TellsSuch (ShowsLines said now) a b)
+shows_one r said now a b text shown line =
     on_ok_weaker r (λ (l : TellsLines a b (told now text)). record { bytes = told now text; are = one_line text no_line shown; tells = l }) line
+
+pub is_count : (name word text : List ℕ) (link count : ℕ) → name ≡ word
+    → text ≡ decimal link ++ (codes " measure " ++ (name ++ (codes " " ++ decimal count))) → IsCount word text
+is_count name word text link count same are =
+    subst (λ (xs : List ℕ). IsCount xs text) same (record { link = link; count = count; are = are })
+
+-- any measurement is one of all
+as_measures : (said : PlainSetOrder) (now : ℕ) (bytes : List ℕ) → ((text : List ℕ) → IsShown said text → IsMeasured text) → ShowsLines said now bytes
+    → ShowsLines measures now bytes
+as_measures said now _ is no_line = no_line
+as_measures said now _ is (one_line {bytes} text before shown) = one_line text (as_measures said now bytes is before) (is text shown)
+
+measured_so : (now : ℕ) (a b : Stand) (m : Measure) → TellsSuch (ShowsLines (measuring m) now) a b → TellsSuch (ShowsLines measures now) a b
+measured_so now a b m told_so = record {
+  bytes = told_so.bytes;
+  are = as_measures (measuring m) now told_so.bytes (λ text is. record { name = measure_word m; is = is }) told_so.are;
+  tells = told_so.tells;
+}
+
+aborted_so : (now : ℕ) (a b : Stand) → TellsSuch (ShowsLines aborted now) a b → TellsSuch (ShowsLines measures now) a b
+aborted_so now a b told_so = record {
+  bytes = told_so.bytes;
+  are = as_measures aborted now told_so.bytes (λ text is. record { name = ABORTED; is = is }) told_so.are;
+  tells = told_so.tells;
+}
+
+pub then_measured : (now : ℕ) (a b c : Stand) (m : Measure) → TellsSuch (ShowsLines measures now) a b → TellsSuch (ShowsLines (measuring m) now) b c
+    → TellsSuch (ShowsLines measures now) a c
+then_measured now a b c m first second = shows_then measures now a b c first (measured_so now b c m second)
+
+pub then_aborted : {A E : Type 0} (r : Result A E) (now : ℕ) (a b c : Stand) → TellsSuch (ShowsLines measures now) a b
+    → OnOk r (TellsSuch (ShowsLines aborted now) b c) → OnOk r (TellsSuch (ShowsLines measures now) a c)
+then_aborted r now a b c first second =
+    on_ok_weaker r (λ (more : TellsSuch (ShowsLines aborted now) b c). shows_then measures now a b c first (aborted_so now b c more)) second
+
+-- ---- what is told of the set
+
+pub held_is : (c d : LinkSet) (l held : ℕ) (o : Option ℕ) → held ≡ unwrap_or o 0 → o ≡ read_at held_count (slice_get c.links l) → c ≡ d
+    → held ≡ unwrap_or (read_at held_count (slice_get d.links l)) 0
+held_is c d l held o is read same =
+    is ∙ ap (λ (x : Option ℕ). unwrap_or x 0) (read ∙ ap (λ (s : LinkSet). read_at held_count (slice_get s.links l)) same)
+
+pub sent_is : (c d : LinkSet) (l sent : ℕ) (o : Option ℕ) → sent ≡ unwrap_or o 0 → o ≡ read_at sent_count (slice_get c.links l) → c ≡ d
+    → sent ≡ unwrap_or (read_at sent_count (slice_get d.links l)) 0
+sent_is c d l sent o is read same =
+    is ∙ ap (λ (x : Option ℕ). unwrap_or x 0) (read ∙ ap (λ (s : LinkSet). read_at sent_count (slice_get s.links l)) same)
+
+pub held_line : (t : Tended) (l held sent : ℕ) (text : List ℕ) → held ≡ unwrap_or (read_at held_count (slice_get t.set.links l)) 0
+    → sent ≡ unwrap_or (read_at sent_count (slice_get t.set.links l)) 0
+    → text ≡ decimal l ++ (codes " held " ++ (decimal held ++ (codes " sent " ++ decimal sent))) → text ≡ held_text t l
+held_line t l held sent text held_so sent_so are =
+    are
+    ∙ (ap (λ (n : ℕ). decimal l ++ (codes " held " ++ (decimal n ++ (codes " sent " ++ decimal sent)))) held_so
+    ∙ ap (λ (n : ℕ). decimal l ++ (codes " held " ++ (decimal (unwrap_or (read_at held_count (slice_get t.set.links l)) 0) ++ (codes " sent " ++ decimal n)))) sent_so)
+
+pub unsure_line : (t : Tended) (c : LinkSet) (count : ℕ) → count ≡ c.unsure → c ≡ t.set → codes "unsure " ++ decimal count ≡ unsure_text t
+unsure_line t c count is same = ap (λ (n : ℕ). codes "unsure " ++ decimal n) (is ∙ ap (λ (s : LinkSet). s.unsure) same)
+
+pub held_none : (t : Tended) (a : Stand) → TellsSuch (ShowsHeld t 0) a a
+held_none t a = record { bytes = []; are = no_link; tells = tells_none a }
+
+pub held_more : (t : Tended) (l : ℕ) (a b c : Stand) → TellsSuch (ShowsHeld t l) a b → TellsLines b c (told t.ticks (held_text t l))
+    → TellsSuch (ShowsHeld t (l + 1)) a c
+held_more t l a b c before line = record {
+  bytes = before.bytes ++ told t.ticks (held_text t l);
+  are = one_link before.are;
+  tells = tells_trans a b c before.bytes (told t.ticks (held_text t l)) before.tells line;
+}
+
+pub held_all : (t : Tended) (l : ℕ) (a b : Stand) → l ≡ t.plan.links → TellsSuch (ShowsHeld t l) a b → TellsSuch (ShowsHeld t t.plan.links) a b
+held_all t l a b all before = subst (λ (n : ℕ). TellsSuch (ShowsHeld t n) a b) all before
+
+pub told_just : {A E : Type 0} (r : Result A E) (a b : Stand) (bytes : List ℕ) → OnOk r (TellsLines a b bytes) → OnOk r (TellsSuch (λ xs. xs ≡ bytes) a b)
+told_just r a b bytes line = on_ok_weaker r (λ (l : TellsLines a b bytes). record { bytes = bytes; are = refl; tells = l }) line
+
+lines_are : (s : SetOrder) (t : Tended) (bytes : List ℕ) → (s ≡ order.Table → ⊥) → (s ≡ order.Unsure → ⊥) → (s ≡ order.Held → ⊥)
+    → ShowsLines (plain_set_order s) t.ticks bytes → Shows (plain_set_order s) t bytes
+lines_are (order.On focus) t bytes not_table not_unsure not_held lines = lines
+lines_are (order.Link obeyed) t bytes not_table not_unsure not_held lines = lines
+lines_are (order.State process) t bytes not_table not_unsure not_held lines = lines
+lines_are (order.Value process variable) t bytes not_table not_unsure not_held lines = lines
+lines_are (order.Measure measure) t bytes not_table not_unsure not_held lines = lines
+lines_are order.Aborted t bytes not_table not_unsure not_held lines = lines
+lines_are order.Measures t bytes not_table not_unsure not_held lines = lines
+lines_are order.Reset t bytes not_table not_unsure not_held lines = lines
+lines_are (order.Send octets) t bytes not_table not_unsure not_held lines = lines
+lines_are order.Table t bytes not_table not_unsure not_held lines = absurd (not_table refl)
+lines_are order.Held t bytes not_table not_unsure not_held lines = absurd (not_held refl)
+lines_are order.Unsure t bytes not_table not_unsure not_held lines = absurd (not_unsure refl)
+lines_are order.Rebalance t bytes not_table not_unsure not_held lines = lines
+
+pub lines_shown : {A E : Type 0} (r : Result A E) (s : SetOrder) (t : Tended) (a b : Stand) → (s ≡ order.Table → ⊥) → (s ≡ order.Unsure → ⊥) → (s ≡ order.Held → ⊥)
+    → OnOk r (TellsSuch (ShowsLines (plain_set_order s) t.ticks) a b) → OnOk r (TellsSuch (Shows (plain_set_order s) t) a b)
+lines_shown r s t a b not_table not_unsure not_held lines =
+    on_ok_weaker r
+    (λ (h : TellsSuch (ShowsLines (plain_set_order s) t.ticks) a b). record {
+      bytes = h.bytes;
+      are = lines_are s t h.bytes not_table not_unsure not_held h.are;
+      tells = h.tells;
+    })
+    lines
 
 -- ---- what the set tells
 
@@ -62,7 +169,7 @@ tells_more t u w a b c x now before takes now_is line = record {
   tells = tells_trans a b c before.bytes (told w.ticks (told_text x)) before.tells (subst (λ (n : ℕ). TellsLines b c (told n (told_text x))) now_is line);
 }
 
-pub tells_all : (t u w : Tended) (a b : Stand) → TellsSuch (λ bytes. Tells t bytes u) a b → u.messages ≡ [] → w ≡ u
+pub tells_all : (t u w : Tended) (a b : Stand) → TellsSuch (λ bytes. Tells t bytes u) a b → u.reports ≡ [] → w ≡ u
     → TellsSuch (λ bytes. TellsAll t bytes w) a b
 tells_all t u w a b before none_left same =
     subst (λ (x : Tended). TellsSuch (λ bytes. TellsAll t bytes x) a b) (sym same)

@@ -6,9 +6,11 @@ pub mod LinkActs
 pub mod Measured
 pub mod Opening
 pub mod SetDesks
+pub mod SetDoing
 pub mod SetLaws
 pub mod SetObeying
 pub mod SetOpening
+pub mod SetOrders
 pub mod SetRounds
 pub mod Told
 pub use Rattle.line_filter.specs.Filters

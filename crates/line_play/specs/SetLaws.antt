@@ -1,14 +1,16 @@
--- What follows for all that a set on lines did: which messages `send` took, and which were told.
+-- What follows for all that a set on lines did: which messages `send` took, and which reports of
+-- links were told.
 use Rattle.std.specs.Prelude.{ℕ, Bool, List, [], ◌∷◌, ◌++◌, Option}
 use Rattle.script_links.specs.resend_store_types.messages.Msu.{Msu}
 use Rattle.line_filter.specs.Orders.{Timed}
-use Rattle.set_tending.specs.Telling.{message_in}
+use Rattle.set_tending.specs.Telling.{report_in}
 use Rattle.set_tending.specs.Tended.{Tended}
+use Rattle.set_tending.specs.declared.told.Told.{Told}
 use Rattle.line_play.specs.LineTraffic.{Traffic}
 use Rattle.line_play.specs.SetObeying.{Obeys, sends, does, refuses}
 use Rattle.line_play.specs.SetRounds.{Tells, nothing, one, ObeysWaiting, rests, obeys}
 use Rattle.line_play.specs.SetRounds.{TakesOrder, at_once, behind, report, Attends, waited, comes}
-use Rattle.line_play.specs.SetRounds.{AttendsAll, none_due, full, quits, SetPlace, IsRound}
+use Rattle.line_play.specs.SetRounds.{AttendsAll, none_due, full, quits, SetPlace}
 use Rattle.line_play.specs.SetRounds.{Rounds, begins, round}
 
 -- ---- the messages of orders that were told as ok, in their order
@@ -16,7 +18,7 @@ use Rattle.line_play.specs.SetRounds.{Rounds, begins, round}
 abbrev pub sent_in :
     {order : List ℕ} {t : Tended} {bytes : List ℕ} {u : Tended} → Obeys order t bytes u → List Msu
 sent_in (sends m said acts) = m ∷ []
-sent_in (does none_there adds answer) = []
+sent_in (does said is none_there adds changes answer) = []
 sent_in (refuses why is) = []
 
 abbrev pub sent_waiting :
@@ -29,14 +31,14 @@ abbrev pub sent_taking :
     {order : List ℕ} {t : Tended} {waiting : List (List ℕ)} {bytes : List ℕ} {u : Tended}
     {now : List (List ℕ)} → TakesOrder order t waiting bytes u now → List Msu
 sent_taking (at_once may made) = sent_in made
-sent_taking behind = []
+sent_taking (behind waits) = []
 sent_taking (report none_there) = []
 
 abbrev pub sent_attending :
     {t : Tended} {waiting : List (List ℕ)} {left : Option (List Timed)} {bytes : List ℕ}
     {u : Tended} {now : List (List ℕ)} {last : Option (List Timed)}
     → Attends t waiting left bytes u now last → List Msu
-sent_attending (waited before) = sent_waiting before
+sent_attending (waited before last) = sent_waiting before
 sent_attending (comes order more w later last before next no_end taken) =
     sent_attending before ++ sent_taking taken
 
@@ -54,15 +56,15 @@ abbrev pub sent_along :
 sent_along begins = []
 sent_along (round more others goes_on before is) = sent_along before ++ sent_by_all is.attends
 
--- ---- the messages that were told, in their order
+-- ---- the reports of links that were told, in their order
 
-abbrev pub told_in : {t : Tended} {bytes : List ℕ} {u : Tended} → Tells t bytes u → List Msu
+abbrev pub told_in : {t : Tended} {bytes : List ℕ} {u : Tended} → Tells t bytes u → List Told
 told_in nothing = []
-told_in (one x before takes) = told_in before ++ message_in x
+told_in (one x before takes) = told_in before ++ report_in x
 
 abbrev pub told_along :
     {ahead : ℕ} {p : SetPlace} {bytes : List ℕ} {traffic : List Traffic} {goes_on : Bool}
-    {q : SetPlace} → Rounds ahead p bytes traffic goes_on q → List Msu
+    {q : SetPlace} → Rounds ahead p bytes traffic goes_on q → List Told
 told_along begins = []
 told_along (round more others goes_on before is) =
     (told_along before ++ told_in is.tells.tells) ++ told_in is.tells_more.tells

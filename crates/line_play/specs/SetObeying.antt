@@ -1,7 +1,6 @@
 -- Orders to a set on lines: what they say, and what comes of them.
 use Rattle.std.specs.Prelude.{◌≡◌, ◌⊎◌, ℕ, ◌<◌, if◌then◌else◌, List, [], ◌∷◌, ◌++◌, length, codes}
-use Rattle.std.specs.Prelude.{Option, None, Some, IfSome}
-use Rattle.std.specs.Fmt.{decimal}
+use Rattle.std.specs.Prelude.{Option, None, Some}
 use Rattle.std.specs.Str.{bytes_eq}
 use Rattle.script_lines.specs.Words.{words_of}
 use Rattle.script_links.specs.Octets.{octets_of}
@@ -11,13 +10,12 @@ use Rattle.line_filter.specs.Orders.{told}
 use Rattle.set_tending.specs.Labels.{label_in}
 use Rattle.set_tending.specs.Rounds.{Acts, Adds}
 use Rattle.set_tending.specs.Sending.{tended_send_fault}
-use Rattle.set_tending.specs.Telling.{message_in}
 use Rattle.set_tending.specs.Tended.{Tended}
-use Rattle.set_tending.specs.Texts.{told_text}
 use Rattle.set_tending.specs.group_changeover_types.errors.SendError.{SendError}
-use Rattle.set_tending.specs.declared.told.Told.{Told}
 use Rattle.line_play.specs.declared.set_orders.SetOrder.{SetOrder}
 use Rattle.line_play.specs.declared.set_orders.SetOrder.TheVariants as order
+use Rattle.line_play.specs.SetDoing.{Changes, Refuses, IsAnswer}
+use Rattle.line_play.specs.SetOrders.{PlainSetOrder, set_order_of}
 
 -- the octets of `send HEX`
 abbrev pub sent_by : List (List ℕ) → Option (List ℕ)
@@ -47,10 +45,6 @@ octets_sent order.Rebalance = None
 abbrev pub AreNoMessage : List ℕ → Type 0
 AreNoMessage octets = (length octets < 5) ⊎ (273 < length octets)
 
--- an order sends nothing, or what is no message
-abbrev pub SendsNone : List ℕ → Type 0
-SendsNone order = IfSome (sent_by (words_of order)) AreNoMessage
-
 -- an order sends this message
 pub record Sends (order : List ℕ) (m : Msu) : Type 0 where
   pub octets : List ℕ
@@ -74,51 +68,28 @@ pub data IsTurnedDown (octets : List ℕ) (old new : Tended) : Type 0 where
   no_message : AreNoMessage octets → new ≡ old → IsTurnedDown octets old new
   full : (m : Msu) → IsMessageOf octets m → IsUntaken m old new → IsTurnedDown octets old new
 
--- ---- what orders ask for
-
--- A line that an order asked for: of a link its state, a variable, a measurement, what it holds; of
--- the set how many messages are unsure, and what isn't a message for level 3.
-pub data IsShown (text : List ℕ) : Type 0 where
-  state : (link : ℕ) (what : List ℕ) → text ≡ decimal link ++ (codes " state " ++ what)
-      → IsShown text
-  value : (link : ℕ) (what : List ℕ) → text ≡ decimal link ++ (codes " value " ++ what)
-      → IsShown text
-  measure : (link : ℕ) (what : List ℕ) → text ≡ decimal link ++ (codes " measure " ++ what)
-      → IsShown text
-  held : (link : ℕ) (what : List ℕ) → text ≡ decimal link ++ (codes " held " ++ what)
-      → IsShown text
-  unsure : (count : ℕ) → text ≡ codes "unsure " ++ decimal count → IsShown text
-  shared : (x : Told) → text ≡ told_text x → message_in x ≡ [] → IsShown text
-
--- such lines, with a millisecond
-pub data Shows (now : ℕ) : List ℕ → Type 0 where
-  no_line : Shows now []
-  one_line : {bytes : List ℕ} (text : List ℕ) → Shows now bytes → IsShown text
-      → Shows now (bytes ++ told now text)
-
--- an order is told as obeyed, and behind it what it asked for
-pub record IsAnswer (now : ℕ) (order bytes : List ℕ) : Type 0 where
-  pub more : List ℕ
-  pub shows : Shows now more
-  pub are : bytes ≡ told now (codes "ok " ++ order) ++ more
-
 -- ---- an order is obeyed
 
--- Why an order may be refused, and what it has done then: nothing, where it sends what is no
--- message, or its message isn't taken.
+-- Why an order may be refused, and what it has done then. It reads as no order, or it sends what is
+-- no message, or its message isn't taken, and nothing changes; or it is another that is refused.
 pub data IsRefused (order : List ℕ) (t u : Tended) : Type 0 where
-  bad : SendsNone order → u ≡ t → IsRefused order t u
+  bad : set_order_of (words_of order) ≡ None → u ≡ t → IsRefused order t u
+  unsent : (octets : List ℕ) → sent_by (words_of order) ≡ Some octets → AreNoMessage octets
+      → u ≡ t → IsRefused order t u
   untaken : (m : Msu) (why : SendError) → Sends order m → tended_send_fault t.set m ≡ Some why
       → u ≡ t → IsRefused order t u
-  other : sent_by (words_of order) ≡ None → Adds t u → IsRefused order t u
+  other : (said : PlainSetOrder) → set_order_of (words_of order) ≡ Some said
+      → sent_by (words_of order) ≡ None → Adds t u → Refuses said t u
+      → IsRefused order t u
 
--- An order is obeyed, and that is told: `send` took its message; or what else it says is done by
--- calls of the set that take none, and what it asked for is told behind that; or it is refused.
+-- An order is obeyed, and that is told: `send` took its message; or what else its words say is done
+-- by calls of the set that take none, and what it asked for is told behind that; or it is refused.
 pub data Obeys (order : List ℕ) (t : Tended) : List ℕ → Tended → Type 0 where
   sends : {u : Tended} (m : Msu) → Sends order m → Acts (m ∷ []) [] t u
       → Obeys order t (told u.ticks (codes "ok " ++ order)) u
-  does : {bytes : List ℕ} {u : Tended} → sent_by (words_of order) ≡ None → Adds t u
-      → IsAnswer u.ticks order bytes
+  does : {bytes : List ℕ} {u : Tended} (said : PlainSetOrder)
+      → set_order_of (words_of order) ≡ Some said → sent_by (words_of order) ≡ None → Adds t u
+      → Changes said t u → IsAnswer said u order bytes
       → Obeys order t bytes u
   refuses : {u : Tended} (why : List ℕ) → IsRefused order t u
       → Obeys order t (told u.ticks (codes "refused " ++ why)) u

@@ -7,7 +7,7 @@ use Rattle.script_lines.specs.Words.{words_of}
 use Rattle.line_filter.specs.Orders.{Timed, NextIs, NoneIsDue, QUIT, told}
 use Rattle.line_filter.specs.Reporting.{Stand, TellsLines}
 use Rattle.set_tending.specs.Rounds.{Tends, Ticks}
-use Rattle.set_tending.specs.Telling.{message_in}
+use Rattle.set_tending.specs.Telling.{report_in}
 use Rattle.set_tending.specs.Tended.{Tended}
 use Rattle.set_tending.specs.Texts.{told_text}
 use Rattle.set_tending.specs.Wires.{Hears, Passes, SILENT}
@@ -16,7 +16,8 @@ use Rattle.set_tending.specs.declared.wire.Passed.{Passed}
 use Rattle.set_tending.specs.declared.wire.Passed.TheVariants.{Same, Silent, Back}
 use Rattle.set_tending.specs.declared.wire.Wire.{Wire}
 use Rattle.line_play.specs.declared.set_queue.Queue.{Queue}
-use Rattle.line_play.specs.SetObeying.{Obeys, SendsNone, sent_by}
+use Rattle.line_play.specs.SetObeying.{Obeys}
+use Rattle.line_play.specs.SetOrders.{SaysSuch, overtakes, is_send, set_order_of}
 use Rattle.line_play.specs.LineTraffic.{Traffic, line_says, Grows, coming, given, silence_for}
 use Rattle.line_play.specs.declared.set_lines.Came.TheVariants as line
 
@@ -89,8 +90,8 @@ pub data CarriesAll (ahead : ℕ) (t : Tended) (ws : List Wire) :
 
 -- what is told next is taken
 pub record Takes (t : Tended) (x : Told) (u : Tended) : Type 0 where
-  pub messages : t.messages ≡ message_in x ++ u.messages
-  pub same : u ≡ record t { messages = u.messages }
+  pub reports : t.reports ≡ report_in x ++ u.reports
+  pub same : u ≡ record t { reports = u.reports }
 
 -- one thing after another
 pub data Tells (t : Tended) : List ℕ → Tended → Type 0 where
@@ -98,10 +99,10 @@ pub data Tells (t : Tended) : List ℕ → Tended → Type 0 where
   one : {bytes : List ℕ} {u w : Tended} (x : Told) → Tells t bytes u → Takes u x w
       → Tells t (bytes ++ told w.ticks (told_text x)) w
 
--- all of it: no message is left to be told
+-- all of it: no report of a link is left to be told
 pub record TellsAll (t : Tended) (bytes : List ℕ) (u : Tended) : Type 0 where
   pub tells : Tells t bytes u
-  pub none_left : u.messages ≡ []
+  pub none_left : u.reports ≡ []
 
 -- ---- orders
 
@@ -122,21 +123,28 @@ pub data ObeysWaiting (t : Tended) (waiting : List (List ℕ)) :
       → ObeysWaiting t waiting bytes u now → now ≡ order ∷ left → Obeys order u more w
       → ObeysWaiting t waiting (bytes ++ more) w left
 
--- An order comes. It is obeyed at once, where none waits, or it sends nothing; or it waits behind
--- the others; or it says nothing, and sends no message.
+-- the first of those that wait, if any do, sends a message
+abbrev pub Rests : List (List ℕ) → Type 0
+Rests [] = Unit {0}
+Rests (order ∷ more) = SaysSuch is_send order
+
+-- An order comes. It is obeyed at once, where none waits, or it may overtake these; or it waits
+-- behind others, or since it sends a message; or it reads as no order.
 pub data TakesOrder (order : List ℕ) (t : Tended) (waiting : List (List ℕ)) :
     List ℕ → Tended → List (List ℕ) → Type 0 where
   at_once : {bytes : List ℕ} {u : Tended}
-      → (waiting ≡ []) ⊎ (sent_by (words_of order) ≡ None) → Obeys order t bytes u
+      → (waiting ≡ []) ⊎ SaysSuch overtakes order → Obeys order t bytes u
       → TakesOrder order t waiting bytes u waiting
-  behind : TakesOrder order t waiting [] t (waiting ++ order ∷ [])
-  report : SendsNone order → TakesOrder order t waiting [] t waiting
+  behind : (waiting ≡ [] → SaysSuch is_send order)
+      → TakesOrder order t waiting [] t (waiting ++ order ∷ [])
+  report : set_order_of (words_of order) ≡ None → TakesOrder order t waiting [] t waiting
 
--- Orders that wait are obeyed, then those that are due come in their order.
+-- Orders that wait are obeyed, up to a message that still has to wait, then those that are due come
+-- in their order.
 pub data Attends (t : Tended) (waiting : List (List ℕ)) (left : Option (List Timed)) :
     List ℕ → Tended → List (List ℕ) → Option (List Timed) → Type 0 where
   waited : {bytes : List ℕ} {u : Tended} {now : List (List ℕ)}
-      → ObeysWaiting t waiting bytes u now → Attends t waiting left bytes u now left
+      → ObeysWaiting t waiting bytes u now → Rests now → Attends t waiting left bytes u now left
   comes : {bytes : List ℕ} {u : Tended} {now : List (List ℕ)} {fewer : Option (List Timed)}
       (order more : List ℕ) (w : Tended) (later : List (List ℕ)) (last : Option (List Timed))
       → Attends t waiting left bytes u now fewer → NextIs u.ticks fewer order last

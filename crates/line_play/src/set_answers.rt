@@ -5,7 +5,10 @@ ghost use Rattle.line_filter.specs.Desks.{Told as TellsSuch};
 ghost use Rattle.line_filter.specs.Orders.{told};
 ghost use Rattle.line_filter.specs.Reporting.{TellsLines};
 ghost use Rattle.set_tending.specs.Rounds.{Acts, Adds};
-ghost use Rattle.line_play.specs.SetObeying.{IsAnswer, Obeys, IsSent, IsUntaken, IsTurnedDown, octets_sent, sent_by};
+ghost use Rattle.script_terminal.specs.TermAnswers.{command_of};
+ghost use Rattle.line_play.specs.SetDoing.{ObeysAt, Commands, Rebalances, NoFocus, NoRebalance, Changes, Refuses, IsAnswer};
+ghost use Rattle.line_play.specs.SetObeying.{Obeys, IsSent, IsUntaken, IsTurnedDown, octets_sent, sent_by};
+ghost use Rattle.line_play.specs.SetOrders.{plain_set_order, set_order_of};
 
 use crate::set_orders::{Focus, SetOrder, set_order_in};
 use crate::set_state::SetState;
@@ -26,8 +29,18 @@ fn refusal<D: std::fmt::Display>(alloc: Global, why: &D) -> Result<Option<Refuse
     Ok(Some(format!(in alloc; "{why}")?))
 }
 
+/// Why a question was refused, where the line that a script prints for it says that.
+fn why_refused(alloc: Global, line: &[u8]) -> io::Result<Option<Refused>> {
+    match refusal_in(line) {
+        Some(why) => Ok(Some(text_of(alloc, why)?)),
+        None => Ok(None),
+    }
+}
+
 /// What a command was refused for; none, where it was obeyed.
-fn refused_for(alloc: Global, error: Option<CommandError>) -> Result<Option<Refused>, AllocError> {
+fn refused_for(alloc: Global, error: Option<CommandError>) -> Result<Option<Refused>, AllocError>
+    ensures { IfOk result (λ r. IsNone r → IsNone error) }
+{
     match error {
         Some(CommandError::Refused(why)) => {
             let name = why.name();
@@ -38,6 +51,24 @@ fn refused_for(alloc: Global, error: Option<CommandError>) -> Result<Option<Refu
     }
 }
 
+/// An order to a link. The first refusal, if there is one: that of a link before it, or its own.
+fn obey_one(
+    tender: &mut Tender,
+    link: usize,
+    order: script_links::Order,
+    first: Option<CommandError>,
+) -> Result<Option<CommandError>, AllocError>
+    ensures adds { OnOk result (Adds tender.old tender.new) }
+    ensures none { IfOk result (λ r. IsNone r → IsNone first) }
+    ensures obeys { IfOk result (λ r. IsNone r → ObeysAt (command_of order) link tender.old tender.new) }
+{
+    match tender.obey(link, command_of(order)) {
+        Ok(()) => Ok(first),
+        Err(CommandError::NoMemory) => Err(AllocError),
+        Err(error) => Ok(Some(first.unwrap_or(error))),
+    }
+}
+
 /// An order to links, from one to before another. The first refusal, if there is one.
 fn obey_links(
     tender: &mut Tender,
@@ -45,15 +76,12 @@ fn obey_links(
     to: usize,
     order: script_links::Order,
 ) -> Result<Option<CommandError>, AllocError>
-    ensures { OnOk result (Adds tender.old tender.new) }
+    ensures adds { OnOk result (Adds tender.old tender.new) }
+    ensures obeys { IfOk result (λ r. IsNone r → Commands (command_of order) tender.old tender.new) }
 {
     let mut first: Option<CommandError> = None;
     for link in from..to {
-        match tender.obey(link, command_of(order)) {
-            Ok(()) => {}
-            Err(CommandError::NoMemory) => return Err(AllocError),
-            Err(error) => first = first.or(Some(error)),
-        }
+        first = obey_one(tender, link, order, first)?;
     }
     Ok(first)
 }
@@ -88,25 +116,50 @@ fn obey_send(
 }
 
 impl SetState {
-    /// Why a question about an actor isn't answered, by the line that a script prints for it. All links have the same actors.
+    /// Why the state of an actor isn't told. All links have the same actors.
+    fn why_no_state(
+        &self,
+        alloc: Global,
+        focus: Focus,
+        process: &str,
+    ) -> io::Result<Option<Refused>> {
+        let (first, _) = self.links(focus);
+        match self.tender.set().book(first) {
+            Some(book) => why_refused(alloc, &state_line(alloc, book, process)?),
+            None => Ok(None),
+        }
+    }
+
+    /// Why the value of a variable isn't told.
+    fn why_no_value(
+        &self,
+        alloc: Global,
+        focus: Focus,
+        process: &str,
+        variable: &str,
+    ) -> io::Result<Option<Refused>> {
+        let (first, _) = self.links(focus);
+        match self.tender.set().book(first) {
+            Some(book) => why_refused(alloc, &value_line(alloc, book, process, variable)?),
+            None => Ok(None),
+        }
+    }
+
+    /// Why a question about an actor isn't answered, by the line that a script prints for it.
     fn why_unanswered(
         &self,
         alloc: Global,
         focus: Focus,
         order: &SetOrder<'_>,
-    ) -> io::Result<Option<Refused>> {
-        let (first, _) = self.links(focus);
-        let Some(book) = self.tender.set().book(first) else {
-            return Ok(None);
-        };
-        let line = match order {
-            SetOrder::State(process) => state_line(alloc, book, process)?,
-            SetOrder::Value(process, variable) => value_line(alloc, book, process, variable)?,
-            _ => return Ok(None),
-        };
-        match refusal_in(&line) {
-            Some(why) => Ok(Some(text_of(alloc, why)?)),
-            None => Ok(None),
+    ) -> io::Result<Option<Refused>>
+        ensures { IfOk result (λ r. IsSome r → Refuses (plain_set_order order.now) self.now.tender self.now.tender) }
+    {
+        match order {
+            SetOrder::State(process) => self.why_no_state(alloc, focus, process),
+            SetOrder::Value(process, variable) => {
+                self.why_no_value(alloc, focus, process, variable)
+            }
+            _ => Ok(None),
         }
     }
 
@@ -117,7 +170,8 @@ impl SetState {
         focus: Focus,
         order: script_links::Order,
     ) -> Result<Option<Refused>, AllocError>
-        ensures { OnOk result (Adds self.old.tender self.new.tender) }
+        ensures adds { OnOk result (Adds self.old.tender self.new.tender) }
+        ensures obeys { IfOk result (λ r. IsNone r → Commands (command_of order) self.old.tender self.new.tender) }
     {
         let (from, to) = self.links(focus);
         let first = obey_links(&mut self.tender, from, to, order)?;
@@ -126,7 +180,8 @@ impl SetState {
 
     /// `on L` and `on all`: orders speak of these links from now on.
     fn look_at(&mut self, alloc: Global, focus: Focus) -> Result<Option<Refused>, AllocError>
-        ensures { self.new.tender ≡ self.old.tender }
+        ensures same { self.new.tender ≡ self.old.tender }
+        ensures none { IfOk result (λ r. IsSome r → NoFocus focus self.old.tender self.new.tender) }
     {
         if let Focus::Link(link) = focus {
             if link >= self.tender.len() {
@@ -139,7 +194,9 @@ impl SetState {
 
     /// `rebalance`.
     fn rebalance(&mut self, alloc: Global) -> Result<Option<Refused>, AllocError>
-        ensures { Adds self.old.tender self.new.tender }
+        ensures adds { Adds self.old.tender self.new.tender }
+        ensures done { IfOk result (λ r. IsNone r → Rebalances self.old.tender self.new.tender) }
+        ensures none { IfOk result (λ r. IsSome r → NoRebalance self.old.tender self.new.tender) }
     {
         match self.tender.rebalance() {
             Ok(()) => Ok(None),
@@ -154,7 +211,10 @@ impl SetState {
         focus: Focus,
         order: &SetOrder<'_>,
     ) -> Result<Option<Refused>, AllocError>
-        ensures { OnOk result (Adds self.old.tender self.new.tender) }
+        requires { octets_sent order.now ≡ None }
+        ensures adds { OnOk result (Adds self.old.tender self.new.tender) }
+        ensures changes { IfOk result (λ r. IsNone r → Changes (plain_set_order order.now) self.old.tender self.new.tender) }
+        ensures refuses { IfOk result (λ r. IsSome r → Refuses (plain_set_order order.now) self.old.tender self.new.tender) }
     {
         match order {
             SetOrder::On(focus) => self.look_at(alloc, *focus),
@@ -208,7 +268,7 @@ impl SetState {
         order: &SetOrder<'_>,
         reports: &mut P,
     ) -> io::Result<()>
-        ensures { OnOk result (TellsSuch (IsAnswer self.now.tender.ticks text.now) (P.stand reports.old) (P.stand reports.new)) }
+        ensures { OnOk result (TellsSuch (IsAnswer (plain_set_order order.now) self.now.tender text.now) (P.stand reports.old) (P.stand reports.new)) }
     {
         self.agree(alloc, text, reports)?;
         self.tell_asked(alloc, focus, order, reports)
@@ -223,7 +283,9 @@ impl SetState {
         order: &SetOrder<'_>,
         reports: &mut P,
     ) -> io::Result<()>
-        requires { sent_by (words_of text.now) ≡ None }
+        requires sends { sent_by (words_of text.now) ≡ None }
+        requires none { octets_sent order.now ≡ None }
+        requires reads { set_order_of (words_of text.now) ≡ Some (plain_set_order order.now) }
         ensures { OnOk result (TellsSuch (λ bytes. Obeys text.now self.old.tender bytes self.new.tender) (P.stand reports.old) (P.stand reports.new)) }
     {
         if let Some(why) = self.why_unanswered(alloc, focus, order)? {
@@ -244,7 +306,8 @@ impl SetState {
         order: &SetOrder<'_>,
         reports: &mut P,
     ) -> io::Result<()>
-        requires { octets_sent order.now ≡ sent_by (words_of text.now) }
+        requires sends { octets_sent order.now ≡ sent_by (words_of text.now) }
+        requires reads { set_order_of (words_of text.now) ≡ Some (plain_set_order order.now) }
         ensures { OnOk result (TellsSuch (λ bytes. Obeys text.now self.old.tender bytes self.new.tender) (P.stand reports.old) (P.stand reports.new)) }
     {
         match order {

@@ -1,7 +1,10 @@
 //! What is told of a set's links where an order asks.
 ghost use Rattle.std.specs.Prelude.{◌≡◌, OnOk};
 ghost use Rattle.line_filter.specs.Desks.{Told as TellsSuch};
-ghost use Rattle.line_play.specs.SetObeying.{Shows};
+ghost use Rattle.line_filter.specs.Orders.{told};
+ghost use Rattle.line_filter.specs.Reporting.{TellsLines};
+ghost use Rattle.line_play.specs.SetDoing.{ShowsLines, ShowsHeld, Shows, held_text, table_text, unsure_text};
+ghost use Rattle.line_play.specs.SetOrders.{plain_set_order, state, value, measuring, aborted, measures};
 
 use crate::set_measures::Since;
 use crate::set_orders::{Focus, SetOrder};
@@ -69,7 +72,7 @@ impl SetState {
         process: &str,
         reports: &mut P,
     ) -> io::Result<()>
-        ensures { OnOk result (TellsSuch (Shows self.now.tender.ticks) (P.stand reports.old) (P.stand reports.new)) }
+        ensures { OnOk result (TellsSuch (ShowsLines (state process.now) self.now.tender.ticks) (P.stand reports.old) (P.stand reports.new)) }
     {
         let line = match self.tender.set().book(link) {
             Some(book) => state_line(alloc, book, process)?,
@@ -92,7 +95,7 @@ impl SetState {
         variable: &str,
         reports: &mut P,
     ) -> io::Result<()>
-        ensures { OnOk result (TellsSuch (Shows self.now.tender.ticks) (P.stand reports.old) (P.stand reports.new)) }
+        ensures { OnOk result (TellsSuch (ShowsLines (value process.now variable.now) self.now.tender.ticks) (P.stand reports.old) (P.stand reports.new)) }
     {
         let line = match self.tender.set().book(link) {
             Some(book) => value_line(alloc, book, process, variable)?,
@@ -114,7 +117,7 @@ impl SetState {
         measure: Measure,
         reports: &mut P,
     ) -> io::Result<()>
-        ensures { OnOk result (TellsSuch (Shows self.now.tender.ticks) (P.stand reports.old) (P.stand reports.new)) }
+        ensures { OnOk result (TellsSuch (ShowsLines (measuring measure) self.now.tender.ticks) (P.stand reports.old) (P.stand reports.new)) }
     {
         let count = self.counted(link, measure);
         let name = measure.word();
@@ -132,7 +135,7 @@ impl SetState {
         link: usize,
         reports: &mut P,
     ) -> io::Result<()>
-        ensures { OnOk result (TellsSuch (Shows self.now.tender.ticks) (P.stand reports.old) (P.stand reports.new)) }
+        ensures { OnOk result (TellsSuch (ShowsLines aborted self.now.tender.ticks) (P.stand reports.old) (P.stand reports.new)) }
     {
         let count = self.aborted(link);
         self.say_text(
@@ -149,7 +152,7 @@ impl SetState {
         link: usize,
         reports: &mut P,
     ) -> io::Result<()>
-        ensures { OnOk result (TellsSuch (Shows self.now.tender.ticks) (P.stand reports.old) (P.stand reports.new)) }
+        ensures { OnOk result (TellsSuch (ShowsLines measures self.now.tender.ticks) (P.stand reports.old) (P.stand reports.new)) }
     {
         let all = all_measures();
         for measure in &all {
@@ -160,7 +163,7 @@ impl SetState {
 
     /// `held`, for a link.
     fn tell_held<P: Reports>(&self, alloc: Global, link: usize, reports: &mut P) -> io::Result<()>
-        ensures { OnOk result (TellsSuch (Shows self.now.tender.ticks) (P.stand reports.old) (P.stand reports.new)) }
+        ensures { OnOk result (TellsLines (P.stand reports.old) (P.stand reports.new) (told self.now.tender.ticks (held_text self.now.tender link))) }
     {
         let held = self.tender.set().held(link).unwrap_or(0);
         let sent = self.tender.set().sent(link).unwrap_or(0);
@@ -171,9 +174,19 @@ impl SetState {
         )
     }
 
+    /// `held`.
+    fn tell_all_held<P: Reports>(&self, alloc: Global, reports: &mut P) -> io::Result<()>
+        ensures { OnOk result (TellsSuch (ShowsHeld self.now.tender self.now.tender.plan.links) (P.stand reports.old) (P.stand reports.new)) }
+    {
+        for link in 0..self.tender.len() {
+            self.tell_held(alloc, link, reports)?;
+        }
+        Ok(())
+    }
+
     /// `table`.
     fn tell_table<P: Reports>(&self, alloc: Global, reports: &mut P) -> io::Result<()>
-        ensures { OnOk result (TellsSuch (Shows self.now.tender.ticks) (P.stand reports.old) (P.stand reports.new)) }
+        ensures { OnOk result (TellsLines (P.stand reports.old) (P.stand reports.new) (told self.now.tender.ticks (table_text self.now.tender))) }
     {
         let shared = self.tender.shared_out();
         self.say_text(alloc, format!(in alloc; "{shared}")?, reports)
@@ -187,7 +200,7 @@ impl SetState {
         order: &SetOrder<'_>,
         reports: &mut P,
     ) -> io::Result<()>
-        ensures { OnOk result (TellsSuch (Shows self.now.tender.ticks) (P.stand reports.old) (P.stand reports.new)) }
+        ensures { OnOk result (TellsSuch (ShowsLines (plain_set_order order.now) self.now.tender.ticks) (P.stand reports.old) (P.stand reports.new)) }
     {
         match order {
             SetOrder::State(process) => self.tell_state(alloc, link, process, reports),
@@ -197,7 +210,6 @@ impl SetState {
             SetOrder::Measure(measure) => self.tell_measure(alloc, link, *measure, reports),
             SetOrder::Aborted => self.tell_aborted(alloc, link, reports),
             SetOrder::Measures => self.tell_measures(alloc, link, reports),
-            SetOrder::Held => self.tell_held(alloc, link, reports),
             _ => Ok(()),
         }
     }
@@ -211,7 +223,7 @@ impl SetState {
         order: &SetOrder<'_>,
         reports: &mut P,
     ) -> io::Result<()>
-        ensures { OnOk result (TellsSuch (Shows self.now.tender.ticks) (P.stand reports.old) (P.stand reports.new)) }
+        ensures { OnOk result (TellsSuch (ShowsLines (plain_set_order order.now) self.now.tender.ticks) (P.stand reports.old) (P.stand reports.new)) }
     {
         for link in from..to {
             self.tell_one_asked(alloc, link, order, reports)?;
@@ -221,7 +233,7 @@ impl SetState {
 
     /// `unsure`.
     fn tell_unsure<P: Reports>(&self, alloc: Global, reports: &mut P) -> io::Result<()>
-        ensures { OnOk result (TellsSuch (Shows self.now.tender.ticks) (P.stand reports.old) (P.stand reports.new)) }
+        ensures { OnOk result (TellsLines (P.stand reports.old) (P.stand reports.new) (told self.now.tender.ticks (unsure_text self.now.tender))) }
     {
         let unsure = self.tender.set().unsure();
         self.say_text(alloc, format!(in alloc; "unsure {unsure}")?, reports)
@@ -235,12 +247,12 @@ impl SetState {
         order: &SetOrder<'_>,
         reports: &mut P,
     ) -> io::Result<()>
-        ensures { OnOk result (TellsSuch (Shows self.now.tender.ticks) (P.stand reports.old) (P.stand reports.new)) }
+        ensures { OnOk result (TellsSuch (Shows (plain_set_order order.now) self.now.tender) (P.stand reports.old) (P.stand reports.new)) }
     {
         match order {
             SetOrder::Table => self.tell_table(alloc, reports),
             SetOrder::Unsure => self.tell_unsure(alloc, reports),
-            SetOrder::Held => self.tell_of_links(alloc, 0, self.tender.len(), order, reports),
+            SetOrder::Held => self.tell_all_held(alloc, reports),
             _ => {
                 let (from, to) = self.links(focus);
                 self.tell_of_links(alloc, from, to, order, reports)

@@ -3,8 +3,8 @@ ghost use Rattle.std.specs.Prelude.{◌≡◌, ◌↔◌, [], true, false, IfOk,
 ghost use Rattle.script_lines.specs.Words.{words_of};
 ghost use Rattle.line_filter.specs.Desks.{Told as TellsSuch};
 ghost use Rattle.line_filter.specs.Orders.{QUIT};
-ghost use Rattle.line_play.specs.SetObeying.{SendsNone, octets_sent, sent_by};
-ghost use Rattle.line_play.specs.SetRounds.{waiting_in, ObeysWaiting, TakesOrder, AttendsAll};
+ghost use Rattle.line_play.specs.SetOrders.{SaysSuch, is_stop, is_send, overtakes as may_overtake, plain_set_order, set_order_of};
+ghost use Rattle.line_play.specs.SetRounds.{waiting_in, Rests, ObeysWaiting, TakesOrder, AttendsAll};
 
 use crate::set_orders::{SetOrder, is_set_report, set_order_in};
 use crate::set_queue::Queue;
@@ -16,7 +16,7 @@ use std::io::{self, ErrorKind};
 
 /// Whether an order sends a message.
 fn sends(order: &SetOrder<'_>) -> bool
-    ensures { result ≡ false → octets_sent order.now ≡ None }
+    ensures { result ≡ true → is_send (plain_set_order order.now) ≡ true }
 {
     match order {
         SetOrder::Send(_) => true,
@@ -26,7 +26,7 @@ fn sends(order: &SetOrder<'_>) -> bool
 
 /// Whether a line sends a message.
 fn is_send(alloc: Global, text: &str) -> Result<bool, AllocError>
-    ensures { IfOk result (λ sends. sends ≡ false → SendsNone text.now) }
+    ensures { IfOk result (λ sends. sends ≡ true → SaysSuch is_send text.now) }
 {
     match set_order_in(alloc, text)? {
         Some(order) => Ok(sends(&order)),
@@ -34,12 +34,32 @@ fn is_send(alloc: Global, text: &str) -> Result<bool, AllocError>
     }
 }
 
-/// Whether an order may overtake others that wait: it stops links, and none that waits starts some, or it says which links orders speak of.
-fn overtakes(order: &SetOrder<'_>, starts: bool) -> bool
-    ensures { result ≡ true → octets_sent order.now ≡ None }
+/// Whether an order stops links.
+fn is_stop(order: Order) -> bool
+    ensures { result ≡ is_stop order }
 {
     match order {
-        SetOrder::Link(order) => !starts && *order == Order::Stop,
+        Order::Stop => true,
+        Order::Power
+        | Order::Start
+        | Order::Emergency
+        | Order::Calm
+        | Order::Outage
+        | Order::Back
+        | Order::Busy
+        | Order::Free
+        | Order::Flush
+        | Order::Continue
+        | Order::Overload => false,
+    }
+}
+
+/// Whether an order may overtake others that wait: it stops links, and none that waits starts some, or it says which links orders speak of.
+fn overtakes(order: &SetOrder<'_>, starts: bool) -> bool
+    ensures { result ≡ true → may_overtake (plain_set_order order.now) ≡ true }
+{
+    match order {
+        SetOrder::Link(order) => is_stop(*order) && !starts,
         SetOrder::On(_) => true,
         _ => false,
     }
@@ -47,7 +67,7 @@ fn overtakes(order: &SetOrder<'_>, starts: bool) -> bool
 
 /// Whether a line may overtake the orders that wait.
 fn may_overtake(alloc: Global, queue: &Queue, text: &str) -> Result<bool, AllocError>
-    ensures { IfOk result (λ first. first ≡ true → sent_by (words_of text.now) ≡ None) }
+    ensures { IfOk result (λ first. first ≡ true → SaysSuch may_overtake text.now) }
 {
     match set_order_in(alloc, text)? {
         Some(order) => Ok(overtakes(&order, queue.has_start())),
@@ -55,14 +75,15 @@ fn may_overtake(alloc: Global, queue: &Queue, text: &str) -> Result<bool, AllocE
     }
 }
 
-/// Whether a line says nothing to a set: it is a report, and no order that sends a message.
+/// Whether a line says nothing to a set: it is a report, and no order.
 fn says_nothing(alloc: Global, text: &str) -> Result<bool, AllocError>
-    ensures { IfOk result (λ nothing. nothing ≡ true → SendsNone text.now) }
+    ensures { IfOk result (λ nothing. nothing ≡ true → set_order_of (words_of text.now) ≡ None) }
 {
-    if is_send(alloc, text)? {
-        return Ok(false);
+    let order = set_order_in(alloc, text)?;
+    match order {
+        Some(_) => Ok(false),
+        None => is_set_report(alloc, text),
     }
-    is_set_report(alloc, text)
 }
 
 /// Whether an order ends the run.
@@ -72,10 +93,22 @@ fn is_quit(order: &str) -> bool
     order == "quit"
 }
 
+/// Whether a line is one that sends a message, and such messages wait.
+fn waits(alloc: Global, state: &SetState, text: &str) -> Result<bool, AllocError>
+    ensures { IfOk result (λ waits. waits ≡ true → SaysSuch is_send text.now) }
+{
+    if !state.tender.sends_wait() {
+        return Ok(false);
+    }
+    is_send(alloc, text)
+}
+
 /// Whether none of the orders that wait is to be obeyed now.
-fn rests(alloc: Global, state: &SetState, queue: &Queue) -> Result<bool, AllocError> {
+fn rests(alloc: Global, state: &SetState, queue: &Queue) -> Result<bool, AllocError>
+    ensures { IfOk result (λ rests. rests ≡ true → Rests (waiting_in queue.now)) }
+{
     match queue.first() {
-        Some(first) => Ok(state.tender.sends_wait() && is_send(alloc, &first.text)?),
+        Some(first) => waits(alloc, state, first.text.as_str()),
         None => Ok(true),
     }
 }
@@ -87,8 +120,9 @@ fn obey_waiting<P: Reports>(
     queue: &mut Queue,
     reports: &mut P,
 ) -> io::Result<()>
-    ensures { OnOk result (TellsSuch (λ bytes. ObeysWaiting state.old.tender (waiting_in queue.old) bytes state.new.tender (waiting_in queue.new))
+    ensures obeys { OnOk result (TellsSuch (λ bytes. ObeysWaiting state.old.tender (waiting_in queue.old) bytes state.new.tender (waiting_in queue.new))
         (P.stand reports.old) (P.stand reports.new)) }
+    ensures rests { OnOk result (Rests (waiting_in queue.new)) }
 {
     for _order in 0..u64::MAX {
         if rests(alloc, state, queue)? {
@@ -99,7 +133,7 @@ fn obey_waiting<P: Reports>(
             None => return Ok(()),
         }
     }
-    Ok(())
+    Err(io::Error::from(ErrorKind::Other))
 }
 
 /// Whether an order has to wait: behind others, or since messages to send wait.
@@ -109,15 +143,13 @@ fn has_to_wait(
     queue: &Queue,
     text: &str,
 ) -> Result<bool, AllocError>
-    ensures { IfOk result (λ waits. waits ≡ false → waiting_in queue.now ≡ []) }
+    ensures none { IfOk result (λ waits. waits ≡ false → waiting_in queue.now ≡ []) }
+    ensures sends { IfOk result (λ waits. waits ≡ true → waiting_in queue.now ≡ [] → SaysSuch is_send text.now) }
 {
     if !queue.is_empty() {
         return Ok(true);
     }
-    if !state.tender.sends_wait() {
-        return Ok(false);
-    }
-    is_send(alloc, text)
+    waits(alloc, state, text)
 }
 
 /// Takes an order: it is obeyed, or waits behind others, but for one that overtakes them. A report says none.

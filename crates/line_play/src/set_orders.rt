@@ -1,9 +1,12 @@
 //! Orders to a set, as they are written.
-ghost use Rattle.std.specs.Prelude.{◌≡◌, IfOk, IfSome, IsNone, None, Some, option_map, option_and_then};
+ghost use Rattle.std.specs.Prelude.{◌≡◌, IfOk, IfSome, None, Some, option_map, option_and_then};
 ghost use Rattle.script_lines.specs.Lines.{texts};
 ghost use Rattle.script_lines.specs.Words.{words_of};
 ghost use Rattle.script_links.specs.Octets.{octets_of};
-ghost use Rattle.line_play.specs.SetObeying.{octets_sent, sent_by, AreNoMessage, SendsNone};
+ghost use Rattle.script_links.specs.Orders.{order_of};
+ghost use Rattle.script_links.specs.TermCommands.{plain_term_command};
+ghost use Rattle.line_play.specs.SetObeying.{octets_sent, sent_by};
+ghost use Rattle.line_play.specs.SetOrders.{plain_set_order, on, links as to_links, alone_of, focus_of, question_of, asked_of, pair_of, other_order_of, sent_word as word_sent, send_of, set_order_of};
 
 use script_lines::words_in;
 use script_links::{Order, TermCommand, count, octets_in, order_in, term_command_in};
@@ -57,7 +60,9 @@ pub enum SetOrder<'a> {
 }
 
 /// `on L`, `on all`.
-fn focus_in(word: &str) -> Option<Focus> {
+fn focus_in(word: &str) -> Option<Focus>
+    ensures { result ≡ focus_of word.now }
+{
     if word == "all" {
         return Some(Focus::All);
     }
@@ -67,9 +72,21 @@ fn focus_in(word: &str) -> Option<Focus> {
     }
 }
 
+/// An order to links.
+fn link_order<'a>(word: &str) -> Option<SetOrder<'a>>
+    ensures sends { IfSome result (λ s. octets_sent s ≡ None) }
+    ensures reads { option_map plain_set_order result ≡ option_map to_links (order_of word.now) }
+{
+    match order_in(word) {
+        Some(order) => Some(SetOrder::Link(order)),
+        None => None,
+    }
+}
+
 /// An order of one word.
 fn word_in<'a>(word: &str) -> Option<SetOrder<'a>>
-    ensures { IfSome result (λ s. octets_sent s ≡ None) }
+    ensures sends { IfSome result (λ s. octets_sent s ≡ None) }
+    ensures reads { option_map plain_set_order result ≡ alone_of word.now }
 {
     match word {
         "measure" => Some(SetOrder::Measures),
@@ -77,17 +94,14 @@ fn word_in<'a>(word: &str) -> Option<SetOrder<'a>>
         "held" => Some(SetOrder::Held),
         "unsure" => Some(SetOrder::Unsure),
         "rebalance" => Some(SetOrder::Rebalance),
-        _ => match order_in(word) {
-            Some(order) => Some(SetOrder::Link(order)),
-            None => None,
-        },
+        _ => link_order(word),
     }
 }
 
 /// An order to send these octets, where they are a message.
 fn sent<'a>(octets: Vec<u8>) -> Option<SetOrder<'a>>
     ensures some { IfSome result (λ s. octets_sent s ≡ Some octets.items) }
-    ensures none { IsNone result → AreNoMessage octets.items }
+    ensures reads { option_map plain_set_order result ≡ send_of octets.items }
 {
     if octets.len() < LEAST {
         return None;
@@ -101,7 +115,7 @@ fn sent<'a>(octets: Vec<u8>) -> Option<SetOrder<'a>>
 /// `send HEX`.
 fn send_in<'a>(alloc: Global, word: &str) -> Result<Option<SetOrder<'a>>, AllocError>
     ensures some { IfOk result (λ o. IfSome o (λ s. octets_sent s ≡ octets_of word.now)) }
-    ensures none { IfOk result (λ o. IsNone o → IfSome (octets_of word.now) AreNoMessage) }
+    ensures reads { IfOk result (λ o. option_map plain_set_order o ≡ option_and_then send_of (octets_of word.now)) }
 {
     match octets_in(alloc, word)? {
         Some(octets) => Ok(sent(octets)),
@@ -111,7 +125,8 @@ fn send_in<'a>(alloc: Global, word: &str) -> Result<Option<SetOrder<'a>>, AllocE
 
 /// What a command of a terminal's script asks of links, if it asks for something.
 fn question<'a>(command: &TermCommand<'a>) -> Option<SetOrder<'a>>
-    ensures { IfSome result (λ s. octets_sent s ≡ None) }
+    ensures sends { IfSome result (λ s. octets_sent s ≡ None) }
+    ensures reads { option_map plain_set_order result ≡ question_of (plain_term_command command.now) }
 {
     match command {
         TermCommand::State(process) => Some(SetOrder::State(*process)),
@@ -119,13 +134,25 @@ fn question<'a>(command: &TermCommand<'a>) -> Option<SetOrder<'a>>
         TermCommand::Measure(measure) => Some(SetOrder::Measure(*measure)),
         TermCommand::Aborted => Some(SetOrder::Aborted),
         TermCommand::Reset => Some(SetOrder::Reset),
-        _ => None,
+        TermCommand::Order(_)
+        | TermCommand::Unit(_)
+        | TermCommand::Units(_, _)
+        | TermCommand::Errors(_)
+        | TermCommand::Line(_)
+        | TermCommand::Msu(_)
+        | TermCommand::Out(_)
+        | TermCommand::Tick(_)
+        | TermCommand::Told
+        | TermCommand::Accepted
+        | TermCommand::Retrieve(_)
+        | TermCommand::Expect(_) => None,
     }
 }
 
 /// What is asked of links, by the words for it: what their actors are, and what was measured.
 fn asked_in<'a>(alloc: Global, words: &[&'a str]) -> Result<Option<SetOrder<'a>>, AllocError>
-    ensures { IfOk result (λ o. IfSome o (λ s. octets_sent s ≡ None)) }
+    ensures sends { IfOk result (λ o. IfSome o (λ s. octets_sent s ≡ None)) }
+    ensures reads { IfOk result (λ o. option_map plain_set_order o ≡ asked_of (texts words.now)) }
 {
     match term_command_in(alloc, words)? {
         Some(command) => Ok(question(&command)),
@@ -148,7 +175,8 @@ pub(crate) fn is_set_report(alloc: Global, line: &str) -> Result<bool, AllocErro
 
 /// What stands behind `send`, where that is all.
 fn sent_word<'a>(words: &[&'a str]) -> Option<&'a str>
-    ensures { sent_by (texts words.now) ≡ option_and_then octets_of (option_map (λ w. w.now) result) }
+    ensures sends { sent_by (texts words.now) ≡ option_and_then octets_of (option_map (λ w. w.now) result) }
+    ensures word { word_sent (texts words.now) ≡ option_map (λ w. w.now) result }
 {
     match words {
         [first, word] => { if *first == "send" { Some(*word) } else { None } }
@@ -156,29 +184,54 @@ fn sent_word<'a>(words: &[&'a str]) -> Option<&'a str>
     }
 }
 
+/// What stands behind `on`.
+fn on_in<'a>(word: &str) -> Option<SetOrder<'a>>
+    ensures sends { IfSome result (λ s. octets_sent s ≡ None) }
+    ensures reads { option_map plain_set_order result ≡ option_map on (focus_of word.now) }
+{
+    match focus_in(word) {
+        Some(focus) => Some(SetOrder::On(focus)),
+        None => None,
+    }
+}
+
+/// What two words say, where the first isn't `send`: `on L`, `on all`, or what is asked of links.
+fn pair_in<'a>(
+    alloc: Global,
+    first: &'a str,
+    word: &'a str,
+) -> Result<Option<SetOrder<'a>>, AllocError>
+    ensures sends { IfOk result (λ o. IfSome o (λ s. octets_sent s ≡ None)) }
+    ensures reads { IfOk result (λ o. option_map plain_set_order o ≡ pair_of first.now word.now) }
+{
+    if first == "on" {
+        return Ok(on_in(word));
+    }
+    asked_in(alloc, &[first, word])
+}
+
 /// An order that sends nothing.
 fn other_in<'a>(alloc: Global, words: &[&'a str]) -> Result<Option<SetOrder<'a>>, AllocError>
-    ensures { IfOk result (λ o. IfSome o (λ s. octets_sent s ≡ None)) }
+    ensures sends { IfOk result (λ o. IfSome o (λ s. octets_sent s ≡ None)) }
+    ensures reads { IfOk result (λ o. option_map plain_set_order o ≡ other_order_of (texts words.now)) }
 {
     match words {
         [] => Ok(None),
         [word] => Ok(word_in(word)),
-        [first, word] if *first == "on" => match focus_in(word) {
-            Some(focus) => Ok(Some(SetOrder::On(focus))),
-            None => Ok(None),
-        },
-        [_, _, ..] => asked_in(alloc, words),
+        [first, word] => pair_in(alloc, first, word),
+        [_, _, _, ..] => asked_in(alloc, words),
     }
 }
 
 /// The order that a line says; none where it says none.
 pub fn set_order_in<'a>(alloc: Global, line: &'a str) -> Result<Option<SetOrder<'a>>, AllocError>
     ensures some { IfOk result (λ o. IfSome o (λ s. octets_sent s ≡ sent_by (words_of line.now))) }
-    ensures none { IfOk result (λ o. IsNone o → SendsNone line.now) }
+    ensures reads { IfOk result (λ o. option_map plain_set_order o ≡ set_order_of (words_of line.now)) }
 {
     let words = words_in(alloc, line)?;
-    match sent_word(words.as_slice()) {
+    let said = words.as_slice();
+    match sent_word(said) {
         Some(word) => send_in(alloc, word),
-        None => other_in(alloc, words.as_slice()),
+        None => other_in(alloc, said),
     }
 }

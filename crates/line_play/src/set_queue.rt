@@ -1,5 +1,5 @@
 //! Orders that wait.
-ghost use Rattle.std.specs.Prelude.{◌≡◌, ◌≤◌, ◌++◌, ◌∷◌, [], length, IfSome, IsNone, IsTrue, string_bytes};
+ghost use Rattle.std.specs.Prelude.{◌≡◌, ◌↔◌, ◌≤◌, ◌++◌, ◌∷◌, [], length, option_map, slice_get, IfSome, IsNone, IsTrue, string_bytes};
 ghost use Rattle.line_play.specs.SetRounds.{MOST_WAITING as MOST, waiting_in};
 
 use crate::set_orders::Focus;
@@ -34,7 +34,7 @@ impl Queue {
 
     /// Whether none waits.
     pub fn is_empty(&self) -> bool
-        ensures { IsTrue result → waiting_in self.now ≡ [] }
+        ensures { IsTrue result ↔ (waiting_in self.now ≡ []) }
     {
         self.waiting.is_empty()
     }
@@ -57,7 +57,9 @@ impl Queue {
     }
 
     /// The first.
-    pub fn first(&self) -> Option<&Waiting> {
+    pub fn first(&self) -> Option<&Waiting>
+        ensures { option_map (λ w. string_bytes w.now.text) result ≡ slice_get (waiting_in self.now) 0 }
+    {
         self.waiting.front()
     }
 
@@ -65,6 +67,7 @@ impl Queue {
     pub fn take(&mut self) -> Option<Waiting>
         ensures some { IfSome result (λ first. waiting_in self.old ≡ string_bytes first.text ∷ waiting_in self.new) }
         ensures none { IsNone result → waiting_in self.new ≡ waiting_in self.old }
+        ensures empty { IsNone result → waiting_in self.new ≡ [] }
     {
         self.waiting.pop_front()
     }

@@ -24,12 +24,11 @@ use Rattle.link_group.specs.Changing.{fail_fault, after_failure, retrieve_fault_
 use Rattle.link_group.specs.Diverting.{after_divert}
 use Rattle.link_group.specs.Placing.{rebalance_fault, rebalanced}
 use Rattle.link_group.specs.Lines.{ByLink, ByCommand, after_admission, IsCommandError}
-use Rattle.set_tending.specs.Telling.{message_in, messages_in}
+use Rattle.set_tending.specs.Telling.{report_in, reports_in}
 use Rattle.set_tending.specs.Calling.{ByCalls}
 use Rattle.set_tending.specs.Tended.{Tended}
 use Rattle.set_tending.specs.Rounds.{Acts, Adds, HandsOut, HasTold}
 use Rattle.set_tending.specs.declared.told.Told.{Told}
-use Rattle.set_tending.specs.declared.told.Told.TheVariants.{Message}
 use Rattle.set_tending.specs.declared.tender.Plan.{Plan}
 use Rattle.set_tending.proofs.Calling.{by_none, by_sends, by_binds, by_fails, by_retrieves, by_abandons, by_diverts, by_rebalances, by_listens, by_gives, by_reports, by_commands, by_command_error, by_admits}
 use Rattle.set_tending.proofs.Doing.{adds_call, adds_is}
@@ -111,10 +110,10 @@ not_there r NoLink c d l is fault same there =
     let links_are : length d.links ≡ length c.links = ap (λ (x : LinkSet). length x.links) same in
     absurd (omega arith)
 
--- ---- messages
+-- ---- reports that are told
 
-told_more : (told : List Told) (link : ℕ) (m : Msu) → messages_in (told ++ Message link m ∷ []) ≡ messages_in told ++ m ∷ []
-told_more told link m = flat_map-append message_in told (Message link m ∷ [])
+told_more : (told : List Told) (x : Told) → reports_in (told ++ x ∷ []) ≡ reports_in told ++ report_in x
+told_more told x = flat_map-append report_in told (x ∷ []) ∙ ap (λ (xs : List Told). reports_in told ++ xs) (append-nil (report_in x))
 
 -- what was pushed stands behind the others
 pub told_pushed : {A E : Type 0} (r : Result A E) (told after : List Told) (x : Told) (v : A) → r ≡ Ok v
@@ -122,15 +121,14 @@ pub told_pushed : {A E : Type 0} (r : Result A E) (told after : List Told) (x : 
 told_pushed {A} {E} r told after x v is items = items ∙ ap (λ (o : Result A E). if is_ok o then told ++ x ∷ [] else told) is
 
 -- one is to be told behind the others
-pub acts_message : (c : LinkSet) (plan : Plan) (ticks : ℕ) (told after : List Told) (link : ℕ) (m : Msu)
-    → after ≡ told ++ Message link m ∷ []
-    → Acts [] (m ∷ []) (record { set = c; plan = plan; ticks = ticks; messages = messages_in told })
-    (record { set = c; plan = plan; ticks = ticks; messages = messages_in after })
-acts_message c plan ticks told after link m is = record {
+pub acts_report : (c : LinkSet) (plan : Plan) (ticks : ℕ) (told after : List Told) (x : Told) → after ≡ told ++ x ∷ []
+    → Acts [] (report_in x) (record { set = c; plan = plan; ticks = ticks; reports = reports_in told })
+    (record { set = c; plan = plan; ticks = ticks; reports = reports_in after })
+acts_report c plan ticks told after x is = record {
   calls = by_none c;
   plan = refl;
   ticks = refl;
-  messages = ap messages_in is ∙ told_more told link m;
+  reports = ap reports_in is ∙ told_more told x;
 }
 
 -- `send` took one
@@ -140,5 +138,5 @@ acts_send t d m free small is = record {
   calls = subst (λ (x : LinkSet). ByCalls t.set (m ∷ []) x) (sym is) (by_sends t.set m free small);
   plan = refl;
   ticks = refl;
-  messages = sym (append-nil t.messages);
+  reports = sym (append-nil t.reports);
 }

@@ -1,25 +1,25 @@
 -- What the rules do, one thing behind another.
 use Rattle.std.proofs.Common.{◌≡◌, ◌∙◌, ℕ, ◌≤◌, Bool, length, List, [], ◌∷◌, ◌++◌, append-nil, append_assoc, refl, sym, ap, subst, arith}
 use Rattle.std.proofs.lemmas.Grind.{flat_map-append}
-use Rattle.resend_store.specs.declared.messages.Msu.{Msu}
 use Rattle.link_group.specs.Set.{LinkSet}
 use Rattle.set_tending.specs.Calling.{ByCalls}
-use Rattle.set_tending.specs.Telling.{user_message}
+use Rattle.set_tending.specs.Telling.{report_told}
 use Rattle.set_tending.specs.Tended.{Tended, IsNewTended}
-use Rattle.set_tending.specs.Rounds.{Acts, Does, Adds, Handed, HandsOut, Heeds, nothing, one, user_messages, IsHeeded, AddsHeeded, HeedsEach, no_link, one_link, Tends}
+use Rattle.set_tending.specs.Rounds.{Acts, Does, Adds, Handed, HandsOut, Heeds, nothing, one, reports_told, IsHeeded, AddsHeeded, HeedsEach, no_link, one_link, Tends}
 use Rattle.set_tending.specs.declared.ends.Ends.{Ends}
 use Rattle.set_tending.specs.declared.tender.Plan.{Plan}
+use Rattle.set_tending.specs.declared.told.Told.{Told}
 use Rattle.set_tending.proofs.Calling.{by_none, by_both, by_is}
 
 pub does_nothing : (t : Tended) → Does t t
-does_nothing t = record { calls = by_none t.set; plan = refl; ticks = refl; messages = refl }
+does_nothing t = record { calls = by_none t.set; plan = refl; ticks = refl; reports = refl }
 
 pub does_then : (s t u : Tended) → Does s t → Does t u → Does s u
 does_then s t u h k = record {
   calls = by_both s.set t.set u.set h.calls k.calls;
   plan = k.plan ∙ h.plan;
   ticks = k.ticks ∙ h.ticks;
-  messages = k.messages ∙ h.messages;
+  reports = k.reports ∙ h.reports;
 }
 
 pub adds_nothing : (t : Tended) → Adds t t
@@ -36,7 +36,7 @@ adds_does t u d = λ first h. does_then first t u h d
 
 -- a call of the set
 pub adds_call : (t : Tended) (d : LinkSet) → ByCalls t.set [] d → Adds t (record t { set = d })
-adds_call t d calls = adds_does t (record t { set = d }) (record { calls = calls; plan = refl; ticks = refl; messages = refl })
+adds_call t d calls = adds_does t (record t { set = d }) (record { calls = calls; plan = refl; ticks = refl; reports = refl })
 
 pub adds_is : (t : Tended) (d e : LinkSet) → d ≡ e → ByCalls t.set [] e → Adds t (record t { set = d })
 adds_is t d e is calls = adds_call t d (by_is t.set d e is calls)
@@ -47,24 +47,34 @@ adds_of t u adds = adds t (does_nothing t)
 pub acts_of : (t u : Tended) → Adds t u → Acts [] [] t u
 acts_of t u adds =
     let d : Does t u = adds_of t u adds in
-    record { calls = d.calls; plan = d.plan; ticks = d.ticks; messages = d.messages ∙ sym (append-nil t.messages) }
+    record { calls = d.calls; plan = d.plan; ticks = d.ticks; reports = d.reports ∙ sym (append-nil t.reports) }
 
--- a report that says no message
-pub acts_quiet : (t u : Tended) (messages : List Msu) → messages ≡ [] → Adds t u → Acts [] messages t u
-acts_quiet t u messages none adds = subst (λ (ms : List Msu). Acts [] ms t u) (sym none) (acts_of t u adds)
+-- a report of which nothing is told
+pub acts_quiet : (t u : Tended) (tells : List Told) → tells ≡ [] → Adds t u → Acts [] tells t u
+acts_quiet t u tells none adds = subst (λ (xs : List Told). Acts [] xs t u) (sym none) (acts_of t u adds)
+
+pub acts_adds : (s t u : Tended) (tells : List Told) → Acts [] tells s t → Adds t u → Acts [] tells s u
+acts_adds s t u tells acts adds =
+    let d : Does t u = adds_of t u adds in
+    record {
+      calls = by_both s.set t.set u.set acts.calls d.calls;
+      plan = d.plan ∙ acts.plan;
+      ticks = d.ticks ∙ acts.ticks;
+      reports = d.reports ∙ acts.reports;
+    }
 
 -- a new one, once links were admitted or not
-pub new_tended : (ends : Ends) (tests : Bool) (set : LinkSet) (links : ℕ) (messages : List Msu) (t : Tended) → links ≡ length set.links → messages ≡ []
-    → Adds (record { set = set; plan = record { ends = ends; tests = tests; links = links }; ticks = 0; messages = messages }) t
+pub new_tended : (ends : Ends) (tests : Bool) (set : LinkSet) (links : ℕ) (reports : List Told) (t : Tended) → links ≡ length set.links → reports ≡ []
+    → Adds (record { set = set; plan = record { ends = ends; tests = tests; links = links }; ticks = 0; reports = reports }) t
     → IsNewTended ends tests set t
-new_tended ends tests set links messages t links_is none adds =
-    let old : Tended = record { set = set; plan = record { ends = ends; tests = tests; links = links }; ticks = 0; messages = messages } in
+new_tended ends tests set links reports t links_is none adds =
+    let old : Tended = record { set = set; plan = record { ends = ends; tests = tests; links = links }; ticks = 0; reports = reports } in
     let d : Does old t = adds_of old t adds in
     record {
       calls = d.calls;
       plan = d.plan ∙ ap (λ (n : ℕ). record { ends = ends; tests = tests; links = n }) links_is;
       ticks = d.ticks;
-      messages = d.messages ∙ none;
+      reports = d.reports ∙ none;
     }
 
 -- ---- reports
@@ -74,7 +84,7 @@ heeds_then s _ x _ (nothing {u} first) calls = nothing (by_both s.set u.set x.se
 heeds_then s _ x _ (one {hs} {u} {v} {w} h before out behind) calls = one h before out (by_both v.set w.set x.set behind calls)
 
 pub heeded_nothing : (t : Tended) → IsHeeded t t
-heeded_nothing t = record { handed = []; heeds = nothing (by_none t.set); plan = refl; ticks = refl; messages = sym (append-nil t.messages) }
+heeded_nothing t = record { handed = []; heeds = nothing (by_none t.set); plan = refl; ticks = refl; reports = sym (append-nil t.reports) }
 
 pub heeded_then : (s t u : Tended) → IsHeeded s t → Does t u → IsHeeded s u
 heeded_then s t u h d = record {
@@ -82,7 +92,7 @@ heeded_then s t u h d = record {
   heeds = heeds_then s t u h.handed h.heeds d.calls;
   plan = d.plan ∙ h.plan;
   ticks = d.ticks ∙ h.ticks;
-  messages = d.messages ∙ h.messages;
+  reports = d.reports ∙ h.reports;
 }
 
 pub adds_heeded_then : (s t u : Tended) → IsHeeded s t → Adds t u → IsHeeded s u
@@ -91,12 +101,12 @@ adds_heeded_then s t u h adds = heeded_then s t u h (adds_of t u adds)
 pub adds_heeded : (t u : Tended) → Adds t u → AddsHeeded t u
 adds_heeded t u adds = λ first h. adds_heeded_then first t u h adds
 
-pub user_more : (p : Plan) (hs : List Handed) (h : Handed) → user_messages p (hs ++ h ∷ []) ≡ user_messages p hs ++ user_message p h.report
-user_more p hs h =
-    flat_map-append (λ (x : Handed). user_message p x.report) hs (h ∷ [])
-    ∙ ap (λ (ms : List Msu). user_messages p hs ++ ms) (append-nil (user_message p h.report))
+pub reports_more : (p : Plan) (hs : List Handed) (h : Handed) → reports_told p (hs ++ h ∷ []) ≡ reports_told p hs ++ report_told p h.link h.report
+reports_more p hs h =
+    flat_map-append (λ (x : Handed). report_told p x.link x.report) hs (h ∷ [])
+    ∙ ap (λ (xs : List Told). reports_told p hs ++ xs) (append-nil (report_told p h.link h.report))
 
-pub heeded_one : (s t u w : Tended) (h : Handed) → IsHeeded s t → HandsOut h t u → Acts [] (user_message u.plan h.report) u w → IsHeeded s w
+pub heeded_one : (s t u w : Tended) (h : Handed) → IsHeeded s t → HandsOut h t u → Acts [] (report_told u.plan h.link h.report) u w → IsHeeded s w
 heeded_one s t u w h before out acts =
     let plan_is : u.plan ≡ s.plan = ap (λ (x : Tended). x.plan) out.same ∙ before.plan in
     record {
@@ -104,12 +114,12 @@ heeded_one s t u w h before out acts =
       heeds = one h before.heeds out acts.calls;
       plan = acts.plan ∙ plan_is;
       ticks = acts.ticks ∙ (ap (λ (x : Tended). x.ticks) out.same ∙ before.ticks);
-      messages =
-          acts.messages
-          ∙ (ap (λ (ms : List Msu). ms ++ user_message u.plan h.report) (ap (λ (x : Tended). x.messages) out.same ∙ before.messages)
-          ∙ (append_assoc s.messages (user_messages s.plan before.handed) (user_message u.plan h.report)
-          ∙ (ap (λ (p : Plan). s.messages ++ (user_messages s.plan before.handed ++ user_message p h.report)) plan_is
-          ∙ ap (λ (ms : List Msu). s.messages ++ ms) (sym (user_more s.plan before.handed h)))));
+      reports =
+          acts.reports
+          ∙ (ap (λ (xs : List Told). xs ++ report_told u.plan h.link h.report) (ap (λ (x : Tended). x.reports) out.same ∙ before.reports)
+          ∙ (append_assoc s.reports (reports_told s.plan before.handed) (report_told u.plan h.link h.report)
+          ∙ (ap (λ (p : Plan). s.reports ++ (reports_told s.plan before.handed ++ report_told p h.link h.report)) plan_is
+          ∙ ap (λ (xs : List Told). s.reports ++ xs) (sym (reports_more s.plan before.handed h)))));
     }
 
 -- ---- all links

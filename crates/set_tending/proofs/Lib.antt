@@ -1,4 +1,5 @@
 mod Acting
+mod Calm
 mod Calling
 pub mod Doing
 mod Fields

@@ -6,55 +6,56 @@ use Rattle.link_group.specs.Ticks.{after_ticks}
 use Rattle.line_filter.specs.Speaking.{Voice, fixed, fresh, silent}
 use Rattle.set_tending.specs.Calling.{ByCalls}
 use Rattle.set_tending.specs.Lives.{Lives, begins, calls, hands, tells, ticks, Lived}
-use Rattle.set_tending.specs.Rounds.{Acts, Does, Adds, Handed, HandsOut, Heeds, nothing, one, user_messages, IsHeeded, AddsHeeded, Tends, Ticks}
-use Rattle.set_tending.specs.Telling.{user_message}
+use Rattle.set_tending.specs.Rounds.{Acts, Does, Adds, Handed, HandsOut, Heeds, nothing, one, reports_told, IsHeeded, AddsHeeded, Tends, Ticks}
+use Rattle.set_tending.specs.Telling.{report_told}
 use Rattle.set_tending.specs.Tended.{Tended}
 use Rattle.set_tending.specs.Wires.{GivesNext, Speaks, nothing as no_octet, octet, Hears, no_part, one_part}
 use Rattle.set_tending.specs.declared.tender.Plan.{Plan}
+use Rattle.set_tending.specs.declared.told.Told.{Told}
 use Rattle.set_tending.proofs.Calling.{by_none, by_then, by_is, by_gives, by_reports, by_ticks}
-use Rattle.set_tending.proofs.Doing.{adds_of, heeded_nothing, user_more, tends_heeded}
+use Rattle.set_tending.proofs.Doing.{adds_of, heeded_nothing, reports_more, tends_heeded}
 
 -- ---- all that becomes of the set is by its calls
 
-pub lives_calls : (t u : Tended) (sent : List Msu) (handed : List Handed) (told : List Msu) → Lives t sent handed told u → ByCalls t.set sent u.set
+pub lives_calls : (t u : Tended) (sent : List Msu) (handed : List Handed) (told : List Told) → Lives t sent handed told u → ByCalls t.set sent u.set
 lives_calls t _ _ _ _ begins = by_none t.set
 lives_calls t _ _ _ _ (calls {sent} {handed} {told} {u} taken d before step) =
     by_then t.set u.set d sent taken (lives_calls t u sent handed told before) step
 lives_calls t _ _ _ _ (hands {sent} {handed} {told} {u} h v before out) =
     subst (λ (xs : List Msu). ByCalls t.set xs v.set) (append-nil sent)
     (by_then t.set u.set v.set sent [] (lives_calls t u sent handed told before) (by_reports u.set v.set h.link (Some h.report) out.reports))
-lives_calls t _ _ _ _ (tells {sent} {handed} {told} {u} messages left before is) = lives_calls t u sent handed told before
+lives_calls t _ _ _ _ (tells {sent} {handed} {told} {u} reports left before is) = lives_calls t u sent handed told before
 lives_calls t _ _ _ _ (ticks {sent} {handed} {told} {u} w before passes) =
     subst (λ (xs : List Msu). ByCalls t.set xs w.set) (append-nil sent)
     (by_then t.set u.set w.set sent [] (lives_calls t u sent handed told before) (by_is u.set w.set (after_ticks 1 u.set) passes.set (by_ticks u.set 1)))
 
--- ---- each message for level 3 is told once, in the order in which links handed them out
+-- ---- each report is told once, in the order in which links handed them out
 
-pub lives_plan : (t u : Tended) (sent : List Msu) (handed : List Handed) (told : List Msu) → Lives t sent handed told u → u.plan ≡ t.plan
+pub lives_plan : (t u : Tended) (sent : List Msu) (handed : List Handed) (told : List Told) → Lives t sent handed told u → u.plan ≡ t.plan
 lives_plan t _ _ _ _ begins = refl
 lives_plan t _ _ _ _ (calls {sent} {handed} {told} {u} taken d before step) = lives_plan t u sent handed told before
 lives_plan t _ _ _ _ (hands {sent} {handed} {told} {u} h v before out) =
     ap (λ (x : Tended). x.plan) out.same ∙ lives_plan t u sent handed told before
-lives_plan t _ _ _ _ (tells {sent} {handed} {told} {u} messages left before is) = lives_plan t u sent handed told before
+lives_plan t _ _ _ _ (tells {sent} {handed} {told} {u} reports left before is) = lives_plan t u sent handed told before
 lives_plan t _ _ _ _ (ticks {sent} {handed} {told} {u} w before passes) =
     ap (λ (x : Tended). x.plan) passes.same ∙ lives_plan t u sent handed told before
 
-pub lives_told : (t u : Tended) (sent : List Msu) (handed : List Handed) (told : List Msu) → Lives t sent handed told u
-    → told ++ u.messages ≡ t.messages ++ user_messages t.plan handed
-lives_told t _ _ _ _ begins = sym (append-nil t.messages)
+pub lives_told : (t u : Tended) (sent : List Msu) (handed : List Handed) (told : List Told) → Lives t sent handed told u
+    → told ++ u.reports ≡ t.reports ++ reports_told t.plan handed
+lives_told t _ _ _ _ begins = sym (append-nil t.reports)
 lives_told t _ _ _ _ (calls {sent} {handed} {told} {u} taken d before step) = lives_told t u sent handed told before
 lives_told t _ _ _ _ (hands {sent} {handed} {told} {u} h v before out) =
     let plan_is : v.plan ≡ t.plan = ap (λ (x : Tended). x.plan) out.same ∙ lives_plan t u sent handed told before in
-    let more = user_message t.plan h.report in
-    ap (λ (ms : List Msu). told ++ ms)
-    (ap (λ (p : Plan). v.messages ++ user_message p h.report) plan_is ∙ ap (λ (x : Tended). x.messages ++ more) out.same)
-    ∙ (sym (append_assoc told u.messages more)
-    ∙ (ap (λ (ms : List Msu). ms ++ more) (lives_told t u sent handed told before)
-    ∙ (append_assoc t.messages (user_messages t.plan handed) more ∙ ap (λ (ms : List Msu). t.messages ++ ms) (sym (user_more t.plan handed h)))))
-lives_told t _ _ _ _ (tells {sent} {handed} {told} {u} messages left before is) =
-    append_assoc told messages left ∙ (ap (λ (ms : List Msu). told ++ ms) (sym is) ∙ lives_told t u sent handed told before)
+    let more = report_told t.plan h.link h.report in
+    ap (λ (xs : List Told). told ++ xs)
+    (ap (λ (p : Plan). v.reports ++ report_told p h.link h.report) plan_is ∙ ap (λ (x : Tended). x.reports ++ more) out.same)
+    ∙ (sym (append_assoc told u.reports more)
+    ∙ (ap (λ (xs : List Told). xs ++ more) (lives_told t u sent handed told before)
+    ∙ (append_assoc t.reports (reports_told t.plan handed) more ∙ ap (λ (xs : List Told). t.reports ++ xs) (sym (reports_more t.plan handed h)))))
+lives_told t _ _ _ _ (tells {sent} {handed} {told} {u} reports left before is) =
+    append_assoc told reports left ∙ (ap (λ (xs : List Told). told ++ xs) (sym is) ∙ lives_told t u sent handed told before)
 lives_told t _ _ _ _ (ticks {sent} {handed} {told} {u} w before passes) =
-    ap (λ (x : Tended). told ++ x.messages) passes.same ∙ lives_told t u sent handed told before
+    ap (λ (x : Tended). told ++ x.reports) passes.same ∙ lives_told t u sent handed told before
 
 -- ---- what goes on
 
@@ -62,83 +63,83 @@ pub lived_none : (t : Tended) → Lived t [] [] t
 lived_none t = record { handed = []; lives = begins }
 
 -- calls of the set, of which `send` took these messages, and nothing else changed
-pub lived_calls : (t u w : Tended) (sent told taken : List Msu) → Lived t sent told u → ByCalls u.set taken w.set → w ≡ record u { set = w.set }
+pub lived_calls : (t u w : Tended) (sent : List Msu) (told : List Told) (taken : List Msu) → Lived t sent told u → ByCalls u.set taken w.set → w ≡ record u { set = w.set }
     → Lived t (sent ++ taken) told w
 lived_calls t u w sent told taken before step same =
     subst (λ (x : Tended). Lived t (sent ++ taken) told x) (sym same) (record { handed = before.handed; lives = calls taken w.set before.lives step })
 
 -- calls that took none
-pub lived_none_taken : (t u w : Tended) (sent told : List Msu) → Lived t sent told u → ByCalls u.set [] w.set → w ≡ record u { set = w.set }
+pub lived_none_taken : (t u w : Tended) (sent : List Msu) (told : List Told) → Lived t sent told u → ByCalls u.set [] w.set → w ≡ record u { set = w.set }
     → Lived t sent told w
 lived_none_taken t u w sent told before step same =
     subst (λ (xs : List Msu). Lived t xs told w) (append-nil sent) (lived_calls t u w sent told [] before step same)
 
-same_but_set : (u w : Tended) → w.plan ≡ u.plan → w.ticks ≡ u.ticks → w.messages ≡ u.messages → w ≡ record u { set = w.set }
-same_but_set u w plan_is ticks_are messages_are = λ i. record { set = w.set; plan = plan_is i; ticks = ticks_are i; messages = messages_are i }
+same_but_set : (u w : Tended) → w.plan ≡ u.plan → w.ticks ≡ u.ticks → w.reports ≡ u.reports → w ≡ record u { set = w.set }
+same_but_set u w plan_is ticks_are reports_are = λ i. record { set = w.set; plan = plan_is i; ticks = ticks_are i; reports = reports_are i }
 
-pub lived_adds : (t u w : Tended) (sent told : List Msu) → Lived t sent told u → Adds u w → Lived t sent told w
+pub lived_adds : (t u w : Tended) (sent : List Msu) (told : List Told) → Lived t sent told u → Adds u w → Lived t sent told w
 lived_adds t u w sent told before adds =
     let d : Does u w = adds_of u w adds in
-    lived_none_taken t u w sent told before d.calls (same_but_set u w d.plan d.ticks d.messages)
+    lived_none_taken t u w sent told before d.calls (same_but_set u w d.plan d.ticks d.reports)
 
 -- `send` took messages
-pub lived_sends : (t u w : Tended) (sent told taken : List Msu) → Lived t sent told u → Acts taken [] u w → Lived t (sent ++ taken) told w
+pub lived_sends : (t u w : Tended) (sent : List Msu) (told : List Told) (taken : List Msu) → Lived t sent told u → Acts taken [] u w → Lived t (sent ++ taken) told w
 lived_sends t u w sent told taken before acts =
-    lived_calls t u w sent told taken before acts.calls (same_but_set u w acts.plan acts.ticks (acts.messages ∙ append-nil u.messages))
+    lived_calls t u w sent told taken before acts.calls (same_but_set u w acts.plan acts.ticks (acts.reports ∙ append-nil u.reports))
 
-pub lived_ticks : (t u w : Tended) (sent told : List Msu) → Lived t sent told u → Ticks u w → Lived t sent told w
+pub lived_ticks : (t u w : Tended) (sent : List Msu) (told : List Told) → Lived t sent told u → Ticks u w → Lived t sent told w
 lived_ticks t u w sent told before passes = record { handed = before.handed; lives = ticks w before.lives passes }
 
 -- ---- links are heeded
 
 abbrev with_more : Tended → LinkSet → List Handed → Tended
-with_more s d hs = record s { set = d; messages = s.messages ++ user_messages s.plan hs }
+with_more s d hs = record s { set = d; reports = s.reports ++ reports_told s.plan hs }
 
-heeds_on : (t s u : Tended) (sent : List Msu) (handed : List Handed) (told : List Msu) (hs : List Handed) → Lives t sent handed told s → Heeds s hs u
+heeds_on : (t s u : Tended) (sent : List Msu) (handed : List Handed) (told : List Told) (hs : List Handed) → Lives t sent handed told s → Heeds s hs u
     → Lives t sent (handed ++ hs) told (with_more s u.set hs)
 heeds_on t s _ sent handed told _ before (nothing {u} first) =
     subst (λ (gone : List Handed). Lives t sent gone told (with_more s u.set [])) (sym (append-nil handed))
-    (subst (λ (ms : List Msu). Lives t sent handed told (record s { set = u.set; messages = ms })) (sym (append-nil s.messages))
+    (subst (λ (xs : List Told). Lives t sent handed told (record s { set = u.set; reports = xs })) (sym (append-nil s.reports))
     (subst (λ (xs : List Msu). Lives t xs handed told (record s { set = u.set })) (append-nil sent) (calls [] u.set before first)))
 heeds_on t s _ sent handed told _ before (one {hs} {u} {v} {w} h earlier out behind) =
     let so_far : Lives t sent (handed ++ hs) told (with_more s u.set hs) = heeds_on t s u sent handed told hs before earlier in
     let mid : Tended = with_more s v.set hs in
     let out_so : HandsOut h (with_more s u.set hs) mid = record { reports = out.reports; same = refl } in
-    let more : List Msu = user_message s.plan h.report in
-    let told_so : (s.messages ++ user_messages s.plan hs) ++ more ≡ s.messages ++ user_messages s.plan (hs ++ h ∷ []) =
-    append_assoc s.messages (user_messages s.plan hs) more ∙ ap (λ (ms : List Msu). s.messages ++ ms) (sym (user_more s.plan hs h)) in
-    let step : Lives t sent ((handed ++ hs) ++ h ∷ []) told (record s { set = v.set; messages = (s.messages ++ user_messages s.plan hs) ++ more }) =
+    let more : List Told = report_told s.plan h.link h.report in
+    let told_so : (s.reports ++ reports_told s.plan hs) ++ more ≡ s.reports ++ reports_told s.plan (hs ++ h ∷ []) =
+    append_assoc s.reports (reports_told s.plan hs) more ∙ ap (λ (xs : List Told). s.reports ++ xs) (sym (reports_more s.plan hs h)) in
+    let step : Lives t sent ((handed ++ hs) ++ h ∷ []) told (record s { set = v.set; reports = (s.reports ++ reports_told s.plan hs) ++ more }) =
     hands h mid so_far out_so in
-    let last : Lives t (sent ++ []) ((handed ++ hs) ++ h ∷ []) told (record s { set = w.set; messages = (s.messages ++ user_messages s.plan hs) ++ more }) =
+    let last : Lives t (sent ++ []) ((handed ++ hs) ++ h ∷ []) told (record s { set = w.set; reports = (s.reports ++ reports_told s.plan hs) ++ more }) =
     calls [] w.set step behind in
-    subst (λ (ms : List Msu). Lives t sent (handed ++ (hs ++ h ∷ [])) told (record s { set = w.set; messages = ms })) told_so
-    (subst (λ (gone : List Handed). Lives t sent gone told (record s { set = w.set; messages = (s.messages ++ user_messages s.plan hs) ++ more }))
+    subst (λ (xs : List Told). Lives t sent (handed ++ (hs ++ h ∷ [])) told (record s { set = w.set; reports = xs })) told_so
+    (subst (λ (gone : List Handed). Lives t sent gone told (record s { set = w.set; reports = (s.reports ++ reports_told s.plan hs) ++ more }))
     (append_assoc handed hs (h ∷ []))
     (subst
-    (λ (xs : List Msu). Lives t xs ((handed ++ hs) ++ h ∷ []) told (record s { set = w.set; messages = (s.messages ++ user_messages s.plan hs) ++ more }))
+    (λ (xs : List Msu). Lives t xs ((handed ++ hs) ++ h ∷ []) told (record s { set = w.set; reports = (s.reports ++ reports_told s.plan hs) ++ more }))
     (append-nil sent) last))
 
-heeded_is : (u w : Tended) (hs : List Handed) → w.plan ≡ u.plan → w.ticks ≡ u.ticks → w.messages ≡ u.messages ++ user_messages u.plan hs
+heeded_is : (u w : Tended) (hs : List Handed) → w.plan ≡ u.plan → w.ticks ≡ u.ticks → w.reports ≡ u.reports ++ reports_told u.plan hs
     → w ≡ with_more u w.set hs
-heeded_is u w hs plan_is ticks_are messages_are = λ i. record { set = w.set; plan = plan_is i; ticks = ticks_are i; messages = messages_are i }
+heeded_is u w hs plan_is ticks_are reports_are = λ i. record { set = w.set; plan = plan_is i; ticks = ticks_are i; reports = reports_are i }
 
-pub lived_heeds : (t u w : Tended) (sent told : List Msu) → Lived t sent told u → AddsHeeded u w → Lived t sent told w
+pub lived_heeds : (t u w : Tended) (sent : List Msu) (told : List Told) → Lived t sent told u → AddsHeeded u w → Lived t sent told w
 lived_heeds t u w sent told before adds =
     let h : IsHeeded u w = adds u (heeded_nothing u) in
-    subst (λ (x : Tended). Lived t sent told x) (sym (heeded_is u w h.handed h.plan h.ticks h.messages))
+    subst (λ (x : Tended). Lived t sent told x) (sym (heeded_is u w h.handed h.plan h.ticks h.reports))
     (record { handed = before.handed ++ h.handed; lives = heeds_on t u w sent before.handed told h.handed before.lives h.heeds })
 
-pub lived_tends : (t u w : Tended) (sent told : List Msu) → Lived t sent told u → Tends u w → Lived t sent told w
+pub lived_tends : (t u w : Tended) (sent : List Msu) (told : List Told) → Lived t sent told u → Tends u w → Lived t sent told w
 lived_tends t u w sent told before tends = lived_heeds t u w sent told before (tends_heeded u w tends)
 
 -- ---- lines
 
-pub lived_hears : (t s : Tended) (sent told : List Msu) (link : ℕ) (octets : List ℕ) (w : Tended) → Lived t sent told s → Hears link s octets w → Lived t sent told w
+pub lived_hears : (t s : Tended) (sent : List Msu) (told : List Told) (link : ℕ) (octets : List ℕ) (w : Tended) → Lived t sent told s → Hears link s octets w → Lived t sent told w
 lived_hears t s sent told link _ _ before no_part = before
 lived_hears t s sent told link _ _ before (one_part {octets} {u} {w} rest left earlier part) =
     lived_heeds t part.middle w sent told (lived_adds t u part.middle sent told (lived_hears t s sent told link octets u before earlier) part.adds) part.heeds
 
-lived_gives : (t u w : Tended) (sent told : List Msu) (link : ℕ) (v x : Voice) (gives : ℕ) → Lived t sent told u → GivesNext link u v gives w x
+lived_gives : (t u w : Tended) (sent : List Msu) (told : List Told) (link : ℕ) (v x : Voice) (gives : ℕ) → Lived t sent told u → GivesNext link u v gives w x
     → Lived t sent told w
 lived_gives t u w sent told link v x gives before (fixed ready sending same) = subst (λ (y : Tended). Lived t sent told y) (sym same) before
 lived_gives t u w sent told link v x gives before (fresh unit ready asks stuffs) =
@@ -146,7 +147,7 @@ lived_gives t u w sent told link v x gives before (fresh unit ready asks stuffs)
 lived_gives t u w sent told link v x gives before (silent ready asks none_there fills) =
     lived_none_taken t u w sent told before (by_gives u.set w.set link _ asks.sent) asks.same
 
-pub lived_speaks : (first : Tended) (sent told : List Msu) (link count : ℕ) (s w : Tended) (v x : Voice) (out after : List ℕ) → Lived first sent told s
+pub lived_speaks : (first : Tended) (sent : List Msu) (told : List Told) (link count : ℕ) (s w : Tended) (v x : Voice) (out after : List ℕ) → Lived first sent told s
     → Speaks link count s v out w x after → Lived first sent told w
 lived_speaks first sent told link _ _ _ _ _ _ _ before (no_octet s v out) = before
 lived_speaks first sent told link _ _ _ _ _ _ _ before (octet {count} {t} {u} {w} {v} {x} {y} {out} {after} gives earlier next) =
@@ -154,7 +155,7 @@ lived_speaks first sent told link _ _ _ _ _ _ _ before (octet {count} {t} {u} {w
 
 -- ---- what is told
 
-pub lived_tells : (t u w : Tended) (sent told messages : List Msu) → Lived t sent told u → u.messages ≡ messages ++ w.messages
-    → w ≡ record u { messages = w.messages } → Lived t sent (told ++ messages) w
-lived_tells t u w sent told messages before is same =
-    subst (λ (x : Tended). Lived t sent (told ++ messages) x) (sym same) (record { handed = before.handed; lives = tells messages w.messages before.lives is })
+pub lived_tells : (t u w : Tended) (sent : List Msu) (told reports : List Told) → Lived t sent told u → u.reports ≡ reports ++ w.reports
+    → w ≡ record u { reports = w.reports } → Lived t sent (told ++ reports) w
+lived_tells t u w sent told reports before is same =
+    subst (λ (x : Tended). Lived t sent (told ++ reports) x) (sym same) (record { handed = before.handed; lives = tells reports w.reports before.lives is })

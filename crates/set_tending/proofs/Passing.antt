@@ -3,16 +3,17 @@ use Rattle.std.proofs.Common.{◌≡◌, ◌∙◌, ℕ, ◌<◌, nat_le, Bool, 
 use Rattle.std.proofs.lemmas.Bool.Decides.{nat_tests}
 use Rattle.resend_store.specs.declared.messages.Msu.{Msu}
 use Rattle.set_tending.specs.Came.{came}
-use Rattle.set_tending.specs.Telling.{is_for_user, is_for_user_by}
+use Rattle.set_tending.specs.Telling.{is_for_user, is_for_user_by, message_told}
 use Rattle.set_tending.specs.declared.came.Came.{Came}
 use Rattle.set_tending.specs.declared.tender.Plan.{Plan}
+use Rattle.set_tending.specs.declared.told.Told.TheVariants.{Message}
 
 of_came : (p : Plan) (m : Msu) (what : Came) → what ≡ came p.ends m → is_for_user p m ≡ is_for_user_by p.links what
 of_came p m what is = ap (λ (x : Came). is_for_user_by p.links x) (sym is)
 
 -- one that is something else than a message for level 3
-pub unheard : (p : Plan) (m : Msu) (what : Came) → what ≡ came p.ends m → is_for_user_by p.links what ≡ false → (if is_for_user p m then m ∷ [] else []) ≡ []
-unheard p m what is not = ap (λ (b : Bool). if b then m ∷ [] else []) (of_came p m what is ∙ not)
+pub unheard : (p : Plan) (link : ℕ) (m : Msu) (what : Came) → what ≡ came p.ends m → is_for_user_by p.links what ≡ false → message_told p link m ≡ []
+unheard p link m what is not = ap (λ (b : Bool). if b then Message link m ∷ [] else []) (of_came p m what is ∙ not)
 
 -- a link that is there
 pub of_a_link : (links about : ℕ) → about < links → nat_le links about ≡ false

@@ -9,23 +9,24 @@ use Rattle.link_group.specs.Lines.{ByLink}
 use Rattle.link_group.specs.Set.{LinkSet}
 use Rattle.link_group.specs.Ticks.{after_ticks}
 use Rattle.set_tending.specs.Calling.{ByCalls}
-use Rattle.set_tending.specs.Telling.{user_message}
+use Rattle.set_tending.specs.Telling.{report_told}
 use Rattle.set_tending.specs.Tended.{Tended}
 use Rattle.set_tending.specs.declared.tender.Plan.{Plan}
+use Rattle.set_tending.specs.declared.told.Told.{Told}
 
--- `send` took these messages, and these are told behind those that were to be told.
-pub record Acts (taken tells : List Msu) (old new : Tended) : Type 0 where
+-- `send` took these messages, and these reports are told behind those that were to be told.
+pub record Acts (taken : List Msu) (tells : List Told) (old new : Tended) : Type 0 where
   pub calls : ByCalls old.set taken new.set
   pub plan : new.plan ≡ old.plan
   pub ticks : new.ticks ≡ old.ticks
-  pub messages : new.messages ≡ old.messages ++ tells
+  pub reports : new.reports ≡ old.reports ++ tells
 
--- Neither took any, and none is told.
+-- `send` took none, and no report is told.
 pub record Does (old new : Tended) : Type 0 where
   pub calls : ByCalls old.set [] new.set
   pub plan : new.plan ≡ old.plan
   pub ticks : new.ticks ≡ old.ticks
-  pub messages : new.messages ≡ old.messages
+  pub reports : new.reports ≡ old.reports
 
 -- That is added to what was done: whatever did just that before, has done just that now.
 abbrev pub Adds : Tended → Tended → Type 0
@@ -51,17 +52,18 @@ pub data Heeds (t : Tended) : List Handed → Tended → Type 0 where
       → Heeds t hs u → HandsOut h u v → ByCalls v.set [] w.set
       → Heeds t (hs ++ h ∷ []) w
 
--- of what links handed out the messages for level 3
-abbrev pub user_messages : Plan → List Handed → List Msu
-user_messages p hs = flat_map (λ h. user_message p h.report) hs
+-- of what links handed out what is told
+abbrev pub reports_told : Plan → List Handed → List Told
+reports_told p hs = flat_map (λ h. report_told p h.link h.report) hs
 
--- Links were heeded: each message for level 3 that they handed out is told once, in their order.
+-- Links were heeded: each message for level 3 that they handed out, and what became of them, is
+-- told once, in their order, with the link of which it is.
 pub record IsHeeded (old new : Tended) : Type 0 where
   pub handed : List Handed
   pub heeds : Heeds old handed new
   pub plan : new.plan ≡ old.plan
   pub ticks : new.ticks ≡ old.ticks
-  pub messages : new.messages ≡ old.messages ++ user_messages old.plan handed
+  pub reports : new.reports ≡ old.reports ++ reports_told old.plan handed
 
 abbrev pub AddsHeeded : Tended → Tended → Type 0
 AddsHeeded old new = (first : Tended) → IsHeeded first old → IsHeeded first new

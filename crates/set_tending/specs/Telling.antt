@@ -1,7 +1,9 @@
--- Which of the messages that came are told, and in which order.
+-- Which of the reports that links hand out are told, and in which order.
 use Rattle.std.specs.Prelude.{ℕ, List, [], ◌∷◌, ◌++◌, Bool, true, false, nat_le, if◌then◌else◌}
 use Rattle.std.specs.List.{flat_map}
 use Rattle.resend_store.specs.declared.messages.Msu.{Msu}
+use Rattle.link_transceiver.specs.declared.signals.LinkStatus.{LinkStatus}
+use Rattle.link_transceiver.specs.declared.signals.LinkStatus.TheVariants as status
 use Rattle.link_transceiver.specs.declared.signals.Report.{Report}
 use Rattle.link_transceiver.specs.declared.signals.Report.TheVariants as report
 use Rattle.set_tending.specs.Came.{came}
@@ -23,26 +25,39 @@ is_for_user_by links (Answer about) = false
 abbrev pub is_for_user : Plan → Msu → Bool
 is_for_user p m = is_for_user_by p.links (came p.ends m)
 
--- the message of a report, where it is one for level 3
-abbrev pub user_message : Plan → Report → List Msu
-user_message p (report.Message m) = if is_for_user p m then m ∷ [] else []
-user_message p (report.Status status) = []
+-- of a message that came by a link; nothing where it isn't for level 3
+abbrev pub message_told : Plan → ℕ → Msu → List Told
+message_told p link m = if is_for_user p m then told.Message link m ∷ [] else []
 
-abbrev pub message_in : Told → List Msu
-message_in (told.Message link m) = m ∷ []
-message_in (told.InService link) = []
-message_in (told.Down link reason) = []
-message_in (told.FarOut link) = []
-message_in (told.FarBack link) = []
-message_in (told.Started link) = []
-message_in (told.Changeover link) = []
-message_in (told.Says link kind by_link) = []
-message_in (told.Hears link kind by_link) = []
-message_in (told.Unsure link count) = []
-message_in (told.Diverted link count) = []
-message_in (told.Tested link) = []
-message_in (told.Shared shared) = []
+-- of what became of it: that its buffers were emptied is told of none
+abbrev pub status_told : ℕ → LinkStatus → List Told
+status_told link status.InService = told.InService link ∷ []
+status_told link (status.Down reason) = told.Down link reason ∷ []
+status_told link status.RemoteOut = told.FarOut link ∷ []
+status_told link status.RemoteBack = told.FarBack link ∷ []
+status_told link status.Cleared = []
 
--- the messages that are told, in order
-abbrev pub messages_in : List Told → List Msu
-messages_in ts = flat_map message_in ts
+-- what is told of a report of a link
+abbrev pub report_told : Plan → ℕ → Report → List Told
+report_told p link (report.Message m) = message_told p link m
+report_told p link (report.Status s) = status_told link s
+
+-- what is told, where it is a report of a link
+abbrev pub report_in : Told → List Told
+report_in (told.Message link m) = told.Message link m ∷ []
+report_in (told.InService link) = told.InService link ∷ []
+report_in (told.Down link reason) = told.Down link reason ∷ []
+report_in (told.FarOut link) = told.FarOut link ∷ []
+report_in (told.FarBack link) = told.FarBack link ∷ []
+report_in (told.Started link) = []
+report_in (told.Changeover link) = []
+report_in (told.Says link kind by_link) = []
+report_in (told.Hears link kind by_link) = []
+report_in (told.Unsure link count) = []
+report_in (told.Diverted link count) = []
+report_in (told.Tested link) = []
+report_in (told.Shared shared) = []
+
+-- the reports that are told, in order
+abbrev pub reports_in : List Told → List Told
+reports_in ts = flat_map report_in ts

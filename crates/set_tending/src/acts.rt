@@ -1,9 +1,10 @@
 //! What is done to the set: each is a call of it, or none.
-ghost use Rattle.std.specs.Prelude.{◌≡◌, ◌∷◌, [], OnOk, OnErr};
+ghost use Rattle.std.specs.Prelude.{◌≡◌, [], OnOk, OnErr};
 ghost use Rattle.link_group.specs.Lines.{ByCommand};
 ghost use Rattle.link_group.specs.OneLink.{fault_of};
 ghost use Rattle.link_group.specs.Placing.{rebalance_fault, rebalanced};
 ghost use Rattle.set_tending.specs.Rounds.{Adds, Acts};
+ghost use Rattle.set_tending.specs.Telling.{report_in};
 
 use crate::tender::{TendError, Tender};
 use crate::told::Told;
@@ -136,11 +137,11 @@ impl Tender {
         }
     }
 
-    /// A message for level 3 is to be told.
-    pub(crate) fn tell_message(&mut self, link: usize, msu: Msu) -> Result<(), TendError>
-        ensures { OnOk result (Acts [] (msu ∷ []) self.old self.new) }
+    /// A report of a link is to be told.
+    pub(crate) fn tell_report(&mut self, told: Told) -> Result<(), TendError>
+        ensures { OnOk result (Acts [] (report_in told) self.old self.new) }
     {
-        match self.told.push_back(Told::Message(link, msu)) {
+        match self.told.push_back(told) {
             Ok(()) => Ok(()),
             Err(_) => Err(TendError::NoMemory),
         }

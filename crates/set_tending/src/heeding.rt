@@ -1,8 +1,7 @@
 //! What links tell.
-ghost use Rattle.std.specs.Prelude.{◌≡◌, [], OnOk, IfSome, IsNone};
-ghost use Rattle.link_transceiver.specs.declared.signals.Report.TheVariants.{Message};
+ghost use Rattle.std.specs.Prelude.{◌≡◌, ◌∷◌, [], OnOk, IfSome, IsNone};
 ghost use Rattle.set_tending.specs.Rounds.{Acts, Adds, AddsHeeded, HandsOut, HeedsEach, ToldAll};
-ghost use Rattle.set_tending.specs.Telling.{user_message};
+ghost use Rattle.set_tending.specs.Telling.{report_told, message_told, status_told};
 
 use crate::came::Came;
 use crate::care::Testing;
@@ -57,7 +56,7 @@ impl Tender {
 
     /// Takes what a link told.
     fn heed(&mut self, link: usize, report: Report) -> Result<(), TendError>
-        ensures { OnOk result (Acts [] (user_message self.old.plan report) self.old self.new) }
+        ensures { OnOk result (Acts [] (report_told self.old.plan link report) self.old self.new) }
     {
         match report {
             Report::Message(msu) => self.heed_message(link, msu),
@@ -67,26 +66,33 @@ impl Tender {
 
     /// Takes what was told of a link.
     fn heed_status(&mut self, link: usize, status: LinkStatus) -> Result<(), TendError>
-        ensures { OnOk result (Adds self.old self.new) }
+        ensures { OnOk result (Acts [] (status_told link status) self.old self.new) }
     {
         match status {
             LinkStatus::InService => {
                 let care = self.care(link).risen(self.ticks);
                 self.keep(link, care);
-                self.tell(Told::InService(link))
+                self.tell_report(Told::InService(link))
             }
             LinkStatus::Down(reason) => self.go_down(link, reason),
-            LinkStatus::RemoteOut => self.tell(Told::FarOut(link)),
-            LinkStatus::RemoteBack => self.tell(Told::FarBack(link)),
+            LinkStatus::RemoteOut => self.tell_report(Told::FarOut(link)),
+            LinkStatus::RemoteBack => self.tell_report(Told::FarBack(link)),
             LinkStatus::Cleared => Ok(()),
         }
     }
 
-    /// A link went down: its changeover begins, unless it wasn't in service or its changeover goes on.
+    /// A link went down.
     fn go_down(&mut self, link: usize, reason: i32) -> Result<(), TendError>
+        ensures { OnOk result (Acts [] (Told.Down link reason ∷ []) self.old self.new) }
+    {
+        self.tell_report(Told::Down(link, reason))?;
+        self.fall(link)
+    }
+
+    /// What is done for a link that went down: its changeover begins, unless it wasn't in service or its changeover goes on.
+    fn fall(&mut self, link: usize) -> Result<(), TendError>
         ensures { OnOk result (Adds self.old self.new) }
     {
-        self.tell(Told::Down(link, reason))?;
         self.withdraw(link);
         let care = self.care(link);
         self.keep(link, care.fallen(self.ticks));
@@ -109,10 +115,10 @@ impl Tender {
 
     /// Takes a message that came by a link.
     fn heed_message(&mut self, link: usize, msu: Msu) -> Result<(), TendError>
-        ensures { OnOk result (Acts [] (user_message self.old.plan (Message msu)) self.old self.new) }
+        ensures { OnOk result (Acts [] (message_told self.old.plan link msu) self.old self.new) }
     {
         match self.plan.ends.came(&msu) {
-            Came::Message => self.tell_message(link, msu),
+            Came::Message => self.tell_report(Told::Message(link, msu)),
             Came::Changeover(about, kind) => {
                 if about == link || about >= self.len() {
                     return Ok(());
@@ -125,7 +131,7 @@ impl Tender {
                     self.acknowledge_declaration(link, about, code);
                     return Ok(());
                 }
-                self.tell_message(link, msu)
+                self.tell_report(Told::Message(link, msu))
             }
             Came::Test(about) => {
                 self.answer_test(link, about, &msu);
@@ -136,7 +142,8 @@ impl Tender {
     }
 
     /// A message of changeover came about a link that is there, by another one. About one that hasn't been in service an order is answered
-    /// without the set.
+    /// without the set. One that begins no changeover, since it may be a late one, has this end begin its own, if the link is in service: its order
+    /// goes in place of the answer, so that the other end, whose changeover goes on, tells its number once more.
     fn hear_changeover(&mut self, about: usize, kind: Kind, msu: &Msu) -> Result<(), TendError>
         ensures { OnOk result (Adds self.old self.new) }
     {
@@ -146,6 +153,9 @@ impl Tender {
         }
         let noted = self.note(msu.sif.as_slice());
         self.owe_answer(about, noted.answer);
+        if noted.hearing == Hearing::Order && self.care(about).serves {
+            return self.begin_changeover(about);
+        }
         if noted.hearing != Hearing::Began {
             return Ok(());
         }

@@ -23,7 +23,7 @@ mod wire;
 
 pub use ends::Ends;
 pub use group_changeover::label_of;
-pub use laws::{a_life_is_by_calls, each_message_is_told_once};
+pub use laws::{a_life_is_by_calls, each_report_is_told_once};
 pub use link_group::{
     AbandonError, CallError, Command, CommandError, DivertError, Group, Label, LineError,
     LinkError, LinkState, LinkStatus, Mode, Msu, Report, RetrieveError, SendError, Sif, Terminal,

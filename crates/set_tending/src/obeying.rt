@@ -1,14 +1,13 @@
 //! Orders.
-ghost use Rattle.std.specs.Prelude.{◌≡◌, ◌≤◌, ◌∷◌, [], true, false, Some, Err, OnOk, OnErr, min, take, slice_get};
+ghost use Rattle.std.specs.Prelude.{◌≡◌, ◌≤◌, ◌∷◌, [], true, false, Some, Err, OnOk, OnErr, map, min, take, slice_get};
 ghost use Rattle.group_changeover.specs.Labels.{label_in};
-ghost use Rattle.group_changeover.specs.Sharing.{link_of};
+ghost use Rattle.group_changeover.specs.Sharing.{link_of, selections};
 ghost use Rattle.link_group.specs.Commanding.{is_start};
 ghost use Rattle.link_group.specs.Lines.{ByCommand};
 ghost use Rattle.link_group.specs.OneLink.{fault_of};
 ghost use Rattle.link_group.specs.Reading.{message_at};
 ghost use Rattle.set_tending.specs.Cares.{LAST};
 ghost use Rattle.set_tending.specs.Rounds.{Acts, Adds};
-ghost use Rattle.set_tending.specs.Telling.{message_in};
 ghost use Rattle.set_tending.specs.Sending.{tended_send_fault, size_of, octets_in, held_by, is_full_of, is_full_at, finds_no_room};
 
 use crate::tender::Tender;
@@ -151,7 +150,7 @@ impl Tender {
 
     /// The links of selections, as they are told.
     pub fn shared_out(&self) -> Told
-        ensures { message_in result ≡ [] }
+        ensures { result ≡ Told.Shared (map (link_of self.now.set.table) selections) }
     {
         Told::Shared(self.table())
     }

@@ -1,5 +1,6 @@
 //! Selections are shared out anew.
-ghost use Rattle.std.specs.Prelude.{◌≡◌, OnOk};
+ghost use Rattle.std.specs.Prelude.{◌≡◌, OnOk, map};
+ghost use Rattle.group_changeover.specs.Sharing.{link_of, selections};
 ghost use Rattle.set_tending.specs.Rounds.{Adds};
 
 use crate::tender::{TendError, Tender};
@@ -100,7 +101,7 @@ impl Tender {
     /// Whether a changeover goes on.
     fn is_changing(&self) -> bool {
         for link in 0..self.len() {
-            if self.set.in_changeover(link) {
+            if self.in_changeover(link) {
                 return true;
             }
         }
@@ -118,13 +119,35 @@ impl Tender {
         false
     }
 
+    /// The link of a selection, if it has one.
+    fn link_of(&self, selection: u8) -> Option<usize>
+        ensures { result ≡ link_of self.now.set.table selection }
+    {
+        self.set.link_of(selection)
+    }
+
     /// The links of selections.
-    pub(crate) fn table(&self) -> SharedOut {
-        let mut table = [None; 16];
-        for selection in 0..16u8 {
-            table[usize::from(selection % 16)] = self.set.link_of(selection);
-        }
-        table
+    pub(crate) fn table(&self) -> SharedOut
+        ensures { result ≡ map (link_of self.now.set.table) selections }
+    {
+        [
+            self.link_of(0),
+            self.link_of(1),
+            self.link_of(2),
+            self.link_of(3),
+            self.link_of(4),
+            self.link_of(5),
+            self.link_of(6),
+            self.link_of(7),
+            self.link_of(8),
+            self.link_of(9),
+            self.link_of(10),
+            self.link_of(11),
+            self.link_of(12),
+            self.link_of(13),
+            self.link_of(14),
+            self.link_of(15),
+        ]
     }
 
     /// Tells the links of selections, where they are others than were told last.
@@ -142,7 +165,7 @@ impl Tender {
     /// Whether all selections have the links that they are to have.
     fn is_even(&self, able: &[usize]) -> bool {
         for selection in 0..16u8 {
-            if self.set.link_of(selection) != pick(able, selection) {
+            if self.link_of(selection) != pick(able, selection) {
                 return false;
             }
         }
@@ -164,7 +187,7 @@ impl Tender {
             let Some(selection) = self.selection_at(link, place) else {
                 continue;
             };
-            if self.set.link_of(selection) == Some(link) && pick(able, selection) != Some(link) {
+            if self.link_of(selection) == Some(link) && pick(able, selection) != Some(link) {
                 return true;
             }
         }

@@ -1,6 +1,9 @@
 //! The set with what is kept of it.
-ghost use Rattle.std.specs.Prelude.{◌≡◌, ◌++◌, [], IfSome, IsNone};
-ghost use Rattle.set_tending.specs.Telling.{message_in};
+ghost use Rattle.std.specs.Prelude.{◌≡◌, ◌++◌, [], true, false, length, slice_get, IfSome, IsNone};
+ghost use Rattle.std.specs.List.{list_any};
+ghost use Rattle.link_group.specs.OneLink.{is_changing};
+ghost use Rattle.link_group.specs.Tables.{changing_by};
+ghost use Rattle.set_tending.specs.Telling.{report_in};
 ghost use Rattle.set_tending.specs.Tended.{IsNewTended};
 
 use crate::care::Care;
@@ -67,14 +70,14 @@ pub struct Tender {
 impl Model for Tender {
     ghost use Rattle.std.specs.Coded.{codes};
     ghost use Rattle.tick_wheel.specs.Timers.{timers_code};
-    ghost use Rattle.set_tending.specs.Telling.{messages_in};
+    ghost use Rattle.set_tending.specs.Telling.{reports_in};
     ghost use Rattle.set_tending.specs.Tended.{Tended};
 
     ghost Value = { Tended };
 
     ghost coded = { Prim.hlevel (codes, timers_code) };
 
-    ghost view = { λ t. record { set = t.set; plan = t.plan; ticks = t.ticks; messages = messages_in t.told.items } };
+    ghost view = { λ t. record { set = t.set; plan = t.plan; ticks = t.ticks; reports = reports_in t.told.items } };
 }
 
 impl Tender {
@@ -132,11 +135,35 @@ impl Tender {
         self.cares[link % MOST_LINKS] = care;
     }
 
-    /// Whether nothing is owed, in changeover, handed out or to be shared out, and no Start is to come.
-    pub fn is_calm(&self) -> bool {
-        for link in 0..self.len() {
-            let care = self.care(link);
-            if care.owed.is_some() || care.due.is_some() || self.set.in_changeover(link) {
+    /// Whether nothing of a link is owed, and no Start is to come.
+    fn is_quiet(&self, link: usize) -> bool {
+        let care = self.care(link);
+        care.owed.is_none() && care.due.is_none()
+    }
+
+    /// Whether a changeover of a link goes on.
+    pub(crate) fn in_changeover(&self, link: usize) -> bool
+        ensures { result ≡ changing_by (slice_get self.now.set.links link) }
+    {
+        self.set.in_changeover(link)
+    }
+
+    /// How many links the set has.
+    fn count(&self) -> usize
+        ensures { result ≡ length self.now.set.links }
+    {
+        self.set.len()
+    }
+
+    /// Whether nothing is owed or in changeover, and no Start is to come.
+    pub fn is_calm(&self) -> bool
+        ensures { result ≡ true → list_any is_changing self.now.set.links ≡ false }
+    {
+        for link in 0..self.count() {
+            if self.in_changeover(link) {
+                return false;
+            }
+            if !self.is_quiet(link) {
                 return false;
             }
         }
@@ -145,17 +172,17 @@ impl Tender {
 
     /// What is told next.
     pub fn take_told(&mut self) -> Option<Told>
-        ensures some { IfSome result (λ told. self.old.messages ≡ message_in told ++ self.new.messages) }
-        ensures none { IsNone result → self.old.messages ≡ [] }
+        ensures some { IfSome result (λ told. self.old.reports ≡ report_in told ++ self.new.reports) }
+        ensures none { IsNone result → self.old.reports ≡ [] }
         ensures left { IsNone result → self.new ≡ self.old }
-        ensures same { self.new ≡ record self.old { messages = self.new.messages } }
+        ensures same { self.new ≡ record self.old { reports = self.new.reports } }
     {
         self.told.pop_front()
     }
 
-    /// Something more is to be told, and no message for level 3.
+    /// Something more is to be told that is no report of a link.
     pub(crate) fn tell(&mut self, told: Told) -> Result<(), TendError>
-        requires { message_in told ≡ [] }
+        requires { report_in told ≡ [] }
         ensures { self.new ≡ self.old }
     {
         match self.told.push_back(told) {

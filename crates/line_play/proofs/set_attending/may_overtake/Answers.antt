@@ -1,5 +1,10 @@
-use Rattle.line_play.proofs.SetObeying.{quiet_order}
+use Rattle.line_play.specs.SetOrders.{plain_set_order}
+use Rattle.line_play.proofs.SetObeying.{reads_some}
 use Rattle.line_play.proofs.set_attending.may_overtake.Goals as goal
 
 pub returns-in-Some : goal.returns-in-Some
-returns-in-Some c = λ shown. quiet_order c.in-Some.order _ _ c.in-Some.is c.in_ok-order.ensures.some (c.overtakes.ensures shown)
+returns-in-Some c = λ shown. record {
+  said = plain_set_order c.in-Some.order;
+  is = reads_some _ _ c.in-Some.order c.in-Some.is c.in_ok-order.ensures.reads;
+  so = c.overtakes.ensures shown;
+}

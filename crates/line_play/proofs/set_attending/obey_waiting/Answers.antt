@@ -1,5 +1,5 @@
-use Rattle.std.proofs.Common.{refl}
-use Rattle.line_play.proofs.SetRounds.{waits_none, waits_more, waits_same}
+use Rattle.std.proofs.Common.{refl, ◌∙◌}
+use Rattle.line_play.proofs.SetRounds.{waits_none, waits_more, waits_same, rests_empty}
 use Rattle.line_play.proofs.set_attending.obey_waiting.Goals as goal
 
 pub loop-order-init : goal.loop-order-init
@@ -10,5 +10,11 @@ loop-order-preserved g c =
     waits_more c.args.state.now.tender c.loop-order.state.tender c.obey.new.self.tender _ _ _ _ _ (g.P.Reports.stand c.args.reports.now) (g.P.Reports.stand c.loop-order.reports) (g.P.Reports.stand c.obey.new.reports)
     c.loop-order.invariant c.in-Some.ensures.some c.as_str.ensures.value c.in_ok-obey-in-Some.ensures
 
-pub returns-in-None : goal.returns-in-None
-returns-in-None g c = waits_same _ _ _ _ _ _ _ c.loop-order.invariant (c.in-None.ensures.none refl)
+pub returns-then-branch-clause-rests : goal.returns-then-branch-clause-rests
+returns-then-branch-clause-rests g c = c.in_ok-rests.ensures c.if-branch.true
+
+pub returns-in-None-clause-obeys : goal.returns-in-None-clause-obeys
+returns-in-None-clause-obeys g c = waits_same _ _ _ _ _ _ _ c.loop-order.invariant (c.in-None.ensures.none refl)
+
+pub returns-in-None-clause-rests : goal.returns-in-None-clause-rests
+returns-in-None-clause-rests g c = rests_empty _ (c.in-None.ensures.empty refl)

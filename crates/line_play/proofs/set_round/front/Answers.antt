@@ -1,5 +1,5 @@
 use Rattle.std.proofs.Common.{arith, refl}
-use Rattle.line_play.proofs.SetRounds.{front_there, front_short}
+use Rattle.line_play.proofs.SetRounds.{front_there}
 use Rattle.line_play.proofs.set_round.front.Goals as goal
 
 pub returns : goal.returns

@@ -8,7 +8,7 @@ loop-told-init g c = tells_nothing _ _
 pub loop-told-preserved : goal.loop-told-preserved
 loop-told-preserved g c =
     tells_more c.args.tender.now c.loop-told.tender c.take_told.new.self (g.P.Reports.stand c.args.reports.now) (g.P.Reports.stand c.loop-told.reports) (g.P.Reports.stand c.tell_told.new.reports)
-    c.in-Some.item c.now.result c.loop-told.invariant (record { messages = c.in-Some.ensures.some; same = c.take_told.ensures.same }) c.now.ensures c.in_ok-tell_told-in-Some.ensures
+    c.in-Some.item c.now.result c.loop-told.invariant (record { reports = c.in-Some.ensures.some; same = c.take_told.ensures.same }) c.now.ensures c.in_ok-tell_told-in-Some.ensures
 
 pub returns-in-None : goal.returns-in-None
 returns-in-None g c =

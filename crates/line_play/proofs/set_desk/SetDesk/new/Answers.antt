@@ -1,4 +1,4 @@
-use Rattle.std.proofs.Common.{refl, sym, ap, ◌∙◌}
+use Rattle.std.proofs.Common.{refl, ◌∙◌}
 use Rattle.line_play.proofs.SetDesks.{all_wires}
 use Rattle.line_play.proofs.set_desk.SetDesk.new.Goals as goal
 

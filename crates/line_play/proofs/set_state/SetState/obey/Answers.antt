@@ -1,9 +1,9 @@
-use Rattle.std.proofs.Common.{IsNone, refl}
-use Rattle.line_play.specs.SetObeying.{SendsNone}
-use Rattle.line_play.proofs.SetObeying.{moved, refused_bad}
+use Rattle.line_play.proofs.SetObeying.{reads_none, reads_some, refused_bad}
 use Rattle.line_play.proofs.set_state.SetState.obey.Goals as goal
+
+pub obey_order-requires-clause-reads : goal.obey_order-requires-clause-reads
+obey_order-requires-clause-reads g c = reads_some _ _ c.in-Some.order c.in-Some.is c.in_ok-order.ensures.reads
 
 pub returns-in-None : goal.returns-in-None
 returns-in-None g c =
-    let none_there = moved _ _ c.in-None.is (λ o. IsNone o → SendsNone c.args.text.now) c.in_ok-order.ensures.none refl in
-    refused_bad c.refuse.result c.args.text.now _ c.args.self.now.tender _ _ none_there c.refuse.ensures
+    refused_bad c.refuse.result c.args.text.now _ c.args.self.now.tender _ _ (reads_none _ _ c.in-None.is c.in_ok-order.ensures.reads) c.refuse.ensures

@@ -1,15 +1,26 @@
-use Rattle.set_tending.proofs.Doing.{adds_nothing, adds_same}
-use Rattle.line_play.proofs.SetTelling.{ok_so}
+use Rattle.line_play.proofs.SetDoing.{where_none, where_some, still}
 use Rattle.line_play.proofs.set_state.SetState.obey_plain.Goals as goal
 
-pub returns-in-On : goal.returns-in-On
-returns-in-On c = ok_so c.look_at.result _ (adds_same _ _ c.look_at.ensures)
+pub returns-in-On-clause-changes : goal.returns-in-On-clause-changes
+returns-in-On-clause-changes c = rw c.in-On.is (where_none c.look_at.result _ c.look_at.ensures.same)
 
-pub returns-in-Reset : goal.returns-in-Reset
-returns-in-Reset c = adds_same _ _ c.reset_all.ensures
+pub returns-in-On-clause-refuses : goal.returns-in-On-clause-refuses
+returns-in-On-clause-refuses c = rw c.in-On.is c.look_at.ensures.none
 
-pub returns-in-Rebalance : goal.returns-in-Rebalance
-returns-in-Rebalance c = ok_so c.rebalance.result _ c.rebalance.ensures
+pub returns-in-Link-clause-changes : goal.returns-in-Link-clause-changes
+returns-in-Link-clause-changes c = rw c.in-Link.is c.order_links.ensures.obeys
 
-pub returns-in_default : goal.returns-in_default
-returns-in_default c = adds_nothing _
+pub returns-in-Link-clause-refuses : goal.returns-in-Link-clause-refuses
+returns-in-Link-clause-refuses c = rw c.in-Link.is (where_some c.order_links.result _ tt)
+
+pub returns-in-Reset-clause-changes : goal.returns-in-Reset-clause-changes
+returns-in-Reset-clause-changes c = rw c.in-Reset.is (λ none. c.reset_all.ensures)
+
+pub returns-in-Rebalance-clause-changes : goal.returns-in-Rebalance-clause-changes
+returns-in-Rebalance-clause-changes c = rw c.in-Rebalance.is c.rebalance.ensures.done
+
+pub returns-in-Rebalance-clause-refuses : goal.returns-in-Rebalance-clause-refuses
+returns-in-Rebalance-clause-refuses c = rw c.in-Rebalance.is c.rebalance.ensures.none
+
+pub returns-in_default-clause-changes : goal.returns-in_default-clause-changes
+returns-in_default-clause-changes c = λ none. still c.args.order.now _ c.requires c.in_default.not-Link c.in_default.not-Rebalance

@@ -1,5 +1,20 @@
 use Rattle.line_play.proofs.SetTelling.{shows_none}
 use Rattle.line_play.proofs.set_state.SetState.tell_one_asked.Goals as goal
 
+pub returns-in-State : goal.returns-in-State
+returns-in-State g c = rw c.in-State.is c.tell_state.ensures
+
+pub returns-in-Value : goal.returns-in-Value
+returns-in-Value g c = rw c.in-Value.is c.tell_value.ensures
+
+pub returns-in-Measure : goal.returns-in-Measure
+returns-in-Measure g c = rw c.in-Measure.is c.tell_measure.ensures
+
+pub returns-in-Aborted : goal.returns-in-Aborted
+returns-in-Aborted g c = rw c.in-Aborted.is c.tell_aborted.ensures
+
+pub returns-in-Measures : goal.returns-in-Measures
+returns-in-Measures g c = rw c.in-Measures.is c.tell_measures.ensures
+
 pub returns-in_default : goal.returns-in_default
-returns-in_default g c = shows_none _ _
+returns-in_default g c = shows_none _ _ _

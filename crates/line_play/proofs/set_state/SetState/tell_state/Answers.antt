@@ -1,9 +1,9 @@
-use Rattle.line_play.specs.SetObeying.{state}
+use Rattle.line_play.specs.SetOrders.{state}
 use Rattle.line_play.proofs.SetTelling.{shows_none, shows_one}
 use Rattle.line_play.proofs.set_state.SetState.tell_state.Goals as goal
 
 pub returns-in-None : goal.returns-in-None
-returns-in-None g c = shows_none _ _
+returns-in-None g c = shows_none _ _ _
 
 pub returns : goal.returns
-returns g c = shows_one c.say_text.result _ _ _ _ (state c.args.link _ c.in_ok-format.ensures.ok) c.say_text.ensures
+returns g c = shows_one c.say_text.result (state c.args.process.now) _ _ _ _ (record { link = c.args.link; what = _; are = c.in_ok-format.ensures.ok }) c.say_text.ensures

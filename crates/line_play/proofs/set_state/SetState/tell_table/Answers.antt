@@ -1,6 +1,7 @@
-use Rattle.line_play.specs.SetObeying.{shared}
-use Rattle.line_play.proofs.SetTelling.{shows_one}
+use Rattle.std.proofs.Common.{refl, ap, ◌∙◌}
+use Rattle.set_tending.specs.Texts.{told_text}
+use Rattle.line_play.proofs.SetTelling.{told_as}
 use Rattle.line_play.proofs.set_state.SetState.tell_table.Goals as goal
 
 pub returns : goal.returns
-returns g c = shows_one c.say_text.result _ _ _ _ (shared c.shared_out-shared.result c.in_ok-format.ensures.ok c.shared_out-shared.ensures) c.say_text.ensures
+returns g c = told_as c.say_text.result _ _ _ _ _ _ refl (c.in_ok-format.ensures.ok ∙ ap told_text c.shared_out-shared.ensures) c.say_text.ensures
