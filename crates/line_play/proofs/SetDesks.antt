@@ -94,6 +94,7 @@ ran_from r left tender ahead orders reports old last a b f g new made is =
       first = place_of left old;
       set = new.set;
       wires = new.wires;
+      focus = new.focus;
       none_wait = new.none_wait;
       before = a;
       after = b;

@@ -14,9 +14,10 @@ use Rattle.set_tending.specs.group_changeover_types.errors.SendError.{SendError}
 use Rattle.set_tending.specs.Rounds.{Acts, Adds}
 use Rattle.set_tending.specs.Sending.{tended_send_fault}
 use Rattle.set_tending.specs.Tended.{Tended}
+use Rattle.line_play.specs.declared.set_orders.Focus.{Focus}
 use Rattle.line_play.specs.declared.set_orders.SetOrder.{SetOrder}
 use Rattle.line_play.specs.declared.set_orders.SetOrder.TheVariants as order
-use Rattle.line_play.specs.SetDoing.{Changes, Refuses, Shows, IsAnswer}
+use Rattle.line_play.specs.SetDoing.{Stood, Changes, Refuses, Shows, IsAnswer}
 use Rattle.line_play.specs.SetObeying.{sent_by, octets_sent, AreNoMessage, IsSent, IsUntaken, no_label, fault, IsTurnedDown, no_message, full, IsRefused, bad, unsent, untaken, other, Obeys, sends, does, refuses}
 use Rattle.line_play.specs.SetOrders.{PlainSetOrder, plain_set_order, set_order_of}
 
@@ -125,37 +126,47 @@ sent_as r x y same said = subst (λ (z : Option (List ℕ)). IfSome r (λ (s : S
 
 -- ---- an order is obeyed
 
-not_taken : (order octets : List ℕ) (t u : Tended) (m : Msu) → sent_by (words_of order) ≡ Some octets → IsMessageOf octets m → IsUntaken m t u → IsRefused order t u
-not_taken order octets t u m said is (no_label none_there same) = unsent octets said (unlabelled octets m is none_there) same
-not_taken order octets t u m said is (fault why why_is same) = untaken m why (record { octets = octets; said = said; is = is }) why_is same
+-- only the set may have changed
+with_tender : (p : Stood) (u : Tended) → u ≡ p.tender → record p { tender = u } ≡ p
+with_tender p u same = λ i. record p { tender = same i }
 
-turned_down : (order octets : List ℕ) (t u : Tended) → sent_by (words_of order) ≡ Some octets → IsTurnedDown octets t u → IsRefused order t u
-turned_down order octets t u said (no_message none_there same) = unsent octets said none_there same
-turned_down order octets t u said (full m is down) = not_taken order octets t u m said is down
+not_taken : (order octets : List ℕ) (p : Stood) (u : Tended) (m : Msu) → sent_by (words_of order) ≡ Some octets → IsMessageOf octets m → IsUntaken m p.tender u
+    → IsRefused order p (record p { tender = u })
+not_taken order octets p u m said is (no_label none_there same) = unsent octets said (unlabelled octets m is none_there) (with_tender p u same)
+not_taken order octets p u m said is (fault why why_is same) = untaken m why (record { octets = octets; said = said; is = is }) why_is (with_tender p u same)
 
-refused : {A E : Type 0} (r : Result A E) (order why : List ℕ) (t u : Tended) (a b : Stand) → IsRefused order t u
-    → OnOk r (TellsLines a b (told u.ticks (codes "refused " ++ why))) → OnOk r (TellsSuch (λ bytes. Obeys order t bytes u) a b)
-refused r order why t u a b is line =
-    on_ok_weaker r (λ (l : TellsLines a b (told u.ticks (codes "refused " ++ why))). record { bytes = told u.ticks (codes "refused " ++ why); are = refuses why is; tells = l }) line
+turned_down : (order octets : List ℕ) (p : Stood) (u : Tended) → sent_by (words_of order) ≡ Some octets → IsTurnedDown octets p.tender u
+    → IsRefused order p (record p { tender = u })
+turned_down order octets p u said (no_message none_there same) = unsent octets said none_there (with_tender p u same)
+turned_down order octets p u said (full m is down) = not_taken order octets p u m said is down
+
+refused : {A E : Type 0} (r : Result A E) (order why : List ℕ) (whom : Focus) (p q : Stood) (a b : Stand) → IsRefused order p q
+    → OnOk r (TellsLines a b (told q.tender.ticks (codes "refused " ++ why))) → OnOk r (TellsSuch (λ bytes. Obeys order whom p bytes q) a b)
+refused r order why whom p q a b is line =
+    on_ok_weaker r
+    (λ (l : TellsLines a b (told q.tender.ticks (codes "refused " ++ why))). record { bytes = told q.tender.ticks (codes "refused " ++ why); are = refuses why is; tells = l })
+    line
 
 -- what its order said isn't taken
-pub refused_send : {A E : Type 0} (r : Result A E) (order octets why : List ℕ) (t u : Tended) (a b : Stand) → sent_by (words_of order) ≡ Some octets
-    → IsTurnedDown octets t u → OnOk r (TellsLines a b (told u.ticks (codes "refused " ++ why))) → OnOk r (TellsSuch (λ bytes. Obeys order t bytes u) a b)
-refused_send r order octets why t u a b said down line = refused r order why t u a b (turned_down order octets t u said down) line
+pub refused_send : {A E : Type 0} (r : Result A E) (order octets why : List ℕ) (whom : Focus) (p : Stood) (u : Tended) (a b : Stand) → sent_by (words_of order) ≡ Some octets
+    → IsTurnedDown octets p.tender u → OnOk r (TellsLines a b (told u.ticks (codes "refused " ++ why)))
+    → OnOk r (TellsSuch (λ bytes. Obeys order whom p bytes (record p { tender = u })) a b)
+refused_send r order octets why whom p u a b said down line = refused r order why whom p (record p { tender = u }) a b (turned_down order octets p u said down) line
 
-pub refused_bad : {A E : Type 0} (r : Result A E) (order why : List ℕ) (t : Tended) (a b : Stand) → set_order_of (words_of order) ≡ None
-    → OnOk r (TellsLines a b (told t.ticks (codes "refused " ++ why))) → OnOk r (TellsSuch (λ bytes. Obeys order t bytes t) a b)
-refused_bad r order why t a b none_there line = refused r order why t t a b (bad none_there refl) line
+pub refused_bad : {A E : Type 0} (r : Result A E) (order why : List ℕ) (whom : Focus) (p : Stood) (a b : Stand) → set_order_of (words_of order) ≡ None
+    → OnOk r (TellsLines a b (told p.tender.ticks (codes "refused " ++ why))) → OnOk r (TellsSuch (λ bytes. Obeys order whom p bytes p) a b)
+refused_bad r order why whom p a b none_there line = refused r order why whom p p a b (bad none_there refl) line
 
-pub refused_other : {A E : Type 0} (r : Result A E) (order why : List ℕ) (said : PlainSetOrder) (t u : Tended) (a b : Stand)
-    → set_order_of (words_of order) ≡ Some said → sent_by (words_of order) ≡ None → Adds t u → Refuses said t u
-    → OnOk r (TellsLines a b (told u.ticks (codes "refused " ++ why))) → OnOk r (TellsSuch (λ bytes. Obeys order t bytes u) a b)
-refused_other r order why said t u a b read none_there adds may line = refused r order why t u a b (other said read none_there adds may) line
+pub refused_other : {A E : Type 0} (r : Result A E) (order why : List ℕ) (said : PlainSetOrder) (whom : Focus) (p q : Stood) (a b : Stand)
+    → set_order_of (words_of order) ≡ Some said → sent_by (words_of order) ≡ None → Adds p.tender q.tender → Refuses said p q
+    → OnOk r (TellsLines a b (told q.tender.ticks (codes "refused " ++ why))) → OnOk r (TellsSuch (λ bytes. Obeys order whom p bytes q) a b)
+refused_other r order why said whom p q a b read none_there adds may line = refused r order why whom p q a b (other said read none_there adds may) line
 
 -- its message was taken
-pub agreed_send : {A E : Type 0} (r : Result A E) (order octets : List ℕ) (t u : Tended) (a b : Stand) → sent_by (words_of order) ≡ Some octets
-    → IsSent octets t u → OnOk r (TellsLines a b (told u.ticks (codes "ok " ++ order))) → OnOk r (TellsSuch (λ bytes. Obeys order t bytes u) a b)
-agreed_send r order octets t u a b said sent line =
+pub agreed_send : {A E : Type 0} (r : Result A E) (order octets : List ℕ) (whom : Focus) (p : Stood) (u : Tended) (a b : Stand) → sent_by (words_of order) ≡ Some octets
+    → IsSent octets p.tender u → OnOk r (TellsLines a b (told u.ticks (codes "ok " ++ order)))
+    → OnOk r (TellsSuch (λ bytes. Obeys order whom p bytes (record p { tender = u })) a b)
+agreed_send r order octets whom p u a b said sent line =
     on_ok_weaker r
     (λ (l : TellsLines a b (told u.ticks (codes "ok " ++ order))). record {
       bytes = told u.ticks (codes "ok " ++ order);
@@ -164,19 +175,19 @@ agreed_send r order octets t u a b said sent line =
     })
     line
 
-pub agreed_other : {A E : Type 0} (r : Result A E) (order : List ℕ) (said : PlainSetOrder) (t u : Tended) (a b : Stand)
-    → set_order_of (words_of order) ≡ Some said → sent_by (words_of order) ≡ None → Adds t u → Changes said t u
-    → OnOk r (TellsSuch (IsAnswer said u order) a b) → OnOk r (TellsSuch (λ bytes. Obeys order t bytes u) a b)
-agreed_other r order said t u a b read none_there adds changes answer =
+pub agreed_other : {A E : Type 0} (r : Result A E) (order : List ℕ) (said : PlainSetOrder) (whom : Focus) (p q : Stood) (a b : Stand)
+    → set_order_of (words_of order) ≡ Some said → sent_by (words_of order) ≡ None → Adds p.tender q.tender → Changes said whom p q
+    → OnOk r (TellsSuch (IsAnswer said whom q.tender order) a b) → OnOk r (TellsSuch (λ bytes. Obeys order whom p bytes q) a b)
+agreed_other r order said whom p q a b read none_there adds changes answer =
     on_ok_weaker r
-    (λ (h : TellsSuch (IsAnswer said u order) a b). record { bytes = h.bytes; are = does said read none_there adds changes h.are; tells = h.tells })
+    (λ (h : TellsSuch (IsAnswer said whom q.tender order) a b). record { bytes = h.bytes; are = does said read none_there adds changes h.are; tells = h.tells })
     answer
 
-pub answered : {A E : Type 0} (r : Result A E) (said : PlainSetOrder) (t : Tended) (order : List ℕ) (a b c : Stand)
-    → TellsLines a b (told t.ticks (codes "ok " ++ order)) → OnOk r (TellsSuch (Shows said t) b c) → OnOk r (TellsSuch (IsAnswer said t order) a c)
-answered r said t order a b c agreed asked =
+pub answered : {A E : Type 0} (r : Result A E) (said : PlainSetOrder) (whom : Focus) (t : Tended) (order : List ℕ) (a b c : Stand)
+    → TellsLines a b (told t.ticks (codes "ok " ++ order)) → OnOk r (TellsSuch (Shows said whom t) b c) → OnOk r (TellsSuch (IsAnswer said whom t order) a c)
+answered r said whom t order a b c agreed asked =
     on_ok_weaker r
-    (λ (h : TellsSuch (Shows said t) b c). record {
+    (λ (h : TellsSuch (Shows said whom t) b c). record {
       bytes = told t.ticks (codes "ok " ++ order) ++ h.bytes;
       are = record { more = h.bytes; shows = h.are; are = refl };
       tells = tells_trans a b c (told t.ticks (codes "ok " ++ order)) h.bytes agreed h.tells;

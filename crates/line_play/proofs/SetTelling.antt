@@ -14,8 +14,9 @@ use Rattle.set_tending.specs.Set.{LinkSet}
 use Rattle.set_tending.specs.Tended.{Tended}
 use Rattle.set_tending.specs.Texts.{told_text}
 use Rattle.set_tending.specs.declared.told.Told.{Told}
-use Rattle.line_play.specs.SetDoing.{IsCount, IsMeasured, ABORTED, IsShown, ShowsLines, no_line, one_line, held_text, unsure_text, ShowsHeld, no_link, one_link, Shows}
+use Rattle.line_play.specs.SetDoing.{first_of, last_of, IsCount, IsMeasured, ABORTED, IsShown, ShowsLines, no_line, one_line, ShowsEach, none_yet, one_more, ShowsLinks, held_text, unsure_text, ShowsHeld, no_link, one_link, Shows}
 use Rattle.line_play.specs.SetOrders.{PlainSetOrder, plain_set_order, measuring, aborted, measures}
+use Rattle.line_play.specs.declared.set_orders.Focus.{Focus}
 use Rattle.line_play.specs.declared.set_orders.SetOrder.{SetOrder}
 use Rattle.line_play.specs.declared.set_orders.SetOrder.TheVariants as order
 use Rattle.line_play.specs.SetRounds.{Takes, Tells, nothing, one, TellsAll}
@@ -33,61 +34,76 @@ ok_so (Err e) P h = tt
 
 -- ---- what orders ask for
 
-pub shows_none : (said : PlainSetOrder) (now : ℕ) (a : Stand) → TellsSuch (ShowsLines said now) a a
-shows_none said now a = record { bytes = []; are = no_line; tells = tells_none a }
+pub shows_none : (said : PlainSetOrder) (l now : ℕ) (a : Stand) → TellsSuch (ShowsLines said l now) a a
+shows_none said l now a = record { bytes = []; are = no_line; tells = tells_none a }
 
-both_shown : (said : PlainSetOrder) (now : ℕ) (xs ys : List ℕ) → ShowsLines said now xs → ShowsLines said now ys → ShowsLines said now (xs ++ ys)
-both_shown said now xs _ before no_line = subst (λ (zs : List ℕ). ShowsLines said now zs) (sym (append-nil xs)) before
-both_shown said now xs _ before (one_line {bytes} text behind shown) =
-    subst (λ (zs : List ℕ). ShowsLines said now zs) (append_assoc xs bytes (told now text)) (one_line text (both_shown said now xs bytes before behind) shown)
+both_shown : (said : PlainSetOrder) (l now : ℕ) (xs ys : List ℕ) → ShowsLines said l now xs → ShowsLines said l now ys → ShowsLines said l now (xs ++ ys)
+both_shown said l now xs _ before no_line = subst (λ (zs : List ℕ). ShowsLines said l now zs) (sym (append-nil xs)) before
+both_shown said l now xs _ before (one_line {bytes} text behind shown) =
+    subst (λ (zs : List ℕ). ShowsLines said l now zs) (append_assoc xs bytes (told now text)) (one_line text (both_shown said l now xs bytes before behind) shown)
 
-pub shows_then : (said : PlainSetOrder) (now : ℕ) (a b c : Stand) → TellsSuch (ShowsLines said now) a b → TellsSuch (ShowsLines said now) b c
-    → TellsSuch (ShowsLines said now) a c
-shows_then said now a b c first second = record {
+shows_then : (said : PlainSetOrder) (l now : ℕ) (a b c : Stand) → TellsSuch (ShowsLines said l now) a b → TellsSuch (ShowsLines said l now) b c
+    → TellsSuch (ShowsLines said l now) a c
+shows_then said l now a b c first second = record {
   bytes = first.bytes ++ second.bytes;
-  are = both_shown said now first.bytes second.bytes first.are second.are;
+  are = both_shown said l now first.bytes second.bytes first.are second.are;
   tells = tells_trans a b c first.bytes second.bytes first.tells second.tells;
 }
 
 -- one line
-pub shows_one : {A E : Type 0} (r : Result A E) (said : PlainSetOrder) (now : ℕ) (a b : Stand) (text : List ℕ) → IsShown said text
-    → OnOk r (TellsLines a b (told now text)) → OnOk r (TellsSuch (ShowsLines said now) a b)
-shows_one r said now a b text shown line =
-    on_ok_weaker r (λ (l : TellsLines a b (told now text)). record { bytes = told now text; are = one_line text no_line shown; tells = l }) line
+pub shows_one : {A E : Type 0} (r : Result A E) (said : PlainSetOrder) (l now : ℕ) (a b : Stand) (text : List ℕ) → IsShown said l text
+    → OnOk r (TellsLines a b (told now text)) → OnOk r (TellsSuch (ShowsLines said l now) a b)
+shows_one r said l now a b text shown line =
+    on_ok_weaker r (λ (h : TellsLines a b (told now text)). record { bytes = told now text; are = one_line text no_line shown; tells = h }) line
 
-pub is_count : (name word text : List ℕ) (link count : ℕ) → name ≡ word
-    → text ≡ decimal link ++ (codes " measure " ++ (name ++ (codes " " ++ decimal count))) → IsCount word text
-is_count name word text link count same are =
-    subst (λ (xs : List ℕ). IsCount xs text) same (record { link = link; count = count; are = are })
+pub is_count : (name word text : List ℕ) (l count : ℕ) → name ≡ word
+    → text ≡ decimal l ++ (codes " measure " ++ (name ++ (codes " " ++ decimal count))) → IsCount word l text
+is_count name word text l count same are = subst (λ (xs : List ℕ). IsCount xs l text) same (record { count = count; are = are })
 
 -- any measurement is one of all
-as_measures : (said : PlainSetOrder) (now : ℕ) (bytes : List ℕ) → ((text : List ℕ) → IsShown said text → IsMeasured text) → ShowsLines said now bytes
-    → ShowsLines measures now bytes
-as_measures said now _ is no_line = no_line
-as_measures said now _ is (one_line {bytes} text before shown) = one_line text (as_measures said now bytes is before) (is text shown)
+as_measures : (said : PlainSetOrder) (l now : ℕ) (bytes : List ℕ) → ((text : List ℕ) → IsShown said l text → IsMeasured l text) → ShowsLines said l now bytes
+    → ShowsLines measures l now bytes
+as_measures said l now _ is no_line = no_line
+as_measures said l now _ is (one_line {bytes} text before shown) = one_line text (as_measures said l now bytes is before) (is text shown)
 
-measured_so : (now : ℕ) (a b : Stand) (m : Measure) → TellsSuch (ShowsLines (measuring m) now) a b → TellsSuch (ShowsLines measures now) a b
-measured_so now a b m told_so = record {
+measured_so : (l now : ℕ) (a b : Stand) (m : Measure) → TellsSuch (ShowsLines (measuring m) l now) a b → TellsSuch (ShowsLines measures l now) a b
+measured_so l now a b m told_so = record {
   bytes = told_so.bytes;
-  are = as_measures (measuring m) now told_so.bytes (λ text is. record { name = measure_word m; is = is }) told_so.are;
+  are = as_measures (measuring m) l now told_so.bytes (λ text is. record { name = measure_word m; is = is }) told_so.are;
   tells = told_so.tells;
 }
 
-aborted_so : (now : ℕ) (a b : Stand) → TellsSuch (ShowsLines aborted now) a b → TellsSuch (ShowsLines measures now) a b
-aborted_so now a b told_so = record {
+aborted_so : (l now : ℕ) (a b : Stand) → TellsSuch (ShowsLines aborted l now) a b → TellsSuch (ShowsLines measures l now) a b
+aborted_so l now a b told_so = record {
   bytes = told_so.bytes;
-  are = as_measures aborted now told_so.bytes (λ text is. record { name = ABORTED; is = is }) told_so.are;
+  are = as_measures aborted l now told_so.bytes (λ text is. record { name = ABORTED; is = is }) told_so.are;
   tells = told_so.tells;
 }
 
-pub then_measured : (now : ℕ) (a b c : Stand) (m : Measure) → TellsSuch (ShowsLines measures now) a b → TellsSuch (ShowsLines (measuring m) now) b c
-    → TellsSuch (ShowsLines measures now) a c
-then_measured now a b c m first second = shows_then measures now a b c first (measured_so now b c m second)
+pub then_measured : (l now : ℕ) (a b c : Stand) (m : Measure) → TellsSuch (ShowsLines measures l now) a b → TellsSuch (ShowsLines (measuring m) l now) b c
+    → TellsSuch (ShowsLines measures l now) a c
+then_measured l now a b c m first second = shows_then measures l now a b c first (measured_so l now b c m second)
 
-pub then_aborted : {A E : Type 0} (r : Result A E) (now : ℕ) (a b c : Stand) → TellsSuch (ShowsLines measures now) a b
-    → OnOk r (TellsSuch (ShowsLines aborted now) b c) → OnOk r (TellsSuch (ShowsLines measures now) a c)
-then_aborted r now a b c first second =
-    on_ok_weaker r (λ (more : TellsSuch (ShowsLines aborted now) b c). shows_then measures now a b c first (aborted_so now b c more)) second
+pub then_aborted : {A E : Type 0} (r : Result A E) (l now : ℕ) (a b c : Stand) → TellsSuch (ShowsLines measures l now) a b
+    → OnOk r (TellsSuch (ShowsLines aborted l now) b c) → OnOk r (TellsSuch (ShowsLines measures l now) a c)
+then_aborted r l now a b c first second =
+    on_ok_weaker r (λ (more : TellsSuch (ShowsLines aborted l now) b c). shows_then measures l now a b c first (aborted_so l now b c more)) second
+
+-- link by link
+pub each_none : (said : PlainSetOrder) (now first : ℕ) (a : Stand) → TellsSuch (ShowsEach said now first first) a a
+each_none said now first a = record { bytes = []; are = none_yet; tells = tells_none a }
+
+pub each_more : (said : PlainSetOrder) (now first last : ℕ) (a b c : Stand) → TellsSuch (ShowsEach said now first last) a b → TellsSuch (ShowsLines said last now) b c
+    → TellsSuch (ShowsEach said now first (last + 1)) a c
+each_more said now first last a b c before more = record {
+  bytes = before.bytes ++ more.bytes;
+  are = one_more more.bytes before.are more.are;
+  tells = tells_trans a b c before.bytes more.bytes before.tells more.tells;
+}
+
+pub each_to : (said : PlainSetOrder) (now first last gone : ℕ) (a b : Stand) → gone ≡ last → TellsSuch (ShowsEach said now first gone) a b
+    → TellsSuch (ShowsEach said now first last) a b
+each_to said now first last gone a b all before = subst (λ (n : ℕ). TellsSuch (ShowsEach said now first n) a b) all before
 
 -- ---- what is told of the set
 
@@ -129,29 +145,33 @@ held_all t l a b all before = subst (λ (n : ℕ). TellsSuch (ShowsHeld t n) a b
 pub told_just : {A E : Type 0} (r : Result A E) (a b : Stand) (bytes : List ℕ) → OnOk r (TellsLines a b bytes) → OnOk r (TellsSuch (λ xs. xs ≡ bytes) a b)
 told_just r a b bytes line = on_ok_weaker r (λ (l : TellsLines a b bytes). record { bytes = bytes; are = refl; tells = l }) line
 
-lines_are : (s : SetOrder) (t : Tended) (bytes : List ℕ) → (s ≡ order.Table → ⊥) → (s ≡ order.Unsure → ⊥) → (s ≡ order.Held → ⊥)
-    → ShowsLines (plain_set_order s) t.ticks bytes → Shows (plain_set_order s) t bytes
-lines_are (order.On focus) t bytes not_table not_unsure not_held lines = lines
-lines_are (order.Link obeyed) t bytes not_table not_unsure not_held lines = lines
-lines_are (order.State process) t bytes not_table not_unsure not_held lines = lines
-lines_are (order.Value process variable) t bytes not_table not_unsure not_held lines = lines
-lines_are (order.Measure measure) t bytes not_table not_unsure not_held lines = lines
-lines_are order.Aborted t bytes not_table not_unsure not_held lines = lines
-lines_are order.Measures t bytes not_table not_unsure not_held lines = lines
-lines_are order.Reset t bytes not_table not_unsure not_held lines = lines
-lines_are (order.Send octets) t bytes not_table not_unsure not_held lines = lines
-lines_are order.Table t bytes not_table not_unsure not_held lines = absurd (not_table refl)
-lines_are order.Held t bytes not_table not_unsure not_held lines = absurd (not_held refl)
-lines_are order.Unsure t bytes not_table not_unsure not_held lines = absurd (not_unsure refl)
-lines_are order.Rebalance t bytes not_table not_unsure not_held lines = lines
+lines_are : (s : SetOrder) (whom : Focus) (t : Tended) (bytes : List ℕ) → (s ≡ order.Table → ⊥) → (s ≡ order.Unsure → ⊥) → (s ≡ order.Held → ⊥)
+    → ShowsLinks (plain_set_order s) whom t bytes → Shows (plain_set_order s) whom t bytes
+lines_are (order.On focus) whom t bytes not_table not_unsure not_held lines = lines
+lines_are (order.Link obeyed) whom t bytes not_table not_unsure not_held lines = lines
+lines_are (order.State process) whom t bytes not_table not_unsure not_held lines = lines
+lines_are (order.Value process variable) whom t bytes not_table not_unsure not_held lines = lines
+lines_are (order.Measure measure) whom t bytes not_table not_unsure not_held lines = lines
+lines_are order.Aborted whom t bytes not_table not_unsure not_held lines = lines
+lines_are order.Measures whom t bytes not_table not_unsure not_held lines = lines
+lines_are order.Reset whom t bytes not_table not_unsure not_held lines = lines
+lines_are (order.Send octets) whom t bytes not_table not_unsure not_held lines = lines
+lines_are order.Table whom t bytes not_table not_unsure not_held lines = absurd (not_table refl)
+lines_are order.Held whom t bytes not_table not_unsure not_held lines = absurd (not_held refl)
+lines_are order.Unsure whom t bytes not_table not_unsure not_held lines = absurd (not_unsure refl)
+lines_are order.Rebalance whom t bytes not_table not_unsure not_held lines = lines
 
-pub lines_shown : {A E : Type 0} (r : Result A E) (s : SetOrder) (t : Tended) (a b : Stand) → (s ≡ order.Table → ⊥) → (s ≡ order.Unsure → ⊥) → (s ≡ order.Held → ⊥)
-    → OnOk r (TellsSuch (ShowsLines (plain_set_order s) t.ticks) a b) → OnOk r (TellsSuch (Shows (plain_set_order s) t) a b)
-lines_shown r s t a b not_table not_unsure not_held lines =
+pub lines_shown : {A E : Type 0} (r : Result A E) (s : SetOrder) (whom : Focus) (t : Tended) (first last : ℕ) (a b : Stand) → first ≡ first_of whom → last ≡ last_of whom t
+    → (s ≡ order.Table → ⊥) → (s ≡ order.Unsure → ⊥) → (s ≡ order.Held → ⊥) → OnOk r (TellsSuch (ShowsEach (plain_set_order s) t.ticks first last) a b)
+    → OnOk r (TellsSuch (Shows (plain_set_order s) whom t) a b)
+lines_shown r s whom t first last a b first_is last_is not_table not_unsure not_held lines =
     on_ok_weaker r
-    (λ (h : TellsSuch (ShowsLines (plain_set_order s) t.ticks) a b). record {
+    (λ (h : TellsSuch (ShowsEach (plain_set_order s) t.ticks first last) a b). record {
       bytes = h.bytes;
-      are = lines_are s t h.bytes not_table not_unsure not_held h.are;
+      are =
+          lines_are s whom t h.bytes not_table not_unsure not_held
+          (subst (λ (n : ℕ). ShowsEach (plain_set_order s) t.ticks (first_of whom) n h.bytes) last_is
+          (subst (λ (n : ℕ). ShowsEach (plain_set_order s) t.ticks n last h.bytes) first_is h.are));
       tells = h.tells;
     })
     lines

@@ -1,6 +1,6 @@
 -- What an order to a set changes, and what is told of what it asked for.
-use Rattle.std.specs.Prelude.{◌≡◌, ℕ, ◌+◌, ◌≤◌, true, false, List, [], ◌++◌, None, map, slice_get}
-use Rattle.std.specs.Prelude.{unwrap_or, codes}
+use Rattle.std.specs.Prelude.{◌≡◌, ℕ, ◌+◌, ◌-◌, ◌^◌, ◌≤◌, min, true, false, List, [], ◌++◌, None}
+use Rattle.std.specs.Prelude.{map, slice_get, unwrap_or, codes}
 use Rattle.std.specs.Fmt.{decimal}
 use Rattle.script_terminal.specs.MeasureNames.{measure_word}
 use Rattle.script_terminal.specs.TermAnswers.{command_of}
@@ -17,8 +17,33 @@ use Rattle.set_tending.specs.Texts.{told_text}
 use Rattle.set_tending.specs.declared.told.Told.TheVariants.{Shared}
 use Rattle.line_play.specs.declared.set_orders.Focus.{Focus}
 use Rattle.line_play.specs.declared.set_orders.Focus.TheVariants.{Link as OneLink, All}
+use Rattle.line_play.specs.declared.set_state.SetState.{SetState}
 use Rattle.line_play.specs.SetOrders.{PlainSetOrder, on, links, state, value, measuring, aborted}
 use Rattle.line_play.specs.SetOrders.{measures, resetting, send, table, held, unsure, rebalance}
+
+-- ---- of which links orders speak
+
+-- a set, and which links the next order speaks of
+pub record Stood : Type 0 where
+  pub tender : Tended
+  pub focus : Focus
+
+abbrev pub stood : SetState → Stood
+stood s = record { tender = s.tender; focus = s.focus }
+
+-- from the first to before the last
+abbrev pub first_of : Focus → ℕ
+first_of (OneLink l) = l
+first_of All = 0
+
+abbrev pub last_of : Focus → Tended → ℕ
+last_of (OneLink l) t = min (2 ^ 64 - 1) (l + 1)
+last_of All t = t.plan.links
+
+-- there is no such link
+abbrev pub IsNoLink : Focus → Tended → Type 0
+IsNoLink (OneLink l) t = t.plan.links ≤ l
+IsNoLink All t = ⊥
 
 -- ---- what it changes
 
@@ -34,117 +59,125 @@ pub data ObeyEach (command : Command) (first : ℕ) (t : Tended) : ℕ → Tende
       → ObeyEach command first t last u → ObeysAt command last u w
       → ObeyEach command first t (last + 1) w
 
-pub record Commands (command : Command) (t u : Tended) : Type 0 where
-  pub first : ℕ
-  pub last : ℕ
-  pub each : ObeyEach command first t last u
+-- those of which it speaks obey it
+pub record Commands (command : Command) (whom : Focus) (p q : Stood) : Type 0 where
+  pub each : ObeyEach command (first_of whom) p.tender (last_of whom p.tender) q.tender
+  pub focus : q.focus ≡ p.focus
+
+-- orders speak of these links from now on
+pub record Looks (focus : Focus) (p q : Stood) : Type 0 where
+  pub there : IsNoLink focus p.tender → ⊥
+  pub is : q ≡ record p { focus = focus }
 
 -- selections are shared out anew
-pub record Rebalances (t u : Tended) : Type 0 where
-  pub may : rebalance_fault t.set ≡ None
-  pub is : u ≡ record t { set = rebalanced t.set }
+pub record Rebalances (p q : Stood) : Type 0 where
+  pub may : rebalance_fault p.tender.set ≡ None
+  pub is : q ≡ record p { tender = record p.tender { set = rebalanced p.tender.set } }
 
--- an order to links is that command to each of some, and a question changes nothing
-abbrev pub Changes : PlainSetOrder → Tended → Tended → Type 0
-Changes (on focus) t u = u ≡ t
-Changes (links order) t u = Commands (command_of order) t u
-Changes (state process) t u = u ≡ t
-Changes (value process variable) t u = u ≡ t
-Changes (measuring measure) t u = u ≡ t
-Changes aborted t u = u ≡ t
-Changes measures t u = u ≡ t
-Changes resetting t u = u ≡ t
-Changes (send octets) t u = ⊥
-Changes table t u = u ≡ t
-Changes held t u = u ≡ t
-Changes unsure t u = u ≡ t
-Changes rebalance t u = Rebalances t u
+-- an order to links is that command to each of those of which it speaks, and a question changes
+-- nothing
+abbrev pub Changes : PlainSetOrder → Focus → Stood → Stood → Type 0
+Changes (on focus) whom p q = Looks focus p q
+Changes (links order) whom p q = Commands (command_of order) whom p q
+Changes (state process) whom p q = q ≡ p
+Changes (value process variable) whom p q = q ≡ p
+Changes (measuring measure) whom p q = q ≡ p
+Changes aborted whom p q = q ≡ p
+Changes measures whom p q = q ≡ p
+Changes resetting whom p q = q ≡ p
+Changes (send octets) whom p q = ⊥
+Changes table whom p q = q ≡ p
+Changes held whom p q = q ≡ p
+Changes unsure whom p q = q ≡ p
+Changes rebalance whom p q = Rebalances p q
 
 -- ---- why it is refused, and what it has done then
 
--- there is no such link
-abbrev pub IsNoLink : Focus → Tended → Type 0
-IsNoLink (OneLink l) t = t.plan.links ≤ l
-IsNoLink All t = ⊥
+pub record NoFocus (focus : Focus) (p q : Stood) : Type 0 where
+  pub none_there : IsNoLink focus p.tender
+  pub same : q ≡ p
 
-pub record NoFocus (focus : Focus) (t u : Tended) : Type 0 where
-  pub none_there : IsNoLink focus t
-  pub same : u ≡ t
-
-pub record NoRebalance (t u : Tended) : Type 0 where
-  pub fault : rebalance_fault t.set ≡ None → ⊥
-  pub same : u ≡ t
+pub record NoRebalance (p q : Stood) : Type 0 where
+  pub fault : rebalance_fault p.tender.set ≡ None → ⊥
+  pub same : q ≡ p
 
 -- Links may refuse a command, and the state of an actor or a variable isn't told where the text has
 -- no such name. Nothing else is refused but `on` and `rebalance`. Only links that obeyed may have
 -- changed.
-abbrev pub Refuses : PlainSetOrder → Tended → Tended → Type 0
-Refuses (on focus) t u = NoFocus focus t u
-Refuses (links order) t u = Unit {0}
-Refuses (state process) t u = u ≡ t
-Refuses (value process variable) t u = u ≡ t
-Refuses (measuring measure) t u = ⊥
-Refuses aborted t u = ⊥
-Refuses measures t u = ⊥
-Refuses resetting t u = ⊥
-Refuses (send octets) t u = ⊥
-Refuses table t u = ⊥
-Refuses held t u = ⊥
-Refuses unsure t u = ⊥
-Refuses rebalance t u = NoRebalance t u
+abbrev pub Refuses : PlainSetOrder → Stood → Stood → Type 0
+Refuses (on focus) p q = NoFocus focus p q
+Refuses (links order) p q = q.focus ≡ p.focus
+Refuses (state process) p q = q ≡ p
+Refuses (value process variable) p q = q ≡ p
+Refuses (measuring measure) p q = ⊥
+Refuses aborted p q = ⊥
+Refuses measures p q = ⊥
+Refuses resetting p q = ⊥
+Refuses (send octets) p q = ⊥
+Refuses table p q = ⊥
+Refuses held p q = ⊥
+Refuses unsure p q = ⊥
+Refuses rebalance p q = NoRebalance p q
 
 -- ---- what is told of links
 
 -- the state of an actor, and the value of one of its variables, which are the text's own words
-pub record IsState (process text : List ℕ) : Type 0 where
-  pub link : ℕ
+pub record IsState (process : List ℕ) (l : ℕ) (text : List ℕ) : Type 0 where
   pub what : List ℕ
-  pub are : text ≡ decimal link ++ (codes " state " ++ (process ++ (codes " " ++ what)))
+  pub are : text ≡ decimal l ++ (codes " state " ++ (process ++ (codes " " ++ what)))
 
-pub record IsValue (process variable text : List ℕ) : Type 0 where
-  pub link : ℕ
+pub record IsValue (process variable : List ℕ) (l : ℕ) (text : List ℕ) : Type 0 where
   pub what : List ℕ
   pub are :
       text
-      ≡ decimal link
+      ≡ decimal l
       ++ (codes " value " ++ (process ++ (codes " " ++ (variable ++ (codes " " ++ what)))))
 
 -- a count that has this name
-pub record IsCount (name text : List ℕ) : Type 0 where
-  pub link : ℕ
+pub record IsCount (name : List ℕ) (l : ℕ) (text : List ℕ) : Type 0 where
   pub count : ℕ
-  pub are : text ≡ decimal link ++ (codes " measure " ++ (name ++ (codes " " ++ decimal count)))
+  pub are : text ≡ decimal l ++ (codes " measure " ++ (name ++ (codes " " ++ decimal count)))
 
 -- any count
-pub record IsMeasured (text : List ℕ) : Type 0 where
+pub record IsMeasured (l : ℕ) (text : List ℕ) : Type 0 where
   pub name : List ℕ
-  pub is : IsCount name text
+  pub is : IsCount name l text
 
 -- the name of the count of aborted proving periods
 abbrev pub ABORTED : List ℕ
 ABORTED = codes "aborted_periods"
 
 -- a line about a link that is asked for
-abbrev pub IsShown : PlainSetOrder → List ℕ → Type 0
-IsShown (on focus) text = ⊥
-IsShown (links order) text = ⊥
-IsShown (state process) text = IsState process text
-IsShown (value process variable) text = IsValue process variable text
-IsShown (measuring measure) text = IsCount (measure_word measure) text
-IsShown aborted text = IsCount ABORTED text
-IsShown measures text = IsMeasured text
-IsShown resetting text = ⊥
-IsShown (send octets) text = ⊥
-IsShown table text = ⊥
-IsShown held text = ⊥
-IsShown unsure text = ⊥
-IsShown rebalance text = ⊥
+abbrev pub IsShown : PlainSetOrder → ℕ → List ℕ → Type 0
+IsShown (on focus) l text = ⊥
+IsShown (links order) l text = ⊥
+IsShown (state process) l text = IsState process l text
+IsShown (value process variable) l text = IsValue process variable l text
+IsShown (measuring measure) l text = IsCount (measure_word measure) l text
+IsShown aborted l text = IsCount ABORTED l text
+IsShown measures l text = IsMeasured l text
+IsShown resetting l text = ⊥
+IsShown (send octets) l text = ⊥
+IsShown table l text = ⊥
+IsShown held l text = ⊥
+IsShown unsure l text = ⊥
+IsShown rebalance l text = ⊥
 
 -- such lines, with a millisecond; none where nothing is asked for
-pub data ShowsLines (said : PlainSetOrder) (now : ℕ) : List ℕ → Type 0 where
-  no_line : ShowsLines said now []
-  one_line : {bytes : List ℕ} (text : List ℕ) → ShowsLines said now bytes → IsShown said text
-      → ShowsLines said now (bytes ++ told now text)
+pub data ShowsLines (said : PlainSetOrder) (l now : ℕ) : List ℕ → Type 0 where
+  no_line : ShowsLines said l now []
+  one_line : {bytes : List ℕ} (text : List ℕ) → ShowsLines said l now bytes → IsShown said l text
+      → ShowsLines said l now (bytes ++ told now text)
+
+-- of links one after another, from the first to before the last
+pub data ShowsEach (said : PlainSetOrder) (now first : ℕ) : ℕ → List ℕ → Type 0 where
+  none_yet : ShowsEach said now first first []
+  one_more : {last : ℕ} {bytes : List ℕ} (more : List ℕ)
+      → ShowsEach said now first last bytes → ShowsLines said last now more
+      → ShowsEach said now first (last + 1) (bytes ++ more)
+
+abbrev pub ShowsLinks : PlainSetOrder → Focus → Tended → List ℕ → Type 0
+ShowsLinks said whom t bytes = ShowsEach said t.ticks (first_of whom) (last_of whom t) bytes
 
 -- ---- what is told of the set
 
@@ -171,23 +204,24 @@ unsure_text t = codes "unsure " ++ decimal t.set.unsure
 
 -- ---- what is told of an order that was obeyed
 
-abbrev pub Shows : PlainSetOrder → Tended → List ℕ → Type 0
-Shows (on focus) t bytes = ShowsLines (on focus) t.ticks bytes
-Shows (links order) t bytes = ShowsLines (links order) t.ticks bytes
-Shows (state process) t bytes = ShowsLines (state process) t.ticks bytes
-Shows (value process variable) t bytes = ShowsLines (value process variable) t.ticks bytes
-Shows (measuring measure) t bytes = ShowsLines (measuring measure) t.ticks bytes
-Shows aborted t bytes = ShowsLines aborted t.ticks bytes
-Shows measures t bytes = ShowsLines measures t.ticks bytes
-Shows resetting t bytes = ShowsLines resetting t.ticks bytes
-Shows (send octets) t bytes = ShowsLines (send octets) t.ticks bytes
-Shows table t bytes = bytes ≡ told t.ticks (table_text t)
-Shows held t bytes = ShowsHeld t t.plan.links bytes
-Shows unsure t bytes = bytes ≡ told t.ticks (unsure_text t)
-Shows rebalance t bytes = ShowsLines rebalance t.ticks bytes
+abbrev pub Shows : PlainSetOrder → Focus → Tended → List ℕ → Type 0
+Shows (on focus) whom t bytes = ShowsLinks (on focus) whom t bytes
+Shows (links order) whom t bytes = ShowsLinks (links order) whom t bytes
+Shows (state process) whom t bytes = ShowsLinks (state process) whom t bytes
+Shows (value process variable) whom t bytes = ShowsLinks (value process variable) whom t bytes
+Shows (measuring measure) whom t bytes = ShowsLinks (measuring measure) whom t bytes
+Shows aborted whom t bytes = ShowsLinks aborted whom t bytes
+Shows measures whom t bytes = ShowsLinks measures whom t bytes
+Shows resetting whom t bytes = ShowsLinks resetting whom t bytes
+Shows (send octets) whom t bytes = ShowsLinks (send octets) whom t bytes
+Shows table whom t bytes = bytes ≡ told t.ticks (table_text t)
+Shows held whom t bytes = ShowsHeld t t.plan.links bytes
+Shows unsure whom t bytes = bytes ≡ told t.ticks (unsure_text t)
+Shows rebalance whom t bytes = ShowsLinks rebalance whom t bytes
 
 -- it is told as obeyed, and behind it what it asked for
-pub record IsAnswer (said : PlainSetOrder) (t : Tended) (order bytes : List ℕ) : Type 0 where
+pub record IsAnswer (said : PlainSetOrder) (whom : Focus) (t : Tended) (order bytes : List ℕ) :
+    Type 0 where
   pub more : List ℕ
-  pub shows : Shows said t more
+  pub shows : Shows said whom t more
   pub are : bytes ≡ told t.ticks (codes "ok " ++ order) ++ more

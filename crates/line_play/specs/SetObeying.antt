@@ -12,9 +12,10 @@ use Rattle.set_tending.specs.Rounds.{Acts, Adds}
 use Rattle.set_tending.specs.Sending.{tended_send_fault}
 use Rattle.set_tending.specs.Tended.{Tended}
 use Rattle.set_tending.specs.group_changeover_types.errors.SendError.{SendError}
+use Rattle.line_play.specs.declared.set_orders.Focus.{Focus}
 use Rattle.line_play.specs.declared.set_orders.SetOrder.{SetOrder}
 use Rattle.line_play.specs.declared.set_orders.SetOrder.TheVariants as order
-use Rattle.line_play.specs.SetDoing.{Changes, Refuses, IsAnswer}
+use Rattle.line_play.specs.SetDoing.{Stood, Changes, Refuses, IsAnswer}
 use Rattle.line_play.specs.SetOrders.{PlainSetOrder, set_order_of}
 
 -- the octets of `send HEX`
@@ -72,24 +73,25 @@ pub data IsTurnedDown (octets : List ℕ) (old new : Tended) : Type 0 where
 
 -- Why an order may be refused, and what it has done then. It reads as no order, or it sends what is
 -- no message, or its message isn't taken, and nothing changes; or it is another that is refused.
-pub data IsRefused (order : List ℕ) (t u : Tended) : Type 0 where
-  bad : set_order_of (words_of order) ≡ None → u ≡ t → IsRefused order t u
+pub data IsRefused (order : List ℕ) (p q : Stood) : Type 0 where
+  bad : set_order_of (words_of order) ≡ None → q ≡ p → IsRefused order p q
   unsent : (octets : List ℕ) → sent_by (words_of order) ≡ Some octets → AreNoMessage octets
-      → u ≡ t → IsRefused order t u
-  untaken : (m : Msu) (why : SendError) → Sends order m → tended_send_fault t.set m ≡ Some why
-      → u ≡ t → IsRefused order t u
+      → q ≡ p → IsRefused order p q
+  untaken : (m : Msu) (why : SendError) → Sends order m
+      → tended_send_fault p.tender.set m ≡ Some why → q ≡ p → IsRefused order p q
   other : (said : PlainSetOrder) → set_order_of (words_of order) ≡ Some said
-      → sent_by (words_of order) ≡ None → Adds t u → Refuses said t u
-      → IsRefused order t u
+      → sent_by (words_of order) ≡ None → Adds p.tender q.tender → Refuses said p q
+      → IsRefused order p q
 
--- An order is obeyed, and that is told: `send` took its message; or what else its words say is done
--- by calls of the set that take none, and what it asked for is told behind that; or it is refused.
-pub data Obeys (order : List ℕ) (t : Tended) : List ℕ → Tended → Type 0 where
-  sends : {u : Tended} (m : Msu) → Sends order m → Acts (m ∷ []) [] t u
-      → Obeys order t (told u.ticks (codes "ok " ++ order)) u
-  does : {bytes : List ℕ} {u : Tended} (said : PlainSetOrder)
-      → set_order_of (words_of order) ≡ Some said → sent_by (words_of order) ≡ None → Adds t u
-      → Changes said t u → IsAnswer said u order bytes
-      → Obeys order t bytes u
-  refuses : {u : Tended} (why : List ℕ) → IsRefused order t u
-      → Obeys order t (told u.ticks (codes "refused " ++ why)) u
+-- An order about these links is obeyed, and that is told: `send` took its message; or what else its
+-- words say is done by calls of the set that take none, and what it asked for is told behind that;
+-- or it is refused.
+pub data Obeys (order : List ℕ) (whom : Focus) (p : Stood) : List ℕ → Stood → Type 0 where
+  sends : {u : Tended} (m : Msu) → Sends order m → Acts (m ∷ []) [] p.tender u
+      → Obeys order whom p (told u.ticks (codes "ok " ++ order)) (record p { tender = u })
+  does : {bytes : List ℕ} {q : Stood} (said : PlainSetOrder)
+      → set_order_of (words_of order) ≡ Some said → sent_by (words_of order) ≡ None
+      → Adds p.tender q.tender → Changes said whom p q → IsAnswer said whom q.tender order bytes
+      → Obeys order whom p bytes q
+  refuses : {q : Stood} (why : List ℕ) → IsRefused order p q
+      → Obeys order whom p (told q.tender.ticks (codes "refused " ++ why)) q

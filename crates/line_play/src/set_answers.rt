@@ -1,12 +1,12 @@
 //! What orders to a set lead to.
-ghost use Rattle.std.specs.Prelude.{◌≡◌, ◌++◌, ◌∷◌, [], IfOk, IsSome, IsNone, OnOk, None, Some, codes};
+ghost use Rattle.std.specs.Prelude.{◌≡◌, ◌≤◌, ◌++◌, ◌∷◌, [], true, false, IfOk, IsSome, IsNone, OnOk, None, Some, codes};
 ghost use Rattle.script_lines.specs.Words.{words_of};
 ghost use Rattle.line_filter.specs.Desks.{Told as TellsSuch};
 ghost use Rattle.line_filter.specs.Orders.{told};
 ghost use Rattle.line_filter.specs.Reporting.{TellsLines};
 ghost use Rattle.set_tending.specs.Rounds.{Acts, Adds};
 ghost use Rattle.script_terminal.specs.TermAnswers.{command_of};
-ghost use Rattle.line_play.specs.SetDoing.{ObeysAt, Commands, Rebalances, NoFocus, NoRebalance, Changes, Refuses, IsAnswer};
+ghost use Rattle.line_play.specs.SetDoing.{stood, IsNoLink, ObeysAt, ObeyEach, Commands, Looks, Rebalances, NoFocus, NoRebalance, Changes, Refuses, IsAnswer};
 ghost use Rattle.line_play.specs.SetObeying.{Obeys, IsSent, IsUntaken, IsTurnedDown, octets_sent, sent_by};
 ghost use Rattle.line_play.specs.SetOrders.{plain_set_order, set_order_of};
 
@@ -76,8 +76,9 @@ fn obey_links(
     to: usize,
     order: script_links::Order,
 ) -> Result<Option<CommandError>, AllocError>
+    requires { from ≤ to }
     ensures adds { OnOk result (Adds tender.old tender.new) }
-    ensures obeys { IfOk result (λ r. IsNone r → Commands (command_of order) tender.old tender.new) }
+    ensures obeys { IfOk result (λ r. IsNone r → ObeyEach (command_of order) from tender.old to tender.new) }
 {
     let mut first: Option<CommandError> = None;
     for link in from..to {
@@ -152,7 +153,7 @@ impl SetState {
         focus: Focus,
         order: &SetOrder<'_>,
     ) -> io::Result<Option<Refused>>
-        ensures { IfOk result (λ r. IsSome r → Refuses (plain_set_order order.now) self.now.tender self.now.tender) }
+        ensures { IfOk result (λ r. IsSome r → Refuses (plain_set_order order.now) (stood self.now) (stood self.now)) }
     {
         match order {
             SetOrder::State(process) => self.why_no_state(alloc, focus, process),
@@ -171,22 +172,33 @@ impl SetState {
         order: script_links::Order,
     ) -> Result<Option<Refused>, AllocError>
         ensures adds { OnOk result (Adds self.old.tender self.new.tender) }
-        ensures obeys { IfOk result (λ r. IsNone r → Commands (command_of order) self.old.tender self.new.tender) }
+        ensures focus { self.new.focus ≡ self.old.focus }
+        ensures obeys { IfOk result (λ r. IsNone r → Commands (command_of order) focus (stood self.old) (stood self.new)) }
     {
         let (from, to) = self.links(focus);
         let first = obey_links(&mut self.tender, from, to, order)?;
         refused_for(alloc, first)
     }
 
+    /// Whether these links are there.
+    fn is_there(&self, focus: Focus) -> bool
+        ensures there { result ≡ true → IsNoLink focus self.now.tender → ⊥ }
+        ensures none { result ≡ false → IsNoLink focus self.now.tender }
+    {
+        match focus {
+            Focus::Link(link) => link < self.tender.len(),
+            Focus::All => true,
+        }
+    }
+
     /// `on L` and `on all`: orders speak of these links from now on.
     fn look_at(&mut self, alloc: Global, focus: Focus) -> Result<Option<Refused>, AllocError>
         ensures same { self.new.tender ≡ self.old.tender }
-        ensures none { IfOk result (λ r. IsSome r → NoFocus focus self.old.tender self.new.tender) }
+        ensures looks { IfOk result (λ r. IsNone r → Looks focus (stood self.old) (stood self.new)) }
+        ensures none { IfOk result (λ r. IsSome r → NoFocus focus (stood self.old) (stood self.new)) }
     {
-        if let Focus::Link(link) = focus {
-            if link >= self.tender.len() {
-                return refusal(alloc, &"K1 NoLink");
-            }
+        if !self.is_there(focus) {
+            return refusal(alloc, &"K1 NoLink");
         }
         self.focus = focus;
         Ok(None)
@@ -195,8 +207,8 @@ impl SetState {
     /// `rebalance`.
     fn rebalance(&mut self, alloc: Global) -> Result<Option<Refused>, AllocError>
         ensures adds { Adds self.old.tender self.new.tender }
-        ensures done { IfOk result (λ r. IsNone r → Rebalances self.old.tender self.new.tender) }
-        ensures none { IfOk result (λ r. IsSome r → NoRebalance self.old.tender self.new.tender) }
+        ensures done { IfOk result (λ r. IsNone r → Rebalances (stood self.old) (stood self.new)) }
+        ensures none { IfOk result (λ r. IsSome r → NoRebalance (stood self.old) (stood self.new)) }
     {
         match self.tender.rebalance() {
             Ok(()) => Ok(None),
@@ -213,8 +225,8 @@ impl SetState {
     ) -> Result<Option<Refused>, AllocError>
         requires { octets_sent order.now ≡ None }
         ensures adds { OnOk result (Adds self.old.tender self.new.tender) }
-        ensures changes { IfOk result (λ r. IsNone r → Changes (plain_set_order order.now) self.old.tender self.new.tender) }
-        ensures refuses { IfOk result (λ r. IsSome r → Refuses (plain_set_order order.now) self.old.tender self.new.tender) }
+        ensures changes { IfOk result (λ r. IsNone r → Changes (plain_set_order order.now) focus (stood self.old) (stood self.new)) }
+        ensures refuses { IfOk result (λ r. IsSome r → Refuses (plain_set_order order.now) (stood self.old) (stood self.new)) }
     {
         match order {
             SetOrder::On(focus) => self.look_at(alloc, *focus),
@@ -246,12 +258,13 @@ impl SetState {
     fn obey_sending<P: Reports>(
         &mut self,
         alloc: Global,
+        focus: Focus,
         text: &str,
         octets: &[u8],
         reports: &mut P,
     ) -> io::Result<()>
         requires { sent_by (words_of text.now) ≡ Some octets.now }
-        ensures { OnOk result (TellsSuch (λ bytes. Obeys text.now self.old.tender bytes self.new.tender) (P.stand reports.old) (P.stand reports.new)) }
+        ensures { OnOk result (TellsSuch (λ bytes. Obeys text.now focus (stood self.old) bytes (stood self.new)) (P.stand reports.old) (P.stand reports.new)) }
     {
         match obey_send(alloc, &mut self.tender, octets)? {
             Some(why) => self.refuse(alloc, why.as_str(), reports),
@@ -268,7 +281,7 @@ impl SetState {
         order: &SetOrder<'_>,
         reports: &mut P,
     ) -> io::Result<()>
-        ensures { OnOk result (TellsSuch (IsAnswer (plain_set_order order.now) self.now.tender text.now) (P.stand reports.old) (P.stand reports.new)) }
+        ensures { OnOk result (TellsSuch (IsAnswer (plain_set_order order.now) focus self.now.tender text.now) (P.stand reports.old) (P.stand reports.new)) }
     {
         self.agree(alloc, text, reports)?;
         self.tell_asked(alloc, focus, order, reports)
@@ -286,7 +299,7 @@ impl SetState {
         requires sends { sent_by (words_of text.now) ≡ None }
         requires none { octets_sent order.now ≡ None }
         requires reads { set_order_of (words_of text.now) ≡ Some (plain_set_order order.now) }
-        ensures { OnOk result (TellsSuch (λ bytes. Obeys text.now self.old.tender bytes self.new.tender) (P.stand reports.old) (P.stand reports.new)) }
+        ensures { OnOk result (TellsSuch (λ bytes. Obeys text.now focus (stood self.old) bytes (stood self.new)) (P.stand reports.old) (P.stand reports.new)) }
     {
         if let Some(why) = self.why_unanswered(alloc, focus, order)? {
             return self.refuse(alloc, why.as_str(), reports);
@@ -308,10 +321,10 @@ impl SetState {
     ) -> io::Result<()>
         requires sends { octets_sent order.now ≡ sent_by (words_of text.now) }
         requires reads { set_order_of (words_of text.now) ≡ Some (plain_set_order order.now) }
-        ensures { OnOk result (TellsSuch (λ bytes. Obeys text.now self.old.tender bytes self.new.tender) (P.stand reports.old) (P.stand reports.new)) }
+        ensures { OnOk result (TellsSuch (λ bytes. Obeys text.now focus (stood self.old) bytes (stood self.new)) (P.stand reports.old) (P.stand reports.new)) }
     {
         match order {
-            SetOrder::Send(octets) => self.obey_sending(alloc, text, octets, reports),
+            SetOrder::Send(octets) => self.obey_sending(alloc, focus, text, octets, reports),
             _ => self.obey_other(alloc, focus, text, order, reports),
         }
     }
@@ -324,7 +337,7 @@ impl SetState {
         text: &str,
         reports: &mut P,
     ) -> io::Result<()>
-        ensures { OnOk result (TellsSuch (λ bytes. Obeys text.now self.old.tender bytes self.new.tender) (P.stand reports.old) (P.stand reports.new)) }
+        ensures { OnOk result (TellsSuch (λ bytes. Obeys text.now focus (stood self.old) bytes (stood self.new)) (P.stand reports.old) (P.stand reports.new)) }
     {
         match set_order_in(alloc, text)? {
             Some(order) => self.obey_order(alloc, focus, text, &order, reports),

@@ -1,9 +1,9 @@
 //! What is told of a set's links where an order asks.
-ghost use Rattle.std.specs.Prelude.{◌≡◌, OnOk};
+ghost use Rattle.std.specs.Prelude.{◌≡◌, ◌≤◌, OnOk};
 ghost use Rattle.line_filter.specs.Desks.{Told as TellsSuch};
 ghost use Rattle.line_filter.specs.Orders.{told};
 ghost use Rattle.line_filter.specs.Reporting.{TellsLines};
-ghost use Rattle.line_play.specs.SetDoing.{ShowsLines, ShowsHeld, Shows, held_text, table_text, unsure_text};
+ghost use Rattle.line_play.specs.SetDoing.{stood, first_of, last_of, ShowsLines, ShowsEach, ShowsHeld, Shows, held_text, table_text, unsure_text};
 ghost use Rattle.line_play.specs.SetOrders.{plain_set_order, state, value, measuring, aborted, measures};
 
 use crate::set_measures::Since;
@@ -17,7 +17,11 @@ use std::io;
 
 impl SetState {
     /// The links that an order speaks of, from one to before another.
-    pub(crate) fn links(&self, focus: Focus) -> (usize, usize) {
+    pub(crate) fn links(&self, focus: Focus) -> (usize, usize)
+        ensures first { result.0 ≡ first_of focus }
+        ensures last { result.1 ≡ last_of focus self.now.tender }
+        ensures order { result.0 ≤ result.1 }
+    {
         match focus {
             Focus::Link(link) => (link, link.saturating_add(1)),
             Focus::All => (0, self.tender.len()),
@@ -42,7 +46,7 @@ impl SetState {
 
     /// `measure reset`, for a link.
     fn reset(&mut self, link: usize)
-        ensures { self.new.tender ≡ self.old.tender }
+        ensures { stood self.new ≡ stood self.old }
     {
         let Some(terminal) = self.tender.set().terminal(link) else {
             return;
@@ -56,7 +60,7 @@ impl SetState {
 
     /// `measure reset`.
     pub(crate) fn reset_all(&mut self, focus: Focus)
-        ensures { self.new.tender ≡ self.old.tender }
+        ensures { stood self.new ≡ stood self.old }
     {
         let (from, to) = self.links(focus);
         for link in from..to {
@@ -72,7 +76,7 @@ impl SetState {
         process: &str,
         reports: &mut P,
     ) -> io::Result<()>
-        ensures { OnOk result (TellsSuch (ShowsLines (state process.now) self.now.tender.ticks) (P.stand reports.old) (P.stand reports.new)) }
+        ensures { OnOk result (TellsSuch (ShowsLines (state process.now) link self.now.tender.ticks) (P.stand reports.old) (P.stand reports.new)) }
     {
         let line = match self.tender.set().book(link) {
             Some(book) => state_line(alloc, book, process)?,
@@ -95,7 +99,7 @@ impl SetState {
         variable: &str,
         reports: &mut P,
     ) -> io::Result<()>
-        ensures { OnOk result (TellsSuch (ShowsLines (value process.now variable.now) self.now.tender.ticks) (P.stand reports.old) (P.stand reports.new)) }
+        ensures { OnOk result (TellsSuch (ShowsLines (value process.now variable.now) link self.now.tender.ticks) (P.stand reports.old) (P.stand reports.new)) }
     {
         let line = match self.tender.set().book(link) {
             Some(book) => value_line(alloc, book, process, variable)?,
@@ -117,7 +121,7 @@ impl SetState {
         measure: Measure,
         reports: &mut P,
     ) -> io::Result<()>
-        ensures { OnOk result (TellsSuch (ShowsLines (measuring measure) self.now.tender.ticks) (P.stand reports.old) (P.stand reports.new)) }
+        ensures { OnOk result (TellsSuch (ShowsLines (measuring measure) link self.now.tender.ticks) (P.stand reports.old) (P.stand reports.new)) }
     {
         let count = self.counted(link, measure);
         let name = measure.word();
@@ -135,7 +139,7 @@ impl SetState {
         link: usize,
         reports: &mut P,
     ) -> io::Result<()>
-        ensures { OnOk result (TellsSuch (ShowsLines aborted self.now.tender.ticks) (P.stand reports.old) (P.stand reports.new)) }
+        ensures { OnOk result (TellsSuch (ShowsLines aborted link self.now.tender.ticks) (P.stand reports.old) (P.stand reports.new)) }
     {
         let count = self.aborted(link);
         self.say_text(
@@ -152,7 +156,7 @@ impl SetState {
         link: usize,
         reports: &mut P,
     ) -> io::Result<()>
-        ensures { OnOk result (TellsSuch (ShowsLines measures self.now.tender.ticks) (P.stand reports.old) (P.stand reports.new)) }
+        ensures { OnOk result (TellsSuch (ShowsLines measures link self.now.tender.ticks) (P.stand reports.old) (P.stand reports.new)) }
     {
         let all = all_measures();
         for measure in &all {
@@ -200,7 +204,7 @@ impl SetState {
         order: &SetOrder<'_>,
         reports: &mut P,
     ) -> io::Result<()>
-        ensures { OnOk result (TellsSuch (ShowsLines (plain_set_order order.now) self.now.tender.ticks) (P.stand reports.old) (P.stand reports.new)) }
+        ensures { OnOk result (TellsSuch (ShowsLines (plain_set_order order.now) link self.now.tender.ticks) (P.stand reports.old) (P.stand reports.new)) }
     {
         match order {
             SetOrder::State(process) => self.tell_state(alloc, link, process, reports),
@@ -223,7 +227,8 @@ impl SetState {
         order: &SetOrder<'_>,
         reports: &mut P,
     ) -> io::Result<()>
-        ensures { OnOk result (TellsSuch (ShowsLines (plain_set_order order.now) self.now.tender.ticks) (P.stand reports.old) (P.stand reports.new)) }
+        requires { from ≤ to }
+        ensures { OnOk result (TellsSuch (ShowsEach (plain_set_order order.now) self.now.tender.ticks from to) (P.stand reports.old) (P.stand reports.new)) }
     {
         for link in from..to {
             self.tell_one_asked(alloc, link, order, reports)?;
@@ -247,7 +252,7 @@ impl SetState {
         order: &SetOrder<'_>,
         reports: &mut P,
     ) -> io::Result<()>
-        ensures { OnOk result (TellsSuch (Shows (plain_set_order order.now) self.now.tender) (P.stand reports.old) (P.stand reports.new)) }
+        ensures { OnOk result (TellsSuch (Shows (plain_set_order order.now) focus self.now.tender) (P.stand reports.old) (P.stand reports.new)) }
     {
         match order {
             SetOrder::Table => self.tell_table(alloc, reports),

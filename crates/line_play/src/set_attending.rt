@@ -3,6 +3,7 @@ ghost use Rattle.std.specs.Prelude.{◌≡◌, ◌↔◌, [], true, false, IfOk,
 ghost use Rattle.script_lines.specs.Words.{words_of};
 ghost use Rattle.line_filter.specs.Desks.{Told as TellsSuch};
 ghost use Rattle.line_filter.specs.Orders.{QUIT};
+ghost use Rattle.line_play.specs.SetDoing.{stood};
 ghost use Rattle.line_play.specs.SetOrders.{SaysSuch, is_stop, is_send, overtakes as may_overtake, plain_set_order, set_order_of};
 ghost use Rattle.line_play.specs.SetRounds.{waiting_in, Rests, ObeysWaiting, TakesOrder, AttendsAll};
 
@@ -127,7 +128,7 @@ fn obey_waiting<P: Reports>(
     queue: &mut Queue,
     reports: &mut P,
 ) -> io::Result<()>
-    ensures obeys { OnOk result (TellsSuch (λ bytes. ObeysWaiting state.old.tender (waiting_in queue.old) bytes state.new.tender (waiting_in queue.new))
+    ensures obeys { OnOk result (TellsSuch (λ bytes. ObeysWaiting (stood state.old) (waiting_in queue.old) bytes (stood state.new) (waiting_in queue.new))
         (P.stand reports.old) (P.stand reports.new)) }
     ensures rests { OnOk result (Rests (waiting_in queue.new)) }
 {
@@ -167,7 +168,7 @@ fn take_order<P: Reports>(
     text: String,
     reports: &mut P,
 ) -> io::Result<()>
-    ensures { OnOk result (TellsSuch (λ bytes. TakesOrder (string_bytes text) state.old.tender (waiting_in queue.old) bytes state.new.tender (waiting_in queue.new))
+    ensures { OnOk result (TellsSuch (λ bytes. TakesOrder (string_bytes text) (stood state.old) (waiting_in queue.old) bytes (stood state.new) (waiting_in queue.new))
         (P.stand reports.old) (P.stand reports.new)) }
 {
     let line = text.as_str();
@@ -197,7 +198,7 @@ pub(crate) fn attend<O: Orders, P: Reports>(
     reports: &mut P,
 ) -> io::Result<bool>
     ensures { IfOk result (λ goes_on. TellsSuch
-        (λ bytes. AttendsAll state.old.tender (waiting_in queue.old) (O.left orders.old) bytes goes_on state.new.tender (waiting_in queue.new) (O.left orders.new))
+        (λ bytes. AttendsAll (stood state.old) (waiting_in queue.old) (O.left orders.old) bytes goes_on (stood state.new) (waiting_in queue.new) (O.left orders.new))
         (P.stand reports.old) (P.stand reports.new)) }
 {
     obey_waiting(alloc, state, queue, reports)?;

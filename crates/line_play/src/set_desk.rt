@@ -139,7 +139,7 @@ impl<O: Orders, P: Reports> SetDesk<O, P> {
         lines.begin(self.state.tender.now());
         carry_lines(
             alloc,
-            &mut self.state,
+            &mut self.state.tender,
             &mut self.wires,
             lines,
             self.ahead,

@@ -1,6 +1,6 @@
 //! Orders that wait.
 ghost use Rattle.std.specs.Prelude.{◌≡◌, ◌↔◌, ◌≤◌, ◌++◌, ◌∷◌, [], length, option_map, slice_get, IfSome, IsNone, IsTrue, string_bytes};
-ghost use Rattle.line_play.specs.SetRounds.{MOST_WAITING as MOST, waiting_in};
+ghost use Rattle.line_play.specs.SetRounds.{MOST_WAITING as MOST, waited_of, waiting_in};
 
 use crate::set_orders::Focus;
 use std::alloc::Global;
@@ -58,14 +58,14 @@ impl Queue {
 
     /// The first.
     pub fn first(&self) -> Option<&Waiting>
-        ensures { option_map (λ w. string_bytes w.now.text) result ≡ slice_get (waiting_in self.now) 0 }
+        ensures { option_map (λ w. waited_of w.now) result ≡ slice_get (waiting_in self.now) 0 }
     {
         self.waiting.front()
     }
 
     /// Takes the first.
     pub fn take(&mut self) -> Option<Waiting>
-        ensures some { IfSome result (λ first. waiting_in self.old ≡ string_bytes first.text ∷ waiting_in self.new) }
+        ensures some { IfSome result (λ first. waiting_in self.old ≡ waited_of first ∷ waiting_in self.new) }
         ensures none { IsNone result → waiting_in self.new ≡ waiting_in self.old }
         ensures empty { IsNone result → waiting_in self.new ≡ [] }
     {
@@ -74,7 +74,7 @@ impl Queue {
 
     /// One more waits. Whether there was memory.
     pub fn put(&mut self, focus: Focus, text: String) -> bool
-        ensures { IsTrue result → waiting_in self.new ≡ waiting_in self.old ++ string_bytes text ∷ [] }
+        ensures { IsTrue result → waiting_in self.new ≡ waiting_in self.old ++ record { focus = focus; text = string_bytes text } ∷ [] }
     {
         self.waiting.push_back(Waiting { focus, text }).is_ok()
     }

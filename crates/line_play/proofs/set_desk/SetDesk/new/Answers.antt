@@ -7,6 +7,7 @@ returns g c = record {
   set = refl;
   wires = all_wires _ _ _ c.len.ensures c.in_ok-wires.ensures;
   ahead_is = refl;
+  focus = refl;
   none_wait = c.new.ensures;
   orders_are = refl;
   reports_are = refl;

@@ -1,10 +1,9 @@
-use Rattle.std.proofs.Common.{sym}
 use Rattle.line_play.proofs.SetObeying.{never_none}
-use Rattle.line_play.proofs.SetDoing.{where_some, no_rebalance}
+use Rattle.line_play.proofs.SetDoing.{where_some, rebalances, no_rebalance}
 use Rattle.line_play.proofs.set_state.SetState.rebalance.Goals as goal
 
 pub returns-in-Ok-clause-done : goal.returns-in-Ok-clause-done
-returns-in-Ok-clause-done c = λ none. record { may = sym c.in-Ok.ensures.fault; is = c.in-Ok.ensures.ok }
+returns-in-Ok-clause-done c = λ none. rebalances _ _ c.in-Ok.ensures.fault c.in-Ok.ensures.ok
 
 pub returns-in-Err-clause-done : goal.returns-in-Err-clause-done
 returns-in-Err-clause-done c = never_none c.refusal.result _ c.refusal.ensures

@@ -17,4 +17,4 @@ pub returns-in-Measures : goal.returns-in-Measures
 returns-in-Measures g c = rw c.in-Measures.is c.tell_measures.ensures
 
 pub returns-in_default : goal.returns-in_default
-returns-in_default g c = shows_none _ _ _
+returns-in_default g c = shows_none _ _ _ _

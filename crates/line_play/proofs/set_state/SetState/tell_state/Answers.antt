@@ -3,7 +3,7 @@ use Rattle.line_play.proofs.SetTelling.{shows_none, shows_one}
 use Rattle.line_play.proofs.set_state.SetState.tell_state.Goals as goal
 
 pub returns-in-None : goal.returns-in-None
-returns-in-None g c = shows_none _ _ _
+returns-in-None g c = shows_none _ _ _ _
 
 pub returns : goal.returns
-returns g c = shows_one c.say_text.result (state c.args.process.now) _ _ _ _ (record { link = c.args.link; what = _; are = c.in_ok-format.ensures.ok }) c.say_text.ensures
+returns g c = shows_one c.say_text.result (state c.args.process.now) c.args.link _ _ _ _ (record { what = _; are = c.in_ok-format.ensures.ok }) c.say_text.ensures
