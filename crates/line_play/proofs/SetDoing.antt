@@ -1,19 +1,33 @@
 -- What an order to a set changes.
-use Rattle.std.proofs.Common.{◌≡◌, ◌∙◌, ℕ, ◌<◌, ◌≤◌, nat_lt, Bool, true, false, Option, None, Some, Result, Ok, Err, IfOk, IsSome, IsNone, refl, sym, subst, arith}
+use Rattle.std.proofs.Common.{◌≡◌, ◌∙◌, ℕ, ◌<◌, ◌≤◌, nat_lt, Bool, true, false, List, ◌++◌, codes, slice_get, Option, None, Some, option_map, Result, Ok, Err, IfOk, IfSome, IsSome, IsNone, refl, sym, ap, subst, arith}
 use Rattle.std.proofs.lemmas.Bool.Decides.{nat_tests}
-use Rattle.std.proofs.lemmas.Option.{none-some}
+use Rattle.std.proofs.lemmas.Option.{none-some, same_Some}
+use Rattle.actor_machine.specs.Ledger.{Ledger}
+use Rattle.link_group.specs.Printed.{rebalance_error_text}
+use Rattle.link_group.specs.group_members_types.commanding.CommandError.{CommandError}
+use Rattle.script_terminal.specs.Answers.{actor_named, state_line, value_line}
 use Rattle.script_terminal.specs.link_processes_types.commands.Command.{Command}
-use Rattle.set_tending.specs.Commanding.{is_start}
+use Rattle.set_tending.specs.Commanding.{is_start, command_error_text}
 use Rattle.set_tending.specs.Lines.{ByCommand}
+use Rattle.set_tending.specs.Links.{read_at}
 use Rattle.set_tending.specs.Placing.{rebalance_fault, rebalanced}
+use Rattle.set_tending.specs.Reading.{book_of}
+use Rattle.set_tending.specs.Set.{LinkSet}
 use Rattle.set_tending.specs.Tended.{Tended}
 use Rattle.set_tending.specs.group_changeover_types.errors.RebalanceError.{RebalanceError}
-use Rattle.line_play.specs.SetDoing.{Stood, first_of, last_of, IsNoLink, ObeysAt, waits, gives, ObeyEach, Commands, Looks, Rebalances, NoFocus, NoRebalance, Changes}
+use Rattle.line_play.specs.SetDoing.{Stood, first_of, last_of, IsNoLink, ObeysAt, waits, gives, ObeyEach, Commands, Looks, Rebalances, NoFocus, NoRebalance, IsFault, NoCommand, NotShown, IsShowable, MayShow, state_at, value_at, Changes}
 use Rattle.line_play.specs.SetObeying.{octets_sent}
 use Rattle.line_play.specs.SetOrders.{plain_set_order}
 use Rattle.line_play.specs.declared.set_orders.Focus.{Focus}
 use Rattle.line_play.specs.declared.set_orders.SetOrder.{SetOrder}
 use Rattle.line_play.specs.declared.set_orders.SetOrder.TheVariants as order
+
+-- what is told as a refusal
+pub why_so : {A E : Type 0} (r : Result (Option A) E) (f : A → List ℕ) (text : List ℕ) (P : List ℕ → Type 0) → P text → IfOk r (λ (o : Option A). IfSome o (λ (a : A). f a ≡ text))
+    → IfOk r (λ (o : Option A). IfSome o (λ (a : A). P (f a)))
+why_so (Ok (Some a)) f text P h same = subst P (sym same) h
+why_so (Ok None) f text P h same = tt
+why_so (Err e) f text P h same = tt
 
 obeys_by : (command : Command) (l : ℕ) (t u : Tended) (b : Bool) → is_start command ≡ b → (is_start command ≡ true → u ≡ t)
     → (is_start command ≡ false → ByCommand command l t.set u.set) → ObeysAt command l t u
@@ -41,8 +55,12 @@ commands command whom p u focus first last first_is last_is same each = record {
 there_in : (l links len : ℕ) → len ≡ links → nat_lt l len ≡ true → links ≤ l → ⊥
 there_in l links len same there past = absurd (let small : l < len = grind (arith, nat_tests) in omega (arith, small, same, past))
 
-pub no_focus : (focus : Focus) (p : Stood) → IsNoLink focus p.tender → NoFocus focus p p
-no_focus focus p none_there = record { none_there = none_there; same = refl }
+no_focus : (focus : Focus) (p : Stood) → IsNoLink focus p.tender → NoFocus focus p (codes "K1 NoLink") p
+no_focus focus p none_there = record { none_there = none_there; why_is = refl; same = refl }
+
+pub refused_focus : {A E : Type 0} (r : Result (Option A) E) (f : A → List ℕ) (focus : Focus) (p : Stood) → IsNoLink focus p.tender
+    → IfOk r (λ (o : Option A). IfSome o (λ (a : A). f a ≡ codes "K1 NoLink")) → IfOk r (λ (o : Option A). IfSome o (λ (a : A). NoFocus focus p (f a) p))
+refused_focus r f focus p none_there told_so = why_so r f (codes "K1 NoLink") (λ (w : List ℕ). NoFocus focus p w p) (no_focus focus p none_there) told_so
 
 pub looks : (focus : Focus) (p : Stood) (u : Tended) → (IsNoLink focus p.tender → ⊥) → u ≡ p.tender → Looks focus p (record { tender = u; focus = focus })
 looks focus p u there same = record { there = there; is = λ i. record p { tender = same i; focus = focus } }
@@ -51,8 +69,92 @@ pub rebalances : (p : Stood) (u : Tended) → None ≡ rebalance_fault p.tender.
     → Rebalances p (record p { tender = u })
 rebalances p u fault is = record { may = sym fault; is = λ i. record p { tender = is i } }
 
-pub no_rebalance : (p : Stood) (u : Tended) (why : RebalanceError) → Some why ≡ rebalance_fault p.tender.set → u ≡ p.tender → NoRebalance p (record p { tender = u })
-no_rebalance p u why fault same = record { fault = λ none_there. none-some why (sym (fault ∙ none_there)); same = λ i. record p { tender = same i } }
+no_rebalance : (p : Stood) (u : Tended) (error : RebalanceError) → Some error ≡ rebalance_fault p.tender.set → u ≡ p.tender
+    → NoRebalance p (rebalance_error_text error) (record p { tender = u })
+no_rebalance p u error fault same = record { error = error; fault = sym fault; why_is = refl; same = λ i. record p { tender = same i } }
+
+pub refused_rebalance : {A E : Type 0} (r : Result (Option A) E) (f : A → List ℕ) (p : Stood) (u : Tended) (error : RebalanceError) → Some error ≡ rebalance_fault p.tender.set
+    → u ≡ p.tender → IfOk r (λ (o : Option A). IfSome o (λ (a : A). f a ≡ rebalance_error_text error))
+    → IfOk r (λ (o : Option A). IfSome o (λ (a : A). NoRebalance p (f a) (record p { tender = u })))
+refused_rebalance r f p u error fault same told_so =
+    why_so r f (rebalance_error_text error) (λ (w : List ℕ). NoRebalance p w (record p { tender = u })) (no_rebalance p u error fault same) told_so
+
+-- what a link refuses it for
+pub refused_fault : {A E : Type 0} (r : Result (Option A) E) (f : A → List ℕ) (error : CommandError)
+    → IfOk r (λ (o : Option A). IfSome o (λ (a : A). f a ≡ command_error_text error)) → IfOk r (λ (o : Option A). IfSome o (λ (a : A). IsFault (f a)))
+refused_fault r f error told_so = why_so r f (command_error_text error) (λ (w : List ℕ). IsFault w) (record { error = error; is = refl }) told_so
+
+pub refused_command : {A E : Type 0} (r : Result (Option A) E) (f : A → List ℕ) (p q : Stood) → q.focus ≡ p.focus → IfOk r (λ (o : Option A). IfSome o (λ (a : A). IsFault (f a)))
+    → IfOk r (λ (o : Option A). IfSome o (λ (a : A). NoCommand p (f a) q))
+refused_command (Ok (Some a)) f p q same fault = record { fault = fault; focus = same }
+refused_command (Ok None) f p q same fault = tt
+refused_command (Err e) f p q same fault = tt
+
+-- a question that is refused changes nothing
+pub refused_line : {A E : Type 0} (r : Result (Option A) E) (f : A → List ℕ) (line : Option (List ℕ)) (p : Stood)
+    → IfOk r (λ (o : Option A). IfSome o (λ (a : A). line ≡ Some (codes "refused " ++ f a))) → IfOk r (λ (o : Option A). IfSome o (λ (a : A). NotShown line p (f a) p))
+refused_line (Ok (Some a)) f line p refused = record { refused = refused; same = refl }
+refused_line (Ok None) f line p refused = tt
+refused_line (Err e) f line p refused = tt
+
+-- what but the state of an actor and a variable is asked for is always told
+pub may_show : (s : SetOrder) (whom : Focus) (t : Tended) → ((p : _) → s ≡ order.State p → ⊥) → ((p v : _) → s ≡ order.Value p v → ⊥) → MayShow (plain_set_order s) whom t
+may_show (order.On focus) whom t not_state not_value = tt
+may_show (order.Link obeyed) whom t not_state not_value = tt
+may_show (order.State process) whom t not_state not_value = absurd (not_state process refl)
+may_show (order.Value process variable) whom t not_state not_value = absurd (not_value process variable refl)
+may_show (order.Measure measure) whom t not_state not_value = tt
+may_show order.Aborted whom t not_state not_value = tt
+may_show order.Measures whom t not_state not_value = tt
+may_show order.Reset whom t not_state not_value = tt
+may_show (order.Send octets) whom t not_state not_value = tt
+may_show order.Table whom t not_state not_value = tt
+may_show order.Held whom t not_state not_value = tt
+may_show order.Unsure whom t not_state not_value = tt
+may_show order.Rebalance whom t not_state not_value = tt
+
+-- the line of a link that is there, and none of one that isn't
+pub line_refused : {A E : Type 0} (r : Result (Option A) E) (f : A → List ℕ) (line : List ℕ) (there : Option (List ℕ)) → there ≡ Some line
+    → IfOk r (λ (o : Option A). IfSome o (λ (a : A). line ≡ codes "refused " ++ f a)) → IfOk r (λ (o : Option A). IfSome o (λ (a : A). there ≡ Some (codes "refused " ++ f a)))
+line_refused (Ok (Some a)) f line there is refused = is ∙ ap (λ (xs : List ℕ). Some xs) refused
+line_refused (Ok None) f line there is refused = tt
+line_refused (Err e) f line there is refused = tt
+
+pub line_shown : {A E : Type 0} (r : Result (Option A) E) (line : List ℕ) (there : Option (List ℕ)) → there ≡ Some line
+    → IfOk r (λ (o : Option A). IsNone o → (why : List ℕ) → line ≡ codes "refused " ++ why → ⊥) → IfOk r (λ (o : Option A). IsNone o → IsShowable there)
+line_shown (Ok o) line there is shown = λ none why refused. shown none why (same_Some line (codes "refused " ++ why) (sym is ∙ refused))
+line_shown (Err e) line there is shown = tt
+
+pub nowhere_shown : (there : Option (List ℕ)) → there ≡ None → IsShowable there
+nowhere_shown there none_there = λ why refused. none-some (codes "refused " ++ why) (sym refused ∙ none_there)
+
+book_at : (c : LinkSet) (b : Option Ledger) (t : Tended) (l k : ℕ) → c ≡ t.set → b ≡ read_at book_of (slice_get c.links l) → l ≡ k
+    → read_at book_of (slice_get t.set.links k) ≡ b
+book_at c b t l k same there place =
+    sym (there ∙ (ap (λ (s : LinkSet). read_at book_of (slice_get s.links l)) same ∙ ap (λ (n : ℕ). read_at book_of (slice_get t.set.links n)) place))
+
+line_at : (f : Ledger → List ℕ) (c : LinkSet) (b : Ledger) (line : List ℕ) (t : Tended) (l k : ℕ) → c ≡ t.set → Some b ≡ read_at book_of (slice_get c.links l) → l ≡ k → line ≡ f b
+    → option_map f (read_at book_of (slice_get t.set.links k)) ≡ Some line
+line_at f c b line t l k same there place is = ap (option_map f) (book_at c (Some b) t l k same there place) ∙ ap (λ (xs : List ℕ). Some xs) (sym is)
+
+no_line_at : (f : Ledger → List ℕ) (c : LinkSet) (t : Tended) (l k : ℕ) → c ≡ t.set → None ≡ read_at book_of (slice_get c.links l) → l ≡ k
+    → option_map f (read_at book_of (slice_get t.set.links k)) ≡ None
+no_line_at f c t l k same there place = ap (option_map f) (book_at c None t l k same there place)
+
+pub state_there : (process : List ℕ) (c : LinkSet) (b : Ledger) (line : List ℕ) (t : Tended) (l k : ℕ) → c ≡ t.set → Some b ≡ read_at book_of (slice_get c.links l) → l ≡ k
+    → line ≡ state_line b (actor_named b process) → state_at process t k ≡ Some line
+state_there process c b line t l k same there place is = line_at (λ (x : Ledger). state_line x (actor_named x process)) c b line t l k same there place is
+
+pub state_nowhere : (process : List ℕ) (c : LinkSet) (t : Tended) (l k : ℕ) → c ≡ t.set → None ≡ read_at book_of (slice_get c.links l) → l ≡ k → state_at process t k ≡ None
+state_nowhere process c t l k same there place = no_line_at (λ (x : Ledger). state_line x (actor_named x process)) c t l k same there place
+
+pub value_there : (process variable : List ℕ) (c : LinkSet) (b : Ledger) (line : List ℕ) (t : Tended) (l k : ℕ) → c ≡ t.set → Some b ≡ read_at book_of (slice_get c.links l) → l ≡ k
+    → line ≡ value_line b variable (actor_named b process) → value_at process variable t k ≡ Some line
+value_there process variable c b line t l k same there place is = line_at (λ (x : Ledger). value_line x variable (actor_named x process)) c b line t l k same there place is
+
+pub value_nowhere : (process variable : List ℕ) (c : LinkSet) (t : Tended) (l k : ℕ) → c ≡ t.set → None ≡ read_at book_of (slice_get c.links l) → l ≡ k
+    → value_at process variable t k ≡ None
+value_nowhere process variable c t l k same there place = no_line_at (λ (x : Ledger). value_line x variable (actor_named x process)) c t l k same there place
 
 -- a question changes nothing
 pub still : (s : SetOrder) (whom : Focus) (p : Stood) → octets_sent s ≡ None → ((f : _) → s ≡ order.On f → ⊥) → ((o : _) → s ≡ order.Link o → ⊥)

@@ -35,18 +35,19 @@ lived_same t u w sent told l same = subst (λ (x : Tended). Lived t sent told x)
 
 -- ---- orders
 
-lived_refused : (t : Tended) (p q : Stood) (sent : List Msu) (told : List Told) (order : List ℕ) → Lived t sent told p.tender → IsRefused order p q → Lived t sent told q.tender
-lived_refused t p q sent told order l (bad none_there same) = lived_same t p.tender q.tender sent told l (ap (λ (x : Stood). x.tender) same)
-lived_refused t p q sent told order l (unsent octets said is same) = lived_same t p.tender q.tender sent told l (ap (λ (x : Stood). x.tender) same)
-lived_refused t p q sent told order l (untaken m why said is same) = lived_same t p.tender q.tender sent told l (ap (λ (x : Stood). x.tender) same)
-lived_refused t p q sent told order l (other said read none_there adds may) = lived_adds t p.tender q.tender sent told l adds
+lived_refused : (t : Tended) (p q : Stood) (sent : List Msu) (told : List Told) (order : List ℕ) (whom : Focus) (why : List ℕ) → Lived t sent told p.tender
+    → IsRefused order whom p why q → Lived t sent told q.tender
+lived_refused t p q sent told order whom why l (bad none_there why_is same) = lived_same t p.tender q.tender sent told l (ap (λ (x : Stood). x.tender) same)
+lived_refused t p q sent told order whom why l (unsent octets said is why_is same) = lived_same t p.tender q.tender sent told l (ap (λ (x : Stood). x.tender) same)
+lived_refused t p q sent told order whom why l (untaken m error said is why_is same) = lived_same t p.tender q.tender sent told l (ap (λ (x : Stood). x.tender) same)
+lived_refused t p q sent told order whom why l (other said read none_there adds may) = lived_adds t p.tender q.tender sent told l adds
 
 lived_obeys : (t : Tended) (p : Stood) (sent : List Msu) (told : List Told) (order : List ℕ) (whom : Focus) (bytes : List ℕ) (r : Stood) → Lived t sent told p.tender
     → (made : Obeys order whom p bytes r) → Lived t (sent ++ sent_in made) told r.tender
-lived_obeys t p sent told order whom _ _ l (sends {u} m said acts) = lived_sends t p.tender u sent told (m ∷ []) l acts
-lived_obeys t p sent told order whom _ _ l (does {bytes} {q} said read none_there adds changes answer) =
+lived_obeys t p sent told order whom _ _ l (sends {u} m said room acts) = lived_sends t p.tender u sent told (m ∷ []) l acts
+lived_obeys t p sent told order whom _ _ l (does {bytes} {q} said read none_there may adds changes answer) =
     sent_none t q.tender sent told (lived_adds t p.tender q.tender sent told l adds)
-lived_obeys t p sent told order whom _ _ l (refuses {q} why is) = sent_none t q.tender sent told (lived_refused t p q sent told order l is)
+lived_obeys t p sent told order whom _ _ l (refuses {q} why is) = sent_none t q.tender sent told (lived_refused t p q sent told order whom why l is)
 
 lived_waiting : (t : Tended) (p : Stood) (sent : List Msu) (told : List Told) (waiting : List Waited) (bytes : List ℕ) (v : Stood) (last : List Waited) → Lived t sent told p.tender
     → (made : ObeysWaiting p waiting bytes v last) → Lived t (sent ++ sent_waiting made) told v.tender

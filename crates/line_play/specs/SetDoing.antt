@@ -1,20 +1,24 @@
 -- What an order to a set changes, and what is told of what it asked for.
-use Rattle.std.specs.Prelude.{◌≡◌, ℕ, ◌+◌, ◌-◌, ◌^◌, ◌≤◌, min, true, false, List, [], ◌++◌, None}
-use Rattle.std.specs.Prelude.{map, slice_get, unwrap_or, codes}
+use Rattle.std.specs.Prelude.{◌≡◌, ℕ, ◌+◌, ◌-◌, ◌^◌, ◌≤◌, min, true, false, List, [], ◌++◌, codes}
+use Rattle.std.specs.Prelude.{Option, None, Some, option_map, map, slice_get, unwrap_or}
 use Rattle.std.specs.Fmt.{decimal}
+use Rattle.link_group.specs.Printed.{rebalance_error_text}
+use Rattle.script_terminal.specs.Answers.{actor_named, state_line, value_line}
 use Rattle.script_terminal.specs.MeasureNames.{measure_word}
 use Rattle.script_terminal.specs.TermAnswers.{command_of}
 use Rattle.script_terminal.specs.link_processes_types.commands.Command.{Command}
 use Rattle.line_filter.specs.Orders.{told}
-use Rattle.set_tending.specs.Commanding.{is_start}
+use Rattle.set_tending.specs.Commanding.{is_start, command_error_text}
 use Rattle.set_tending.specs.Lines.{ByCommand}
 use Rattle.set_tending.specs.Links.{read_at}
 use Rattle.set_tending.specs.Placing.{rebalance_fault, rebalanced}
-use Rattle.set_tending.specs.Reading.{held_count, sent_count}
+use Rattle.set_tending.specs.Reading.{held_count, sent_count, book_of}
 use Rattle.set_tending.specs.Sharing.{link_of, selections}
 use Rattle.set_tending.specs.Tended.{Tended}
 use Rattle.set_tending.specs.Texts.{told_text}
 use Rattle.set_tending.specs.declared.told.Told.TheVariants.{Shared}
+use Rattle.set_tending.specs.group_changeover_types.errors.RebalanceError.{RebalanceError}
+use Rattle.link_group.specs.group_members_types.commanding.CommandError.{CommandError}
 use Rattle.line_play.specs.declared.set_orders.Focus.{Focus}
 use Rattle.line_play.specs.declared.set_orders.Focus.TheVariants.{Link as OneLink, All}
 use Rattle.line_play.specs.declared.set_state.SetState.{SetState}
@@ -93,31 +97,84 @@ Changes rebalance whom p q = Rebalances p q
 
 -- ---- why it is refused, and what it has done then
 
-pub record NoFocus (focus : Focus) (p q : Stood) : Type 0 where
+-- there is no such link
+pub record NoFocus (focus : Focus) (p : Stood) (why : List ℕ) (q : Stood) : Type 0 where
   pub none_there : IsNoLink focus p.tender
+  pub why_is : why ≡ codes "K1 NoLink"
   pub same : q ≡ p
 
-pub record NoRebalance (p q : Stood) : Type 0 where
-  pub fault : rebalance_fault p.tender.set ≡ None → ⊥
+-- the set refuses it, and that is told by its code and name
+pub record NoRebalance (p : Stood) (why : List ℕ) (q : Stood) : Type 0 where
+  pub error : RebalanceError
+  pub fault : rebalance_fault p.tender.set ≡ Some error
+  pub why_is : why ≡ rebalance_error_text error
+  pub same : q ≡ p
+
+-- what a link may refuse a command for
+pub record IsFault (why : List ℕ) : Type 0 where
+  pub error : CommandError
+  pub is : why ≡ command_error_text error
+
+-- a link refuses it, and only the set may have changed
+pub record NoCommand (p : Stood) (why : List ℕ) (q : Stood) : Type 0 where
+  pub fault : IsFault why
+  pub focus : q.focus ≡ p.focus
+
+-- the line that a script prints for the state of an actor of a link, or for the value of one of its
+-- variables, where the link is there
+abbrev pub state_at : List ℕ → Tended → ℕ → Option (List ℕ)
+state_at process t l =
+    option_map (λ b. state_line b (actor_named b process))
+    (read_at book_of (slice_get t.set.links l))
+
+abbrev pub value_at : List ℕ → List ℕ → Tended → ℕ → Option (List ℕ)
+value_at process variable t l =
+    option_map (λ b. value_line b variable (actor_named b process))
+    (read_at book_of (slice_get t.set.links l))
+
+-- such a line is a refusal
+pub record NotShown (line : Option (List ℕ)) (p : Stood) (why : List ℕ) (q : Stood) : Type 0 where
+  pub refused : line ≡ Some (codes "refused " ++ why)
   pub same : q ≡ p
 
 -- Links may refuse a command, and the state of an actor or a variable isn't told where the text has
 -- no such name. Nothing else is refused but `on` and `rebalance`. Only links that obeyed may have
 -- changed.
-abbrev pub Refuses : PlainSetOrder → Stood → Stood → Type 0
-Refuses (on focus) p q = NoFocus focus p q
-Refuses (links order) p q = q.focus ≡ p.focus
-Refuses (state process) p q = q ≡ p
-Refuses (value process variable) p q = q ≡ p
-Refuses (measuring measure) p q = ⊥
-Refuses aborted p q = ⊥
-Refuses measures p q = ⊥
-Refuses resetting p q = ⊥
-Refuses (send octets) p q = ⊥
-Refuses table p q = ⊥
-Refuses held p q = ⊥
-Refuses unsure p q = ⊥
-Refuses rebalance p q = NoRebalance p q
+abbrev pub Refuses : PlainSetOrder → Focus → Stood → List ℕ → Stood → Type 0
+Refuses (on focus) whom p why q = NoFocus focus p why q
+Refuses (links order) whom p why q = NoCommand p why q
+Refuses (state process) whom p why q =
+    NotShown (state_at process p.tender (first_of whom)) p why q
+Refuses (value process variable) whom p why q =
+    NotShown (value_at process variable p.tender (first_of whom)) p why q
+Refuses (measuring measure) whom p why q = ⊥
+Refuses aborted whom p why q = ⊥
+Refuses measures whom p why q = ⊥
+Refuses resetting whom p why q = ⊥
+Refuses (send octets) whom p why q = ⊥
+Refuses table whom p why q = ⊥
+Refuses held whom p why q = ⊥
+Refuses unsure whom p why q = ⊥
+Refuses rebalance whom p why q = NoRebalance p why q
+
+-- no such line is a refusal, where one is asked for
+abbrev pub IsShowable : Option (List ℕ) → Type 0
+IsShowable line = (why : List ℕ) → line ≡ Some (codes "refused " ++ why) → ⊥
+
+abbrev pub MayShow : PlainSetOrder → Focus → Tended → Type 0
+MayShow (on focus) whom t = Unit {0}
+MayShow (links order) whom t = Unit {0}
+MayShow (state process) whom t = IsShowable (state_at process t (first_of whom))
+MayShow (value process variable) whom t = IsShowable (value_at process variable t (first_of whom))
+MayShow (measuring measure) whom t = Unit {0}
+MayShow aborted whom t = Unit {0}
+MayShow measures whom t = Unit {0}
+MayShow resetting whom t = Unit {0}
+MayShow (send octets) whom t = Unit {0}
+MayShow table whom t = Unit {0}
+MayShow held whom t = Unit {0}
+MayShow unsure whom t = Unit {0}
+MayShow rebalance whom t = Unit {0}
 
 -- ---- what is told of links
 

@@ -20,8 +20,8 @@ use Rattle.line_play.specs.SetRounds.{Rounds, begins, round}
 abbrev pub sent_in :
     {order : List ℕ} {whom : Focus} {p : Stood} {bytes : List ℕ} {q : Stood}
     → Obeys order whom p bytes q → List Msu
-sent_in (sends m said acts) = m ∷ []
-sent_in (does said is none_there adds changes answer) = []
+sent_in (sends m said room acts) = m ∷ []
+sent_in (does said is none_there may adds changes answer) = []
 sent_in (refuses why is) = []
 
 abbrev pub sent_waiting :

@@ -1,12 +1,14 @@
 //! What orders to a set lead to.
-ghost use Rattle.std.specs.Prelude.{◌≡◌, ◌≤◌, ◌++◌, ◌∷◌, [], true, false, IfOk, IsSome, IsNone, OnOk, None, Some, codes};
+ghost use Rattle.std.specs.Prelude.{◌≡◌, ◌≤◌, ◌++◌, ◌∷◌, List, ℕ, [], true, false, IfOk, IfSome, IsSome, IsNone, OnOk, None, Some, codes, string_bytes};
 ghost use Rattle.script_lines.specs.Words.{words_of};
 ghost use Rattle.line_filter.specs.Desks.{Told as TellsSuch};
 ghost use Rattle.line_filter.specs.Orders.{told};
 ghost use Rattle.line_filter.specs.Reporting.{TellsLines};
+ghost use Rattle.set_tending.specs.Commanding.{command_error_text};
 ghost use Rattle.set_tending.specs.Rounds.{Acts, Adds};
+ghost use Rattle.set_tending.specs.Sending.{tended_send_fault};
 ghost use Rattle.script_terminal.specs.TermAnswers.{command_of};
-ghost use Rattle.line_play.specs.SetDoing.{stood, IsNoLink, ObeysAt, ObeyEach, Commands, Looks, Rebalances, NoFocus, NoRebalance, Changes, Refuses, IsAnswer};
+ghost use Rattle.line_play.specs.SetDoing.{stood, first_of, IsNoLink, ObeysAt, ObeyEach, Commands, Looks, Rebalances, NoFocus, NoRebalance, IsFault, state_at, value_at, IsShowable, MayShow, Changes, Refuses, IsAnswer};
 ghost use Rattle.line_play.specs.SetObeying.{Obeys, IsSent, IsUntaken, IsTurnedDown, octets_sent, sent_by};
 ghost use Rattle.line_play.specs.SetOrders.{plain_set_order, set_order_of};
 
@@ -24,13 +26,17 @@ type Refused = String;
 
 /// A refusal as a text.
 fn refusal<D: std::fmt::Display>(alloc: Global, why: &D) -> Result<Option<Refused>, AllocError>
-    ensures { IfOk result (λ r. IsSome r) }
+    ensures some { IfOk result (λ r. IsSome r) }
+    ensures text { IfOk result (λ r. IfSome r (λ told. IfSome (D.output why.now) (λ text. string_bytes told ≡ text))) }
 {
     Ok(Some(format!(in alloc; "{why}")?))
 }
 
 /// Why a question was refused, where the line that a script prints for it says that.
-fn why_refused(alloc: Global, line: &[u8]) -> io::Result<Option<Refused>> {
+fn why_refused(alloc: Global, line: &[u8]) -> io::Result<Option<Refused>>
+    ensures some { IfOk result (λ r. IfSome r (λ why. line.now ≡ codes "refused " ++ string_bytes why)) }
+    ensures none { IfOk result (λ r. IsNone r → (why : List ℕ) → line.now ≡ codes "refused " ++ why → ⊥) }
+{
     match refusal_in(line) {
         Some(why) => Ok(Some(text_of(alloc, why)?)),
         None => Ok(None),
@@ -39,13 +45,10 @@ fn why_refused(alloc: Global, line: &[u8]) -> io::Result<Option<Refused>> {
 
 /// What a command was refused for; none, where it was obeyed.
 fn refused_for(alloc: Global, error: Option<CommandError>) -> Result<Option<Refused>, AllocError>
-    ensures { IfOk result (λ r. IsNone r → IsNone error) }
+    ensures none { IfOk result (λ r. IsNone r → IsNone error) }
+    ensures some { IfOk result (λ r. IfSome r (λ why. IsFault (string_bytes why))) }
 {
     match error {
-        Some(CommandError::Refused(why)) => {
-            let name = why.name();
-            refusal(alloc, &name)
-        }
         Some(error) => refusal(alloc, &error),
         None => Ok(None),
     }
@@ -89,8 +92,9 @@ fn obey_links(
 
 /// Sends a message. Why not, if it isn't taken.
 fn send_message(alloc: Global, tender: &mut Tender, msu: Msu) -> Result<Option<Refused>, AllocError>
+    ensures room { IfOk result (λ r. IsNone r → tended_send_fault tender.old.set msu ≡ None) }
     ensures sent { IfOk result (λ r. IsNone r → Acts (msu ∷ []) [] tender.old tender.new) }
-    ensures refused { IfOk result (λ r. IsSome r → IsUntaken msu tender.old tender.new) }
+    ensures refused { IfOk result (λ r. IfSome r (λ why. IsUntaken msu tender.old (string_bytes why) tender.new)) }
 {
     match label_of(&msu) {
         Some(label) => match tender.send(label, msu) {
@@ -108,7 +112,7 @@ fn obey_send(
     octets: &[u8],
 ) -> Result<Option<Refused>, AllocError>
     ensures sent { IfOk result (λ r. IsNone r → IsSent octets.now tender.old tender.new) }
-    ensures refused { IfOk result (λ r. IsSome r → IsTurnedDown octets.now tender.old tender.new) }
+    ensures refused { IfOk result (λ r. IfSome r (λ why. IsTurnedDown octets.now tender.old (string_bytes why) tender.new)) }
 {
     match message(octets) {
         Some(msu) => send_message(alloc, tender, msu),
@@ -123,10 +127,16 @@ impl SetState {
         alloc: Global,
         focus: Focus,
         process: &str,
-    ) -> io::Result<Option<Refused>> {
+    ) -> io::Result<Option<Refused>>
+        ensures some { IfOk result (λ r. IfSome r (λ why. state_at process.now self.now.tender (first_of focus) ≡ Some (codes "refused " ++ string_bytes why))) }
+        ensures none { IfOk result (λ r. IsNone r → IsShowable (state_at process.now self.now.tender (first_of focus))) }
+    {
         let (first, _) = self.links(focus);
         match self.tender.set().book(first) {
-            Some(book) => why_refused(alloc, &state_line(alloc, book, process)?),
+            Some(book) => {
+                let line = state_line(alloc, book, process)?;
+                why_refused(alloc, line.as_slice())
+            }
             None => Ok(None),
         }
     }
@@ -138,10 +148,16 @@ impl SetState {
         focus: Focus,
         process: &str,
         variable: &str,
-    ) -> io::Result<Option<Refused>> {
+    ) -> io::Result<Option<Refused>>
+        ensures some { IfOk result (λ r. IfSome r (λ why. value_at process.now variable.now self.now.tender (first_of focus) ≡ Some (codes "refused " ++ string_bytes why))) }
+        ensures none { IfOk result (λ r. IsNone r → IsShowable (value_at process.now variable.now self.now.tender (first_of focus))) }
+    {
         let (first, _) = self.links(focus);
         match self.tender.set().book(first) {
-            Some(book) => why_refused(alloc, &value_line(alloc, book, process, variable)?),
+            Some(book) => {
+                let line = value_line(alloc, book, process, variable)?;
+                why_refused(alloc, line.as_slice())
+            }
             None => Ok(None),
         }
     }
@@ -153,7 +169,8 @@ impl SetState {
         focus: Focus,
         order: &SetOrder<'_>,
     ) -> io::Result<Option<Refused>>
-        ensures { IfOk result (λ r. IsSome r → Refuses (plain_set_order order.now) (stood self.now) (stood self.now)) }
+        ensures some { IfOk result (λ r. IfSome r (λ why. Refuses (plain_set_order order.now) focus (stood self.now) (string_bytes why) (stood self.now))) }
+        ensures none { IfOk result (λ r. IsNone r → MayShow (plain_set_order order.now) focus self.now.tender) }
     {
         match order {
             SetOrder::State(process) => self.why_no_state(alloc, focus, process),
@@ -174,6 +191,7 @@ impl SetState {
         ensures adds { OnOk result (Adds self.old.tender self.new.tender) }
         ensures focus { self.new.focus ≡ self.old.focus }
         ensures obeys { IfOk result (λ r. IsNone r → Commands (command_of order) focus (stood self.old) (stood self.new)) }
+        ensures fault { IfOk result (λ r. IfSome r (λ why. IsFault (string_bytes why))) }
     {
         let (from, to) = self.links(focus);
         let first = obey_links(&mut self.tender, from, to, order)?;
@@ -195,7 +213,7 @@ impl SetState {
     fn look_at(&mut self, alloc: Global, focus: Focus) -> Result<Option<Refused>, AllocError>
         ensures same { self.new.tender ≡ self.old.tender }
         ensures looks { IfOk result (λ r. IsNone r → Looks focus (stood self.old) (stood self.new)) }
-        ensures none { IfOk result (λ r. IsSome r → NoFocus focus (stood self.old) (stood self.new)) }
+        ensures none { IfOk result (λ r. IfSome r (λ why. NoFocus focus (stood self.old) (string_bytes why) (stood self.new))) }
     {
         if !self.is_there(focus) {
             return refusal(alloc, &"K1 NoLink");
@@ -208,7 +226,7 @@ impl SetState {
     fn rebalance(&mut self, alloc: Global) -> Result<Option<Refused>, AllocError>
         ensures adds { Adds self.old.tender self.new.tender }
         ensures done { IfOk result (λ r. IsNone r → Rebalances (stood self.old) (stood self.new)) }
-        ensures none { IfOk result (λ r. IsSome r → NoRebalance (stood self.old) (stood self.new)) }
+        ensures none { IfOk result (λ r. IfSome r (λ why. NoRebalance (stood self.old) (string_bytes why) (stood self.new))) }
     {
         match self.tender.rebalance() {
             Ok(()) => Ok(None),
@@ -226,7 +244,7 @@ impl SetState {
         requires { octets_sent order.now ≡ None }
         ensures adds { OnOk result (Adds self.old.tender self.new.tender) }
         ensures changes { IfOk result (λ r. IsNone r → Changes (plain_set_order order.now) focus (stood self.old) (stood self.new)) }
-        ensures refuses { IfOk result (λ r. IsSome r → Refuses (plain_set_order order.now) (stood self.old) (stood self.new)) }
+        ensures refuses { IfOk result (λ r. IfSome r (λ why. Refuses (plain_set_order order.now) focus (stood self.old) (string_bytes why) (stood self.new))) }
     {
         match order {
             SetOrder::On(focus) => self.look_at(alloc, *focus),

@@ -8,4 +8,4 @@ obey_order-requires-clause-reads g c = reads_some _ (words_of c.args.text.now) c
 
 pub returns-in-None : goal.returns-in-None
 returns-in-None g c =
-    refused_bad c.refuse.result c.args.text.now _ c.args.focus (stood c.args.self.now) _ _ (reads_none _ (words_of c.args.text.now) c.in-None.is c.in_ok-order.ensures.reads) c.refuse.ensures
+    refused_bad c.refuse.result c.args.text.now c.args.focus (stood c.args.self.now) _ _ (reads_none _ (words_of c.args.text.now) c.in-None.is c.in_ok-order.ensures.reads) c.refuse.ensures

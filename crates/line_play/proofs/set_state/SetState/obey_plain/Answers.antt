@@ -1,4 +1,5 @@
-use Rattle.line_play.proofs.SetDoing.{where_some, still}
+use Rattle.std.proofs.Common.{string_bytes}
+use Rattle.line_play.proofs.SetDoing.{refused_command, still}
 use Rattle.line_play.proofs.set_state.SetState.obey_plain.Goals as goal
 
 pub returns-in-On-clause-changes : goal.returns-in-On-clause-changes
@@ -11,7 +12,7 @@ pub returns-in-Link-clause-changes : goal.returns-in-Link-clause-changes
 returns-in-Link-clause-changes c = rw c.in-Link.is c.order_links.ensures.obeys
 
 pub returns-in-Link-clause-refuses : goal.returns-in-Link-clause-refuses
-returns-in-Link-clause-refuses c = rw c.in-Link.is (where_some c.order_links.result _ c.order_links.ensures.focus)
+returns-in-Link-clause-refuses c = rw c.in-Link.is (refused_command c.order_links.result (λ s. string_bytes s) _ _ c.order_links.ensures.focus c.order_links.ensures.fault)
 
 pub returns-in-Reset-clause-changes : goal.returns-in-Reset-clause-changes
 returns-in-Reset-clause-changes c = rw c.in-Reset.is (λ none. c.reset_all.ensures)
