@@ -1,23 +1,26 @@
 -- What an order to a set changes.
-use Rattle.std.proofs.Common.{◌≡◌, ◌∙◌, ℕ, ◌<◌, ◌≤◌, nat_lt, Bool, true, false, List, ◌++◌, codes, slice_get, Option, None, Some, option_map, Result, Ok, Err, IfOk, IfSome, IsSome, IsNone, refl, sym, ap, subst, arith}
+use Rattle.std.proofs.Common.{◌≡◌, ◌∙◌, ℕ, ◌<◌, ◌≤◌, nat_lt, Bool, true, false, List, ◌++◌, codes, slice_get, slice_set, Option, None, Some, option_map, Result, Ok, Err, IfOk, IfSome, IsSome, IsNone, refl, sym, ap, subst, arith}
 use Rattle.std.proofs.lemmas.Bool.Decides.{nat_tests}
 use Rattle.std.proofs.lemmas.Option.{none-some, same_Some}
 use Rattle.actor_machine.specs.Ledger.{Ledger}
 use Rattle.link_group.specs.Printed.{rebalance_error_text}
 use Rattle.link_group.specs.group_members_types.commanding.CommandError.{CommandError}
 use Rattle.script_terminal.specs.Answers.{actor_named, state_line, value_line}
+use Rattle.script_terminal.specs.Term.{Term}
 use Rattle.script_terminal.specs.link_processes_types.commands.Command.{Command}
 use Rattle.set_tending.specs.Commanding.{is_start, command_error_text}
 use Rattle.set_tending.specs.Lines.{ByCommand}
 use Rattle.set_tending.specs.Links.{read_at}
 use Rattle.set_tending.specs.Placing.{rebalance_fault, rebalanced}
-use Rattle.set_tending.specs.Reading.{book_of}
+use Rattle.set_tending.specs.Reading.{book_of, terminal_of}
 use Rattle.set_tending.specs.Set.{LinkSet}
 use Rattle.set_tending.specs.Tended.{Tended}
 use Rattle.set_tending.specs.group_changeover_types.errors.RebalanceError.{RebalanceError}
-use Rattle.line_play.specs.SetDoing.{Stood, first_of, last_of, IsNoLink, ObeysAt, waits, gives, ObeyEach, Commands, Looks, Rebalances, NoFocus, NoRebalance, IsFault, NoCommand, NotShown, IsShowable, MayShow, state_at, value_at, Changes}
+use Rattle.line_play.specs.SetDoing.{Stood, first_of, last_of, IsNoLink, ObeysAt, waits, gives, ObeyEach, Commands, terminal_at, reset_to, reset_at, ResetEach, one_reset, Resets, Looks, Rebalances, NoFocus, NoRebalance, IsFault, NoCommand, NotShown, IsShowable, MayShow, state_at, value_at, Changes}
+use Rattle.line_play.specs.SetCounting.{begun_at}
 use Rattle.line_play.specs.SetObeying.{octets_sent}
 use Rattle.line_play.specs.SetOrders.{plain_set_order}
+use Rattle.line_play.specs.declared.set_measures.Since.{Since}
 use Rattle.line_play.specs.declared.set_orders.Focus.{Focus}
 use Rattle.line_play.specs.declared.set_orders.SetOrder.{SetOrder}
 use Rattle.line_play.specs.declared.set_orders.SetOrder.TheVariants as order
@@ -43,14 +46,31 @@ pub each_all : (command : Command) (first last gone : ℕ) (t u : Tended) → Ob
 each_all command first last gone t u each all = subst (λ (n : ℕ). ObeyEach command first t n u) all each
 
 -- from the first to before the last of those of which an order speaks
-pub commands : (command : Command) (whom : Focus) (p : Stood) (u : Tended) (focus : Focus) (first last : ℕ) → first ≡ first_of whom → last ≡ last_of whom p.tender
-    → focus ≡ p.focus → ObeyEach command first p.tender last u → Commands command whom p (record { tender = u; focus = focus })
-commands command whom p u focus first last first_is last_is same each = record {
+pub commands : (command : Command) (whom : Focus) (p : Stood) (u : Tended) (first last : ℕ) → first ≡ first_of whom → last ≡ last_of whom p.tender
+    → ObeyEach command first p.tender last u → Commands command whom p (record p { tender = u })
+commands command whom p u first last first_is last_is each = record {
   each =
       subst (λ (n : ℕ). ObeyEach command (first_of whom) p.tender n u) last_is
       (subst (λ (n : ℕ). ObeyEach command n p.tender last u) first_is each);
-  focus = same;
+  same = refl;
 }
+
+-- counts begin anew, of links from the first to before the last of those of which an order speaks
+pub reset_none : (l : ℕ) (p : Stood) → terminal_at p.tender l ≡ None → p ≡ reset_at l p
+reset_none l p none_there = λ i. record p { since = ap (λ (o : Option Term). reset_to l o p.since) (sym none_there) i }
+
+pub reset_some : (l : ℕ) (p : Stood) (t : Term) (ss : List Since) → terminal_at p.tender l ≡ Some t → ss ≡ slice_set p.since l (begun_at t) → record p { since = ss } ≡ reset_at l p
+reset_some l p t ss there is = λ i. record p { since = (is ∙ ap (λ (o : Option Term). reset_to l o p.since) (sym there)) i }
+
+pub reset_more : (first last : ℕ) (p q r : Stood) → ResetEach first p last q → r ≡ reset_at last q → ResetEach first p (last + 1) r
+reset_more first last p q r before is = subst (λ (x : Stood). ResetEach first p (last + 1) x) (sym is) (one_reset before)
+
+pub reset_to_last : (first gone last : ℕ) (p q : Stood) → gone ≡ last → ResetEach first p gone q → ResetEach first p last q
+reset_to_last first gone last p q all before = subst (λ (n : ℕ). ResetEach first p n q) all before
+
+pub resets : (whom : Focus) (first last : ℕ) (p q : Stood) → first ≡ first_of whom → last ≡ last_of whom p.tender → ResetEach first p last q → Resets whom p q
+resets whom first last p q first_is last_is each =
+    subst (λ (n : ℕ). ResetEach (first_of whom) p n q) last_is (subst (λ (n : ℕ). ResetEach n p last q) first_is each)
 
 there_in : (l links len : ℕ) → len ≡ links → nat_lt l len ≡ true → links ≤ l → ⊥
 there_in l links len same there past = absurd (let small : l < len = grind (arith, nat_tests) in omega (arith, small, same, past))
@@ -62,7 +82,7 @@ pub refused_focus : {A E : Type 0} (r : Result (Option A) E) (f : A → List ℕ
     → IfOk r (λ (o : Option A). IfSome o (λ (a : A). f a ≡ codes "K1 NoLink")) → IfOk r (λ (o : Option A). IfSome o (λ (a : A). NoFocus focus p (f a) p))
 refused_focus r f focus p none_there told_so = why_so r f (codes "K1 NoLink") (λ (w : List ℕ). NoFocus focus p w p) (no_focus focus p none_there) told_so
 
-pub looks : (focus : Focus) (p : Stood) (u : Tended) → (IsNoLink focus p.tender → ⊥) → u ≡ p.tender → Looks focus p (record { tender = u; focus = focus })
+pub looks : (focus : Focus) (p : Stood) (u : Tended) → (IsNoLink focus p.tender → ⊥) → u ≡ p.tender → Looks focus p (record p { tender = u; focus = focus })
 looks focus p u there same = record { there = there; is = λ i. record p { tender = same i; focus = focus } }
 
 pub rebalances : (p : Stood) (u : Tended) → None ≡ rebalance_fault p.tender.set → u ≡ record p.tender { set = rebalanced p.tender.set }
@@ -84,11 +104,11 @@ pub refused_fault : {A E : Type 0} (r : Result (Option A) E) (f : A → List ℕ
     → IfOk r (λ (o : Option A). IfSome o (λ (a : A). f a ≡ command_error_text error)) → IfOk r (λ (o : Option A). IfSome o (λ (a : A). IsFault (f a)))
 refused_fault r f error told_so = why_so r f (command_error_text error) (λ (w : List ℕ). IsFault w) (record { error = error; is = refl }) told_so
 
-pub refused_command : {A E : Type 0} (r : Result (Option A) E) (f : A → List ℕ) (p q : Stood) → q.focus ≡ p.focus → IfOk r (λ (o : Option A). IfSome o (λ (a : A). IsFault (f a)))
+pub refused_command : {A E : Type 0} (r : Result (Option A) E) (f : A → List ℕ) (p q : Stood) → q.focus ≡ p.focus → q.since ≡ p.since → IfOk r (λ (o : Option A). IfSome o (λ (a : A). IsFault (f a)))
     → IfOk r (λ (o : Option A). IfSome o (λ (a : A). NoCommand p (f a) q))
-refused_command (Ok (Some a)) f p q same fault = record { fault = fault; focus = same }
-refused_command (Ok None) f p q same fault = tt
-refused_command (Err e) f p q same fault = tt
+refused_command (Ok (Some a)) f p q focus since fault = record { fault = fault; same = λ i. record { tender = q.tender; focus = focus i; since = since i } }
+refused_command (Ok None) f p q focus since fault = tt
+refused_command (Err e) f p q focus since fault = tt
 
 -- a question that is refused changes nothing
 pub refused_line : {A E : Type 0} (r : Result (Option A) E) (f : A → List ℕ) (line : Option (List ℕ)) (p : Stood)
@@ -128,50 +148,51 @@ line_shown (Err e) line there is shown = tt
 pub nowhere_shown : (there : Option (List ℕ)) → there ≡ None → IsShowable there
 nowhere_shown there none_there = λ why refused. none-some (codes "refused " ++ why) (sym refused ∙ none_there)
 
-book_at : (c : LinkSet) (b : Option Ledger) (t : Tended) (l k : ℕ) → c ≡ t.set → b ≡ read_at book_of (slice_get c.links l) → l ≡ k
-    → read_at book_of (slice_get t.set.links k) ≡ b
-book_at c b t l k same there place =
-    sym (there ∙ (ap (λ (s : LinkSet). read_at book_of (slice_get s.links l)) same ∙ ap (λ (n : ℕ). read_at book_of (slice_get t.set.links n)) place))
+-- the line of a link that is there
+pub there_line : (at : ℕ → Option (List ℕ)) (line text : List ℕ) (l k : ℕ) → Some line ≡ at l → l ≡ k → text ≡ line → at k ≡ Some text
+there_line at line text l k there place is = sym (there ∙ ap at place) ∙ ap (λ (xs : List ℕ). Some xs) (sym is)
 
-line_at : (f : Ledger → List ℕ) (c : LinkSet) (b : Ledger) (line : List ℕ) (t : Tended) (l k : ℕ) → c ≡ t.set → Some b ≡ read_at book_of (slice_get c.links l) → l ≡ k → line ≡ f b
-    → option_map f (read_at book_of (slice_get t.set.links k)) ≡ Some line
-line_at f c b line t l k same there place is = ap (option_map f) (book_at c (Some b) t l k same there place) ∙ ap (λ (xs : List ℕ). Some xs) (sym is)
+pub there_none : (at : ℕ → Option (List ℕ)) (l k : ℕ) → None ≡ at l → l ≡ k → at k ≡ None
+there_none at l k none_there place = sym (none_there ∙ ap at place)
 
-no_line_at : (f : Ledger → List ℕ) (c : LinkSet) (t : Tended) (l k : ℕ) → c ≡ t.set → None ≡ read_at book_of (slice_get c.links l) → l ≡ k
-    → option_map f (read_at book_of (slice_get t.set.links k)) ≡ None
-no_line_at f c t l k same there place = ap (option_map f) (book_at c None t l k same there place)
+book_at : (c : LinkSet) (b : Option Ledger) (t : Tended) (l : ℕ) → c ≡ t.set → b ≡ read_at book_of (slice_get c.links l) → b ≡ read_at book_of (slice_get t.set.links l)
+book_at c b t l same there = there ∙ ap (λ (s : LinkSet). read_at book_of (slice_get s.links l)) same
 
-pub state_there : (process : List ℕ) (c : LinkSet) (b : Ledger) (line : List ℕ) (t : Tended) (l k : ℕ) → c ≡ t.set → Some b ≡ read_at book_of (slice_get c.links l) → l ≡ k
-    → line ≡ state_line b (actor_named b process) → state_at process t k ≡ Some line
-state_there process c b line t l k same there place is = line_at (λ (x : Ledger). state_line x (actor_named x process)) c b line t l k same there place is
+pub state_there : (process : List ℕ) (c : LinkSet) (b : Ledger) (line : List ℕ) (t : Tended) (l : ℕ) → c ≡ t.set → Some b ≡ read_at book_of (slice_get c.links l)
+    → line ≡ state_line b (actor_named b process) → Some line ≡ state_at process t l
+state_there process c b line t l same there is =
+    ap (λ (xs : List ℕ). Some xs) is ∙ ap (option_map (λ (x : Ledger). state_line x (actor_named x process))) (book_at c (Some b) t l same there)
 
-pub state_nowhere : (process : List ℕ) (c : LinkSet) (t : Tended) (l k : ℕ) → c ≡ t.set → None ≡ read_at book_of (slice_get c.links l) → l ≡ k → state_at process t k ≡ None
-state_nowhere process c t l k same there place = no_line_at (λ (x : Ledger). state_line x (actor_named x process)) c t l k same there place
+pub state_nowhere : (process : List ℕ) (c : LinkSet) (t : Tended) (l : ℕ) → c ≡ t.set → None ≡ read_at book_of (slice_get c.links l) → None ≡ state_at process t l
+state_nowhere process c t l same there = ap (option_map (λ (x : Ledger). state_line x (actor_named x process))) (book_at c None t l same there)
 
-pub value_there : (process variable : List ℕ) (c : LinkSet) (b : Ledger) (line : List ℕ) (t : Tended) (l k : ℕ) → c ≡ t.set → Some b ≡ read_at book_of (slice_get c.links l) → l ≡ k
-    → line ≡ value_line b variable (actor_named b process) → value_at process variable t k ≡ Some line
-value_there process variable c b line t l k same there place is = line_at (λ (x : Ledger). value_line x variable (actor_named x process)) c b line t l k same there place is
+pub value_there : (process variable : List ℕ) (c : LinkSet) (b : Ledger) (line : List ℕ) (t : Tended) (l : ℕ) → c ≡ t.set → Some b ≡ read_at book_of (slice_get c.links l)
+    → line ≡ value_line b variable (actor_named b process) → Some line ≡ value_at process variable t l
+value_there process variable c b line t l same there is =
+    ap (λ (xs : List ℕ). Some xs) is ∙ ap (option_map (λ (x : Ledger). value_line x variable (actor_named x process))) (book_at c (Some b) t l same there)
 
-pub value_nowhere : (process variable : List ℕ) (c : LinkSet) (t : Tended) (l k : ℕ) → c ≡ t.set → None ≡ read_at book_of (slice_get c.links l) → l ≡ k
-    → value_at process variable t k ≡ None
-value_nowhere process variable c t l k same there place = no_line_at (λ (x : Ledger). value_line x variable (actor_named x process)) c t l k same there place
+pub value_nowhere : (process variable : List ℕ) (c : LinkSet) (t : Tended) (l : ℕ) → c ≡ t.set → None ≡ read_at book_of (slice_get c.links l) → None ≡ value_at process variable t l
+value_nowhere process variable c t l same there = ap (option_map (λ (x : Ledger). value_line x variable (actor_named x process))) (book_at c None t l same there)
+
+pub terminal_there : (c : LinkSet) (o : Option Term) (t : Tended) (l : ℕ) → c ≡ t.set → o ≡ read_at terminal_of (slice_get c.links l) → o ≡ terminal_at t l
+terminal_there c o t l same there = there ∙ ap (λ (s : LinkSet). read_at terminal_of (slice_get s.links l)) same
 
 -- a question changes nothing
 pub still : (s : SetOrder) (whom : Focus) (p : Stood) → octets_sent s ≡ None → ((f : _) → s ≡ order.On f → ⊥) → ((o : _) → s ≡ order.Link o → ⊥)
-    → (s ≡ order.Rebalance → ⊥) → Changes (plain_set_order s) whom p p
-still (order.On focus) whom p none_there not_on not_link not_rebalance = absurd (not_on focus refl)
-still (order.Link obeyed) whom p none_there not_on not_link not_rebalance = absurd (not_link obeyed refl)
-still (order.State process) whom p none_there not_on not_link not_rebalance = refl
-still (order.Value process variable) whom p none_there not_on not_link not_rebalance = refl
-still (order.Measure measure) whom p none_there not_on not_link not_rebalance = refl
-still order.Aborted whom p none_there not_on not_link not_rebalance = refl
-still order.Measures whom p none_there not_on not_link not_rebalance = refl
-still order.Reset whom p none_there not_on not_link not_rebalance = refl
-still (order.Send octets) whom p none_there not_on not_link not_rebalance = absurd (none-some _ (sym none_there))
-still order.Table whom p none_there not_on not_link not_rebalance = refl
-still order.Held whom p none_there not_on not_link not_rebalance = refl
-still order.Unsure whom p none_there not_on not_link not_rebalance = refl
-still order.Rebalance whom p none_there not_on not_link not_rebalance = absurd (not_rebalance refl)
+    → (s ≡ order.Reset → ⊥) → (s ≡ order.Rebalance → ⊥) → Changes (plain_set_order s) whom p p
+still (order.On focus) whom p none_there not_on not_link not_reset not_rebalance = absurd (not_on focus refl)
+still (order.Link obeyed) whom p none_there not_on not_link not_reset not_rebalance = absurd (not_link obeyed refl)
+still (order.State process) whom p none_there not_on not_link not_reset not_rebalance = refl
+still (order.Value process variable) whom p none_there not_on not_link not_reset not_rebalance = refl
+still (order.Measure measure) whom p none_there not_on not_link not_reset not_rebalance = refl
+still order.Aborted whom p none_there not_on not_link not_reset not_rebalance = refl
+still order.Measures whom p none_there not_on not_link not_reset not_rebalance = refl
+still order.Reset whom p none_there not_on not_link not_reset not_rebalance = absurd (not_reset refl)
+still (order.Send octets) whom p none_there not_on not_link not_reset not_rebalance = absurd (none-some _ (sym none_there))
+still order.Table whom p none_there not_on not_link not_reset not_rebalance = refl
+still order.Held whom p none_there not_on not_link not_reset not_rebalance = refl
+still order.Unsure whom p none_there not_on not_link not_reset not_rebalance = refl
+still order.Rebalance whom p none_there not_on not_link not_reset not_rebalance = absurd (not_rebalance refl)
 
 -- what holds whatever comes of a call
 pub where_none : {A E : Type 0} (r : Result (Option A) E) (P : Type 0) → P → IfOk r (λ (o : Option A). IsNone o → P)

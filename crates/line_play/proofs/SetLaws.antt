@@ -112,8 +112,8 @@ lived_round : (t : Tended) (p q : SetPlace) (sent : List Msu) (told : List Told)
     → (is : IsRound ahead p bytes traffic goes_on q) → Lived t (sent ++ sent_by_all is.attends) ((told ++ told_in is.tells.tells) ++ told_in is.tells_more.tells) q.set
 lived_round t p q sent told ahead bytes traffic goes_on l is =
     lived_telling t is.obeyed (sent ++ sent_by_all is.attends) (told ++ told_in is.tells.tells) is.fourth q.set
-    (lived_all t (record { tender = is.calm; focus = p.focus }) sent (told ++ told_in is.tells.tells) p.waiting p.left is.third goes_on
-    (record { tender = is.obeyed; focus = q.focus }) q.waiting q.left
+    (lived_all t (record { tender = is.calm; focus = p.focus; since = p.since }) sent (told ++ told_in is.tells.tells) p.waiting p.left is.third goes_on
+    (record { tender = is.obeyed; focus = q.focus; since = q.since }) q.waiting q.left
     (lived_telling t is.tended sent told is.second is.calm
     (lived_tends t is.ticked is.tended sent told
     (lived_ticks t is.carried is.ticked sent told

@@ -18,7 +18,8 @@ use Rattle.set_tending.specs.Tended.{Tended}
 use Rattle.line_play.specs.declared.set_orders.Focus.{Focus}
 use Rattle.line_play.specs.declared.set_orders.SetOrder.{SetOrder}
 use Rattle.line_play.specs.declared.set_orders.SetOrder.TheVariants as order
-use Rattle.line_play.specs.SetDoing.{Stood, Changes, Refuses, MayShow, Shows, IsAnswer}
+use Rattle.line_play.specs.SetDoing.{Stood, Changes, Refuses, MayShow}
+use Rattle.line_play.specs.SetShowing.{Shows, IsAnswer}
 use Rattle.line_play.proofs.SetDoing.{why_so}
 use Rattle.line_play.specs.SetObeying.{sent_by, octets_sent, BAD_LINE, AreNoMessage, IsSent, IsUntaken, no_label, fault, IsTurnedDown, no_message, full, IsRefused, bad, unsent, untaken, other, Obeys, sends, does, refuses}
 use Rattle.line_play.specs.SetOrders.{PlainSetOrder, plain_set_order, set_order_of}
@@ -186,20 +187,20 @@ agreed_send r order octets whom p u a b said sent line =
 
 pub agreed_other : {A E : Type 0} (r : Result A E) (order : List ℕ) (said : PlainSetOrder) (whom : Focus) (p q : Stood) (a b : Stand)
     → set_order_of (words_of order) ≡ Some said → sent_by (words_of order) ≡ None → MayShow said whom p.tender → Adds p.tender q.tender → Changes said whom p q
-    → OnOk r (TellsSuch (IsAnswer said whom q.tender order) a b) → OnOk r (TellsSuch (λ bytes. Obeys order whom p bytes q) a b)
+    → OnOk r (TellsSuch (IsAnswer said whom q order) a b) → OnOk r (TellsSuch (λ bytes. Obeys order whom p bytes q) a b)
 agreed_other r order said whom p q a b read none_there may adds changes answer =
     on_ok_weaker r
-    (λ (h : TellsSuch (IsAnswer said whom q.tender order) a b). record { bytes = h.bytes; are = does said read none_there may adds changes h.are; tells = h.tells })
+    (λ (h : TellsSuch (IsAnswer said whom q order) a b). record { bytes = h.bytes; are = does said read none_there may adds changes h.are; tells = h.tells })
     answer
 
-pub answered : {A E : Type 0} (r : Result A E) (said : PlainSetOrder) (whom : Focus) (t : Tended) (order : List ℕ) (a b c : Stand)
-    → TellsLines a b (told t.ticks (codes "ok " ++ order)) → OnOk r (TellsSuch (Shows said whom t) b c) → OnOk r (TellsSuch (IsAnswer said whom t order) a c)
-answered r said whom t order a b c agreed asked =
+pub answered : {A E : Type 0} (r : Result A E) (said : PlainSetOrder) (whom : Focus) (p : Stood) (order : List ℕ) (a b c : Stand)
+    → TellsLines a b (told p.tender.ticks (codes "ok " ++ order)) → OnOk r (TellsSuch (Shows said whom p) b c) → OnOk r (TellsSuch (IsAnswer said whom p order) a c)
+answered r said whom p order a b c agreed asked =
     on_ok_weaker r
-    (λ (h : TellsSuch (Shows said whom t) b c). record {
-      bytes = told t.ticks (codes "ok " ++ order) ++ h.bytes;
+    (λ (h : TellsSuch (Shows said whom p) b c). record {
+      bytes = told p.tender.ticks (codes "ok " ++ order) ++ h.bytes;
       are = record { more = h.bytes; shows = h.are; are = refl };
-      tells = tells_trans a b c (told t.ticks (codes "ok " ++ order)) h.bytes agreed h.tells;
+      tells = tells_trans a b c (told p.tender.ticks (codes "ok " ++ order)) h.bytes agreed h.tells;
     })
     asked
 

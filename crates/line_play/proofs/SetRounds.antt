@@ -332,7 +332,7 @@ attends_quit t u waiting now left fewer last ms a b c before ms_is next line = r
 pub is_round : (ahead : ℕ) (p q : SetPlace) (goes_on : Bool) (carried ticked tended calm obeyed : Tended) (a b c d e : Stand) (f g h : Option (List Traffic))
     → Grows f g [] → Made (λ bytes traffic. CarriesAll ahead p.set p.wires (length p.wires) bytes traffic carried q.wires) a b g h → Ticks carried ticked
     → Tends ticked tended → TellsSuch (λ bytes. TellsAll tended bytes calm) b c
-    → TellsSuch (λ bytes. AttendsAll (record { tender = calm; focus = p.focus }) p.waiting p.left bytes goes_on (record { tender = obeyed; focus = q.focus }) q.waiting q.left) c d
+    → TellsSuch (λ bytes. AttendsAll (record { tender = calm; focus = p.focus; since = p.since }) p.waiting p.left bytes goes_on (record { tender = obeyed; focus = q.focus; since = q.since }) q.waiting q.left) c d
     → TellsSuch (λ bytes. TellsAll obeyed bytes q.set) d e → Made (λ bytes traffic. IsRound ahead p bytes traffic goes_on q) a e f h
 is_round ahead p q goes_on carried ticked tended calm obeyed a b c d e f g h none_given first ticks tends second third fourth = record {
   bytes = ((first.bytes ++ second.bytes) ++ third.bytes) ++ fourth.bytes;

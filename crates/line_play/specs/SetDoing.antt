@@ -1,27 +1,24 @@
--- What an order to a set changes, and what is told of what it asked for.
-use Rattle.std.specs.Prelude.{◌≡◌, ℕ, ◌+◌, ◌-◌, ◌^◌, ◌≤◌, min, true, false, List, [], ◌++◌, codes}
-use Rattle.std.specs.Prelude.{Option, None, Some, option_map, map, slice_get, unwrap_or}
-use Rattle.std.specs.Fmt.{decimal}
+-- What an order to a set changes, and why it is refused.
+use Rattle.std.specs.Prelude.{◌≡◌, ℕ, ◌+◌, ◌-◌, ◌^◌, ◌≤◌, min, true, false, List, ◌++◌, codes}
+use Rattle.std.specs.Prelude.{slice_get, slice_set, Option, None, Some, option_map}
 use Rattle.link_group.specs.Printed.{rebalance_error_text}
 use Rattle.script_terminal.specs.Answers.{actor_named, state_line, value_line}
-use Rattle.script_terminal.specs.MeasureNames.{measure_word}
+use Rattle.script_terminal.specs.Term.{Term}
 use Rattle.script_terminal.specs.TermAnswers.{command_of}
 use Rattle.script_terminal.specs.link_processes_types.commands.Command.{Command}
-use Rattle.line_filter.specs.Orders.{told}
 use Rattle.set_tending.specs.Commanding.{is_start, command_error_text}
 use Rattle.set_tending.specs.Lines.{ByCommand}
 use Rattle.set_tending.specs.Links.{read_at}
 use Rattle.set_tending.specs.Placing.{rebalance_fault, rebalanced}
-use Rattle.set_tending.specs.Reading.{held_count, sent_count, book_of}
-use Rattle.set_tending.specs.Sharing.{link_of, selections}
+use Rattle.set_tending.specs.Reading.{book_of, terminal_of}
 use Rattle.set_tending.specs.Tended.{Tended}
-use Rattle.set_tending.specs.Texts.{told_text}
-use Rattle.set_tending.specs.declared.told.Told.TheVariants.{Shared}
 use Rattle.set_tending.specs.group_changeover_types.errors.RebalanceError.{RebalanceError}
 use Rattle.link_group.specs.group_members_types.commanding.CommandError.{CommandError}
+use Rattle.line_play.specs.declared.set_measures.Since.{Since}
 use Rattle.line_play.specs.declared.set_orders.Focus.{Focus}
 use Rattle.line_play.specs.declared.set_orders.Focus.TheVariants.{Link as OneLink, All}
 use Rattle.line_play.specs.declared.set_state.SetState.{SetState}
+use Rattle.line_play.specs.SetCounting.{begun_at}
 use Rattle.line_play.specs.SetOrders.{PlainSetOrder, on, links, state, value, measuring, aborted}
 use Rattle.line_play.specs.SetOrders.{measures, resetting, send, table, held, unsure, rebalance}
 
@@ -31,9 +28,11 @@ use Rattle.line_play.specs.SetOrders.{measures, resetting, send, table, held, un
 pub record Stood : Type 0 where
   pub tender : Tended
   pub focus : Focus
+  -- what its links had measured as their counts began anew
+  pub since : List Since
 
 abbrev pub stood : SetState → Stood
-stood s = record { tender = s.tender; focus = s.focus }
+stood s = record { tender = s.tender; focus = s.focus; since = s.since.items }
 
 -- from the first to before the last
 abbrev pub first_of : Focus → ℕ
@@ -66,20 +65,41 @@ pub data ObeyEach (command : Command) (first : ℕ) (t : Tended) : ℕ → Tende
 -- those of which it speaks obey it
 pub record Commands (command : Command) (whom : Focus) (p q : Stood) : Type 0 where
   pub each : ObeyEach command (first_of whom) p.tender (last_of whom p.tender) q.tender
-  pub focus : q.focus ≡ p.focus
+  pub same : q ≡ record p { tender = q.tender }
 
 -- orders speak of these links from now on
 pub record Looks (focus : Focus) (p q : Stood) : Type 0 where
   pub there : IsNoLink focus p.tender → ⊥
   pub is : q ≡ record p { focus = focus }
 
+-- the terminal of a link, where it is there
+abbrev pub terminal_at : Tended → ℕ → Option Term
+terminal_at t l = read_at terminal_of (slice_get t.set.links l)
+
+-- counts of a link begin anew
+abbrev pub reset_to : ℕ → Option Term → List Since → List Since
+reset_to l None since = since
+reset_to l (Some t) since = slice_set since l (begun_at t)
+
+abbrev pub reset_at : ℕ → Stood → Stood
+reset_at l p = record p { since = reset_to l (terminal_at p.tender l) p.since }
+
+-- of links one after another, from the first to before the last
+pub data ResetEach (first : ℕ) (p : Stood) : ℕ → Stood → Type 0 where
+  none_reset : ResetEach first p first p
+  one_reset : {last : ℕ} {q : Stood} → ResetEach first p last q
+      → ResetEach first p (last + 1) (reset_at last q)
+
+abbrev pub Resets : Focus → Stood → Stood → Type 0
+Resets whom p q = ResetEach (first_of whom) p (last_of whom p.tender) q
+
 -- selections are shared out anew
 pub record Rebalances (p q : Stood) : Type 0 where
   pub may : rebalance_fault p.tender.set ≡ None
   pub is : q ≡ record p { tender = record p.tender { set = rebalanced p.tender.set } }
 
--- an order to links is that command to each of those of which it speaks, and a question changes
--- nothing
+-- An order to links is that command to each of those of which it speaks, `measure reset` has counts of
+-- these begin anew, and a question changes nothing.
 abbrev pub Changes : PlainSetOrder → Focus → Stood → Stood → Type 0
 Changes (on focus) whom p q = Looks focus p q
 Changes (links order) whom p q = Commands (command_of order) whom p q
@@ -88,7 +108,7 @@ Changes (value process variable) whom p q = q ≡ p
 Changes (measuring measure) whom p q = q ≡ p
 Changes aborted whom p q = q ≡ p
 Changes measures whom p q = q ≡ p
-Changes resetting whom p q = q ≡ p
+Changes resetting whom p q = Resets whom p q
 Changes (send octets) whom p q = ⊥
 Changes table whom p q = q ≡ p
 Changes held whom p q = q ≡ p
@@ -118,7 +138,7 @@ pub record IsFault (why : List ℕ) : Type 0 where
 -- a link refuses it, and only the set may have changed
 pub record NoCommand (p : Stood) (why : List ℕ) (q : Stood) : Type 0 where
   pub fault : IsFault why
-  pub focus : q.focus ≡ p.focus
+  pub same : q ≡ record p { tender = q.tender }
 
 -- the line that a script prints for the state of an actor of a link, or for the value of one of its
 -- variables, where the link is there
@@ -175,110 +195,3 @@ MayShow table whom t = Unit {0}
 MayShow held whom t = Unit {0}
 MayShow unsure whom t = Unit {0}
 MayShow rebalance whom t = Unit {0}
-
--- ---- what is told of links
-
--- the state of an actor, and the value of one of its variables, which are the text's own words
-pub record IsState (process : List ℕ) (l : ℕ) (text : List ℕ) : Type 0 where
-  pub what : List ℕ
-  pub are : text ≡ decimal l ++ (codes " state " ++ (process ++ (codes " " ++ what)))
-
-pub record IsValue (process variable : List ℕ) (l : ℕ) (text : List ℕ) : Type 0 where
-  pub what : List ℕ
-  pub are :
-      text
-      ≡ decimal l
-      ++ (codes " value " ++ (process ++ (codes " " ++ (variable ++ (codes " " ++ what)))))
-
--- a count that has this name
-pub record IsCount (name : List ℕ) (l : ℕ) (text : List ℕ) : Type 0 where
-  pub count : ℕ
-  pub are : text ≡ decimal l ++ (codes " measure " ++ (name ++ (codes " " ++ decimal count)))
-
--- any count
-pub record IsMeasured (l : ℕ) (text : List ℕ) : Type 0 where
-  pub name : List ℕ
-  pub is : IsCount name l text
-
--- the name of the count of aborted proving periods
-abbrev pub ABORTED : List ℕ
-ABORTED = codes "aborted_periods"
-
--- a line about a link that is asked for
-abbrev pub IsShown : PlainSetOrder → ℕ → List ℕ → Type 0
-IsShown (on focus) l text = ⊥
-IsShown (links order) l text = ⊥
-IsShown (state process) l text = IsState process l text
-IsShown (value process variable) l text = IsValue process variable l text
-IsShown (measuring measure) l text = IsCount (measure_word measure) l text
-IsShown aborted l text = IsCount ABORTED l text
-IsShown measures l text = IsMeasured l text
-IsShown resetting l text = ⊥
-IsShown (send octets) l text = ⊥
-IsShown table l text = ⊥
-IsShown held l text = ⊥
-IsShown unsure l text = ⊥
-IsShown rebalance l text = ⊥
-
--- such lines, with a millisecond; none where nothing is asked for
-pub data ShowsLines (said : PlainSetOrder) (l now : ℕ) : List ℕ → Type 0 where
-  no_line : ShowsLines said l now []
-  one_line : {bytes : List ℕ} (text : List ℕ) → ShowsLines said l now bytes → IsShown said l text
-      → ShowsLines said l now (bytes ++ told now text)
-
--- of links one after another, from the first to before the last
-pub data ShowsEach (said : PlainSetOrder) (now first : ℕ) : ℕ → List ℕ → Type 0 where
-  none_yet : ShowsEach said now first first []
-  one_more : {last : ℕ} {bytes : List ℕ} (more : List ℕ)
-      → ShowsEach said now first last bytes → ShowsLines said last now more
-      → ShowsEach said now first (last + 1) (bytes ++ more)
-
-abbrev pub ShowsLinks : PlainSetOrder → Focus → Tended → List ℕ → Type 0
-ShowsLinks said whom t bytes = ShowsEach said t.ticks (first_of whom) (last_of whom t) bytes
-
--- ---- what is told of the set
-
--- how many messages a link holds, and how many of them are sent and not acknowledged
-abbrev pub held_text : Tended → ℕ → List ℕ
-held_text t l =
-    decimal l
-    ++ (codes " held "
-    ++ (decimal (unwrap_or (read_at held_count (slice_get t.set.links l)) 0)
-    ++ (codes " sent " ++ decimal (unwrap_or (read_at sent_count (slice_get t.set.links l)) 0))))
-
--- of the first so many links
-pub data ShowsHeld (t : Tended) : ℕ → List ℕ → Type 0 where
-  no_link : ShowsHeld t 0 []
-  one_link : {l : ℕ} {bytes : List ℕ} → ShowsHeld t l bytes
-      → ShowsHeld t (l + 1) (bytes ++ told t.ticks (held_text t l))
-
--- the link of each selection
-abbrev pub table_text : Tended → List ℕ
-table_text t = told_text (Shared (map (link_of t.set.table) selections))
-
-abbrev pub unsure_text : Tended → List ℕ
-unsure_text t = codes "unsure " ++ decimal t.set.unsure
-
--- ---- what is told of an order that was obeyed
-
-abbrev pub Shows : PlainSetOrder → Focus → Tended → List ℕ → Type 0
-Shows (on focus) whom t bytes = ShowsLinks (on focus) whom t bytes
-Shows (links order) whom t bytes = ShowsLinks (links order) whom t bytes
-Shows (state process) whom t bytes = ShowsLinks (state process) whom t bytes
-Shows (value process variable) whom t bytes = ShowsLinks (value process variable) whom t bytes
-Shows (measuring measure) whom t bytes = ShowsLinks (measuring measure) whom t bytes
-Shows aborted whom t bytes = ShowsLinks aborted whom t bytes
-Shows measures whom t bytes = ShowsLinks measures whom t bytes
-Shows resetting whom t bytes = ShowsLinks resetting whom t bytes
-Shows (send octets) whom t bytes = ShowsLinks (send octets) whom t bytes
-Shows table whom t bytes = bytes ≡ told t.ticks (table_text t)
-Shows held whom t bytes = ShowsHeld t t.plan.links bytes
-Shows unsure whom t bytes = bytes ≡ told t.ticks (unsure_text t)
-Shows rebalance whom t bytes = ShowsLinks rebalance whom t bytes
-
--- it is told as obeyed, and behind it what it asked for
-pub record IsAnswer (said : PlainSetOrder) (whom : Focus) (t : Tended) (order bytes : List ℕ) :
-    Type 0 where
-  pub more : List ℕ
-  pub shows : Shows said whom t more
-  pub are : bytes ≡ told t.ticks (codes "ok " ++ order) ++ more

@@ -16,8 +16,9 @@ use Rattle.set_tending.specs.group_changeover_types.errors.SendError.{SendError}
 use Rattle.line_play.specs.declared.set_orders.Focus.{Focus}
 use Rattle.line_play.specs.declared.set_orders.SetOrder.{SetOrder}
 use Rattle.line_play.specs.declared.set_orders.SetOrder.TheVariants as order
-use Rattle.line_play.specs.SetDoing.{Stood, Changes, Refuses, MayShow, IsAnswer}
+use Rattle.line_play.specs.SetDoing.{Stood, Changes, Refuses, MayShow}
 use Rattle.line_play.specs.SetOrders.{PlainSetOrder, set_order_of}
+use Rattle.line_play.specs.SetShowing.{IsAnswer}
 
 -- the octets of `send HEX`
 abbrev pub sent_by : List (List ℕ) → Option (List ℕ)
@@ -105,7 +106,7 @@ pub data Obeys (order : List ℕ) (whom : Focus) (p : Stood) : List ℕ → Stoo
   does : {bytes : List ℕ} {q : Stood} (said : PlainSetOrder)
       → set_order_of (words_of order) ≡ Some said → sent_by (words_of order) ≡ None
       → MayShow said whom p.tender → Adds p.tender q.tender → Changes said whom p q
-      → IsAnswer said whom q.tender order bytes
+      → IsAnswer said whom q order bytes
       → Obeys order whom p bytes q
   refuses : {q : Stood} (why : List ℕ) → IsRefused order whom p why q
       → Obeys order whom p (told q.tender.ticks (codes "refused " ++ why)) q

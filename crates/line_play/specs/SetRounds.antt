@@ -16,6 +16,7 @@ use Rattle.set_tending.specs.declared.wire.Passed.{Passed}
 use Rattle.set_tending.specs.declared.wire.Passed.TheVariants.{Same, Silent, Back}
 use Rattle.set_tending.specs.declared.wire.Wire.{Wire}
 use Rattle.line_play.specs.declared.set_orders.Focus.{Focus}
+use Rattle.line_play.specs.declared.set_measures.Since.{Since}
 use Rattle.line_play.specs.declared.set_queue.Queue.{Queue}
 use Rattle.line_play.specs.declared.set_queue.Waiting.{Waiting}
 use Rattle.line_play.specs.SetDoing.{Stood}
@@ -188,6 +189,8 @@ pub record SetPlace : Type 0 where
   pub wires : List Wire
   -- which links the next order speaks of
   pub focus : Focus
+  -- what links had measured as their counts began anew
+  pub since : List Since
   -- the orders that wait
   pub waiting : List Waited
   -- those that are to come, where that is known
@@ -211,8 +214,8 @@ pub record IsRound (ahead : ℕ) (p : SetPlace) (bytes : List ℕ) (traffic : Li
   pub obeyed : Tended
   pub third : List ℕ
   pub attends :
-      AttendsAll (record { tender = calm; focus = p.focus }) p.waiting p.left third goes_on
-      (record { tender = obeyed; focus = q.focus }) q.waiting q.left
+      AttendsAll (record { tender = calm; focus = p.focus; since = p.since }) p.waiting p.left third
+      goes_on (record { tender = obeyed; focus = q.focus; since = q.since }) q.waiting q.left
   pub fourth : List ℕ
   pub tells_more : TellsAll obeyed fourth q.set
   pub are : bytes ≡ ((first ++ second) ++ third) ++ fourth

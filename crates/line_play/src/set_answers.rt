@@ -8,15 +8,16 @@ ghost use Rattle.set_tending.specs.Commanding.{command_error_text};
 ghost use Rattle.set_tending.specs.Rounds.{Acts, Adds};
 ghost use Rattle.set_tending.specs.Sending.{tended_send_fault};
 ghost use Rattle.script_terminal.specs.TermAnswers.{command_of};
-ghost use Rattle.line_play.specs.SetDoing.{stood, first_of, IsNoLink, ObeysAt, ObeyEach, Commands, Looks, Rebalances, NoFocus, NoRebalance, IsFault, state_at, value_at, IsShowable, MayShow, Changes, Refuses, IsAnswer};
+ghost use Rattle.line_play.specs.SetDoing.{stood, first_of, IsNoLink, ObeysAt, ObeyEach, Commands, Looks, Rebalances, NoFocus, NoRebalance, IsFault, state_at, value_at, IsShowable, MayShow, Changes, Refuses};
 ghost use Rattle.line_play.specs.SetObeying.{Obeys, IsSent, IsUntaken, IsTurnedDown, octets_sent, sent_by};
 ghost use Rattle.line_play.specs.SetOrders.{plain_set_order, set_order_of};
+ghost use Rattle.line_play.specs.SetShowing.{IsAnswer};
 
 use crate::set_orders::{Focus, SetOrder, set_order_in};
 use crate::set_state::SetState;
 use crate::texts::{refusal_in, text_of};
 use line_filter::Reports;
-use script_terminal::{command_of, message, state_line, value_line};
+use script_terminal::{command_of, message};
 use set_tending::{CommandError, Msu, Tender, label_of};
 use std::alloc::{AllocError, Global};
 use std::io;
@@ -132,11 +133,8 @@ impl SetState {
         ensures none { IfOk result (λ r. IsNone r → IsShowable (state_at process.now self.now.tender (first_of focus))) }
     {
         let (first, _) = self.links(focus);
-        match self.tender.set().book(first) {
-            Some(book) => {
-                let line = state_line(alloc, book, process)?;
-                why_refused(alloc, line.as_slice())
-            }
+        match self.state_line(alloc, first, process)? {
+            Some(line) => why_refused(alloc, line.as_slice()),
             None => Ok(None),
         }
     }
@@ -153,11 +151,8 @@ impl SetState {
         ensures none { IfOk result (λ r. IsNone r → IsShowable (value_at process.now variable.now self.now.tender (first_of focus))) }
     {
         let (first, _) = self.links(focus);
-        match self.tender.set().book(first) {
-            Some(book) => {
-                let line = value_line(alloc, book, process, variable)?;
-                why_refused(alloc, line.as_slice())
-            }
+        match self.value_line(alloc, first, process, variable)? {
+            Some(line) => why_refused(alloc, line.as_slice()),
             None => Ok(None),
         }
     }
@@ -190,6 +185,7 @@ impl SetState {
     ) -> Result<Option<Refused>, AllocError>
         ensures adds { OnOk result (Adds self.old.tender self.new.tender) }
         ensures focus { self.new.focus ≡ self.old.focus }
+        ensures since { self.new.since.items ≡ self.old.since.items }
         ensures obeys { IfOk result (λ r. IsNone r → Commands (command_of order) focus (stood self.old) (stood self.new)) }
         ensures fault { IfOk result (λ r. IfSome r (λ why. IsFault (string_bytes why))) }
     {
@@ -299,7 +295,7 @@ impl SetState {
         order: &SetOrder<'_>,
         reports: &mut P,
     ) -> io::Result<()>
-        ensures { OnOk result (TellsSuch (IsAnswer (plain_set_order order.now) focus self.now.tender text.now) (P.stand reports.old) (P.stand reports.new)) }
+        ensures { OnOk result (TellsSuch (IsAnswer (plain_set_order order.now) focus (stood self.now) text.now) (P.stand reports.old) (P.stand reports.new)) }
     {
         self.agree(alloc, text, reports)?;
         self.tell_asked(alloc, focus, order, reports)

@@ -1,4 +1,3 @@
-use Rattle.std.proofs.Common.{refl}
 use Rattle.std.proofs.lemmas.Result.{IfOk-weaker}
 use Rattle.std.specs.Prelude.{IsNone}
 use Rattle.script_terminal.specs.TermAnswers.{command_of}
@@ -12,5 +11,5 @@ returns-clause-adds c = ok_so c.refused_for.result _ c.in_ok-first.ensures.adds
 
 pub returns-clause-obeys : goal.returns-clause-obeys
 returns-clause-obeys c =
-    IfOk-weaker c.refused_for.result _ (λ r. IsNone r → Commands (command_of c.args.order) c.args.focus (stood c.args.self.now) (record { tender = c.obey_links.new.tender; focus = c.args.self.now.focus }))
-    (λ r is none. commands _ c.args.focus _ _ _ _ _ c.links.ensures.first c.links.ensures.last refl (c.in_ok-first.ensures.obeys (is none))) c.refused_for.ensures.none
+    IfOk-weaker c.refused_for.result _ (λ r. IsNone r → Commands (command_of c.args.order) c.args.focus (stood c.args.self.now) (record { tender = c.obey_links.new.tender; focus = c.args.self.now.focus; since = c.args.self.now.since.items }))
+    (λ r is none. commands _ c.args.focus (stood c.args.self.now) _ _ _ c.links.ensures.first c.links.ensures.last (c.in_ok-first.ensures.obeys (is none))) c.refused_for.ensures.none
