@@ -146,7 +146,7 @@ line_shown (Ok o) line there is shown = λ none why refused. shown none why (sam
 line_shown (Err e) line there is shown = tt
 
 pub nowhere_shown : (there : Option (List ℕ)) → there ≡ None → IsShowable there
-nowhere_shown there none_there = λ why refused. none-some (codes "refused " ++ why) (sym refused ∙ none_there)
+nowhere_shown there none_there = λ why refused. none-some (codes "refused " ++ why) (sym none_there ∙ refused)
 
 -- the line of a link that is there
 pub there_line : (at : ℕ → Option (List ℕ)) (line text : List ℕ) (l k : ℕ) → Some line ≡ at l → l ≡ k → text ≡ line → at k ≡ Some text
