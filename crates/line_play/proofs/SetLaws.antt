@@ -59,7 +59,7 @@ lived_waiting t p sent told waiting _ _ _ l (obeys {bytes} {q} {r} {now} first m
 lived_taking : (t : Tended) (p : Stood) (sent : List Msu) (told : List Told) (order : List ℕ) (waiting : List Waited) (bytes : List ℕ) (v : Stood) (now : List Waited)
     → Lived t sent told p.tender → (made : TakesOrder order p waiting bytes v now) → Lived t (sent ++ sent_taking made) told v.tender
 lived_taking t p sent told order waiting _ _ _ l (at_once {bytes} {q} may made) = lived_obeys t p sent told order p.focus bytes q l made
-lived_taking t p sent told order waiting _ _ _ l (behind waits) = sent_none t p.tender sent told l
+lived_taking t p sent told order waiting _ _ _ l (behind waits last) = sent_none t p.tender sent told l
 lived_taking t p sent told order waiting _ _ _ l (report none_there) = sent_none t p.tender sent told l
 
 lived_attending : (t : Tended) (p : Stood) (sent : List Msu) (told : List Told) (waiting : List Waited) (left : Option (List Timed)) (bytes : List ℕ) (v : Stood) (last : List Waited)

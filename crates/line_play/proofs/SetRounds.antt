@@ -20,8 +20,8 @@ use Rattle.line_play.specs.declared.set_lines.Came.{Came}
 use Rattle.line_play.specs.declared.set_lines.Came.TheVariants as line
 use Rattle.line_play.specs.SetDoing.{Stood}
 use Rattle.line_play.specs.SetObeying.{Obeys}
-use Rattle.line_play.specs.SetOrders.{SaysSuch, overtakes, is_send, set_order_of}
-use Rattle.line_play.specs.SetRounds.{Waited, Made, line_told, passed_told, PassesOn, Carries, passes, misses, ends, fails, opens, CarriesAt, CarriesAll, no_link, one_link, TellsAll, ObeysWaiting, rests, obeys, TakesOrder, at_once, behind, report, Attends, waited, comes, AttendsAll, none_due, full, quits, MOST_WAITING, SetPlace, IsRound, Rests}
+use Rattle.line_play.specs.SetOrders.{SaysSuch, starts, is_send, set_order_of}
+use Rattle.line_play.specs.SetRounds.{Waited, goes_first, Made, line_told, passed_told, PassesOn, Carries, passes, misses, ends, fails, opens, CarriesAt, CarriesAll, no_link, one_link, TellsAll, ObeysWaiting, rests, obeys, TakesOrder, at_once, behind, report, Attends, waited, comes, AttendsAll, none_due, full, quits, MOST_WAITING, SetPlace, IsRound, Rests}
 
 -- ---- what is given
 
@@ -260,17 +260,25 @@ taken_as r order said t u waiting later a b is made =
     subst (λ (o : List ℕ). OnOk r (TellsSuch (λ bytes. TakesOrder o t waiting bytes u later) a b)) is made
 
 pub taken_at_once : {A E : Type 0} (r : Result A E) (order said : List ℕ) (t u : Stood) (waiting : List Waited) (a b : Stand) → said ≡ order
-    → (waiting ≡ []) ⊎ SaysSuch overtakes said → OnOk r (TellsSuch (λ bytes. Obeys said t.focus t bytes u) a b)
+    → (waiting ≡ []) ⊎ (goes_first waiting said ≡ true) → OnOk r (TellsSuch (λ bytes. Obeys said t.focus t bytes u) a b)
     → OnOk r (TellsSuch (λ bytes. TakesOrder order t waiting bytes u waiting) a b)
 taken_at_once r order said t u waiting a b is may made =
     taken_as r order said t u waiting waiting a b is
     (on_ok_weaker r (λ (m : TellsSuch (λ bytes. Obeys said t.focus t bytes u) a b). record { bytes = m.bytes; are = at_once may m.are; tells = m.tells }) made)
 
-pub taken_behind : (order said : List ℕ) (t : Stood) (waiting later : List Waited) (a : Stand) → said ≡ order
-    → (waiting ≡ [] → SaysSuch is_send said) → later ≡ waiting ++ record { focus = t.focus; text = order } ∷ [] → TellsSuch (λ bytes. TakesOrder order t waiting bytes t later) a a
-taken_behind order said t waiting later a same waits is =
+behind_so : (order : List ℕ) (start : Bool) (t : Stood) (waiting : List Waited) (a : Stand) → (waiting ≡ [] → SaysSuch is_send order) → goes_first waiting order ≡ false
+    → start ≡ starts order → TellsSuch (λ bytes. TakesOrder order t waiting bytes t (waiting ++ record { focus = t.focus; text = order; starts = start } ∷ [])) a a
+behind_so order start t waiting a waits last start_is =
+    subst (λ (b : Bool). TellsSuch (λ bytes. TakesOrder order t waiting bytes t (waiting ++ record { focus = t.focus; text = order; starts = b } ∷ [])) a a) (sym start_is)
+    (record { bytes = []; are = behind waits last; tells = tells_none a })
+
+pub taken_behind : (order said : List ℕ) (start : Bool) (t : Stood) (waiting later : List Waited) (a : Stand) → said ≡ order → (waiting ≡ [] → SaysSuch is_send said)
+    → false ≡ goes_first waiting said → start ≡ starts said → later ≡ waiting ++ record { focus = t.focus; text = order; starts = start } ∷ []
+    → TellsSuch (λ bytes. TakesOrder order t waiting bytes t later) a a
+taken_behind order said start t waiting later a same waits last start_is is =
     subst (λ (l : List Waited). TellsSuch (λ bytes. TakesOrder order t waiting bytes t l) a a) (sym is)
-    (record { bytes = []; are = behind (subst (λ (o : List ℕ). waiting ≡ [] → SaysSuch is_send o) same waits); tells = tells_none a })
+    (behind_so order start t waiting a (subst (λ (o : List ℕ). waiting ≡ [] → SaysSuch is_send o) same waits)
+    (sym (last ∙ ap (λ (o : List ℕ). goes_first waiting o) same)) (start_is ∙ ap starts same))
 
 pub taken_report : (order said : List ℕ) (t : Stood) (waiting : List Waited) (a : Stand) → said ≡ order → set_order_of (words_of said) ≡ None
     → TellsSuch (λ bytes. TakesOrder order t waiting bytes t waiting) a a

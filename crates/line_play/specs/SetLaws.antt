@@ -34,7 +34,7 @@ abbrev pub sent_taking :
     {order : List ℕ} {p : Stood} {waiting : List Waited} {bytes : List ℕ} {q : Stood}
     {now : List Waited} → TakesOrder order p waiting bytes q now → List Msu
 sent_taking (at_once may made) = sent_in made
-sent_taking (behind waits) = []
+sent_taking (behind waits last) = []
 sent_taking (report none_there) = []
 
 abbrev pub sent_attending :

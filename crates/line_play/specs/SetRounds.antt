@@ -3,6 +3,7 @@ use Rattle.std.specs.Prelude.{◌≡◌, ◌⊎◌, ℕ, ◌+◌, ◌≤◌, Boo
 use Rattle.std.specs.Prelude.{replicate, slice_get, slice_set, map, codes, string_bytes}
 use Rattle.std.specs.Prelude.{Option, None, Some}
 use Rattle.std.specs.Fmt.{decimal}
+use Rattle.std.specs.List.{list_any}
 use Rattle.script_lines.specs.Words.{words_of}
 use Rattle.line_filter.specs.Orders.{Timed, NextIs, NoneIsDue, QUIT, told}
 use Rattle.line_filter.specs.Reporting.{Stand, TellsLines}
@@ -21,7 +22,7 @@ use Rattle.line_play.specs.declared.set_queue.Queue.{Queue}
 use Rattle.line_play.specs.declared.set_queue.Waiting.{Waiting}
 use Rattle.line_play.specs.SetDoing.{Stood}
 use Rattle.line_play.specs.SetObeying.{Obeys}
-use Rattle.line_play.specs.SetOrders.{SaysSuch, overtakes, is_send, set_order_of}
+use Rattle.line_play.specs.SetOrders.{SaysSuch, overtakes, starts, says_so, is_send, set_order_of}
 use Rattle.line_play.specs.LineTraffic.{Traffic, line_says, Grows, coming, given, silence_for}
 use Rattle.line_play.specs.declared.set_lines.Came.TheVariants as line
 
@@ -114,17 +115,23 @@ pub record TellsAll (t : Tended) (bytes : List ℕ) (u : Tended) : Type 0 where
 abbrev pub MOST_WAITING : ℕ
 MOST_WAITING = 1024
 
--- an order that waits, with the links of which it speaks
+-- an order that waits, with the links of which it speaks, and whether it starts these
 pub record Waited : Type 0 where
   pub focus : Focus
   pub text : List ℕ
+  pub starts : Bool
 
 abbrev pub waited_of : Waiting → Waited
-waited_of w = record { focus = w.focus; text = string_bytes w.text }
+waited_of w = record { focus = w.focus; text = string_bytes w.text; starts = w.starts }
 
 -- the orders that wait
 abbrev pub waiting_in : Queue → List Waited
 waiting_in q = map waited_of q.waiting.items
+
+-- whether the order at a place starts links
+abbrev pub starts_in : Option Waited → Bool
+starts_in None = false
+starts_in (Some w) = w.starts
 
 -- orders that wait are obeyed, from the first on
 pub data ObeysWaiting (p : Stood) (waiting : List Waited) :
@@ -141,17 +148,26 @@ abbrev pub Rests : List Waited → Type 0
 Rests [] = Unit {0}
 Rests (first ∷ more) = SaysSuch is_send first.text
 
+-- one of them starts links
+abbrev pub any_starts : List Waited → Bool
+any_starts waiting = list_any (λ w. w.starts) waiting
+
+-- an order may overtake those that wait
+abbrev pub goes_first : List Waited → List ℕ → Bool
+goes_first waiting order =
+    says_so (overtakes (any_starts waiting)) (set_order_of (words_of order))
+
 -- An order comes, and speaks of the links that were said last. It is obeyed at once, where none
--- waits, or it may overtake these; or it waits behind others, or since it sends a message; or it
+-- waits, or it may overtake these; else it waits behind others, or since it sends a message; or it
 -- reads as no order.
 pub data TakesOrder (order : List ℕ) (p : Stood) (waiting : List Waited) :
     List ℕ → Stood → List Waited → Type 0 where
   at_once : {bytes : List ℕ} {q : Stood}
-      → (waiting ≡ []) ⊎ SaysSuch overtakes order → Obeys order p.focus p bytes q
+      → (waiting ≡ []) ⊎ (goes_first waiting order ≡ true) → Obeys order p.focus p bytes q
       → TakesOrder order p waiting bytes q waiting
-  behind : (waiting ≡ [] → SaysSuch is_send order)
+  behind : (waiting ≡ [] → SaysSuch is_send order) → goes_first waiting order ≡ false
       → TakesOrder order p waiting [] p
-      (waiting ++ record { focus = p.focus; text = order } ∷ [])
+      (waiting ++ record { focus = p.focus; text = order; starts = starts order } ∷ [])
   report : set_order_of (words_of order) ≡ None → TakesOrder order p waiting [] p waiting
 
 -- Orders that wait are obeyed, up to a message that still has to wait, then those that are due come
