@@ -96,15 +96,13 @@ past_end (w ∷ ws) (suc n) past = past_end ws n (omega (arith, past))
 place_of : (ws : List Waiting) (n : ℕ) (o : Option Waiting) → slice_get ws n ≡ o → starts_in (option_map waited_of o) ≡ starts_in (slice_get (texts ws) n)
 place_of ws n o there = ap starts_in (sym (slice_get-map waited_of ws n ∙ ap (option_map waited_of) there))
 
-pub starts_there : (ws : List Waiting) (n : ℕ) (w : Waiting) (count : ℕ) → count ≡ length ws → (IsSome (Some w) ↔ (n < count)) → w ≡ get_or ws n w
-    → w.starts ≡ starts_in (slice_get (texts ws) n)
-starts_there ws n w count count_is within is =
-    let there : n < count = within.0 refl in
+pub starts_there : (ws : List Waiting) (n : ℕ) (w : Waiting) (count : ℕ) → count ≡ length ws → n < count → w ≡ get_or ws n w → w.starts ≡ starts_in (slice_get (texts ws) n)
+starts_there ws n w count count_is there is =
     place_of ws n (Some w) (slice_get-get_or ws n w (omega (arith, count_is, there)) ∙ ap (λ (v : Waiting). Some v) (sym is))
 
-pub starts_nowhere : (ws : List Waiting) (n count : ℕ) → count ≡ length ws → (IsSome (None {A = Waiting}) ↔ (n < count)) → false ≡ starts_in (slice_get (texts ws) n)
-starts_nowhere ws n count count_is without =
-    let past : count ≤ n = past_by n count (λ (w : n < count). true≢false (sym (without.1 w))) in
+pub starts_nowhere : (ws : List Waiting) (n count : ℕ) → count ≡ length ws → (n < count → false ≡ true) → false ≡ starts_in (slice_get (texts ws) n)
+starts_nowhere ws n count count_is none_there =
+    let past : count ≤ n = past_by n count (λ (w : n < count). true≢false (sym (none_there w))) in
     place_of ws n None (past_end ws n (omega (arith, count_is, past)))
 
 none_more_at : (ws : List Waited) (n : ℕ) → any_starts (take n ws) ≡ false → starts_in (slice_get ws n) ≡ false → any_starts (take (suc n) ws) ≡ false
