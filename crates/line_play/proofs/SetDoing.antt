@@ -1,5 +1,5 @@
 -- What an order to a set changes.
-use Rattle.std.proofs.Common.{◌≡◌, ◌∙◌, ℕ, ◌<◌, ◌≤◌, nat_lt, Bool, true, false, List, ◌++◌, codes, slice_get, slice_set, Option, None, Some, option_map, Result, Ok, Err, IfOk, IfSome, IsSome, IsNone, refl, sym, ap, subst, arith}
+use Rattle.std.proofs.Common.{◌≡◌, ◌∙◌, ℕ, ◌+◌, ◌<◌, ◌≤◌, nat_lt, Bool, true, false, List, ◌++◌, codes, slice_get, slice_set, Option, None, Some, option_map, Result, Ok, Err, IfOk, IfSome, IsSome, IsNone, refl, sym, ap, subst, arith}
 use Rattle.std.proofs.lemmas.Bool.Decides.{nat_tests}
 use Rattle.std.proofs.lemmas.Option.{none-some, same_Some}
 use Rattle.actor_machine.specs.Ledger.{Ledger}
@@ -13,10 +13,12 @@ use Rattle.set_tending.specs.Lines.{ByCommand}
 use Rattle.set_tending.specs.Links.{read_at}
 use Rattle.set_tending.specs.Placing.{rebalance_fault, rebalanced}
 use Rattle.set_tending.specs.Reading.{book_of, terminal_of}
+use Rattle.set_tending.specs.Rounds.{Adds}
 use Rattle.set_tending.specs.Set.{LinkSet}
 use Rattle.set_tending.specs.Tended.{Tended}
+use Rattle.set_tending.proofs.Doing.{adds_nothing}
 use Rattle.set_tending.specs.group_changeover_types.errors.RebalanceError.{RebalanceError}
-use Rattle.line_play.specs.SetDoing.{Stood, first_of, last_of, IsNoLink, ObeysAt, waits, gives, ObeyEach, Commands, terminal_at, reset_to, reset_at, ResetEach, one_reset, Resets, Looks, Rebalances, NoFocus, NoRebalance, IsFault, NoCommand, NotShown, IsShowable, MayShow, state_at, value_at, Changes}
+use Rattle.line_play.specs.SetDoing.{Stood, first_of, last_of, IsNoLink, ObeysAt, waits, gives, ObeyEach, Commands, terminal_at, reset_to, reset_at, ResetEach, none_reset, one_reset, Resets, Looks, Rebalances, NoFocus, NoRebalance, IsFault, NoCommand, NotShown, IsShowable, MayShow, state_at, value_at, Changes}
 use Rattle.line_play.specs.SetCounting.{begun_at}
 use Rattle.line_play.specs.SetObeying.{octets_sent}
 use Rattle.line_play.specs.SetOrders.{plain_set_order}
@@ -67,6 +69,13 @@ reset_more first last p q r before is = subst (λ (x : Stood). ResetEach first p
 
 pub reset_to_last : (first gone last : ℕ) (p q : Stood) → gone ≡ last → ResetEach first p gone q → ResetEach first p last q
 reset_to_last first gone last p q all before = subst (λ (n : ℕ). ResetEach first p n q) all before
+
+resets_still : (first last : ℕ) (p q : Stood) → ResetEach first p last q → q.tender ≡ p.tender
+resets_still first _ p _ none_reset = refl
+resets_still first _ p _ (one_reset {last} {q} before) = resets_still first last p q before
+
+pub reset_adds : (whom : Focus) (p q : Stood) → Resets whom p q → Adds p.tender q.tender
+reset_adds whom p q each = subst (λ (t : Tended). Adds p.tender t) (sym (resets_still (first_of whom) (last_of whom p.tender) p q each)) (adds_nothing p.tender)
 
 pub resets : (whom : Focus) (first last : ℕ) (p q : Stood) → first ≡ first_of whom → last ≡ last_of whom p.tender → ResetEach first p last q → Resets whom p q
 resets whom first last p q first_is last_is each =

@@ -204,6 +204,11 @@ answered r said whom p order a b c agreed asked =
     })
     asked
 
+-- what isn't some is none
+pub not_some : {A : Type 0} (o : Option A) (P : Type 0) → ((a : A) → o ≡ Some a → ⊥) → (IsNone o → P) → P
+not_some None P no_more h = h refl
+not_some (Some a) P no_more h = absurd (no_more a refl)
+
 -- what holds of a value holds of what it is
 pub moved : {A : Type 0} (x y : A) → x ≡ y → (P : A → Type 0) → P x → P y
 moved x y e P h = subst P e h

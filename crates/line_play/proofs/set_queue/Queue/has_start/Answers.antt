@@ -12,4 +12,4 @@ pub returns-then-starts_at : goal.returns-then-starts_at
 returns-then-starts_at c = sym (some_starts _ c.loop-place.place (sym c.starts_at.ensures ∙ c.if-starts_at.true))
 
 pub returns : goal.returns
-returns c = sym (none_starts c.args.self.now.waiting.items c.loop-place.place (omega (arith, c.len.ensures, c.args.self.now.waiting.ok.0)) c.loop-place.invariant)
+returns c = sym (none_starts c.args.self.now.waiting.items c.loop-place.place (omega (arith, c.len-place-end.ensures, c.args.self.now.waiting.ok.0)) c.loop-place.invariant)

@@ -2,7 +2,7 @@ use Rattle.std.proofs.Common.{IfSome, IsNone, refl, string_bytes}
 use Rattle.set_tending.proofs.Doing.{adds_nothing}
 use Rattle.line_play.specs.SetDoing.{stood, Changes, Refuses, MayShow}
 use Rattle.line_play.specs.SetOrders.{plain_set_order}
-use Rattle.line_play.proofs.SetObeying.{moved, refused_other, agreed_other}
+use Rattle.line_play.proofs.SetObeying.{moved, not_some, refused_other, agreed_other}
 use Rattle.line_play.proofs.set_state.SetState.obey_other.Goals as goal
 
 pub returns-in-Some : goal.returns-in-Some
@@ -20,6 +20,6 @@ returns-in-Some-2 g c =
 
 pub returns-in-None : goal.returns-in-None
 returns-in-None g c =
-    let may = moved _ _ c.if-let-Some.else (λ o. IsNone o → MayShow (plain_set_order c.args.order.now) c.args.focus c.args.self.now.tender) c.in_ok-why.ensures.none refl in
+    let may = not_some _ (MayShow (plain_set_order c.args.order.now) c.args.focus c.args.self.now.tender) c.in_default.not-Some c.in_ok-why.ensures.none in
     let changes = moved _ _ c.in-None.is (λ o. IsNone o → Changes (plain_set_order c.args.order.now) c.args.focus (stood c.args.self.now) (stood c.obey_plain.new.self)) c.in_ok-why-2.ensures.changes refl in
     agreed_other c.answer.result _ (plain_set_order c.args.order.now) c.args.focus _ _ _ _ c.requires.reads c.requires.sends may c.in_ok-why-2.ensures.adds changes c.answer.ensures

@@ -1,6 +1,6 @@
 use Rattle.std.proofs.Common.{string_bytes}
 use Rattle.line_play.specs.SetDoing.{stood}
-use Rattle.line_play.proofs.SetDoing.{refused_command, still}
+use Rattle.line_play.proofs.SetDoing.{refused_command, reset_adds, still}
 use Rattle.line_play.proofs.set_state.SetState.obey_plain.Goals as goal
 
 pub returns-in-On-clause-changes : goal.returns-in-On-clause-changes
@@ -26,3 +26,6 @@ returns-in-Rebalance-clause-refuses c = rw c.in-Rebalance.is c.rebalance.ensures
 
 pub returns-in_default-clause-changes : goal.returns-in_default-clause-changes
 returns-in_default-clause-changes c = λ none. still c.args.order.now c.args.focus _ c.requires c.in_default.not-On c.in_default.not-Link c.in_default.not-Reset c.in_default.not-Rebalance
+
+pub returns-in-Reset-clause-adds : goal.returns-in-Reset-clause-adds
+returns-in-Reset-clause-adds c = reset_adds c.args.focus (stood c.args.self.now) (stood c.reset_all.new.self) c.reset_all.ensures

@@ -12,4 +12,4 @@ returns-clause-adds c = ok_so c.refused_for.result _ c.in_ok-first.ensures.adds
 pub returns-clause-obeys : goal.returns-clause-obeys
 returns-clause-obeys c =
     IfOk-weaker c.refused_for.result _ (λ r. IsNone r → Commands (command_of c.args.order) c.args.focus (stood c.args.self.now) (record { tender = c.obey_links.new.tender; focus = c.args.self.now.focus; since = c.args.self.now.since.items }))
-    (λ r is none. commands _ c.args.focus (stood c.args.self.now) _ _ _ c.links.ensures.first c.links.ensures.last (c.in_ok-first.ensures.obeys (is none))) c.refused_for.ensures.none
+    (λ r is none. commands _ c.args.focus (stood c.args.self.now) _ _ _ c.links-from.ensures.first c.links-from.ensures.last (c.in_ok-first.ensures.obeys (is none))) c.refused_for.ensures.none
