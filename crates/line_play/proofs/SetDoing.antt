@@ -70,12 +70,12 @@ reset_more first last p q r before is = subst (λ (x : Stood). ResetEach first p
 pub reset_to_last : (first gone last : ℕ) (p q : Stood) → gone ≡ last → ResetEach first p gone q → ResetEach first p last q
 reset_to_last first gone last p q all before = subst (λ (n : ℕ). ResetEach first p n q) all before
 
-resets_still : (first last : ℕ) (p q : Stood) → ResetEach first p last q → q.tender ≡ p.tender
-resets_still first _ p _ none_reset = refl
-resets_still first _ p _ (one_reset {last} {q} before) = resets_still first last p q before
+resets_still : (first : ℕ) (p : Stood) (last : ℕ) (q : Stood) → ResetEach first p last q → q.tender ≡ p.tender
+resets_still first p _ _ none_reset = refl
+resets_still first p _ _ (one_reset {last} {q} before) = resets_still first p last q before
 
 pub reset_adds : (whom : Focus) (p q : Stood) → Resets whom p q → Adds p.tender q.tender
-reset_adds whom p q each = subst (λ (t : Tended). Adds p.tender t) (sym (resets_still (first_of whom) (last_of whom p.tender) p q each)) (adds_nothing p.tender)
+reset_adds whom p q each = subst (λ (t : Tended). Adds p.tender t) (sym (resets_still (first_of whom) p (last_of whom p.tender) q each)) (adds_nothing p.tender)
 
 pub resets : (whom : Focus) (first last : ℕ) (p q : Stood) → first ≡ first_of whom → last ≡ last_of whom p.tender → ResetEach first p last q → Resets whom p q
 resets whom first last p q first_is last_is each =
