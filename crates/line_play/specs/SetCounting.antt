@@ -1,5 +1,5 @@
 -- What was counted of the links of a set since their counts began anew (Q.752).
-use Rattle.std.specs.Prelude.{ℕ, ◌-◌, List, Option, None, Some}
+use Rattle.std.specs.Prelude.{ℕ, ◌-◌, Option, None, Some}
 use Rattle.script_terminal.specs.Measuring.{count_of}
 use Rattle.script_terminal.specs.Term.{Term}
 use Rattle.script_terminal.specs.resend_store_types.measures.Measure.{Measure}

@@ -66,9 +66,19 @@ fn pass<L: Lines, P: Reports>(
     match passed {
         Passed::Same => Ok(()),
         Passed::Silent => {
-            say_of(alloc, tender, format!(in alloc; "{link} line silent")?, reports)
+            say_of(
+                alloc,
+                tender,
+                format!(in alloc; "{link} line silent")?,
+                reports,
+            )
         }
-        Passed::Back => say_of(alloc, tender, format!(in alloc; "{link} line back")?, reports),
+        Passed::Back => say_of(
+            alloc,
+            tender,
+            format!(in alloc; "{link} line back")?,
+            reports,
+        ),
     }
 }
 
@@ -123,11 +133,26 @@ fn carry<L: Lines, P: Reports>(
             pass(alloc, tender, wire, lines, line, came, out, reports)
         }
         Came::Closed => miss(tender, link),
-        Came::Ended => say_of(alloc, tender, format!(in alloc; "{link} line ended")?, reports),
-        Came::Failed => say_of(alloc, tender, format!(in alloc; "{link} line failed")?, reports),
+        Came::Ended => say_of(
+            alloc,
+            tender,
+            format!(in alloc; "{link} line ended")?,
+            reports,
+        ),
+        Came::Failed => say_of(
+            alloc,
+            tender,
+            format!(in alloc; "{link} line failed")?,
+            reports,
+        ),
         Came::Opened => {
             go_ahead(lines, line);
-            say_of(alloc, tender, format!(in alloc; "{link} line open")?, reports)
+            say_of(
+                alloc,
+                tender,
+                format!(in alloc; "{link} line open")?,
+                reports,
+            )
         }
     }
 }

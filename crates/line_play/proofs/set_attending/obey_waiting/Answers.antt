@@ -1,4 +1,4 @@
-use Rattle.std.proofs.Common.{refl, ◌∙◌}
+use Rattle.std.proofs.Common.{refl}
 use Rattle.line_play.specs.SetDoing.{stood}
 use Rattle.line_play.proofs.SetRounds.{waits_none, waits_more, waits_same, rests_empty}
 use Rattle.line_play.proofs.set_attending.obey_waiting.Goals as goal

@@ -1,4 +1,3 @@
-use Rattle.std.proofs.Common.{◌≡◌}
 use Rattle.line_play.specs.SetDesks.{AreNewCounts}
 use Rattle.line_play.proofs.set_desk.counts.Given as goal
 

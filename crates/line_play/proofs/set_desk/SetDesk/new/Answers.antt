@@ -1,4 +1,4 @@
-use Rattle.std.proofs.Common.{refl, ◌∙◌}
+use Rattle.std.proofs.Common.{refl}
 use Rattle.line_play.proofs.SetDesks.{all_wires, all_counts}
 use Rattle.line_play.proofs.set_desk.SetDesk.new.Goals as goal
 

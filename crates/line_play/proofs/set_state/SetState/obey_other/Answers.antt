@@ -8,13 +8,13 @@ use Rattle.line_play.proofs.set_state.SetState.obey_other.Goals as goal
 pub returns-in-Some : goal.returns-in-Some
 returns-in-Some g c =
     let may = moved _ _ c.in-Some.is
-        (λ o. IfSome o (λ why. Refuses (plain_set_order c.args.order.now) c.args.focus (stood c.args.self.now) (string_bytes why) (stood c.args.self.now))) c.in_ok-why.ensures.some in
+    (λ o. IfSome o (λ why. Refuses (plain_set_order c.args.order.now) c.args.focus (stood c.args.self.now) (string_bytes why) (stood c.args.self.now))) c.in_ok-why.ensures.some in
     refused_other c.refuse.result _ _ _ (plain_set_order c.args.order.now) c.args.focus _ _ _ _ c.as_str.ensures.value c.requires.reads c.requires.sends (adds_nothing _) may c.refuse.ensures
 
 pub returns-in-Some-2 : goal.returns-in-Some-2
 returns-in-Some-2 g c =
     let may = moved _ _ c.in-Some-2.is
-        (λ o. IfSome o (λ why. Refuses (plain_set_order c.args.order.now) c.args.focus (stood c.args.self.now) (string_bytes why) (stood c.obey_plain.new.self))) c.in_ok-why-2.ensures.refuses in
+    (λ o. IfSome o (λ why. Refuses (plain_set_order c.args.order.now) c.args.focus (stood c.args.self.now) (string_bytes why) (stood c.obey_plain.new.self))) c.in_ok-why-2.ensures.refuses in
     refused_other c.refuse-in-Some-2.result _ _ _ (plain_set_order c.args.order.now) c.args.focus _ _ _ _ c.as_str-in-Some-2.ensures.value c.requires.reads c.requires.sends
     c.in_ok-why-2.ensures.adds may c.refuse-in-Some-2.ensures
 
