@@ -185,11 +185,9 @@ class End:
 
     def end(self):
         """Ends its process, if that didn't end by itself."""
-        try:
+        if self.process.poll() is None:
             os.killpg(self.process.pid, signal.SIGKILL)
-        except ProcessLookupError:
-            pass
-        self.process.wait()
+            self.process.wait()
         os.write(self.back, b"\n\n")
         self.listener.join()
         os.close(self.to)
@@ -268,6 +266,9 @@ class Pair:
 
     def are_whole(self):
         return all(it.is_whole(self.links) for it in self.ends)
+
+    def are_empty(self):
+        return all([it.is_empty(self.links) for it in self.ends])
 
     def traffic(self, seconds, number, rate, wanted=None):
         """Messages both ways, so many a second, for so many seconds, or until what is wanted is so; the number of the next one."""

@@ -49,7 +49,10 @@ impl Inlet {
     /// The first octets of the part wait, as many as may. The others are thrown away.
     fn keep(&mut self, count: usize) {
         let room = self.allowance.room(self.waiting.len());
-        for octet in self.part.as_slice().iter().take(count.min(room)) {
+        let Some(octets) = self.part.get(..count.min(room)) else {
+            return;
+        };
+        for octet in octets {
             if self.waiting.push_back(*octet).is_err() {
                 return;
             }
@@ -83,7 +86,10 @@ impl Inlet {
     /// Octets that wait go to the front of a part, as many as count now. How many.
     fn hand_out(&mut self, part: &mut [u8]) -> usize {
         let count = self.allowance.count(part.len().min(self.waiting.len()));
-        for slot in part.iter_mut().take(count) {
+        let Some(front) = part.get_mut(..count) else {
+            return 0;
+        };
+        for slot in front.iter_mut() {
             if let Some(octet) = self.waiting.pop_front() {
                 *slot = octet;
             }
