@@ -49,7 +49,7 @@ impl Inlet {
     /// The first octets of the part wait, as many as may. The others are thrown away.
     fn keep(&mut self, count: usize) {
         let room = self.allowance.room(self.waiting.len());
-        let Some(octets) = self.part.get(..count.min(room)) else {
+        let Some(octets) = self.part.as_slice().get(..count.min(room)) else {
             return;
         };
         for octet in octets {
