@@ -1,4 +1,5 @@
 //! How many octets of a line count.
+ghost use Rattle.std.specs.Prelude.{◌≡◌, ◌↔◌, ◌<◌, ◌+◌, ◌-◌, min, IsTrue};
 
 /// How many octets of a line count in a round, beside those that were saved: twice what one of 64 kbit/s brings.
 const RATE: usize = 16;
@@ -66,12 +67,16 @@ impl Allowance {
     }
 
     /// Whether the line is new.
-    pub fn is_new(&self) -> bool {
+    pub fn is_new(&self) -> bool
+        ensures { IsTrue result ↔ (self.now.age < 1000) }
+    {
         self.age < NEW
     }
 
     /// How many more octets may wait where so many do.
-    pub fn room(&self, waiting: usize) -> usize {
+    pub fn room(&self, waiting: usize) -> usize
+        ensures new { self.now.age < 1000 → result ≡ self.now.most - waiting }
+    {
         if self.is_new() {
             self.most.saturating_sub(waiting)
         } else {
@@ -80,7 +85,10 @@ impl Allowance {
     }
 
     /// How many of so many octets count now. Those aren't to count once more.
-    pub fn count(&mut self, octets: usize) -> usize {
+    pub fn count(&mut self, octets: usize) -> usize
+        ensures counted { result ≡ min octets self.old.credit }
+        ensures left { self.new.credit + result ≡ self.old.credit }
+    {
         let counted = octets.min(self.credit);
         self.credit = self.credit.saturating_sub(counted);
         counted

@@ -1,4 +1,5 @@
 //! What comes in on a line of a set.
+ghost use Rattle.std.specs.Prelude.{◌≤◌, length};
 
 use crate::allowance::Allowance;
 use line_streams::{Fed, Feed};
@@ -84,7 +85,9 @@ impl Inlet {
     }
 
     /// Octets that wait go to the front of a part, as many as count now. How many.
-    fn hand_out(&mut self, part: &mut [u8]) -> usize {
+    fn hand_out(&mut self, part: &mut [u8]) -> usize
+        ensures { result ≤ length part.new }
+    {
         let count = self.allowance.count(part.len().min(self.waiting.len()));
         let Some(front) = part.get_mut(..count) else {
             return 0;
