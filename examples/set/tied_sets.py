@@ -169,6 +169,11 @@ class End:
                 last[link] = words[0]
         return all(last.get(str(at)) == "tested" for at in links)
 
+    def shares(self, link):
+        """Whether a selection goes by this link."""
+        tables = [it for it in (line.split(" ") for line in self.told) if it[1] == "shared"]
+        return str(link) in (tables[-1][2:] if tables else [])
+
     def is_empty(self, links):
         """Whether it answers that no link holds a message. It is asked where it answered before, or wasn't asked."""
         if self.held is None:
