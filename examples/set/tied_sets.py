@@ -83,6 +83,10 @@ class Lines(threading.Thread):
             os.close(way.sink)
 
 
+class Ended(Exception):
+    """A process has ended that was to go on."""
+
+
 class End:
     """One end: its process, its orders and what it tells."""
 
@@ -133,6 +137,8 @@ class End:
             self.told.append(line)
 
     def order(self, *lines):
+        if self.process.poll() is not None:
+            raise Ended(f"{self.name} has ended with status {self.process.returncode}")
         os.write(self.to, "".join(f"{line}\n" for line in lines).encode())
 
     def send(self, number):
@@ -261,6 +267,10 @@ class Pair:
         for it in self.ends:
             it.end()
         self.lines.end()
+
+    def until(self, wanted, seconds):
+        """Waits for what is wanted, for so many seconds at most, while both ends go on."""
+        return until(lambda: "so" if wanted() else any(it.process.poll() is not None for it in self.ends), seconds) == "so"
 
     def befall(self, link, over, back=None):
         for way, weather in zip(self.ways[link], (over, back if back is not None else over)):
