@@ -98,8 +98,8 @@ pub record Rebalances (p q : Stood) : Type 0 where
   pub may : rebalance_fault p.tender.set ≡ None
   pub is : q ≡ record p { tender = record p.tender { set = rebalanced p.tender.set } }
 
--- An order to links is that command to each of those of which it speaks, `measure reset` has counts of
--- these begin anew, and a question changes nothing.
+-- An order to links is that command to each of those of which it speaks, `measure reset` has counts
+-- of these begin anew, and a question changes nothing.
 abbrev pub Changes : PlainSetOrder → Focus → Stood → Stood → Type 0
 Changes (on focus) whom p q = Looks focus p q
 Changes (links order) whom p q = Commands (command_of order) whom p q

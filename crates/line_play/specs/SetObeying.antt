@@ -80,9 +80,9 @@ pub data IsTurnedDown (octets : List ℕ) (old : Tended) (why : List ℕ) (new :
 
 -- ---- an order is obeyed
 
--- Why an order may be refused, by code and name, and what it has done then. It reads as no order, or
--- it sends what is no message, or its message isn't taken, and nothing changes; or it is another that
--- is refused.
+-- Why an order may be refused, by code and name, and what it has done then. It reads as no order,
+-- or it sends what is no message, or its message isn't taken, and nothing changes; or it is another
+-- that is refused.
 pub data IsRefused (order : List ℕ) (whom : Focus) (p : Stood) (why : List ℕ) (q : Stood) :
     Type 0 where
   bad : set_order_of (words_of order) ≡ None → why ≡ BAD_LINE → q ≡ p
@@ -97,8 +97,8 @@ pub data IsRefused (order : List ℕ) (whom : Focus) (p : Stood) (why : List ℕ
       → IsRefused order whom p why q
 
 -- An order about these links is obeyed, and that is told: `send` took its message, for which there
--- was room; or what else its words say is done by calls of the set that take none, and what it asked
--- for is told behind that; or it is refused.
+-- was room; or what else its words say is done by calls of the set that take none, and what it
+-- asked for is told behind that; or it is refused.
 pub data Obeys (order : List ℕ) (whom : Focus) (p : Stood) : List ℕ → Stood → Type 0 where
   sends : {u : Tended} (m : Msu) → Sends order m → tended_send_fault p.tender.set m ≡ None
       → Acts (m ∷ []) [] p.tender u
