@@ -9,9 +9,10 @@ use Rattle.line_filter.specs.Reporting.{Stand}
 use Rattle.set_tending.specs.Tended.{Tended}
 use Rattle.line_play.proofs.SetRounds.{grows_none, grows_then, grows_last}
 use Rattle.line_play.specs.LineTraffic.{Traffic, Grows}
-use Rattle.line_play.specs.SetDesks.{AreNewWires, place_of, IsNewSetDesk, Ran, RanFrom}
+use Rattle.line_play.specs.SetDesks.{IsNewCount, AreNewCounts, AreNewWires, place_of, IsNewSetDesk, Ran, RanFrom}
 use Rattle.line_play.specs.SetRounds.{Made, SetPlace, IsRound, Rounds, begins, round}
 use Rattle.line_play.specs.declared.set_desk.SetDesk.{SetDesk}
+use Rattle.line_play.specs.declared.set_measures.Since.{Since}
 
 pub no_wires : (ws : List Wire) → ws ≡ [] → AreNewWires 0 ws
 no_wires ws none_there = subst (λ (xs : List Wire). AreNewWires 0 xs) (sym none_there) (record { count = refl; new = All-nil IsNewWire })
@@ -24,6 +25,18 @@ one_wire n old new w is more so_far =
 
 pub all_wires : (n m : ℕ) (ws : List Wire) → n ≡ m → AreNewWires n ws → AreNewWires m ws
 all_wires n m ws all so_far = record { count = so_far.count ∙ all; new = so_far.new }
+
+pub no_counts : (ss : List Since) → ss ≡ [] → AreNewCounts 0 ss
+no_counts ss none_there = subst (λ (xs : List Since). AreNewCounts 0 xs) (sym none_there) (record { count = refl; new = All-nil IsNewCount })
+
+pub one_count : (n : ℕ) (old new : List Since) (s : Since) → IsNewCount s → new ≡ old ++ s ∷ [] → AreNewCounts n old → AreNewCounts (n + 1) new
+one_count n old new s is more so_far =
+    let count : length (old ++ s ∷ []) ≡ n + 1 = omega (arith, length-append old (s ∷ []), so_far.count) in
+    subst (λ (xs : List Since). AreNewCounts (n + 1) xs) (sym more)
+    (record { count = count; new = All-append IsNewCount old (s ∷ []) so_far.new (All-cons IsNewCount s [] is (All-nil IsNewCount)) })
+
+pub all_counts : (n m : ℕ) (ss : List Since) → n ≡ m → AreNewCounts n ss → AreNewCounts m ss
+all_counts n m ss all so_far = record { count = so_far.count ∙ all; new = so_far.new }
 
 -- ---- rounds
 
@@ -94,6 +107,8 @@ ran_from r left tender ahead orders reports old last a b f g new made is =
       first = place_of left old;
       set = new.set;
       wires = new.wires;
+      focus = new.focus;
+      since = new.since;
       none_wait = new.none_wait;
       before = a;
       after = b;

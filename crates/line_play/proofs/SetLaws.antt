@@ -1,5 +1,5 @@
 -- What follows for all that a set on lines did.
-use Rattle.std.proofs.Common.{◌≡◌, ◌∙◌, ℕ, Bool, true, List, [], ◌∷◌, ◌++◌, append-nil, append_assoc, length, Option, sym, subst}
+use Rattle.std.proofs.Common.{◌≡◌, ℕ, Bool, true, List, [], ◌∷◌, ◌++◌, append-nil, append_assoc, length, Option, sym, ap, subst}
 use Rattle.script_links.specs.resend_store_types.messages.Msu.{Msu}
 use Rattle.line_filter.specs.Orders.{Timed}
 use Rattle.set_tending.specs.Lives.{Lived}
@@ -11,8 +11,10 @@ use Rattle.set_tending.specs.declared.wire.Wire.{Wire}
 use Rattle.set_tending.specs.declared.wire.Passed.{Passed}
 use Rattle.set_tending.proofs.Lives.{lived_none, lived_adds, lived_sends, lived_ticks, lived_tends, lived_hears, lived_speaks, lived_tells}
 use Rattle.line_play.specs.LineTraffic.{Traffic}
+use Rattle.line_play.specs.SetDoing.{Stood}
 use Rattle.line_play.specs.SetObeying.{IsRefused, bad, unsent, untaken, other, Obeys, sends, does, refuses}
-use Rattle.line_play.specs.SetRounds.{Carries, passes, misses, ends, fails, opens, CarriesAll, no_link, one_link, Tells, nothing, one, ObeysWaiting, rests, obeys, TakesOrder, at_once, behind, report, Attends, waited, comes, AttendsAll, none_due, full, quits, SetPlace, IsRound, Rounds, begins, round}
+use Rattle.line_play.specs.declared.set_orders.Focus.{Focus}
+use Rattle.line_play.specs.SetRounds.{Waited, Carries, passes, misses, ends, fails, opens, CarriesAll, no_link, one_link, Tells, nothing, one, ObeysWaiting, rests, obeys, TakesOrder, at_once, behind, report, Attends, waited, comes, AttendsAll, none_due, full, quits, SetPlace, IsRound, Rounds, begins, round}
 use Rattle.line_play.specs.SetLaws.{sent_in, sent_waiting, sent_taking, sent_attending, sent_by_all, sent_along, told_in, told_along}
 
 -- what was sent, one part behind another
@@ -33,42 +35,45 @@ lived_same t u w sent told l same = subst (λ (x : Tended). Lived t sent told x)
 
 -- ---- orders
 
-lived_refused : (t u w : Tended) (sent : List Msu) (told : List Told) (order : List ℕ) → Lived t sent told u → IsRefused order u w → Lived t sent told w
-lived_refused t u w sent told order l (bad none_there same) = lived_same t u w sent told l same
-lived_refused t u w sent told order l (unsent octets said is same) = lived_same t u w sent told l same
-lived_refused t u w sent told order l (untaken m why said is same) = lived_same t u w sent told l same
-lived_refused t u w sent told order l (other said read none_there adds may) = lived_adds t u w sent told l adds
+lived_refused : (t : Tended) (p q : Stood) (sent : List Msu) (told : List Told) (order : List ℕ) (whom : Focus) (why : List ℕ) → Lived t sent told p.tender
+    → IsRefused order whom p why q → Lived t sent told q.tender
+lived_refused t p q sent told order whom why l (bad none_there why_is same) = lived_same t p.tender q.tender sent told l (ap (λ (x : Stood). x.tender) same)
+lived_refused t p q sent told order whom why l (unsent octets said is why_is same) = lived_same t p.tender q.tender sent told l (ap (λ (x : Stood). x.tender) same)
+lived_refused t p q sent told order whom why l (untaken m error said is why_is same) = lived_same t p.tender q.tender sent told l (ap (λ (x : Stood). x.tender) same)
+lived_refused t p q sent told order whom why l (other said read none_there adds may) = lived_adds t p.tender q.tender sent told l adds
 
-lived_obeys : (t s : Tended) (sent : List Msu) (told : List Told) (order bytes : List ℕ) (w : Tended) → Lived t sent told s → (made : Obeys order s bytes w) → Lived t (sent ++ sent_in made) told w
-lived_obeys t s sent told order _ _ l (sends {u} m said acts) = lived_sends t s u sent told (m ∷ []) l acts
-lived_obeys t s sent told order _ _ l (does {bytes} {u} said read none_there adds changes answer) = sent_none t u sent told (lived_adds t s u sent told l adds)
-lived_obeys t s sent told order _ _ l (refuses {u} why is) = sent_none t u sent told (lived_refused t s u sent told order l is)
+lived_obeys : (t : Tended) (p : Stood) (sent : List Msu) (told : List Told) (order : List ℕ) (whom : Focus) (bytes : List ℕ) (r : Stood) → Lived t sent told p.tender
+    → (made : Obeys order whom p bytes r) → Lived t (sent ++ sent_in made) told r.tender
+lived_obeys t p sent told order whom _ _ l (sends {u} m said room acts) = lived_sends t p.tender u sent told (m ∷ []) l acts
+lived_obeys t p sent told order whom _ _ l (does {bytes} {q} said read none_there may adds changes answer) =
+    sent_none t q.tender sent told (lived_adds t p.tender q.tender sent told l adds)
+lived_obeys t p sent told order whom _ _ l (refuses {q} why is) = sent_none t q.tender sent told (lived_refused t p q sent told order whom why l is)
 
-lived_waiting : (t s : Tended) (sent : List Msu) (told : List Told) (waiting : List (List ℕ)) (bytes : List ℕ) (v : Tended) (last : List (List ℕ)) → Lived t sent told s
-    → (made : ObeysWaiting s waiting bytes v last) → Lived t (sent ++ sent_waiting made) told v
-lived_waiting t s sent told waiting _ _ _ l rests = sent_none t s sent told l
-lived_waiting t s sent told waiting _ _ _ l (obeys {bytes} {u} {w} {now} order more left before first made) =
-    sent_more t w sent (sent_waiting before) (sent_in made) told
-    (lived_obeys t u (sent ++ sent_waiting before) told order more w (lived_waiting t s sent told waiting bytes u now l before) made)
+lived_waiting : (t : Tended) (p : Stood) (sent : List Msu) (told : List Told) (waiting : List Waited) (bytes : List ℕ) (v : Stood) (last : List Waited) → Lived t sent told p.tender
+    → (made : ObeysWaiting p waiting bytes v last) → Lived t (sent ++ sent_waiting made) told v.tender
+lived_waiting t p sent told waiting _ _ _ l rests = sent_none t p.tender sent told l
+lived_waiting t p sent told waiting _ _ _ l (obeys {bytes} {q} {r} {now} first more left before is made) =
+    sent_more t r.tender sent (sent_waiting before) (sent_in made) told
+    (lived_obeys t q (sent ++ sent_waiting before) told first.text first.focus more r (lived_waiting t p sent told waiting bytes q now l before) made)
 
-lived_taking : (t s : Tended) (sent : List Msu) (told : List Told) (order : List ℕ) (waiting : List (List ℕ)) (bytes : List ℕ) (v : Tended) (now : List (List ℕ)) → Lived t sent told s
-    → (made : TakesOrder order s waiting bytes v now) → Lived t (sent ++ sent_taking made) told v
-lived_taking t s sent told order waiting _ _ _ l (at_once {bytes} {u} may made) = lived_obeys t s sent told order bytes u l made
-lived_taking t s sent told order waiting _ _ _ l (behind waits) = sent_none t s sent told l
-lived_taking t s sent told order waiting _ _ _ l (report none_there) = sent_none t s sent told l
+lived_taking : (t : Tended) (p : Stood) (sent : List Msu) (told : List Told) (order : List ℕ) (waiting : List Waited) (bytes : List ℕ) (v : Stood) (now : List Waited)
+    → Lived t sent told p.tender → (made : TakesOrder order p waiting bytes v now) → Lived t (sent ++ sent_taking made) told v.tender
+lived_taking t p sent told order waiting _ _ _ l (at_once {bytes} {q} may made) = lived_obeys t p sent told order p.focus bytes q l made
+lived_taking t p sent told order waiting _ _ _ l (behind waits last) = sent_none t p.tender sent told l
+lived_taking t p sent told order waiting _ _ _ l (report none_there) = sent_none t p.tender sent told l
 
-lived_attending : (t s : Tended) (sent : List Msu) (told : List Told) (waiting : List (List ℕ)) (left : Option (List Timed)) (bytes : List ℕ) (v : Tended) (last : List (List ℕ))
-    (still : Option (List Timed)) → Lived t sent told s → (made : Attends s waiting left bytes v last still) → Lived t (sent ++ sent_attending made) told v
-lived_attending t s sent told waiting left _ _ _ _ l (waited {bytes} {u} {now} before last) = lived_waiting t s sent told waiting bytes u now l before
-lived_attending t s sent told waiting left _ _ _ _ l (comes {bytes} {u} {now} {fewer} order more w later last before next no_end taken) =
-    sent_more t w sent (sent_attending before) (sent_taking taken) told
-    (lived_taking t u (sent ++ sent_attending before) told order now more w later (lived_attending t s sent told waiting left bytes u now fewer l before) taken)
+lived_attending : (t : Tended) (p : Stood) (sent : List Msu) (told : List Told) (waiting : List Waited) (left : Option (List Timed)) (bytes : List ℕ) (v : Stood) (last : List Waited)
+    (still : Option (List Timed)) → Lived t sent told p.tender → (made : Attends p waiting left bytes v last still) → Lived t (sent ++ sent_attending made) told v.tender
+lived_attending t p sent told waiting left _ _ _ _ l (waited {bytes} {q} {now} before last) = lived_waiting t p sent told waiting bytes q now l before
+lived_attending t p sent told waiting left _ _ _ _ l (comes {bytes} {q} {now} {fewer} order more r later last before next no_end taken) =
+    sent_more t r.tender sent (sent_attending before) (sent_taking taken) told
+    (lived_taking t q (sent ++ sent_attending before) told order now more r later (lived_attending t p sent told waiting left bytes q now fewer l before) taken)
 
-lived_all : (t s : Tended) (sent : List Msu) (told : List Told) (waiting : List (List ℕ)) (left : Option (List Timed)) (bytes : List ℕ) (goes_on : Bool) (v : Tended) (last : List (List ℕ))
-    (still : Option (List Timed)) → Lived t sent told s → (made : AttendsAll s waiting left bytes goes_on v last still) → Lived t (sent ++ sent_by_all made) told v
-lived_all t s sent told waiting left _ _ _ _ _ l (none_due {bytes} {u} {now} {fewer} last before none_there) = lived_attending t s sent told waiting left bytes u now fewer l before
-lived_all t s sent told waiting left _ _ _ _ _ l (full {bytes} {u} {now} {fewer} before many) = lived_attending t s sent told waiting left bytes u now fewer l before
-lived_all t s sent told waiting left _ _ _ _ _ l (quits {bytes} {u} {now} {fewer} last before next) = lived_attending t s sent told waiting left bytes u now fewer l before
+lived_all : (t : Tended) (p : Stood) (sent : List Msu) (told : List Told) (waiting : List Waited) (left : Option (List Timed)) (bytes : List ℕ) (goes_on : Bool) (v : Stood) (last : List Waited)
+    (still : Option (List Timed)) → Lived t sent told p.tender → (made : AttendsAll p waiting left bytes goes_on v last still) → Lived t (sent ++ sent_by_all made) told v.tender
+lived_all t p sent told waiting left _ _ _ _ _ l (none_due {bytes} {q} {now} {fewer} last before none_there) = lived_attending t p sent told waiting left bytes q now fewer l before
+lived_all t p sent told waiting left _ _ _ _ _ l (full {bytes} {q} {now} {fewer} before many) = lived_attending t p sent told waiting left bytes q now fewer l before
+lived_all t p sent told waiting left _ _ _ _ _ l (quits {bytes} {q} {now} {fewer} last before next) = lived_attending t p sent told waiting left bytes q now fewer l before
 
 -- ---- what is told
 
@@ -107,7 +112,8 @@ lived_round : (t : Tended) (p q : SetPlace) (sent : List Msu) (told : List Told)
     → (is : IsRound ahead p bytes traffic goes_on q) → Lived t (sent ++ sent_by_all is.attends) ((told ++ told_in is.tells.tells) ++ told_in is.tells_more.tells) q.set
 lived_round t p q sent told ahead bytes traffic goes_on l is =
     lived_telling t is.obeyed (sent ++ sent_by_all is.attends) (told ++ told_in is.tells.tells) is.fourth q.set
-    (lived_all t is.calm sent (told ++ told_in is.tells.tells) p.waiting p.left is.third goes_on is.obeyed q.waiting q.left
+    (lived_all t (record { tender = is.calm; focus = p.focus; since = p.since }) sent (told ++ told_in is.tells.tells) p.waiting p.left is.third goes_on
+    (record { tender = is.obeyed; focus = q.focus; since = q.since }) q.waiting q.left
     (lived_telling t is.tended sent told is.second is.calm
     (lived_tends t is.ticked is.tended sent told
     (lived_ticks t is.carried is.ticked sent told

@@ -1,7 +1,8 @@
 -- Orders to a set, obeyed and told.
-use Rattle.std.proofs.Common.{◌≡◌, ◌∙◌, ◌⊎◌, inl, inr, ℕ, ◌+◌, ◌<◌, Bool, true, false, List, [], ◌∷◌, ◌++◌, length, codes, Option, None, Some, is_some, Result, Ok, Err, OnOk, IfOk, IfSome, IsSome, IsNone, option_map, true≢false, refl, sym, ap, subst, arith}
+use Rattle.std.proofs.Common.{◌≡◌, ◌∙◌, inl, inr, ℕ, ◌<◌, Bool, true, false, List, [], ◌∷◌, ◌++◌, length, codes, Option, None, Some, is_some, Result, Ok, Err, OnOk, IfOk, IfSome, IsSome, IsNone, option_map, true≢false, refl, sym, ap, subst, arith}
 use Rattle.std.proofs.lemmas.Result.{on_ok_weaker}
 use Rattle.std.proofs.lemmas.Option.{none-some}
+use Rattle.link_group.specs.Printed.{send_error_text}
 use Rattle.script_links.specs.resend_store_types.messages.Msu.{Msu}
 use Rattle.script_lines.specs.Words.{words_of}
 use Rattle.script_terminal.specs.TermAnswers.{IsMessageOf, AreNoMessage as AreUnread}
@@ -14,10 +15,13 @@ use Rattle.set_tending.specs.group_changeover_types.errors.SendError.{SendError}
 use Rattle.set_tending.specs.Rounds.{Acts, Adds}
 use Rattle.set_tending.specs.Sending.{tended_send_fault}
 use Rattle.set_tending.specs.Tended.{Tended}
+use Rattle.line_play.specs.declared.set_orders.Focus.{Focus}
 use Rattle.line_play.specs.declared.set_orders.SetOrder.{SetOrder}
 use Rattle.line_play.specs.declared.set_orders.SetOrder.TheVariants as order
-use Rattle.line_play.specs.SetDoing.{Changes, Refuses, Shows, IsAnswer}
-use Rattle.line_play.specs.SetObeying.{sent_by, octets_sent, AreNoMessage, IsSent, IsUntaken, no_label, fault, IsTurnedDown, no_message, full, IsRefused, bad, unsent, untaken, other, Obeys, sends, does, refuses}
+use Rattle.line_play.specs.SetDoing.{Stood, Changes, Refuses, MayShow}
+use Rattle.line_play.specs.SetShowing.{Shows, IsAnswer}
+use Rattle.line_play.proofs.SetDoing.{why_so}
+use Rattle.line_play.specs.SetObeying.{sent_by, octets_sent, BAD_LINE, AreNoMessage, IsSent, IsUntaken, no_label, fault, IsTurnedDown, no_message, full, IsRefused, bad, unsent, untaken, other, Obeys, sends, does, refuses}
 use Rattle.line_play.specs.SetOrders.{PlainSetOrder, plain_set_order, set_order_of}
 
 -- ---- what is no message
@@ -37,29 +41,29 @@ few_by sio (a ∷ b ∷ c ∷ d ∷ others) none_there = absurd (none-some _ (sy
 pub unlabelled : (octets : List ℕ) (m : Msu) → IsMessageOf octets m → label_in m.sif.items ≡ None → AreNoMessage octets
 unlabelled octets m is none_there = inl (subst (λ (xs : List ℕ). length xs < 5) (sym is) (few_by m.sio m.sif.items none_there))
 
-pub bad_octets : {A E : Type 0} (r : Result (Option A) E) (octets : List ℕ) (t : Tended) → AreNoMessage octets
-    → IfOk r (λ (o : Option A). IsSome o → IsTurnedDown octets t t)
-bad_octets (Ok o) octets t none_there = λ some. no_message none_there refl
-bad_octets (Err e) octets t none_there = tt
+pub bad_octets : {A E : Type 0} (r : Result (Option A) E) (f : A → List ℕ) (octets : List ℕ) (t : Tended) → AreNoMessage octets
+    → IfOk r (λ (o : Option A). IfSome o (λ (a : A). f a ≡ BAD_LINE)) → IfOk r (λ (o : Option A). IfSome o (λ (a : A). IsTurnedDown octets t (f a) t))
+bad_octets r f octets t none_there told_so = why_so r f BAD_LINE (λ (w : List ℕ). IsTurnedDown octets t w t) (no_message none_there refl refl) told_so
 
-pub untaken_octets : {A E : Type 0} (r : Result (Option A) E) (octets : List ℕ) (t u : Tended) (m : Msu) → IsMessageOf octets m
-    → IfOk r (λ (o : Option A). IsSome o → IsUntaken m t u) → IfOk r (λ (o : Option A). IsSome o → IsTurnedDown octets t u)
-untaken_octets (Ok o) octets t u m is down = λ some. full m is (down some)
-untaken_octets (Err e) octets t u m is down = tt
+pub untaken_octets : {A E : Type 0} (r : Result (Option A) E) (f : A → List ℕ) (octets : List ℕ) (t u : Tended) (m : Msu) → IsMessageOf octets m
+    → IfOk r (λ (o : Option A). IfSome o (λ (a : A). IsUntaken m t (f a) u)) → IfOk r (λ (o : Option A). IfSome o (λ (a : A). IsTurnedDown octets t (f a) u))
+untaken_octets (Ok (Some a)) f octets t u m is down = full m is down
+untaken_octets (Ok None) f octets t u m is down = tt
+untaken_octets (Err e) f octets t u m is down = tt
 
 pub sent_octets : {A E : Type 0} (r : Result (Option A) E) (octets : List ℕ) (t u : Tended) (m : Msu) → IsMessageOf octets m
-    → IfOk r (λ (o : Option A). IsNone o → Acts (m ∷ []) [] t u) → IfOk r (λ (o : Option A). IsNone o → IsSent octets t u)
-sent_octets (Ok o) octets t u m is acts = λ none. record { message = m; is = is; acts = acts none }
-sent_octets (Err e) octets t u m is acts = tt
+    → IfOk r (λ (o : Option A). IsNone o → tended_send_fault t.set m ≡ None) → IfOk r (λ (o : Option A). IsNone o → Acts (m ∷ []) [] t u)
+    → IfOk r (λ (o : Option A). IsNone o → IsSent octets t u)
+sent_octets (Ok o) octets t u m is room acts = λ none. record { message = m; is = is; room = room none; acts = acts none }
+sent_octets (Err e) octets t u m is room acts = tt
 
-pub without_label : {A E : Type 0} (r : Result (Option A) E) (m : Msu) (t : Tended) → label_in m.sif.items ≡ None → IfOk r (λ (o : Option A). IsSome o → IsUntaken m t t)
-without_label (Ok o) m t none_there = λ some. no_label none_there refl
-without_label (Err e) m t none_there = tt
+pub without_label : {A E : Type 0} (r : Result (Option A) E) (f : A → List ℕ) (m : Msu) (t : Tended) → label_in m.sif.items ≡ None
+    → IfOk r (λ (o : Option A). IfSome o (λ (a : A). f a ≡ BAD_LINE)) → IfOk r (λ (o : Option A). IfSome o (λ (a : A). IsUntaken m t (f a) t))
+without_label r f m t none_there told_so = why_so r f BAD_LINE (λ (w : List ℕ). IsUntaken m t w t) (no_label none_there refl refl) told_so
 
-pub with_fault : {A E : Type 0} (r : Result (Option A) E) (m : Msu) (t u : Tended) (why : SendError) → tended_send_fault t.set m ≡ Some why → u ≡ t
-    → IfOk r (λ (o : Option A). IsSome o → IsUntaken m t u)
-with_fault (Ok o) m t u why is same = λ some. fault why is same
-with_fault (Err e) m t u why is same = tt
+pub with_fault : {A E : Type 0} (r : Result (Option A) E) (f : A → List ℕ) (m : Msu) (t u : Tended) (error : SendError) → tended_send_fault t.set m ≡ Some error → u ≡ t
+    → IfOk r (λ (o : Option A). IfSome o (λ (a : A). f a ≡ send_error_text error)) → IfOk r (λ (o : Option A). IfSome o (λ (a : A). IsUntaken m t (f a) u))
+with_fault r f m t u error is same told_so = why_so r f (send_error_text error) (λ (w : List ℕ). IsUntaken m t w u) (fault error is refl same) told_so
 
 -- what is refused isn't sent
 pub never_none : {A E : Type 0} (r : Result (Option A) E) (P : Type 0) → IfOk r (λ (o : Option A). IsSome o) → IfOk r (λ (o : Option A). IsNone o → P)
@@ -125,63 +129,85 @@ sent_as r x y same said = subst (λ (z : Option (List ℕ)). IfSome r (λ (s : S
 
 -- ---- an order is obeyed
 
-not_taken : (order octets : List ℕ) (t u : Tended) (m : Msu) → sent_by (words_of order) ≡ Some octets → IsMessageOf octets m → IsUntaken m t u → IsRefused order t u
-not_taken order octets t u m said is (no_label none_there same) = unsent octets said (unlabelled octets m is none_there) same
-not_taken order octets t u m said is (fault why why_is same) = untaken m why (record { octets = octets; said = said; is = is }) why_is same
+-- only the set may have changed
+with_tender : (p : Stood) (u : Tended) → u ≡ p.tender → record p { tender = u } ≡ p
+with_tender p u same = λ i. record p { tender = same i }
 
-turned_down : (order octets : List ℕ) (t u : Tended) → sent_by (words_of order) ≡ Some octets → IsTurnedDown octets t u → IsRefused order t u
-turned_down order octets t u said (no_message none_there same) = unsent octets said none_there same
-turned_down order octets t u said (full m is down) = not_taken order octets t u m said is down
+not_taken : (order octets : List ℕ) (whom : Focus) (p : Stood) (why : List ℕ) (u : Tended) (m : Msu) → sent_by (words_of order) ≡ Some octets → IsMessageOf octets m
+    → IsUntaken m p.tender why u → IsRefused order whom p why (record p { tender = u })
+not_taken order octets whom p why u m said is (no_label none_there why_is same) = unsent octets said (unlabelled octets m is none_there) why_is (with_tender p u same)
+not_taken order octets whom p why u m said is (fault error error_is why_is same) =
+    untaken m error (record { octets = octets; said = said; is = is }) error_is why_is (with_tender p u same)
 
-refused : {A E : Type 0} (r : Result A E) (order why : List ℕ) (t u : Tended) (a b : Stand) → IsRefused order t u
-    → OnOk r (TellsLines a b (told u.ticks (codes "refused " ++ why))) → OnOk r (TellsSuch (λ bytes. Obeys order t bytes u) a b)
-refused r order why t u a b is line =
-    on_ok_weaker r (λ (l : TellsLines a b (told u.ticks (codes "refused " ++ why))). record { bytes = told u.ticks (codes "refused " ++ why); are = refuses why is; tells = l }) line
+turned_down : (order octets : List ℕ) (whom : Focus) (p : Stood) (why : List ℕ) (u : Tended) → sent_by (words_of order) ≡ Some octets → IsTurnedDown octets p.tender why u
+    → IsRefused order whom p why (record p { tender = u })
+turned_down order octets whom p why u said (no_message none_there why_is same) = unsent octets said none_there why_is (with_tender p u same)
+turned_down order octets whom p why u said (full m is down) = not_taken order octets whom p why u m said is down
 
--- what its order said isn't taken
-pub refused_send : {A E : Type 0} (r : Result A E) (order octets why : List ℕ) (t u : Tended) (a b : Stand) → sent_by (words_of order) ≡ Some octets
-    → IsTurnedDown octets t u → OnOk r (TellsLines a b (told u.ticks (codes "refused " ++ why))) → OnOk r (TellsSuch (λ bytes. Obeys order t bytes u) a b)
-refused_send r order octets why t u a b said down line = refused r order why t u a b (turned_down order octets t u said down) line
-
-pub refused_bad : {A E : Type 0} (r : Result A E) (order why : List ℕ) (t : Tended) (a b : Stand) → set_order_of (words_of order) ≡ None
-    → OnOk r (TellsLines a b (told t.ticks (codes "refused " ++ why))) → OnOk r (TellsSuch (λ bytes. Obeys order t bytes t) a b)
-refused_bad r order why t a b none_there line = refused r order why t t a b (bad none_there refl) line
-
-pub refused_other : {A E : Type 0} (r : Result A E) (order why : List ℕ) (said : PlainSetOrder) (t u : Tended) (a b : Stand)
-    → set_order_of (words_of order) ≡ Some said → sent_by (words_of order) ≡ None → Adds t u → Refuses said t u
-    → OnOk r (TellsLines a b (told u.ticks (codes "refused " ++ why))) → OnOk r (TellsSuch (λ bytes. Obeys order t bytes u) a b)
-refused_other r order why said t u a b read none_there adds may line = refused r order why t u a b (other said read none_there adds may) line
-
--- its message was taken
-pub agreed_send : {A E : Type 0} (r : Result A E) (order octets : List ℕ) (t u : Tended) (a b : Stand) → sent_by (words_of order) ≡ Some octets
-    → IsSent octets t u → OnOk r (TellsLines a b (told u.ticks (codes "ok " ++ order))) → OnOk r (TellsSuch (λ bytes. Obeys order t bytes u) a b)
-agreed_send r order octets t u a b said sent line =
+refused : {A E : Type 0} (r : Result A E) (order text why : List ℕ) (whom : Focus) (p q : Stood) (a b : Stand) → text ≡ why → IsRefused order whom p why q
+    → OnOk r (TellsLines a b (told q.tender.ticks (codes "refused " ++ text))) → OnOk r (TellsSuch (λ bytes. Obeys order whom p bytes q) a b)
+refused r order text why whom p q a b text_is is line =
     on_ok_weaker r
-    (λ (l : TellsLines a b (told u.ticks (codes "ok " ++ order))). record {
-      bytes = told u.ticks (codes "ok " ++ order);
-      are = sends sent.message (record { octets = octets; said = said; is = sent.is }) sent.acts;
+    (λ (l : TellsLines a b (told q.tender.ticks (codes "refused " ++ text))). record {
+      bytes = told q.tender.ticks (codes "refused " ++ text);
+      are = refuses text (subst (λ (w : List ℕ). IsRefused order whom p w q) (sym text_is) is);
       tells = l;
     })
     line
 
-pub agreed_other : {A E : Type 0} (r : Result A E) (order : List ℕ) (said : PlainSetOrder) (t u : Tended) (a b : Stand)
-    → set_order_of (words_of order) ≡ Some said → sent_by (words_of order) ≡ None → Adds t u → Changes said t u
-    → OnOk r (TellsSuch (IsAnswer said u order) a b) → OnOk r (TellsSuch (λ bytes. Obeys order t bytes u) a b)
-agreed_other r order said t u a b read none_there adds changes answer =
+-- what its order said isn't taken
+pub refused_send : {A E : Type 0} (r : Result A E) (order octets text why : List ℕ) (whom : Focus) (p : Stood) (u : Tended) (a b : Stand) → text ≡ why
+    → sent_by (words_of order) ≡ Some octets → IsTurnedDown octets p.tender why u → OnOk r (TellsLines a b (told u.ticks (codes "refused " ++ text)))
+    → OnOk r (TellsSuch (λ bytes. Obeys order whom p bytes (record p { tender = u })) a b)
+refused_send r order octets text why whom p u a b text_is said down line =
+    refused r order text why whom p (record p { tender = u }) a b text_is (turned_down order octets whom p why u said down) line
+
+pub refused_bad : {A E : Type 0} (r : Result A E) (order : List ℕ) (whom : Focus) (p : Stood) (a b : Stand) → set_order_of (words_of order) ≡ None
+    → OnOk r (TellsLines a b (told p.tender.ticks (codes "refused " ++ BAD_LINE))) → OnOk r (TellsSuch (λ bytes. Obeys order whom p bytes p) a b)
+refused_bad r order whom p a b none_there line = refused r order BAD_LINE BAD_LINE whom p p a b refl (bad none_there refl refl) line
+
+pub refused_other : {A E : Type 0} (r : Result A E) (order text why : List ℕ) (said : PlainSetOrder) (whom : Focus) (p q : Stood) (a b : Stand) → text ≡ why
+    → set_order_of (words_of order) ≡ Some said → sent_by (words_of order) ≡ None → Adds p.tender q.tender → Refuses said whom p why q
+    → OnOk r (TellsLines a b (told q.tender.ticks (codes "refused " ++ text))) → OnOk r (TellsSuch (λ bytes. Obeys order whom p bytes q) a b)
+refused_other r order text why said whom p q a b text_is read none_there adds may line =
+    refused r order text why whom p q a b text_is (other said read none_there adds may) line
+
+-- its message was taken
+pub agreed_send : {A E : Type 0} (r : Result A E) (order octets : List ℕ) (whom : Focus) (p : Stood) (u : Tended) (a b : Stand) → sent_by (words_of order) ≡ Some octets
+    → IsSent octets p.tender u → OnOk r (TellsLines a b (told u.ticks (codes "ok " ++ order)))
+    → OnOk r (TellsSuch (λ bytes. Obeys order whom p bytes (record p { tender = u })) a b)
+agreed_send r order octets whom p u a b said sent line =
     on_ok_weaker r
-    (λ (h : TellsSuch (IsAnswer said u order) a b). record { bytes = h.bytes; are = does said read none_there adds changes h.are; tells = h.tells })
+    (λ (l : TellsLines a b (told u.ticks (codes "ok " ++ order))). record {
+      bytes = told u.ticks (codes "ok " ++ order);
+      are = sends sent.message (record { octets = octets; said = said; is = sent.is }) sent.room sent.acts;
+      tells = l;
+    })
+    line
+
+pub agreed_other : {A E : Type 0} (r : Result A E) (order : List ℕ) (said : PlainSetOrder) (whom : Focus) (p q : Stood) (a b : Stand)
+    → set_order_of (words_of order) ≡ Some said → sent_by (words_of order) ≡ None → MayShow said whom p.tender → Adds p.tender q.tender → Changes said whom p q
+    → OnOk r (TellsSuch (IsAnswer said whom q order) a b) → OnOk r (TellsSuch (λ bytes. Obeys order whom p bytes q) a b)
+agreed_other r order said whom p q a b read none_there may adds changes answer =
+    on_ok_weaker r
+    (λ (h : TellsSuch (IsAnswer said whom q order) a b). record { bytes = h.bytes; are = does said read none_there may adds changes h.are; tells = h.tells })
     answer
 
-pub answered : {A E : Type 0} (r : Result A E) (said : PlainSetOrder) (t : Tended) (order : List ℕ) (a b c : Stand)
-    → TellsLines a b (told t.ticks (codes "ok " ++ order)) → OnOk r (TellsSuch (Shows said t) b c) → OnOk r (TellsSuch (IsAnswer said t order) a c)
-answered r said t order a b c agreed asked =
+pub answered : {A E : Type 0} (r : Result A E) (said : PlainSetOrder) (whom : Focus) (p : Stood) (order : List ℕ) (a b c : Stand)
+    → TellsLines a b (told p.tender.ticks (codes "ok " ++ order)) → OnOk r (TellsSuch (Shows said whom p) b c) → OnOk r (TellsSuch (IsAnswer said whom p order) a c)
+answered r said whom p order a b c agreed asked =
     on_ok_weaker r
-    (λ (h : TellsSuch (Shows said t) b c). record {
-      bytes = told t.ticks (codes "ok " ++ order) ++ h.bytes;
+    (λ (h : TellsSuch (Shows said whom p) b c). record {
+      bytes = told p.tender.ticks (codes "ok " ++ order) ++ h.bytes;
       are = record { more = h.bytes; shows = h.are; are = refl };
-      tells = tells_trans a b c (told t.ticks (codes "ok " ++ order)) h.bytes agreed h.tells;
+      tells = tells_trans a b c (told p.tender.ticks (codes "ok " ++ order)) h.bytes agreed h.tells;
     })
     asked
+
+-- what isn't some is none
+pub not_some : {A : Type 0} (o : Option A) (P : Type 0) → ((a : A) → o ≡ Some a → ⊥) → (IsNone o → P) → P
+not_some None P no_more h = h refl
+not_some (Some a) P no_more h = absurd (no_more a refl)
 
 -- what holds of a value holds of what it is
 pub moved : {A : Type 0} (x y : A) → x ≡ y → (P : A → Type 0) → P x → P y

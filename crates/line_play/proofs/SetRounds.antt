@@ -18,9 +18,10 @@ use Rattle.set_tending.specs.declared.wire.Wire.{Wire}
 use Rattle.line_play.specs.LineTraffic.{Traffic, octets_go, line_says, Grows, coming, given, front_of, arrived, silence_for}
 use Rattle.line_play.specs.declared.set_lines.Came.{Came}
 use Rattle.line_play.specs.declared.set_lines.Came.TheVariants as line
+use Rattle.line_play.specs.SetDoing.{Stood}
 use Rattle.line_play.specs.SetObeying.{Obeys}
-use Rattle.line_play.specs.SetOrders.{SaysSuch, overtakes, is_send, set_order_of}
-use Rattle.line_play.specs.SetRounds.{Made, line_told, passed_told, PassesOn, Carries, passes, misses, ends, fails, opens, CarriesAt, CarriesAll, no_link, one_link, TellsAll, ObeysWaiting, rests, obeys, TakesOrder, at_once, behind, report, Attends, waited, comes, AttendsAll, none_due, full, quits, MOST_WAITING, SetPlace, IsRound, Rests}
+use Rattle.line_play.specs.SetOrders.{SaysSuch, starts, is_send, set_order_of}
+use Rattle.line_play.specs.SetRounds.{Waited, goes_first, Made, line_told, passed_told, PassesOn, Carries, passes, misses, ends, fails, opens, CarriesAt, CarriesAll, no_link, one_link, TellsAll, ObeysWaiting, rests, obeys, TakesOrder, at_once, behind, report, Attends, waited, comes, AttendsAll, none_due, full, quits, MOST_WAITING, SetPlace, IsRound, Rests}
 
 -- ---- what is given
 
@@ -235,70 +236,78 @@ carried_lines r ahead t u ws vs xs ys a b f g before after made =
 
 -- ---- orders
 
-pub waits_none : (t : Tended) (waiting : List (List ℕ)) (a : Stand) → TellsSuch (λ bytes. ObeysWaiting t waiting bytes t waiting) a a
+pub waits_none : (t : Stood) (waiting : List Waited) (a : Stand) → TellsSuch (λ bytes. ObeysWaiting t waiting bytes t waiting) a a
 waits_none t waiting a = record { bytes = []; are = rests; tells = tells_none a }
 
-pub waits_more : (t u w : Tended) (waiting now left : List (List ℕ)) (order said : List ℕ) (a b c : Stand)
-    → TellsSuch (λ bytes. ObeysWaiting t waiting bytes u now) a b → now ≡ order ∷ left → said ≡ order → TellsSuch (λ bytes. Obeys said u bytes w) b c
+pub waits_more : (t u w : Stood) (waiting now left : List Waited) (first : Waited) (said : List ℕ) (a b c : Stand)
+    → TellsSuch (λ bytes. ObeysWaiting t waiting bytes u now) a b → now ≡ first ∷ left → said ≡ first.text → TellsSuch (λ bytes. Obeys said first.focus u bytes w) b c
     → TellsSuch (λ bytes. ObeysWaiting t waiting bytes w left) a c
-waits_more t u w waiting now left order said a b c before first is more = record {
+waits_more t u w waiting now left first said a b c before there is more = record {
   bytes = before.bytes ++ more.bytes;
-  are = obeys order more.bytes left before.are first (subst (λ (o : List ℕ). Obeys o u more.bytes w) is more.are);
+  are = obeys first more.bytes left before.are there (subst (λ (o : List ℕ). Obeys o first.focus u more.bytes w) is more.are);
   tells = tells_trans a b c before.bytes more.bytes before.tells more.tells;
 }
 
 -- as many wait as did
-pub waits_same : (t u : Tended) (waiting now left : List (List ℕ)) (a b : Stand) → TellsSuch (λ bytes. ObeysWaiting t waiting bytes u now) a b
+pub waits_same : (t u : Stood) (waiting now left : List Waited) (a b : Stand) → TellsSuch (λ bytes. ObeysWaiting t waiting bytes u now) a b
     → left ≡ now → TellsSuch (λ bytes. ObeysWaiting t waiting bytes u left) a b
-waits_same t u waiting now left a b before same = subst (λ (l : List (List ℕ)). TellsSuch (λ bytes. ObeysWaiting t waiting bytes u l) a b) (sym same) before
+waits_same t u waiting now left a b before same = subst (λ (l : List Waited). TellsSuch (λ bytes. ObeysWaiting t waiting bytes u l) a b) (sym same) before
 
 -- an order by its text
-taken_as : {A E : Type 0} (r : Result A E) (order said : List ℕ) (t u : Tended) (waiting later : List (List ℕ)) (a b : Stand) → said ≡ order
+taken_as : {A E : Type 0} (r : Result A E) (order said : List ℕ) (t u : Stood) (waiting later : List Waited) (a b : Stand) → said ≡ order
     → OnOk r (TellsSuch (λ bytes. TakesOrder said t waiting bytes u later) a b) → OnOk r (TellsSuch (λ bytes. TakesOrder order t waiting bytes u later) a b)
 taken_as r order said t u waiting later a b is made =
     subst (λ (o : List ℕ). OnOk r (TellsSuch (λ bytes. TakesOrder o t waiting bytes u later) a b)) is made
 
-pub taken_at_once : {A E : Type 0} (r : Result A E) (order said : List ℕ) (t u : Tended) (waiting : List (List ℕ)) (a b : Stand) → said ≡ order
-    → (waiting ≡ []) ⊎ SaysSuch overtakes said → OnOk r (TellsSuch (λ bytes. Obeys said t bytes u) a b)
+pub taken_at_once : {A E : Type 0} (r : Result A E) (order said : List ℕ) (t u : Stood) (waiting : List Waited) (a b : Stand) → said ≡ order
+    → (waiting ≡ []) ⊎ (goes_first waiting said ≡ true) → OnOk r (TellsSuch (λ bytes. Obeys said t.focus t bytes u) a b)
     → OnOk r (TellsSuch (λ bytes. TakesOrder order t waiting bytes u waiting) a b)
 taken_at_once r order said t u waiting a b is may made =
     taken_as r order said t u waiting waiting a b is
-    (on_ok_weaker r (λ (m : TellsSuch (λ bytes. Obeys said t bytes u) a b). record { bytes = m.bytes; are = at_once may m.are; tells = m.tells }) made)
+    (on_ok_weaker r (λ (m : TellsSuch (λ bytes. Obeys said t.focus t bytes u) a b). record { bytes = m.bytes; are = at_once may m.are; tells = m.tells }) made)
 
-pub taken_behind : (order said : List ℕ) (t : Tended) (waiting later : List (List ℕ)) (a : Stand) → said ≡ order
-    → (waiting ≡ [] → SaysSuch is_send said) → later ≡ waiting ++ order ∷ [] → TellsSuch (λ bytes. TakesOrder order t waiting bytes t later) a a
-taken_behind order said t waiting later a same waits is =
-    subst (λ (l : List (List ℕ)). TellsSuch (λ bytes. TakesOrder order t waiting bytes t l) a a) (sym is)
-    (record { bytes = []; are = behind (subst (λ (o : List ℕ). waiting ≡ [] → SaysSuch is_send o) same waits); tells = tells_none a })
+behind_so : (order : List ℕ) (start : Bool) (t : Stood) (waiting : List Waited) (a : Stand) → (waiting ≡ [] → SaysSuch is_send order) → goes_first waiting order ≡ false
+    → start ≡ starts order → TellsSuch (λ bytes. TakesOrder order t waiting bytes t (waiting ++ record { focus = t.focus; text = order; starts = start } ∷ [])) a a
+behind_so order start t waiting a waits last start_is =
+    subst (λ (b : Bool). TellsSuch (λ bytes. TakesOrder order t waiting bytes t (waiting ++ record { focus = t.focus; text = order; starts = b } ∷ [])) a a) (sym start_is)
+    (record { bytes = []; are = behind waits last; tells = tells_none a })
 
-pub taken_report : (order said : List ℕ) (t : Tended) (waiting : List (List ℕ)) (a : Stand) → said ≡ order → set_order_of (words_of said) ≡ None
+pub taken_behind : (order said : List ℕ) (start : Bool) (t : Stood) (waiting later : List Waited) (a : Stand) → said ≡ order → (waiting ≡ [] → SaysSuch is_send said)
+    → false ≡ goes_first waiting said → start ≡ starts said → later ≡ waiting ++ record { focus = t.focus; text = order; starts = start } ∷ []
+    → TellsSuch (λ bytes. TakesOrder order t waiting bytes t later) a a
+taken_behind order said start t waiting later a same waits last start_is is =
+    subst (λ (l : List Waited). TellsSuch (λ bytes. TakesOrder order t waiting bytes t l) a a) (sym is)
+    (behind_so order start t waiting a (subst (λ (o : List ℕ). waiting ≡ [] → SaysSuch is_send o) same waits)
+    (sym (last ∙ ap (λ (o : List ℕ). goes_first waiting o) same)) (start_is ∙ ap starts same))
+
+pub taken_report : (order said : List ℕ) (t : Stood) (waiting : List Waited) (a : Stand) → said ≡ order → set_order_of (words_of said) ≡ None
     → TellsSuch (λ bytes. TakesOrder order t waiting bytes t waiting) a a
 taken_report order said t waiting a is none_there =
     subst (λ (o : List ℕ). TellsSuch (λ bytes. TakesOrder o t waiting bytes t waiting) a a) is (record { bytes = []; are = report none_there; tells = tells_none a })
 
-pub attends_first : (t u : Tended) (waiting now : List (List ℕ)) (left : Option (List Timed)) (a b : Stand)
+pub attends_first : (t u : Stood) (waiting now : List Waited) (left : Option (List Timed)) (a b : Stand)
     → TellsSuch (λ bytes. ObeysWaiting t waiting bytes u now) a b → Rests now → TellsSuch (λ bytes. Attends t waiting left bytes u now left) a b
 attends_first t u waiting now left a b before last = record { bytes = before.bytes; are = waited before.are last; tells = before.tells }
 
 -- none waits, or the first sends a message
-pub rests_none : (waiting : List (List ℕ)) → None ≡ slice_get waiting 0 → Rests waiting
+pub rests_none : (waiting : List Waited) → None ≡ slice_get waiting 0 → Rests waiting
 rests_none [] none_there = tt
-rests_none (order ∷ more) none_there = absurd (none-some order none_there)
+rests_none (first ∷ more) none_there = absurd (none-some first none_there)
 
-pub rests_first : (order : List ℕ) (waiting : List (List ℕ)) → Some order ≡ slice_get waiting 0 → SaysSuch is_send order → Rests waiting
-rests_first order [] first sends = absurd (none-some order (sym first))
-rests_first order (said ∷ more) first sends = subst (λ (o : List ℕ). SaysSuch is_send o) (same_Some order said first) sends
+pub rests_first : (first : Waited) (waiting : List Waited) → Some first ≡ slice_get waiting 0 → SaysSuch is_send first.text → Rests waiting
+rests_first first [] there sends = absurd (none-some first (sym there))
+rests_first first (said ∷ more) there sends = subst (λ (w : Waited). SaysSuch is_send w.text) (same_Some first said there) sends
 
-pub rests_when : {E : Type 0} (r : Result Bool E) (text order : List ℕ) (waiting : List (List ℕ)) → text ≡ order → Some order ≡ slice_get waiting 0
+pub rests_when : {E : Type 0} (r : Result Bool E) (text : List ℕ) (first : Waited) (waiting : List Waited) → text ≡ first.text → Some first ≡ slice_get waiting 0
     → IfOk r (λ (b : Bool). b ≡ true → SaysSuch is_send text) → IfOk r (λ (b : Bool). b ≡ true → Rests waiting)
-rests_when (Ok b) text order waiting same first sends = λ shown. rests_first order waiting first (subst (λ (o : List ℕ). SaysSuch is_send o) same (sends shown))
-rests_when (Err e) text order waiting same first sends = tt
+rests_when (Ok b) text first waiting same there sends = λ shown. rests_first first waiting there (subst (λ (o : List ℕ). SaysSuch is_send o) same (sends shown))
+rests_when (Err e) text first waiting same there sends = tt
 
-pub rests_empty : (waiting : List (List ℕ)) → waiting ≡ [] → Rests waiting
-rests_empty waiting none_there = subst (λ (ws : List (List ℕ)). Rests ws) (sym none_there) tt
+pub rests_empty : (waiting : List Waited) → waiting ≡ [] → Rests waiting
+rests_empty waiting none_there = subst (λ (ws : List Waited). Rests ws) (sym none_there) tt
 
-pub attends_more : (t u w : Tended) (waiting now later : List (List ℕ)) (left fewer last : Option (List Timed)) (order : List ℕ) (ms : ℕ) (a b c : Stand)
-    → TellsSuch (λ bytes. Attends t waiting left bytes u now fewer) a b → ms ≡ u.ticks → NextIs ms fewer order last → (order ≡ QUIT → ⊥)
+pub attends_more : (t u w : Stood) (waiting now later : List Waited) (left fewer last : Option (List Timed)) (order : List ℕ) (ms : ℕ) (a b c : Stand)
+    → TellsSuch (λ bytes. Attends t waiting left bytes u now fewer) a b → ms ≡ u.tender.ticks → NextIs ms fewer order last → (order ≡ QUIT → ⊥)
     → TellsSuch (λ bytes. TakesOrder order u now bytes w later) b c → TellsSuch (λ bytes. Attends t waiting left bytes w later last) a c
 attends_more t u w waiting now later left fewer last order ms a b c before ms_is next no_end more = record {
   bytes = before.bytes ++ more.bytes;
@@ -306,24 +315,24 @@ attends_more t u w waiting now later left fewer last order ms a b c before ms_is
   tells = tells_trans a b c before.bytes more.bytes before.tells more.tells;
 }
 
-pub attends_over : (t u : Tended) (waiting now : List (List ℕ)) (left fewer last : Option (List Timed)) (ms : ℕ) (a b : Stand)
-    → TellsSuch (λ bytes. Attends t waiting left bytes u now fewer) a b → ms ≡ u.ticks → NoneIsDue ms fewer last
+pub attends_over : (t u : Stood) (waiting now : List Waited) (left fewer last : Option (List Timed)) (ms : ℕ) (a b : Stand)
+    → TellsSuch (λ bytes. Attends t waiting left bytes u now fewer) a b → ms ≡ u.tender.ticks → NoneIsDue ms fewer last
     → TellsSuch (λ bytes. AttendsAll t waiting left bytes true u now last) a b
 attends_over t u waiting now left fewer last ms a b before ms_is none_there =
     record { bytes = before.bytes; are = none_due last before.are (subst (λ (n : ℕ). NoneIsDue n fewer last) ms_is none_there); tells = before.tells }
 
-pub attends_full : (t u : Tended) (waiting now : List (List ℕ)) (left fewer : Option (List Timed)) (a b : Stand)
+pub attends_full : (t u : Stood) (waiting now : List Waited) (left fewer : Option (List Timed)) (a b : Stand)
     → TellsSuch (λ bytes. Attends t waiting left bytes u now fewer) a b → MOST_WAITING ≤ length now
     → TellsSuch (λ bytes. AttendsAll t waiting left bytes true u now fewer) a b
 attends_full t u waiting now left fewer a b before many = record { bytes = before.bytes; are = full before.are many; tells = before.tells }
 
-pub attends_quit : (t u : Tended) (waiting now : List (List ℕ)) (left fewer last : Option (List Timed)) (ms : ℕ) (a b c : Stand)
-    → TellsSuch (λ bytes. Attends t waiting left bytes u now fewer) a b → ms ≡ u.ticks → NextIs ms fewer QUIT last
-    → TellsLines b c (told u.ticks (codes "ok quit")) → TellsSuch (λ bytes. AttendsAll t waiting left bytes false u now last) a c
+pub attends_quit : (t u : Stood) (waiting now : List Waited) (left fewer last : Option (List Timed)) (ms : ℕ) (a b c : Stand)
+    → TellsSuch (λ bytes. Attends t waiting left bytes u now fewer) a b → ms ≡ u.tender.ticks → NextIs ms fewer QUIT last
+    → TellsLines b c (told u.tender.ticks (codes "ok quit")) → TellsSuch (λ bytes. AttendsAll t waiting left bytes false u now last) a c
 attends_quit t u waiting now left fewer last ms a b c before ms_is next line = record {
-  bytes = before.bytes ++ told u.ticks (codes "ok quit");
+  bytes = before.bytes ++ told u.tender.ticks (codes "ok quit");
   are = quits last before.are (subst (λ (n : ℕ). NextIs n fewer QUIT last) ms_is next);
-  tells = tells_trans a b c before.bytes (told u.ticks (codes "ok quit")) before.tells line;
+  tells = tells_trans a b c before.bytes (told u.tender.ticks (codes "ok quit")) before.tells line;
 }
 
 -- ---- a round
@@ -331,7 +340,7 @@ attends_quit t u waiting now left fewer last ms a b c before ms_is next line = r
 pub is_round : (ahead : ℕ) (p q : SetPlace) (goes_on : Bool) (carried ticked tended calm obeyed : Tended) (a b c d e : Stand) (f g h : Option (List Traffic))
     → Grows f g [] → Made (λ bytes traffic. CarriesAll ahead p.set p.wires (length p.wires) bytes traffic carried q.wires) a b g h → Ticks carried ticked
     → Tends ticked tended → TellsSuch (λ bytes. TellsAll tended bytes calm) b c
-    → TellsSuch (λ bytes. AttendsAll calm p.waiting p.left bytes goes_on obeyed q.waiting q.left) c d
+    → TellsSuch (λ bytes. AttendsAll (record { tender = calm; focus = p.focus; since = p.since }) p.waiting p.left bytes goes_on (record { tender = obeyed; focus = q.focus; since = q.since }) q.waiting q.left) c d
     → TellsSuch (λ bytes. TellsAll obeyed bytes q.set) d e → Made (λ bytes traffic. IsRound ahead p bytes traffic goes_on q) a e f h
 is_round ahead p q goes_on carried ticked tended calm obeyed a b c d e f g h none_given first ticks tends second third fourth = record {
   bytes = ((first.bytes ++ second.bytes) ++ third.bytes) ++ fourth.bytes;

@@ -1,9 +1,10 @@
 -- What a set on lines tells, line by line.
-use Rattle.std.proofs.Common.{◌≡◌, ◌∙◌, ℕ, ◌+◌, List, [], ◌∷◌, ◌++◌, codes, append-nil, append_assoc, slice_get, unwrap_or, Option, Result, Ok, Err, OnOk, refl, sym, ap, subst}
+use Rattle.std.proofs.Common.{◌≡◌, ◌∙◌, ℕ, ◌+◌, ◌<◌, List, [], ◌∷◌, ◌++◌, length, take, codes, slice_get, unwrap_or, Option, None, Some, Result, Ok, Err, OnOk, refl, sym, ap, subst}
+use Rattle.std.proofs.lemmas.List.{take_more, flat_map_more}
 use Rattle.std.proofs.lemmas.Result.{on_ok_weaker}
 use Rattle.std.specs.Fmt.{decimal}
+use Rattle.std.specs.List.{flat_map}
 use Rattle.script_links.specs.resend_store_types.measures.Measure.{Measure}
-use Rattle.script_terminal.specs.MeasureNames.{measure_word}
 use Rattle.line_filter.specs.Desks.{Told as TellsSuch}
 use Rattle.line_filter.specs.Orders.{told}
 use Rattle.line_filter.specs.Reporting.{Stand, TellsLines}
@@ -14,11 +15,14 @@ use Rattle.set_tending.specs.Set.{LinkSet}
 use Rattle.set_tending.specs.Tended.{Tended}
 use Rattle.set_tending.specs.Texts.{told_text}
 use Rattle.set_tending.specs.declared.told.Told.{Told}
-use Rattle.line_play.specs.SetDoing.{IsCount, IsMeasured, ABORTED, IsShown, ShowsLines, no_line, one_line, held_text, unsure_text, ShowsHeld, no_link, one_link, Shows}
-use Rattle.line_play.specs.SetOrders.{PlainSetOrder, plain_set_order, measuring, aborted, measures}
+use Rattle.line_play.specs.SetDoing.{Stood, first_of, last_of}
+use Rattle.line_play.specs.SetOrders.{PlainSetOrder, plain_set_order}
+use Rattle.line_play.specs.SetShowing.{count_text, told_if, shown_of, ShowsEach, none_yet, one_more, ShowsLinks, held_text, unsure_text, ShowsHeld, no_link, one_link, Shows}
+use Rattle.line_play.specs.declared.set_orders.Focus.{Focus}
 use Rattle.line_play.specs.declared.set_orders.SetOrder.{SetOrder}
 use Rattle.line_play.specs.declared.set_orders.SetOrder.TheVariants as order
 use Rattle.line_play.specs.SetRounds.{Takes, Tells, nothing, one, TellsAll}
+use lib.ListN.{get_or}
 
 -- the same line, by what its millisecond and its text are
 pub told_as : {A E : Type 0} (r : Result A E) (a b : Stand) (now later : ℕ) (text bytes : List ℕ) → now ≡ later → text ≡ bytes
@@ -33,61 +37,62 @@ ok_so (Err e) P h = tt
 
 -- ---- what orders ask for
 
-pub shows_none : (said : PlainSetOrder) (now : ℕ) (a : Stand) → TellsSuch (ShowsLines said now) a a
-shows_none said now a = record { bytes = []; are = no_line; tells = tells_none a }
+-- a line of a link, where it is there
+pub told_there : {A E : Type 0} (r : Result A E) (a b : Stand) (now : ℕ) (text : List ℕ → List ℕ) (line said : List ℕ) (o : Option (List ℕ)) → Some line ≡ o → said ≡ line
+    → OnOk r (TellsLines a b (told now (text said))) → OnOk r (TellsLines a b (told_if now text o))
+told_there r a b now text line said o there is line_told =
+    subst (λ (x : Option (List ℕ)). OnOk r (TellsLines a b (told_if now text x))) there
+    (subst (λ (xs : List ℕ). OnOk r (TellsLines a b (told now (text xs)))) is line_told)
 
-both_shown : (said : PlainSetOrder) (now : ℕ) (xs ys : List ℕ) → ShowsLines said now xs → ShowsLines said now ys → ShowsLines said now (xs ++ ys)
-both_shown said now xs _ before no_line = subst (λ (zs : List ℕ). ShowsLines said now zs) (sym (append-nil xs)) before
-both_shown said now xs _ before (one_line {bytes} text behind shown) =
-    subst (λ (zs : List ℕ). ShowsLines said now zs) (append_assoc xs bytes (told now text)) (one_line text (both_shown said now xs bytes before behind) shown)
+pub told_nowhere : (a : Stand) (now : ℕ) (text : List ℕ → List ℕ) (o : Option (List ℕ)) → None ≡ o → TellsLines a a (told_if now text o)
+told_nowhere a now text o none_there = subst (λ (x : Option (List ℕ)). TellsLines a a (told_if now text x)) none_there (tells_none a)
 
-pub shows_then : (said : PlainSetOrder) (now : ℕ) (a b c : Stand) → TellsSuch (ShowsLines said now) a b → TellsSuch (ShowsLines said now) b c
-    → TellsSuch (ShowsLines said now) a c
-shows_then said now a b c first second = record {
-  bytes = first.bytes ++ second.bytes;
-  are = both_shown said now first.bytes second.bytes first.are second.are;
-  tells = tells_trans a b c first.bytes second.bytes first.tells second.tells;
+pub count_line : (name word text : List ℕ) (l count n : ℕ) → name ≡ word → count ≡ n
+    → text ≡ decimal l ++ (codes " measure " ++ (name ++ (codes " " ++ decimal count))) → text ≡ count_text word l n
+count_line name word text l count n same is are = are ∙ (ap (λ (xs : List ℕ). count_text xs l count) same ∙ ap (λ (k : ℕ). count_text word l k) is)
+
+-- one measurement more
+pub counts_more : (f : Measure → List ℕ) (all : List Measure) (i : ℕ) (m : Measure) (a b c : Stand) → i < length all → m ≡ get_or all i m
+    → TellsLines a b (flat_map f (take i all)) → TellsLines b c (f m) → TellsLines a c (flat_map f (take (i + 1) all))
+counts_more f all i m a b c within is before line =
+    subst (TellsLines a c) (flat_map_more f [] (take i all) m ∙ ap (flat_map f) (ap (λ (y : Measure). take i all ++ y ∷ []) is ∙ sym (take_more all i m within)))
+    (tells_trans a b c (flat_map f (take i all)) (f m) before line)
+
+pub then_told : {A E : Type 0} (r : Result A E) (a b c : Stand) (xs ys : List ℕ) → TellsLines a b xs → OnOk r (TellsLines b c ys) → OnOk r (TellsLines a c (xs ++ ys))
+then_told r a b c xs ys first second = on_ok_weaker r (λ (more : TellsLines b c ys). tells_trans a b c xs ys first more) second
+
+-- link by link
+pub each_none : (said : PlainSetOrder) (p : Stood) (first : ℕ) (a : Stand) → TellsSuch (ShowsEach said p first first) a a
+each_none said p first a = record { bytes = []; are = none_yet; tells = tells_none a }
+
+pub each_more : (said : PlainSetOrder) (p : Stood) (first last : ℕ) (a b c : Stand) → TellsSuch (ShowsEach said p first last) a b → TellsLines b c (shown_of said p last)
+    → TellsSuch (ShowsEach said p first (last + 1)) a c
+each_more said p first last a b c before more = record {
+  bytes = before.bytes ++ shown_of said p last;
+  are = one_more before.are;
+  tells = tells_trans a b c before.bytes (shown_of said p last) before.tells more;
 }
 
--- one line
-pub shows_one : {A E : Type 0} (r : Result A E) (said : PlainSetOrder) (now : ℕ) (a b : Stand) (text : List ℕ) → IsShown said text
-    → OnOk r (TellsLines a b (told now text)) → OnOk r (TellsSuch (ShowsLines said now) a b)
-shows_one r said now a b text shown line =
-    on_ok_weaker r (λ (l : TellsLines a b (told now text)). record { bytes = told now text; are = one_line text no_line shown; tells = l }) line
+pub each_to : (said : PlainSetOrder) (p : Stood) (first last gone : ℕ) (a b : Stand) → gone ≡ last → TellsSuch (ShowsEach said p first gone) a b
+    → TellsSuch (ShowsEach said p first last) a b
+each_to said p first last gone a b all before = subst (λ (n : ℕ). TellsSuch (ShowsEach said p first n) a b) all before
 
-pub is_count : (name word text : List ℕ) (link count : ℕ) → name ≡ word
-    → text ≡ decimal link ++ (codes " measure " ++ (name ++ (codes " " ++ decimal count))) → IsCount word text
-is_count name word text link count same are =
-    subst (λ (xs : List ℕ). IsCount xs text) same (record { link = link; count = count; are = are })
-
--- any measurement is one of all
-as_measures : (said : PlainSetOrder) (now : ℕ) (bytes : List ℕ) → ((text : List ℕ) → IsShown said text → IsMeasured text) → ShowsLines said now bytes
-    → ShowsLines measures now bytes
-as_measures said now _ is no_line = no_line
-as_measures said now _ is (one_line {bytes} text before shown) = one_line text (as_measures said now bytes is before) (is text shown)
-
-measured_so : (now : ℕ) (a b : Stand) (m : Measure) → TellsSuch (ShowsLines (measuring m) now) a b → TellsSuch (ShowsLines measures now) a b
-measured_so now a b m told_so = record {
-  bytes = told_so.bytes;
-  are = as_measures (measuring m) now told_so.bytes (λ text is. record { name = measure_word m; is = is }) told_so.are;
-  tells = told_so.tells;
-}
-
-aborted_so : (now : ℕ) (a b : Stand) → TellsSuch (ShowsLines aborted now) a b → TellsSuch (ShowsLines measures now) a b
-aborted_so now a b told_so = record {
-  bytes = told_so.bytes;
-  are = as_measures aborted now told_so.bytes (λ text is. record { name = ABORTED; is = is }) told_so.are;
-  tells = told_so.tells;
-}
-
-pub then_measured : (now : ℕ) (a b c : Stand) (m : Measure) → TellsSuch (ShowsLines measures now) a b → TellsSuch (ShowsLines (measuring m) now) b c
-    → TellsSuch (ShowsLines measures now) a c
-then_measured now a b c m first second = shows_then measures now a b c first (measured_so now b c m second)
-
-pub then_aborted : {A E : Type 0} (r : Result A E) (now : ℕ) (a b c : Stand) → TellsSuch (ShowsLines measures now) a b
-    → OnOk r (TellsSuch (ShowsLines aborted now) b c) → OnOk r (TellsSuch (ShowsLines measures now) a c)
-then_aborted r now a b c first second =
-    on_ok_weaker r (λ (more : TellsSuch (ShowsLines aborted now) b c). shows_then measures now a b c first (aborted_so now b c more)) second
+-- other orders ask for nothing of links
+pub shown_none : (s : SetOrder) (p : Stood) (l : ℕ) (a : Stand) → ((x : _) → s ≡ order.State x → ⊥) → ((x y : _) → s ≡ order.Value x y → ⊥)
+    → ((m : _) → s ≡ order.Measure m → ⊥) → (s ≡ order.Aborted → ⊥) → (s ≡ order.Measures → ⊥) → TellsLines a a (shown_of (plain_set_order s) p l)
+shown_none (order.On focus) p l a not_state not_value not_measure not_aborted not_measures = tells_none a
+shown_none (order.Link obeyed) p l a not_state not_value not_measure not_aborted not_measures = tells_none a
+shown_none (order.State process) p l a not_state not_value not_measure not_aborted not_measures = absurd (not_state process refl)
+shown_none (order.Value process variable) p l a not_state not_value not_measure not_aborted not_measures = absurd (not_value process variable refl)
+shown_none (order.Measure measure) p l a not_state not_value not_measure not_aborted not_measures = absurd (not_measure measure refl)
+shown_none order.Aborted p l a not_state not_value not_measure not_aborted not_measures = absurd (not_aborted refl)
+shown_none order.Measures p l a not_state not_value not_measure not_aborted not_measures = absurd (not_measures refl)
+shown_none order.Reset p l a not_state not_value not_measure not_aborted not_measures = tells_none a
+shown_none (order.Send octets) p l a not_state not_value not_measure not_aborted not_measures = tells_none a
+shown_none order.Table p l a not_state not_value not_measure not_aborted not_measures = tells_none a
+shown_none order.Held p l a not_state not_value not_measure not_aborted not_measures = tells_none a
+shown_none order.Unsure p l a not_state not_value not_measure not_aborted not_measures = tells_none a
+shown_none order.Rebalance p l a not_state not_value not_measure not_aborted not_measures = tells_none a
 
 -- ---- what is told of the set
 
@@ -129,29 +134,33 @@ held_all t l a b all before = subst (λ (n : ℕ). TellsSuch (ShowsHeld t n) a b
 pub told_just : {A E : Type 0} (r : Result A E) (a b : Stand) (bytes : List ℕ) → OnOk r (TellsLines a b bytes) → OnOk r (TellsSuch (λ xs. xs ≡ bytes) a b)
 told_just r a b bytes line = on_ok_weaker r (λ (l : TellsLines a b bytes). record { bytes = bytes; are = refl; tells = l }) line
 
-lines_are : (s : SetOrder) (t : Tended) (bytes : List ℕ) → (s ≡ order.Table → ⊥) → (s ≡ order.Unsure → ⊥) → (s ≡ order.Held → ⊥)
-    → ShowsLines (plain_set_order s) t.ticks bytes → Shows (plain_set_order s) t bytes
-lines_are (order.On focus) t bytes not_table not_unsure not_held lines = lines
-lines_are (order.Link obeyed) t bytes not_table not_unsure not_held lines = lines
-lines_are (order.State process) t bytes not_table not_unsure not_held lines = lines
-lines_are (order.Value process variable) t bytes not_table not_unsure not_held lines = lines
-lines_are (order.Measure measure) t bytes not_table not_unsure not_held lines = lines
-lines_are order.Aborted t bytes not_table not_unsure not_held lines = lines
-lines_are order.Measures t bytes not_table not_unsure not_held lines = lines
-lines_are order.Reset t bytes not_table not_unsure not_held lines = lines
-lines_are (order.Send octets) t bytes not_table not_unsure not_held lines = lines
-lines_are order.Table t bytes not_table not_unsure not_held lines = absurd (not_table refl)
-lines_are order.Held t bytes not_table not_unsure not_held lines = absurd (not_held refl)
-lines_are order.Unsure t bytes not_table not_unsure not_held lines = absurd (not_unsure refl)
-lines_are order.Rebalance t bytes not_table not_unsure not_held lines = lines
+lines_are : (s : SetOrder) (whom : Focus) (p : Stood) (bytes : List ℕ) → (s ≡ order.Table → ⊥) → (s ≡ order.Unsure → ⊥) → (s ≡ order.Held → ⊥)
+    → ShowsLinks (plain_set_order s) whom p bytes → Shows (plain_set_order s) whom p bytes
+lines_are (order.On focus) whom p bytes not_table not_unsure not_held lines = lines
+lines_are (order.Link obeyed) whom p bytes not_table not_unsure not_held lines = lines
+lines_are (order.State process) whom p bytes not_table not_unsure not_held lines = lines
+lines_are (order.Value process variable) whom p bytes not_table not_unsure not_held lines = lines
+lines_are (order.Measure measure) whom p bytes not_table not_unsure not_held lines = lines
+lines_are order.Aborted whom p bytes not_table not_unsure not_held lines = lines
+lines_are order.Measures whom p bytes not_table not_unsure not_held lines = lines
+lines_are order.Reset whom p bytes not_table not_unsure not_held lines = lines
+lines_are (order.Send octets) whom p bytes not_table not_unsure not_held lines = lines
+lines_are order.Table whom p bytes not_table not_unsure not_held lines = absurd (not_table refl)
+lines_are order.Held whom p bytes not_table not_unsure not_held lines = absurd (not_held refl)
+lines_are order.Unsure whom p bytes not_table not_unsure not_held lines = absurd (not_unsure refl)
+lines_are order.Rebalance whom p bytes not_table not_unsure not_held lines = lines
 
-pub lines_shown : {A E : Type 0} (r : Result A E) (s : SetOrder) (t : Tended) (a b : Stand) → (s ≡ order.Table → ⊥) → (s ≡ order.Unsure → ⊥) → (s ≡ order.Held → ⊥)
-    → OnOk r (TellsSuch (ShowsLines (plain_set_order s) t.ticks) a b) → OnOk r (TellsSuch (Shows (plain_set_order s) t) a b)
-lines_shown r s t a b not_table not_unsure not_held lines =
+pub lines_shown : {A E : Type 0} (r : Result A E) (s : SetOrder) (whom : Focus) (p : Stood) (first last : ℕ) (a b : Stand) → first ≡ first_of whom → last ≡ last_of whom p.tender
+    → (s ≡ order.Table → ⊥) → (s ≡ order.Unsure → ⊥) → (s ≡ order.Held → ⊥) → OnOk r (TellsSuch (ShowsEach (plain_set_order s) p first last) a b)
+    → OnOk r (TellsSuch (Shows (plain_set_order s) whom p) a b)
+lines_shown r s whom p first last a b first_is last_is not_table not_unsure not_held lines =
     on_ok_weaker r
-    (λ (h : TellsSuch (ShowsLines (plain_set_order s) t.ticks) a b). record {
+    (λ (h : TellsSuch (ShowsEach (plain_set_order s) p first last) a b). record {
       bytes = h.bytes;
-      are = lines_are s t h.bytes not_table not_unsure not_held h.are;
+      are =
+          lines_are s whom p h.bytes not_table not_unsure not_held
+          (subst (λ (n : ℕ). ShowsEach (plain_set_order s) p (first_of whom) n h.bytes) last_is
+          (subst (λ (n : ℕ). ShowsEach (plain_set_order s) p n last h.bytes) first_is h.are));
       tells = h.tells;
     })
     lines

@@ -5,6 +5,7 @@ pub mod Lines
 pub mod LinkActs
 pub mod Measured
 pub mod Opening
+pub mod SetCounting
 pub mod SetDesks
 pub mod SetDoing
 pub mod SetLaws
@@ -12,6 +13,7 @@ pub mod SetObeying
 pub mod SetOpening
 pub mod SetOrders
 pub mod SetRounds
+pub mod SetShowing
 pub mod Told
 pub use Rattle.line_filter.specs.Filters
 pub use Rattle.line_filter.specs.declared as line_filter_types

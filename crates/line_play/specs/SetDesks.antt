@@ -1,5 +1,5 @@
 -- A set on lines, with its orders and reports.
-use Rattle.std.specs.Prelude.{◌≡◌, ℕ, Bool, true, false, List, [], length, All, Option}
+use Rattle.std.specs.Prelude.{◌≡◌, ℕ, Bool, true, false, List, [], length, All, Option, None}
 use Rattle.line_filter.specs.Orders.{Timed}
 use Rattle.set_tending.specs.Tended.{Tended}
 use Rattle.set_tending.specs.Wires.{IsNewWire}
@@ -8,6 +8,17 @@ use Rattle.line_filter.specs.Reporting.{Stand}
 use Rattle.line_play.specs.LineTraffic.{Traffic}
 use Rattle.line_play.specs.SetRounds.{Made, SetPlace, Rounds, begins, round, waiting_in}
 use Rattle.line_play.specs.declared.set_desk.SetDesk.{SetDesk}
+use Rattle.line_play.specs.declared.set_measures.Since.{Since}
+use Rattle.line_play.specs.declared.set_orders.Focus.TheVariants.{Link as OneLink}
+
+-- all that was counted of a link since it was made
+abbrev pub IsNewCount : Since → Type 0
+IsNewCount s = s.begun ≡ None
+
+-- so it is of each link
+pub record AreNewCounts (links : ℕ) (ss : List Since) : Type 0 where
+  pub count : length ss ≡ links
+  pub new : All IsNewCount ss
 
 -- a line for each link, on which nothing came or went
 pub record AreNewWires (links : ℕ) (ws : List Wire) : Type 0 where
@@ -18,16 +29,20 @@ abbrev pub place_of : {O P : Type 0} → (O → Option (List Timed)) → SetDesk
 place_of left d = record {
   set = d.state.tender;
   wires = d.wires.items;
+  focus = d.state.focus;
+  since = d.state.since.items;
   waiting = waiting_in d.queue;
   left = left d.orders;
 }
 
--- nothing came or went, and no order waits
+-- nothing came or went, no order waits, and orders speak of link 0
 pub record IsNewSetDesk {O P : Type 0} (tender : Tended) (ahead : ℕ) (orders : O) (reports : P)
     (desk : SetDesk O P) : Type 0 where
   pub set : desk.state.tender ≡ tender
   pub wires : AreNewWires tender.plan.links desk.wires.items
   pub ahead_is : desk.ahead ≡ ahead
+  pub focus : desk.state.focus ≡ OneLink 0
+  pub since : AreNewCounts tender.plan.links desk.state.since.items
   pub none_wait : waiting_in desk.queue ≡ []
   pub orders_are : desk.orders ≡ orders
   pub reports_are : desk.reports ≡ reports
@@ -46,12 +61,14 @@ pub record Ran (ahead : ℕ) (p : SetPlace) (bytes : List ℕ) (traffic : List T
   pub rounds : Rounds ahead p bytes traffic goes_on q
   pub some : some_round rounds ≡ true
 
--- A set ran from its first round on: nothing had come or gone, and no order waited. What was told,
--- and what lines were given, is that of its rounds.
+-- A set ran from its first round on: nothing had come or gone, no order waited, and orders spoke of
+-- link 0. What was told, and what lines were given, is that of its rounds.
 pub record RanFrom (ahead : ℕ) (tender : Tended) : Type 0 where
   pub first : SetPlace
   pub set : first.set ≡ tender
   pub wires : AreNewWires tender.plan.links first.wires
+  pub focus : first.focus ≡ OneLink 0
+  pub since : AreNewCounts tender.plan.links first.since
   pub none_wait : first.waiting ≡ []
   pub before : Stand
   pub after : Stand

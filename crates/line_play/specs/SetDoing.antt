@@ -1,24 +1,52 @@
--- What an order to a set changes, and what is told of what it asked for.
-use Rattle.std.specs.Prelude.{◌≡◌, ℕ, ◌+◌, ◌≤◌, true, false, List, [], ◌++◌, None, map, slice_get}
-use Rattle.std.specs.Prelude.{unwrap_or, codes}
-use Rattle.std.specs.Fmt.{decimal}
-use Rattle.script_terminal.specs.MeasureNames.{measure_word}
+-- What an order to a set changes, and why it is refused.
+use Rattle.std.specs.Prelude.{◌≡◌, ℕ, ◌+◌, ◌-◌, ◌^◌, ◌≤◌, min, true, false, List, ◌++◌, codes}
+use Rattle.std.specs.Prelude.{slice_get, slice_set, Option, None, Some, option_map}
+use Rattle.link_group.specs.Printed.{rebalance_error_text}
+use Rattle.script_terminal.specs.Answers.{actor_named, state_line, value_line}
+use Rattle.script_terminal.specs.Term.{Term}
 use Rattle.script_terminal.specs.TermAnswers.{command_of}
 use Rattle.script_terminal.specs.link_processes_types.commands.Command.{Command}
-use Rattle.line_filter.specs.Orders.{told}
-use Rattle.set_tending.specs.Commanding.{is_start}
+use Rattle.set_tending.specs.Commanding.{is_start, command_error_text}
 use Rattle.set_tending.specs.Lines.{ByCommand}
 use Rattle.set_tending.specs.Links.{read_at}
 use Rattle.set_tending.specs.Placing.{rebalance_fault, rebalanced}
-use Rattle.set_tending.specs.Reading.{held_count, sent_count}
-use Rattle.set_tending.specs.Sharing.{link_of, selections}
+use Rattle.set_tending.specs.Reading.{book_of, terminal_of}
 use Rattle.set_tending.specs.Tended.{Tended}
-use Rattle.set_tending.specs.Texts.{told_text}
-use Rattle.set_tending.specs.declared.told.Told.TheVariants.{Shared}
+use Rattle.set_tending.specs.group_changeover_types.errors.RebalanceError.{RebalanceError}
+use Rattle.link_group.specs.group_members_types.commanding.CommandError.{CommandError}
+use Rattle.line_play.specs.declared.set_measures.Since.{Since}
 use Rattle.line_play.specs.declared.set_orders.Focus.{Focus}
 use Rattle.line_play.specs.declared.set_orders.Focus.TheVariants.{Link as OneLink, All}
+use Rattle.line_play.specs.declared.set_state.SetState.{SetState}
+use Rattle.line_play.specs.SetCounting.{begun_at}
 use Rattle.line_play.specs.SetOrders.{PlainSetOrder, on, links, state, value, measuring, aborted}
 use Rattle.line_play.specs.SetOrders.{measures, resetting, send, table, held, unsure, rebalance}
+
+-- ---- of which links orders speak
+
+-- a set, and which links the next order speaks of
+pub record Stood : Type 0 where
+  pub tender : Tended
+  pub focus : Focus
+  -- what its links had measured as their counts began anew
+  pub since : List Since
+
+abbrev pub stood : SetState → Stood
+stood s = record { tender = s.tender; focus = s.focus; since = s.since.items }
+
+-- from the first to before the last
+abbrev pub first_of : Focus → ℕ
+first_of (OneLink l) = l
+first_of All = 0
+
+abbrev pub last_of : Focus → Tended → ℕ
+last_of (OneLink l) t = min (2 ^ 64 - 1) (l + 1)
+last_of All t = t.plan.links
+
+-- there is no such link
+abbrev pub IsNoLink : Focus → Tended → Type 0
+IsNoLink (OneLink l) t = t.plan.links ≤ l
+IsNoLink All t = ⊥
 
 -- ---- what it changes
 
@@ -34,160 +62,136 @@ pub data ObeyEach (command : Command) (first : ℕ) (t : Tended) : ℕ → Tende
       → ObeyEach command first t last u → ObeysAt command last u w
       → ObeyEach command first t (last + 1) w
 
-pub record Commands (command : Command) (t u : Tended) : Type 0 where
-  pub first : ℕ
-  pub last : ℕ
-  pub each : ObeyEach command first t last u
+-- those of which it speaks obey it
+pub record Commands (command : Command) (whom : Focus) (p q : Stood) : Type 0 where
+  pub each : ObeyEach command (first_of whom) p.tender (last_of whom p.tender) q.tender
+  pub same : q ≡ record p { tender = q.tender }
+
+-- orders speak of these links from now on
+pub record Looks (focus : Focus) (p q : Stood) : Type 0 where
+  pub there : IsNoLink focus p.tender → ⊥
+  pub is : q ≡ record p { focus = focus }
+
+-- the terminal of a link, where it is there
+abbrev pub terminal_at : Tended → ℕ → Option Term
+terminal_at t l = read_at terminal_of (slice_get t.set.links l)
+
+-- counts of a link begin anew
+abbrev pub reset_to : ℕ → Option Term → List Since → List Since
+reset_to l None since = since
+reset_to l (Some t) since = slice_set since l (begun_at t)
+
+abbrev pub reset_at : ℕ → Stood → Stood
+reset_at l p = record p { since = reset_to l (terminal_at p.tender l) p.since }
+
+-- of links one after another, from the first to before the last
+pub data ResetEach (first : ℕ) (p : Stood) : ℕ → Stood → Type 0 where
+  none_reset : ResetEach first p first p
+  one_reset : {last : ℕ} {q : Stood} → ResetEach first p last q
+      → ResetEach first p (last + 1) (reset_at last q)
+
+abbrev pub Resets : Focus → Stood → Stood → Type 0
+Resets whom p q = ResetEach (first_of whom) p (last_of whom p.tender) q
 
 -- selections are shared out anew
-pub record Rebalances (t u : Tended) : Type 0 where
-  pub may : rebalance_fault t.set ≡ None
-  pub is : u ≡ record t { set = rebalanced t.set }
+pub record Rebalances (p q : Stood) : Type 0 where
+  pub may : rebalance_fault p.tender.set ≡ None
+  pub is : q ≡ record p { tender = record p.tender { set = rebalanced p.tender.set } }
 
--- an order to links is that command to each of some, and a question changes nothing
-abbrev pub Changes : PlainSetOrder → Tended → Tended → Type 0
-Changes (on focus) t u = u ≡ t
-Changes (links order) t u = Commands (command_of order) t u
-Changes (state process) t u = u ≡ t
-Changes (value process variable) t u = u ≡ t
-Changes (measuring measure) t u = u ≡ t
-Changes aborted t u = u ≡ t
-Changes measures t u = u ≡ t
-Changes resetting t u = u ≡ t
-Changes (send octets) t u = ⊥
-Changes table t u = u ≡ t
-Changes held t u = u ≡ t
-Changes unsure t u = u ≡ t
-Changes rebalance t u = Rebalances t u
+-- An order to links is that command to each of those of which it speaks, `measure reset` has counts
+-- of these begin anew, and a question changes nothing.
+abbrev pub Changes : PlainSetOrder → Focus → Stood → Stood → Type 0
+Changes (on focus) whom p q = Looks focus p q
+Changes (links order) whom p q = Commands (command_of order) whom p q
+Changes (state process) whom p q = q ≡ p
+Changes (value process variable) whom p q = q ≡ p
+Changes (measuring measure) whom p q = q ≡ p
+Changes aborted whom p q = q ≡ p
+Changes measures whom p q = q ≡ p
+Changes resetting whom p q = Resets whom p q
+Changes (send octets) whom p q = ⊥
+Changes table whom p q = q ≡ p
+Changes held whom p q = q ≡ p
+Changes unsure whom p q = q ≡ p
+Changes rebalance whom p q = Rebalances p q
 
 -- ---- why it is refused, and what it has done then
 
 -- there is no such link
-abbrev pub IsNoLink : Focus → Tended → Type 0
-IsNoLink (OneLink l) t = t.plan.links ≤ l
-IsNoLink All t = ⊥
+pub record NoFocus (focus : Focus) (p : Stood) (why : List ℕ) (q : Stood) : Type 0 where
+  pub none_there : IsNoLink focus p.tender
+  pub why_is : why ≡ codes "K1 NoLink"
+  pub same : q ≡ p
 
-pub record NoFocus (focus : Focus) (t u : Tended) : Type 0 where
-  pub none_there : IsNoLink focus t
-  pub same : u ≡ t
+-- the set refuses it, and that is told by its code and name
+pub record NoRebalance (p : Stood) (why : List ℕ) (q : Stood) : Type 0 where
+  pub error : RebalanceError
+  pub fault : rebalance_fault p.tender.set ≡ Some error
+  pub why_is : why ≡ rebalance_error_text error
+  pub same : q ≡ p
 
-pub record NoRebalance (t u : Tended) : Type 0 where
-  pub fault : rebalance_fault t.set ≡ None → ⊥
-  pub same : u ≡ t
+-- what a link may refuse a command for
+pub record IsFault (why : List ℕ) : Type 0 where
+  pub error : CommandError
+  pub is : why ≡ command_error_text error
+
+-- a link refuses it, and only the set may have changed
+pub record NoCommand (p : Stood) (why : List ℕ) (q : Stood) : Type 0 where
+  pub fault : IsFault why
+  pub same : q ≡ record p { tender = q.tender }
+
+-- the line that a script prints for the state of an actor of a link, or for the value of one of its
+-- variables, where the link is there
+abbrev pub state_at : List ℕ → Tended → ℕ → Option (List ℕ)
+state_at process t l =
+    option_map (λ b. state_line b (actor_named b process))
+    (read_at book_of (slice_get t.set.links l))
+
+abbrev pub value_at : List ℕ → List ℕ → Tended → ℕ → Option (List ℕ)
+value_at process variable t l =
+    option_map (λ b. value_line b variable (actor_named b process))
+    (read_at book_of (slice_get t.set.links l))
+
+-- such a line is a refusal
+pub record NotShown (line : Option (List ℕ)) (p : Stood) (why : List ℕ) (q : Stood) : Type 0 where
+  pub refused : line ≡ Some (codes "refused " ++ why)
+  pub same : q ≡ p
 
 -- Links may refuse a command, and the state of an actor or a variable isn't told where the text has
 -- no such name. Nothing else is refused but `on` and `rebalance`. Only links that obeyed may have
 -- changed.
-abbrev pub Refuses : PlainSetOrder → Tended → Tended → Type 0
-Refuses (on focus) t u = NoFocus focus t u
-Refuses (links order) t u = Unit {0}
-Refuses (state process) t u = u ≡ t
-Refuses (value process variable) t u = u ≡ t
-Refuses (measuring measure) t u = ⊥
-Refuses aborted t u = ⊥
-Refuses measures t u = ⊥
-Refuses resetting t u = ⊥
-Refuses (send octets) t u = ⊥
-Refuses table t u = ⊥
-Refuses held t u = ⊥
-Refuses unsure t u = ⊥
-Refuses rebalance t u = NoRebalance t u
+abbrev pub Refuses : PlainSetOrder → Focus → Stood → List ℕ → Stood → Type 0
+Refuses (on focus) whom p why q = NoFocus focus p why q
+Refuses (links order) whom p why q = NoCommand p why q
+Refuses (state process) whom p why q =
+    NotShown (state_at process p.tender (first_of whom)) p why q
+Refuses (value process variable) whom p why q =
+    NotShown (value_at process variable p.tender (first_of whom)) p why q
+Refuses (measuring measure) whom p why q = ⊥
+Refuses aborted whom p why q = ⊥
+Refuses measures whom p why q = ⊥
+Refuses resetting whom p why q = ⊥
+Refuses (send octets) whom p why q = ⊥
+Refuses table whom p why q = ⊥
+Refuses held whom p why q = ⊥
+Refuses unsure whom p why q = ⊥
+Refuses rebalance whom p why q = NoRebalance p why q
 
--- ---- what is told of links
+-- no such line is a refusal, where one is asked for
+abbrev pub IsShowable : Option (List ℕ) → Type 0
+IsShowable line = (why : List ℕ) → line ≡ Some (codes "refused " ++ why) → ⊥
 
--- the state of an actor, and the value of one of its variables, which are the text's own words
-pub record IsState (process text : List ℕ) : Type 0 where
-  pub link : ℕ
-  pub what : List ℕ
-  pub are : text ≡ decimal link ++ (codes " state " ++ (process ++ (codes " " ++ what)))
-
-pub record IsValue (process variable text : List ℕ) : Type 0 where
-  pub link : ℕ
-  pub what : List ℕ
-  pub are :
-      text
-      ≡ decimal link
-      ++ (codes " value " ++ (process ++ (codes " " ++ (variable ++ (codes " " ++ what)))))
-
--- a count that has this name
-pub record IsCount (name text : List ℕ) : Type 0 where
-  pub link : ℕ
-  pub count : ℕ
-  pub are : text ≡ decimal link ++ (codes " measure " ++ (name ++ (codes " " ++ decimal count)))
-
--- any count
-pub record IsMeasured (text : List ℕ) : Type 0 where
-  pub name : List ℕ
-  pub is : IsCount name text
-
--- the name of the count of aborted proving periods
-abbrev pub ABORTED : List ℕ
-ABORTED = codes "aborted_periods"
-
--- a line about a link that is asked for
-abbrev pub IsShown : PlainSetOrder → List ℕ → Type 0
-IsShown (on focus) text = ⊥
-IsShown (links order) text = ⊥
-IsShown (state process) text = IsState process text
-IsShown (value process variable) text = IsValue process variable text
-IsShown (measuring measure) text = IsCount (measure_word measure) text
-IsShown aborted text = IsCount ABORTED text
-IsShown measures text = IsMeasured text
-IsShown resetting text = ⊥
-IsShown (send octets) text = ⊥
-IsShown table text = ⊥
-IsShown held text = ⊥
-IsShown unsure text = ⊥
-IsShown rebalance text = ⊥
-
--- such lines, with a millisecond; none where nothing is asked for
-pub data ShowsLines (said : PlainSetOrder) (now : ℕ) : List ℕ → Type 0 where
-  no_line : ShowsLines said now []
-  one_line : {bytes : List ℕ} (text : List ℕ) → ShowsLines said now bytes → IsShown said text
-      → ShowsLines said now (bytes ++ told now text)
-
--- ---- what is told of the set
-
--- how many messages a link holds, and how many of them are sent and not acknowledged
-abbrev pub held_text : Tended → ℕ → List ℕ
-held_text t l =
-    decimal l
-    ++ (codes " held "
-    ++ (decimal (unwrap_or (read_at held_count (slice_get t.set.links l)) 0)
-    ++ (codes " sent " ++ decimal (unwrap_or (read_at sent_count (slice_get t.set.links l)) 0))))
-
--- of the first so many links
-pub data ShowsHeld (t : Tended) : ℕ → List ℕ → Type 0 where
-  no_link : ShowsHeld t 0 []
-  one_link : {l : ℕ} {bytes : List ℕ} → ShowsHeld t l bytes
-      → ShowsHeld t (l + 1) (bytes ++ told t.ticks (held_text t l))
-
--- the link of each selection
-abbrev pub table_text : Tended → List ℕ
-table_text t = told_text (Shared (map (link_of t.set.table) selections))
-
-abbrev pub unsure_text : Tended → List ℕ
-unsure_text t = codes "unsure " ++ decimal t.set.unsure
-
--- ---- what is told of an order that was obeyed
-
-abbrev pub Shows : PlainSetOrder → Tended → List ℕ → Type 0
-Shows (on focus) t bytes = ShowsLines (on focus) t.ticks bytes
-Shows (links order) t bytes = ShowsLines (links order) t.ticks bytes
-Shows (state process) t bytes = ShowsLines (state process) t.ticks bytes
-Shows (value process variable) t bytes = ShowsLines (value process variable) t.ticks bytes
-Shows (measuring measure) t bytes = ShowsLines (measuring measure) t.ticks bytes
-Shows aborted t bytes = ShowsLines aborted t.ticks bytes
-Shows measures t bytes = ShowsLines measures t.ticks bytes
-Shows resetting t bytes = ShowsLines resetting t.ticks bytes
-Shows (send octets) t bytes = ShowsLines (send octets) t.ticks bytes
-Shows table t bytes = bytes ≡ told t.ticks (table_text t)
-Shows held t bytes = ShowsHeld t t.plan.links bytes
-Shows unsure t bytes = bytes ≡ told t.ticks (unsure_text t)
-Shows rebalance t bytes = ShowsLines rebalance t.ticks bytes
-
--- it is told as obeyed, and behind it what it asked for
-pub record IsAnswer (said : PlainSetOrder) (t : Tended) (order bytes : List ℕ) : Type 0 where
-  pub more : List ℕ
-  pub shows : Shows said t more
-  pub are : bytes ≡ told t.ticks (codes "ok " ++ order) ++ more
+abbrev pub MayShow : PlainSetOrder → Focus → Tended → Type 0
+MayShow (on focus) whom t = Unit {0}
+MayShow (links order) whom t = Unit {0}
+MayShow (state process) whom t = IsShowable (state_at process t (first_of whom))
+MayShow (value process variable) whom t = IsShowable (value_at process variable t (first_of whom))
+MayShow (measuring measure) whom t = Unit {0}
+MayShow aborted whom t = Unit {0}
+MayShow measures whom t = Unit {0}
+MayShow resetting whom t = Unit {0}
+MayShow (send octets) whom t = Unit {0}
+MayShow table whom t = Unit {0}
+MayShow held whom t = Unit {0}
+MayShow unsure whom t = Unit {0}
+MayShow rebalance whom t = Unit {0}

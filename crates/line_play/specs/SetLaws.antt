@@ -7,8 +7,10 @@ use Rattle.set_tending.specs.Telling.{report_in}
 use Rattle.set_tending.specs.Tended.{Tended}
 use Rattle.set_tending.specs.declared.told.Told.{Told}
 use Rattle.line_play.specs.LineTraffic.{Traffic}
+use Rattle.line_play.specs.SetDoing.{Stood}
 use Rattle.line_play.specs.SetObeying.{Obeys, sends, does, refuses}
-use Rattle.line_play.specs.SetRounds.{Tells, nothing, one, ObeysWaiting, rests, obeys}
+use Rattle.line_play.specs.declared.set_orders.Focus.{Focus}
+use Rattle.line_play.specs.SetRounds.{Waited, Tells, nothing, one, ObeysWaiting, rests, obeys}
 use Rattle.line_play.specs.SetRounds.{TakesOrder, at_once, behind, report, Attends, waited, comes}
 use Rattle.line_play.specs.SetRounds.{AttendsAll, none_due, full, quits, SetPlace}
 use Rattle.line_play.specs.SetRounds.{Rounds, begins, round}
@@ -16,36 +18,37 @@ use Rattle.line_play.specs.SetRounds.{Rounds, begins, round}
 -- ---- the messages of orders that were told as ok, in their order
 
 abbrev pub sent_in :
-    {order : List ℕ} {t : Tended} {bytes : List ℕ} {u : Tended} → Obeys order t bytes u → List Msu
-sent_in (sends m said acts) = m ∷ []
-sent_in (does said is none_there adds changes answer) = []
+    {order : List ℕ} {whom : Focus} {p : Stood} {bytes : List ℕ} {q : Stood}
+    → Obeys order whom p bytes q → List Msu
+sent_in (sends m said room acts) = m ∷ []
+sent_in (does said is none_there may adds changes answer) = []
 sent_in (refuses why is) = []
 
 abbrev pub sent_waiting :
-    {t : Tended} {waiting : List (List ℕ)} {bytes : List ℕ} {u : Tended} {now : List (List ℕ)}
-    → ObeysWaiting t waiting bytes u now → List Msu
+    {p : Stood} {waiting : List Waited} {bytes : List ℕ} {q : Stood} {now : List Waited}
+    → ObeysWaiting p waiting bytes q now → List Msu
 sent_waiting rests = []
-sent_waiting (obeys order more left before first made) = sent_waiting before ++ sent_in made
+sent_waiting (obeys first more left before is made) = sent_waiting before ++ sent_in made
 
 abbrev pub sent_taking :
-    {order : List ℕ} {t : Tended} {waiting : List (List ℕ)} {bytes : List ℕ} {u : Tended}
-    {now : List (List ℕ)} → TakesOrder order t waiting bytes u now → List Msu
+    {order : List ℕ} {p : Stood} {waiting : List Waited} {bytes : List ℕ} {q : Stood}
+    {now : List Waited} → TakesOrder order p waiting bytes q now → List Msu
 sent_taking (at_once may made) = sent_in made
-sent_taking (behind waits) = []
+sent_taking (behind waits last) = []
 sent_taking (report none_there) = []
 
 abbrev pub sent_attending :
-    {t : Tended} {waiting : List (List ℕ)} {left : Option (List Timed)} {bytes : List ℕ}
-    {u : Tended} {now : List (List ℕ)} {last : Option (List Timed)}
-    → Attends t waiting left bytes u now last → List Msu
+    {p : Stood} {waiting : List Waited} {left : Option (List Timed)} {bytes : List ℕ}
+    {q : Stood} {now : List Waited} {last : Option (List Timed)}
+    → Attends p waiting left bytes q now last → List Msu
 sent_attending (waited before last) = sent_waiting before
-sent_attending (comes order more w later last before next no_end taken) =
+sent_attending (comes order more r later last before next no_end taken) =
     sent_attending before ++ sent_taking taken
 
 abbrev pub sent_by_all :
-    {t : Tended} {waiting : List (List ℕ)} {left : Option (List Timed)} {bytes : List ℕ}
-    {goes_on : Bool} {u : Tended} {now : List (List ℕ)} {last : Option (List Timed)}
-    → AttendsAll t waiting left bytes goes_on u now last → List Msu
+    {p : Stood} {waiting : List Waited} {left : Option (List Timed)} {bytes : List ℕ}
+    {goes_on : Bool} {q : Stood} {now : List Waited} {last : Option (List Timed)}
+    → AttendsAll p waiting left bytes goes_on q now last → List Msu
 sent_by_all (none_due last before none_there) = sent_attending before
 sent_by_all (full before many) = sent_attending before
 sent_by_all (quits last before next) = sent_attending before

@@ -2,6 +2,7 @@
 use Rattle.std.specs.Prelude.{◌≡◌, ◌⊎◌, ℕ, ◌<◌, if◌then◌else◌, List, [], ◌∷◌, ◌++◌, length, codes}
 use Rattle.std.specs.Prelude.{Option, None, Some}
 use Rattle.std.specs.Str.{bytes_eq}
+use Rattle.link_group.specs.Printed.{send_error_text}
 use Rattle.script_lines.specs.Words.{words_of}
 use Rattle.script_links.specs.Octets.{octets_of}
 use Rattle.script_links.specs.resend_store_types.messages.Msu.{Msu}
@@ -12,10 +13,12 @@ use Rattle.set_tending.specs.Rounds.{Acts, Adds}
 use Rattle.set_tending.specs.Sending.{tended_send_fault}
 use Rattle.set_tending.specs.Tended.{Tended}
 use Rattle.set_tending.specs.group_changeover_types.errors.SendError.{SendError}
+use Rattle.line_play.specs.declared.set_orders.Focus.{Focus}
 use Rattle.line_play.specs.declared.set_orders.SetOrder.{SetOrder}
 use Rattle.line_play.specs.declared.set_orders.SetOrder.TheVariants as order
-use Rattle.line_play.specs.SetDoing.{Changes, Refuses, IsAnswer}
+use Rattle.line_play.specs.SetDoing.{Stood, Changes, Refuses, MayShow}
 use Rattle.line_play.specs.SetOrders.{PlainSetOrder, set_order_of}
+use Rattle.line_play.specs.SetShowing.{IsAnswer}
 
 -- the octets of `send HEX`
 abbrev pub sent_by : List (List ℕ) → Option (List ℕ)
@@ -55,41 +58,55 @@ pub record Sends (order : List ℕ) (m : Msu) : Type 0 where
 pub record IsSent (octets : List ℕ) (old new : Tended) : Type 0 where
   pub message : Msu
   pub is : IsMessageOf octets message
+  pub room : tended_send_fault old.set message ≡ None
   pub acts : Acts (message ∷ []) [] old new
 
+-- what is told of a line that reads as no order, or sends what is no message
+abbrev pub BAD_LINE : List ℕ
+BAD_LINE = codes "X1 BadLine"
+
 -- a message isn't taken, and nothing changes: it has no label, or there is a fault
-pub data IsUntaken (m : Msu) (old new : Tended) : Type 0 where
-  no_label : label_in m.sif.items ≡ None → new ≡ old → IsUntaken m old new
-  fault : (why : SendError) → tended_send_fault old.set m ≡ Some why → new ≡ old
-      → IsUntaken m old new
+pub data IsUntaken (m : Msu) (old : Tended) (why : List ℕ) (new : Tended) : Type 0 where
+  no_label : label_in m.sif.items ≡ None → why ≡ BAD_LINE → new ≡ old → IsUntaken m old why new
+  fault : (error : SendError) → tended_send_fault old.set m ≡ Some error
+      → why ≡ send_error_text error → new ≡ old → IsUntaken m old why new
 
 -- nothing changes: these octets are no message, or it isn't taken
-pub data IsTurnedDown (octets : List ℕ) (old new : Tended) : Type 0 where
-  no_message : AreNoMessage octets → new ≡ old → IsTurnedDown octets old new
-  full : (m : Msu) → IsMessageOf octets m → IsUntaken m old new → IsTurnedDown octets old new
+pub data IsTurnedDown (octets : List ℕ) (old : Tended) (why : List ℕ) (new : Tended) :
+    Type 0 where
+  no_message : AreNoMessage octets → why ≡ BAD_LINE → new ≡ old → IsTurnedDown octets old why new
+  full : (m : Msu) → IsMessageOf octets m → IsUntaken m old why new
+      → IsTurnedDown octets old why new
 
 -- ---- an order is obeyed
 
--- Why an order may be refused, and what it has done then. It reads as no order, or it sends what is
--- no message, or its message isn't taken, and nothing changes; or it is another that is refused.
-pub data IsRefused (order : List ℕ) (t u : Tended) : Type 0 where
-  bad : set_order_of (words_of order) ≡ None → u ≡ t → IsRefused order t u
+-- Why an order may be refused, by code and name, and what it has done then. It reads as no order,
+-- or it sends what is no message, or its message isn't taken, and nothing changes; or it is another
+-- that is refused.
+pub data IsRefused (order : List ℕ) (whom : Focus) (p : Stood) (why : List ℕ) (q : Stood) :
+    Type 0 where
+  bad : set_order_of (words_of order) ≡ None → why ≡ BAD_LINE → q ≡ p
+      → IsRefused order whom p why q
   unsent : (octets : List ℕ) → sent_by (words_of order) ≡ Some octets → AreNoMessage octets
-      → u ≡ t → IsRefused order t u
-  untaken : (m : Msu) (why : SendError) → Sends order m → tended_send_fault t.set m ≡ Some why
-      → u ≡ t → IsRefused order t u
+      → why ≡ BAD_LINE → q ≡ p → IsRefused order whom p why q
+  untaken : (m : Msu) (error : SendError) → Sends order m
+      → tended_send_fault p.tender.set m ≡ Some error → why ≡ send_error_text error → q ≡ p
+      → IsRefused order whom p why q
   other : (said : PlainSetOrder) → set_order_of (words_of order) ≡ Some said
-      → sent_by (words_of order) ≡ None → Adds t u → Refuses said t u
-      → IsRefused order t u
+      → sent_by (words_of order) ≡ None → Adds p.tender q.tender → Refuses said whom p why q
+      → IsRefused order whom p why q
 
--- An order is obeyed, and that is told: `send` took its message; or what else its words say is done
--- by calls of the set that take none, and what it asked for is told behind that; or it is refused.
-pub data Obeys (order : List ℕ) (t : Tended) : List ℕ → Tended → Type 0 where
-  sends : {u : Tended} (m : Msu) → Sends order m → Acts (m ∷ []) [] t u
-      → Obeys order t (told u.ticks (codes "ok " ++ order)) u
-  does : {bytes : List ℕ} {u : Tended} (said : PlainSetOrder)
-      → set_order_of (words_of order) ≡ Some said → sent_by (words_of order) ≡ None → Adds t u
-      → Changes said t u → IsAnswer said u order bytes
-      → Obeys order t bytes u
-  refuses : {u : Tended} (why : List ℕ) → IsRefused order t u
-      → Obeys order t (told u.ticks (codes "refused " ++ why)) u
+-- An order about these links is obeyed, and that is told: `send` took its message, for which there
+-- was room; or what else its words say is done by calls of the set that take none, and what it
+-- asked for is told behind that; or it is refused.
+pub data Obeys (order : List ℕ) (whom : Focus) (p : Stood) : List ℕ → Stood → Type 0 where
+  sends : {u : Tended} (m : Msu) → Sends order m → tended_send_fault p.tender.set m ≡ None
+      → Acts (m ∷ []) [] p.tender u
+      → Obeys order whom p (told u.ticks (codes "ok " ++ order)) (record p { tender = u })
+  does : {bytes : List ℕ} {q : Stood} (said : PlainSetOrder)
+      → set_order_of (words_of order) ≡ Some said → sent_by (words_of order) ≡ None
+      → MayShow said whom p.tender → Adds p.tender q.tender → Changes said whom p q
+      → IsAnswer said whom q order bytes
+      → Obeys order whom p bytes q
+  refuses : {q : Stood} (why : List ℕ) → IsRefused order whom p why q
+      → Obeys order whom p (told q.tender.ticks (codes "refused " ++ why)) q

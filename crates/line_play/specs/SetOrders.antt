@@ -1,5 +1,6 @@
 -- What an order to a set says.
-use Rattle.std.specs.Prelude.{◌≡◌, ℕ, nat_lt, Bool, true, false, if◌then◌else◌, List, [], ◌∷◌}
+use Rattle.std.specs.Prelude.{◌≡◌, ℕ, nat_lt, Bool, true, false, not, ◌&&◌, if◌then◌else◌}
+use Rattle.std.specs.Prelude.{List, [], ◌∷◌}
 use Rattle.std.specs.Prelude.{length, codes}
 use Rattle.std.specs.Prelude.{Option, None, Some, option_map, option_and_then}
 use Rattle.std.specs.Str.{bytes_eq}
@@ -141,21 +142,59 @@ is_stop orders.Flush = false
 is_stop orders.Continue = false
 is_stop orders.Overload = false
 
--- `stop`, and which links orders speak of
-abbrev pub overtakes : PlainSetOrder → Bool
-overtakes (on focus) = true
-overtakes (links order) = is_stop order
-overtakes (state process) = false
-overtakes (value process variable) = false
-overtakes (measuring measure) = false
-overtakes aborted = false
-overtakes measures = false
-overtakes resetting = false
-overtakes (send octets) = false
-overtakes table = false
-overtakes held = false
-overtakes unsure = false
-overtakes rebalance = false
+abbrev pub is_start : Order → Bool
+is_start orders.Power = false
+is_start orders.Start = true
+is_start orders.Stop = false
+is_start orders.Emergency = false
+is_start orders.Calm = false
+is_start orders.Outage = false
+is_start orders.Back = false
+is_start orders.Busy = false
+is_start orders.Free = false
+is_start orders.Flush = false
+is_start orders.Continue = false
+is_start orders.Overload = false
+
+-- which links orders speak of, and `stop`, where none that waits starts some
+abbrev pub overtakes : Bool → PlainSetOrder → Bool
+overtakes starts (on focus) = true
+overtakes starts (links order) = is_stop order && not starts
+overtakes starts (state process) = false
+overtakes starts (value process variable) = false
+overtakes starts (measuring measure) = false
+overtakes starts aborted = false
+overtakes starts measures = false
+overtakes starts resetting = false
+overtakes starts (send octets) = false
+overtakes starts table = false
+overtakes starts held = false
+overtakes starts unsure = false
+overtakes starts rebalance = false
+
+-- what starts links
+abbrev pub starts_links : PlainSetOrder → Bool
+starts_links (on focus) = false
+starts_links (links order) = is_start order
+starts_links (state process) = false
+starts_links (value process variable) = false
+starts_links (measuring measure) = false
+starts_links aborted = false
+starts_links measures = false
+starts_links resetting = false
+starts_links (send octets) = false
+starts_links table = false
+starts_links held = false
+starts_links unsure = false
+starts_links rebalance = false
+
+-- where a line says an order
+abbrev pub says_so : (PlainSetOrder → Bool) → Option PlainSetOrder → Bool
+says_so test None = false
+says_so test (Some said) = test said
+
+abbrev pub starts : List ℕ → Bool
+starts order = says_so starts_links (set_order_of (words_of order))
 
 -- what sends a message
 abbrev pub is_send : PlainSetOrder → Bool

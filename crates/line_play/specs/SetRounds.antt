@@ -3,6 +3,7 @@ use Rattle.std.specs.Prelude.{◌≡◌, ◌⊎◌, ℕ, ◌+◌, ◌≤◌, Boo
 use Rattle.std.specs.Prelude.{replicate, slice_get, slice_set, map, codes, string_bytes}
 use Rattle.std.specs.Prelude.{Option, None, Some}
 use Rattle.std.specs.Fmt.{decimal}
+use Rattle.std.specs.List.{list_any}
 use Rattle.script_lines.specs.Words.{words_of}
 use Rattle.line_filter.specs.Orders.{Timed, NextIs, NoneIsDue, QUIT, told}
 use Rattle.line_filter.specs.Reporting.{Stand, TellsLines}
@@ -15,9 +16,13 @@ use Rattle.set_tending.specs.declared.told.Told.{Told}
 use Rattle.set_tending.specs.declared.wire.Passed.{Passed}
 use Rattle.set_tending.specs.declared.wire.Passed.TheVariants.{Same, Silent, Back}
 use Rattle.set_tending.specs.declared.wire.Wire.{Wire}
+use Rattle.line_play.specs.declared.set_orders.Focus.{Focus}
+use Rattle.line_play.specs.declared.set_measures.Since.{Since}
 use Rattle.line_play.specs.declared.set_queue.Queue.{Queue}
+use Rattle.line_play.specs.declared.set_queue.Waiting.{Waiting}
+use Rattle.line_play.specs.SetDoing.{Stood}
 use Rattle.line_play.specs.SetObeying.{Obeys}
-use Rattle.line_play.specs.SetOrders.{SaysSuch, overtakes, is_send, set_order_of}
+use Rattle.line_play.specs.SetOrders.{SaysSuch, overtakes, starts, says_so, is_send, set_order_of}
 use Rattle.line_play.specs.LineTraffic.{Traffic, line_says, Grows, coming, given, silence_for}
 use Rattle.line_play.specs.declared.set_lines.Came.TheVariants as line
 
@@ -110,61 +115,87 @@ pub record TellsAll (t : Tended) (bytes : List ℕ) (u : Tended) : Type 0 where
 abbrev pub MOST_WAITING : ℕ
 MOST_WAITING = 1024
 
+-- an order that waits, with the links of which it speaks, and whether it starts these
+pub record Waited : Type 0 where
+  pub focus : Focus
+  pub text : List ℕ
+  pub starts : Bool
+
+abbrev pub waited_of : Waiting → Waited
+waited_of w = record { focus = w.focus; text = string_bytes w.text; starts = w.starts }
+
 -- the orders that wait
-abbrev pub waiting_in : Queue → List (List ℕ)
-waiting_in q = map (λ w. string_bytes w.text) q.waiting.items
+abbrev pub waiting_in : Queue → List Waited
+waiting_in q = map waited_of q.waiting.items
+
+-- whether the order at a place starts links
+abbrev pub starts_in : Option Waited → Bool
+starts_in None = false
+starts_in (Some w) = w.starts
 
 -- orders that wait are obeyed, from the first on
-pub data ObeysWaiting (t : Tended) (waiting : List (List ℕ)) :
-    List ℕ → Tended → List (List ℕ) → Type 0 where
-  rests : ObeysWaiting t waiting [] t waiting
-  obeys : {bytes : List ℕ} {u w : Tended} {now : List (List ℕ)}
-      (order more : List ℕ) (left : List (List ℕ))
-      → ObeysWaiting t waiting bytes u now → now ≡ order ∷ left → Obeys order u more w
-      → ObeysWaiting t waiting (bytes ++ more) w left
+pub data ObeysWaiting (p : Stood) (waiting : List Waited) :
+    List ℕ → Stood → List Waited → Type 0 where
+  rests : ObeysWaiting p waiting [] p waiting
+  obeys : {bytes : List ℕ} {q r : Stood} {now : List Waited}
+      (first : Waited) (more : List ℕ) (left : List Waited)
+      → ObeysWaiting p waiting bytes q now → now ≡ first ∷ left
+      → Obeys first.text first.focus q more r
+      → ObeysWaiting p waiting (bytes ++ more) r left
 
 -- the first of those that wait, if any do, sends a message
-abbrev pub Rests : List (List ℕ) → Type 0
+abbrev pub Rests : List Waited → Type 0
 Rests [] = Unit {0}
-Rests (order ∷ more) = SaysSuch is_send order
+Rests (first ∷ more) = SaysSuch is_send first.text
 
--- An order comes. It is obeyed at once, where none waits, or it may overtake these; or it waits
--- behind others, or since it sends a message; or it reads as no order.
-pub data TakesOrder (order : List ℕ) (t : Tended) (waiting : List (List ℕ)) :
-    List ℕ → Tended → List (List ℕ) → Type 0 where
-  at_once : {bytes : List ℕ} {u : Tended}
-      → (waiting ≡ []) ⊎ SaysSuch overtakes order → Obeys order t bytes u
-      → TakesOrder order t waiting bytes u waiting
-  behind : (waiting ≡ [] → SaysSuch is_send order)
-      → TakesOrder order t waiting [] t (waiting ++ order ∷ [])
-  report : set_order_of (words_of order) ≡ None → TakesOrder order t waiting [] t waiting
+-- one of them starts links
+abbrev pub any_starts : List Waited → Bool
+any_starts waiting = list_any (λ w. w.starts) waiting
+
+-- an order may overtake those that wait
+abbrev pub goes_first : List Waited → List ℕ → Bool
+goes_first waiting order =
+    says_so (overtakes (any_starts waiting)) (set_order_of (words_of order))
+
+-- An order comes, and speaks of the links that were said last. It is obeyed at once, where none
+-- waits, or it may overtake these; else it waits behind others, or since it sends a message; or it
+-- reads as no order.
+pub data TakesOrder (order : List ℕ) (p : Stood) (waiting : List Waited) :
+    List ℕ → Stood → List Waited → Type 0 where
+  at_once : {bytes : List ℕ} {q : Stood}
+      → (waiting ≡ []) ⊎ (goes_first waiting order ≡ true) → Obeys order p.focus p bytes q
+      → TakesOrder order p waiting bytes q waiting
+  behind : (waiting ≡ [] → SaysSuch is_send order) → goes_first waiting order ≡ false
+      → TakesOrder order p waiting [] p
+      (waiting ++ record { focus = p.focus; text = order; starts = starts order } ∷ [])
+  report : set_order_of (words_of order) ≡ None → TakesOrder order p waiting [] p waiting
 
 -- Orders that wait are obeyed, up to a message that still has to wait, then those that are due come
 -- in their order.
-pub data Attends (t : Tended) (waiting : List (List ℕ)) (left : Option (List Timed)) :
-    List ℕ → Tended → List (List ℕ) → Option (List Timed) → Type 0 where
-  waited : {bytes : List ℕ} {u : Tended} {now : List (List ℕ)}
-      → ObeysWaiting t waiting bytes u now → Rests now → Attends t waiting left bytes u now left
-  comes : {bytes : List ℕ} {u : Tended} {now : List (List ℕ)} {fewer : Option (List Timed)}
-      (order more : List ℕ) (w : Tended) (later : List (List ℕ)) (last : Option (List Timed))
-      → Attends t waiting left bytes u now fewer → NextIs u.ticks fewer order last
-      → (order ≡ QUIT → ⊥) → TakesOrder order u now more w later
-      → Attends t waiting left (bytes ++ more) w later last
+pub data Attends (p : Stood) (waiting : List Waited) (left : Option (List Timed)) :
+    List ℕ → Stood → List Waited → Option (List Timed) → Type 0 where
+  waited : {bytes : List ℕ} {q : Stood} {now : List Waited}
+      → ObeysWaiting p waiting bytes q now → Rests now → Attends p waiting left bytes q now left
+  comes : {bytes : List ℕ} {q : Stood} {now : List Waited} {fewer : Option (List Timed)}
+      (order more : List ℕ) (r : Stood) (later : List Waited) (last : Option (List Timed))
+      → Attends p waiting left bytes q now fewer → NextIs q.tender.ticks fewer order last
+      → (order ≡ QUIT → ⊥) → TakesOrder order q now more r later
+      → Attends p waiting left (bytes ++ more) r later last
 
 -- The run goes on where none is due any more, or no more may wait. It ends with `quit`.
-pub data AttendsAll (t : Tended) (waiting : List (List ℕ)) (left : Option (List Timed)) :
-    List ℕ → Bool → Tended → List (List ℕ) → Option (List Timed) → Type 0 where
-  none_due : {bytes : List ℕ} {u : Tended} {now : List (List ℕ)} {fewer : Option (List Timed)}
+pub data AttendsAll (p : Stood) (waiting : List Waited) (left : Option (List Timed)) :
+    List ℕ → Bool → Stood → List Waited → Option (List Timed) → Type 0 where
+  none_due : {bytes : List ℕ} {q : Stood} {now : List Waited} {fewer : Option (List Timed)}
       (last : Option (List Timed))
-      → Attends t waiting left bytes u now fewer → NoneIsDue u.ticks fewer last
-      → AttendsAll t waiting left bytes true u now last
-  full : {bytes : List ℕ} {u : Tended} {now : List (List ℕ)} {fewer : Option (List Timed)}
-      → Attends t waiting left bytes u now fewer → MOST_WAITING ≤ length now
-      → AttendsAll t waiting left bytes true u now fewer
-  quits : {bytes : List ℕ} {u : Tended} {now : List (List ℕ)} {fewer : Option (List Timed)}
+      → Attends p waiting left bytes q now fewer → NoneIsDue q.tender.ticks fewer last
+      → AttendsAll p waiting left bytes true q now last
+  full : {bytes : List ℕ} {q : Stood} {now : List Waited} {fewer : Option (List Timed)}
+      → Attends p waiting left bytes q now fewer → MOST_WAITING ≤ length now
+      → AttendsAll p waiting left bytes true q now fewer
+  quits : {bytes : List ℕ} {q : Stood} {now : List Waited} {fewer : Option (List Timed)}
       (last : Option (List Timed))
-      → Attends t waiting left bytes u now fewer → NextIs u.ticks fewer QUIT last
-      → AttendsAll t waiting left (bytes ++ told u.ticks (codes "ok quit")) false u now last
+      → Attends p waiting left bytes q now fewer → NextIs q.tender.ticks fewer QUIT last
+      → AttendsAll p waiting left (bytes ++ told q.tender.ticks (codes "ok quit")) false q now last
 
 -- ---- a round
 
@@ -172,8 +203,12 @@ pub record SetPlace : Type 0 where
   pub set : Tended
   -- what goes out on each line, and for how long it has been quiet
   pub wires : List Wire
+  -- which links the next order speaks of
+  pub focus : Focus
+  -- what links had measured as their counts began anew
+  pub since : List Since
   -- the orders that wait
-  pub waiting : List (List ℕ)
+  pub waiting : List Waited
   -- those that are to come, where that is known
   pub left : Option (List Timed)
 
@@ -194,7 +229,9 @@ pub record IsRound (ahead : ℕ) (p : SetPlace) (bytes : List ℕ) (traffic : Li
   pub tells : TellsAll tended second calm
   pub obeyed : Tended
   pub third : List ℕ
-  pub attends : AttendsAll calm p.waiting p.left third goes_on obeyed q.waiting q.left
+  pub attends :
+      AttendsAll (record { tender = calm; focus = p.focus; since = p.since }) p.waiting p.left third
+      goes_on (record { tender = obeyed; focus = q.focus; since = q.since }) q.waiting q.left
   pub fourth : List ℕ
   pub tells_more : TellsAll obeyed fourth q.set
   pub are : bytes ≡ ((first ++ second) ++ third) ++ fourth

@@ -1,20 +1,23 @@
 //! What orders to a set lead to.
-ghost use Rattle.std.specs.Prelude.{◌≡◌, ◌++◌, ◌∷◌, [], IfOk, IsSome, IsNone, OnOk, None, Some, codes};
+ghost use Rattle.std.specs.Prelude.{◌≡◌, ◌≤◌, ◌++◌, ◌∷◌, List, ℕ, [], true, false, IfOk, IfSome, IsSome, IsNone, OnOk, None, Some, codes, string_bytes};
 ghost use Rattle.script_lines.specs.Words.{words_of};
 ghost use Rattle.line_filter.specs.Desks.{Told as TellsSuch};
 ghost use Rattle.line_filter.specs.Orders.{told};
 ghost use Rattle.line_filter.specs.Reporting.{TellsLines};
+ghost use Rattle.set_tending.specs.Commanding.{command_error_text};
 ghost use Rattle.set_tending.specs.Rounds.{Acts, Adds};
+ghost use Rattle.set_tending.specs.Sending.{tended_send_fault};
 ghost use Rattle.script_terminal.specs.TermAnswers.{command_of};
-ghost use Rattle.line_play.specs.SetDoing.{ObeysAt, Commands, Rebalances, NoFocus, NoRebalance, Changes, Refuses, IsAnswer};
+ghost use Rattle.line_play.specs.SetDoing.{stood, first_of, IsNoLink, ObeysAt, ObeyEach, Commands, Looks, Rebalances, NoFocus, NoRebalance, IsFault, state_at, value_at, IsShowable, MayShow, Changes, Refuses};
 ghost use Rattle.line_play.specs.SetObeying.{Obeys, IsSent, IsUntaken, IsTurnedDown, octets_sent, sent_by};
 ghost use Rattle.line_play.specs.SetOrders.{plain_set_order, set_order_of};
+ghost use Rattle.line_play.specs.SetShowing.{IsAnswer};
 
 use crate::set_orders::{Focus, SetOrder, set_order_in};
 use crate::set_state::SetState;
 use crate::texts::{refusal_in, text_of};
 use line_filter::Reports;
-use script_terminal::{command_of, message, state_line, value_line};
+use script_terminal::{command_of, message};
 use set_tending::{CommandError, Msu, Tender, label_of};
 use std::alloc::{AllocError, Global};
 use std::io;
@@ -24,13 +27,17 @@ type Refused = String;
 
 /// A refusal as a text.
 fn refusal<D: std::fmt::Display>(alloc: Global, why: &D) -> Result<Option<Refused>, AllocError>
-    ensures { IfOk result (λ r. IsSome r) }
+    ensures some { IfOk result (λ r. IsSome r) }
+    ensures text { IfOk result (λ r. IfSome r (λ told. IfSome (D.output why.now) (λ text. string_bytes told ≡ text))) }
 {
     Ok(Some(format!(in alloc; "{why}")?))
 }
 
 /// Why a question was refused, where the line that a script prints for it says that.
-fn why_refused(alloc: Global, line: &[u8]) -> io::Result<Option<Refused>> {
+fn why_refused(alloc: Global, line: &[u8]) -> io::Result<Option<Refused>>
+    ensures some { IfOk result (λ r. IfSome r (λ why. line.now ≡ codes "refused " ++ string_bytes why)) }
+    ensures none { IfOk result (λ r. IsNone r → (why : List ℕ) → line.now ≡ codes "refused " ++ why → ⊥) }
+{
     match refusal_in(line) {
         Some(why) => Ok(Some(text_of(alloc, why)?)),
         None => Ok(None),
@@ -39,13 +46,10 @@ fn why_refused(alloc: Global, line: &[u8]) -> io::Result<Option<Refused>> {
 
 /// What a command was refused for; none, where it was obeyed.
 fn refused_for(alloc: Global, error: Option<CommandError>) -> Result<Option<Refused>, AllocError>
-    ensures { IfOk result (λ r. IsNone r → IsNone error) }
+    ensures none { IfOk result (λ r. IsNone r → IsNone error) }
+    ensures some { IfOk result (λ r. IfSome r (λ why. IsFault (string_bytes why))) }
 {
     match error {
-        Some(CommandError::Refused(why)) => {
-            let name = why.name();
-            refusal(alloc, &name)
-        }
         Some(error) => refusal(alloc, &error),
         None => Ok(None),
     }
@@ -76,8 +80,9 @@ fn obey_links(
     to: usize,
     order: script_links::Order,
 ) -> Result<Option<CommandError>, AllocError>
+    requires { from ≤ to }
     ensures adds { OnOk result (Adds tender.old tender.new) }
-    ensures obeys { IfOk result (λ r. IsNone r → Commands (command_of order) tender.old tender.new) }
+    ensures obeys { IfOk result (λ r. IsNone r → ObeyEach (command_of order) from tender.old to tender.new) }
 {
     let mut first: Option<CommandError> = None;
     for link in from..to {
@@ -88,8 +93,9 @@ fn obey_links(
 
 /// Sends a message. Why not, if it isn't taken.
 fn send_message(alloc: Global, tender: &mut Tender, msu: Msu) -> Result<Option<Refused>, AllocError>
+    ensures room { IfOk result (λ r. IsNone r → tended_send_fault tender.old.set msu ≡ None) }
     ensures sent { IfOk result (λ r. IsNone r → Acts (msu ∷ []) [] tender.old tender.new) }
-    ensures refused { IfOk result (λ r. IsSome r → IsUntaken msu tender.old tender.new) }
+    ensures refused { IfOk result (λ r. IfSome r (λ why. IsUntaken msu tender.old (string_bytes why) tender.new)) }
 {
     match label_of(&msu) {
         Some(label) => match tender.send(label, msu) {
@@ -107,7 +113,7 @@ fn obey_send(
     octets: &[u8],
 ) -> Result<Option<Refused>, AllocError>
     ensures sent { IfOk result (λ r. IsNone r → IsSent octets.now tender.old tender.new) }
-    ensures refused { IfOk result (λ r. IsSome r → IsTurnedDown octets.now tender.old tender.new) }
+    ensures refused { IfOk result (λ r. IfSome r (λ why. IsTurnedDown octets.now tender.old (string_bytes why) tender.new)) }
 {
     match message(octets) {
         Some(msu) => send_message(alloc, tender, msu),
@@ -122,10 +128,13 @@ impl SetState {
         alloc: Global,
         focus: Focus,
         process: &str,
-    ) -> io::Result<Option<Refused>> {
+    ) -> io::Result<Option<Refused>>
+        ensures some { IfOk result (λ r. IfSome r (λ why. state_at process.now self.now.tender (first_of focus) ≡ Some (codes "refused " ++ string_bytes why))) }
+        ensures none { IfOk result (λ r. IsNone r → IsShowable (state_at process.now self.now.tender (first_of focus))) }
+    {
         let (first, _) = self.links(focus);
-        match self.tender.set().book(first) {
-            Some(book) => why_refused(alloc, &state_line(alloc, book, process)?),
+        match self.state_line(alloc, first, process)? {
+            Some(line) => why_refused(alloc, line.as_slice()),
             None => Ok(None),
         }
     }
@@ -137,10 +146,13 @@ impl SetState {
         focus: Focus,
         process: &str,
         variable: &str,
-    ) -> io::Result<Option<Refused>> {
+    ) -> io::Result<Option<Refused>>
+        ensures some { IfOk result (λ r. IfSome r (λ why. value_at process.now variable.now self.now.tender (first_of focus) ≡ Some (codes "refused " ++ string_bytes why))) }
+        ensures none { IfOk result (λ r. IsNone r → IsShowable (value_at process.now variable.now self.now.tender (first_of focus))) }
+    {
         let (first, _) = self.links(focus);
-        match self.tender.set().book(first) {
-            Some(book) => why_refused(alloc, &value_line(alloc, book, process, variable)?),
+        match self.value_line(alloc, first, process, variable)? {
+            Some(line) => why_refused(alloc, line.as_slice()),
             None => Ok(None),
         }
     }
@@ -152,7 +164,8 @@ impl SetState {
         focus: Focus,
         order: &SetOrder<'_>,
     ) -> io::Result<Option<Refused>>
-        ensures { IfOk result (λ r. IsSome r → Refuses (plain_set_order order.now) self.now.tender self.now.tender) }
+        ensures some { IfOk result (λ r. IfSome r (λ why. Refuses (plain_set_order order.now) focus (stood self.now) (string_bytes why) (stood self.now))) }
+        ensures none { IfOk result (λ r. IsNone r → MayShow (plain_set_order order.now) focus self.now.tender) }
     {
         match order {
             SetOrder::State(process) => self.why_no_state(alloc, focus, process),
@@ -171,22 +184,35 @@ impl SetState {
         order: script_links::Order,
     ) -> Result<Option<Refused>, AllocError>
         ensures adds { OnOk result (Adds self.old.tender self.new.tender) }
-        ensures obeys { IfOk result (λ r. IsNone r → Commands (command_of order) self.old.tender self.new.tender) }
+        ensures focus { self.new.focus ≡ self.old.focus }
+        ensures since { self.new.since.items ≡ self.old.since.items }
+        ensures obeys { IfOk result (λ r. IsNone r → Commands (command_of order) focus (stood self.old) (stood self.new)) }
+        ensures fault { IfOk result (λ r. IfSome r (λ why. IsFault (string_bytes why))) }
     {
         let (from, to) = self.links(focus);
         let first = obey_links(&mut self.tender, from, to, order)?;
         refused_for(alloc, first)
     }
 
+    /// Whether these links are there.
+    fn is_there(&self, focus: Focus) -> bool
+        ensures there { result ≡ true → IsNoLink focus self.now.tender → ⊥ }
+        ensures none { result ≡ false → IsNoLink focus self.now.tender }
+    {
+        match focus {
+            Focus::Link(link) => link < self.tender.len(),
+            Focus::All => true,
+        }
+    }
+
     /// `on L` and `on all`: orders speak of these links from now on.
     fn look_at(&mut self, alloc: Global, focus: Focus) -> Result<Option<Refused>, AllocError>
         ensures same { self.new.tender ≡ self.old.tender }
-        ensures none { IfOk result (λ r. IsSome r → NoFocus focus self.old.tender self.new.tender) }
+        ensures looks { IfOk result (λ r. IsNone r → Looks focus (stood self.old) (stood self.new)) }
+        ensures none { IfOk result (λ r. IfSome r (λ why. NoFocus focus (stood self.old) (string_bytes why) (stood self.new))) }
     {
-        if let Focus::Link(link) = focus {
-            if link >= self.tender.len() {
-                return refusal(alloc, &"K1 NoLink");
-            }
+        if !self.is_there(focus) {
+            return refusal(alloc, &"K1 NoLink");
         }
         self.focus = focus;
         Ok(None)
@@ -195,8 +221,8 @@ impl SetState {
     /// `rebalance`.
     fn rebalance(&mut self, alloc: Global) -> Result<Option<Refused>, AllocError>
         ensures adds { Adds self.old.tender self.new.tender }
-        ensures done { IfOk result (λ r. IsNone r → Rebalances self.old.tender self.new.tender) }
-        ensures none { IfOk result (λ r. IsSome r → NoRebalance self.old.tender self.new.tender) }
+        ensures done { IfOk result (λ r. IsNone r → Rebalances (stood self.old) (stood self.new)) }
+        ensures none { IfOk result (λ r. IfSome r (λ why. NoRebalance (stood self.old) (string_bytes why) (stood self.new))) }
     {
         match self.tender.rebalance() {
             Ok(()) => Ok(None),
@@ -213,8 +239,8 @@ impl SetState {
     ) -> Result<Option<Refused>, AllocError>
         requires { octets_sent order.now ≡ None }
         ensures adds { OnOk result (Adds self.old.tender self.new.tender) }
-        ensures changes { IfOk result (λ r. IsNone r → Changes (plain_set_order order.now) self.old.tender self.new.tender) }
-        ensures refuses { IfOk result (λ r. IsSome r → Refuses (plain_set_order order.now) self.old.tender self.new.tender) }
+        ensures changes { IfOk result (λ r. IsNone r → Changes (plain_set_order order.now) focus (stood self.old) (stood self.new)) }
+        ensures refuses { IfOk result (λ r. IfSome r (λ why. Refuses (plain_set_order order.now) focus (stood self.old) (string_bytes why) (stood self.new))) }
     {
         match order {
             SetOrder::On(focus) => self.look_at(alloc, *focus),
@@ -246,12 +272,13 @@ impl SetState {
     fn obey_sending<P: Reports>(
         &mut self,
         alloc: Global,
+        focus: Focus,
         text: &str,
         octets: &[u8],
         reports: &mut P,
     ) -> io::Result<()>
         requires { sent_by (words_of text.now) ≡ Some octets.now }
-        ensures { OnOk result (TellsSuch (λ bytes. Obeys text.now self.old.tender bytes self.new.tender) (P.stand reports.old) (P.stand reports.new)) }
+        ensures { OnOk result (TellsSuch (λ bytes. Obeys text.now focus (stood self.old) bytes (stood self.new)) (P.stand reports.old) (P.stand reports.new)) }
     {
         match obey_send(alloc, &mut self.tender, octets)? {
             Some(why) => self.refuse(alloc, why.as_str(), reports),
@@ -268,7 +295,7 @@ impl SetState {
         order: &SetOrder<'_>,
         reports: &mut P,
     ) -> io::Result<()>
-        ensures { OnOk result (TellsSuch (IsAnswer (plain_set_order order.now) self.now.tender text.now) (P.stand reports.old) (P.stand reports.new)) }
+        ensures { OnOk result (TellsSuch (IsAnswer (plain_set_order order.now) focus (stood self.now) text.now) (P.stand reports.old) (P.stand reports.new)) }
     {
         self.agree(alloc, text, reports)?;
         self.tell_asked(alloc, focus, order, reports)
@@ -286,7 +313,7 @@ impl SetState {
         requires sends { sent_by (words_of text.now) ≡ None }
         requires none { octets_sent order.now ≡ None }
         requires reads { set_order_of (words_of text.now) ≡ Some (plain_set_order order.now) }
-        ensures { OnOk result (TellsSuch (λ bytes. Obeys text.now self.old.tender bytes self.new.tender) (P.stand reports.old) (P.stand reports.new)) }
+        ensures { OnOk result (TellsSuch (λ bytes. Obeys text.now focus (stood self.old) bytes (stood self.new)) (P.stand reports.old) (P.stand reports.new)) }
     {
         if let Some(why) = self.why_unanswered(alloc, focus, order)? {
             return self.refuse(alloc, why.as_str(), reports);
@@ -308,10 +335,10 @@ impl SetState {
     ) -> io::Result<()>
         requires sends { octets_sent order.now ≡ sent_by (words_of text.now) }
         requires reads { set_order_of (words_of text.now) ≡ Some (plain_set_order order.now) }
-        ensures { OnOk result (TellsSuch (λ bytes. Obeys text.now self.old.tender bytes self.new.tender) (P.stand reports.old) (P.stand reports.new)) }
+        ensures { OnOk result (TellsSuch (λ bytes. Obeys text.now focus (stood self.old) bytes (stood self.new)) (P.stand reports.old) (P.stand reports.new)) }
     {
         match order {
-            SetOrder::Send(octets) => self.obey_sending(alloc, text, octets, reports),
+            SetOrder::Send(octets) => self.obey_sending(alloc, focus, text, octets, reports),
             _ => self.obey_other(alloc, focus, text, order, reports),
         }
     }
@@ -324,7 +351,7 @@ impl SetState {
         text: &str,
         reports: &mut P,
     ) -> io::Result<()>
-        ensures { OnOk result (TellsSuch (λ bytes. Obeys text.now self.old.tender bytes self.new.tender) (P.stand reports.old) (P.stand reports.new)) }
+        ensures { OnOk result (TellsSuch (λ bytes. Obeys text.now focus (stood self.old) bytes (stood self.new)) (P.stand reports.old) (P.stand reports.new)) }
     {
         match set_order_in(alloc, text)? {
             Some(order) => self.obey_order(alloc, focus, text, &order, reports),

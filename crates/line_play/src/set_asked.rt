@@ -1,67 +1,160 @@
 //! What is told of a set's links where an order asks.
-ghost use Rattle.std.specs.Prelude.{◌≡◌, OnOk};
+ghost use Rattle.std.specs.Prelude.{◌≡◌, ◌≤◌, IfOk, OnOk, option_copied, option_map, slice_get};
+ghost use Rattle.std.specs.List.{flat_map};
 ghost use Rattle.line_filter.specs.Desks.{Told as TellsSuch};
 ghost use Rattle.line_filter.specs.Orders.{told};
 ghost use Rattle.line_filter.specs.Reporting.{TellsLines};
-ghost use Rattle.line_play.specs.SetDoing.{ShowsLines, ShowsHeld, Shows, held_text, table_text, unsure_text};
-ghost use Rattle.line_play.specs.SetOrders.{plain_set_order, state, value, measuring, aborted, measures};
+ghost use Rattle.line_play.specs.SetDoing.{stood, first_of, last_of, terminal_at, reset_at, ResetEach, Resets, state_at, value_at};
+ghost use Rattle.line_play.specs.SetOrders.{plain_set_order, state, value, measures};
+ghost use Rattle.line_play.specs.SetShowing.{counted, aborted_at, state_text, value_text, count_told, aborted_told, shown_of, ShowsEach, ShowsHeld, Shows, held_text, table_text, unsure_text};
 
 use crate::set_measures::Since;
 use crate::set_orders::{Focus, SetOrder};
 use crate::set_state::SetState;
 use crate::texts::text_of;
 use line_filter::Reports;
-use script_terminal::{Measure, all_measures, state_line, value_line};
-use std::alloc::Global;
+use script_terminal::{Measure, Terminal, all_measures, state_line, value_line};
+use std::alloc::{AllocError, Global};
 use std::io;
 
 impl SetState {
     /// The links that an order speaks of, from one to before another.
-    pub(crate) fn links(&self, focus: Focus) -> (usize, usize) {
+    pub(crate) fn links(&self, focus: Focus) -> (usize, usize)
+        ensures first { result.0 ≡ first_of focus }
+        ensures last { result.1 ≡ last_of focus self.now.tender }
+        ensures order { result.0 ≤ result.1 }
+    {
         match focus {
             Focus::Link(link) => (link, link.saturating_add(1)),
             Focus::All => (0, self.tender.len()),
         }
     }
 
-    /// What was counted of a link; 0 where it isn't there.
-    fn counted(&self, link: usize, measure: Measure) -> u64 {
-        match (self.since.get(link), self.tender.set().terminal(link)) {
-            (Some(since), Some(terminal)) => since.count(terminal, measure),
-            _ => 0,
+    /// What a link's counts are counted from.
+    fn since(&self, link: usize) -> Option<&Since>
+        ensures { option_copied result ≡ slice_get self.now.since.items link }
+    {
+        match self.since.get(link) {
+            Some(since) => Some(since),
+            None => None,
         }
     }
 
-    /// How many of its proving periods were aborted.
-    fn aborted(&self, link: usize) -> u64 {
-        match (self.since.get(link), self.tender.set().terminal(link)) {
-            (Some(since), Some(terminal)) => since.aborted(terminal),
-            _ => 0,
+    /// The terminal of a link.
+    fn terminal(&self, link: usize) -> Option<&Terminal>
+        ensures { option_copied result ≡ terminal_at self.now.tender link }
+    {
+        match self.tender.set().terminal(link) {
+            Some(terminal) => Some(terminal),
+            None => None,
         }
+    }
+
+    /// What was counted of a link; 0 where it isn't there.
+    fn counted(&self, link: usize, measure: Measure) -> u64
+        ensures { result ≡ counted measure (stood self.now) link }
+    {
+        let Some(since) = self.since(link) else {
+            return 0;
+        };
+        let Some(terminal) = self.terminal(link) else {
+            return 0;
+        };
+        since.count(terminal, measure)
+    }
+
+    /// How many of its proving periods were aborted.
+    fn aborted(&self, link: usize) -> u64
+        ensures { result ≡ aborted_at (stood self.now) link }
+    {
+        let Some(since) = self.since(link) else {
+            return 0;
+        };
+        let Some(terminal) = self.terminal(link) else {
+            return 0;
+        };
+        since.aborted(terminal)
     }
 
     /// `measure reset`, for a link.
     fn reset(&mut self, link: usize)
-        ensures { self.new.tender ≡ self.old.tender }
+        ensures { stood self.new ≡ reset_at link (stood self.old) }
     {
-        let Some(terminal) = self.tender.set().terminal(link) else {
+        let Some(terminal) = self.terminal(link) else {
             return;
         };
-        let mut since = Since::new();
-        since.begin(terminal);
-        if let Some(kept) = self.since.get_mut(link) {
-            *kept = since;
+        let since = Since::now(terminal);
+        if link < self.since.len() {
+            self.since[link] = since;
+        }
+    }
+
+    /// The same, for links from one to before another.
+    fn reset_links(&mut self, from: usize, to: usize)
+        requires { from ≤ to }
+        ensures { ResetEach from (stood self.old) to (stood self.new) }
+    {
+        for link in from..to {
+            self.reset(link);
         }
     }
 
     /// `measure reset`.
     pub(crate) fn reset_all(&mut self, focus: Focus)
-        ensures { self.new.tender ≡ self.old.tender }
+        ensures { Resets focus (stood self.old) (stood self.new) }
     {
         let (from, to) = self.links(focus);
-        for link in from..to {
-            self.reset(link);
+        self.reset_links(from, to);
+    }
+
+    /// What a script prints for `state P` of a link.
+    pub(crate) fn state_line(
+        &self,
+        alloc: Global,
+        link: usize,
+        process: &str,
+    ) -> Result<Option<Vec<u8>>, AllocError>
+        ensures { IfOk result (λ line. option_map (λ v. v.items) line ≡ state_at process.now self.now.tender link) }
+    {
+        match self.tender.set().book(link) {
+            Some(book) => Ok(Some(state_line(alloc, book, process)?)),
+            None => Ok(None),
         }
+    }
+
+    /// What it prints for `value P x`.
+    pub(crate) fn value_line(
+        &self,
+        alloc: Global,
+        link: usize,
+        process: &str,
+        variable: &str,
+    ) -> Result<Option<Vec<u8>>, AllocError>
+        ensures { IfOk result (λ line. option_map (λ v. v.items) line ≡ value_at process.now variable.now self.now.tender link) }
+    {
+        match self.tender.set().book(link) {
+            Some(book) => Ok(Some(value_line(alloc, book, process, variable)?)),
+            None => Ok(None),
+        }
+    }
+
+    /// Tells the state of an actor of a link.
+    fn say_state<P: Reports>(
+        &self,
+        alloc: Global,
+        link: usize,
+        process: &str,
+        line: &[u8],
+        reports: &mut P,
+    ) -> io::Result<()>
+        ensures { OnOk result (TellsLines (P.stand reports.old) (P.stand reports.new) (told self.now.tender.ticks (state_text process.now link line.now))) }
+    {
+        let text = text_of(alloc, line)?;
+        self.say_text(
+            alloc,
+            format!(in alloc; "{link} state {process} {text}")?,
+            reports,
+        )
     }
 
     /// `state P`, for a link.
@@ -72,16 +165,30 @@ impl SetState {
         process: &str,
         reports: &mut P,
     ) -> io::Result<()>
-        ensures { OnOk result (TellsSuch (ShowsLines (state process.now) self.now.tender.ticks) (P.stand reports.old) (P.stand reports.new)) }
+        ensures { OnOk result (TellsLines (P.stand reports.old) (P.stand reports.new) (shown_of (state process.now) (stood self.now) link)) }
     {
-        let line = match self.tender.set().book(link) {
-            Some(book) => state_line(alloc, book, process)?,
-            None => return Ok(()),
-        };
-        let text = text_of(alloc, &line)?;
+        match self.state_line(alloc, link, process)? {
+            Some(line) => self.say_state(alloc, link, process, line.as_slice(), reports),
+            None => Ok(()),
+        }
+    }
+
+    /// Tells the value of a variable of an actor of a link.
+    fn say_value<P: Reports>(
+        &self,
+        alloc: Global,
+        link: usize,
+        process: &str,
+        variable: &str,
+        line: &[u8],
+        reports: &mut P,
+    ) -> io::Result<()>
+        ensures { OnOk result (TellsLines (P.stand reports.old) (P.stand reports.new) (told self.now.tender.ticks (value_text process.now variable.now link line.now))) }
+    {
+        let text = text_of(alloc, line)?;
         self.say_text(
             alloc,
-            format!(in alloc; "{link} state {process} {text}")?,
+            format!(in alloc; "{link} value {process} {variable} {text}")?,
             reports,
         )
     }
@@ -95,18 +202,12 @@ impl SetState {
         variable: &str,
         reports: &mut P,
     ) -> io::Result<()>
-        ensures { OnOk result (TellsSuch (ShowsLines (value process.now variable.now) self.now.tender.ticks) (P.stand reports.old) (P.stand reports.new)) }
+        ensures { OnOk result (TellsLines (P.stand reports.old) (P.stand reports.new) (shown_of (value process.now variable.now) (stood self.now) link)) }
     {
-        let line = match self.tender.set().book(link) {
-            Some(book) => value_line(alloc, book, process, variable)?,
-            None => return Ok(()),
-        };
-        let text = text_of(alloc, &line)?;
-        self.say_text(
-            alloc,
-            format!(in alloc; "{link} value {process} {variable} {text}")?,
-            reports,
-        )
+        match self.value_line(alloc, link, process, variable)? {
+            Some(line) => self.say_value(alloc, link, process, variable, line.as_slice(), reports),
+            None => Ok(()),
+        }
     }
 
     /// `measure NAME`, for a link.
@@ -117,7 +218,7 @@ impl SetState {
         measure: Measure,
         reports: &mut P,
     ) -> io::Result<()>
-        ensures { OnOk result (TellsSuch (ShowsLines (measuring measure) self.now.tender.ticks) (P.stand reports.old) (P.stand reports.new)) }
+        ensures { OnOk result (TellsLines (P.stand reports.old) (P.stand reports.new) (count_told (stood self.now) link measure)) }
     {
         let count = self.counted(link, measure);
         let name = measure.word();
@@ -135,7 +236,7 @@ impl SetState {
         link: usize,
         reports: &mut P,
     ) -> io::Result<()>
-        ensures { OnOk result (TellsSuch (ShowsLines aborted self.now.tender.ticks) (P.stand reports.old) (P.stand reports.new)) }
+        ensures { OnOk result (TellsLines (P.stand reports.old) (P.stand reports.new) (aborted_told (stood self.now) link)) }
     {
         let count = self.aborted(link);
         self.say_text(
@@ -145,6 +246,22 @@ impl SetState {
         )
     }
 
+    /// What was counted of a link, of these measurements.
+    fn tell_counts<P: Reports>(
+        &self,
+        alloc: Global,
+        link: usize,
+        all: &[Measure],
+        reports: &mut P,
+    ) -> io::Result<()>
+        ensures { OnOk result (TellsLines (P.stand reports.old) (P.stand reports.new) (flat_map (count_told (stood self.now) link) all.now)) }
+    {
+        for measure in all {
+            self.tell_measure(alloc, link, *measure, reports)?;
+        }
+        Ok(())
+    }
+
     /// `measure`, for a link: what was counted, in the order of the names.
     fn tell_measures<P: Reports>(
         &self,
@@ -152,12 +269,10 @@ impl SetState {
         link: usize,
         reports: &mut P,
     ) -> io::Result<()>
-        ensures { OnOk result (TellsSuch (ShowsLines measures self.now.tender.ticks) (P.stand reports.old) (P.stand reports.new)) }
+        ensures { OnOk result (TellsLines (P.stand reports.old) (P.stand reports.new) (shown_of measures (stood self.now) link)) }
     {
         let all = all_measures();
-        for measure in &all {
-            self.tell_measure(alloc, link, *measure, reports)?;
-        }
+        self.tell_counts(alloc, link, &all, reports)?;
         self.tell_aborted(alloc, link, reports)
     }
 
@@ -200,7 +315,7 @@ impl SetState {
         order: &SetOrder<'_>,
         reports: &mut P,
     ) -> io::Result<()>
-        ensures { OnOk result (TellsSuch (ShowsLines (plain_set_order order.now) self.now.tender.ticks) (P.stand reports.old) (P.stand reports.new)) }
+        ensures { OnOk result (TellsLines (P.stand reports.old) (P.stand reports.new) (shown_of (plain_set_order order.now) (stood self.now) link)) }
     {
         match order {
             SetOrder::State(process) => self.tell_state(alloc, link, process, reports),
@@ -223,7 +338,8 @@ impl SetState {
         order: &SetOrder<'_>,
         reports: &mut P,
     ) -> io::Result<()>
-        ensures { OnOk result (TellsSuch (ShowsLines (plain_set_order order.now) self.now.tender.ticks) (P.stand reports.old) (P.stand reports.new)) }
+        requires { from ≤ to }
+        ensures { OnOk result (TellsSuch (ShowsEach (plain_set_order order.now) (stood self.now) from to) (P.stand reports.old) (P.stand reports.new)) }
     {
         for link in from..to {
             self.tell_one_asked(alloc, link, order, reports)?;
@@ -247,7 +363,7 @@ impl SetState {
         order: &SetOrder<'_>,
         reports: &mut P,
     ) -> io::Result<()>
-        ensures { OnOk result (TellsSuch (Shows (plain_set_order order.now) self.now.tender) (P.stand reports.old) (P.stand reports.new)) }
+        ensures { OnOk result (TellsSuch (Shows (plain_set_order order.now) focus (stood self.now)) (P.stand reports.old) (P.stand reports.new)) }
     {
         match order {
             SetOrder::Table => self.tell_table(alloc, reports),

@@ -3,8 +3,9 @@ ghost use Rattle.std.specs.Prelude.{◌≡◌, ◌↔◌, [], true, false, IfOk,
 ghost use Rattle.script_lines.specs.Words.{words_of};
 ghost use Rattle.line_filter.specs.Desks.{Told as TellsSuch};
 ghost use Rattle.line_filter.specs.Orders.{QUIT};
-ghost use Rattle.line_play.specs.SetOrders.{SaysSuch, is_stop, is_send, overtakes as may_overtake, plain_set_order, set_order_of};
-ghost use Rattle.line_play.specs.SetRounds.{waiting_in, Rests, ObeysWaiting, TakesOrder, AttendsAll};
+ghost use Rattle.line_play.specs.SetDoing.{stood};
+ghost use Rattle.line_play.specs.SetOrders.{SaysSuch, is_stop, is_start, is_send, overtakes, starts_links, starts as line_starts, plain_set_order, set_order_of};
+ghost use Rattle.line_play.specs.SetRounds.{waiting_in, goes_first, Rests, ObeysWaiting, TakesOrder, AttendsAll};
 
 use crate::set_orders::{SetOrder, is_set_report, set_order_in};
 use crate::set_queue::Queue;
@@ -54,9 +55,49 @@ fn is_stop(order: Order) -> bool
     }
 }
 
+/// Whether an order starts links.
+fn is_start(order: Order) -> bool
+    ensures { result ≡ is_start order }
+{
+    match order {
+        Order::Start => true,
+        Order::Power
+        | Order::Stop
+        | Order::Emergency
+        | Order::Calm
+        | Order::Outage
+        | Order::Back
+        | Order::Busy
+        | Order::Free
+        | Order::Flush
+        | Order::Continue
+        | Order::Overload => false,
+    }
+}
+
+/// Whether an order is one that starts links.
+fn starts_links(order: &SetOrder<'_>) -> bool
+    ensures { result ≡ starts_links (plain_set_order order.now) }
+{
+    match order {
+        SetOrder::Link(order) => is_start(*order),
+        _ => false,
+    }
+}
+
+/// Whether a line starts links.
+fn starts(alloc: Global, text: &str) -> Result<bool, AllocError>
+    ensures { IfOk result (λ starts. starts ≡ line_starts text.now) }
+{
+    match set_order_in(alloc, text)? {
+        Some(order) => Ok(starts_links(&order)),
+        None => Ok(false),
+    }
+}
+
 /// Whether an order may overtake others that wait: it stops links, and none that waits starts some, or it says which links orders speak of.
 fn overtakes(order: &SetOrder<'_>, starts: bool) -> bool
-    ensures { result ≡ true → may_overtake (plain_set_order order.now) ≡ true }
+    ensures { result ≡ overtakes starts (plain_set_order order.now) }
 {
     match order {
         SetOrder::Link(order) => is_stop(*order) && !starts,
@@ -67,7 +108,7 @@ fn overtakes(order: &SetOrder<'_>, starts: bool) -> bool
 
 /// Whether a line may overtake the orders that wait.
 fn may_overtake(alloc: Global, queue: &Queue, text: &str) -> Result<bool, AllocError>
-    ensures { IfOk result (λ first. first ≡ true → SaysSuch may_overtake text.now) }
+    ensures { IfOk result (λ first. first ≡ goes_first (waiting_in queue.now) text.now) }
 {
     match set_order_in(alloc, text)? {
         Some(order) => Ok(overtakes(&order, queue.has_start())),
@@ -127,7 +168,7 @@ fn obey_waiting<P: Reports>(
     queue: &mut Queue,
     reports: &mut P,
 ) -> io::Result<()>
-    ensures obeys { OnOk result (TellsSuch (λ bytes. ObeysWaiting state.old.tender (waiting_in queue.old) bytes state.new.tender (waiting_in queue.new))
+    ensures obeys { OnOk result (TellsSuch (λ bytes. ObeysWaiting (stood state.old) (waiting_in queue.old) bytes (stood state.new) (waiting_in queue.new))
         (P.stand reports.old) (P.stand reports.new)) }
     ensures rests { OnOk result (Rests (waiting_in queue.new)) }
 {
@@ -167,7 +208,7 @@ fn take_order<P: Reports>(
     text: String,
     reports: &mut P,
 ) -> io::Result<()>
-    ensures { OnOk result (TellsSuch (λ bytes. TakesOrder (string_bytes text) state.old.tender (waiting_in queue.old) bytes state.new.tender (waiting_in queue.new))
+    ensures { OnOk result (TellsSuch (λ bytes. TakesOrder (string_bytes text) (stood state.old) (waiting_in queue.old) bytes (stood state.new) (waiting_in queue.new))
         (P.stand reports.old) (P.stand reports.new)) }
 {
     let line = text.as_str();
@@ -181,7 +222,8 @@ fn take_order<P: Reports>(
     if may_overtake(alloc, queue, line)? {
         return state.obey(alloc, focus, line, reports);
     }
-    if queue.put(focus, text) {
+    let starts = starts(alloc, line)?;
+    if queue.put(focus, text, starts) {
         Ok(())
     } else {
         Err(io::Error::from(AllocError))
@@ -197,7 +239,7 @@ pub(crate) fn attend<O: Orders, P: Reports>(
     reports: &mut P,
 ) -> io::Result<bool>
     ensures { IfOk result (λ goes_on. TellsSuch
-        (λ bytes. AttendsAll state.old.tender (waiting_in queue.old) (O.left orders.old) bytes goes_on state.new.tender (waiting_in queue.new) (O.left orders.new))
+        (λ bytes. AttendsAll (stood state.old) (waiting_in queue.old) (O.left orders.old) bytes goes_on (stood state.new) (waiting_in queue.new) (O.left orders.new))
         (P.stand reports.old) (P.stand reports.new)) }
 {
     obey_waiting(alloc, state, queue, reports)?;

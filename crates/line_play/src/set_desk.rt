@@ -1,7 +1,7 @@
 //! A set on its lines, with its orders and reports.
 ghost use Rattle.std.specs.Prelude.{◌≡◌, length, IfOk};
 ghost use Rattle.line_play.specs.SetRounds.{Made, IsRound};
-ghost use Rattle.line_play.specs.SetDesks.{AreNewWires, IsNewSetDesk, place_of};
+ghost use Rattle.line_play.specs.SetDesks.{AreNewCounts, AreNewWires, IsNewSetDesk, place_of};
 
 use crate::set_attending::attend;
 use crate::set_lines::Lines;
@@ -44,7 +44,9 @@ fn wires(alloc: Global, links: usize) -> Result<Vec<Wire>, AllocError>
 }
 
 /// Counts of each link since it was made.
-fn counts(alloc: Global, links: usize) -> Result<Vec<Since>, AllocError> {
+fn counts(alloc: Global, links: usize) -> Result<Vec<Since>, AllocError>
+    ensures { IfOk result (λ counts. AreNewCounts links counts.items) }
+{
     let mut counts = Vec::with_capacity(alloc, links)?;
     for _link in 0..links {
         counts.push(Since::new())?;
@@ -54,7 +56,8 @@ fn counts(alloc: Global, links: usize) -> Result<Vec<Since>, AllocError> {
 
 /// What is kept of each line, and of each link's counts.
 fn parts(alloc: Global, links: usize) -> Result<(Vec<Wire>, Vec<Since>), AllocError>
-    ensures { IfOk result (λ parts. AreNewWires links parts.0.items) }
+    ensures wires { IfOk result (λ parts. AreNewWires links parts.0.items) }
+    ensures counts { IfOk result (λ parts. AreNewCounts links parts.1.items) }
 {
     let wires = wires(alloc, links)?;
     let since = counts(alloc, links)?;
@@ -139,7 +142,7 @@ impl<O: Orders, P: Reports> SetDesk<O, P> {
         lines.begin(self.state.tender.now());
         carry_lines(
             alloc,
-            &mut self.state,
+            &mut self.state.tender,
             &mut self.wires,
             lines,
             self.ahead,

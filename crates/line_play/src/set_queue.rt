@@ -1,6 +1,6 @@
 //! Orders that wait.
 ghost use Rattle.std.specs.Prelude.{◌≡◌, ◌↔◌, ◌≤◌, ◌++◌, ◌∷◌, [], length, option_map, slice_get, IfSome, IsNone, IsTrue, string_bytes};
-ghost use Rattle.line_play.specs.SetRounds.{MOST_WAITING as MOST, waiting_in};
+ghost use Rattle.line_play.specs.SetRounds.{MOST_WAITING as MOST, waited_of, waiting_in, starts_in, any_starts};
 
 use crate::set_orders::Focus;
 use std::alloc::Global;
@@ -9,11 +9,12 @@ use std::collections::VecDeque;
 /// How many orders may wait behind a message that does.
 const MOST_WAITING: usize = 1_024;
 
-/// An order that waits, with the links that it speaks of.
+/// An order that waits, with the links that it speaks of, and whether it starts these.
 #[derive(Drop)]
 pub struct Waiting {
     pub focus: Focus,
     pub text: String,
+    pub starts: bool,
 }
 
 /// Orders that wait, in their order.
@@ -46,10 +47,22 @@ impl Queue {
         self.waiting.len() >= MOST_WAITING
     }
 
+    /// Whether the order at a place, if one waits there, starts links.
+    fn starts_at(&self, place: usize) -> bool
+        ensures { result ≡ starts_in (slice_get (waiting_in self.now) place) }
+    {
+        match self.waiting.get(place) {
+            Some(waiting) => waiting.starts,
+            None => false,
+        }
+    }
+
     /// Whether one that starts links waits: a `stop` behind it may not go before it.
-    pub fn has_start(&self) -> bool {
-        for waiting in self.waiting.iter() {
-            if waiting.text.as_str().trim() == "start" {
+    pub fn has_start(&self) -> bool
+        ensures { result ≡ any_starts (waiting_in self.now) }
+    {
+        for place in 0..self.waiting.len() {
+            if self.starts_at(place) {
                 return true;
             }
         }
@@ -58,14 +71,14 @@ impl Queue {
 
     /// The first.
     pub fn first(&self) -> Option<&Waiting>
-        ensures { option_map (λ w. string_bytes w.now.text) result ≡ slice_get (waiting_in self.now) 0 }
+        ensures { option_map (λ w. waited_of w.now) result ≡ slice_get (waiting_in self.now) 0 }
     {
         self.waiting.front()
     }
 
     /// Takes the first.
     pub fn take(&mut self) -> Option<Waiting>
-        ensures some { IfSome result (λ first. waiting_in self.old ≡ string_bytes first.text ∷ waiting_in self.new) }
+        ensures some { IfSome result (λ first. waiting_in self.old ≡ waited_of first ∷ waiting_in self.new) }
         ensures none { IsNone result → waiting_in self.new ≡ waiting_in self.old }
         ensures empty { IsNone result → waiting_in self.new ≡ [] }
     {
@@ -73,9 +86,15 @@ impl Queue {
     }
 
     /// One more waits. Whether there was memory.
-    pub fn put(&mut self, focus: Focus, text: String) -> bool
-        ensures { IsTrue result → waiting_in self.new ≡ waiting_in self.old ++ string_bytes text ∷ [] }
+    pub fn put(&mut self, focus: Focus, text: String, starts: bool) -> bool
+        ensures { IsTrue result → waiting_in self.new ≡ waiting_in self.old ++ record { focus = focus; text = string_bytes text; starts = starts } ∷ [] }
     {
-        self.waiting.push_back(Waiting { focus, text }).is_ok()
+        self.waiting
+            .push_back(Waiting {
+                focus,
+                text,
+                starts,
+            })
+            .is_ok()
     }
 }

@@ -6,7 +6,7 @@ ghost use Rattle.line_play.specs.LineTraffic.{Grows, given, front_of, silence_fo
 ghost use Rattle.line_play.specs.SetRounds.{Made, PassesOn, Carries, CarriesAt, CarriesAll};
 
 use crate::set_lines::{Came, Lines};
-use crate::set_state::{SetState, failed};
+use crate::set_state::{failed, say_of};
 use line_filter::Reports;
 use set_tending::{Passed, Tender, Wire, miss_line};
 use std::alloc::Global;
@@ -49,7 +49,7 @@ fn give_out<L: Lines>(lines: &mut L, link: usize, out: &[u8])
 /// Octets that came on a line go through it, and what goes out goes on.
 fn pass<L: Lines, P: Reports>(
     alloc: Global,
-    state: &mut SetState,
+    tender: &mut Tender,
     wire: &mut Wire,
     lines: &mut L,
     line: SetLine,
@@ -57,18 +57,28 @@ fn pass<L: Lines, P: Reports>(
     out: &mut Vec<u8>,
     reports: &mut P,
 ) -> io::Result<()>
-    ensures { OnOk result (Made (λ bytes traffic. PassesOn line.link line.ahead came.now state.old.tender wire.old bytes traffic state.new.tender wire.new)
+    ensures { OnOk result (Made (λ bytes traffic. PassesOn line.link line.ahead came.now tender.old wire.old bytes traffic tender.new wire.new)
         (P.stand reports.old) (P.stand reports.new) (L.traffic lines.old) (L.traffic lines.new)) }
 {
     let link = line.link;
-    let passed = hear(&mut state.tender, wire, line, came, out)?;
+    let passed = hear(tender, wire, line, came, out)?;
     give_out(lines, link, out.as_slice());
     match passed {
         Passed::Same => Ok(()),
         Passed::Silent => {
-            state.say_text(alloc, format!(in alloc; "{link} line silent")?, reports)
+            say_of(
+                alloc,
+                tender,
+                format!(in alloc; "{link} line silent")?,
+                reports,
+            )
         }
-        Passed::Back => state.say_text(alloc, format!(in alloc; "{link} line back")?, reports),
+        Passed::Back => say_of(
+            alloc,
+            tender,
+            format!(in alloc; "{link} line back")?,
+            reports,
+        ),
     }
 }
 
@@ -105,7 +115,7 @@ fn front(octets: &[u8], count: usize) -> &[u8]
 /// A round of a line.
 fn carry<L: Lines, P: Reports>(
     alloc: Global,
-    state: &mut SetState,
+    tender: &mut Tender,
     wire: &mut Wire,
     lines: &mut L,
     line: SetLine,
@@ -113,21 +123,36 @@ fn carry<L: Lines, P: Reports>(
     out: &mut Vec<u8>,
     reports: &mut P,
 ) -> io::Result<()>
-    ensures { OnOk result (Made (λ bytes traffic. Carries line.link line.ahead state.old.tender wire.old bytes traffic state.new.tender wire.new)
+    ensures { OnOk result (Made (λ bytes traffic. Carries line.link line.ahead tender.old wire.old bytes traffic tender.new wire.new)
         (P.stand reports.old) (P.stand reports.new) (L.traffic lines.old) (L.traffic lines.new)) }
 {
     let link = line.link;
     match lines.take(link, part) {
         Came::Octets(count) => {
             let came = front(part, count);
-            pass(alloc, state, wire, lines, line, came, out, reports)
+            pass(alloc, tender, wire, lines, line, came, out, reports)
         }
-        Came::Closed => miss(&mut state.tender, link),
-        Came::Ended => state.say_text(alloc, format!(in alloc; "{link} line ended")?, reports),
-        Came::Failed => state.say_text(alloc, format!(in alloc; "{link} line failed")?, reports),
+        Came::Closed => miss(tender, link),
+        Came::Ended => say_of(
+            alloc,
+            tender,
+            format!(in alloc; "{link} line ended")?,
+            reports,
+        ),
+        Came::Failed => say_of(
+            alloc,
+            tender,
+            format!(in alloc; "{link} line failed")?,
+            reports,
+        ),
         Came::Opened => {
             go_ahead(lines, line);
-            state.say_text(alloc, format!(in alloc; "{link} line open")?, reports)
+            say_of(
+                alloc,
+                tender,
+                format!(in alloc; "{link} line open")?,
+                reports,
+            )
         }
     }
 }
@@ -135,7 +160,7 @@ fn carry<L: Lines, P: Reports>(
 /// A round of the line at a place.
 fn carry_at<L: Lines, P: Reports>(
     alloc: Global,
-    state: &mut SetState,
+    tender: &mut Tender,
     wires: &mut [Wire],
     lines: &mut L,
     line: SetLine,
@@ -144,13 +169,13 @@ fn carry_at<L: Lines, P: Reports>(
     reports: &mut P,
 ) -> io::Result<()>
     requires { line.link < length wires.old }
-    ensures { OnOk result (Made (λ bytes traffic. CarriesAt line.link line.ahead state.old.tender wires.old bytes traffic state.new.tender wires.new)
+    ensures { OnOk result (Made (λ bytes traffic. CarriesAt line.link line.ahead tender.old wires.old bytes traffic tender.new wires.new)
         (P.stand reports.old) (P.stand reports.new) (L.traffic lines.old) (L.traffic lines.new)) }
 {
     let link = line.link;
     carry(
         alloc,
-        state,
+        tender,
         &mut wires[link],
         lines,
         line,
@@ -163,7 +188,7 @@ fn carry_at<L: Lines, P: Reports>(
 /// A round of all lines.
 fn carry_all<L: Lines, P: Reports>(
     alloc: Global,
-    state: &mut SetState,
+    tender: &mut Tender,
     wires: &mut [Wire],
     lines: &mut L,
     ahead: usize,
@@ -171,12 +196,12 @@ fn carry_all<L: Lines, P: Reports>(
     out: &mut Vec<u8>,
     reports: &mut P,
 ) -> io::Result<()>
-    ensures { OnOk result (Made (λ bytes traffic. CarriesAll ahead state.old.tender wires.old (length wires.old) bytes traffic state.new.tender wires.new)
+    ensures { OnOk result (Made (λ bytes traffic. CarriesAll ahead tender.old wires.old (length wires.old) bytes traffic tender.new wires.new)
         (P.stand reports.old) (P.stand reports.new) (L.traffic lines.old) (L.traffic lines.new)) }
 {
     for link in 0..wires.len() {
         let line = SetLine { link, ahead };
-        carry_at(alloc, state, wires, lines, line, part, out, reports)?;
+        carry_at(alloc, tender, wires, lines, line, part, out, reports)?;
     }
     Ok(())
 }
@@ -184,7 +209,7 @@ fn carry_all<L: Lines, P: Reports>(
 /// The same of all lines of a set.
 pub(crate) fn carry_lines<L: Lines, P: Reports>(
     alloc: Global,
-    state: &mut SetState,
+    tender: &mut Tender,
     wires: &mut Vec<Wire>,
     lines: &mut L,
     ahead: usize,
@@ -192,12 +217,12 @@ pub(crate) fn carry_lines<L: Lines, P: Reports>(
     out: &mut Vec<u8>,
     reports: &mut P,
 ) -> io::Result<()>
-    ensures { OnOk result (Made (λ bytes traffic. CarriesAll ahead state.old.tender wires.old.items (length wires.old.items) bytes traffic state.new.tender wires.new.items)
+    ensures { OnOk result (Made (λ bytes traffic. CarriesAll ahead tender.old wires.old.items (length wires.old.items) bytes traffic tender.new wires.new.items)
         (P.stand reports.old) (P.stand reports.new) (L.traffic lines.old) (L.traffic lines.new)) }
 {
     carry_all(
         alloc,
-        state,
+        tender,
         wires.as_mut_slice(),
         lines,
         ahead,

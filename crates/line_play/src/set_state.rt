@@ -58,6 +58,18 @@ impl SetState {
     }
 }
 
+/// Tells a line of a set, the millisecond first.
+pub(crate) fn say_of<P: Reports>(
+    alloc: Global,
+    tender: &Tender,
+    text: String,
+    reports: &mut P,
+) -> io::Result<()>
+    ensures { OnOk result (TellsLines (P.stand reports.old) (P.stand reports.new) (told tender.now.ticks (string_bytes text))) }
+{
+    tell(alloc, tender.now(), text.as_str(), reports)
+}
+
 /// Tells what the set told.
 fn tell_told<P: Reports>(alloc: Global, now: u64, item: &Told, reports: &mut P) -> io::Result<()>
     ensures { OnOk result (TellsLines (P.stand reports.old) (P.stand reports.new) (told now (told_text item.now))) }

@@ -1,5 +1,7 @@
+use Rattle.std.proofs.Common.{arith}
 use Rattle.set_tending.proofs.Doing.{adds_nothing, adds_then}
 use Rattle.line_play.specs.SetDoing.{no_command, one_command}
+use Rattle.line_play.proofs.SetDoing.{each_all}
 use Rattle.line_play.proofs.set_answers.obey_links.Goals as goal
 
 pub loop-link-init : goal.loop-link-init
@@ -15,4 +17,4 @@ pub returns-clause-adds : goal.returns-clause-adds
 returns-clause-adds c = c.loop-link.invariant.adds
 
 pub returns-clause-obeys : goal.returns-clause-obeys
-returns-clause-obeys c = λ none. record { first = c.args.from; last = c.loop-link.link; each = c.loop-link.invariant.each none }
+returns-clause-obeys c = λ none. each_all _ _ c.args.to c.loop-link.link _ _ (c.loop-link.invariant.each none) (omega arith)

@@ -1,8 +1,10 @@
+use Rattle.std.proofs.Common.{string_bytes}
 use Rattle.line_play.proofs.SetObeying.{never_none}
+use Rattle.line_play.proofs.SetDoing.{refused_fault}
 use Rattle.line_play.proofs.set_answers.refused_for.Goals as goal
 
-pub returns-in-Some-Refused : goal.returns-in-Some-Refused
-returns-in-Some-Refused c = never_none c.refusal.result _ c.refusal.ensures
+pub returns-in-Some-clause-none : goal.returns-in-Some-clause-none
+returns-in-Some-clause-none c = never_none c.refusal.result _ c.refusal.ensures.some
 
-pub returns-in-Some : goal.returns-in-Some
-returns-in-Some c = never_none c.refusal-in-Some.result _ c.refusal-in-Some.ensures
+pub returns-in-Some-clause-some : goal.returns-in-Some-clause-some
+returns-in-Some-clause-some c = refused_fault c.refusal.result (λ s. string_bytes s) c.in-Some.error c.refusal.ensures.text

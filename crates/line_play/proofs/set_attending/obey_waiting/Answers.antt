@@ -1,4 +1,5 @@
-use Rattle.std.proofs.Common.{refl, ◌∙◌}
+use Rattle.std.proofs.Common.{refl}
+use Rattle.line_play.specs.SetDoing.{stood}
 use Rattle.line_play.proofs.SetRounds.{waits_none, waits_more, waits_same, rests_empty}
 use Rattle.line_play.proofs.set_attending.obey_waiting.Goals as goal
 
@@ -7,7 +8,7 @@ loop-order-init g c = waits_none _ _ _
 
 pub loop-order-preserved : goal.loop-order-preserved
 loop-order-preserved g c =
-    waits_more c.args.state.now.tender c.loop-order.state.tender c.obey.new.self.tender _ _ _ _ _ (g.P.Reports.stand c.args.reports.now) (g.P.Reports.stand c.loop-order.reports) (g.P.Reports.stand c.obey.new.reports)
+    waits_more (stood c.args.state.now) (stood c.loop-order.state) (stood c.obey.new.self) _ _ _ _ _ (g.P.Reports.stand c.args.reports.now) (g.P.Reports.stand c.loop-order.reports) (g.P.Reports.stand c.obey.new.reports)
     c.loop-order.invariant c.in-Some.ensures.some c.as_str.ensures.value c.in_ok-obey-in-Some.ensures
 
 pub returns-then-branch-clause-rests : goal.returns-then-branch-clause-rests

@@ -1,4 +1,3 @@
-use Rattle.std.proofs.Common.{◌≡◌}
 use Rattle.line_play.specs.SetDesks.{AreNewWires}
 use Rattle.line_play.proofs.set_desk.wires.Given as goal
 

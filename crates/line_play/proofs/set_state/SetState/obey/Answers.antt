@@ -1,4 +1,5 @@
 use Rattle.script_lines.specs.Words.{words_of}
+use Rattle.line_play.specs.SetDoing.{stood}
 use Rattle.line_play.proofs.SetObeying.{reads_none, reads_some, refused_bad}
 use Rattle.line_play.proofs.set_state.SetState.obey.Goals as goal
 
@@ -7,4 +8,4 @@ obey_order-requires-clause-reads g c = reads_some _ (words_of c.args.text.now) c
 
 pub returns-in-None : goal.returns-in-None
 returns-in-None g c =
-    refused_bad c.refuse.result c.args.text.now _ c.args.self.now.tender _ _ (reads_none _ (words_of c.args.text.now) c.in-None.is c.in_ok-order.ensures.reads) c.refuse.ensures
+    refused_bad c.refuse.result c.args.text.now c.args.focus (stood c.args.self.now) _ _ (reads_none _ (words_of c.args.text.now) c.in-None.is c.in_ok-order.ensures.reads) c.refuse.ensures

@@ -1,7 +1,8 @@
 use Rattle.std.proofs.lemmas.Result.{IfOk-weaker}
 use Rattle.std.specs.Prelude.{IsNone}
 use Rattle.script_terminal.specs.TermAnswers.{command_of}
-use Rattle.line_play.specs.SetDoing.{Commands}
+use Rattle.line_play.specs.SetDoing.{stood, Commands}
+use Rattle.line_play.proofs.SetDoing.{commands}
 use Rattle.line_play.proofs.SetTelling.{ok_so}
 use Rattle.line_play.proofs.set_state.SetState.order_links.Goals as goal
 
@@ -10,5 +11,5 @@ returns-clause-adds c = ok_so c.refused_for.result _ c.in_ok-first.ensures.adds
 
 pub returns-clause-obeys : goal.returns-clause-obeys
 returns-clause-obeys c =
-    IfOk-weaker c.refused_for.result _ (λ r. IsNone r → Commands (command_of c.args.order) c.args.self.now.tender c.obey_links.new.tender)
-    (λ r is none. c.in_ok-first.ensures.obeys (is none)) c.refused_for.ensures
+    IfOk-weaker c.refused_for.result _ (λ r. IsNone r → Commands (command_of c.args.order) c.args.focus (stood c.args.self.now) (record { tender = c.obey_links.new.tender; focus = c.args.self.now.focus; since = c.args.self.now.since.items }))
+    (λ r is none. commands _ c.args.focus (stood c.args.self.now) _ _ _ c.links-from.ensures.first c.links-from.ensures.last (c.in_ok-first.ensures.obeys (is none))) c.refused_for.ensures.none

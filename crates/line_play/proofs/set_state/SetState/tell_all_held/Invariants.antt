@@ -1,5 +1,5 @@
 use Rattle.line_filter.specs.Desks.{Told as TellsSuch}
-use Rattle.line_play.specs.SetDoing.{ShowsHeld}
+use Rattle.line_play.specs.SetShowing.{ShowsHeld}
 use Rattle.line_play.proofs.set_state.SetState.tell_all_held.Given as goal
 
 abbrev pub invariant-loop-link : goal.invariant-loop-link

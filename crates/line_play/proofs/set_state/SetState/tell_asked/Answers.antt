@@ -1,3 +1,4 @@
+use Rattle.line_play.specs.SetDoing.{stood}
 use Rattle.line_play.proofs.SetTelling.{told_just, lines_shown}
 use Rattle.line_play.proofs.set_state.SetState.tell_asked.Goals as goal
 
@@ -12,5 +13,5 @@ returns-in-Held g c = rw c.in-Held.is c.tell_all_held.ensures
 
 pub returns-in_default : goal.returns-in_default
 returns-in_default g c =
-    lines_shown c.tell_of_links.result c.args.order.now c.args.self.now.tender _ _ c.in_default.not-Table c.in_default.not-Unsure c.in_default.not-Held
+    lines_shown c.tell_of_links.result c.args.order.now c.args.focus (stood c.args.self.now) _ _ _ _ c.links-from.ensures.first c.links-from.ensures.last c.in_default.not-Table c.in_default.not-Unsure c.in_default.not-Held
     c.tell_of_links.ensures

@@ -1,7 +1,8 @@
-use Rattle.line_play.specs.SetOrders.{measuring}
-use Rattle.line_play.proofs.SetTelling.{shows_one, is_count}
+use Rattle.std.proofs.Common.{refl}
+use Rattle.line_play.proofs.SetTelling.{told_as, count_line}
 use Rattle.line_play.proofs.set_state.SetState.tell_measure.Goals as goal
 
 pub returns : goal.returns
 returns g c =
-    shows_one c.say_text.result (measuring c.args.measure) _ _ _ _ (is_count _ _ _ c.args.link _ c.word-name.ensures c.in_ok-format.ensures.ok) c.say_text.ensures
+    told_as c.say_text.result _ _ _ _ _ _ refl
+    (count_line _ _ _ c.args.link _ _ c.word-name.ensures c.counted-count.ensures c.in_ok-format.ensures.ok) c.say_text.ensures

@@ -1,13 +1,15 @@
-use Rattle.line_play.proofs.SetTelling.{shows_none, then_measured, then_aborted}
+use Rattle.std.proofs.Common.{List, subst}
+use Rattle.std.specs.List.{flat_map}
+use Rattle.script_terminal.specs.resend_store_types.measures.Measure.{Measure}
+use Rattle.line_filter.specs.Reporting.{TellsLines}
+use Rattle.line_play.specs.SetDoing.{stood}
+use Rattle.line_play.specs.SetShowing.{count_told}
+use Rattle.line_play.proofs.SetTelling.{then_told}
 use Rattle.line_play.proofs.set_state.SetState.tell_measures.Goals as goal
-
-pub loop-measure-init : goal.loop-measure-init
-loop-measure-init g c = shows_none _ _ _
-
-pub loop-measure-preserved : goal.loop-measure-preserved
-loop-measure-preserved g c =
-    then_measured c.args.self.now.tender.ticks (g.P.Reports.stand c.args.reports.now) (g.P.Reports.stand c.loop-measure.reports) (g.P.Reports.stand c.tell_measure.new.reports) _ c.loop-measure.invariant c.in_ok-tell_measure.ensures
 
 pub returns : goal.returns
 returns g c =
-    then_aborted c.tell_aborted.result c.args.self.now.tender.ticks (g.P.Reports.stand c.args.reports.now) (g.P.Reports.stand c.loop-measure.reports) (g.P.Reports.stand c.tell_aborted.new.reports) c.loop-measure.invariant c.tell_aborted.ensures
+    then_told c.tell_aborted.result _ _ _ _ _
+    (subst (λ (ms : List Measure). TellsLines (g.P.Reports.stand c.args.reports.now) (g.P.Reports.stand c.tell_counts.new.reports) (flat_map (count_told (stood c.args.self.now) c.args.link) ms))
+    c.all_measures-all.ensures c.in_ok-tell_counts.ensures)
+    c.tell_aborted.ensures

@@ -1,4 +1,4 @@
-use Rattle.line_play.proofs.SetTelling.{shows_none}
+use Rattle.line_play.proofs.SetTelling.{shown_none}
 use Rattle.line_play.proofs.set_state.SetState.tell_one_asked.Goals as goal
 
 pub returns-in-State : goal.returns-in-State
@@ -17,4 +17,4 @@ pub returns-in-Measures : goal.returns-in-Measures
 returns-in-Measures g c = rw c.in-Measures.is c.tell_measures.ensures
 
 pub returns-in_default : goal.returns-in_default
-returns-in_default g c = shows_none _ _ _
+returns-in_default g c = shown_none c.args.order.now _ _ _ c.in_default.not-State c.in_default.not-Value c.in_default.not-Measure c.in_default.not-Aborted c.in_default.not-Measures
