@@ -1,5 +1,5 @@
 -- Orders to a set, obeyed and told.
-use Rattle.std.proofs.Common.{◌≡◌, ◌∙◌, ◌⊎◌, inl, inr, ℕ, ◌+◌, ◌<◌, Bool, true, false, List, [], ◌∷◌, ◌++◌, length, codes, Option, None, Some, Result, Ok, Err, OnOk, IfOk, IfSome, IsSome, IsNone, option_map, true≢false, refl, sym, ap, subst, arith}
+use Rattle.std.proofs.Common.{◌≡◌, ◌∙◌, ◌⊎◌, inl, inr, ℕ, ◌+◌, ◌<◌, Bool, true, false, List, [], ◌∷◌, ◌++◌, length, codes, Option, None, Some, is_some, Result, Ok, Err, OnOk, IfOk, IfSome, IsSome, IsNone, option_map, true≢false, refl, sym, ap, subst, arith}
 use Rattle.std.proofs.lemmas.Result.{on_ok_weaker}
 use Rattle.std.proofs.lemmas.Option.{none-some}
 use Rattle.script_links.specs.resend_store_types.messages.Msu.{Msu}
@@ -109,6 +109,11 @@ nothing_said (Err e) P h = tt
 
 pub reads_none : (r : Option SetOrder) (words : List (List ℕ)) → r ≡ None → option_map plain_set_order r ≡ set_order_of words → set_order_of words ≡ None
 reads_none r words is read = sym read ∙ ap (option_map plain_set_order) is
+
+pub reads_not : (r : Option SetOrder) (words : List (List ℕ)) (b : Bool) → b ≡ is_some r → option_map plain_set_order r ≡ set_order_of words → b ≡ false
+    → set_order_of words ≡ None
+reads_not None words b b_is read denied = sym read
+reads_not (Some s) words b b_is read denied = absurd (true≢false (sym b_is ∙ denied))
 
 pub reads_some : (r : Option SetOrder) (words : List (List ℕ)) (s : SetOrder) → r ≡ Some s → option_map plain_set_order r ≡ set_order_of words
     → set_order_of words ≡ Some (plain_set_order s)

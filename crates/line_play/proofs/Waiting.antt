@@ -27,7 +27,7 @@ waits_none (w ∷ ws) count b count_is is none_there = absurd (omega (arith, ap 
 pub first_is : (ws : List Waiting) (r : Option (Bor Waiting)) → IsItemAt ws 0 r → option_map (λ w. string_bytes w.now.text) r ≡ slice_get (texts ws) 0
 first_is [] None item = refl
 first_is [] (Some x) item = absurd (true≢false item.0)
-first_is (w ∷ ws) None item = absurd (true≢false (sym item.0))
+first_is (w ∷ ws) None item = absurd (true≢false (sym (item.2 (omega arith))))
 first_is (w ∷ ws) (Some x) item = ap (λ (v : Waiting). Some (string_bytes v.text)) item.1
 
 pub many_wait : (ws : List Waiting) (count most : ℕ) → count ≡ length ws → most ≤ count → most ≤ length (texts ws)
@@ -42,8 +42,8 @@ none_taken None old new is none = sym (ap texts is)
 none_taken (Some w) old new is none = absurd (let e : true ≡ false = none in cc)
 
 nothing : (n : ℕ) → (0 < n → ⊥) → n ≡ 0
-nothing zero no = refl
-nothing (suc n) no = absurd (no (omega arith))
+nothing zero none_more = refl
+nothing (suc n) none_more = absurd (none_more (omega arith))
 
 pub empty_taken : (r : Option Waiting) (old new : List Waiting) (count : ℕ) → old ≡ option_to_list r ++ new → count ≡ length old → (IsSome r ↔ (0 < count))
     → IsNone r → texts new ≡ []

@@ -75,15 +75,22 @@ fn may_overtake(alloc: Global, queue: &Queue, text: &str) -> Result<bool, AllocE
     }
 }
 
+/// Whether a line says an order.
+fn is_order(alloc: Global, text: &str) -> Result<bool, AllocError>
+    ensures { IfOk result (λ is. is ≡ false → set_order_of (words_of text.now) ≡ None) }
+{
+    let order = set_order_in(alloc, text)?;
+    Ok(order.is_some())
+}
+
 /// Whether a line says nothing to a set: it is a report, and no order.
 fn says_nothing(alloc: Global, text: &str) -> Result<bool, AllocError>
     ensures { IfOk result (λ nothing. nothing ≡ true → set_order_of (words_of text.now) ≡ None) }
 {
-    let order = set_order_in(alloc, text)?;
-    match order {
-        Some(_) => Ok(false),
-        None => is_set_report(alloc, text),
+    if is_order(alloc, text)? {
+        return Ok(false);
     }
+    is_set_report(alloc, text)
 }
 
 /// Whether an order ends the run.

@@ -16,8 +16,8 @@ use Rattle.script_check.specs.declared.sets.Refusal.{Refusal}
 use Rattle.script_check.specs.declared.sets.SetWord.{SetWord}
 use Rattle.script_check.specs.declared.sets.SetWord.TheVariants.{Standard as standard_set, Q703 as q703_set, Monitors as monitors_set, Text}
 use Rattle.script_check.specs.turn_code_types.draft.Draft.{Draft}
-use Rattle.mtp2_words.specs.declared.words.Named.{Named}
-use Rattle.mtp2_words.specs.declared.words.Named.TheVariants.{Standard, Q703, Monitors, Stdin, File}
+use Rattle.mtp2_words.specs.declared.requests.Named.{Named}
+use Rattle.mtp2_words.specs.declared.requests.Named.TheVariants.{Standard, Q703, Monitors, Stdin, File}
 use Rattle.mtp2_play.specs.Compared.{same_text, terminal_text, way_lines, AreAlike, AreFound, IsCompared, IsSummary, PrintsDifference, PrintsSide, SaysTerminal}
 use Rattle.mtp2_play.specs.Sets.{own_set_of, own_text_of}
 

@@ -1,9 +1,9 @@
 -- What is said of a command that failed, however far it came.
 use Rattle.std.proofs.Common.{◌≡◌, ◌⊎◌, ℕ, List, [], ◌∷◌, Option, None, inl, inr, refl, sym, subst, arith}
 use Rattle.line_filter.specs.Filters.{Line as Octets}
-use Rattle.mtp2_words.specs.declared.words.Named.{Named}
-use Rattle.mtp2_words.specs.declared.words.Request.{Request}
-use Rattle.mtp2_words.specs.declared.words.Request.TheVariants.{Check, Play, Soak, Line, Tend, Frame, Draw, Print, Diff}
+use Rattle.mtp2_words.specs.declared.requests.Named.{Named}
+use Rattle.mtp2_words.specs.declared.requests.Request.{Request}
+use Rattle.mtp2_words.specs.declared.requests.Request.TheVariants.{Check, Play, Soak, Line, Tend, Frame, Draw, Print, Diff}
 use Rattle.mtp2_play.specs.Compared.{IsCompared}
 use Rattle.mtp2_play.specs.Printed.{AreCheckedAll, IsAnswered}
 use Rattle.mtp2_play.specs.Sets.{own_text_of}

@@ -1,6 +1,6 @@
 -- Sets that are checked, one alone or several in turn.
 use Rattle.std.proofs.Common.{◌≡◌, ℕ, List, [], ◌∷◌, Option, ap, subst, length, get_or}
-use Rattle.mtp2_words.specs.declared.words.Named.{Named}
+use Rattle.mtp2_words.specs.declared.requests.Named.{Named}
 use Rattle.mtp2_play.specs.Printed.{AreCheckedAll, IsChecked, IsDone}
 
 pub alone : (sets : List Named) (d : Named) (status : ℕ) (old new : Option (List ℕ)) → length sets ≡ 1 → IsChecked (get_or sets 0 d) status old new → IsDone status

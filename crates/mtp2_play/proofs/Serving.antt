@@ -3,7 +3,7 @@ use Rattle.std.proofs.Common.{◌≡◌, ◌⊎◌, inl, inr, subst, ℕ, List, 
 use Rattle.clap.specs.Words.{Text, fault_of, subcommand_of}
 use Rattle.mtp2_words.specs.Asked.{IsAskedBy}
 use Rattle.mtp2_words.specs.Commands.{all_commands}
-use Rattle.mtp2_words.specs.declared.words.Request.{Request}
+use Rattle.mtp2_words.specs.declared.requests.Request.{Request}
 use Rattle.mtp2_play.specs.Printed.{IsStatus}
 use Rattle.mtp2_play.specs.Served.{IsServedBy, WasServed, is_run}
 use Rattle.mtp2_play.specs.declared.asked.Came.{Came}

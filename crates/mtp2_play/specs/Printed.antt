@@ -28,10 +28,10 @@ use Rattle.mtp2_words.specs.declared.seeing.Seeing.{Seeing}
 use Rattle.mtp2_words.specs.declared.seeing.Sight.{Sight}
 use Rattle.mtp2_words.specs.declared.seeing.Sight.TheVariants as sights
 use Rattle.mtp2_words.specs.declared.seeing.Turns.{Turns}
-use Rattle.mtp2_words.specs.declared.words.Named.{Named}
-use Rattle.mtp2_words.specs.declared.words.Request.{Request}
-use Rattle.mtp2_words.specs.declared.words.Request.TheVariants.{Check, Play, Soak, Line, Frame}
-use Rattle.mtp2_words.specs.declared.words.Request.TheVariants.{Tend, Draw, Print, Diff}
+use Rattle.mtp2_words.specs.declared.requests.Named.{Named}
+use Rattle.mtp2_words.specs.declared.requests.Request.{Request}
+use Rattle.mtp2_words.specs.declared.requests.Request.TheVariants.{Check, Play, Soak, Line, Frame}
+use Rattle.mtp2_words.specs.declared.requests.Request.TheVariants.{Tend, Draw, Print, Diff}
 
 -- the exit statuses: done, an expectation failed or something differs, refused, usage, failed
 abbrev pub IsStatus : ℕ → Type 0

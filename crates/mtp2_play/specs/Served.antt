@@ -7,9 +7,9 @@ use Rattle.line_filter.specs.Filters.{Line as Octets}
 use Rattle.mtp2_words.specs.Asked.{IsAskedBy}
 use Rattle.mtp2_words.specs.Commands.{all_commands}
 use Rattle.mtp2_words.specs.TurnedDown.{IsTurnedDown}
-use Rattle.mtp2_words.specs.declared.words.Request.{Request}
-use Rattle.mtp2_words.specs.declared.words.Request.TheVariants.{Soak}
-use Rattle.mtp2_words.specs.declared.words.Source.{Source}
+use Rattle.mtp2_words.specs.declared.requests.Request.{Request}
+use Rattle.mtp2_words.specs.declared.requests.Request.TheVariants.{Soak}
+use Rattle.mtp2_words.specs.declared.requests.Source.{Source}
 use Rattle.mtp2_play.specs.Printed.{IsAnswered, IsFault, IsStatus}
 use Rattle.mtp2_play.specs.declared.asked.Came.{Came}
 use Rattle.mtp2_play.specs.declared.asked.Came.TheVariants as came

@@ -6,7 +6,7 @@ use Rattle.line_play.specs.declared.set_opening.SetPlan.{SetPlan}
 use Rattle.line_play.specs.Tended.{Tended}
 use Rattle.mtp2_words.specs.Limits.{usual_limits_of}
 use Rattle.mtp2_words.specs.declared.set_ends.SetEnd.{SetEnd}
-use Rattle.mtp2_words.specs.declared.words.Named.{Named}
+use Rattle.mtp2_words.specs.declared.requests.Named.{Named}
 
 -- what words of `set` say a set is opened with
 abbrev pub plan_of : Named → ℕ → SetEnd → SetPlan

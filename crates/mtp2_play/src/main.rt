@@ -8,10 +8,12 @@ ghost use Rattle.clap.specs.declared.error.kind.ErrorKind.TheVariants.{OutOfMemo
 ghost use Rattle.mtp2_play.specs.Printed.{IsAnswered, IsFault};
 ghost use Rattle.mtp2_play.specs.Served.{IsServedBy, WasAnswered, WasServed};
 
+mod allowance;
 mod asked;
 mod captures;
 mod checks;
 mod differences;
+mod inlet;
 mod lines;
 mod measuring;
 mod order_fronts;

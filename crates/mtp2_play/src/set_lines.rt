@@ -1,10 +1,11 @@
 //! The lines of a set, which threads read and write.
 ghost use Rattle.std.specs.Prelude.{None};
 
+use crate::inlet::Inlet;
 use crate::set_tap::SetTap;
 use line_filter::Bits;
 use line_play::{Came, Lines};
-use line_streams::{Departures, Fed, Feed, open_both};
+use line_streams::{Departures, Fed, open_both};
 use plain_text::Teller;
 use std::alloc::{AllocError, Global};
 use std::fs::File;
@@ -21,7 +22,7 @@ const PATIENCE: u64 = 10_000;
 /// A line that is open.
 #[derive(Drop)]
 struct Open {
-    feed: Feed,
+    inlet: Inlet,
     sink: Departures,
 }
 
@@ -32,6 +33,8 @@ struct SetLine<'a> {
     input: &'a str,
     /// Where they go to, where that is another file.
     output: Option<&'a str>,
+    /// How many octets go ahead of others.
+    ahead: usize,
     open: Option<Open>,
     /// For how many rounds it hasn't been open.
     shut: u64,
@@ -104,7 +107,7 @@ impl SetLine<'_> {
             None => input.try_clone()?,
         };
         Ok(Open {
-            feed: Feed::start(host, alloc, input)?,
+            inlet: Inlet::start(host, alloc, input, self.ahead)?,
             sink: Departures::start(host, alloc, output)?,
         })
     }
@@ -135,7 +138,7 @@ impl SetLine<'_> {
         }
     }
 
-    /// What came of it.
+    /// What came of it, as far as it counts.
     fn take<H: Files<File = File> + Threads + Eprint>(
         &mut self,
         host: &H,
@@ -145,7 +148,7 @@ impl SetLine<'_> {
     ) -> Came {
         let fed = match &mut self.open {
             Some(_) if self.broken => Fed::Failed,
-            Some(open) => open.feed.take(part),
+            Some(open) => open.inlet.take(part),
             None => return self.reopen(host, teller, alloc),
         };
         match fed {
@@ -175,7 +178,7 @@ impl SetLine<'_> {
 }
 
 impl<'a, H: Eprint> SetLines<'a, H> {
-    /// Lines that these words name, none of them open.
+    /// Lines that these words name, none of them open, on which so many octets go ahead of others.
     ///
     /// # Errors
     ///
@@ -185,6 +188,7 @@ impl<'a, H: Eprint> SetLines<'a, H> {
         teller: &'a Teller<'a, H>,
         alloc: Global,
         bits: Bits,
+        ahead: usize,
         words: &[&'a str],
         tap: Option<SetTap>,
     ) -> Result<SetLines<'a, H>, AllocError> {
@@ -194,6 +198,7 @@ impl<'a, H: Eprint> SetLines<'a, H> {
             lines.push(SetLine {
                 input,
                 output,
+                ahead,
                 open: None,
                 shut: 0,
                 failed: false,

@@ -137,7 +137,15 @@ fn serve<H: Files<File = File> + Threads + Eprint + Clock + AllocGlobal>(
         Ok(tap) => tap,
         Err(status) => return status,
     };
-    let Ok(mut open_lines) = SetLines::shut(host, teller, host.alloc(), end.bits, lines, tap) else {
+    let Ok(mut open_lines) = SetLines::shut(
+        host,
+        teller,
+        host.alloc(),
+        end.bits,
+        end.ahead,
+        lines,
+        tap,
+    ) else {
         return FAILED;
     };
     let Ok(mut desk) = SetDesk::new(host.alloc(), tender, end.ahead, orders, reports) else {

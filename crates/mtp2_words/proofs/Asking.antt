@@ -19,9 +19,9 @@ use Rattle.mtp2_words.specs.Seeing.{IsSeenBy}
 use Rattle.mtp2_words.specs.declared.seeing.Seeing.{Seeing}
 use Rattle.mtp2_words.specs.Asked.{Given, given_by, given_in, AreAllAsked, AreNamed, AreBothStdin, AreUnderIds, AsksEnd, AsksNothing, IsAsked, IsAskedBy, IsNoPlay, IsNoPrint, IsNoSoak, SaysNothing, AsksDiff, AsksDraw, IsNoDiff, AreSetUnderIds, AsksSetEnd, AreLinesOf, AreNoLines, AreSeenUnder, AsksSeen, SaysNoSeeing}
 use Rattle.mtp2_words.specs.declared.seeing.SeeingWords.{SeeingWords}
-use Rattle.mtp2_words.specs.declared.words.Named.{Named}
-use Rattle.mtp2_words.specs.declared.words.Request.{Request}
-use Rattle.mtp2_words.specs.declared.words.Request.TheVariants.{Check, Play, Soak, Line, Tend, Frame, Draw, Print, Diff}
+use Rattle.mtp2_words.specs.declared.requests.Named.{Named}
+use Rattle.mtp2_words.specs.declared.requests.Request.{Request}
+use Rattle.mtp2_words.specs.declared.requests.Request.TheVariants.{Check, Play, Soak, Line, Tend, Frame, Draw, Print, Diff}
 
 -- ---- words under their ids
 

@@ -9,7 +9,7 @@ use Rattle.clap.specs.declared.error.kind.ErrorKind.TheVariants.{OutOfMemory}
 use Rattle.mtp2_words.specs.Asked.{IsAskedBy, SaysNothing}
 use Rattle.mtp2_words.specs.Commands.{all_commands, IsCommand}
 use Rattle.mtp2_words.specs.TurnedDown.{IsTurnedDown}
-use Rattle.mtp2_words.specs.declared.words.Request.{Request}
+use Rattle.mtp2_words.specs.declared.requests.Request.{Request}
 
 neither : (a b c : Bool) → a ≡ (b || c) → b ≡ false → c ≡ false → a ≡ false
 neither a b c e f g = e ∙ ap₂ (λ x y. x || y) f g

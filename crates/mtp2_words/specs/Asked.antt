@@ -17,11 +17,11 @@ use Rattle.mtp2_words.specs.Words.{IsSource, IsText, IsSetText, IsNoSetText, Nam
 use Rattle.mtp2_words.specs.Seeing.{IsSeenBy, IsNoSeeing}
 use Rattle.mtp2_words.specs.declared.seeing.Seeing.{Seeing}
 use Rattle.mtp2_words.specs.declared.seeing.SeeingWords.{SeeingWords}
-use Rattle.mtp2_words.specs.declared.words.Named.{Named}
-use Rattle.mtp2_words.specs.declared.words.Source.{Source}
-use Rattle.mtp2_words.specs.declared.words.Request.{Request}
-use Rattle.mtp2_words.specs.declared.words.Request.TheVariants.{Check, Play, Soak, Line, Frame}
-use Rattle.mtp2_words.specs.declared.words.Request.TheVariants.{Tend, Draw, Print, Diff}
+use Rattle.mtp2_words.specs.declared.requests.Named.{Named}
+use Rattle.mtp2_words.specs.declared.requests.Source.{Source}
+use Rattle.mtp2_words.specs.declared.requests.Request.{Request}
+use Rattle.mtp2_words.specs.declared.requests.Request.TheVariants.{Check, Play, Soak, Line, Frame}
+use Rattle.mtp2_words.specs.declared.requests.Request.TheVariants.{Tend, Draw, Print, Diff}
 
 -- the first word under each id, if there is one
 abbrev pub Given : Type 0

@@ -32,23 +32,25 @@ play_begun =
     with_rule (with_rule (new_app (codes "play")) (plain_word (codes "SET")))
     (plain_word (codes "SCRIPT"))
 
--- a command with the options that say what of a run is seen beside its replies
-abbrev pub with_seeing_options : App → App
-with_seeing_options command =
+-- a command with the options that say which turns of a run are seen, and how
+abbrev pub with_turn_options : App → App
+with_turn_options command =
     with_rule
     (with_rule
-    (with_rule
-    (with_rule
-    (with_rule
-    (with_rule
     (with_rule (with_rule command (flag_word (codes "echo"))) (option_word (codes "trace")))
-    (option_word (codes "chart"))) (option_word (codes "turns")))
-    (option_word (codes "coverage"))) (option_word (codes "thrown")))
+    (option_word (codes "chart"))) (option_word (codes "turns"))
+
+-- a command with the options that say what is counted and captured of a run
+abbrev pub with_count_options : App → App
+with_count_options command =
+    with_rule
+    (with_rule
+    (with_rule (with_rule command (option_word (codes "coverage"))) (option_word (codes "thrown")))
     (option_word (codes "capture"))) (flag_word (codes "every"))
 
 -- `play SET SCRIPT`, with its options
 abbrev pub play_command : App
-play_command = with_seeing_options play_begun
+play_command = with_count_options (with_turn_options play_begun)
 
 -- `soak SCRIPT --workers N`, which has to be there
 abbrev pub soak_command : App

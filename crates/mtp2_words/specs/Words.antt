@@ -4,14 +4,14 @@ use Rattle.std.specs.Prelude.{codes, Bool, false, bytes_eq}
 use Rattle.std.specs.Int.{is_in_range}
 use Rattle.plain_laws.specs.Limits.{LEAST_WORKERS, MOST_WORKERS}
 use Rattle.script_links.specs.Numbers.{count_of}
-use Rattle.mtp2_words.specs.declared.words.Named.{Named}
-use Rattle.mtp2_words.specs.declared.words.Named.TheVariants.{Standard, Q703, Monitors, Stdin, File}
-use Rattle.mtp2_words.specs.declared.words.Source.{Source}
-use Rattle.mtp2_words.specs.declared.words.Source.TheVariants.{Stdin as stdin, File as script_file}
+use Rattle.mtp2_words.specs.declared.requests.Named.{Named}
+use Rattle.mtp2_words.specs.declared.requests.Named.TheVariants.{Standard, Q703, Monitors, Stdin, File}
+use Rattle.mtp2_words.specs.declared.requests.Source.{Source}
+use Rattle.mtp2_words.specs.declared.requests.Source.TheVariants.{Stdin as stdin, File as script_file}
 use Rattle.mtp2_words.specs.declared.seeing.Seeing.{Seeing}
-use Rattle.mtp2_words.specs.declared.words.Request.{Request}
-use Rattle.mtp2_words.specs.declared.words.Request.TheVariants.{Check, Play, Soak, Line, Frame}
-use Rattle.mtp2_words.specs.declared.words.Request.TheVariants.{Tend, Draw, Print, Diff}
+use Rattle.mtp2_words.specs.declared.requests.Request.{Request}
+use Rattle.mtp2_words.specs.declared.requests.Request.TheVariants.{Check, Play, Soak, Line, Frame}
+use Rattle.mtp2_words.specs.declared.requests.Request.TheVariants.{Tend, Draw, Print, Diff}
 
 -- a file may have any name but these
 pub record IsFileName (word : List ℕ) : Type 0 where

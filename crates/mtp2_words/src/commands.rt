@@ -1,7 +1,7 @@
 //! The commands of the program, and the words that they take.
 ghost use Rattle.std.specs.Prelude.{◌≡◌, IfOk, false};
 ghost use Rattle.clap.specs.Words.{app_of};
-ghost use Rattle.mtp2_words.specs.Commands.{check_command, play_command, soak_command, line_begun, line_command, frame_command, draw_command, diff_command, text_command, play_begun, with_seeing_options, all_commands, program_begun, with_line_options, with_limit_options, with_capture_options, with_measures_option, has_globals, IsCommand};
+ghost use Rattle.mtp2_words.specs.Commands.{check_command, play_command, soak_command, line_begun, line_command, frame_command, draw_command, diff_command, text_command, play_begun, with_turn_options, with_count_options, all_commands, program_begun, with_line_options, with_limit_options, with_capture_options, with_measures_option, has_globals, IsCommand};
 
 use crate::arguments::{bare_command, flag_word, option_word, optional_word, plain_word};
 use crate::set_commands::set_command;
@@ -81,9 +81,9 @@ fn play_begun<'a>(alloc: Global) -> Result<Command<'a>, AllocError>
     .arg(script)
 }
 
-/// The options that say what of a run is seen beside its replies.
-fn with_seeing_options<'a>(alloc: Global, command: Command<'a>) -> Result<Command<'a>, AllocError>
-    ensures { has_globals command.entry ≡ false → IfOk result (IsCommand (with_seeing_options (app_of command.entry))) }
+/// The options that say which turns of a run are seen, and how.
+fn with_turn_options<'a>(alloc: Global, command: Command<'a>) -> Result<Command<'a>, AllocError>
+    ensures { has_globals command.entry ≡ false → IfOk result (IsCommand (with_turn_options (app_of command.entry))) }
 {
     let echo = flag_word(
         alloc,
@@ -108,6 +108,13 @@ fn with_seeing_options<'a>(alloc: Global, command: Command<'a>) -> Result<Comman
         "A..B",
         "Which turns are drawn, by their numbers in a trace; all where nothing is said",
     );
+    command.arg(echo)?.arg(trace)?.arg(chart)?.arg(turns)
+}
+
+/// The options that say what is counted and captured of a run.
+fn with_count_options<'a>(alloc: Global, command: Command<'a>) -> Result<Command<'a>, AllocError>
+    ensures { has_globals command.entry ≡ false → IfOk result (IsCommand (with_count_options (app_of command.entry))) }
+{
     let coverage = option_word(
         alloc,
         "coverage",
@@ -131,22 +138,14 @@ fn with_seeing_options<'a>(alloc: Global, command: Command<'a>) -> Result<Comman
         "every",
         "Has signals that are thrown away traced too, and turns that change nothing; and every unit captured",
     );
-    command
-        .arg(echo)?
-        .arg(trace)?
-        .arg(chart)?
-        .arg(turns)?
-        .arg(coverage)?
-        .arg(thrown)?
-        .arg(capture)?
-        .arg(every)
+    command.arg(coverage)?.arg(thrown)?.arg(capture)?.arg(every)
 }
 
 /// The command `play`.
 fn play_command<'a>(alloc: Global) -> Result<Command<'a>, AllocError>
     ensures { IfOk result (IsCommand play_command) }
 {
-    with_seeing_options(alloc, play_begun(alloc)?)
+    with_count_options(alloc, with_turn_options(alloc, play_begun(alloc)?)?)
 }
 
 /// The command `soak`.

@@ -2,7 +2,7 @@
 ghost use Rattle.std.specs.Prelude.{◌≡◌, option_map};
 ghost use Rattle.mtp2_words.specs.Limits.{usual_limits_of, messages_named, messages_of, octets_named, octets_of};
 
-use crate::words::Named;
+use crate::requests::Named;
 use script_links::{Mode, RoundLimits, USUAL_LIMITS, count};
 
 /// With how many unacknowledged octets cyclic retransmission is forced over the set `q703` where nothing else is chosen. On a full line these last

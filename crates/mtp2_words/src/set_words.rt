@@ -5,8 +5,9 @@ ghost use Rattle.mtp2_words.specs.Words.{command_of, IsOwnNamed, NamesNone, IsSe
 ghost use Rattle.mtp2_words.specs.Asked.{given_by, IsAsked, AreAllAsked, AsksSetEnd, IsNoSetEndBy, IsNoSet, AreLinesOf, AreNoLines};
 
 use crate::flags::is_given;
+use crate::requests::{Named, Request};
 use crate::set_ends::{SetEnd, SetWords, are_few, set_end};
-use crate::words::{Named, Request, text_named};
+use crate::words::text_named;
 use clap::ArgMatches;
 use std::alloc::{AllocError, Global};
 
