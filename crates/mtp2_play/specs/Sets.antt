@@ -8,7 +8,8 @@ use Rattle.script_check.specs.declared.sets.SetWord.TheVariants.{Standard as sta
 use Rattle.script_check.specs.declared.sets.SetWord.TheVariants.{Q703 as q703_set}
 use Rattle.script_check.specs.declared.sets.SetWord.TheVariants.{Monitors as monitors_set}
 use Rattle.mtp2_words.specs.declared.requests.Named.{Named}
-use Rattle.mtp2_words.specs.declared.requests.Named.TheVariants.{Standard, Q703, Monitors, Stdin, File}
+use Rattle.mtp2_words.specs.declared.requests.Named.TheVariants.{Standard, Q703, Monitors, Stdin}
+use Rattle.mtp2_words.specs.declared.requests.Named.TheVariants.{File}
 
 -- the set of the program's own that is named, if it is one
 abbrev pub own_set_of : {R : Type 0} → Named → Option (SetWord R)

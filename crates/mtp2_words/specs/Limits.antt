@@ -9,7 +9,8 @@ use Rattle.script_links.specs.resend_store_types.messages.Mode.TheVariants.{Basi
 use Rattle.script_links.specs.resend_store_types.messages.RoundLimits.{RoundLimits}
 use Rattle.script_links.specs.Numbers.{count_of}
 use Rattle.mtp2_words.specs.declared.requests.Named.{Named}
-use Rattle.mtp2_words.specs.declared.requests.Named.TheVariants.{Standard, Q703, Monitors, Stdin, File}
+use Rattle.mtp2_words.specs.declared.requests.Named.TheVariants.{Standard, Q703, Monitors, Stdin}
+use Rattle.mtp2_words.specs.declared.requests.Named.TheVariants.{File}
 
 -- N2 of the set `q703`, where nothing else is chosen
 abbrev pub Q703_OCTETS : ℕ

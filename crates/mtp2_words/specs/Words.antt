@@ -5,9 +5,11 @@ use Rattle.std.specs.Int.{is_in_range}
 use Rattle.plain_laws.specs.Limits.{LEAST_WORKERS, MOST_WORKERS}
 use Rattle.script_links.specs.Numbers.{count_of}
 use Rattle.mtp2_words.specs.declared.requests.Named.{Named}
-use Rattle.mtp2_words.specs.declared.requests.Named.TheVariants.{Standard, Q703, Monitors, Stdin, File}
+use Rattle.mtp2_words.specs.declared.requests.Named.TheVariants.{Standard, Q703, Monitors, Stdin}
+use Rattle.mtp2_words.specs.declared.requests.Named.TheVariants.{File}
 use Rattle.mtp2_words.specs.declared.requests.Source.{Source}
-use Rattle.mtp2_words.specs.declared.requests.Source.TheVariants.{Stdin as stdin, File as script_file}
+use Rattle.mtp2_words.specs.declared.requests.Source.TheVariants.{Stdin as stdin}
+use Rattle.mtp2_words.specs.declared.requests.Source.TheVariants.{File as script_file}
 use Rattle.mtp2_words.specs.declared.seeing.Seeing.{Seeing}
 use Rattle.mtp2_words.specs.declared.requests.Request.{Request}
 use Rattle.mtp2_words.specs.declared.requests.Request.TheVariants.{Check, Play, Soak, Line, Frame}
