@@ -65,7 +65,7 @@ impl Tender {
         self.care(link).is_coming(may_start)
     }
 
-    /// Whether another link is.
+    /// Whether a link other than this one is on its way into service.
     fn another_comes(&self, link: usize) -> bool {
         for other in 0..self.len() {
             if other != link && self.is_coming(other) {

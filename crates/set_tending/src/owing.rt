@@ -90,7 +90,7 @@ impl Tender {
         Some(Owed { by: None, ..left })
     }
 
-    /// The same a tick later.
+    /// What is owed about a link a tick later.
     fn waited(&self, about: usize, owed: Owed) -> Owed {
         if self.least_loaded(about).is_some() {
             Owed {
@@ -150,7 +150,7 @@ impl Tender {
         Ok(())
     }
 
-    /// Something is to be said of a link, in place of what was.
+    /// A message about a link is owed, in place of the one that was.
     pub(crate) fn owe(&mut self, link: usize, kind: Kind)
         ensures { self.new ≡ self.old }
     {

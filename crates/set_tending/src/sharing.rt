@@ -9,11 +9,11 @@ use arrayvec::ArrayVec;
 use group_changeover::{label_of, pick};
 use link_group::{LinkState, Msu, RebalanceError};
 
-/// For so many ticks messages to send wait at most, so that links run empty; behind as many rounds in which it is in the way a link with a
+/// Messages to send wait for so many ticks at most, so that links run empty; after as many rounds in which its messages are in the way a link with a
 /// processor out is left.
 const DRAIN: u64 = 1_000;
 
-/// Then they don't, for so many ticks.
+/// After that they don't wait, for so many ticks.
 const CALM: u64 = 5_000;
 
 /// How sharing out goes.
