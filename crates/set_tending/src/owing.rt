@@ -5,11 +5,19 @@ ghost use Rattle.set_tending.specs.Rounds.{Adds};
 use crate::care::{Owed, PATIENCE};
 use crate::tender::{TendError, Tender};
 use crate::told::Told;
-use group_changeover::Kind;
+use group_changeover::{Kind, read_changeover};
 use link_group::Msu;
 
 /// More messages than a link holds.
 const UNTESTED: usize = 1_000_000;
+
+/// Whether a message is one of changeover about a link.
+fn is_word(msu: &Msu, about: usize) -> bool {
+    match read_changeover(msu.sif.as_slice()) {
+        Some(message) => msu.sio % 16 == 0 && usize::from(message.label.sls) == about,
+        None => false,
+    }
+}
 
 impl Tender {
     /// Whether a link takes messages about others: it is in service and not held, and no processor is out there.
@@ -56,6 +64,18 @@ impl Tender {
         for place in 0..held {
             match self.set.held_at(link, place) {
                 Some(kept) if kept == msu => return true,
+                _ => {}
+            }
+        }
+        false
+    }
+
+    /// Whether a link holds a message of changeover about another one.
+    pub(crate) fn holds_word(&self, by: usize, about: usize) -> bool {
+        let held = self.set.held(by).unwrap_or(0);
+        for place in 0..held {
+            match self.set.held_at(by, place) {
+                Some(msu) if is_word(msu, about) => return true,
                 _ => {}
             }
         }

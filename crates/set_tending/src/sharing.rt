@@ -172,11 +172,11 @@ impl Tender {
         !self.any_failed(able)
     }
 
-    /// The selection of a message that a link holds.
+    /// The selection of a message that a link holds, unless it is bound to it.
     fn selection_at(&self, link: usize, place: usize) -> Option<u8> {
         match self.set.held_at(link, place) {
-            Some(msu) => selection_of(msu),
-            None => None,
+            Some(msu) if !self.set.is_bound(msu) => selection_of(msu),
+            _ => None,
         }
     }
 

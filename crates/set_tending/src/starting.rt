@@ -26,6 +26,29 @@ impl Tender {
         }
     }
 
+    /// Whether a link with a processor out holds a message of changeover about another one: once the processor is back it would go, long behind, and be
+    /// taken for a new one.
+    fn is_stuck(&self, by: usize, about: usize) -> bool {
+        match self.state(by) {
+            Some(state) if state.in_service && (state.far_out || state.own_out) => {
+                self.holds_word(by, about)
+            }
+            _ => false,
+        }
+    }
+
+    /// Links are left that hold such a message about this one, so that it goes with their changeover.
+    fn leave_stuck(&mut self, about: usize) -> Result<(), TendError>
+        ensures { OnOk result (Adds self.old self.new) }
+    {
+        for by in 0..self.len() {
+            if by != about && self.is_stuck(by, about) {
+                self.begin_changeover(by)?;
+            }
+        }
+        Ok(())
+    }
+
     /// Starts a link where that is due, and doesn't wait for what is to be said of it, for 1,400 ticks at most.
     pub(crate) fn start(&mut self, link: usize) -> Result<(), TendError>
         ensures { OnOk result (Adds self.old self.new) }
@@ -37,6 +60,7 @@ impl Tender {
         if waited < PATIENCE && self.has_to_wait(link) {
             return Ok(());
         }
+        self.leave_stuck(link)?;
         if !self.command(link, Command::Start)? {
             return Ok(());
         }
