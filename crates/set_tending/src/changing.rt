@@ -17,6 +17,7 @@ impl Tender {
         let Some(kind) = self.fail(link) else {
             return Ok(());
         };
+        self.doubt(link, None);
         self.keep(link, self.care(link).changing());
         self.owe(link, kind);
         self.tell(Told::Changeover(link))

@@ -233,7 +233,7 @@ impl Tender {
     }
 
     /// Changeover begins for links whose messages wait behind an outage.
-    fn leave(&mut self, links: &[usize]) -> Result<(), TendError>
+    pub(crate) fn leave(&mut self, links: &[usize]) -> Result<(), TendError>
         ensures { OnOk result (Adds self.old self.new) }
     {
         for link in links {

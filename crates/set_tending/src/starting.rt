@@ -5,6 +5,7 @@ ghost use Rattle.set_tending.specs.Rounds.{Adds};
 use crate::care::PATIENCE;
 use crate::tender::{TendError, Tender};
 use crate::told::Told;
+use arrayvec::ArrayVec;
 use link_group::Command;
 
 impl Tender {
@@ -37,16 +38,23 @@ impl Tender {
         }
     }
 
-    /// Links are left that hold such a message about this one, so that it goes with their changeover.
+    /// The links that hold such a message about this one.
+    fn stuck_about(&self, about: usize) -> ArrayVec<usize, 16> {
+        let mut stuck = ArrayVec::new();
+        for link in 0..self.len() {
+            if link != about && self.is_stuck(link, about) {
+                let _fits = stuck.try_push(link).is_ok();
+            }
+        }
+        stuck
+    }
+
+    /// They are left, so that it goes with their changeover.
     fn leave_stuck(&mut self, about: usize) -> Result<(), TendError>
         ensures { OnOk result (Adds self.old self.new) }
     {
-        for by in 0..self.len() {
-            if by != about && self.is_stuck(by, about) {
-                self.begin_changeover(by)?;
-            }
-        }
-        Ok(())
+        let links = self.stuck_about(about);
+        self.leave(links.as_slice())
     }
 
     /// Starts a link where that is due, and doesn't wait for what is to be said of it, for 1,400 ticks at most.
