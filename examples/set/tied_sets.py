@@ -21,6 +21,7 @@ BEAT = 0.002  # seconds between two looks at the lines
 LATE = 0.1  # for so many seconds at most a line makes up for a look that came late
 ROOM = 65_536  # what a FIFO holds
 OUT = 256  # so many messages may wait for their answers
+PART = 64  # so many that were refused go once more at once
 
 
 class Way:
@@ -149,8 +150,8 @@ class End:
 
     def is_through(self):
         """Whether all that it was given was taken; what was refused is given once more."""
-        while self.again and self.send_now():
-            pass
+        for _ in range(min(PART, len(self.again))):
+            self.send_now()
         return not self.asked and not self.again
 
     def send_now(self):

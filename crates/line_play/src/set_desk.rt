@@ -28,11 +28,11 @@ pub struct SetDesk<O, P> {
     pub orders: O,
     /// Orders that wait.
     pub(crate) queue: Queue,
-    /// Where things are told.
+    /// Where reports go.
     pub reports: P,
 }
 
-/// A voice for each line.
+/// A wire for each line, on which nothing came or went.
 fn wires(alloc: Global, links: usize) -> Result<Vec<Wire>, AllocError>
     ensures { IfOk result (λ wires. AreNewWires links wires.items) }
 {
@@ -123,7 +123,7 @@ impl<O, P> SetDesk<O, P> {
 
 impl<O: Orders, P: Reports> SetDesk<O, P> {
     /// A round: of each line what came is heard, and an octet goes out for each of its octets; a tick passes; what is to be done for the links is done; what
-    /// there is to tell is told; and orders that are due are obeyed. Whether the run goes on: it doesn't behind `quit`.
+    /// there is to tell is told; and orders that are due are obeyed. Whether the run goes on: it doesn't after `quit`.
     ///
     /// # Errors
     ///

@@ -28,7 +28,7 @@ pub trait Lines {
     fn begin(&mut self, now: u64)
         ensures { Grows (traffic self.old) (traffic self.new) [] };
 
-    /// What came of a line: octets, the oldest first, into a part of some octets.
+    /// What came of a line since it was last asked: octets, the oldest first, are put into `part`.
     fn take(&mut self, link: usize, part: &mut [u8]) -> Came
         ensures { Grows (traffic self.old) (traffic self.new) (arrived link part.new result) };
 
@@ -36,7 +36,7 @@ pub trait Lines {
     fn give(&mut self, link: usize, octets: &[u8])
         ensures { Grows (traffic self.old) (traffic self.new) (octets_go link octets.now ∷ []) };
 
-    /// Whether a run ends, since no line could be opened for long: with the line that failed, where one did.
+    /// Whether the run ends, since no line could be opened for long; an error if one of them had failed.
     fn are_over(&mut self) -> io::Result<bool>
         ensures { Grows (traffic self.old) (traffic self.new) [] };
 }

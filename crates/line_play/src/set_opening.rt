@@ -89,7 +89,7 @@ fn tend(alloc: Global, plan: SetPlan, terminals: Vec<Terminal>) -> Result<Tender
     }
 }
 
-/// The same over a set of processes. Where that lacks a name, a line of it is written.
+/// The same over a set of processes. If that lacks a name that a terminal wants, a line says which.
 fn open_over<E: Write>(
     alloc: Global,
     plan: SetPlan,
@@ -106,7 +106,7 @@ fn open_over<E: Write>(
     }
 }
 
-/// A set over a set of processes. Nothing has happened.
+/// A new set of links, whose terminals run these processes.
 ///
 /// # Errors
 ///

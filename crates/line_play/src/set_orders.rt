@@ -160,8 +160,8 @@ fn asked_in<'a>(alloc: Global, words: &[&'a str]) -> Result<Option<SetOrder<'a>>
     }
 }
 
-/// Whether a line is a report of a set behind its millisecond, and not that of an order that was obeyed: of a link, the links of selections, or how many
-/// messages are unsure. It says nothing.
+/// Whether a line, after its millisecond, is a report of a link, of the links of selections, or of how many messages are unsure. As an order it says
+/// nothing; a report of an order that was obeyed does.
 pub(crate) fn is_set_report(alloc: Global, line: &str) -> Result<bool, AllocError> {
     let words = words_in(alloc, line)?;
     match words.as_slice() {
@@ -173,7 +173,7 @@ pub(crate) fn is_set_report(alloc: Global, line: &str) -> Result<bool, AllocErro
     }
 }
 
-/// What stands behind `send`, where that is all.
+/// The word after `send`, where that is all.
 fn sent_word<'a>(words: &[&'a str]) -> Option<&'a str>
     ensures sends { sent_by (texts words.now) ≡ option_and_then octets_of (option_map (λ w. w.now) result) }
     ensures word { word_sent (texts words.now) ≡ option_map (λ w. w.now) result }
@@ -184,7 +184,7 @@ fn sent_word<'a>(words: &[&'a str]) -> Option<&'a str>
     }
 }
 
-/// What stands behind `on`.
+/// What the word after `on` says.
 fn on_in<'a>(word: &str) -> Option<SetOrder<'a>>
     ensures sends { IfSome result (λ s. octets_sent s ≡ None) }
     ensures reads { option_map plain_set_order result ≡ option_map on (focus_of word.now) }

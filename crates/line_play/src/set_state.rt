@@ -70,7 +70,7 @@ pub(crate) fn say_of<P: Reports>(
     tell(alloc, tender.now(), text.as_str(), reports)
 }
 
-/// Tells what the set told.
+/// Reports what the set has to tell.
 fn tell_told<P: Reports>(alloc: Global, now: u64, item: &Told, reports: &mut P) -> io::Result<()>
     ensures { OnOk result (TellsLines (P.stand reports.old) (P.stand reports.new) (told now (told_text item.now))) }
 {

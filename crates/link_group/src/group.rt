@@ -73,7 +73,7 @@ impl Group {
         let _inside = self.unsure;
     }
 
-    /// How many messages it was never known of whether they arrived; it stays at its greatest value.
+    /// Of how many messages it isn't known whether they arrived; it stays at its greatest value.
     pub fn unsure(&self) -> u64
         ensures { result ≡ self.now.unsure }
     {

@@ -30,7 +30,7 @@ const DIFFERENT: u8 = 1;
 /// Octets that are no text.
 const NO_TEXT: &[u8] = b"\xFF";
 
-/// What is called what: the side, and its text.
+/// One of the two texts, as it is called: by its side and its name.
 #[derive(Clone, Copy)]
 struct SideName<'a> {
     /// OLD or NEW.

@@ -1,5 +1,5 @@
-//! `mtp2_play`: the program. It checks and plays process texts, has threads work on links, puts one end of a link on a line, and reads
-//! signal units.
+//! `mtp2_play`: the program. It runs one end of a set of links, or of a link, on lines; checks, plays, draws and compares process texts; has threads
+//! work on links; and reads signal units.
 #![tactic(auto)]
 
 ghost use Rattle.std.specs.Prelude.{◌≡◌, ◌≢◌, ◌⊎◌, map, string_bytes};

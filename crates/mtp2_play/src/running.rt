@@ -239,10 +239,9 @@ fn speak_as_asked<
     }
 }
 
-/// Puts one end of a link on a line: line octets come from a reader, and one goes to a writer for each, behind those that go ahead (of which
-/// 8,000 are the most). Cyclic retransmission is forced within the limits
-/// of the set that is named, but for those that are chosen. A trace of its processes goes to a file where one is named. Orders, reports and a
-/// trace that can't be opened are told by their names.
+/// Puts one end of a link on a line: line octets come from a reader, and one goes to a writer for each, after those that go ahead (8,000 at
+/// most). Cyclic retransmission is forced within the limits of the set that is named, but for those that are chosen. A trace of its processes
+/// goes to a file, if one is named. Orders, reports and a trace that can't be opened are told by their names.
 ///
 /// Gives the exit status: 0 at the end of what there is to read, or at the order `quit`; 2 where the text is refused or lacks a name that a
 /// terminal wants; 4 where memory, a file, a read or a write fails, of reports and of a trace too. However it ends, what is written on the line

@@ -28,7 +28,7 @@ const PART: usize = 4_096;
 
 const LATE_PART: usize = 16;
 
-/// So many milliseconds behind its time a round is late.
+/// A round that begins more than so many milliseconds after its time is late.
 const LATE: u64 = 4;
 
 /// Waits until a round is due, counted from the beginning. Whether it is late.

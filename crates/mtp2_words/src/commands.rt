@@ -136,7 +136,7 @@ fn with_count_options<'a>(alloc: Global, command: Command<'a>) -> Result<Command
     let every = flag_word(
         alloc,
         "every",
-        "Has signals that are thrown away traced too, and turns that change nothing; and every unit captured",
+        "With --trace: signals that are thrown away too, and turns that change nothing. With --capture: every unit",
     );
     command.arg(coverage)?.arg(thrown)?.arg(capture)?.arg(every)
 }
@@ -243,7 +243,7 @@ fn with_capture_options<'a>(alloc: Global, command: Command<'a>) -> Result<Comma
     let every = flag_word(
         alloc,
         "every",
-        "Has every unit captured; and signals that are thrown away traced too, and turns that change nothing",
+        "With --capture: every unit. With --trace: signals that are thrown away too, and turns that change nothing",
     );
     command.arg(capture)?.arg(trace)?.arg(every)
 }
@@ -276,7 +276,7 @@ fn line_begun<'a>(alloc: Global) -> Result<Command<'a>, AllocError>
         alloc,
         "line",
         "Puts one end of a signalling link on a channel of 64 kbit/s: line octets come on standard input and go to standard output",
-        "Writes one octet for each that it reads; 8 octets are a millisecond, and no clock is read. Orders: power, start, stop, emergency, calm,\noutage, back, busy, free, flush, continue, overload, msu HEX, told, accepted, retrieve, retrieve N, measure, measure NAME, measure reset, at MS (what follows waits until that millisecond), state P, value P x, quit; # begins a comment,\nand a report MS ok ORDER is obeyed as at MS and that order. Reports, each behind its millisecond: in service, down R, far out,\nfar back, cleared, message HEX, state P S, value P x V, told TEXT, accepted ok N, retrieve ok N, measure NAME ok N, measure NAME N, ok ORDER, refused CODE Name, lost N (what a FIFO had no room for).\nUnits that a capture's FIFO had no room for, and lines that a trace's had none for, are told at the end on standard error: MS lost N capture, MS lost N trace.\nExits with 0 at the end of input or after quit, 2 after refused CODE Name on standard error where the text is refused, 4 where memory,\na file, a read or a write fails.",
+        "Writes one octet for each that it reads; 8 octets are a millisecond, and no clock is read. Orders: power, start, stop, emergency, calm,\noutage, back, busy, free, flush, continue, overload, msu HEX, told, accepted, retrieve, retrieve N, measure, measure NAME, measure reset, at MS (what follows waits until that millisecond), state P, value P x, quit; # begins a comment,\nand a report MS ok ORDER is obeyed as at MS and that order. Reports, each after its millisecond: in service, down R, far out,\nfar back, cleared, message HEX, state P S, value P x V, told TEXT, accepted ok N, retrieve ok N, measure NAME ok N, measure NAME N, ok ORDER, refused CODE Name, lost N (what a FIFO had no room for).\nUnits that a capture's FIFO had no room for, and lines that a trace's had none for, are told at the end on standard error: MS lost N capture, MS lost N trace.\nExits with 0 at the end of input or after quit, 2 after refused CODE Name on standard error where the text is refused, 4 where memory,\na file, a read or a write fails.",
     )
     .arg(mode)?
     .arg(text)

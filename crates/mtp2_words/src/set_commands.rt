@@ -32,7 +32,7 @@ fn set_begun<'a>(alloc: Global) -> Result<Command<'a>, AllocError>
         alloc,
         "set",
         "Runs one end of a set of up to 16 signalling links between two points, each link on a channel of 64 kbit/s",
-        "Writes one octet on a line for each that it reads there; a millisecond is one of the clock. Links that are to be in service are started and tested; as\none goes down its messages go on by the others, each once and in order. Orders: on L, on all, then power, start, stop, emergency, calm, outage, back, busy,\nfree, flush, continue, overload, state P, value P x, measure, measure NAME, measure reset; send HEX, table, held, unsure, rebalance, at MS, quit; # begins a\ncomment, and a report MS ok ORDER is obeyed as at MS and that order. Reports, each behind its millisecond: L in service, L down R, L far out, L far back,\nL message HEX, L started, L changeover, L says COO N by M, L hears COA N by M, L unsure N, L diverted N, L tested, L line silent, L line back, L line ended,\nL line failed, L line open, shared L .., L state P S, L value P x V, L measure NAME N, L held N sent N, unsure N, ok ORDER, refused CODE Name, lost N.\nExits with 0 after quit, or once no line could be opened for 10 seconds and all have ended; 2 after refused CODE Name on standard error where the text is\nrefused, 4 where memory, orders or reports fail, or a line did.",
+        "Writes one octet on a line for each that it reads there; a millisecond is one of the clock. Links that are to be in service are started and tested; as\none goes down its messages go on by the others, each once and in order. Orders: on L, on all, then power, start, stop, emergency, calm, outage, back, busy,\nfree, flush, continue, overload, state P, value P x, measure, measure NAME, measure reset; send HEX, table, held, unsure, rebalance, at MS, quit; # begins a\ncomment, and a report MS ok ORDER is obeyed as at MS and that order. Reports, each after its millisecond: L in service, L down R, L far out, L far back,\nL message HEX, L started, L changeover, L says COO N by M, L hears COA N by M, L unsure N, L diverted N, L tested, L line silent, L line back, L line ended,\nL line failed, L line open, shared L .., L state P S, L value P x V, L measure NAME N, L held N sent N, unsure N, ok ORDER, refused CODE Name, lost N.\nExits with 0 after quit, or once no line could be opened for 10 seconds and all have ended; 2 after refused CODE Name on standard error where the text is\nrefused, 4 where memory, orders or reports fail, or no line could be opened for 10 seconds and one had failed.",
     )
     .arg(mode)
 }
@@ -45,7 +45,7 @@ fn with_links<'a>(alloc: Global, command: Command<'a>) -> Result<Command<'a>, Al
         alloc,
         "link",
         "LINE",
-        "A device, or IN,OUT: where line octets come from and go to. Once for each link, up to 16 times; a link's code is its place",
+        "A line: a device, or IN,OUT, a file to read and one to write. Once for each link, up to 16 times; the first is link 0, in the same order at both ends",
     );
     let own = needed_word(alloc, "own", "N", "The code of this point, 0 to 16383");
     let peer = needed_word(
@@ -118,7 +118,7 @@ fn with_streams<'a>(alloc: Global, command: Command<'a>) -> Result<Command<'a>, 
     let no_test = flag_word(
         alloc,
         "no-test",
-        "Has links carry messages without a test as they come into service",
+        "Links carry messages as soon as they are in service, without a test",
     );
     command
         .arg(orders)?

@@ -11,7 +11,7 @@ use crate::told::Told;
 use group_changeover::{Hearing, Kind, read_changeover};
 use link_group::{Command, CommandError, Heard, Msu, RebalanceError, Sif};
 
-/// What a message of changeover was to the set, and what is to be said to it.
+/// What a message of changeover was to the set, and the answer that is due.
 #[derive(Clone, Copy)]
 pub(crate) struct Noted {
     pub hearing: Hearing,

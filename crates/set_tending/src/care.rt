@@ -5,14 +5,14 @@ ghost use Rattle.set_tending.specs.Cares.{is_order, waits, new_care, risen, fall
 use group_changeover::Kind;
 use link_group::Command;
 
-/// For so many ticks in which another link would take it a message about a link is owed, and its answer waited for; a Start that is due waits for so
-/// many at most (Q.704's T2).
+/// Q.704's T2. A message about a link is owed, and its answer waited for, for so many ticks in which another link would take it; a Start that is due
+/// waits for so many at most.
 pub const PATIENCE: u64 = 1_400;
 
-/// So many ticks behind the beginning of a changeover it isn't waited for another link any more: as long as one takes to come into service.
+/// So many ticks after the beginning of a changeover no other link is waited for any more: as long as one takes to come into service.
 pub const LONGEST: u64 = 14_000;
 
-/// So many ticks behind its last Down a link may be started (Q.704's T17).
+/// So many ticks after its last Down a link may be started again (Q.704's T17).
 pub const REST: u64 = 1_000;
 
 /// A message of changeover that is to go to the other point.
@@ -223,7 +223,7 @@ impl Care {
         Care { handed, ..self }
     }
 
-    /// Its test is at this.
+    /// How its test goes from now on.
     pub fn tested(self, test: Testing) -> Care
         ensures { result ≡ tested test self }
     {
@@ -240,7 +240,7 @@ impl Care {
         }
     }
 
-    /// This is to be said of it.
+    /// A message about it is owed.
     pub fn owing(self, owed: Option<Owed>) -> Care
         ensures { result ≡ owing owed self }
     {

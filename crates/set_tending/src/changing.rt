@@ -17,6 +17,7 @@ impl Tender {
         let Some(kind) = self.fail(link) else {
             return Ok(());
         };
+        self.doubt(link, None);
         self.keep(link, self.care(link).changing());
         self.owe(link, kind);
         self.tell(Told::Changeover(link))
@@ -65,7 +66,7 @@ impl Tender {
         self.care(link).is_coming(may_start)
     }
 
-    /// Whether another link is.
+    /// Whether a link other than this one is on its way into service.
     fn another_comes(&self, link: usize) -> bool {
         for other in 0..self.len() {
             if other != link && self.is_coming(other) {

@@ -143,7 +143,8 @@ impl Tender {
 
     /// A message of changeover came about a link that is there, by another one. About one that hasn't been in service an order is answered
     /// without the set. One that begins no changeover, since it may be a late one, has this end begin its own, if the link is in service: its order
-    /// goes in place of the answer, so that the other end, whose changeover goes on, tells its number once more.
+    /// goes in place of the answer, so that the other end, whose changeover goes on, tells its number once more. Copies of it say nothing then: by the
+    /// number of a late one what is out would be lost.
     fn hear_changeover(&mut self, about: usize, kind: Kind, msu: &Msu) -> Result<(), TendError>
         ensures { OnOk result (Adds self.old self.new) }
     {
@@ -151,14 +152,21 @@ impl Tender {
             self.answer_unknown(about, kind);
             return Ok(());
         }
+        if self.is_doubted(about, kind) {
+            return Ok(());
+        }
+        let goes_on = self.in_changeover(about);
         let noted = self.note(msu.sif.as_slice());
         self.owe_answer(about, noted.answer);
-        if noted.hearing == Hearing::Order && self.care(about).serves {
-            return self.begin_changeover(about);
+        if noted.hearing == Hearing::Order && !goes_on && self.care(about).serves {
+            self.begin_changeover(about)?;
+            self.doubt(about, Some(kind));
+            return Ok(());
         }
         if noted.hearing != Hearing::Began {
             return Ok(());
         }
+        self.doubt(about, None);
         self.keep(about, self.care(about).changing());
         self.tell(Told::Changeover(about))
     }

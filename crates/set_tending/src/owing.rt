@@ -5,11 +5,19 @@ ghost use Rattle.set_tending.specs.Rounds.{Adds};
 use crate::care::{Owed, PATIENCE};
 use crate::tender::{TendError, Tender};
 use crate::told::Told;
-use group_changeover::Kind;
+use group_changeover::{Kind, read_changeover};
 use link_group::Msu;
 
 /// More messages than a link holds.
 const UNTESTED: usize = 1_000_000;
+
+/// Whether a message is one of changeover about a link.
+fn is_word(msu: &Msu, about: usize) -> bool {
+    match read_changeover(msu.sif.as_slice()) {
+        Some(message) => msu.sio % 16 == 0 && usize::from(message.label.sls) == about,
+        None => false,
+    }
+}
 
 impl Tender {
     /// Whether a link takes messages about others: it is in service and not held, and no processor is out there.
@@ -62,6 +70,18 @@ impl Tender {
         false
     }
 
+    /// Whether a link holds a message of changeover about another one.
+    pub(crate) fn holds_word(&self, by: usize, about: usize) -> bool {
+        let held = self.set.held(by).unwrap_or(0);
+        for place in 0..held {
+            match self.set.held_at(by, place) {
+                Some(msu) if is_word(msu, about) => return true,
+                _ => {}
+            }
+        }
+        false
+    }
+
     /// What of a link's last message that went by another one is left to do: nothing where that was acknowledged.
     fn owed_still(&self, about: usize, owed: Owed) -> Option<Owed> {
         match owed.by {
@@ -90,7 +110,7 @@ impl Tender {
         Some(Owed { by: None, ..left })
     }
 
-    /// The same a tick later.
+    /// What is owed about a link a tick later.
     fn waited(&self, about: usize, owed: Owed) -> Owed {
         if self.least_loaded(about).is_some() {
             Owed {
@@ -150,7 +170,7 @@ impl Tender {
         Ok(())
     }
 
-    /// Something is to be said of a link, in place of what was.
+    /// A message about a link is owed, in place of the one that was.
     pub(crate) fn owe(&mut self, link: usize, kind: Kind)
         ensures { self.new ≡ self.old }
     {

@@ -9,11 +9,11 @@ use arrayvec::ArrayVec;
 use group_changeover::{label_of, pick};
 use link_group::{LinkState, Msu, RebalanceError};
 
-/// For so many ticks messages to send wait at most, so that links run empty; behind as many rounds in which it is in the way a link with a
+/// Messages to send wait for so many ticks at most, so that links run empty; after as many rounds in which its messages are in the way a link with a
 /// processor out is left.
 const DRAIN: u64 = 1_000;
 
-/// Then they don't, for so many ticks.
+/// After that they don't wait, for so many ticks.
 const CALM: u64 = 5_000;
 
 /// How sharing out goes.
@@ -172,11 +172,11 @@ impl Tender {
         !self.any_failed(able)
     }
 
-    /// The selection of a message that a link holds.
+    /// The selection of a message that a link holds, unless it is bound to it.
     fn selection_at(&self, link: usize, place: usize) -> Option<u8> {
         match self.set.held_at(link, place) {
-            Some(msu) => selection_of(msu),
-            None => None,
+            Some(msu) if !self.set.is_bound(msu) => selection_of(msu),
+            _ => None,
         }
     }
 
@@ -233,7 +233,7 @@ impl Tender {
     }
 
     /// Changeover begins for links whose messages wait behind an outage.
-    fn leave(&mut self, links: &[usize]) -> Result<(), TendError>
+    pub(crate) fn leave(&mut self, links: &[usize]) -> Result<(), TendError>
         ensures { OnOk result (Adds self.old self.new) }
     {
         for link in links {

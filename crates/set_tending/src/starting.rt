@@ -5,6 +5,7 @@ ghost use Rattle.set_tending.specs.Rounds.{Adds};
 use crate::care::PATIENCE;
 use crate::tender::{TendError, Tender};
 use crate::told::Told;
+use arrayvec::ArrayVec;
 use link_group::Command;
 
 impl Tender {
@@ -26,6 +27,36 @@ impl Tender {
         }
     }
 
+    /// Whether a link with a processor out holds a message of changeover about another one: once the processor is back it would go, long behind, and be
+    /// taken for a new one.
+    fn is_stuck(&self, by: usize, about: usize) -> bool {
+        match self.state(by) {
+            Some(state) if state.in_service && (state.far_out || state.own_out) => {
+                self.holds_word(by, about)
+            }
+            _ => false,
+        }
+    }
+
+    /// The links that hold such a message about this one.
+    fn stuck_about(&self, about: usize) -> ArrayVec<usize, 16> {
+        let mut stuck = ArrayVec::new();
+        for link in 0..self.len() {
+            if link != about && self.is_stuck(link, about) {
+                let _fits = stuck.try_push(link).is_ok();
+            }
+        }
+        stuck
+    }
+
+    /// They are left, so that it goes with their changeover.
+    fn leave_stuck(&mut self, about: usize) -> Result<(), TendError>
+        ensures { OnOk result (Adds self.old self.new) }
+    {
+        let links = self.stuck_about(about);
+        self.leave(links.as_slice())
+    }
+
     /// Starts a link where that is due, and doesn't wait for what is to be said of it, for 1,400 ticks at most.
     pub(crate) fn start(&mut self, link: usize) -> Result<(), TendError>
         ensures { OnOk result (Adds self.old self.new) }
@@ -37,6 +68,7 @@ impl Tender {
         if waited < PATIENCE && self.has_to_wait(link) {
             return Ok(());
         }
+        self.leave_stuck(link)?;
         if !self.command(link, Command::Start)? {
             return Ok(());
         }

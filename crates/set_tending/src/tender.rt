@@ -10,6 +10,7 @@ use crate::care::Care;
 use crate::ends::Ends;
 use crate::sharing::Sharing;
 use crate::told::{SharedOut, Told};
+use group_changeover::Kind;
 use link_group::{Group, LinkState};
 use std::alloc::{AllocError, Global};
 use std::collections::VecDeque;
@@ -65,6 +66,8 @@ pub struct Tender {
     pub(crate) restarts: bool,
     /// The links of selections as they were told last.
     pub(crate) shared: SharedOut,
+    /// The order that may have been a late one and had this end begin a link's changeover, of each link.
+    pub(crate) doubted: [Option<Kind>; MOST_LINKS],
 }
 
 impl Model for Tender {
@@ -97,6 +100,7 @@ impl Tender {
             is_open: false,
             restarts: false,
             shared: [None; MOST_LINKS],
+            doubted: [None; MOST_LINKS],
         };
         tender.admit_all(!tests);
         tender
@@ -133,6 +137,18 @@ impl Tender {
         ensures { self.new ≡ self.old }
     {
         self.cares[link % MOST_LINKS] = care;
+    }
+
+    /// Keeps which order may have been a late one.
+    pub(crate) fn doubt(&mut self, link: usize, kind: Option<Kind>)
+        ensures { self.new ≡ self.old }
+    {
+        self.doubted[link % MOST_LINKS] = kind;
+    }
+
+    /// Whether an order is a copy of one that may have been late, and had this end begin the changeover that goes on.
+    pub(crate) fn is_doubted(&self, link: usize, kind: Kind) -> bool {
+        self.in_changeover(link) && self.doubted[link % MOST_LINKS] == Some(kind)
     }
 
     /// Whether nothing of a link is owed, and no Start is to come.
