@@ -95,6 +95,7 @@ class End:
         self.name, self.own, self.peer, self.room, self.user = name, own, peer, room, user
         self.told, self.came, self.sent, self.refused = [], [], [], 0
         self.asked, self.again, self.held = collections.deque(), [], None
+        self.burst, self.seen = 1, 0
         self.orders, self.reports = room / f"{name}.orders", room / f"{name}.reports"
         for path in (self.orders, self.reports):
             os.mkfifo(path)
@@ -129,7 +130,8 @@ class End:
             self.asked.popleft()
         elif words[1] == "refused":
             self.refused += 1
-            self.again.append(self.asked.popleft())
+            self.again.append(self.asked[0])
+            self.asked.popleft()
         elif words[1] == "ok":
             pass
         elif words[2:3] == ["held"]:
@@ -149,9 +151,12 @@ class End:
             self.send_now()
 
     def is_through(self):
-        """Whether all that it was given was taken; what was refused is given once more."""
-        for _ in range(min(PART, len(self.again))):
-            self.send_now()
+        """Whether all that it was given was taken. What was refused is given once more: twice as many at once as before, or one where one of those was refused again."""
+        if not self.asked:
+            self.burst = min(PART, 2 * self.burst) if self.refused == self.seen else 1
+            self.seen = self.refused
+            for _ in range(min(self.burst, len(self.again))):
+                self.send_now()
         return not self.asked and not self.again
 
     def send_now(self):
