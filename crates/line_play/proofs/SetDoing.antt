@@ -4,7 +4,7 @@ use Rattle.std.proofs.lemmas.Bool.Decides.{nat_tests}
 use Rattle.std.proofs.lemmas.Option.{none-some, same_Some}
 use Rattle.actor_machine.specs.Ledger.{Ledger}
 use Rattle.link_group.specs.Printed.{rebalance_error_text}
-use Rattle.link_group.specs.group_members_types.commanding.CommandError.{CommandError}
+use Rattle.link_group.specs.declared.commanding.CommandError.{CommandError}
 use Rattle.script_terminal.specs.Answers.{actor_named, state_line, value_line}
 use Rattle.script_terminal.specs.Term.{Term}
 use Rattle.script_terminal.specs.link_processes_types.commands.Command.{Command}

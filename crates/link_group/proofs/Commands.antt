@@ -2,11 +2,11 @@
 use Rattle.std.proofs.Common.{◌≡◌, ℕ, zero, suc, List, [], ◌∷◌, Option, Some, None, slice_set, refl, sym, ap, ◌∙◌, subst}
 use Rattle.std.specs.Prelude.{slice_get}
 use Rattle.link_processes.specs.declared.commands.Command.{Command}
-use Rattle.group_members.specs.declared.commanding.CommandError.{CommandError}
-use Rattle.group_members.specs.declared.commanding.CommandError.TheVariants as error
-use Rattle.group_members.specs.declared.link.Link.{Link}
-use Rattle.group_members.specs.Doing.{AtLink}
-use Rattle.group_members.specs.Commanding.{Commands, Commanded, Barred, Refused, Lacks}
+use Rattle.link_group.specs.declared.commanding.CommandError.{CommandError}
+use Rattle.link_group.specs.declared.commanding.CommandError.TheVariants as error
+use Rattle.link_group.specs.declared.link.Link.{Link}
+use Rattle.link_group.specs.Doing.{AtLink}
+use Rattle.link_group.specs.Commanding.{Commands, Commanded, Barred, Refused, Lacks}
 use Rattle.link_group.specs.Set.{LinkSet}
 use Rattle.link_group.specs.Lines.{Alone, IsCommandError}
 use Rattle.link_group.proofs.Live.{Live, over, live_same, refused_alone}

@@ -10,11 +10,11 @@ use Rattle.group_changeover.specs.declared.changeover.Changeover.{Changeover}
 use Rattle.group_changeover.specs.declared.changeover.Kind.{Kind}
 use Rattle.group_changeover.specs.Labels.{label_in}
 use Rattle.group_changeover.specs.Changeovers.{Reads, Says}
-use Rattle.group_members.specs.declared.link.Link.{Link}
+use Rattle.link_group.specs.declared.link.Link.{Link}
 use Rattle.link_group.specs.Set.{LinkSet}
-use Rattle.group_members.specs.Links.{read_at}
+use Rattle.link_group.specs.Links.{read_at}
 use Rattle.link_group.specs.Changing.{message, order_by, order_at, IsRead}
-use Rattle.group_members.specs.Failing.{order_of}
+use Rattle.link_group.specs.Failing.{order_of}
 
 pub long_enough : (octets : List ℕ) (l : Label) → label_in octets ≡ Some l → 2 ≤ length octets
 long_enough [] l e = absurd (none_some e)

@@ -1,15 +1,15 @@
 //! The set.
 ghost use Rattle.std.specs.Prelude.{◌≡◌, ◌<◌, length};
 ghost use Rattle.group_changeover.specs.Sharing.{link_of};
-ghost use Rattle.group_members.specs.Limits.{MOST_LINKS, POINT_CODES};
+ghost use Rattle.link_group.specs.Limits.{MOST_LINKS, POINT_CODES};
 ghost use Rattle.group_changeover.specs.Changeovers.{IsKind, Says};
 ghost use Rattle.link_group.specs.Changing.{message};
 ghost use Rattle.link_group.specs.Laws.{Accounted};
 
 use crate::laws::{each_message_stands_in_one_place, unsure_messages_are_counted};
+use crate::link::Link;
 use arrayvec::ArrayVec;
 use group_changeover::{Changeover, Kind, Label, Table};
-use group_members::Link;
 use std::marker::Model;
 
 /// The octets of a message of changeover, as a signalling information field.
@@ -29,7 +29,7 @@ impl Model for Group {
     ghost use Rattle.std.specs.Prelude.{◌<◌, ◌≤◌, length};
     ghost use Rattle.std.specs.Coded.{codes};
     ghost use Rattle.tick_wheel.specs.Timers.{timers_code};
-    ghost use Rattle.group_members.specs.Limits.{MOST_LINKS, POINT_CODES};
+    ghost use Rattle.link_group.specs.Limits.{MOST_LINKS, POINT_CODES};
     ghost use Rattle.link_group.specs.Set.{LinkSet};
     ghost use Rattle.link_group.specs.Reached.{WasReached};
 

@@ -2,17 +2,17 @@
 ghost use Rattle.std.specs.Prelude.{◌≡◌, ◌↔◌, ◌≤◌, ◌<◌, length, true, slice_get, IfOk, IfErr, OnOk, OnErr, Err};
 ghost use Rattle.link_group.specs.Lines.{ByLink, ByCommand, after_admission, IsCommandError};
 ghost use Rattle.link_group.specs.Placing.{table_if};
-ghost use Rattle.group_members.specs.Limits.{MOST_LINKS};
-ghost use Rattle.group_members.specs.Links.{change};
-ghost use Rattle.group_members.specs.Doing.{Listened, Spoken, Sent, Reported, asked, came_by, admits_at, admits_by, low_at};
+ghost use Rattle.link_group.specs.Limits.{MOST_LINKS};
+ghost use Rattle.link_group.specs.Links.{change};
+ghost use Rattle.link_group.specs.Doing.{Listened, Spoken, Sent, Reported, asked, came_by, admits_at, admits_by, low_at};
 
+use crate::commanding::{CommandError, command_at};
+use crate::doing::{admit_at, listen_at, see_at, send_at, speak_at, tell_at};
 use crate::group::Group;
+use crate::link::Link;
 use crate::placing::place_anew;
-use group_changeover::Table;
-use group_members::{
-    Command, CommandError, LineError, Link, LinkError, Report, admit_at, command_at, listen_at,
-    see_at, send_at, speak_at, tell_at,
-};
+use group_changeover::{LineError, LinkError, Table};
+use link_term::{Command, Report};
 use su_octets::Unit;
 
 /// Looks whether a link came into service: as it may have selections for the first time, the table is made anew.

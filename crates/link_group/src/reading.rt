@@ -1,16 +1,17 @@
 //! What a set tells of its links.
 ghost use Rattle.std.specs.Prelude.{◌≡◌, slice_get};
 ghost use Rattle.std.specs.Option.{option_copied};
-ghost use Rattle.group_members.specs.OneLink.{held};
-ghost use Rattle.group_members.specs.Links.{read_at};
+ghost use Rattle.link_group.specs.OneLink.{held};
+ghost use Rattle.link_group.specs.Links.{read_at};
 ghost use Rattle.link_group.specs.Reading.{held_count, sent_count, message_at, terminal_of, book_of};
-ghost use Rattle.group_members.specs.Tables.{changing_by};
-ghost use Rattle.group_members.specs.Moving.{retrieval_of, hand_count};
+ghost use Rattle.link_group.specs.Tables.{changing_by};
+ghost use Rattle.link_group.specs.Moving.{retrieval_of, hand_count};
 
+use crate::ending::{hand_of, retrieval_of};
 use crate::group::Group;
 use group_changeover::Counts;
-use group_members::{Msu, Terminal, hand_of, retrieval_of};
 use link_processes::Book;
+use link_term::{Msu, Terminal};
 
 impl Group {
     /// How many messages a link holds, if it is there.

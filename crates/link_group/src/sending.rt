@@ -5,17 +5,17 @@ ghost use Rattle.group_changeover.specs.Sharing.{selection_of};
 ghost use Rattle.group_changeover.specs.Labels.{label_in, IsLabel};
 ghost use Rattle.group_changeover.specs.Changeovers.{Says};
 ghost use Rattle.group_changeover.specs.declared.changeover.Changeover.{Changeover as PlainChangeover};
-ghost use Rattle.group_members.specs.OneLink.{fault_of, retrieve_refusal, abandon_refusal};
+ghost use Rattle.link_group.specs.OneLink.{fault_of, retrieve_refusal, abandon_refusal};
 ghost use Rattle.group_changeover.specs.Bound.{is_bound};
 ghost use Rattle.link_group.specs.Set.{points_of, send_fault, sent, bind_fault_at, bound_at};
 ghost use Rattle.link_group.specs.Changing.{fail_fault, after_failure, order_at, is_for, IsReply, IsRead, after_message, hearing_of, reply_to, retrieve_fault_at, after_retrieve, messages_for, abandon_fault_at, after_abandon, unsent_at};
 
 use crate::group::{Group, Sif, sif_of};
-use group_changeover::{Changeover, Hearing, Label, Points, read_changeover, selection_of};
-use group_members::{
-    AbandonError, BindError, FailError, Msu, RetrieveError, SendError, abandon_at, bind_at,
-    fail_at, hear_at, heard_at, put_at, retrieve_at,
+use crate::links::{abandon_at, bind_at, fail_at, hear_at, heard_at, put_at, retrieve_at};
+use group_changeover::{
+    AbandonError, BindError, Changeover, FailError, Hearing, Label, Points, RetrieveError, SendError, read_changeover, selection_of,
 };
+use link_term::Msu;
 
 /// What a message that came was, and the field of the answer to send.
 #[derive(Debug, Drop)]

@@ -1,5 +1,5 @@
 use Rattle.std.proofs.Common.{rules, refl, arith, ◌∙◌}
-use Rattle.group_members.specs.Doing.{Listened}
+use Rattle.link_group.specs.Doing.{Listened}
 use Rattle.link_group.proofs.ByLinks.{by_link, written, few_written}
 use Rattle.link_group.proofs.Live.{over, live_from, heard_by_link}
 use Rattle.link_group.proofs.group.Group.line_in.Goals as goal

@@ -1,5 +1,5 @@
 use Rattle.std.proofs.Common.{rules, refl, arith, ◌∙◌}
-use Rattle.group_members.specs.Doing.{Reported}
+use Rattle.link_group.specs.Doing.{Reported}
 use Rattle.link_group.proofs.ByLinks.{by_link, written, few_written}
 use Rattle.link_group.proofs.Live.{over, live_from, reported_by_link}
 use Rattle.link_group.proofs.group.Group.report.Goals as goal

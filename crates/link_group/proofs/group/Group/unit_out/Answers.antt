@@ -1,5 +1,5 @@
 use Rattle.std.proofs.Common.{rules, refl, arith, ◌∙◌}
-use Rattle.group_members.specs.Doing.{Sent}
+use Rattle.link_group.specs.Doing.{Sent}
 use Rattle.link_group.proofs.ByLinks.{by_link, written, few_written}
 use Rattle.link_group.proofs.Live.{over, live_from, given_by_link, live_kept}
 use Rattle.link_group.proofs.group.Group.unit_out.Goals as goal
