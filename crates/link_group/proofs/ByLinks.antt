@@ -11,7 +11,6 @@ use Rattle.link_group.specs.Placing.{table_if}
 use Rattle.link_group.specs.Lines.{ByLink, ByCommand}
 use Rattle.link_group.proofs.Live.{over, by_seen, by_seen_command}
 use Rattle.link_term.specs.Machine.{is_low}
-use Rattle.link_term.specs.link_processes_types.commands.Command.{Command}
 use Rattle.link_group.specs.declared.commanding.CommandError.{CommandError}
 
 -- where the links were `old` first, then `new`, and then seen
