@@ -1,17 +1,15 @@
 -- A call of one link's terminal.
-use Rattle.std.proofs.Common.{◌≡◌, ℕ, ◌+◌, ◌-◌, ◌^◌, ◌≤◌, zero, suc, Option, List, [], ◌∷◌, ◌++◌, length, take, drop, refl, sym, ap, subst, arith, ◌<◌, true, Some, Result, IfOk, get_or, slice_set, ◌∙◌}
+use Rattle.std.proofs.Common.{◌≡◌, ℕ, ◌+◌, ◌-◌, ◌^◌, ◌≤◌, zero, suc, Option, List, [], ◌∷◌, ◌++◌, length, take, drop, Some, refl, sym, ap, ◌∙◌, subst, arith}
 use Rattle.std.specs.Prelude.{min, slice_get}
 use Rattle.link_group.specs.declared.link.Link.{Link}
 use Rattle.link_group.specs.Links.{change}
-use Rattle.link_group.specs.Doing.{AtLink, asked, came_by, low_at}
+use Rattle.link_group.specs.Doing.{AtLink, asked, came_by}
 use Rattle.link_processes.specs.declared.commands.Command.{Command}
 use Rattle.link_group.specs.Commanding.{cleared_at, Commanded, cleared_by}
 use Rattle.link_group.specs.Set.{LinkSet}
 use Rattle.link_group.specs.Placing.{table_if}
 use Rattle.link_group.specs.Lines.{ByLink, ByCommand}
 use Rattle.link_group.proofs.Live.{over, by_seen, by_seen_command}
-use Rattle.link_term.specs.Machine.{is_low}
-use Rattle.link_group.specs.declared.commanding.CommandError.{CommandError}
 
 -- where the links were `old` first, then `new`, and then seen
 pub by_link : (did : Link → Link → Type 0) (l : ℕ) (c d : LinkSet) (old new mid new2 mid2 : List Link) (own peer unsure : ℕ) (table table2 : List (Option ℕ))
@@ -45,17 +43,6 @@ written n xs items e = all-of n xs (drop (length xs) items) e
 pub few_written : (n most : ℕ) (xs items : List Link) → length xs ≡ n → n ≤ most → length (take n (xs ++ drop (length xs) items)) ≤ most
 few_written n most xs items e h = let size = ap (λ (ys : List Link). length ys) (written n xs items e) in omega (arith, size, e, h)
 
-pub there-is : (ks : List Link) (l : ℕ) (d : Link) → l < length ks → slice_get ks l ≡ Some (get_or ks l d)
-there-is [] l d h = absurd (omega (arith, h))
-there-is (k ∷ ks) zero d h = refl
-there-is (k ∷ ks) (suc l) d h = there-is ks l d (omega (arith, h))
-
-pub at_link : (did : Link → Link → Type 0) (l : ℕ) (ks : List Link) (d k : Link) → l < length ks → did (get_or ks l d) k → AtLink did l ks (slice_set ks l k)
-at_link did l ks d k h was = record { before = get_or ks l d; there = there-is ks l d h; after = k; links = refl; was = was }
-
-pub low_there : (l : ℕ) (ks : List Link) (d : Link) → l < length ks → is_low (get_or ks l d).terminal.processes ≡ true → low_at (slice_get ks l) ≡ true
-low_there l ks d h low = ap low_at (there-is ks l d h) ∙ low
-
-pub cleared_there : (command : Command) (l : ℕ) (ks : List Link) (d : Link) (r : Result ℕ CommandError) → l < length ks
-    → IfOk r (λ count. count ≡ length (cleared_by command (get_or ks l d))) → IfOk r (λ count. count ≡ length (cleared_at command (slice_get ks l)))
-cleared_there command l ks d r h is = subst (λ (o : Option Link). IfOk r (λ count. count ≡ length (cleared_at command o))) (sym (there-is ks l d h)) is
+pub cleared_here : (command : Command) (ks : List Link) (l : ℕ) (was : Link) (n : ℕ) → slice_get ks l ≡ Some was → n ≡ length (cleared_by command was)
+    → n ≡ length (cleared_at command (slice_get ks l))
+cleared_here command ks l was n e is = is ∙ sym (ap (λ (o : Option Link). length (cleared_at command o)) e)

@@ -23,6 +23,7 @@ mod Leaving
 mod Live
 mod Messages
 mod Near
+mod Numbered
 pub mod Opening
 pub mod Passing
 mod PlacingLaws

@@ -21,5 +21,6 @@ pub mod Stating
 pub mod Tables
 pub mod Ticking
 pub mod Ticks
+pub mod Whole
 pub use Rattle.group_changeover.specs.Printed
 pub use Rattle.group_changeover.specs.declared as group_changeover_types

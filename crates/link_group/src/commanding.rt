@@ -1,8 +1,7 @@
 //! Commands to a link.
-ghost use Rattle.std.specs.Prelude.{◌≡◌, ◌<◌, ◌++◌, length, slice_get, Some, IfOk};
-ghost use Rattle.link_group.specs.Commanding.{command_error_text, is_start, is_barred, starts_anew, marked, cleared_of, clears, cleared_by, cleared_at, Commands};
+ghost use Rattle.std.specs.Prelude.{◌≡◌, ◌<◌, ◌++◌, length, Some, IfOk};
+ghost use Rattle.link_group.specs.Commanding.{command_error_text, is_start, is_barred, starts_anew, marked, cleared_of, clears, cleared_by, Commands};
 ghost use Rattle.group_changeover.specs.Bound.{unbound};
-ghost use Rattle.link_group.specs.Doing.{AtLink};
 ghost use Rattle.link_group.specs.OneLink.{fault_of, held, with_availability};
 
 use crate::link::Link;
@@ -105,7 +104,11 @@ impl Link {
 
     /// A command to its terminal, behind which the buffers are emptied where the text asked for that. How many messages went by it that aren't bound
     /// to the link.
-    fn command(&mut self, command: Command) -> Result<usize, CommandError>
+    ///
+    /// # Errors
+    ///
+    /// `K2 Waiting` for Start in a changeover whose messages aren't handed out yet: nothing changes. Else those of `Terminal::command`.
+    pub(crate) fn command(&mut self, command: Command) -> Result<usize, CommandError>
         ensures did { Commands command (fault_of result) self.old self.new }
         ensures cleared { IfOk result (λ count. count ≡ length (cleared_by command self.old)) }
     {
@@ -122,17 +125,4 @@ impl Link {
             Err(CallError::NoMemory) => Err(CommandError::NoMemory),
         }
     }
-}
-
-/// A command to the link at a place. How many messages went by it that aren't bound to the link.
-///
-/// # Errors
-///
-/// `K2 Waiting` for Start in a changeover whose messages aren't handed out yet: nothing changes. Else those of `Terminal::command`.
-pub(crate) fn command_at(links: &mut [Link], at: usize, command: Command) -> Result<usize, CommandError>
-    requires { at < length links.old }
-    ensures did { AtLink (Commands command (fault_of result)) at links.old links.new }
-    ensures cleared { IfOk result (λ count. count ≡ length (cleared_at command (slice_get links.old at))) }
-{
-    links[at].command(command)
 }

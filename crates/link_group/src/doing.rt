@@ -1,11 +1,10 @@
 //! What a link does by its terminal.
 ghost use Rattle.std.specs.List.{list_any};
-ghost use Rattle.std.specs.Prelude.{◌≡◌, ◌||◌, map, ◌<◌, ◌≤◌, length, slice_get, true, IfOk, OnErr, Err};
+ghost use Rattle.std.specs.Prelude.{◌≡◌, ◌||◌, map, ◌<◌, ◌≤◌, length, true, IfOk, OnErr};
 ghost use Rattle.link_term.specs.Machine.{is_low};
 ghost use Rattle.link_term.specs.Kept.{window_of};
-ghost use Rattle.link_group.specs.Links.{change};
 ghost use Rattle.link_group.specs.OneLink.{accepted_of};
-ghost use Rattle.link_group.specs.Doing.{AtLink, Listened, Spoken, Sent, Reported, low_at, how_many, leaves_out, anew, without_bound_at, without_bound, asked, came_first, came_by, marked_served, admits_first, admits_at, admits_by};
+ghost use Rattle.link_group.specs.Doing.{Listened, Spoken, Sent, Reported, how_many, leaves_out, anew, without_bound_at, without_bound, asked, came_first, marked_served, admits_first, admits_at};
 
 use crate::link::Link;
 use group_changeover::Points;
@@ -56,7 +55,7 @@ impl Link {
 
     /// Looks whether its directions began anew, and whether it came into service, since that was last asked. Whether it may have selections for the
     /// first time.
-    fn see(&mut self) -> bool
+    pub(crate) fn see(&mut self) -> bool
         ensures first { result ≡ came_first self.old }
         ensures link { self.new ≡ asked self.old }
     {
@@ -68,7 +67,7 @@ impl Link {
     }
 
     /// Level 3 admits it, or does no longer. Whether it may have selections for the first time.
-    fn admit(&mut self, way: bool) -> bool
+    pub(crate) fn admit(&mut self, way: bool) -> bool
         ensures first { result ≡ admits_first way self.old }
         ensures link { self.new ≡ admits_at way self.old }
     {
@@ -76,7 +75,7 @@ impl Link {
         self.take_part()
     }
 
-    fn listen(&mut self, octets: &[u8]) -> usize
+    pub(crate) fn listen(&mut self, octets: &[u8]) -> usize
         ensures { Listened octets.now result self.old self.new }
     {
         let held = self.terminal.held();
@@ -86,14 +85,14 @@ impl Link {
         taken
     }
 
-    fn speak(&mut self, units: usize) -> Result<Vec<u8>, AllocError>
+    pub(crate) fn speak(&mut self, units: usize) -> Result<Vec<u8>, AllocError>
         ensures ok { IfOk result (λ octets. Spoken units octets.items self.old self.new) }
         ensures err { OnErr result (self.new ≡ self.old) }
     {
         self.terminal.line_out(units)
     }
 
-    fn send(&mut self) -> Result<Option<Unit>, AllocError>
+    pub(crate) fn send(&mut self) -> Result<Option<Unit>, AllocError>
         ensures ok { IfOk result (λ unit. Sent unit self.old self.new) }
         ensures err { OnErr result (self.new ≡ self.old) }
         ensures low { OnErr result (is_low self.old.terminal.processes ≡ true) }
@@ -101,7 +100,7 @@ impl Link {
         self.terminal.unit_out()
     }
 
-    fn tell(&mut self) -> Option<Report>
+    pub(crate) fn tell(&mut self) -> Option<Report>
         ensures { Reported result self.old self.new }
     {
         self.terminal.report()
@@ -135,32 +134,6 @@ fn drop_bound(terminal: &mut Terminal, points: Points)
     }
 }
 
-/// Looks whether the link at a place came into service. Whether it may have selections for the first time.
-#[tactic(auto, unfolding(crate::specs::Links::change))]
-pub(crate) fn see_at(links: &mut [Link], at: usize) -> bool
-    ensures first { result ≡ came_by (slice_get links.old at) }
-    ensures links { links.new ≡ change links.old at asked }
-{
-    if at < links.len() {
-        links[at].see()
-    } else {
-        false
-    }
-}
-
-/// Level 3 admits the link at a place, or does no longer. Whether it may have selections for the first time.
-#[tactic(auto, unfolding(crate::specs::Links::change))]
-pub(crate) fn admit_at(links: &mut [Link], at: usize, way: bool) -> bool
-    ensures first { result ≡ admits_by way (slice_get links.old at) }
-    ensures links { links.new ≡ change links.old at (admits_at way) }
-{
-    if at < links.len() {
-        links[at].admit(way)
-    } else {
-        false
-    }
-}
-
 /// Whether a link may have selections for the first time, or one before it.
 fn see_more(link: &mut Link, before: bool) -> bool
     ensures first { result ≡ before || came_first link.old }
@@ -180,53 +153,4 @@ pub(crate) fn see_all(links: &mut [Link]) -> bool
         first = see_more(&mut links[at], first);
     }
     first
-}
-
-/// `Terminal::line_in` of the link at a place.
-pub(crate) fn listen_at(links: &mut [Link], at: usize, octets: &[u8]) -> usize
-    requires { at < length links.old }
-    ensures { AtLink (Listened octets.now result) at links.old links.new }
-{
-    links[at].listen(octets)
-}
-
-/// `Terminal::line_out` of the link at a place.
-///
-/// # Errors
-///
-/// Want of memory: nothing changes.
-pub(crate) fn speak_at(links: &mut [Link], at: usize, units: usize) -> Result<Vec<u8>, AllocError>
-    requires { at < length links.old }
-    ensures ok { IfOk result (λ octets. AtLink (Spoken units octets.items) at links.old links.new) }
-    ensures err { OnErr result (links.new ≡ links.old) }
-{
-    match links[at].speak(units) {
-        Ok(octets) => Ok(octets),
-        Err(fault) => Err(fault),
-    }
-}
-
-/// `Terminal::unit_out` of the link at a place.
-///
-/// # Errors
-///
-/// Want of memory: nothing changes.
-pub(crate) fn send_at(links: &mut [Link], at: usize) -> Result<Option<Unit>, AllocError>
-    requires { at < length links.old }
-    ensures ok { IfOk result (λ unit. AtLink (Sent unit) at links.old links.new) }
-    ensures err { OnErr result (links.new ≡ links.old) }
-    ensures low { OnErr result (low_at (slice_get links.old at) ≡ true) }
-{
-    match links[at].send() {
-        Ok(unit) => Ok(unit),
-        Err(fault) => Err(fault),
-    }
-}
-
-/// `Terminal::report` of the link at a place.
-pub(crate) fn tell_at(links: &mut [Link], at: usize) -> Option<Report>
-    requires { at < length links.old }
-    ensures { AtLink (Reported result) at links.old links.new }
-{
-    links[at].tell()
 }

@@ -6,14 +6,14 @@ ghost use Rattle.link_group.specs.OneLink.{fault_of};
 ghost use Rattle.link_group.specs.Diverting.{diverted, settled, left_fault, divert_fault, after_divert};
 ghost use Rattle.group_changeover.specs.Sharing.{selections, link_of, pick};
 ghost use Rattle.link_group.specs.Links.{change};
-ghost use Rattle.link_group.specs.Moving.{retrieval_of, is_out_at, hand_by, hand_count, without_hand, ends_on, ends_at, keeps_at};
+ghost use Rattle.link_group.specs.Moving.{is_out_at, hand_by, hand_count, without_hand, ends_on, ends_at, keeps_at};
 
 use crate::group::Group;
 use crate::hand::Hand;
 use crate::link::Link;
 use crate::moving::divert_all;
 use crate::open::{holds_at, takers};
-use group_changeover::{Counts, DivertFault, Table, counts_of, pick};
+use group_changeover::{DivertFault, Table, counts_of, pick};
 use link_term::Msu;
 use std::collections::VecDeque;
 
@@ -92,19 +92,6 @@ impl Group {
     }
 }
 
-/// How many messages of each selection are in the retrieval of the link at a place.
-pub(crate) fn retrieval_of(links: &[Link], at: usize) -> Option<Counts>
-    ensures { result ≡ retrieval_of (slice_get links.now at) }
-{
-    match links.get(at) {
-        Some(link) => match link.availability.changing {
-            Some(changing) => changing.retrieval,
-            None => None,
-        },
-        None => None,
-    }
-}
-
 /// The link that a selection has as the changeover of a link ends.
 fn end_on(links: &[Link], table: &Table, able: &[usize], at: usize, selection: u8) -> Option<usize>
     ensures { result ≡ ends_on able.now at (slice_get links.now at) (link_of table.now.links selection) selection }
@@ -122,7 +109,7 @@ fn end_on(links: &[Link], table: &Table, able: &[usize], at: usize, selection: u
 }
 
 /// The table as the changeover of a link ends.
-pub(crate) fn end_table(links: &[Link], table: &Table, able: &[usize], at: usize) -> Table
+fn end_table(links: &[Link], table: &Table, able: &[usize], at: usize) -> Table
     ensures { result.links ≡ map (λ s. ends_on able.now at (slice_get links.now at) (link_of table.now.links s) s) selections }
 {
     Table {
@@ -149,7 +136,7 @@ pub(crate) fn end_table(links: &[Link], table: &Table, able: &[usize], at: usize
 
 /// The changeover of the link at a place ends.
 #[tactic(auto, unfolding(crate::specs::Links::change))]
-pub(crate) fn end_at(links: &mut [Link], at: usize)
+fn end_at(links: &mut [Link], at: usize)
     ensures { links.new ≡ change links.old at ends_at }
 {
     if at < links.len() {
@@ -172,6 +159,16 @@ impl Link {
         }
     }
 
+    /// How many messages it handed out that are not diverted yet, if it did.
+    pub(crate) fn handed(&self) -> Option<usize>
+        ensures { result ≡ hand_count (Some self.now) }
+    {
+        match self.availability.changing {
+            Some(changing) if changing.is_out() => Some(self.hand.len()),
+            _ => None,
+        }
+    }
+
     /// So much is left of them.
     fn keep(&mut self, messages: VecDeque<Msu>)
         requires { All IsMessage messages.items }
@@ -182,22 +179,9 @@ impl Link {
     }
 }
 
-/// How many messages the link at a place handed out that are not diverted yet.
-pub(crate) fn hand_of(links: &[Link], at: usize) -> Option<usize>
-    ensures { result ≡ hand_count (slice_get links.now at) }
-{
-    match links.get(at) {
-        Some(link) => match link.availability.changing {
-            Some(changing) if changing.is_out() => Some(link.hand.len()),
-            _ => None,
-        },
-        None => None,
-    }
-}
-
 /// Takes out the messages that the link at a place handed out, if it did.
 #[tactic(auto, unfolding(crate::specs::Links::change))]
-pub(crate) fn take_hand(links: &mut [Link], at: usize) -> Option<VecDeque<Msu>>
+fn take_hand(links: &mut [Link], at: usize) -> Option<VecDeque<Msu>>
     ensures messages { IfSome result (λ messages. messages.items ≡ hand_by (slice_get links.old at)) }
     ensures whole { IfSome result (λ messages. All IsMessage messages.items) }
     ensures out { is_some result ≡ is_out_at (slice_get links.old at) }
@@ -213,7 +197,7 @@ pub(crate) fn take_hand(links: &mut [Link], at: usize) -> Option<VecDeque<Msu>>
 
 /// So much is left of what the link at a place handed out.
 #[tactic(auto, unfolding(crate::specs::Links::change))]
-pub(crate) fn hand_back(links: &mut [Link], at: usize, messages: VecDeque<Msu>)
+fn hand_back(links: &mut [Link], at: usize, messages: VecDeque<Msu>)
     requires { All IsMessage messages.items }
     ensures { links.new ≡ change links.old at (keeps_at messages.items) }
 {

@@ -3,10 +3,10 @@ ghost use Rattle.std.specs.Prelude.{◌≡◌, [], All, length};
 ghost use Rattle.resend_store.specs.Messages.{IsMessage};
 
 use link_term::Msu;
-use std::mem;
 use std::alloc::Global;
 use std::collections::VecDeque;
 use std::marker::Model;
+use std::mem;
 
 /// The messages that a link handed out and that are not diverted yet, in order (Q.704, retrieval).
 #[derive(Drop)]

@@ -9,7 +9,8 @@ ghost use Rattle.link_group.specs.OneLink.{fault_of, carries, shares, gives_mess
 
 use crate::hand::Hand;
 use group_changeover::{
-    AbandonError, Availability, BindError, Changing, FailError, Kind, Points, RetrieveError, SendError, counts_of, leave_out,
+    AbandonError, Availability, BindError, Changing, FailError, Kind, Points, RetrieveError,
+    SendError, counts_of, leave_out,
 };
 use link_term::{Hold, LineKind, Msu, Terminal};
 use std::alloc::AllocError;

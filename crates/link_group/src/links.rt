@@ -6,7 +6,9 @@ ghost use Rattle.link_group.specs.Links.{change, fault_at, read_at};
 ghost use Rattle.link_group.specs.Failing.{changeover_begins_at, fail_fault_of, heard_at, hears, replies_at, order_of, handed, given_up, messages_by, none_known, sent_by};
 
 use crate::link::Link;
-use group_changeover::{AbandonError, BindError, FailError, Hearing, Kind, RetrieveError, SendError};
+use group_changeover::{
+    AbandonError, BindError, FailError, Hearing, Kind, RetrieveError, SendError,
+};
 use link_term::Msu;
 
 /// Takes a message to send.

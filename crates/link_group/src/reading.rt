@@ -7,7 +7,6 @@ ghost use Rattle.link_group.specs.Reading.{held_count, sent_count, message_at, t
 ghost use Rattle.link_group.specs.Tables.{changing_by};
 ghost use Rattle.link_group.specs.Moving.{retrieval_of, hand_count};
 
-use crate::ending::{hand_of, retrieval_of};
 use crate::group::Group;
 use group_changeover::Counts;
 use link_processes::Book;
@@ -58,7 +57,10 @@ impl Group {
     pub fn hand(&self, link: usize) -> Option<usize>
         ensures { result ≡ hand_count (slice_get self.now.links link) }
     {
-        hand_of(self.links.as_slice(), link)
+        match self.links.get(link) {
+            Some(link) => link.handed(),
+            None => None,
+        }
     }
 
     /// How many of these there are of each selection, as they were counted when the link handed them out, and anew when a diversion left some
@@ -66,7 +68,13 @@ impl Group {
     pub fn hand_counts(&self, link: usize) -> Option<Counts>
         ensures { result ≡ retrieval_of (slice_get self.now.links link) }
     {
-        retrieval_of(self.links.as_slice(), link)
+        match self.links.get(link) {
+            Some(link) => match link.availability.changing {
+                Some(changing) => changing.retrieval,
+                None => None,
+            },
+            None => None,
+        }
     }
 
     /// The terminal of a link, if it is there.
