@@ -3,6 +3,7 @@ pub mod Changing
 pub mod Commanding
 pub mod Diverting
 pub mod Doing
+pub mod Encodable
 pub mod Ends
 pub mod Failing
 pub mod Joined
@@ -21,6 +22,5 @@ pub mod Stating
 pub mod Tables
 pub mod Ticking
 pub mod Ticks
-pub mod Whole
 pub use Rattle.group_changeover.specs.Printed
 pub use Rattle.group_changeover.specs.declared as group_changeover_types

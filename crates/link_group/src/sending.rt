@@ -8,7 +8,7 @@ ghost use Rattle.link_group.specs.Limits.{MOST_LINKS, POINT_CODES};
 ghost use Rattle.group_changeover.specs.declared.changeover.Changeover.{Changeover as PlainChangeover};
 ghost use Rattle.link_group.specs.OneLink.{fault_of, retrieve_refusal, abandon_refusal};
 ghost use Rattle.group_changeover.specs.Bound.{is_bound};
-ghost use Rattle.link_group.specs.Whole.{IsWhole};
+ghost use Rattle.link_group.specs.Encodable.{IsEncodable};
 ghost use Rattle.link_group.specs.Set.{points_of, send_fault, sent, bind_fault_at, bound_at};
 ghost use Rattle.link_group.specs.Changing.{message, fail_fault, after_failure, order_at, is_for, IsReply, IsRead, after_message, hearing_of, reply_to, retrieve_fault_at, after_retrieve, messages_for, abandon_fault_at, after_abandon, unsent_at};
 
@@ -45,7 +45,7 @@ fn message(own: u16, peer: u16, link: usize, kind: Kind) -> Changeover
     requires link { link < MOST_LINKS }
     requires kind { IsKind kind }
     ensures is { result ≡ message own peer link kind }
-    ensures whole { IsWhole result }
+    ensures encodable { IsEncodable result }
 {
     let label = Label {
         dpc: peer,
@@ -57,7 +57,7 @@ fn message(own: u16, peer: u16, link: usize, kind: Kind) -> Changeover
 
 /// The field of an answer, if there is one.
 fn sif_of(reply: Option<Changeover>) -> Option<Sif>
-    requires { IfSome reply IsWhole }
+    requires { IfSome reply IsEncodable }
     ensures { IsReply reply result }
 {
     match reply {
@@ -130,7 +130,7 @@ impl Group {
     pub fn begin_changeover(&mut self, link: usize) -> Result<Changeover, FailError>
         ensures fault { fault_of result ≡ fail_fault self.old link }
         ensures order { IfOk result (λ order. order ≡ order_at self.old link) }
-        ensures whole { IfOk result IsWhole }
+        ensures encodable { IfOk result IsEncodable }
         ensures ok { OnOk result (self.new ≡ after_failure self.old link) }
         ensures err { OnErr result (self.new ≡ self.old) }
     {
@@ -176,7 +176,7 @@ impl Group {
         requires { IsLabel heard.label }
         ensures set { self.new ≡ after_message self.old (Some heard) }
         ensures reply { result ≡ reply_to self.old (Some heard) }
-        ensures whole { IfSome result IsWhole }
+        ensures encodable { IfSome result IsEncodable }
     {
         if !self.is_for(heard) {
             return None;
@@ -195,7 +195,7 @@ impl Group {
         ensures set { self.new ≡ after_message self.old (Some message) }
         ensures hearing { result.hearing ≡ hearing_of self.old (Some message) }
         ensures reply { result.reply ≡ reply_to self.old (Some message) }
-        ensures whole { IfSome result.reply IsWhole }
+        ensures encodable { IfSome result.reply IsEncodable }
     {
         let hearing = self.hearing(message);
         let reply = self.answer(message);
