@@ -19,7 +19,7 @@ pub struct Run {
 }
 
 /// The mode of a word.
-fn mode_of(word: &str) -> Option<Mode> {
+pub(crate) fn mode_of(word: &str) -> Option<Mode> {
     match word {
         "basic" => Some(Mode::Basic),
         "cyclic" => Some(Mode::Cyclic),
@@ -28,7 +28,7 @@ fn mode_of(word: &str) -> Option<Mode> {
 }
 
 /// The next word, as a number.
-fn number(words: &mut SplitWhitespace<'_>) -> Option<u32> {
+pub(crate) fn number(words: &mut SplitWhitespace<'_>) -> Option<u32> {
     match words.next() {
         Some(word) => word.parse::<u32>().ok(),
         None => None,
