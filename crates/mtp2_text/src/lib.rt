@@ -36,6 +36,21 @@ pub fn standard(alloc: Global) -> Result<Verified, LoadFault>
     OwnSet::Standard.load(alloc)
 }
 
+/// The set of the text [`Q703`].
+///
+/// # Errors
+///
+/// What `load` answers for the text. It is accepted, as the table of texts shows, so [`LoadFault::NoMemory`] alone comes.
+pub fn q703(alloc: Global) -> Result<Verified, LoadFault>
+    ensures utf8 { IsUtf8 Q703.now }
+    ensures accepted { IfOk result (λ v. IsLoaded Q703.now v) }
+    ensures exact { (ts : List lexeme.Token) (b : PlainBlock) → IsSoundText Q703.now ts b → Gives result (MatchesBlock b) }
+    ensures every { (ts : List lexeme.Token) (b : PlainBlock) → IsRead Q703.now ts b → IfOk result (IsSetOf b) }
+    ensures refused { IfErr result (λ e. IsRefused Q703.now e) }
+{
+    OwnSet::Q703.load(alloc)
+}
+
 /// The set of the text [`MONITORS`].
 ///
 /// # Errors

@@ -6,7 +6,7 @@ mod told;
 use crate::calls::Stopped;
 use crate::events::read::{events_of, limits_of};
 use crate::events::told::write_replies;
-use crate::sets::text_of;
+use crate::texts::text_of;
 use actor_book::run_events;
 use actor_headline::{Book, LoadFault, TextRun, run_text};
 use std::alloc::Global;

@@ -1,7 +1,7 @@
-//! Sets of processes by name, and link sets over the program's own.
+//! Link sets over the program's own set of processes.
 
 use crate::calls::Stopped;
-use link_standard::{LoadFault, OwnSet, Verified, standard};
+use link_standard::{Verified, standard};
 use std::alloc::Global;
 use trials_groups::{Stopped as SetStopped, make_calls, run_script, run_sets, run_tended};
 
@@ -11,22 +11,6 @@ pub fn why_stopped(stopped: SetStopped) -> Stopped {
         SetStopped::NoMemory => Stopped::NoMemory,
         SetStopped::Refused => Stopped::Refused,
         SetStopped::BadLine => Stopped::BadLine,
-    }
-}
-
-/// The text of the set of the program's own that is named, else the text that stands there.
-pub fn text_of(source: &str) -> &str {
-    match OwnSet::named(source) {
-        Some(own) => own.text(),
-        None => source,
-    }
-}
-
-/// The set of a text that is accepted.
-pub fn accepted(loaded: Result<Verified, LoadFault>) -> Result<Verified, Stopped> {
-    match loaded {
-        Ok(set) => Ok(set),
-        Err(_) => Err(Stopped::Refused),
     }
 }
 

@@ -19,7 +19,7 @@ pub struct Run {
 }
 
 /// The mode of a word.
-pub(crate) fn mode_of(word: &str) -> Option<Mode> {
+fn mode_of(word: &str) -> Option<Mode> {
     match word {
         "basic" => Some(Mode::Basic),
         "cyclic" => Some(Mode::Cyclic),
@@ -28,7 +28,7 @@ pub(crate) fn mode_of(word: &str) -> Option<Mode> {
 }
 
 /// The next word, as a number.
-pub(crate) fn number(words: &mut SplitWhitespace<'_>) -> Option<u32> {
+fn number(words: &mut SplitWhitespace<'_>) -> Option<u32> {
     match words.next() {
         Some(word) => word.parse::<u32>().ok(),
         None => None,

@@ -1,7 +1,7 @@
 //! Runs of two sets that tend themselves, as they are written.
 
-use crate::run::{mode_of, number};
 use set_tending::Mode;
+use std::str::SplitWhitespace;
 
 /// A run.
 #[derive(Clone, Copy)]
@@ -24,6 +24,21 @@ pub struct TendedRun {
     pub sums: bool,
     /// Whether all that is told is shown.
     pub loud: bool,
+}
+
+fn mode_of(word: &str) -> Option<Mode> {
+    match word {
+        "basic" => Some(Mode::Basic),
+        "cyclic" => Some(Mode::Cyclic),
+        _ => None,
+    }
+}
+
+fn number(words: &mut SplitWhitespace<'_>) -> Option<u32> {
+    match words.next() {
+        Some(word) => word.parse::<u32>().ok(),
+        None => None,
+    }
 }
 
 /// A word more.

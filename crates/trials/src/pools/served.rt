@@ -4,7 +4,7 @@ use crate::calls::Stopped;
 use crate::pools::wanderer::{Made, NAMES, Wanderer, Way};
 use crate::rounds::clock::now;
 use crate::run::number;
-use crate::sets::{accepted, text_of};
+use crate::texts::{accepted, text_of};
 use actor_book::{ActorName, Book, Limits, number_of};
 use link_standard::{Verified, load};
 use std::alloc::{AllocError, Global};

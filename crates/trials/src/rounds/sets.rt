@@ -1,7 +1,7 @@
 //! The sets whose turns are measured.
 
 use crate::calls::Stopped;
-use crate::sets::accepted;
+use crate::texts::accepted;
 use link_standard::{Verified, load, standard};
 use std::alloc::{AllocError, Global};
 
