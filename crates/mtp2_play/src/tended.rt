@@ -1,9 +1,10 @@
 //! The command `set`.
-ghost use Rattle.std.specs.Prelude.{◌≡◌, ◌⊎◌, None, length, IfErr, IsOk, OnOk};
+ghost use Rattle.std.specs.Prelude.{◌≡◌, ◌⊎◌, None, Some, length, IfErr, IsOk, OnOk};
 ghost use Rattle.script_check.specs.Checked.{given};
 ghost use Rattle.line_play.specs.SetDesks.{Ran, RanFrom, place_of};
 ghost use Rattle.line_play.specs.SetRounds.{Made};
 ghost use Rattle.mtp2_play.specs.SetRuns.{plan_of};
+ghost use Rattle.mtp2_words.specs.Own.{text_of};
 ghost use Rattle.mtp2_play.specs.Sets.{own_text_of};
 ghost use Rattle.mtp2_play.specs.Printed.{IsSetRun};
 
@@ -13,7 +14,7 @@ use crate::sets::own_set;
 use line_filter::{LineOrders, Orders, Reports};
 use line_play::{Ends, Lines, SetDesk, SetPlan, Tender, open_tender};
 use line_streams::{OrderStream, ReportStream, open_orders, open_records, open_reports};
-use mtp2_words::{Named, SetEnd};
+use mtp2_words::{Named, OwnSet, SetEnd};
 use plain_text::{Errors, FAILED, HELD, NamedReader, Teller};
 use script_check::SetWord;
 use std::fs::{self, File};
@@ -231,13 +232,11 @@ fn run_own<H: Files<File = File> + Threads + Eprint + Clock + AllocGlobal>(
     named: &Named<'_>,
     lines: &[&str],
     end: &SetEnd<'_>,
+    own: OwnSet,
 ) -> u8
-    ensures { IsSetRun (own_text_of named.now) (plan_of named.now (length lines.now) end.now) end.now.ahead result }
+    ensures { IsSetRun (Some (text_of own)) (plan_of named.now (length lines.now) end.now) end.now.ahead result }
 {
-    match own_set(named) {
-        Some(own) => run_on(host, teller, named, lines, end, own),
-        None => FAILED,
-    }
+    run_on(host, teller, named, lines, end, own_set(own))
 }
 
 /// Runs `set`: one end of a set of links, each on its line. Gives the exit status: 0 behind `quit`, or once no line could be opened for 10 s and all
@@ -259,9 +258,7 @@ pub fn run_set<H: Files<File = File> + Threads + Eprint + Clock + AllocGlobal>(
             }
             Err(error) => teller.fail(path, &error),
         },
-        Named::Standard | Named::Q703 | Named::Monitors => {
-            run_own(host, teller, named, lines, end)
-        }
+        Named::Own(own) => run_own(host, teller, named, lines, end, *own),
         Named::Stdin => FAILED,
     }
 }
