@@ -14,7 +14,7 @@ use Rattle.line_play.specs.LineTraffic.{Traffic}
 use Rattle.line_play.specs.SetDoing.{Stood}
 use Rattle.line_play.specs.SetObeying.{IsRefused, bad, unsent, untaken, other, Obeys, sends, does, refuses}
 use Rattle.line_play.specs.declared.set_orders.Focus.{Focus}
-use Rattle.line_play.specs.SetRounds.{Waited, Carries, passes, misses, ends, fails, opens, CarriesAll, no_link, one_link, Tells, nothing, one, ObeysWaiting, rests, obeys, TakesOrder, at_once, behind, report, Attends, waited, comes, AttendsAll, none_due, full, quits, SetPlace, IsRound, Rounds, begins, round}
+use Rattle.line_play.specs.SetRounds.{Waited, Carries, passes, misses, ends, fails, opens, CarriesAll, no_link, one_link, Tells, nothing, one, ObeysWaiting, rests, obeys, TakesOrder, at_once, behind, report, Attends, waited, comes, looks, AttendsAll, none_due, full, quits, SetPlace, IsRound, Rounds, begins, round}
 use Rattle.line_play.specs.SetLaws.{sent_in, sent_waiting, sent_taking, sent_attending, sent_by_all, sent_along, told_in, told_along}
 
 -- what was sent, one part behind another
@@ -68,6 +68,7 @@ lived_attending t p sent told waiting left _ _ _ _ l (waited {bytes} {q} {now} b
 lived_attending t p sent told waiting left _ _ _ _ l (comes {bytes} {q} {now} {fewer} order more r later last before next no_end taken) =
     sent_more t r.tender sent (sent_attending before) (sent_taking taken) told
     (lived_taking t q (sent ++ sent_attending before) told order now more r later (lived_attending t p sent told waiting left bytes q now fewer l before) taken)
+lived_attending t p sent told waiting left _ _ _ _ l (looks {bytes} {q} {now} {fewer} more last before anew) = lived_attending t p sent told waiting left bytes q now fewer l before
 
 lived_all : (t : Tended) (p : Stood) (sent : List Msu) (told : List Told) (waiting : List Waited) (left : Option (List Timed)) (bytes : List ℕ) (goes_on : Bool) (v : Stood) (last : List Waited)
     (still : Option (List Timed)) → Lived t sent told p.tender → (made : AttendsAll p waiting left bytes goes_on v last still) → Lived t (sent ++ sent_by_all made) told v.tender

@@ -6,7 +6,7 @@ use Rattle.std.proofs.lemmas.Result.{on_ok_weaker}
 use Rattle.std.proofs.lemmas.List.{replicate_more, take_all, take-append-le}
 use Rattle.script_lines.specs.Words.{words_of}
 use Rattle.line_filter.specs.Desks.{Told as TellsSuch}
-use Rattle.line_filter.specs.Orders.{Timed, NextIs, NoneIsDue, QUIT, told}
+use Rattle.line_filter.specs.Orders.{Timed, NextIs, NoneIsDue, LooksAnew, QUIT, told}
 use Rattle.line_filter.specs.Reporting.{Stand, TellsLines}
 use Rattle.line_filter.proofs.Reporting.{tells_none, tells_trans}
 use Rattle.set_tending.specs.Rounds.{Tends, Ticks}
@@ -21,7 +21,7 @@ use Rattle.line_play.specs.declared.set_lines.Came.TheVariants as line
 use Rattle.line_play.specs.SetDoing.{Stood}
 use Rattle.line_play.specs.SetObeying.{Obeys}
 use Rattle.line_play.specs.SetOrders.{SaysSuch, starts, is_send, set_order_of}
-use Rattle.line_play.specs.SetRounds.{Waited, goes_first, Made, line_told, passed_told, PassesOn, Carries, passes, misses, ends, fails, opens, CarriesAt, CarriesAll, no_link, one_link, TellsAll, ObeysWaiting, rests, obeys, TakesOrder, at_once, behind, report, Attends, waited, comes, AttendsAll, none_due, full, quits, MOST_WAITING, SetPlace, IsRound, Rests}
+use Rattle.line_play.specs.SetRounds.{Waited, goes_first, Made, line_told, passed_told, PassesOn, Carries, passes, misses, ends, fails, opens, CarriesAt, CarriesAll, no_link, one_link, TellsAll, ObeysWaiting, rests, obeys, TakesOrder, at_once, behind, report, Attends, waited, comes, looks, AttendsAll, none_due, full, quits, MOST_WAITING, SetPlace, IsRound, Rests}
 
 -- ---- what is given
 
@@ -288,6 +288,15 @@ taken_report order said t waiting a is none_there =
 pub attends_first : (t u : Stood) (waiting now : List Waited) (left : Option (List Timed)) (a b : Stand)
     → TellsSuch (λ bytes. ObeysWaiting t waiting bytes u now) a b → Rests now → TellsSuch (λ bytes. Attends t waiting left bytes u now left) a b
 attends_first t u waiting now left a b before last = record { bytes = before.bytes; are = waited before.are last; tells = before.tells }
+
+pub attends_looked : (t u : Stood) (waiting now : List Waited) (left last : Option (List Timed)) (ms : ℕ) (a b c : Stand)
+    → TellsSuch (λ bytes. Attends t waiting left bytes u now left) a b → ms ≡ u.tender.ticks → TellsSuch (λ bytes. LooksAnew ms left bytes last) b c
+    → TellsSuch (λ bytes. Attends t waiting left bytes u now last) a c
+attends_looked t u waiting now left last ms a b c before ms_is more = record {
+  bytes = before.bytes ++ more.bytes;
+  are = looks more.bytes last before.are (subst (λ (n : ℕ). LooksAnew n left more.bytes last) ms_is more.are);
+  tells = tells_trans a b c before.bytes more.bytes before.tells more.tells;
+}
 
 -- none waits, or the first sends a message
 pub rests_none : (waiting : List Waited) → None ≡ slice_get waiting 0 → Rests waiting

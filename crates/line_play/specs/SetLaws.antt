@@ -11,7 +11,7 @@ use Rattle.line_play.specs.SetDoing.{Stood}
 use Rattle.line_play.specs.SetObeying.{Obeys, sends, does, refuses}
 use Rattle.line_play.specs.declared.set_orders.Focus.{Focus}
 use Rattle.line_play.specs.SetRounds.{Waited, Tells, nothing, one, ObeysWaiting, rests, obeys}
-use Rattle.line_play.specs.SetRounds.{TakesOrder, at_once, behind, report, Attends, waited, comes}
+use Rattle.line_play.specs.SetRounds.{TakesOrder, at_once, behind, report, Attends, waited, comes, looks}
 use Rattle.line_play.specs.SetRounds.{AttendsAll, none_due, full, quits, SetPlace}
 use Rattle.line_play.specs.SetRounds.{Rounds, begins, round}
 
@@ -44,6 +44,7 @@ abbrev pub sent_attending :
 sent_attending (waited before last) = sent_waiting before
 sent_attending (comes order more r later last before next no_end taken) =
     sent_attending before ++ sent_taking taken
+sent_attending (looks more last before anew) = sent_attending before
 
 abbrev pub sent_by_all :
     {p : Stood} {waiting : List Waited} {left : Option (List Timed)} {bytes : List ℕ}

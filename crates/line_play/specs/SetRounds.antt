@@ -5,7 +5,7 @@ use Rattle.std.specs.Prelude.{Option, None, Some}
 use Rattle.std.specs.Fmt.{decimal}
 use Rattle.std.specs.List.{list_any}
 use Rattle.script_lines.specs.Words.{words_of}
-use Rattle.line_filter.specs.Orders.{Timed, NextIs, NoneIsDue, QUIT, told}
+use Rattle.line_filter.specs.Orders.{Timed, NextIs, NoneIsDue, LooksAnew, QUIT, told}
 use Rattle.line_filter.specs.Reporting.{Stand, TellsLines}
 use Rattle.set_tending.specs.Rounds.{Tends, Ticks}
 use Rattle.set_tending.specs.Telling.{report_in}
@@ -171,7 +171,7 @@ pub data TakesOrder (order : List ℕ) (p : Stood) (waiting : List Waited) :
   report : set_order_of (words_of order) ≡ None → TakesOrder order p waiting [] p waiting
 
 -- Orders that wait are obeyed, up to a message that still has to wait, then those that are due come
--- in their order.
+-- in their order; where they begin anew that is told.
 pub data Attends (p : Stood) (waiting : List Waited) (left : Option (List Timed)) :
     List ℕ → Stood → List Waited → Option (List Timed) → Type 0 where
   waited : {bytes : List ℕ} {q : Stood} {now : List Waited}
@@ -181,6 +181,10 @@ pub data Attends (p : Stood) (waiting : List Waited) (left : Option (List Timed)
       → Attends p waiting left bytes q now fewer → NextIs q.tender.ticks fewer order last
       → (order ≡ QUIT → ⊥) → TakesOrder order q now more r later
       → Attends p waiting left (bytes ++ more) r later last
+  looks : {bytes : List ℕ} {q : Stood} {now : List Waited} {fewer : Option (List Timed)}
+      (more : List ℕ) (last : Option (List Timed))
+      → Attends p waiting left bytes q now fewer → LooksAnew q.tender.ticks fewer more last
+      → Attends p waiting left (bytes ++ more) q now last
 
 -- The run goes on where none is due any more, or no more may wait. It ends with `quit`.
 pub data AttendsAll (p : Stood) (waiting : List Waited) (left : Option (List Timed)) :

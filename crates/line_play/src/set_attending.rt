@@ -10,7 +10,7 @@ ghost use Rattle.line_play.specs.SetRounds.{waiting_in, goes_first, Rests, Obeys
 use crate::set_orders::{SetOrder, is_set_report, set_order_in};
 use crate::set_queue::Queue;
 use crate::set_state::SetState;
-use line_filter::{Orders, Reports};
+use line_filter::{Orders, Reports, look_anew};
 use script_links::Order;
 use std::alloc::{AllocError, Global};
 use std::io::{self, ErrorKind};
@@ -243,6 +243,7 @@ pub(crate) fn attend<O: Orders, P: Reports>(
         (P.stand reports.old) (P.stand reports.new)) }
 {
     obey_waiting(alloc, state, queue, reports)?;
+    look_anew(alloc, state.tender.now(), orders, reports)?;
     for _order in 0..u64::MAX {
         if queue.is_full() {
             return Ok(true);
