@@ -9,6 +9,7 @@ use Rattle.set_tending.specs.declared.told.Told.{Told}
 use Rattle.line_play.specs.LineTraffic.{Traffic}
 use Rattle.line_play.specs.SetDoing.{Stood}
 use Rattle.line_play.specs.SetObeying.{Obeys, sends, does, refuses}
+use Rattle.line_play.specs.SetOrders.{PlainSetOrder}
 use Rattle.line_play.specs.declared.set_orders.Focus.{Focus}
 use Rattle.line_play.specs.SetRounds.{Waited, Tells, nothing, one, ObeysWaiting, rests, obeys}
 use Rattle.line_play.specs.SetRounds.{TakesOrder, at_once, behind, report, Attends, waited, comes, looks}
@@ -18,10 +19,10 @@ use Rattle.line_play.specs.SetRounds.{Rounds, begins, round}
 -- ---- the messages of orders that were told as ok, in their order
 
 abbrev pub sent_in :
-    {order : List ℕ} {whom : Focus} {p : Stood} {bytes : List ℕ} {q : Stood}
-    → Obeys order whom p bytes q → List Msu
-sent_in (sends m said room acts) = m ∷ []
-sent_in (does said is none_there may adds changes answer) = []
+    {order : List ℕ} {said : Option PlainSetOrder} {whom : Focus} {p : Stood} {bytes : List ℕ}
+    {q : Stood} → Obeys order said whom p bytes q → List Msu
+sent_in (sends m says room acts) = m ∷ []
+sent_in (does what is none_there may adds changes answer) = []
 sent_in (refuses why is) = []
 
 abbrev pub sent_waiting :
