@@ -54,8 +54,11 @@ fn is_quit(order: &str) -> bool
 fn rests(state: &SetState, queue: &Queue) -> bool
     ensures { result ≡ true → Rests (waiting_in queue.now) }
 {
+    if !state.tender.sends_wait() {
+        return queue.is_empty();
+    }
     match queue.first() {
-        Some(first) => state.tender.sends_wait() && sends(&first.order.said),
+        Some(first) => sends(&first.order.said),
         None => true,
     }
 }
@@ -95,7 +98,10 @@ fn has_to_wait(state: &SetState, queue: &Queue, said: &Option<SetOrder>) -> bool
     if !queue.is_empty() {
         return true;
     }
-    state.tender.sends_wait() && sends(said)
+    if !state.tender.sends_wait() {
+        return false;
+    }
+    sends(said)
 }
 
 /// Takes an order: it is obeyed, or waits behind others, but for one that overtakes them. A report says none.
@@ -137,7 +143,8 @@ pub(crate) fn attend<O: Orders, P: Reports>(
         (P.stand reports.old) (P.stand reports.new)) }
 {
     obey_waiting(alloc, state, queue, reports)?;
-    look_anew(alloc, state.tender.now(), orders, reports)?;
+    let now = state.tender.now();
+    look_anew(alloc, now, orders, reports)?;
     for _order in 0..u64::MAX {
         if queue.is_full() {
             return Ok(true);
