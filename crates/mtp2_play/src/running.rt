@@ -150,32 +150,29 @@ fn serve<O: Orders, P: Reports, R: Read, W: Write>(
     run_link(alloc, desk, end.bits, ahead, reader, writer)
 }
 
-/// Has a terminal speak on its line, by these streams, without a trace.
+/// Has a terminal at its desk speak on its line, and ends its run.
 fn speak_plain<H: Files<File = File> + Threads + Eprint + Clock + AllocGlobal, R: Read, W: Write>(
     host: &H,
     end: &LineEnd<'_>,
-    streams: Streams<'_, H>,
-    terminal: Terminal,
+    desk: &mut Desk<LinkEnd, OrderStream, ReportStream<Errors<'_, H>>>,
+    measures: Option<File>,
     reader: &mut R,
     writer: &mut W,
 ) -> u8
-    requires given { AreGiven end.now.orders (known_of streams.orders) }
-    requires orders { left_of streams.orders ≡ ordered_by (known_of streams.orders) }
-    ensures spoke { result ≡ 0 → Spoke end.now.orders terminal end.now.bits (min end.now.ahead MOST_AHEAD)
+    requires none_held { desk.old.terminal.held ≡ None }
+    requires silent { IsSilent desk.old.voice }
+    requires new { desk.old.count ≡ 0 }
+    requires given { AreGiven end.now.orders (known_of desk.old.orders) }
+    requires ordered { left_of desk.old.orders ≡ ordered_by (known_of desk.old.orders) }
+    ensures spoke { result ≡ 0 → Spoke end.now.orders desk.old.terminal.terminal end.now.bits (min end.now.ahead MOST_AHEAD)
         (record { read = R.remaining reader.old; written = W.contents writer.old })
         (record { read = R.remaining reader.new; written = W.contents writer.new }) }
-    ensures begun { Begun end.now.orders terminal end.now.bits (min end.now.ahead MOST_AHEAD)
+    ensures begun { Begun end.now.orders desk.old.terminal.terminal end.now.bits (min end.now.ahead MOST_AHEAD)
         (record { read = R.remaining reader.old; written = W.contents writer.old })
         (record { read = R.remaining reader.new; written = W.contents writer.new }) }
     ensures status { (result ≡ 0) ⊎ (result ≡ 4) }
 {
-    let Streams {
-        orders,
-        reports,
-        measures,
-    } = streams;
-    let mut desk = link_desk(terminal, orders, reports);
-    let status = serve(host.alloc(), end, &mut desk, reader, writer);
+    let status = serve(host.alloc(), end, desk, reader, writer);
     let now = desk.millisecond();
     end_streams(
         host,
@@ -187,34 +184,30 @@ fn speak_plain<H: Files<File = File> + Threads + Eprint + Clock + AllocGlobal, R
     )
 }
 
-/// The same, with a trace.
+/// The same of one with a trace.
 fn speak_traced<H: Files<File = File> + Threads + Eprint + Clock + AllocGlobal, R: Read, W: Write>(
     host: &H,
     teller: &Teller<'_, H>,
     end: &LineEnd<'_>,
-    streams: Streams<'_, H>,
-    traced: TracedEnd<RecordStream>,
+    desk: &mut Desk<TracedEnd<RecordStream>, OrderStream, ReportStream<Errors<'_, H>>>,
+    measures: Option<File>,
     reader: &mut R,
     writer: &mut W,
 ) -> u8
-    requires given { AreGiven end.now.orders (known_of streams.orders) }
-    requires orders { left_of streams.orders ≡ ordered_by (known_of streams.orders) }
-    requires none_held { traced.end.held ≡ None }
-    ensures spoke { result ≡ 0 → Spoke end.now.orders traced.end.terminal end.now.bits (min end.now.ahead MOST_AHEAD)
+    requires none_held { desk.old.terminal.end.held ≡ None }
+    requires silent { IsSilent desk.old.voice }
+    requires new { desk.old.count ≡ 0 }
+    requires given { AreGiven end.now.orders (known_of desk.old.orders) }
+    requires ordered { left_of desk.old.orders ≡ ordered_by (known_of desk.old.orders) }
+    ensures spoke { result ≡ 0 → Spoke end.now.orders desk.old.terminal.end.terminal end.now.bits (min end.now.ahead MOST_AHEAD)
         (record { read = R.remaining reader.old; written = W.contents writer.old })
         (record { read = R.remaining reader.new; written = W.contents writer.new }) }
-    ensures begun { Begun end.now.orders traced.end.terminal end.now.bits (min end.now.ahead MOST_AHEAD)
+    ensures begun { Begun end.now.orders desk.old.terminal.end.terminal end.now.bits (min end.now.ahead MOST_AHEAD)
         (record { read = R.remaining reader.old; written = W.contents writer.old })
         (record { read = R.remaining reader.new; written = W.contents writer.new }) }
     ensures status { (result ≡ 0) ⊎ (result ≡ 4) }
 {
-    let Streams {
-        orders,
-        reports,
-        measures,
-    } = streams;
-    let mut desk = traced_desk(traced, orders, reports);
-    let status = serve_traced(host.alloc(), end, &mut desk, reader, writer);
+    let status = serve_traced(host.alloc(), end, desk, reader, writer);
     let now = desk.millisecond();
     let path = end.trace.unwrap_or("trace");
     let ended = end_trace(host, teller, path, status, now, &mut desk.terminal.trace);
@@ -247,16 +240,25 @@ fn speak<H: Files<File = File> + Threads + Eprint + Clock + AllocGlobal, R: Read
         (record { read = R.remaining reader.new; written = W.contents writer.new }) }
     ensures status { (result ≡ 0) ⊎ (result ≡ 4) }
 {
-    let Ok(streams) = open_streams(host, teller, end) else {
+    let Ok(
+        Streams {
+            orders,
+            reports,
+            measures,
+        },
+    ) = open_streams(host, teller, end)
+    else {
         return FAILED;
     };
     let Some(path) = end.trace else {
-        return speak_plain(host, end, streams, terminal, reader, writer);
+        let mut desk = link_desk(terminal, orders, reports);
+        return speak_plain(host, end, &mut desk, measures, reader, writer);
     };
-    match open_traced(host, teller, path, end.every, terminal) {
-        Ok(traced) => speak_traced(host, teller, end, streams, traced, reader, writer),
-        Err(_) => FAILED,
-    }
+    let Ok(traced) = open_traced(host, teller, path, end.every, terminal) else {
+        return FAILED;
+    };
+    let mut desk = traced_desk(traced, orders, reports);
+    speak_traced(host, teller, end, &mut desk, measures, reader, writer)
 }
 
 /// Puts one end of a link on a line: line octets come from a reader, and one goes to a writer for each, after those that go ahead (8,000 at
