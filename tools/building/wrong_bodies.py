@@ -64,6 +64,9 @@ def function_of(folder, path):
         if not file.endswith(".rt"):
             return ""
         text = (folder / file).read_text()
+        if old not in text:
+            # (it stands there only once another change is made)
+            return ""
         first = text[: text.index(old)].count("\n")
         last = first + old.count("\n")
         line = text.split("\n")[first]
