@@ -5,7 +5,7 @@ use Rattle.std.specs.Prelude.{if◌then◌else◌, min, max, Option, Some, None}
 use Rattle.std.specs.Prelude.{is_some, is_none}
 use Rattle.link_group.specs.Moving.{hand_count}
 use Rattle.link_group.specs.Tables.{changing_by}
-use Rattle.link_group.specs.group_members_types.link.Link.{Link}
+use Rattle.link_group.specs.declared.link.Link.{Link}
 use Rattle.group_changeover.specs.Saying.{is_order as is_kind_order}
 use Rattle.group_changeover.specs.declared.changeover.Kind.{Kind}
 use Rattle.group_changeover.specs.declared.changeover.Kind.TheVariants as kind
