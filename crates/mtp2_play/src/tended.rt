@@ -11,9 +11,9 @@ ghost use Rattle.mtp2_play.specs.Printed.{IsSetRun};
 use crate::set_lines::SetLines;
 use crate::set_tap::SetTap;
 use crate::sets::own_set;
-use line_filter::{LineOrders, Orders, Reports};
+use line_filter::{Orders, Reports};
 use line_play::{Ends, Lines, SetDesk, SetPlan, Tender, open_tender};
-use line_streams::{OrderStream, ReportStream, open_orders, open_records, open_reports};
+use line_streams::{OrderStream, ReportStream, keep_apart, open_orders, open_records, open_reports};
 use mtp2_words::{Named, OwnSet, SetEnd};
 use plain_text::{Errors, FAILED, HELD, NamedReader, Teller};
 use script_check::SetWord;
@@ -128,7 +128,7 @@ fn serve<H: Files<File = File> + Threads + Eprint + Clock + AllocGlobal>(
     lines: &[&str],
     end: &SetEnd<'_>,
     tender: Tender,
-    orders: LineOrders<OrderStream>,
+    orders: OrderStream,
     reports: ReportStream<Errors<'_, H>>,
 ) -> u8
     ensures ran { result ≡ 0 → RanFrom end.now.ahead tender }
@@ -175,11 +175,13 @@ fn begin<H: Files<File = File> + Threads + Eprint + Clock + AllocGlobal>(
         Ok(orders) => orders,
         Err(error) => return teller.fail(end.orders.unwrap_or("orders"), &error),
     };
+    if let Err(error) = keep_apart(host, end.orders, end.reports) {
+        return teller.fail(end.reports.unwrap_or("standard error"), &error);
+    }
     let reports = match open_reports(host, host.alloc(), end.reports, Errors { rt: host }) {
         Ok(reports) => reports,
         Err(error) => return teller.fail(end.reports.unwrap_or("reports"), &error),
     };
-    let orders = LineOrders::new(host.alloc(), orders);
     serve(host, teller, lines, end, tender, orders, reports)
 }
 

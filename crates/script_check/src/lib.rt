@@ -4,6 +4,7 @@
 mod answers;
 mod checking;
 mod costs;
+mod ends;
 mod extents;
 mod limits;
 mod operands;
