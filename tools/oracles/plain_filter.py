@@ -114,7 +114,7 @@ def said(lines):
             if words[1:2] == ["ok"] and len(words) > 2:
                 at = max(at, int(words[0]))
                 yield at, " ".join(words[2:])
-            elif not words[1:] or words[1] not in {"in", "down", "far", "message", "state", "value", "cleared", "told", "accepted", "retrieve", "measure", "refused", "lost"}:
+            elif not words[1:] or words[1] not in {"in", "down", "far", "message", "state", "value", "cleared", "told", "accepted", "retrieve", "measure", "refused", "lost", "orders"}:
                 yield at, " ".join(words)
         elif words[0] == "at" and len(words) == 2 and words[1].isdigit():
             at = max(at, int(words[1]))

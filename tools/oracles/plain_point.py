@@ -2,8 +2,8 @@
 import re
 
 from plain_check import Refusal, check
-from plain_reader import line_of
-from plain_reasons import reasons
+from plain_reader import P, lex, line_of
+from plain_reasons import off_at, reasons
 
 LONGEST = 262144
 # A token from its first octet on.
@@ -29,6 +29,12 @@ def behind(sign, said):
     return f"{sign}{said}" if said else ""
 
 
+def found_at(text, why):
+    """Where a refusal is found: at its place, or at the answer at which a transition runs off its end."""
+    off = off_at(P(text, lex(text)).block(), text, why.at) if str(why).startswith("S4") else None
+    return why.at if off is None else off
+
+
 def points(name, text):
     """The lines that point at the refusal of a text with this name."""
     try:
@@ -37,16 +43,17 @@ def points(name, text):
         return [f"{name}: F1 NotText"]
     why = refusal(text)
     fault, _, _ = str(why).partition(" line ")
-    line = str(line_of(text, why.at))
-    begin = text.rfind(b"\n", 0, why.at) + 1
-    before = text[begin : why.at].decode(errors="replace")
+    place = found_at(text, why)
+    line = str(line_of(text, place))
+    begin = text.rfind(b"\n", 0, place) + 1
+    before = text[begin:place].decode(errors="replace")
     said, under, hint = reasons(text, why)
     head = f"{name}:{line}:{len(before) + 1}: {fault}{behind(': ', said)}"
     if len(text) > LONGEST:
         return [head]
-    end = (text + b"\n").find(b"\n", why.at)
-    last = why.at + 1 if fault.startswith("L") or not text else ends(text, why.at)
-    width = max(1, len(text[why.at : min(last, end)].decode(errors="ignore")))
+    end = (text + b"\n").find(b"\n", place)
+    last = place + 1 if fault.startswith("L") or not text else ends(text, place)
+    width = max(1, len(text[place : min(last, end)].decode(errors="ignore")))
     margin = " " * len(line)
     blanks = "".join(it if it == "\t" else " " for it in before)
     shown = [head, f"{line} | {CONTROL.sub(' ', text[begin:end].decode())}", f"{margin} | {blanks}{'^' * width}{behind(' ', under)}"]

@@ -247,8 +247,51 @@ def twice(names, at):
     return f"the {kind} {name} has a name that is there already", "", f"{other[2]} is a {other[0]}, line {names.line(other[3])}"
 
 
+def passes(act):
+    return act[0] != "decide" or any(goes_off(it) for it in bodies(act))
+
+
+def goes_off(part):
+    return part[1] is None and all(passes(it) for it in part[0])
+
+
+def off_answer(text, part):
+    """The place of the answer at which a list of statements runs off its end; none where it does so behind its last statement."""
+    if not part[0] or part[0][-1][0] != "decide":
+        return None
+    _, begin, _, answers, otherwise = part[0][-1]
+    places = [max(at for kind, _, at, *_ in lex(text) if kind == "(" and at < ranges[0][-1]) for ranges, _ in answers]
+    for place, body in [*zip(places, [body for _, body in answers]), (None, otherwise)]:
+        if body is not None and goes_off(body):
+            inner = off_answer(text, body)
+            return inner if inner is not None else else_of(text, begin) if place is None else place
+    return None
+
+
+def else_of(text, begin):
+    """The place of the ELSE of a DECISION."""
+    depth = 0
+    for kind, _, at, *_ in lex(text):
+        if at >= begin:
+            depth += {"DECISION": 1, "ENDDECISION": -1}.get(kind, 0)
+            if kind == "ELSE" and depth == 1:
+                return at
+    return None
+
+
+def off_at(block, text, at):
+    """The place of the answer at which the transition runs off its end that begins at a place, if it does so at one."""
+    for process in [it[1] for it in block if it[0] == "process"]:
+        for begins, part in Process(block, process).lists():
+            if begins[1] == at:
+                return off_answer(text, part)
+    return None
+
+
 def stray(names, block, text, at):
     word = next(it for it in lex(text) if it[2] == at)[0]
+    if word in ("START", "INPUT", "CONNECTION") and off_at(block, text, at) is not None:
+        return "this answer has no end, and nothing stands behind its DECISION", "", "write NEXTSTATE, STOP or JOIN in it, or behind the DECISION"
     if word in ("START", "INPUT", "CONNECTION"):
         return "this transition has no end", "", "write NEXTSTATE, STOP or JOIN behind its last statement"
     if word == "NEXTSTATE":
@@ -446,7 +489,7 @@ def several(process, at):
 def unanswered(process, at):
     act = next(act for _, act in process.acts() if act[0] == "decide" and act[1] == at)
     if process.sort(act[2]) == "INTEGER":
-        return "a DECISION of Integers has an ELSE", "", "write ELSE: in front of ENDDECISION"
+        return "a DECISION of Integers wants an ELSE", "", "write ELSE: in front of ENDDECISION"
     named = [it[1][1] for ranges, _ in act[3] for it in ranges]
     for word in ("TRUE", "FALSE"):
         if named.count(word) > 1:

@@ -5,7 +5,8 @@ shared out lose nothing, send nothing twice and get nothing stuck.
 usage: tools/oracles/plain_tending.py LINKS SEED SECONDS FAULTS RATE [WORD ..]
 
 Two sets of so many links carry RATE messages a second each way, while for SECONDS faults come, one in FAULTS milliseconds on average (0 for none); 40 seconds without any
-follow. WORDs: `untested` (links carry messages as they come into service), `outages` (processors fail too), `loud` (all that is told is printed).
+follow. WORDs: `untested` (links carry messages as they come into service), `outages` (processors fail too), `stops` (links are stopped and started by order), `staggered` (all lines
+are cut one after another, for 17 seconds), `loud` (all that is told is printed).
 It prints what was sent and came, twice or out of order, what is lacking, what was told as unsure, and whether both ends are whole at the end; the status is 1 where
 something came twice or out of order, more is lacking than was told as unsure, or an end isn't whole.
 
@@ -18,12 +19,12 @@ from collections import Counter
 
 sys.path += map(str, pathlib.Path(__file__).resolve().parents[1].glob("*"))
 
-from plain_group import COA, COO, ECA, ECO, Group, Link, changeover_in, label_of, labelled, selection_of
+from plain_group import COA, COO, ECA, ECO, Group, Link, changeover_in, is_bound, label_of, labelled, selection_of
 from plain_play import Refused
 from plain_units import Receiver, Sender
 
 OCTETS = 8  # of a line in a millisecond
-PROVING, ALIGNING, DEAF, ERRORS = 8_200, 14_000, 130, 64
+PROVING, SHORT, ALIGNING, DEAF, ERRORS = 8_200, 500, 25_000, 130, 64
 PATIENCE, LONGEST, REST, DRAIN, CALM = 1_400, 14_000, 1_000, 1_000, 5_000
 ANSWER, BETWEEN = 6_000, 60_000
 MOST_HELD, MOST_OCTETS = 256, 3_000
@@ -45,7 +46,7 @@ class Terminal(Link):
         self.had_one, self.since = False, None
         self.points = 1, 2
         self.phase, self.age, self.proved, self.deaf, self.errors, self.good = "off", 0, 0, 0, 0, 0
-        self.own_out, self.paused = False, False
+        self.own_out, self.paused, self.urgent, self.short = False, False, False, False
         self.counts = Counter()
 
     def rebase(self):
@@ -63,7 +64,7 @@ class Terminal(Link):
 
     def fall(self, reason):
         self.go("out")
-        self.own_out = self.paused = False
+        self.own_out = self.paused = self.urgent = self.short = False
         self.hear("LSC", "Down", [reason])
 
     def command(self, actor, signal):
@@ -71,6 +72,12 @@ class Terminal(Link):
             self.go("out")
         if signal == "StartLink" and self.phase == "out":
             self.go("aligning")
+            self.short = self.urgent
+        if signal == "Emergency" and self.phase in ("out", "aligning"):
+            self.urgent = True
+            self.hasten()
+        if signal == "Calm" and self.phase in ("out", "aligning"):
+            self.urgent = False
         if signal == "StopLink" and self.phase in ("aligning", "ready", "in"):
             self.fall(0)
         if signal == "LocalOut" and self.phase in ("aligning", "ready", "in"):
@@ -79,6 +86,11 @@ class Terminal(Link):
             self.own_out, self.paused, self.kind = False, self.paused and self.phase == "in", 8 if self.phase == "in" else self.kind
         if signal == "Continue" and not self.far_out and not self.own_out:
             self.paused = False
+
+    def hasten(self):
+        """A short proving period begins, where a long one goes on."""
+        if self.phase == "aligning" and not self.short:
+            self.short, self.proved = True, 0
 
     def get_ready(self):
         self.go("ready")
@@ -94,7 +106,7 @@ class Terminal(Link):
         self.deaf += ticks
         if self.phase == "aligning":
             self.proved = self.proved + ticks if self.deaf < 20 else 0
-            if self.proved >= PROVING:
+            if self.proved >= (SHORT if self.short else PROVING):
                 self.get_ready()
             elif self.age > ALIGNING:
                 self.fall(2)
@@ -112,7 +124,7 @@ class Terminal(Link):
     def given(self):
         """The unit that goes out, with how many octets it takes."""
         if self.phase not in ("ready", "in"):
-            return {"off": "SIOS", "out": "SIOS", "aligning": "SIN"}[self.phase], 8
+            return {"off": "SIOS", "out": "SIOS", "aligning": "SIE" if self.urgent else "SIN"}[self.phase], 8
         if self.own_out:
             return "SIPO", 8
         fsn, fib, message = self.sender.next_unit() if self.carries() else self.sender.idle()
@@ -125,12 +137,14 @@ class Terminal(Link):
         if self.phase == "aligning":
             if unit != "SIOS":
                 self.deaf = 0
+            if unit == "SIE":
+                self.hasten()
         elif self.phase in ("ready", "in"):
             self.deaf = 0
-            if unit == "SIOS" or unit == "SIN" and self.phase == "in":
+            if unit == "SIOS" or unit in ("SIN", "SIE") and self.phase == "in":
                 self.fall(5)
                 return
-            if unit == "SIN":
+            if unit in ("SIN", "SIE"):
                 return
             if self.phase == "ready":
                 self.rise()
@@ -180,6 +194,7 @@ class Care:
     def __init__(self):
         self.powered = self.wanted = self.serves = self.served = self.started = self.stopping = self.outage = False
         self.rested, self.due, self.owed, self.test, self.tests, self.patience = 0, None, None, ("rests", 0), 0, PATIENCE
+        self.renewed, self.urgent, self.ordered = False, False, None
 
 
 class Tender:
@@ -211,12 +226,12 @@ class Tender:
         care = self.cares[at]
         self.tell(f"{at} {signal}")
         if signal == "InServiceNow":
-            care.serves, care.served, care.owed = True, True, None
+            care.serves, care.served, care.owed, care.urgent = True, True, None, False
             care.test = ("rests", self.now)
         elif signal == "Down":
             if self.tested:
                 self.set.admit(at, False)
-            served, care.serves, care.started, care.stopping = care.serves, False, False, False
+            served, care.serves, care.started, care.stopping, care.urgent = care.serves, False, False, False, False
             care.rested = self.now + REST
             care.due = care.rested if care.wanted else None
             for about, other in enumerate(self.cares):
@@ -230,7 +245,7 @@ class Tender:
 
     def begin(self, at):
         self.owe(at, b"\x80" + self.set.fail(at))
-        self.cares[at].patience = PATIENCE
+        self.cares[at].patience, self.cares[at].renewed = PATIENCE, False
         self.tell(f"{at} changeover")
 
     def owe(self, at, message):
@@ -239,20 +254,31 @@ class Tender:
     def take_message(self, by, message):
         destination, origin, about = label_of(message[1:])
         indicator, rest = message[0] % 16, message[5:]
-        if indicator not in (0, 1) or (destination, origin) != (self.set.own, self.set.peer):
+        if message[0] // 64 != 2:
+            self.heard.append(message)
+        elif is_bound(message, self.set.own, self.set.peer) and self.cares[by].wanted:
+            self.loop(by)
+        elif indicator not in (0, 1) or (destination, origin) != (self.set.own, self.set.peer):
             self.heard.append(message)
         elif indicator == 0 and changeover_in(message[1:]):
             self.take_changeover(by, about, message)
         elif indicator == 0 and rest[:1] == b"\x51" and len(rest) == 2 and about < len(self.cares):
             self.bound(self.least(about, by), self.message(0, about, [0x61, rest[1]]))
-        elif indicator == 1 and rest[:1] == b"\x11":
-            self.bound(by, self.message(1, about, [0x21, *rest[1:]]))
+        elif indicator == 1 and rest[:1] == b"\x11" and about < len(self.cares):
+            self.bound(about, self.message(1, about, [0x21, *rest[1:]]))
         elif indicator == 1 and rest[:1] == b"\x21":
             self.take_answer(by, about, rest[2:])
         elif indicator == 0 and rest[:1] == b"\x17":
             pass
         else:
             self.heard.append(message)
+
+    def loop(self, at):
+        """What this end sent came back: the link goes out of service until it is ordered anew."""
+        care = self.cares[at]
+        care.wanted, care.due, care.stopping = False, None, True
+        self.tell(f"{at} looped")
+        self.set.command(at, "LSC", "StopLink")
 
     def take_changeover(self, by, about, message):
         if about == by or about >= len(self.cares):
@@ -265,7 +291,7 @@ class Tender:
         was = self.set.links[about].changing
         answer = self.set.changeover_message(message[1:])
         if self.set.links[about].changing and not was:
-            self.cares[about].patience = PATIENCE
+            self.cares[about].patience, self.cares[about].renewed = PATIENCE, False
             self.tell(f"{about} changeover")
         if message[5] in (COO, ECO) and not self.set.links[about].changing and self.cares[about].serves:
             self.begin(about)
@@ -314,6 +340,9 @@ class Tender:
         if link.is_able() and not link.has_outage() and not link.carries():
             self.set.command(at, "LSC", "Continue")
         self.pay(at, care)
+        if care.started and not care.serves:
+            self.urge(at, care)
+            self.ease(at, care)
         self.start(at, link, care)
 
     def change_over(self, at, link, care):
@@ -326,7 +355,7 @@ class Tender:
             elif why.startswith("K4") and (link.answered or not self.may_wait(at, link, care)):
                 self.unsure += link.unknown()
                 self.tell(f"{at} unsure {link.unknown()}")
-                care.handed = self.set.abandon(at)
+                care.handed, care.owed = self.set.abandon(at), None
         if link.out:
             try:
                 self.set.divert(at)
@@ -367,12 +396,14 @@ class Tender:
         if owed is None:
             return
         order = owed["message"][5] in (COO, ECO)
-        over = order and owed["by"] is None and not self.set.links[at].changing
+        over = order and owed["by"] is None and not (self.set.links[at].changing and not self.set.links[at].out)
         owed["left"] -= self.least(at) is not None
         if owed["left"] <= 0 or over or (owed["by"] is not None and not self.is_kept(owed["by"], owed["message"])):
             care.owed = None
         elif owed["by"] is None:
             by = self.least(at)
+            if care.renewed and owed["message"][5] in (COO, COA):
+                owed["message"] = self.message(0, at, [ECO if owed["message"][5] == COO else ECA])
             if by is not None and self.bound(by, owed["message"]):
                 owed["by"] = by
                 self.tell(f"{at} says {NAMES[owed['message'][5]]} by {by}")
@@ -383,14 +414,29 @@ class Tender:
         others = any(it.serves for other, it in enumerate(self.cares) if other != at)
         if self.now - care.due < PATIENCE and care.owed and (care.owed["by"] is None or others):
             return
+        self.urge(at, care)
         try:
             self.set.command(at, "LSC", "StartLink")
         except Refused:
             return
-        care.started, care.due = True, None
+        care.started, care.due, care.renewed, care.owed = True, None, True, None
         if care.outage:
             self.set.command(at, "LSC", "LocalOut")
         self.tell(f"{at} started")
+
+    def urge(self, at, care):
+        """A link that is to come into service has an emergency where no other is in service, or as was ordered."""
+        serves = any(it.serves for other, it in enumerate(self.cares) if other != at)
+        if not care.urgent and (care.ordered or care.ordered is None and not serves):
+            self.set.command(at, "LSC", "Emergency")
+            care.urgent = True
+
+    def ease(self, at, care):
+        """It ends once another link carries messages, unless it was ordered."""
+        others = [it for other, it in enumerate(self.set.links) if other != at]
+        if care.urgent and not care.ordered and any(it.carries() and it.admitted for it in others):
+            self.set.command(at, "LSC", "Calm")
+            care.urgent = False
 
     def restart(self):
         open_links = [at for at, it in enumerate(self.set.links) if it.is_able() and it.admitted]
@@ -451,6 +497,15 @@ class Tender:
         self.set.command(at, "LSC", "LocalOut" if way else "LocalBack")
         self.cares[at].outage = way
 
+    def stop(self, at, way):
+        care = self.cares[at]
+        care.wanted = not way
+        if way:
+            care.due = None
+            self.set.command(at, "LSC", "StopLink")
+        elif not care.serves and not care.started:
+            care.due = max(self.now, care.rested)
+
     def waits(self):
         return self.sharing[0] == "drains"
 
@@ -504,6 +559,7 @@ class Trial:
         loud = "loud" in words
         self.ends = [End(links, 1, 2, "untested" not in words, loud), End(links, 2, 1, "untested" not in words, loud)]
         self.lines = [(Line(), Line()) for _ in range(links)]
+        self.later, self.stopped = [], {}
         for end in self.ends:
             end.tender.switch_on()
 
@@ -517,8 +573,38 @@ class Trial:
             if "loud" in self.words:
                 print(f"{now} line {at}: {over}, {back} for {length}")
 
+    def cut_in_turn(self, now):
+        """All lines are cut, one after another."""
+        self.count("staggered")
+        turns, between = self.dice.sample(range(len(self.lines)), len(self.lines)), 100 + self.dice.randrange(3_000)
+        self.later += [(now + turn * between, at, 15_000 + self.dice.randrange(4_000)) for turn, at in enumerate(turns)]
+
+    def cut_later(self, now):
+        for begin, at, length in [it for it in self.later if it[0] <= now]:
+            for line in self.lines[at]:
+                line.weather, line.until = "cut", now + length
+        self.later = [it for it in self.later if it[0] > now]
+
+    def stop_some(self, now):
+        self.count("stops")
+        end, at = self.dice.randrange(2), self.dice.randrange(len(self.lines))
+        if (end, at) not in self.stopped:
+            self.stopped[end, at] = now + 20 + self.dice.randrange(8_000)
+            self.ends[end].tender.stop(at, True)
+
+    def start_again(self, now):
+        for end, at in [it for it, until in self.stopped.items() if until <= now]:
+            del self.stopped[end, at]
+            self.ends[end].tender.stop(at, False)
+
     def strike(self, now):
         dice = self.dice
+        if "staggered" in self.words and dice.random() < 1 / 12:
+            self.cut_in_turn(now)
+            return
+        if "stops" in self.words and dice.random() < 1 / 4:
+            self.stop_some(now)
+            return
         if dice.random() < 1 / 24:
             self.count("total")
             for at in range(len(self.lines)):
@@ -548,6 +634,8 @@ class Trial:
                     for at, care in enumerate(end.tender.cares):
                         if care.outage:
                             end.tender.outage(at, False)
+            self.cut_later(now)
+            self.start_again(now)
             for at, (over, back) in enumerate(self.lines):
                 for line, source, sink in ((over, near, far), (back, far, near)):
                     if line.until <= now:

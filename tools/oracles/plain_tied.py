@@ -39,7 +39,7 @@ def millisecond(word):
 
 
 # What a report that is no order has behind its millisecond.
-REPORTED = ("in", "down", "far", "cleared", "message", "state", "value", *ASKED, "refused", "lost")
+REPORTED = ("in", "down", "far", "cleared", "message", "state", "value", *ASKED, "refused", "lost", "orders")
 
 
 def orders_of(stream):

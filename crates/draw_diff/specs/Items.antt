@@ -21,6 +21,8 @@ use Rattle.turn_code.specs.declared.draft.Trigger.{Trigger}
 use Rattle.turn_code.specs.declared.draft.Trigger.TheVariants.{Signal, Timer}
 use Rattle.draw_diff.specs.Names.{same_name, signal_name, process_name, own_name}
 use Rattle.draw_diff.specs.declared.items.Item.{Item}
+use Rattle.draw_diff.specs.declared.side.Side.{Side}
+use Rattle.draw_diff.specs.declared.side.Side.TheVariants.{Old, New}
 
 -- A thing that is declared: the head names it, and the tail says what it is.
 pub record PlainItem : Type 0 where
@@ -145,23 +147,23 @@ abbrev pub like : PlainItem → List PlainItem → Option PlainItem
 like i [] = None
 like i (j ∷ js) = if same_name i.head j.head then Some j else like i js
 
-abbrev pub old_beside : PlainItem → Option PlainItem → List ℕ
-old_beside i None = sign_line (codes "- ") i
-old_beside i (Some j) = change_line i j
+-- the sign of what one side alone has
+abbrev pub sign_of : Side → List ℕ
+sign_of Old = codes "- "
+sign_of New = codes "+ "
 
-abbrev pub new_beside : PlainItem → Option PlainItem → List ℕ
-new_beside i None = sign_line (codes "+ ") i
-new_beside i (Some j) = []
+-- beside the first of the other side that has the same head: gone or added where there is none,
+-- changed where it has another tail, of which NEW has nothing more to say
+abbrev pub beside : Side → PlainItem → Option PlainItem → List ℕ
+beside side i None = sign_line (sign_of side) i
+beside Old i (Some j) = change_line i j
+beside New i (Some j) = []
 
--- what OLD declares: gone where NEW has nothing of this head; changed where the first that has it
--- has another tail
-abbrev pub old_line : PlainItem → List PlainItem → List ℕ
-old_line i others = old_beside i (like i others)
+abbrev pub side_line : Side → PlainItem → List PlainItem → List ℕ
+side_line side i others = beside side i (like i others)
 
--- what NEW declares: added where OLD has nothing of this head
-abbrev pub new_line : PlainItem → List PlainItem → List ℕ
-new_line i others = new_beside i (like i others)
+abbrev pub side_lines : Side → List PlainItem → List PlainItem → List ℕ
+side_lines side items others = flat_map (λ i. side_line side i others) items
 
 abbrev pub item_lines : List PlainItem → List PlainItem → List ℕ
-item_lines olds news =
-    flat_map (λ i. old_line i news) olds ++ flat_map (λ i. new_line i olds) news
+item_lines olds news = side_lines Old olds news ++ side_lines New news olds

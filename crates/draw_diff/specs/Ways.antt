@@ -27,7 +27,9 @@ use Rattle.turn_code.specs.declared.draft.Trigger.{Trigger}
 use Rattle.turn_code.specs.declared.draft.Trigger.TheVariants.{Signal, Timer}
 use Rattle.draw_diff.specs.Names.{Sides, is_number, moved_signal, moved_timer, same_name}
 use Rattle.draw_diff.specs.Renaming.{are_renamed}
-use Rattle.draw_diff.specs.Items.{trigger_text}
+use Rattle.draw_diff.specs.Items.{sign_of, trigger_text}
+use Rattle.draw_diff.specs.declared.side.Side.{Side}
+use Rattle.draw_diff.specs.declared.side.Side.TheVariants.{Old, New}
 
 -- ---- names and certificates
 
@@ -91,71 +93,81 @@ abbrev pub alone_process : List ℕ → Draft → DraftProcess → List ℕ
 alone_process sign d p =
     alone_line sign (start_title p) p.start ++ flat_map (alone_state sign d p) p.states
 
--- ---- what OLD has: gone, or changed, by the first of the same name
+-- ---- the transitions of one side, each beside the first of the same name on the other: what OLD
+-- has is gone or changed, what NEW has is added or known
 
-abbrev pub both_line : Sides → DraftState → DraftInput → DraftInput → List ℕ
-both_line s q i j = pair_line s (input_title s.old s.old_process q i) i.piece j.piece
+-- the set of this side
+abbrev pub set_of : Side → Sides → Draft
+set_of Old s = s.old
+set_of New s = s.new
 
-abbrev pub old_input_lines : Sides → DraftState → DraftInput → List DraftInput → List ℕ
-old_input_lines s q i [] = alone_input (codes "- ") s.old s.old_process q i
-old_input_lines s q i (j ∷ js) =
-    if takes_same s i.trigger j.trigger then both_line s q i j else old_input_lines s q i js
+-- its process
+abbrev pub process_of : Side → Sides → DraftProcess
+process_of Old s = s.old_process
+process_of New s = s.new_process
 
-abbrev pub old_inputs_lines : Sides → DraftState → List DraftInput → List ℕ
-old_inputs_lines s q others = flat_map (λ i. old_input_lines s q i others) q.inputs
+-- the process of the other side
+abbrev pub other_process : Side → Sides → DraftProcess
+other_process Old s = s.new_process
+other_process New s = s.old_process
 
-abbrev pub old_state_lines : Sides → DraftState → List DraftState → List ℕ
-old_state_lines s q [] = alone_state (codes "- ") s.old s.old_process q
-old_state_lines s q (r ∷ rs) =
-    if same_name q.name r.name then old_inputs_lines s q r.inputs else old_state_lines s q rs
+-- a set with its process, and the other side's
+abbrev pub sides_of : Side → Draft → DraftProcess → Draft → DraftProcess → Sides
+sides_of Old d p e r = record { old = d; old_process = p; new = e; new_process = r }
+sides_of New d p e r = record { old = e; old_process = r; new = d; new_process = p }
 
-abbrev pub old_states_lines : Sides → List ℕ
-old_states_lines s = flat_map (λ q. old_state_lines s q s.new_process.states) s.old_process.states
+-- whether an input of this side waits for the same as one of the other
+abbrev pub takes_as : Side → Sides → Trigger → Trigger → Bool
+takes_as Old s t u = takes_same s t u
+takes_as New s t u = takes_same s u t
 
-abbrev pub old_pair_lines : Sides → List ℕ
-old_pair_lines s =
-    pair_line s (start_title s.old_process) s.old_process.start s.new_process.start ++
-    old_states_lines s
+-- an input that both have: NEW has nothing more to say of it
+abbrev pub both_line : Side → Sides → DraftState → DraftInput → DraftInput → List ℕ
+both_line Old s q i j = pair_line s (input_title s.old s.old_process q i) i.piece j.piece
+both_line New s q i j = []
 
-abbrev pub old_process_lines : Draft → Draft → DraftProcess → List DraftProcess → List ℕ
-old_process_lines d e p [] = alone_process (codes "- ") d p
-old_process_lines d e p (r ∷ rs) =
-    if same_name p.name r.name
-    then old_pair_lines (record { old = d; old_process = p; new = e; new_process = r })
-    else old_process_lines d e p rs
+abbrev pub input_lines : Side → Sides → DraftState → DraftInput → List DraftInput → List ℕ
+input_lines side s q i [] = alone_input (sign_of side) (set_of side s) (process_of side s) q i
+input_lines side s q i (j ∷ js) =
+    if takes_as side s i.trigger j.trigger then both_line side s q i j
+    else input_lines side s q i js
 
--- ---- what NEW has: added, where OLD has none of this name
+abbrev pub inputs_lines : Side → Sides → DraftState → List DraftInput → List ℕ
+inputs_lines side s q others = flat_map (λ i. input_lines side s q i others) q.inputs
 
-abbrev pub new_input_lines : Sides → DraftState → DraftInput → List DraftInput → List ℕ
-new_input_lines s r j [] = alone_input (codes "+ ") s.new s.new_process r j
-new_input_lines s r j (i ∷ is) =
-    if takes_same s i.trigger j.trigger then [] else new_input_lines s r j is
+abbrev pub state_lines : Side → Sides → DraftState → List DraftState → List ℕ
+state_lines side s q [] = alone_state (sign_of side) (set_of side s) (process_of side s) q
+state_lines side s q (r ∷ rs) =
+    if same_name q.name r.name then inputs_lines side s q r.inputs else state_lines side s q rs
 
-abbrev pub new_inputs_lines : Sides → DraftState → List DraftInput → List ℕ
-new_inputs_lines s r others = flat_map (λ j. new_input_lines s r j others) r.inputs
+abbrev pub states_lines : Side → Sides → List ℕ
+states_lines side s =
+    flat_map (λ q. state_lines side s q (other_process side s).states) (process_of side s).states
 
-abbrev pub new_state_lines : Sides → DraftState → List DraftState → List ℕ
-new_state_lines s r [] = alone_state (codes "+ ") s.new s.new_process r
-new_state_lines s r (q ∷ qs) =
-    if same_name r.name q.name then new_inputs_lines s r q.inputs else new_state_lines s r qs
+-- the STARTs of a process that both have
+abbrev pub start_line : Side → Sides → List ℕ
+start_line Old s =
+    pair_line s (start_title s.old_process) s.old_process.start s.new_process.start
+start_line New s = []
 
-abbrev pub new_states_lines : Sides → List ℕ
-new_states_lines s = flat_map (λ r. new_state_lines s r s.old_process.states) s.new_process.states
+abbrev pub pair_lines : Side → Sides → List ℕ
+pair_lines side s = start_line side s ++ states_lines side s
 
-abbrev pub new_process_lines : Draft → Draft → DraftProcess → List DraftProcess → List ℕ
-new_process_lines d e r [] = alone_process (codes "+ ") e r
-new_process_lines d e r (p ∷ ps) =
-    if same_name r.name p.name
-    then new_states_lines (record { old = d; old_process = p; new = e; new_process = r })
-    else new_process_lines d e r ps
+abbrev pub process_lines : Side → Draft → Draft → DraftProcess → List DraftProcess → List ℕ
+process_lines side d e p [] = alone_process (sign_of side) d p
+process_lines side d e p (r ∷ rs) =
+    if same_name p.name r.name then pair_lines side (sides_of side d p e r)
+    else process_lines side d e p rs
 
--- ---- both
+-- the first set is that of the side
+abbrev pub way_lines : Side → Draft → Draft → List ℕ
+way_lines side d e = flat_map (λ p. process_lines side d e p e.processes) d.processes
 
 abbrev pub old_way_lines : Draft → Draft → List ℕ
-old_way_lines d e = flat_map (λ p. old_process_lines d e p e.processes) d.processes
+old_way_lines d e = way_lines Old d e
 
 abbrev pub new_way_lines : Draft → Draft → List ℕ
-new_way_lines d e = flat_map (λ r. new_process_lines d e r d.processes) e.processes
+new_way_lines d e = way_lines New e d
 
 -- ---- how many there are
 

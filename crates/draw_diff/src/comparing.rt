@@ -1,11 +1,12 @@
 //! What two sets differ in.
 ghost use Rattle.std.specs.Prelude.{◌≡◌, ◌++◌, IfOk};
 ghost use Rattle.draw_diff.specs.Items.{item_lines, items_of};
-ghost use Rattle.draw_diff.specs.Ways.{new_way_lines, old_way_lines};
+ghost use Rattle.draw_diff.specs.Ways.{new_way_lines, old_way_lines, way_lines};
 
 use crate::items::items_of;
 use crate::lines::push_items;
-use crate::walk::{push_new_ways, push_old_ways};
+use crate::side::Side;
+use crate::walk::push_ways;
 use std::alloc::{AllocError, Global};
 use turn_code::Draft;
 
@@ -31,21 +32,17 @@ fn item_difference(alloc: Global, old: &Draft, new: &Draft) -> Result<Vec<u8>, A
     Ok(text)
 }
 
-/// The lines of the old set's transitions.
-fn old_difference(alloc: Global, old: &Draft, new: &Draft) -> Result<Vec<u8>, AllocError>
-    ensures { IfOk result (λ v. v.items ≡ old_way_lines old.now new.now) }
+/// The lines of the transitions of the set of a side.
+fn way_difference(
+    alloc: Global,
+    side: Side,
+    set: &Draft,
+    other: &Draft,
+) -> Result<Vec<u8>, AllocError>
+    ensures { IfOk result (λ v. v.items ≡ way_lines side set.now other.now) }
 {
     let mut text = Vec::new(alloc);
-    push_old_ways(alloc, &mut text, old, new)?;
-    Ok(text)
-}
-
-/// The lines of the new set's transitions.
-fn new_difference(alloc: Global, old: &Draft, new: &Draft) -> Result<Vec<u8>, AllocError>
-    ensures { IfOk result (λ v. v.items ≡ new_way_lines old.now new.now) }
-{
-    let mut text = Vec::new(alloc);
-    push_new_ways(alloc, &mut text, old, new)?;
+    push_ways(alloc, &mut text, side, set, other)?;
     Ok(text)
 }
 
@@ -62,7 +59,7 @@ pub fn compare(alloc: Global, old: &Draft, new: &Draft) -> Result<Difference, Al
     ensures new { IfOk result (λ d. d.news.items ≡ new_way_lines old.now new.now) }
 {
     let items = item_difference(alloc, old, new)?;
-    let olds = old_difference(alloc, old, new)?;
-    let news = new_difference(alloc, old, new)?;
+    let olds = way_difference(alloc, Side::Old, old, new)?;
+    let news = way_difference(alloc, Side::New, new, old)?;
     Ok(Difference { items, olds, news })
 }

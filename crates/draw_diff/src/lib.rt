@@ -10,6 +10,7 @@ mod lines;
 mod names;
 mod pieces;
 mod renaming;
+mod side;
 mod walk;
 mod ways;
 

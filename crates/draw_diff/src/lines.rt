@@ -1,11 +1,12 @@
 //! The lines of what two sets declare and differ in.
-ghost use Rattle.std.specs.Prelude.{◌≡◌, ◌++◌, OnOk, map, option_map};
+ghost use Rattle.std.specs.Prelude.{◌≡◌, ◌++◌, OnOk, Some, map, option_map};
 ghost use Rattle.std.specs.List.{flat_map};
-ghost use Rattle.draw_diff.specs.Items.{change_line, item_lines, item_of, like, new_line, old_line, sign_line};
+ghost use Rattle.draw_diff.specs.Items.{beside, change_line, item_lines, item_of, like, side_line, side_lines, sign_line};
 
 use crate::items::Item;
 use crate::names::same_name;
 use crate::pieces::push_bytes;
+use crate::side::Side;
 use std::alloc::AllocError;
 
 /// The line of a thing that one set alone declares.
@@ -46,42 +47,37 @@ fn like<'a>(item: &Item, others: &'a [Item]) -> Option<&'a Item>
     None
 }
 
-/// A thing that the old set declares beside those of the new one.
-fn push_old(text: &mut Vec<u8>, item: &Item, others: &[Item]) -> Result<(), AllocError>
-    ensures { OnOk result (text.new.items ≡ text.old.items ++ old_line (item_of item.now) (map item_of others.now)) }
+/// A thing that both declare.
+fn push_both(text: &mut Vec<u8>, side: Side, item: &Item, other: &Item) -> Result<(), AllocError>
+    ensures { OnOk result (text.new.items ≡ text.old.items ++ beside side (item_of item.now) (Some (item_of other.now))) }
+{
+    match side {
+        Side::Old => push_change(text, item, other),
+        Side::New => Ok(()),
+    }
+}
+
+/// A thing that a side declares beside those of the other.
+fn push_line(text: &mut Vec<u8>, side: Side, item: &Item, others: &[Item]) -> Result<(), AllocError>
+    ensures { OnOk result (text.new.items ≡ text.old.items ++ side_line side (item_of item.now) (map item_of others.now)) }
 {
     match like(item, others) {
-        Some(other) => push_change(text, item, other),
-        None => push_signed(text, b"- ", item),
+        Some(other) => push_both(text, side, item, other),
+        None => push_signed(text, side.sign(), item),
     }
 }
 
-/// A thing that the new set declares beside those of the old one.
-fn push_new(text: &mut Vec<u8>, item: &Item, others: &[Item]) -> Result<(), AllocError>
-    ensures { OnOk result (text.new.items ≡ text.old.items ++ new_line (item_of item.now) (map item_of others.now)) }
+/// The lines of what a side declares: what is gone or changed, or what is added.
+fn push_side(
+    text: &mut Vec<u8>,
+    side: Side,
+    items: &[Item],
+    others: &[Item],
+) -> Result<(), AllocError>
+    ensures { OnOk result (text.new.items ≡ text.old.items ++ side_lines side (map item_of items.now) (map item_of others.now)) }
 {
-    match like(item, others) {
-        Some(_) => Ok(()),
-        None => push_signed(text, b"+ ", item),
-    }
-}
-
-/// The lines of what is gone or changed.
-fn push_olds(text: &mut Vec<u8>, olds: &[Item], news: &[Item]) -> Result<(), AllocError>
-    ensures { OnOk result (text.new.items ≡ text.old.items ++ flat_map (λ i. old_line i (map item_of news.now)) (map item_of olds.now)) }
-{
-    for item in olds {
-        push_old(text, item, news)?;
-    }
-    Ok(())
-}
-
-/// The lines of what is added.
-fn push_news(text: &mut Vec<u8>, olds: &[Item], news: &[Item]) -> Result<(), AllocError>
-    ensures { OnOk result (text.new.items ≡ text.old.items ++ flat_map (λ i. new_line i (map item_of olds.now)) (map item_of news.now)) }
-{
-    for item in news {
-        push_new(text, item, olds)?;
+    for item in items {
+        push_line(text, side, item, others)?;
     }
     Ok(())
 }
@@ -90,6 +86,6 @@ fn push_news(text: &mut Vec<u8>, olds: &[Item], news: &[Item]) -> Result<(), All
 pub(crate) fn push_items(text: &mut Vec<u8>, olds: &[Item], news: &[Item]) -> Result<(), AllocError>
     ensures { OnOk result (text.new.items ≡ text.old.items ++ item_lines (map item_of olds.now) (map item_of news.now)) }
 {
-    push_olds(text, olds, news)?;
-    push_news(text, olds, news)
+    push_side(text, Side::Old, olds, news)?;
+    push_side(text, Side::New, news, olds)
 }

@@ -1,9 +1,5 @@
 //! What the numbers of one set are in another, by their names.
 ghost use Rattle.std.specs.Prelude.{◌≡◌, List, ℕ, position};
-ghost use Rattle.turn_code.specs.declared.draft.DraftProcess.{DraftProcess as PlainProcess};
-ghost use Rattle.turn_code.specs.declared.draft.DraftSignal.{DraftSignal as PlainSignal};
-ghost use Rattle.turn_code.specs.declared.draft.DraftState.{DraftState as PlainState};
-ghost use Rattle.turn_code.specs.declared.draft.DraftVariable.{DraftVariable as PlainVariable};
 ghost use Rattle.draw_diff.specs.Names.{same_name, octet, moved, own_name, process_name, signal_name, state_name, variable_name, back_to, moved_signal, moved_process, moved_state, moved_timer, moved_variable};
 
 use std::marker::Model;
@@ -11,6 +7,55 @@ use turn_code::{
     Draft, DraftProcess, DraftSignal, DraftState, DraftVariable, Name, ProcessNumber, SignalNumber,
     StateNumber, TimerNumber, VariableNumber,
 };
+
+/// A thing that has a name.
+trait Called {
+    ghost name: { Self → List ℕ };
+
+    /// Its name.
+    fn name(&self) -> &[u8]
+        ensures { result.now ≡ name self.now };
+}
+
+impl Called for DraftSignal {
+    ghost name = { signal_name };
+
+    fn name(&self) -> &[u8] {
+        self.name.as_bytes()
+    }
+}
+
+impl Called for DraftProcess {
+    ghost name = { process_name };
+
+    fn name(&self) -> &[u8] {
+        self.name.as_bytes()
+    }
+}
+
+impl Called for DraftState {
+    ghost name = { state_name };
+
+    fn name(&self) -> &[u8] {
+        self.name.as_bytes()
+    }
+}
+
+impl Called for DraftVariable {
+    ghost name = { variable_name };
+
+    fn name(&self) -> &[u8] {
+        self.name.as_bytes()
+    }
+}
+
+impl Called for Name {
+    ghost name = { own_name };
+
+    fn name(&self) -> &[u8] {
+        self.as_bytes()
+    }
+}
 
 /// A process of one set, and a process of another.
 #[derive(Drop)]
@@ -61,91 +106,19 @@ fn octet(number: Option<usize>) -> Option<u8>
     }
 }
 
-/// The place of the first signal with a name.
-fn signal_place(name: &[u8], news: &[DraftSignal]) -> Option<usize>
-    ensures { result ≡ position (λ (y : PlainSignal). same_name name.now (signal_name y)) news.now }
+/// The place of the first of some things with a name.
+fn place_of<T: Called>(name: &[u8], news: &[T]) -> Option<usize>
+    ensures { result ≡ position (λ y. same_name name.now (T.name y)) news.now }
 {
-    news.iter()
-        .position(|new| same_name(name, new.name.as_bytes()))
+    news.iter().position(|new| same_name(name, new.name()))
 }
 
-/// The number among other signals of the signal with a number, by its name.
-fn signal_among(olds: &[DraftSignal], news: &[DraftSignal], number: usize) -> Option<u8>
-    ensures { result ≡ moved signal_name olds.now news.now number }
+/// The number among other things of the thing with a number, by its name.
+fn among<T: Called>(olds: &[T], news: &[T], number: usize) -> Option<u8>
+    ensures { result ≡ moved T.name olds.now news.now number }
 {
     match olds.get(number) {
-        Some(old) => octet(signal_place(old.name.as_bytes(), news)),
-        None => None,
-    }
-}
-
-/// The place of the first process with a name.
-fn process_place(name: &[u8], news: &[DraftProcess]) -> Option<usize>
-    ensures { result ≡ position (λ (y : PlainProcess). same_name name.now (process_name y)) news.now }
-{
-    news.iter()
-        .position(|new| same_name(name, new.name.as_bytes()))
-}
-
-/// The number among other processes of the process with a number, by its name.
-fn process_among(olds: &[DraftProcess], news: &[DraftProcess], number: usize) -> Option<u8>
-    ensures { result ≡ moved process_name olds.now news.now number }
-{
-    match olds.get(number) {
-        Some(old) => octet(process_place(old.name.as_bytes(), news)),
-        None => None,
-    }
-}
-
-/// The place of the first state with a name.
-fn state_place(name: &[u8], news: &[DraftState]) -> Option<usize>
-    ensures { result ≡ position (λ (y : PlainState). same_name name.now (state_name y)) news.now }
-{
-    news.iter()
-        .position(|new| same_name(name, new.name.as_bytes()))
-}
-
-/// The number among other states of the state with a number, by its name.
-fn state_among(olds: &[DraftState], news: &[DraftState], number: usize) -> Option<u8>
-    ensures { result ≡ moved state_name olds.now news.now number }
-{
-    match olds.get(number) {
-        Some(old) => octet(state_place(old.name.as_bytes(), news)),
-        None => None,
-    }
-}
-
-/// The place of the first timer with a name.
-fn timer_place(name: &[u8], news: &[Name]) -> Option<usize>
-    ensures { result ≡ position (λ (y : List ℕ). same_name name.now (own_name y)) news.now }
-{
-    news.iter().position(|new| same_name(name, new.as_bytes()))
-}
-
-/// The number among other timers of the timer with a number, by its name.
-fn timer_among(olds: &[Name], news: &[Name], number: usize) -> Option<u8>
-    ensures { result ≡ moved own_name olds.now news.now number }
-{
-    match olds.get(number) {
-        Some(old) => octet(timer_place(old.as_bytes(), news)),
-        None => None,
-    }
-}
-
-/// The place of the first variable with a name.
-fn variable_place(name: &[u8], news: &[DraftVariable]) -> Option<usize>
-    ensures { result ≡ position (λ (y : PlainVariable). same_name name.now (variable_name y)) news.now }
-{
-    news.iter()
-        .position(|new| same_name(name, new.name.as_bytes()))
-}
-
-/// The number among other variables of the variable with a number, by its name.
-fn variable_among(olds: &[DraftVariable], news: &[DraftVariable], number: usize) -> Option<u8>
-    ensures { result ≡ moved variable_name olds.now news.now number }
-{
-    match olds.get(number) {
-        Some(old) => octet(variable_place(old.name.as_bytes(), news)),
+        Some(old) => octet(place_of(old.name(), news)),
         None => None,
     }
 }
@@ -154,7 +127,7 @@ fn variable_among(olds: &[DraftVariable], news: &[DraftVariable], number: usize)
 pub(crate) fn moved_signal(pair: &Pair<'_>, number: SignalNumber) -> Option<u8>
     ensures { result ≡ moved_signal pair.now number.0 }
 {
-    signal_among(
+    among(
         pair.old.signals.as_slice(),
         pair.new.signals.as_slice(),
         usize::from(number.0),
@@ -165,7 +138,7 @@ pub(crate) fn moved_signal(pair: &Pair<'_>, number: SignalNumber) -> Option<u8>
 pub(crate) fn moved_process(pair: &Pair<'_>, number: ProcessNumber) -> Option<u8>
     ensures { result ≡ moved_process pair.now number.0 }
 {
-    process_among(
+    among(
         pair.old.processes.as_slice(),
         pair.new.processes.as_slice(),
         usize::from(number.0),
@@ -176,7 +149,7 @@ pub(crate) fn moved_process(pair: &Pair<'_>, number: ProcessNumber) -> Option<u8
 pub(crate) fn moved_state(pair: &Pair<'_>, number: StateNumber) -> Option<u8>
     ensures { result ≡ moved_state pair.now number.0 }
 {
-    state_among(
+    among(
         pair.old_process.states.as_slice(),
         pair.new_process.states.as_slice(),
         usize::from(number.0),
@@ -187,7 +160,7 @@ pub(crate) fn moved_state(pair: &Pair<'_>, number: StateNumber) -> Option<u8>
 pub(crate) fn moved_timer(pair: &Pair<'_>, number: TimerNumber) -> Option<u8>
     ensures { result ≡ moved_timer pair.now number.0 }
 {
-    timer_among(
+    among(
         pair.old_process.timers.as_slice(),
         pair.new_process.timers.as_slice(),
         usize::from(number.0),
@@ -204,7 +177,7 @@ fn back_to(
     ensures { result ≡ back_to olds.now news.now number found }
 {
     match found {
-        Some(other) => match variable_among(news, olds, usize::from(other)) {
+        Some(other) => match among(news, olds, usize::from(other)) {
             Some(back) => {
                 if usize::from(back) == number {
                     Some(other)
@@ -225,5 +198,5 @@ pub(crate) fn moved_variable(pair: &Pair<'_>, number: VariableNumber) -> Option<
     let olds = pair.old_process.variables.as_slice();
     let news = pair.new_process.variables.as_slice();
     let number = usize::from(number.0);
-    back_to(olds, news, number, variable_among(olds, news, number))
+    back_to(olds, news, number, among(olds, news, number))
 }

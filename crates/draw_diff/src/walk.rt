@@ -1,29 +1,69 @@
 //! The lines of the transitions that two sets differ in.
 ghost use Rattle.std.specs.Prelude.{◌≡◌, ◌++◌, OnOk};
 ghost use Rattle.std.specs.List.{flat_map};
-ghost use Rattle.draw_diff.specs.Ways.{both_line, new_input_lines, new_process_lines, new_state_lines, new_states_lines, new_way_lines, old_input_lines, old_pair_lines, old_process_lines, old_state_lines, old_way_lines, pair_line, takes_same};
+ghost use Rattle.draw_diff.specs.Ways.{both_line, input_lines, other_process, pair_line, pair_lines, process_lines, process_of, set_of, sides_of, start_line, state_lines, takes_as, takes_same, way_lines};
 
 use crate::alone::{push_alone_input, push_alone_process, push_alone_state};
 use crate::names::{Pair, moved_signal, moved_timer, same_name};
 use crate::renaming::are_renamed;
+use crate::side::Side;
 use crate::ways::{input_title, push_differs, start_title};
 use std::alloc::{AllocError, Global};
 use turn_code::{Draft, DraftInput, DraftPiece, DraftProcess, DraftState, Trigger};
 
-/// A process of the one set, and a process of the other.
+/// A process of the set of a side, and a process of the other set.
 fn pair_of<'a>(
-    old: &'a Draft,
-    old_process: &'a DraftProcess,
-    new: &'a Draft,
-    new_process: &'a DraftProcess,
+    side: Side,
+    set: &'a Draft,
+    process: &'a DraftProcess,
+    other_set: &'a Draft,
+    other: &'a DraftProcess,
 ) -> Pair<'a>
-    ensures { result ≡ record { old = old.now; old_process = old_process.now; new = new.now; new_process = new_process.now } }
+    ensures { result ≡ sides_of side set.now process.now other_set.now other.now }
 {
-    Pair {
-        old,
-        old_process,
-        new,
-        new_process,
+    match side {
+        Side::Old => Pair {
+            old: set,
+            old_process: process,
+            new: other_set,
+            new_process: other,
+        },
+        Side::New => Pair {
+            old: other_set,
+            old_process: other,
+            new: set,
+            new_process: process,
+        },
+    }
+}
+
+/// The set of a side.
+fn set_of<'a>(side: Side, pair: &Pair<'a>) -> &'a Draft
+    ensures { result.now ≡ set_of side pair.now }
+{
+    match side {
+        Side::Old => pair.old,
+        Side::New => pair.new,
+    }
+}
+
+/// The process of a side.
+fn process_of<'a>(side: Side, pair: &Pair<'a>) -> &'a DraftProcess
+    ensures { result.now ≡ process_of side pair.now }
+{
+    match side {
+        Side::Old => pair.old_process,
+        Side::New => pair.new_process,
+    }
+}
+
+/// The process of the other side.
+fn other_process<'a>(side: Side, pair: &Pair<'a>) -> &'a DraftProcess
+    ensures { result.now ≡ other_process side pair.now }
+{
+    match side {
+        Side::Old => pair.new_process,
+        Side::New => pair.old_process,
     }
 }
 
@@ -66,308 +106,208 @@ fn takes_same(pair: &Pair<'_>, old: Trigger, new: Trigger) -> bool
     }
 }
 
+/// Whether an input of a side waits for the same as one of the other.
+fn takes_as(side: Side, pair: &Pair<'_>, trigger: Trigger, other: Trigger) -> bool
+    ensures { result ≡ takes_as side pair.now trigger other }
+{
+    match side {
+        Side::Old => takes_same(pair, trigger, other),
+        Side::New => takes_same(pair, other, trigger),
+    }
+}
+
 /// An input that both sets have.
 fn push_both(
     alloc: Global,
     text: &mut Vec<u8>,
+    side: Side,
     pair: &Pair<'_>,
     state: &DraftState,
-    old: &DraftInput,
-    new: &DraftInput,
+    input: &DraftInput,
+    other: &DraftInput,
 ) -> Result<(), AllocError>
-    ensures { OnOk result (text.new.items ≡ text.old.items ++ both_line pair.now state.now old.now new.now) }
+    ensures { OnOk result (text.new.items ≡ text.old.items ++ both_line side pair.now state.now input.now other.now) }
 {
-    let title = input_title(alloc, pair.old, pair.old_process, state, old)?;
-    push_pair(alloc, text, pair, &title, &old.piece, &new.piece)
+    match side {
+        Side::Old => {
+            let title = input_title(alloc, pair.old, pair.old_process, state, input)?;
+            push_pair(alloc, text, pair, &title, &input.piece, &other.piece)
+        }
+        Side::New => Ok(()),
+    }
 }
 
-/// An input of the old set beside those of the same state of the new one.
-fn push_old_input(
+/// An input of a side beside those of the same state of the other.
+fn push_input(
     alloc: Global,
     text: &mut Vec<u8>,
+    side: Side,
     pair: &Pair<'_>,
     state: &DraftState,
     input: &DraftInput,
     others: &[DraftInput],
 ) -> Result<(), AllocError>
-    ensures { OnOk result (text.new.items ≡ text.old.items ++ old_input_lines pair.now state.now input.now others.now) }
+    ensures { OnOk result (text.new.items ≡ text.old.items ++ input_lines side pair.now state.now input.now others.now) }
 {
     match others {
-        [] => push_alone_input(alloc, text, b"- ", pair.old, pair.old_process, state, input),
+        [] => {
+            let set = set_of(side, pair);
+            let process = process_of(side, pair);
+            push_alone_input(alloc, text, side.sign(), set, process, state, input)
+        }
         [other, rest @ ..] => {
-            if takes_same(pair, input.trigger, other.trigger) {
-                push_both(alloc, text, pair, state, input, other)
+            if takes_as(side, pair, input.trigger, other.trigger) {
+                push_both(alloc, text, side, pair, state, input, other)
             } else {
-                push_old_input(alloc, text, pair, state, input, rest)
+                push_input(alloc, text, side, pair, state, input, rest)
             }
         }
     }
 }
 
-/// The inputs of a state of the old set beside those of the same state of the new one.
-fn push_old_inputs(
+/// The inputs of a state of a side beside those of the same state of the other.
+fn push_inputs(
     alloc: Global,
     text: &mut Vec<u8>,
+    side: Side,
     pair: &Pair<'_>,
     state: &DraftState,
     inputs: &[DraftInput],
     others: &[DraftInput],
 ) -> Result<(), AllocError>
-    ensures { OnOk result (text.new.items ≡ text.old.items ++ flat_map (λ i. old_input_lines pair.now state.now i others.now) inputs.now) }
+    ensures { OnOk result (text.new.items ≡ text.old.items ++ flat_map (λ i. input_lines side pair.now state.now i others.now) inputs.now) }
 {
     for input in inputs {
-        push_old_input(alloc, text, pair, state, input, others)?;
+        push_input(alloc, text, side, pair, state, input, others)?;
     }
     Ok(())
 }
 
-/// A state of the old set beside those of the new one.
-fn push_old_state(
+/// A state of a side beside those of the other.
+fn push_state(
     alloc: Global,
     text: &mut Vec<u8>,
+    side: Side,
     pair: &Pair<'_>,
     state: &DraftState,
     others: &[DraftState],
 ) -> Result<(), AllocError>
-    ensures { OnOk result (text.new.items ≡ text.old.items ++ old_state_lines pair.now state.now others.now) }
+    ensures { OnOk result (text.new.items ≡ text.old.items ++ state_lines side pair.now state.now others.now) }
 {
     match others {
-        [] => push_alone_state(alloc, text, b"- ", pair.old, pair.old_process, state),
+        [] => {
+            let set = set_of(side, pair);
+            let process = process_of(side, pair);
+            push_alone_state(alloc, text, side.sign(), set, process, state)
+        }
         [other, rest @ ..] => {
             if same_name(state.name.as_bytes(), other.name.as_bytes()) {
                 let inputs = state.inputs.as_slice();
-                push_old_inputs(alloc, text, pair, state, inputs, other.inputs.as_slice())
+                push_inputs(
+                    alloc,
+                    text,
+                    side,
+                    pair,
+                    state,
+                    inputs,
+                    other.inputs.as_slice(),
+                )
             } else {
-                push_old_state(alloc, text, pair, state, rest)
+                push_state(alloc, text, side, pair, state, rest)
             }
         }
     }
 }
 
-/// The states of a process of the old set.
-fn push_old_states(
+/// The states of a process of a side that the other has too.
+fn push_states(
     alloc: Global,
     text: &mut Vec<u8>,
+    side: Side,
     pair: &Pair<'_>,
     states: &[DraftState],
     others: &[DraftState],
 ) -> Result<(), AllocError>
-    ensures { OnOk result (text.new.items ≡ text.old.items ++ flat_map (λ q. old_state_lines pair.now q others.now) states.now) }
+    ensures { OnOk result (text.new.items ≡ text.old.items ++ flat_map (λ q. state_lines side pair.now q others.now) states.now) }
 {
     for state in states {
-        push_old_state(alloc, text, pair, state, others)?;
+        push_state(alloc, text, side, pair, state, others)?;
     }
     Ok(())
 }
 
-/// A process of the old set that the new one has too.
-fn push_old_pair(alloc: Global, text: &mut Vec<u8>, pair: &Pair<'_>) -> Result<(), AllocError>
-    ensures { OnOk result (text.new.items ≡ text.old.items ++ old_pair_lines pair.now) }
-{
-    let title = start_title(alloc, pair.old_process)?;
-    push_pair(
-        alloc,
-        text,
-        pair,
-        &title,
-        &pair.old_process.start,
-        &pair.new_process.start,
-    )?;
-    let states = pair.old_process.states.as_slice();
-    let others = pair.new_process.states.as_slice();
-    push_old_states(alloc, text, pair, states, others)
-}
-
-/// A process of the old set beside those of the new one.
-fn push_old_process(
+/// The STARTs of a process that both have.
+fn push_start(
     alloc: Global,
     text: &mut Vec<u8>,
-    old: &Draft,
-    new: &Draft,
+    side: Side,
+    pair: &Pair<'_>,
+) -> Result<(), AllocError>
+    ensures { OnOk result (text.new.items ≡ text.old.items ++ start_line side pair.now) }
+{
+    match side {
+        Side::Old => {
+            let title = start_title(alloc, pair.old_process)?;
+            let (old, new) = (&pair.old_process.start, &pair.new_process.start);
+            push_pair(alloc, text, pair, &title, old, new)
+        }
+        Side::New => Ok(()),
+    }
+}
+
+/// A process of a side that the other has too.
+fn push_both_processes(
+    alloc: Global,
+    text: &mut Vec<u8>,
+    side: Side,
+    pair: &Pair<'_>,
+) -> Result<(), AllocError>
+    ensures { OnOk result (text.new.items ≡ text.old.items ++ pair_lines side pair.now) }
+{
+    push_start(alloc, text, side, pair)?;
+    let states = process_of(side, pair).states.as_slice();
+    let others = other_process(side, pair).states.as_slice();
+    push_states(alloc, text, side, pair, states, others)
+}
+
+/// A process of the set of a side beside those of the other set.
+fn push_process(
+    alloc: Global,
+    text: &mut Vec<u8>,
+    side: Side,
+    set: &Draft,
+    other_set: &Draft,
     process: &DraftProcess,
     others: &[DraftProcess],
 ) -> Result<(), AllocError>
-    ensures { OnOk result (text.new.items ≡ text.old.items ++ old_process_lines old.now new.now process.now others.now) }
+    ensures { OnOk result (text.new.items ≡ text.old.items ++ process_lines side set.now other_set.now process.now others.now) }
 {
     match others {
-        [] => push_alone_process(alloc, text, b"- ", old, process),
+        [] => push_alone_process(alloc, text, side.sign(), set, process),
         [other, rest @ ..] => {
             if same_name(process.name.as_bytes(), other.name.as_bytes()) {
-                push_old_pair(alloc, text, &pair_of(old, process, new, other))
+                let pair = pair_of(side, set, process, other_set, other);
+                push_both_processes(alloc, text, side, &pair)
             } else {
-                push_old_process(alloc, text, old, new, process, rest)
+                push_process(alloc, text, side, set, other_set, process, rest)
             }
         }
     }
 }
 
-/// Processes of the old set beside those of the other.
-fn push_old_processes(
+/// The transitions of the set of a side that the other set hasn't; of the old set's also those that mean something else in the new one.
+pub(crate) fn push_ways(
     alloc: Global,
     text: &mut Vec<u8>,
-    old: &Draft,
-    new: &Draft,
-    processes: &[DraftProcess],
-    others: &[DraftProcess],
+    side: Side,
+    set: &Draft,
+    other_set: &Draft,
 ) -> Result<(), AllocError>
-    ensures { OnOk result (text.new.items ≡ text.old.items ++ flat_map (λ p. old_process_lines old.now new.now p others.now) processes.now) }
+    ensures { OnOk result (text.new.items ≡ text.old.items ++ way_lines side set.now other_set.now) }
 {
-    for process in processes {
-        push_old_process(alloc, text, old, new, process, others)?;
+    let others = other_set.processes.as_slice();
+    for process in set.processes.as_slice() {
+        push_process(alloc, text, side, set, other_set, process, others)?;
     }
     Ok(())
-}
-
-/// The transitions of the old set that are gone, or mean something else.
-pub(crate) fn push_old_ways(
-    alloc: Global,
-    text: &mut Vec<u8>,
-    old: &Draft,
-    new: &Draft,
-) -> Result<(), AllocError>
-    ensures { OnOk result (text.new.items ≡ text.old.items ++ old_way_lines old.now new.now) }
-{
-    let processes = old.processes.as_slice();
-    push_old_processes(alloc, text, old, new, processes, new.processes.as_slice())
-}
-
-/// An input of the new set beside those of the same state of the old one.
-fn push_new_input(
-    alloc: Global,
-    text: &mut Vec<u8>,
-    pair: &Pair<'_>,
-    state: &DraftState,
-    input: &DraftInput,
-    others: &[DraftInput],
-) -> Result<(), AllocError>
-    ensures { OnOk result (text.new.items ≡ text.old.items ++ new_input_lines pair.now state.now input.now others.now) }
-{
-    match others {
-        [] => push_alone_input(alloc, text, b"+ ", pair.new, pair.new_process, state, input),
-        [other, rest @ ..] => {
-            if takes_same(pair, other.trigger, input.trigger) {
-                Ok(())
-            } else {
-                push_new_input(alloc, text, pair, state, input, rest)
-            }
-        }
-    }
-}
-
-/// The inputs of a state of the new set beside those of the same state of the old one.
-fn push_new_inputs(
-    alloc: Global,
-    text: &mut Vec<u8>,
-    pair: &Pair<'_>,
-    state: &DraftState,
-    inputs: &[DraftInput],
-    others: &[DraftInput],
-) -> Result<(), AllocError>
-    ensures { OnOk result (text.new.items ≡ text.old.items ++ flat_map (λ i. new_input_lines pair.now state.now i others.now) inputs.now) }
-{
-    for input in inputs {
-        push_new_input(alloc, text, pair, state, input, others)?;
-    }
-    Ok(())
-}
-
-/// A state of the new set beside those of the old one.
-fn push_new_state(
-    alloc: Global,
-    text: &mut Vec<u8>,
-    pair: &Pair<'_>,
-    state: &DraftState,
-    others: &[DraftState],
-) -> Result<(), AllocError>
-    ensures { OnOk result (text.new.items ≡ text.old.items ++ new_state_lines pair.now state.now others.now) }
-{
-    match others {
-        [] => push_alone_state(alloc, text, b"+ ", pair.new, pair.new_process, state),
-        [other, rest @ ..] => {
-            if same_name(state.name.as_bytes(), other.name.as_bytes()) {
-                let inputs = state.inputs.as_slice();
-                push_new_inputs(alloc, text, pair, state, inputs, other.inputs.as_slice())
-            } else {
-                push_new_state(alloc, text, pair, state, rest)
-            }
-        }
-    }
-}
-
-/// The states of a process of the new set that the old one has too.
-fn push_new_states(
-    alloc: Global,
-    text: &mut Vec<u8>,
-    pair: &Pair<'_>,
-    states: &[DraftState],
-    others: &[DraftState],
-) -> Result<(), AllocError>
-    ensures { OnOk result (text.new.items ≡ text.old.items ++ flat_map (λ q. new_state_lines pair.now q others.now) states.now) }
-{
-    for state in states {
-        push_new_state(alloc, text, pair, state, others)?;
-    }
-    Ok(())
-}
-
-/// A process of the new set that the old one has too.
-fn push_new_pair(alloc: Global, text: &mut Vec<u8>, pair: &Pair<'_>) -> Result<(), AllocError>
-    ensures { OnOk result (text.new.items ≡ text.old.items ++ new_states_lines pair.now) }
-{
-    let states = pair.new_process.states.as_slice();
-    let others = pair.old_process.states.as_slice();
-    push_new_states(alloc, text, pair, states, others)
-}
-
-/// A process of the new set beside those of the old one.
-fn push_new_process(
-    alloc: Global,
-    text: &mut Vec<u8>,
-    old: &Draft,
-    new: &Draft,
-    process: &DraftProcess,
-    others: &[DraftProcess],
-) -> Result<(), AllocError>
-    ensures { OnOk result (text.new.items ≡ text.old.items ++ new_process_lines old.now new.now process.now others.now) }
-{
-    match others {
-        [] => push_alone_process(alloc, text, b"+ ", new, process),
-        [other, rest @ ..] => {
-            if same_name(process.name.as_bytes(), other.name.as_bytes()) {
-                push_new_pair(alloc, text, &pair_of(old, other, new, process))
-            } else {
-                push_new_process(alloc, text, old, new, process, rest)
-            }
-        }
-    }
-}
-
-/// Processes of the new set beside those of the other.
-fn push_new_processes(
-    alloc: Global,
-    text: &mut Vec<u8>,
-    old: &Draft,
-    new: &Draft,
-    processes: &[DraftProcess],
-    others: &[DraftProcess],
-) -> Result<(), AllocError>
-    ensures { OnOk result (text.new.items ≡ text.old.items ++ flat_map (λ p. new_process_lines old.now new.now p others.now) processes.now) }
-{
-    for process in processes {
-        push_new_process(alloc, text, old, new, process, others)?;
-    }
-    Ok(())
-}
-
-/// The transitions that the new set adds.
-pub(crate) fn push_new_ways(
-    alloc: Global,
-    text: &mut Vec<u8>,
-    old: &Draft,
-    new: &Draft,
-) -> Result<(), AllocError>
-    ensures { OnOk result (text.new.items ≡ text.old.items ++ new_way_lines old.now new.now) }
-{
-    let processes = new.processes.as_slice();
-    push_new_processes(alloc, text, old, new, processes, old.processes.as_slice())
 }

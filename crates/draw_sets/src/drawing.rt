@@ -4,9 +4,7 @@ ghost use Rattle.std.specs.Prelude.{◌≡◌, ◌⊎◌};
 use crate::pictures::{Picture, draw_resolved};
 use draw_text::Block;
 use plain_text::{MOST_BYTES, TextRead, line_at_limit, read_text};
-use script_check::{
-    FAILED, LexFault, LoadFault, MONITORS, Q703, STANDARD, SetFault, SetWord, load, write_refusal,
-};
+use script_check::{FAILED, LexFault, LoadFault, SetFault, SetWord, load, write_refusal};
 use sdl_lex::tokens;
 use sdl_rules::resolve;
 use sdl_tree::parse;
@@ -79,11 +77,9 @@ pub fn draw<R: Read + Drop, W: Write>(
 ) -> u8
     ensures { (result ≡ 0) ⊎ (result ≡ 2) ⊎ (result ≡ 4) }
 {
-    match set {
-        SetWord::Standard => draw_from_text(alloc, STANDARD, picture, writer),
-        SetWord::Q703 => draw_from_text(alloc, Q703, picture, writer),
-        SetWord::Monitors => draw_from_text(alloc, MONITORS, picture, writer),
-        SetWord::Text(mut reader) => match read_text(alloc, &mut reader) {
+    match set.own() {
+        Ok(own) => draw_from_text(alloc, own.text(), picture, writer),
+        Err(mut reader) => match read_text(alloc, &mut reader) {
             Ok(read) => draw_read(alloc, &read, picture, writer),
             Err(_) => FAILED,
         },

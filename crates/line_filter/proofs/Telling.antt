@@ -1,13 +1,14 @@
 -- What is told, part behind part.
-use Rattle.std.proofs.Common.{◌≡◌, ℕ, ◌+◌, ◌/◌, ◌%◌, ◌<◌, Bool, true, false, List, [], ◌∷◌, ◌++◌, length, take, ap, Option, None, Some, refl, sym, ◌∙◌, subst, append-nil}
+use Rattle.std.proofs.Common.{◌≡◌, ℕ, ◌+◌, ◌/◌, ◌%◌, ◌<◌, Bool, true, false, List, [], ◌∷◌, ◌++◌, length, take, ap, Option, None, Some, refl, sym, ◌∙◌, subst, append-nil, Result, OnOk}
 use Rattle.std.proofs.lemmas.List.{take_more, flat_map_more}
+use Rattle.std.proofs.lemmas.Result.{on_ok_weaker}
 use Rattle.std.specs.List.{flat_map}
 use lib.ListN.{get_or}
 use Rattle.std.specs.Prelude.{codes, IsTrue}
 use Rattle.line_filter.specs.Acts.{Act, heard, passed, reported, obeyed}
 use Rattle.line_filter.specs.Speaking.{Gives}
-use Rattle.line_filter.specs.Orders.{Timed, NextIs, NoneIsDue, QUIT, told, answered, Tells, nothing, says, TellsAll, Obeys}
-use Rattle.line_filter.specs.Runs.{OCTETS, State, Exchanges, ObeysDue, no_order, one_order, ObeysAll, Minds, Behind, between, eighth, Steps}
+use Rattle.line_filter.specs.Orders.{Timed, NextIs, NoneIsDue, BeginsAnew, LooksAnew, anew_told, QUIT, told, answered, Tells, nothing, says, TellsAll, Obeys}
+use Rattle.line_filter.specs.Runs.{OCTETS, State, Exchanges, ObeysDue, no_order, one_order, looks, ObeysAll, Minds, Behind, between, eighth, Steps}
 use Rattle.line_filter.specs.declared.terminal.Answer.{Answer}
 use Rattle.line_filter.specs.Desks.{Told}
 use Rattle.line_filter.specs.Reporting.{Stand, TellsLines}
@@ -77,6 +78,18 @@ due_more acts now t u w left fewer last old mid new text so_far next no_end more
   are = one_order text more.bytes w last so_far.are next no_end more.are;
   tells = tells_trans old mid new so_far.bytes more.bytes so_far.tells more.tells;
 }
+
+-- orders begin anew, or the same are left
+pub looked : {A E : Type 0} (r : Result A E) (now : ℕ) (begins : Bool) (left last : Option (List Timed)) (old new : Stand) → BeginsAnew begins left last
+    → OnOk r (TellsLines old new (anew_told now begins)) → OnOk r (Told (λ bytes. LooksAnew now left bytes last) old new)
+looked r now begins left last old new is line =
+    on_ok_weaker r
+    (λ (l : TellsLines old new (anew_told now begins)). record { bytes = anew_told now begins; are = record { begins = begins; anew = is; tells = refl }; tells = l })
+    line
+
+pub due_looked : {T : Type 0} (acts : T → Act → T → Type 0) (now : ℕ) (t : T) (left last : Option (List Timed)) (old new : Stand)
+    → Told (λ bytes. LooksAnew now left bytes last) old new → Told (λ bytes. ObeysDue acts now t left bytes t last) old new
+due_looked acts now t left last old new looked_at = record { bytes = looked_at.bytes; are = looks looked_at.bytes last no_order looked_at.are; tells = looked_at.tells }
 
 pub due_over : {T : Type 0} (acts : T → Act → T → Type 0) (now : ℕ) (s t : State T) (fewer : Option (List Timed)) (old new : Stand)
     → Told (λ bytes. ObeysDue acts now s.term s.left bytes t.term fewer) old new → NoneIsDue now fewer t.left → t.voice ≡ s.voice

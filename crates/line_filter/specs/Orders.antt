@@ -1,5 +1,5 @@
 -- Orders, with the milliseconds before which they aren't obeyed.
-use Rattle.std.specs.Prelude.{◌≡◌, ℕ, ◌<◌, ◌≤◌, List, [], ◌∷◌, ◌++◌, Option, None, Some, codes}
+use Rattle.std.specs.Prelude.{◌≡◌, ℕ, ◌<◌, ◌≤◌, Bool, true, false, List, [], ◌∷◌, ◌++◌, Option, None, Some, codes}
 use Rattle.std.specs.Prelude.{String, string_bytes}
 use Rattle.std.specs.List.{flat_map}
 use Rattle.std.specs.Fmt.{decimal}
@@ -26,6 +26,12 @@ NoneIsDue now (Some []) (Some left) = left ≡ []
 NoneIsDue now (Some (o ∷ os)) None = ⊥
 NoneIsDue now (Some (o ∷ os)) (Some left) = (left ≡ o ∷ os) × (now < o.at)
 
+-- orders may begin anew of which nothing is known; others don't, and the same are left
+abbrev pub BeginsAnew : Bool → Option (List Timed) → Option (List Timed) → Type 0
+BeginsAnew true None new = Unit {0}
+BeginsAnew true (Some os) new = ⊥
+BeginsAnew false old new = new ≡ old
+
 -- a line that is told: the millisecond, and a text
 abbrev pub told : ℕ → List ℕ → List ℕ
 told now text = (decimal now ++ 32 ∷ text) ++ 10 ∷ []
@@ -44,6 +50,22 @@ answered now order (Refused text) = told now (codes "refused " ++ string_bytes t
 
 abbrev pub QUIT : List ℕ
 QUIT = codes "quit"
+
+-- what is told where orders begin anew
+abbrev pub TRUNCATED : List ℕ
+TRUNCATED = codes "orders truncated"
+
+-- what is told where they do, or don't
+abbrev pub anew_told : ℕ → Bool → List ℕ
+anew_told now true = told now TRUNCATED
+anew_told now false = []
+
+-- orders begin anew, which is told, or the same are left
+pub record LooksAnew (now : ℕ) (left : Option (List Timed)) (bytes : List ℕ)
+    (last : Option (List Timed)) : Type 0 where
+  pub begins : Bool
+  pub anew : BeginsAnew begins left last
+  pub tells : bytes ≡ anew_told now begins
 
 -- what a terminal has to tell, told in order
 pub data Tells {T : Type 0} (acts : T → Act → T → Type 0) (now : ℕ) (t : T) :

@@ -3,7 +3,8 @@ use Rattle.std.specs.Prelude.{◌≡◌, ℕ, ◌+◌, ◌/◌, ◌%◌, Bool, t
 use Rattle.std.specs.Prelude.{Option, codes}
 use Rattle.line_filter.specs.Acts.{Act, heard, passed}
 use Rattle.line_filter.specs.Speaking.{Voice, Gives}
-use Rattle.line_filter.specs.Orders.{Timed, NextIs, NoneIsDue, QUIT, told, TellsAll, Obeys}
+use Rattle.line_filter.specs.Orders.{Timed, NextIs, NoneIsDue, LooksAnew, QUIT, told, TellsAll}
+use Rattle.line_filter.specs.Orders.{Obeys}
 
 -- how many octets are a millisecond, on a line of 64 kbit/s
 abbrev pub OCTETS : ℕ
@@ -26,7 +27,8 @@ pub record Exchanges {T : Type 0} (acts : T → Act → T
   pub tells : TellsAll acts now heard_it bytes t.term
   pub orders : t.left ≡ s.left
 
--- orders that are due are obeyed in their order, up to one that ends the run
+-- orders that are due are obeyed in their order, up to one that ends the run; where they begin anew
+-- that is told
 pub data ObeysDue {T : Type 0} (acts : T → Act → T
     → Type 0) (now : ℕ) (t : T) (left : Option (List Timed)) : List ℕ → T → Option (List Timed)
     → Type 0 where
@@ -37,6 +39,11 @@ pub data ObeysDue {T : Type 0} (acts : T → Act → T
       → ObeysDue acts now t left bytes u fewer → NextIs now fewer text last → (text ≡ QUIT → ⊥)
       → Obeys acts now u text more w
       → ObeysDue acts now t left (bytes ++ more) w last
+  looks :
+      {bytes : List ℕ} {u : T} {fewer : Option (List Timed)} (more : List ℕ)
+      (last : Option (List Timed))
+      → ObeysDue acts now t left bytes u fewer → LooksAnew now fewer more last
+      → ObeysDue acts now t left (bytes ++ more) u last
 
 -- either none is left that is due, or one ends the run
 abbrev pub Ends : ℕ → Option (List Timed) → List ℕ → Bool → Option (List Timed) → Type 0

@@ -41,7 +41,8 @@ is_report word =
     || (bytes_eq word (codes "accepted")
     || (bytes_eq word (codes "retrieve")
     || (bytes_eq word (codes "measure")
-    || (bytes_eq word (codes "refused") || bytes_eq word (codes "lost"))))))))))))
+    || (bytes_eq word (codes "refused")
+    || (bytes_eq word (codes "lost") || bytes_eq word (codes "orders")))))))))))))
 
 -- such a report says nothing; what is none is an order, which no terminal obeys
 abbrev pub by_other : List ℕ → List (List ℕ) → PlainSays

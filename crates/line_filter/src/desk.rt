@@ -1,7 +1,7 @@
 //! A terminal on a line, its orders, and where it tells what becomes of it.
 ghost use Rattle.std.specs.Prelude.{◌≡◌, ◌↔◌, ℕ, ◌+◌, ◌/◌, ◌++◌, ◌∷◌, [], IfOk, IfSome, OnOk, IsTrue, codes};
 ghost use Rattle.std.specs.List.{flat_map};
-ghost use Rattle.line_filter.specs.Orders.{QUIT, TellsAll, Obeys, told, listed, answered};
+ghost use Rattle.line_filter.specs.Orders.{QUIT, LooksAnew, anew_told, TellsAll, Obeys, told, listed, answered};
 ghost use Rattle.line_filter.specs.Runs.{OCTETS, Exchanges, ObeysAll, Minds, Behind, Steps};
 ghost use Rattle.line_filter.specs.Desks.{state_of, Told};
 ghost use Rattle.line_filter.specs.Reporting.{TellsLine, TellsLines};
@@ -50,6 +50,35 @@ pub fn tell<P: Reports>(alloc: Global, now: u64, text: &str, reports: &mut P) ->
     ensures { OnOk result (TellsLines (P.stand reports.old) (P.stand reports.new) (told now text.now)) }
 {
     tell_line(alloc, reports, &format_args!("{now} {text}"))
+}
+
+/// Tells that orders begin anew, where they do.
+#[tactic(auto, using(crate::proofs::Reporting::tells_none))]
+fn tell_anew<P: Reports>(alloc: Global, now: u64, begins: bool, reports: &mut P) -> io::Result<()>
+    ensures { OnOk result (TellsLines (P.stand reports.old) (P.stand reports.new) (anew_told now begins)) }
+{
+    if begins {
+        tell(alloc, now, "orders truncated", reports)
+    } else {
+        Ok(())
+    }
+}
+
+/// Looks whether orders begin anew, and tells it where they do.
+///
+/// # Errors
+///
+/// Where orders fail, there is no memory, or that can't be told.
+pub fn look_anew<O: Orders, P: Reports>(
+    alloc: Global,
+    now: u64,
+    orders: &mut O,
+    reports: &mut P,
+) -> io::Result<()>
+    ensures { OnOk result (Told (λ bytes. LooksAnew now (O.left orders.old) bytes (O.left orders.new)) (P.stand reports.old) (P.stand reports.new)) }
+{
+    let begins = orders.begins_anew(alloc)?;
+    tell_anew(alloc, now, begins, reports)
 }
 
 /// Tells all that the terminal has to tell.
@@ -183,6 +212,7 @@ impl<T: LineTerminal, O: Orders, P: Reports> Desk<T, O, P> {
             (P.stand self.old.reports) (P.stand self.new.reports)) }
         ensures count { self.new.count ≡ self.old.count }
     {
+        look_anew(alloc, now, &mut self.orders, &mut self.reports)?;
         for _obeyed in 0..u64::MAX {
             let Some(order) = self.orders.next(alloc, now)? else {
                 return Ok(true);

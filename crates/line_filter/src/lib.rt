@@ -16,11 +16,13 @@ mod times;
 mod voice;
 mod writing;
 
-pub use desk::{Desk, tell};
+pub use desk::{Desk, look_anew, tell};
 pub use filter::{Bits, MOST_AHEAD, run_line};
 pub use laws::what_goes_out_was_said;
+pub use lines::{MOST_OCTETS, OrderLines};
 pub use orders::{NoOrders, Orders};
 pub use reports::Reports;
+pub use says::{LineSays, line_says};
 pub use stream::LineOrders;
 pub use su_octets::Unit;
 pub use terminal::{Answer, LineTerminal};

@@ -69,6 +69,7 @@ fn is_report(word: &str) -> bool
         || word == "measure"
         || word == "refused"
         || word == "lost"
+        || word == "orders"
 }
 
 /// What a line says behind its first word, a millisecond, where that isn't the report of an order that was obeyed.

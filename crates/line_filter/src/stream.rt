@@ -77,4 +77,8 @@ impl<R: Read> Orders for LineOrders<R> {
         }
         Err(io::Error::from(ErrorKind::Other))
     }
+
+    fn begins_anew(&mut self, _alloc: Global) -> io::Result<bool> {
+        Ok(false)
+    }
 }

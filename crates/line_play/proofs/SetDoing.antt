@@ -4,7 +4,7 @@ use Rattle.std.proofs.lemmas.Bool.Decides.{nat_tests}
 use Rattle.std.proofs.lemmas.Option.{none-some, same_Some}
 use Rattle.actor_machine.specs.Ledger.{Ledger}
 use Rattle.link_group.specs.Printed.{rebalance_error_text}
-use Rattle.link_group.specs.group_members_types.commanding.CommandError.{CommandError}
+use Rattle.link_group.specs.declared.commanding.CommandError.{CommandError}
 use Rattle.script_terminal.specs.Answers.{actor_named, state_line, value_line}
 use Rattle.script_terminal.specs.Term.{Term}
 use Rattle.script_terminal.specs.link_processes_types.commands.Command.{Command}
@@ -20,8 +20,7 @@ use Rattle.set_tending.proofs.Doing.{adds_nothing}
 use Rattle.set_tending.specs.group_changeover_types.errors.RebalanceError.{RebalanceError}
 use Rattle.line_play.specs.SetDoing.{Stood, first_of, last_of, IsNoLink, ObeysAt, waits, gives, ObeyEach, Commands, terminal_at, reset_to, reset_at, ResetEach, none_reset, one_reset, Resets, Looks, Rebalances, NoFocus, NoRebalance, IsFault, NoCommand, NotShown, IsShowable, MayShow, state_at, value_at, Changes}
 use Rattle.line_play.specs.SetCounting.{begun_at}
-use Rattle.line_play.specs.SetObeying.{octets_sent}
-use Rattle.line_play.specs.SetOrders.{plain_set_order}
+use Rattle.line_play.specs.SetOrders.{plain_set_order, is_send}
 use Rattle.line_play.specs.declared.set_measures.Since.{Since}
 use Rattle.line_play.specs.declared.set_orders.Focus.{Focus}
 use Rattle.line_play.specs.declared.set_orders.SetOrder.{SetOrder}
@@ -187,7 +186,7 @@ pub terminal_there : (c : LinkSet) (o : Option Term) (t : Tended) (l : ℕ) → 
 terminal_there c o t l same there = there ∙ ap (λ (s : LinkSet). read_at terminal_of (slice_get s.links l)) same
 
 -- a question changes nothing
-pub still : (s : SetOrder) (whom : Focus) (p : Stood) → octets_sent s ≡ None → ((f : _) → s ≡ order.On f → ⊥) → ((o : _) → s ≡ order.Link o → ⊥)
+pub still : (s : SetOrder) (whom : Focus) (p : Stood) → is_send (plain_set_order s) ≡ false → ((f : _) → s ≡ order.On f → ⊥) → ((o : _) → s ≡ order.Link o → ⊥)
     → (s ≡ order.Reset → ⊥) → (s ≡ order.Rebalance → ⊥) → Changes (plain_set_order s) whom p p
 still (order.On focus) whom p none_there not_on not_link not_reset not_rebalance = absurd (not_on focus refl)
 still (order.Link obeyed) whom p none_there not_on not_link not_reset not_rebalance = absurd (not_link obeyed refl)
@@ -197,7 +196,7 @@ still (order.Measure measure) whom p none_there not_on not_link not_reset not_re
 still order.Aborted whom p none_there not_on not_link not_reset not_rebalance = refl
 still order.Measures whom p none_there not_on not_link not_reset not_rebalance = refl
 still order.Reset whom p none_there not_on not_link not_reset not_rebalance = absurd (not_reset refl)
-still (order.Send octets) whom p none_there not_on not_link not_reset not_rebalance = absurd (none-some _ (sym none_there))
+still (order.Send octets) whom p none_there not_on not_link not_reset not_rebalance = absurd (true≢false none_there)
 still order.Table whom p none_there not_on not_link not_reset not_rebalance = refl
 still order.Held whom p none_there not_on not_link not_reset not_rebalance = refl
 still order.Unsure whom p none_there not_on not_link not_reset not_rebalance = refl

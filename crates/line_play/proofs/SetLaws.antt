@@ -13,8 +13,9 @@ use Rattle.set_tending.proofs.Lives.{lived_none, lived_adds, lived_sends, lived_
 use Rattle.line_play.specs.LineTraffic.{Traffic}
 use Rattle.line_play.specs.SetDoing.{Stood}
 use Rattle.line_play.specs.SetObeying.{IsRefused, bad, unsent, untaken, other, Obeys, sends, does, refuses}
+use Rattle.line_play.specs.SetOrders.{PlainSetOrder, said_in}
 use Rattle.line_play.specs.declared.set_orders.Focus.{Focus}
-use Rattle.line_play.specs.SetRounds.{Waited, Carries, passes, misses, ends, fails, opens, CarriesAll, no_link, one_link, Tells, nothing, one, ObeysWaiting, rests, obeys, TakesOrder, at_once, behind, report, Attends, waited, comes, AttendsAll, none_due, full, quits, SetPlace, IsRound, Rounds, begins, round}
+use Rattle.line_play.specs.SetRounds.{Waited, Carries, passes, misses, ends, fails, opens, CarriesAll, no_link, one_link, Tells, nothing, one, ObeysWaiting, rests, obeys, TakesOrder, at_once, behind, report, Attends, waited, comes, looks, AttendsAll, none_due, full, quits, SetPlace, IsRound, Rounds, begins, round}
 use Rattle.line_play.specs.SetLaws.{sent_in, sent_waiting, sent_taking, sent_attending, sent_by_all, sent_along, told_in, told_along}
 
 -- what was sent, one part behind another
@@ -35,30 +36,30 @@ lived_same t u w sent told l same = subst (λ (x : Tended). Lived t sent told x)
 
 -- ---- orders
 
-lived_refused : (t : Tended) (p q : Stood) (sent : List Msu) (told : List Told) (order : List ℕ) (whom : Focus) (why : List ℕ) → Lived t sent told p.tender
+lived_refused : (t : Tended) (p q : Stood) (sent : List Msu) (told : List Told) (order : Option PlainSetOrder) (whom : Focus) (why : List ℕ) → Lived t sent told p.tender
     → IsRefused order whom p why q → Lived t sent told q.tender
 lived_refused t p q sent told order whom why l (bad none_there why_is same) = lived_same t p.tender q.tender sent told l (ap (λ (x : Stood). x.tender) same)
 lived_refused t p q sent told order whom why l (unsent octets said is why_is same) = lived_same t p.tender q.tender sent told l (ap (λ (x : Stood). x.tender) same)
 lived_refused t p q sent told order whom why l (untaken m error said is why_is same) = lived_same t p.tender q.tender sent told l (ap (λ (x : Stood). x.tender) same)
 lived_refused t p q sent told order whom why l (other said read none_there adds may) = lived_adds t p.tender q.tender sent told l adds
 
-lived_obeys : (t : Tended) (p : Stood) (sent : List Msu) (told : List Told) (order : List ℕ) (whom : Focus) (bytes : List ℕ) (r : Stood) → Lived t sent told p.tender
-    → (made : Obeys order whom p bytes r) → Lived t (sent ++ sent_in made) told r.tender
-lived_obeys t p sent told order whom _ _ l (sends {u} m said room acts) = lived_sends t p.tender u sent told (m ∷ []) l acts
-lived_obeys t p sent told order whom _ _ l (does {bytes} {q} said read none_there may adds changes answer) =
+lived_obeys : (t : Tended) (p : Stood) (sent : List Msu) (told : List Told) (order : List ℕ) (says : Option PlainSetOrder) (whom : Focus) (bytes : List ℕ) (r : Stood)
+    → Lived t sent told p.tender → (made : Obeys order says whom p bytes r) → Lived t (sent ++ sent_in made) told r.tender
+lived_obeys t p sent told order says whom _ _ l (sends {u} m is room acts) = lived_sends t p.tender u sent told (m ∷ []) l acts
+lived_obeys t p sent told order says whom _ _ l (does {bytes} {q} what is none_there may adds changes answer) =
     sent_none t q.tender sent told (lived_adds t p.tender q.tender sent told l adds)
-lived_obeys t p sent told order whom _ _ l (refuses {q} why is) = sent_none t q.tender sent told (lived_refused t p q sent told order whom why l is)
+lived_obeys t p sent told order says whom _ _ l (refuses {q} why is) = sent_none t q.tender sent told (lived_refused t p q sent told says whom why l is)
 
 lived_waiting : (t : Tended) (p : Stood) (sent : List Msu) (told : List Told) (waiting : List Waited) (bytes : List ℕ) (v : Stood) (last : List Waited) → Lived t sent told p.tender
     → (made : ObeysWaiting p waiting bytes v last) → Lived t (sent ++ sent_waiting made) told v.tender
 lived_waiting t p sent told waiting _ _ _ l rests = sent_none t p.tender sent told l
 lived_waiting t p sent told waiting _ _ _ l (obeys {bytes} {q} {r} {now} first more left before is made) =
     sent_more t r.tender sent (sent_waiting before) (sent_in made) told
-    (lived_obeys t q (sent ++ sent_waiting before) told first.text first.focus more r (lived_waiting t p sent told waiting bytes q now l before) made)
+    (lived_obeys t q (sent ++ sent_waiting before) told first.text first.said first.focus more r (lived_waiting t p sent told waiting bytes q now l before) made)
 
 lived_taking : (t : Tended) (p : Stood) (sent : List Msu) (told : List Told) (order : List ℕ) (waiting : List Waited) (bytes : List ℕ) (v : Stood) (now : List Waited)
     → Lived t sent told p.tender → (made : TakesOrder order p waiting bytes v now) → Lived t (sent ++ sent_taking made) told v.tender
-lived_taking t p sent told order waiting _ _ _ l (at_once {bytes} {q} may made) = lived_obeys t p sent told order p.focus bytes q l made
+lived_taking t p sent told order waiting _ _ _ l (at_once {bytes} {q} may made) = lived_obeys t p sent told order (said_in order) p.focus bytes q l made
 lived_taking t p sent told order waiting _ _ _ l (behind waits last) = sent_none t p.tender sent told l
 lived_taking t p sent told order waiting _ _ _ l (report none_there) = sent_none t p.tender sent told l
 
@@ -68,6 +69,7 @@ lived_attending t p sent told waiting left _ _ _ _ l (waited {bytes} {q} {now} b
 lived_attending t p sent told waiting left _ _ _ _ l (comes {bytes} {q} {now} {fewer} order more r later last before next no_end taken) =
     sent_more t r.tender sent (sent_attending before) (sent_taking taken) told
     (lived_taking t q (sent ++ sent_attending before) told order now more r later (lived_attending t p sent told waiting left bytes q now fewer l before) taken)
+lived_attending t p sent told waiting left _ _ _ _ l (looks {bytes} {q} {now} {fewer} more last before anew) = lived_attending t p sent told waiting left bytes q now fewer l before
 
 lived_all : (t : Tended) (p : Stood) (sent : List Msu) (told : List Told) (waiting : List Waited) (left : Option (List Timed)) (bytes : List ℕ) (goes_on : Bool) (v : Stood) (last : List Waited)
     (still : Option (List Timed)) → Lived t sent told p.tender → (made : AttendsAll p waiting left bytes goes_on v last still) → Lived t (sent ++ sent_by_all made) told v.tender

@@ -4,7 +4,6 @@ use Rattle.std.proofs.lemmas.Result.{on_ok_weaker}
 use Rattle.std.proofs.lemmas.Option.{none-some}
 use Rattle.link_group.specs.Printed.{send_error_text}
 use Rattle.script_links.specs.resend_store_types.messages.Msu.{Msu}
-use Rattle.script_lines.specs.Words.{words_of}
 use Rattle.script_terminal.specs.TermAnswers.{IsMessageOf, AreNoMessage as AreUnread}
 use Rattle.line_filter.specs.Desks.{Told as TellsSuch}
 use Rattle.line_filter.specs.Orders.{told}
@@ -21,8 +20,8 @@ use Rattle.line_play.specs.declared.set_orders.SetOrder.TheVariants as order
 use Rattle.line_play.specs.SetDoing.{Stood, Changes, Refuses, MayShow}
 use Rattle.line_play.specs.SetShowing.{Shows, IsAnswer}
 use Rattle.line_play.proofs.SetDoing.{why_so}
-use Rattle.line_play.specs.SetObeying.{sent_by, octets_sent, BAD_LINE, AreNoMessage, IsSent, IsUntaken, no_label, fault, IsTurnedDown, no_message, full, IsRefused, bad, unsent, untaken, other, Obeys, sends, does, refuses}
-use Rattle.line_play.specs.SetOrders.{PlainSetOrder, plain_set_order, set_order_of}
+use Rattle.line_play.specs.SetObeying.{BAD_LINE, AreNoMessage, IsSent, IsUntaken, no_label, fault, IsTurnedDown, no_message, full, IsRefused, bad, unsent, untaken, other, Obeys, sends, does, refuses}
+use Rattle.line_play.specs.SetOrders.{PlainSetOrder, plain_set_order, send, is_send}
 
 -- ---- what is no message
 
@@ -71,14 +70,10 @@ never_none (Ok None) P some = λ none. absurd (true≢false (sym some))
 never_none (Ok (Some x)) P some = λ none. absurd (true≢false none)
 never_none (Err e) P some = tt
 
--- ---- what orders send, said another way
-
-pub said_some : {E : Type 0} (r : Result (Option SetOrder) E) (x y : Option (List ℕ)) → x ≡ y → IfOk r (λ (o : Option SetOrder). IfSome o (λ (s : SetOrder). octets_sent s ≡ x))
-    → IfOk r (λ (o : Option SetOrder). IfSome o (λ (s : SetOrder). octets_sent s ≡ y))
-said_some r x y same said = subst (λ (z : Option (List ℕ)). IfOk r (λ (o : Option SetOrder). IfSome o (λ (s : SetOrder). octets_sent s ≡ z))) same said
+-- ---- what orders send
 
 -- an order that isn't `send` sends nothing
-pub quiet : (s : SetOrder) → ((octets : _) → s ≡ order.Send octets → ⊥) → octets_sent s ≡ None
+pub quiet : (s : SetOrder) → ((octets : _) → s ≡ order.Send octets → ⊥) → is_send (plain_set_order s) ≡ false
 quiet (order.On focus) not = refl
 quiet (order.Link obeyed) not = refl
 quiet (order.State process) not = refl
@@ -93,105 +88,79 @@ quiet order.Held not = refl
 quiet order.Unsure not = refl
 quiet order.Rebalance not = refl
 
-pub quiet_order : (s : SetOrder) (o : Option SetOrder) (order : List ℕ) → o ≡ Some s → IfSome o (λ (x : SetOrder). octets_sent x ≡ sent_by (words_of order))
-    → octets_sent s ≡ None → sent_by (words_of order) ≡ None
-quiet_order s o order is said none_there = sym (subst (λ (x : Option SetOrder). IfSome x (λ (y : SetOrder). octets_sent y ≡ sent_by (words_of order))) is said) ∙ none_there
-
-pub waits_so : {E : Type 0} (r : Result Bool E) (P : Type 0) → P → IfOk r (λ (b : Bool). b ≡ false → P)
-waits_so (Ok b) P h = λ denied. h
-waits_so (Err e) P h = tt
-
-pub sends_so : {E : Type 0} (r : Result Bool E) (P Q : Type 0) → IfOk r (λ (b : Bool). b ≡ true → P) → IfOk r (λ (b : Bool). b ≡ true → Q → P)
-sends_so (Ok b) P Q h = λ shown q. h shown
-sends_so (Err e) P Q h = tt
-
-pub nothing_said : {E : Type 0} (r : Result Bool E) (P : Type 0) → P → IfOk r (λ (b : Bool). b ≡ true → P)
-nothing_said (Ok b) P h = λ shown. h
-nothing_said (Err e) P h = tt
-
--- ---- what a line's words say
-
-pub reads_none : (r : Option SetOrder) (words : List (List ℕ)) → r ≡ None → option_map plain_set_order r ≡ set_order_of words → set_order_of words ≡ None
-reads_none r words is read = sym read ∙ ap (option_map plain_set_order) is
-
-pub reads_not : (r : Option SetOrder) (words : List (List ℕ)) (b : Bool) → b ≡ is_some r → option_map plain_set_order r ≡ set_order_of words → b ≡ false
-    → set_order_of words ≡ None
-reads_not None words b b_is read denied = sym read
-reads_not (Some s) words b b_is read denied = absurd (true≢false (sym b_is ∙ denied))
-
-pub reads_some : (r : Option SetOrder) (words : List (List ℕ)) (s : SetOrder) → r ≡ Some s → option_map plain_set_order r ≡ set_order_of words
-    → set_order_of words ≡ Some (plain_set_order s)
-reads_some r words s is read = sym read ∙ ap (option_map plain_set_order) is
-
--- octets that a word says
-pub sent_as : (r : Option SetOrder) (x y : Option (List ℕ)) → x ≡ y → IfSome r (λ (s : SetOrder). octets_sent s ≡ x) → IfSome r (λ (s : SetOrder). octets_sent s ≡ y)
-sent_as r x y same said = subst (λ (z : Option (List ℕ)). IfSome r (λ (s : SetOrder). octets_sent s ≡ z)) same said
-
 -- ---- an order is obeyed
 
 -- only the set may have changed
 with_tender : (p : Stood) (u : Tended) → u ≡ p.tender → record p { tender = u } ≡ p
 with_tender p u same = λ i. record p { tender = same i }
 
-not_taken : (order octets : List ℕ) (whom : Focus) (p : Stood) (why : List ℕ) (u : Tended) (m : Msu) → sent_by (words_of order) ≡ Some octets → IsMessageOf octets m
-    → IsUntaken m p.tender why u → IsRefused order whom p why (record p { tender = u })
-not_taken order octets whom p why u m said is (no_label none_there why_is same) = unsent octets said (unlabelled octets m is none_there) why_is (with_tender p u same)
-not_taken order octets whom p why u m said is (fault error error_is why_is same) =
-    untaken m error (record { octets = octets; said = said; is = is }) error_is why_is (with_tender p u same)
+not_taken : (octets : List ℕ) (whom : Focus) (p : Stood) (why : List ℕ) (u : Tended) (m : Msu) → IsMessageOf octets m
+    → IsUntaken m p.tender why u → IsRefused (Some (send octets)) whom p why (record p { tender = u })
+not_taken octets whom p why u m is (no_label none_there why_is same) = unsent octets refl (unlabelled octets m is none_there) why_is (with_tender p u same)
+not_taken octets whom p why u m is (fault error error_is why_is same) =
+    untaken m error (record { octets = octets; says = refl; is = is }) error_is why_is (with_tender p u same)
 
-turned_down : (order octets : List ℕ) (whom : Focus) (p : Stood) (why : List ℕ) (u : Tended) → sent_by (words_of order) ≡ Some octets → IsTurnedDown octets p.tender why u
-    → IsRefused order whom p why (record p { tender = u })
-turned_down order octets whom p why u said (no_message none_there why_is same) = unsent octets said none_there why_is (with_tender p u same)
-turned_down order octets whom p why u said (full m is down) = not_taken order octets whom p why u m said is down
+turned_down : (octets : List ℕ) (whom : Focus) (p : Stood) (why : List ℕ) (u : Tended) → IsTurnedDown octets p.tender why u
+    → IsRefused (Some (send octets)) whom p why (record p { tender = u })
+turned_down octets whom p why u (no_message none_there why_is same) = unsent octets refl none_there why_is (with_tender p u same)
+turned_down octets whom p why u (full m is down) = not_taken octets whom p why u m is down
 
-refused : {A E : Type 0} (r : Result A E) (order text why : List ℕ) (whom : Focus) (p q : Stood) (a b : Stand) → text ≡ why → IsRefused order whom p why q
-    → OnOk r (TellsLines a b (told q.tender.ticks (codes "refused " ++ text))) → OnOk r (TellsSuch (λ bytes. Obeys order whom p bytes q) a b)
-refused r order text why whom p q a b text_is is line =
+refused : {A E : Type 0} (r : Result A E) (order text why : List ℕ) (said : Option PlainSetOrder) (whom : Focus) (p q : Stood) (a b : Stand) → text ≡ why
+    → IsRefused said whom p why q
+    → OnOk r (TellsLines a b (told q.tender.ticks (codes "refused " ++ text))) → OnOk r (TellsSuch (λ bytes. Obeys order said whom p bytes q) a b)
+refused r order text why said whom p q a b text_is is line =
     on_ok_weaker r
     (λ (l : TellsLines a b (told q.tender.ticks (codes "refused " ++ text))). record {
       bytes = told q.tender.ticks (codes "refused " ++ text);
-      are = refuses text (subst (λ (w : List ℕ). IsRefused order whom p w q) (sym text_is) is);
+      are = refuses text (subst (λ (w : List ℕ). IsRefused said whom p w q) (sym text_is) is);
       tells = l;
     })
     line
 
 -- what its order said isn't taken
 pub refused_send : {A E : Type 0} (r : Result A E) (order octets text why : List ℕ) (whom : Focus) (p : Stood) (u : Tended) (a b : Stand) → text ≡ why
-    → sent_by (words_of order) ≡ Some octets → IsTurnedDown octets p.tender why u → OnOk r (TellsLines a b (told u.ticks (codes "refused " ++ text)))
-    → OnOk r (TellsSuch (λ bytes. Obeys order whom p bytes (record p { tender = u })) a b)
-refused_send r order octets text why whom p u a b text_is said down line =
-    refused r order text why whom p (record p { tender = u }) a b text_is (turned_down order octets whom p why u said down) line
+    → IsTurnedDown octets p.tender why u → OnOk r (TellsLines a b (told u.ticks (codes "refused " ++ text)))
+    → OnOk r (TellsSuch (λ bytes. Obeys order (Some (send octets)) whom p bytes (record p { tender = u })) a b)
+refused_send r order octets text why whom p u a b text_is down line =
+    refused r order text why (Some (send octets)) whom p (record p { tender = u }) a b text_is (turned_down octets whom p why u down) line
 
-pub refused_bad : {A E : Type 0} (r : Result A E) (order : List ℕ) (whom : Focus) (p : Stood) (a b : Stand) → set_order_of (words_of order) ≡ None
-    → OnOk r (TellsLines a b (told p.tender.ticks (codes "refused " ++ BAD_LINE))) → OnOk r (TellsSuch (λ bytes. Obeys order whom p bytes p) a b)
-refused_bad r order whom p a b none_there line = refused r order BAD_LINE BAD_LINE whom p p a b refl (bad none_there refl refl) line
+pub refused_bad : {A E : Type 0} (r : Result A E) (order : List ℕ) (said : Option PlainSetOrder) (whom : Focus) (p : Stood) (a b : Stand) → said ≡ None
+    → OnOk r (TellsLines a b (told p.tender.ticks (codes "refused " ++ BAD_LINE))) → OnOk r (TellsSuch (λ bytes. Obeys order said whom p bytes p) a b)
+refused_bad r order said whom p a b none_there line = refused r order BAD_LINE BAD_LINE said whom p p a b refl (bad none_there refl refl) line
 
-pub refused_other : {A E : Type 0} (r : Result A E) (order text why : List ℕ) (said : PlainSetOrder) (whom : Focus) (p q : Stood) (a b : Stand) → text ≡ why
-    → set_order_of (words_of order) ≡ Some said → sent_by (words_of order) ≡ None → Adds p.tender q.tender → Refuses said whom p why q
-    → OnOk r (TellsLines a b (told q.tender.ticks (codes "refused " ++ text))) → OnOk r (TellsSuch (λ bytes. Obeys order whom p bytes q) a b)
-refused_other r order text why said whom p q a b text_is read none_there adds may line =
-    refused r order text why whom p q a b text_is (other said read none_there adds may) line
+pub refused_other : {A E : Type 0} (r : Result A E) (order text why : List ℕ) (what : PlainSetOrder) (whom : Focus) (p q : Stood) (a b : Stand) → text ≡ why
+    → is_send what ≡ false → Adds p.tender q.tender → Refuses what whom p why q
+    → OnOk r (TellsLines a b (told q.tender.ticks (codes "refused " ++ text))) → OnOk r (TellsSuch (λ bytes. Obeys order (Some what) whom p bytes q) a b)
+refused_other r order text why what whom p q a b text_is none_there adds may line =
+    refused r order text why (Some what) whom p q a b text_is (other what refl none_there adds may) line
 
 -- its message was taken
-pub agreed_send : {A E : Type 0} (r : Result A E) (order octets : List ℕ) (whom : Focus) (p : Stood) (u : Tended) (a b : Stand) → sent_by (words_of order) ≡ Some octets
+pub agreed_send : {A E : Type 0} (r : Result A E) (order octets : List ℕ) (whom : Focus) (p : Stood) (u : Tended) (a b : Stand)
     → IsSent octets p.tender u → OnOk r (TellsLines a b (told u.ticks (codes "ok " ++ order)))
-    → OnOk r (TellsSuch (λ bytes. Obeys order whom p bytes (record p { tender = u })) a b)
-agreed_send r order octets whom p u a b said sent line =
+    → OnOk r (TellsSuch (λ bytes. Obeys order (Some (send octets)) whom p bytes (record p { tender = u })) a b)
+agreed_send r order octets whom p u a b sent line =
     on_ok_weaker r
     (λ (l : TellsLines a b (told u.ticks (codes "ok " ++ order))). record {
       bytes = told u.ticks (codes "ok " ++ order);
-      are = sends sent.message (record { octets = octets; said = said; is = sent.is }) sent.room sent.acts;
+      are = sends sent.message (record { octets = octets; says = refl; is = sent.is }) sent.room sent.acts;
       tells = l;
     })
     line
 
-pub agreed_other : {A E : Type 0} (r : Result A E) (order : List ℕ) (said : PlainSetOrder) (whom : Focus) (p q : Stood) (a b : Stand)
-    → set_order_of (words_of order) ≡ Some said → sent_by (words_of order) ≡ None → MayShow said whom p.tender → Adds p.tender q.tender → Changes said whom p q
-    → OnOk r (TellsSuch (IsAnswer said whom q order) a b) → OnOk r (TellsSuch (λ bytes. Obeys order whom p bytes q) a b)
-agreed_other r order said whom p q a b read none_there may adds changes answer =
+pub agreed_other : {A E : Type 0} (r : Result A E) (order : List ℕ) (what : PlainSetOrder) (whom : Focus) (p q : Stood) (a b : Stand)
+    → is_send what ≡ false → MayShow what whom p.tender → Adds p.tender q.tender → Changes what whom p q
+    → OnOk r (TellsSuch (IsAnswer what whom q order) a b) → OnOk r (TellsSuch (λ bytes. Obeys order (Some what) whom p bytes q) a b)
+agreed_other r order what whom p q a b none_there may adds changes answer =
     on_ok_weaker r
-    (λ (h : TellsSuch (IsAnswer said whom q order) a b). record { bytes = h.bytes; are = does said read none_there may adds changes h.are; tells = h.tells })
+    (λ (h : TellsSuch (IsAnswer what whom q order) a b). record { bytes = h.bytes; are = does what refl none_there may adds changes h.are; tells = h.tells })
     answer
+
+-- the order by its text, and what it says by another name
+pub obeyed_as : {A E : Type 0} (r : Result A E) (order text : List ℕ) (one other : Option PlainSetOrder) (whom : Focus) (p q : Stood) (a b : Stand) → text ≡ order → one ≡ other
+    → OnOk r (TellsSuch (λ bytes. Obeys text one whom p bytes q) a b) → OnOk r (TellsSuch (λ bytes. Obeys order other whom p bytes q) a b)
+obeyed_as r order text one other whom p q a b text_is same made =
+    subst (λ (o : Option PlainSetOrder). OnOk r (TellsSuch (λ bytes. Obeys order o whom p bytes q) a b)) same
+    (subst (λ (o : List ℕ). OnOk r (TellsSuch (λ bytes. Obeys o one whom p bytes q) a b)) text_is made)
 
 pub answered : {A E : Type 0} (r : Result A E) (said : PlainSetOrder) (whom : Focus) (p : Stood) (order : List ℕ) (a b c : Stand)
     → TellsLines a b (told p.tender.ticks (codes "ok " ++ order)) → OnOk r (TellsSuch (Shows said whom p) b c) → OnOk r (TellsSuch (IsAnswer said whom p order) a c)

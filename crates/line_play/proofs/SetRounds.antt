@@ -4,9 +4,8 @@ use Rattle.std.proofs.lemmas.Bool.Decides.{nat_tests}
 use Rattle.std.proofs.lemmas.Option.{none-some, same_Some, slice_get-get_or}
 use Rattle.std.proofs.lemmas.Result.{on_ok_weaker}
 use Rattle.std.proofs.lemmas.List.{replicate_more, take_all, take-append-le}
-use Rattle.script_lines.specs.Words.{words_of}
 use Rattle.line_filter.specs.Desks.{Told as TellsSuch}
-use Rattle.line_filter.specs.Orders.{Timed, NextIs, NoneIsDue, QUIT, told}
+use Rattle.line_filter.specs.Orders.{Timed, NextIs, NoneIsDue, LooksAnew, QUIT, told}
 use Rattle.line_filter.specs.Reporting.{Stand, TellsLines}
 use Rattle.line_filter.proofs.Reporting.{tells_none, tells_trans}
 use Rattle.set_tending.specs.Rounds.{Tends, Ticks}
@@ -20,8 +19,9 @@ use Rattle.line_play.specs.declared.set_lines.Came.{Came}
 use Rattle.line_play.specs.declared.set_lines.Came.TheVariants as line
 use Rattle.line_play.specs.SetDoing.{Stood}
 use Rattle.line_play.specs.SetObeying.{Obeys}
-use Rattle.line_play.specs.SetOrders.{SaysSuch, starts, is_send, set_order_of}
-use Rattle.line_play.specs.SetRounds.{Waited, goes_first, Made, line_told, passed_told, PassesOn, Carries, passes, misses, ends, fails, opens, CarriesAt, CarriesAll, no_link, one_link, TellsAll, ObeysWaiting, rests, obeys, TakesOrder, at_once, behind, report, Attends, waited, comes, AttendsAll, none_due, full, quits, MOST_WAITING, SetPlace, IsRound, Rests}
+use Rattle.line_play.specs.SetOrders.{PlainSetOrder, said_in, says_so, is_send}
+use Rattle.line_play.proofs.SetObeying.{obeyed_as}
+use Rattle.line_play.specs.SetRounds.{Waited, goes_first, Made, line_told, passed_told, PassesOn, Carries, passes, misses, ends, fails, opens, CarriesAt, CarriesAll, no_link, one_link, TellsAll, ObeysWaiting, rests, obeys, TakesOrder, at_once, behind, report, Attends, waited, comes, looks, AttendsAll, none_due, full, quits, MOST_WAITING, SetPlace, IsRound, Rests}
 
 -- ---- what is given
 
@@ -239,12 +239,12 @@ carried_lines r ahead t u ws vs xs ys a b f g before after made =
 pub waits_none : (t : Stood) (waiting : List Waited) (a : Stand) → TellsSuch (λ bytes. ObeysWaiting t waiting bytes t waiting) a a
 waits_none t waiting a = record { bytes = []; are = rests; tells = tells_none a }
 
-pub waits_more : (t u w : Stood) (waiting now left : List Waited) (first : Waited) (said : List ℕ) (a b c : Stand)
-    → TellsSuch (λ bytes. ObeysWaiting t waiting bytes u now) a b → now ≡ first ∷ left → said ≡ first.text → TellsSuch (λ bytes. Obeys said first.focus u bytes w) b c
+pub waits_more : (t u w : Stood) (waiting now left : List Waited) (first : Waited) (a b c : Stand)
+    → TellsSuch (λ bytes. ObeysWaiting t waiting bytes u now) a b → now ≡ first ∷ left → TellsSuch (λ bytes. Obeys first.text first.said first.focus u bytes w) b c
     → TellsSuch (λ bytes. ObeysWaiting t waiting bytes w left) a c
-waits_more t u w waiting now left first said a b c before there is more = record {
+waits_more t u w waiting now left first a b c before there more = record {
   bytes = before.bytes ++ more.bytes;
-  are = obeys first more.bytes left before.are there (subst (λ (o : List ℕ). Obeys o first.focus u more.bytes w) is more.are);
+  are = obeys first more.bytes left before.are there more.are;
   tells = tells_trans a b c before.bytes more.bytes before.tells more.tells;
 }
 
@@ -253,55 +253,59 @@ pub waits_same : (t u : Stood) (waiting now left : List Waited) (a b : Stand) �
     → left ≡ now → TellsSuch (λ bytes. ObeysWaiting t waiting bytes u left) a b
 waits_same t u waiting now left a b before same = subst (λ (l : List Waited). TellsSuch (λ bytes. ObeysWaiting t waiting bytes u l) a b) (sym same) before
 
--- an order by its text
-taken_as : {A E : Type 0} (r : Result A E) (order said : List ℕ) (t u : Stood) (waiting later : List Waited) (a b : Stand) → said ≡ order
-    → OnOk r (TellsSuch (λ bytes. TakesOrder said t waiting bytes u later) a b) → OnOk r (TellsSuch (λ bytes. TakesOrder order t waiting bytes u later) a b)
-taken_as r order said t u waiting later a b is made =
-    subst (λ (o : List ℕ). OnOk r (TellsSuch (λ bytes. TakesOrder o t waiting bytes u later) a b)) is made
-
-pub taken_at_once : {A E : Type 0} (r : Result A E) (order said : List ℕ) (t u : Stood) (waiting : List Waited) (a b : Stand) → said ≡ order
-    → (waiting ≡ []) ⊎ (goes_first waiting said ≡ true) → OnOk r (TellsSuch (λ bytes. Obeys said t.focus t bytes u) a b)
+-- an order as it was read
+pub taken_at_once : {A E : Type 0} (r : Result A E) (order text : List ℕ) (said : Option PlainSetOrder) (t u : Stood) (waiting : List Waited) (a b : Stand) → text ≡ order
+    → said ≡ said_in order → (waiting ≡ []) ⊎ (goes_first waiting said ≡ true) → OnOk r (TellsSuch (λ bytes. Obeys text said t.focus t bytes u) a b)
     → OnOk r (TellsSuch (λ bytes. TakesOrder order t waiting bytes u waiting) a b)
-taken_at_once r order said t u waiting a b is may made =
-    taken_as r order said t u waiting waiting a b is
-    (on_ok_weaker r (λ (m : TellsSuch (λ bytes. Obeys said t.focus t bytes u) a b). record { bytes = m.bytes; are = at_once may m.are; tells = m.tells }) made)
+taken_at_once r order text said t u waiting a b text_is said_is may made =
+    let now_may : (waiting ≡ []) ⊎ (goes_first waiting (said_in order) ≡ true) = subst (λ (o : Option PlainSetOrder). (waiting ≡ []) ⊎ (goes_first waiting o ≡ true)) said_is may in
+    on_ok_weaker r
+    (λ (m : TellsSuch (λ bytes. Obeys order (said_in order) t.focus t bytes u) a b). record { bytes = m.bytes; are = at_once now_may m.are; tells = m.tells })
+    (obeyed_as r order text said (said_in order) t.focus t u a b text_is said_is made)
 
-behind_so : (order : List ℕ) (start : Bool) (t : Stood) (waiting : List Waited) (a : Stand) → (waiting ≡ [] → SaysSuch is_send order) → goes_first waiting order ≡ false
-    → start ≡ starts order → TellsSuch (λ bytes. TakesOrder order t waiting bytes t (waiting ++ record { focus = t.focus; text = order; starts = start } ∷ [])) a a
-behind_so order start t waiting a waits last start_is =
-    subst (λ (b : Bool). TellsSuch (λ bytes. TakesOrder order t waiting bytes t (waiting ++ record { focus = t.focus; text = order; starts = b } ∷ [])) a a) (sym start_is)
-    (record { bytes = []; are = behind waits last; tells = tells_none a })
+behind_so : (order text : List ℕ) (said : Option PlainSetOrder) (t : Stood) (waiting : List Waited) (a : Stand) → text ≡ order → said ≡ said_in order
+    → (waiting ≡ [] → says_so is_send said ≡ true) → goes_first waiting said ≡ false
+    → TellsSuch (λ bytes. TakesOrder order t waiting bytes t (waiting ++ record { focus = t.focus; text = text; said = said } ∷ [])) a a
+behind_so order text said t waiting a text_is said_is waits last =
+    subst (λ (o : List ℕ). TellsSuch (λ bytes. TakesOrder order t waiting bytes t (waiting ++ record { focus = t.focus; text = o; said = said } ∷ [])) a a) (sym text_is)
+    (subst (λ (o : Option PlainSetOrder). TellsSuch (λ bytes. TakesOrder order t waiting bytes t (waiting ++ record { focus = t.focus; text = order; said = o } ∷ [])) a a) (sym said_is)
+    (record {
+      bytes = [];
+      are = behind (λ none_there. sym (ap (says_so is_send) said_is) ∙ waits none_there) (sym (ap (goes_first waiting) said_is) ∙ last);
+      tells = tells_none a;
+    }))
 
-pub taken_behind : (order said : List ℕ) (start : Bool) (t : Stood) (waiting later : List Waited) (a : Stand) → said ≡ order → (waiting ≡ [] → SaysSuch is_send said)
-    → false ≡ goes_first waiting said → start ≡ starts said → later ≡ waiting ++ record { focus = t.focus; text = order; starts = start } ∷ []
-    → TellsSuch (λ bytes. TakesOrder order t waiting bytes t later) a a
-taken_behind order said start t waiting later a same waits last start_is is =
-    subst (λ (l : List Waited). TellsSuch (λ bytes. TakesOrder order t waiting bytes t l) a a) (sym is)
-    (behind_so order start t waiting a (subst (λ (o : List ℕ). waiting ≡ [] → SaysSuch is_send o) same waits)
-    (sym (last ∙ ap (λ (o : List ℕ). goes_first waiting o) same)) (start_is ∙ ap starts same))
+pub taken_behind : (order text : List ℕ) (said : Option PlainSetOrder) (t : Stood) (waiting later : List Waited) (a : Stand) → text ≡ order → said ≡ said_in order
+    → (waiting ≡ [] → says_so is_send said ≡ true) → goes_first waiting said ≡ false
+    → later ≡ waiting ++ record { focus = t.focus; text = text; said = said } ∷ [] → TellsSuch (λ bytes. TakesOrder order t waiting bytes t later) a a
+taken_behind order text said t waiting later a text_is said_is waits last is =
+    subst (λ (l : List Waited). TellsSuch (λ bytes. TakesOrder order t waiting bytes t l) a a) (sym is) (behind_so order text said t waiting a text_is said_is waits last)
 
-pub taken_report : (order said : List ℕ) (t : Stood) (waiting : List Waited) (a : Stand) → said ≡ order → set_order_of (words_of said) ≡ None
+pub taken_report : (order : List ℕ) (said : Option PlainSetOrder) (t : Stood) (waiting : List Waited) (a : Stand) → said ≡ said_in order → said ≡ None
     → TellsSuch (λ bytes. TakesOrder order t waiting bytes t waiting) a a
-taken_report order said t waiting a is none_there =
-    subst (λ (o : List ℕ). TellsSuch (λ bytes. TakesOrder o t waiting bytes t waiting) a a) is (record { bytes = []; are = report none_there; tells = tells_none a })
+taken_report order said t waiting a said_is none_there = record { bytes = []; are = report (sym said_is ∙ none_there); tells = tells_none a }
 
 pub attends_first : (t u : Stood) (waiting now : List Waited) (left : Option (List Timed)) (a b : Stand)
     → TellsSuch (λ bytes. ObeysWaiting t waiting bytes u now) a b → Rests now → TellsSuch (λ bytes. Attends t waiting left bytes u now left) a b
 attends_first t u waiting now left a b before last = record { bytes = before.bytes; are = waited before.are last; tells = before.tells }
+
+pub attends_looked : (t u : Stood) (waiting now : List Waited) (left last : Option (List Timed)) (ms : ℕ) (a b c : Stand)
+    → TellsSuch (λ bytes. Attends t waiting left bytes u now left) a b → ms ≡ u.tender.ticks → TellsSuch (λ bytes. LooksAnew ms left bytes last) b c
+    → TellsSuch (λ bytes. Attends t waiting left bytes u now last) a c
+attends_looked t u waiting now left last ms a b c before ms_is more = record {
+  bytes = before.bytes ++ more.bytes;
+  are = looks more.bytes last before.are (subst (λ (n : ℕ). LooksAnew n left more.bytes last) ms_is more.are);
+  tells = tells_trans a b c before.bytes more.bytes before.tells more.tells;
+}
 
 -- none waits, or the first sends a message
 pub rests_none : (waiting : List Waited) → None ≡ slice_get waiting 0 → Rests waiting
 rests_none [] none_there = tt
 rests_none (first ∷ more) none_there = absurd (none-some first none_there)
 
-pub rests_first : (first : Waited) (waiting : List Waited) → Some first ≡ slice_get waiting 0 → SaysSuch is_send first.text → Rests waiting
+pub rests_first : (first : Waited) (waiting : List Waited) → Some first ≡ slice_get waiting 0 → says_so is_send first.said ≡ true → Rests waiting
 rests_first first [] there sends = absurd (none-some first (sym there))
-rests_first first (said ∷ more) there sends = subst (λ (w : Waited). SaysSuch is_send w.text) (same_Some first said there) sends
-
-pub rests_when : {E : Type 0} (r : Result Bool E) (text : List ℕ) (first : Waited) (waiting : List Waited) → text ≡ first.text → Some first ≡ slice_get waiting 0
-    → IfOk r (λ (b : Bool). b ≡ true → SaysSuch is_send text) → IfOk r (λ (b : Bool). b ≡ true → Rests waiting)
-rests_when (Ok b) text first waiting same there sends = λ shown. rests_first first waiting there (subst (λ (o : List ℕ). SaysSuch is_send o) same (sends shown))
-rests_when (Err e) text first waiting same there sends = tt
+rests_first first (said ∷ more) there sends = subst (λ (w : Waited). says_so is_send w.said ≡ true) (same_Some first said there) sends
 
 pub rests_empty : (waiting : List Waited) → waiting ≡ [] → Rests waiting
 rests_empty waiting none_there = subst (λ (ws : List Waited). Rests ws) (sym none_there) tt

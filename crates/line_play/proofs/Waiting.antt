@@ -5,6 +5,7 @@ use Rattle.std.specs.Slice.{IsItemAt}
 use Rattle.std.proofs.lemmas.Bool.Decides.{nat_tests}
 use Rattle.std.proofs.lemmas.List.{map-append, length-map, take_all}
 use Rattle.std.proofs.lemmas.Option.{slice_get-get_or, slice_get-map}
+use Rattle.line_play.specs.SetOrders.{says_so, starts_links}
 use Rattle.line_play.specs.SetRounds.{Waited, waited_of, starts_in, any_starts}
 use Rattle.line_play.specs.declared.set_queue.Waiting.{Waiting}
 
@@ -96,7 +97,8 @@ past_end (w ∷ ws) (suc n) past = past_end ws n (omega (arith, past))
 place_of : (ws : List Waiting) (n : ℕ) (o : Option Waiting) → slice_get ws n ≡ o → starts_in (option_map waited_of o) ≡ starts_in (slice_get (texts ws) n)
 place_of ws n o there = ap starts_in (sym (slice_get-map waited_of ws n ∙ ap (option_map waited_of) there))
 
-pub starts_there : (ws : List Waiting) (n : ℕ) (w : Waiting) (count : ℕ) → count ≡ length ws → n < count → w ≡ get_or ws n w → w.starts ≡ starts_in (slice_get (texts ws) n)
+pub starts_there : (ws : List Waiting) (n : ℕ) (w : Waiting) (count : ℕ) → count ≡ length ws → n < count → w ≡ get_or ws n w
+    → says_so starts_links (waited_of w).said ≡ starts_in (slice_get (texts ws) n)
 starts_there ws n w count count_is there is =
     place_of ws n (Some w) (slice_get-get_or ws n w (omega (arith, count_is, there)) ∙ ap (λ (v : Waiting). Some v) (sym is))
 
@@ -107,18 +109,19 @@ starts_nowhere ws n count count_is none_there =
 
 none_more_at : (ws : List Waited) (n : ℕ) → any_starts (take n ws) ≡ false → starts_in (slice_get ws n) ≡ false → any_starts (take (suc n) ws) ≡ false
 none_more_at [] n before more = refl
-none_more_at (w ∷ ws) zero before more = or_none w.starts false more refl
+none_more_at (w ∷ ws) zero before more = or_none (says_so starts_links w.said) false more refl
 none_more_at (w ∷ ws) (suc n) before more =
-    or_none w.starts (any_starts (take (suc n) ws)) (or_none_left w.starts (any_starts (take n ws)) before)
-    (none_more_at ws n (or_none_right w.starts (any_starts (take n ws)) before) more)
+    let starts : Bool = says_so starts_links w.said in
+    or_none starts (any_starts (take (suc n) ws)) (or_none_left starts (any_starts (take n ws)) before)
+    (none_more_at ws n (or_none_right starts (any_starts (take n ws)) before) more)
 
 pub none_more : (ws : List Waited) (n : ℕ) → any_starts (take n ws) ≡ false → starts_in (slice_get ws n) ≡ false → any_starts (take (n + 1) ws) ≡ false
 none_more ws n before more = let next : suc n ≡ n + 1 = omega arith in subst (λ (k : ℕ). any_starts (take k ws) ≡ false) next (none_more_at ws n before more)
 
 pub some_starts : (ws : List Waited) (n : ℕ) → starts_in (slice_get ws n) ≡ true → any_starts ws ≡ true
 some_starts [] n there = absurd (true≢false (sym there))
-some_starts (w ∷ ws) zero there = or_some_left w.starts (any_starts ws) there
-some_starts (w ∷ ws) (suc n) there = or_some_right w.starts (any_starts ws) (some_starts ws n there)
+some_starts (w ∷ ws) zero there = or_some_left (says_so starts_links w.said) (any_starts ws) there
+some_starts (w ∷ ws) (suc n) there = or_some_right (says_so starts_links w.said) (any_starts ws) (some_starts ws n there)
 
 pub none_starts : (ws : List Waiting) (n : ℕ) → length ws ≡ n → any_starts (take n (texts ws)) ≡ false → any_starts (texts ws) ≡ false
 none_starts ws n all before =

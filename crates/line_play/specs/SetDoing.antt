@@ -13,7 +13,7 @@ use Rattle.set_tending.specs.Placing.{rebalance_fault, rebalanced}
 use Rattle.set_tending.specs.Reading.{book_of, terminal_of}
 use Rattle.set_tending.specs.Tended.{Tended}
 use Rattle.set_tending.specs.group_changeover_types.errors.RebalanceError.{RebalanceError}
-use Rattle.link_group.specs.group_members_types.commanding.CommandError.{CommandError}
+use Rattle.link_group.specs.declared.commanding.CommandError.{CommandError}
 use Rattle.line_play.specs.declared.set_measures.Since.{Since}
 use Rattle.line_play.specs.declared.set_orders.Focus.{Focus}
 use Rattle.line_play.specs.declared.set_orders.Focus.TheVariants.{Link as OneLink, All}

@@ -9,19 +9,20 @@ use Rattle.set_tending.specs.declared.told.Told.{Told}
 use Rattle.line_play.specs.LineTraffic.{Traffic}
 use Rattle.line_play.specs.SetDoing.{Stood}
 use Rattle.line_play.specs.SetObeying.{Obeys, sends, does, refuses}
+use Rattle.line_play.specs.SetOrders.{PlainSetOrder}
 use Rattle.line_play.specs.declared.set_orders.Focus.{Focus}
 use Rattle.line_play.specs.SetRounds.{Waited, Tells, nothing, one, ObeysWaiting, rests, obeys}
-use Rattle.line_play.specs.SetRounds.{TakesOrder, at_once, behind, report, Attends, waited, comes}
+use Rattle.line_play.specs.SetRounds.{TakesOrder, at_once, behind, report, Attends, waited, comes, looks}
 use Rattle.line_play.specs.SetRounds.{AttendsAll, none_due, full, quits, SetPlace}
 use Rattle.line_play.specs.SetRounds.{Rounds, begins, round}
 
 -- ---- the messages of orders that were told as ok, in their order
 
 abbrev pub sent_in :
-    {order : List ℕ} {whom : Focus} {p : Stood} {bytes : List ℕ} {q : Stood}
-    → Obeys order whom p bytes q → List Msu
-sent_in (sends m said room acts) = m ∷ []
-sent_in (does said is none_there may adds changes answer) = []
+    {order : List ℕ} {said : Option PlainSetOrder} {whom : Focus} {p : Stood} {bytes : List ℕ}
+    {q : Stood} → Obeys order said whom p bytes q → List Msu
+sent_in (sends m says room acts) = m ∷ []
+sent_in (does what is none_there may adds changes answer) = []
 sent_in (refuses why is) = []
 
 abbrev pub sent_waiting :
@@ -44,6 +45,7 @@ abbrev pub sent_attending :
 sent_attending (waited before last) = sent_waiting before
 sent_attending (comes order more r later last before next no_end taken) =
     sent_attending before ++ sent_taking taken
+sent_attending (looks more last before anew) = sent_attending before
 
 abbrev pub sent_by_all :
     {p : Stood} {waiting : List Waited} {left : Option (List Timed)} {bytes : List ℕ}

@@ -1,7 +1,7 @@
 -- What an order to a set says.
-use Rattle.std.specs.Prelude.{◌≡◌, ℕ, nat_lt, Bool, true, false, not, ◌&&◌, if◌then◌else◌}
+use Rattle.std.specs.Prelude.{ℕ, nat_lt, Bool, true, false, not, ◌&&◌, if◌then◌else◌}
 use Rattle.std.specs.Prelude.{List, [], ◌∷◌}
-use Rattle.std.specs.Prelude.{length, codes}
+use Rattle.std.specs.Prelude.{length, codes, string_bytes}
 use Rattle.std.specs.Prelude.{Option, None, Some, option_map, option_and_then}
 use Rattle.std.specs.Str.{bytes_eq}
 use Rattle.script_lines.specs.Numbers.{count_of}
@@ -18,7 +18,7 @@ use Rattle.line_play.specs.declared.set_orders.Focus.TheVariants.{Link as OneLin
 use Rattle.line_play.specs.declared.set_orders.SetOrder.{SetOrder}
 use Rattle.line_play.specs.declared.set_orders.SetOrder.TheVariants as code
 
--- ---- orders, without references
+-- ---- orders, as what their words say
 
 pub data PlainSetOrder : Type 0 where
   on : Focus → PlainSetOrder
@@ -38,8 +38,8 @@ pub data PlainSetOrder : Type 0 where
 abbrev pub plain_set_order : SetOrder → PlainSetOrder
 plain_set_order (code.On focus) = on focus
 plain_set_order (code.Link order) = links order
-plain_set_order (code.State process) = state process.now
-plain_set_order (code.Value process variable) = value process.now variable.now
+plain_set_order (code.State process) = state (string_bytes process)
+plain_set_order (code.Value process variable) = value (string_bytes process) (string_bytes variable)
 plain_set_order (code.Measure measure) = measuring measure
 plain_set_order code.Aborted = aborted
 plain_set_order code.Measures = measures
@@ -126,6 +126,10 @@ by_sent_word (Some word) other = option_and_then send_of (octets_of word)
 abbrev pub set_order_of : List (List ℕ) → Option PlainSetOrder
 set_order_of words = by_sent_word (sent_word words) (other_order_of words)
 
+-- what a line says, if it says an order
+abbrev pub said_in : List ℕ → Option PlainSetOrder
+said_in line = set_order_of (words_of line)
+
 -- ---- which orders need not wait behind others
 
 abbrev pub is_stop : Order → Bool
@@ -188,13 +192,10 @@ starts_links held = false
 starts_links unsure = false
 starts_links rebalance = false
 
--- where a line says an order
+-- where a line says an order, whether it is such
 abbrev pub says_so : (PlainSetOrder → Bool) → Option PlainSetOrder → Bool
 says_so test None = false
 says_so test (Some said) = test said
-
-abbrev pub starts : List ℕ → Bool
-starts order = says_so starts_links (set_order_of (words_of order))
 
 -- what sends a message
 abbrev pub is_send : PlainSetOrder → Bool
@@ -211,9 +212,3 @@ is_send table = false
 is_send held = false
 is_send unsure = false
 is_send rebalance = false
-
--- a line says an order of which this is so
-pub record SaysSuch (test : PlainSetOrder → Bool) (order : List ℕ) : Type 0 where
-  pub said : PlainSetOrder
-  pub is : set_order_of (words_of order) ≡ Some said
-  pub so : test said ≡ true

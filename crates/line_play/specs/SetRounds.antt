@@ -4,8 +4,7 @@ use Rattle.std.specs.Prelude.{replicate, slice_get, slice_set, map, codes, strin
 use Rattle.std.specs.Prelude.{Option, None, Some}
 use Rattle.std.specs.Fmt.{decimal}
 use Rattle.std.specs.List.{list_any}
-use Rattle.script_lines.specs.Words.{words_of}
-use Rattle.line_filter.specs.Orders.{Timed, NextIs, NoneIsDue, QUIT, told}
+use Rattle.line_filter.specs.Orders.{Timed, NextIs, NoneIsDue, LooksAnew, QUIT, told}
 use Rattle.line_filter.specs.Reporting.{Stand, TellsLines}
 use Rattle.set_tending.specs.Rounds.{Tends, Ticks}
 use Rattle.set_tending.specs.Telling.{report_in}
@@ -22,7 +21,8 @@ use Rattle.line_play.specs.declared.set_queue.Queue.{Queue}
 use Rattle.line_play.specs.declared.set_queue.Waiting.{Waiting}
 use Rattle.line_play.specs.SetDoing.{Stood}
 use Rattle.line_play.specs.SetObeying.{Obeys}
-use Rattle.line_play.specs.SetOrders.{SaysSuch, overtakes, starts, says_so, is_send, set_order_of}
+use Rattle.line_play.specs.SetOrders.{PlainSetOrder, plain_set_order, said_in, overtakes}
+use Rattle.line_play.specs.SetOrders.{starts_links, says_so, is_send}
 use Rattle.line_play.specs.LineTraffic.{Traffic, line_says, Grows, coming, given, silence_for}
 use Rattle.line_play.specs.declared.set_lines.Came.TheVariants as line
 
@@ -115,14 +115,18 @@ pub record TellsAll (t : Tended) (bytes : List ℕ) (u : Tended) : Type 0 where
 abbrev pub MOST_WAITING : ℕ
 MOST_WAITING = 1024
 
--- an order that waits, with the links of which it speaks, and whether it starts these
+-- an order that waits, as it is written and as what it says, with the links of which it speaks
 pub record Waited : Type 0 where
   pub focus : Focus
   pub text : List ℕ
-  pub starts : Bool
+  pub said : Option PlainSetOrder
 
 abbrev pub waited_of : Waiting → Waited
-waited_of w = record { focus = w.focus; text = string_bytes w.text; starts = w.starts }
+waited_of w = record {
+  focus = w.focus;
+  text = string_bytes w.order.text;
+  said = option_map plain_set_order w.order.said;
+}
 
 -- the orders that wait
 abbrev pub waiting_in : Queue → List Waited
@@ -131,7 +135,7 @@ waiting_in q = map waited_of q.waiting.items
 -- whether the order at a place starts links
 abbrev pub starts_in : Option Waited → Bool
 starts_in None = false
-starts_in (Some w) = w.starts
+starts_in (Some w) = says_so starts_links w.said
 
 -- orders that wait are obeyed, from the first on
 pub data ObeysWaiting (p : Stood) (waiting : List Waited) :
@@ -140,22 +144,21 @@ pub data ObeysWaiting (p : Stood) (waiting : List Waited) :
   obeys : {bytes : List ℕ} {q r : Stood} {now : List Waited}
       (first : Waited) (more : List ℕ) (left : List Waited)
       → ObeysWaiting p waiting bytes q now → now ≡ first ∷ left
-      → Obeys first.text first.focus q more r
+      → Obeys first.text first.said first.focus q more r
       → ObeysWaiting p waiting (bytes ++ more) r left
 
 -- the first of those that wait, if any do, sends a message
 abbrev pub Rests : List Waited → Type 0
 Rests [] = Unit {0}
-Rests (first ∷ more) = SaysSuch is_send first.text
+Rests (first ∷ more) = says_so is_send first.said ≡ true
 
 -- one of them starts links
 abbrev pub any_starts : List Waited → Bool
-any_starts waiting = list_any (λ w. w.starts) waiting
+any_starts waiting = list_any (λ w. says_so starts_links w.said) waiting
 
--- an order may overtake those that wait
-abbrev pub goes_first : List Waited → List ℕ → Bool
-goes_first waiting order =
-    says_so (overtakes (any_starts waiting)) (set_order_of (words_of order))
+-- an order that says this may overtake those that wait
+abbrev pub goes_first : List Waited → Option PlainSetOrder → Bool
+goes_first waiting said = says_so (overtakes (any_starts waiting)) said
 
 -- An order comes, and speaks of the links that were said last. It is obeyed at once, where none
 -- waits, or it may overtake these; else it waits behind others, or since it sends a message; or it
@@ -163,15 +166,17 @@ goes_first waiting order =
 pub data TakesOrder (order : List ℕ) (p : Stood) (waiting : List Waited) :
     List ℕ → Stood → List Waited → Type 0 where
   at_once : {bytes : List ℕ} {q : Stood}
-      → (waiting ≡ []) ⊎ (goes_first waiting order ≡ true) → Obeys order p.focus p bytes q
+      → (waiting ≡ []) ⊎ (goes_first waiting (said_in order) ≡ true)
+      → Obeys order (said_in order) p.focus p bytes q
       → TakesOrder order p waiting bytes q waiting
-  behind : (waiting ≡ [] → SaysSuch is_send order) → goes_first waiting order ≡ false
+  behind : (waiting ≡ [] → says_so is_send (said_in order) ≡ true)
+      → goes_first waiting (said_in order) ≡ false
       → TakesOrder order p waiting [] p
-      (waiting ++ record { focus = p.focus; text = order; starts = starts order } ∷ [])
-  report : set_order_of (words_of order) ≡ None → TakesOrder order p waiting [] p waiting
+      (waiting ++ record { focus = p.focus; text = order; said = said_in order } ∷ [])
+  report : said_in order ≡ None → TakesOrder order p waiting [] p waiting
 
 -- Orders that wait are obeyed, up to a message that still has to wait, then those that are due come
--- in their order.
+-- in their order; where they begin anew that is told.
 pub data Attends (p : Stood) (waiting : List Waited) (left : Option (List Timed)) :
     List ℕ → Stood → List Waited → Option (List Timed) → Type 0 where
   waited : {bytes : List ℕ} {q : Stood} {now : List Waited}
@@ -181,6 +186,10 @@ pub data Attends (p : Stood) (waiting : List Waited) (left : Option (List Timed)
       → Attends p waiting left bytes q now fewer → NextIs q.tender.ticks fewer order last
       → (order ≡ QUIT → ⊥) → TakesOrder order q now more r later
       → Attends p waiting left (bytes ++ more) r later last
+  looks : {bytes : List ℕ} {q : Stood} {now : List Waited} {fewer : Option (List Timed)}
+      (more : List ℕ) (last : Option (List Timed))
+      → Attends p waiting left bytes q now fewer → LooksAnew q.tender.ticks fewer more last
+      → Attends p waiting left (bytes ++ more) q now last
 
 -- The run goes on where none is due any more, or no more may wait. It ends with `quit`.
 pub data AttendsAll (p : Stood) (waiting : List Waited) (left : Option (List Timed)) :

@@ -1,6 +1,5 @@
 //! What orders to a set lead to.
-ghost use Rattle.std.specs.Prelude.{◌≡◌, ◌≤◌, ◌++◌, ◌∷◌, List, ℕ, [], true, false, IfOk, IfSome, IsSome, IsNone, OnOk, None, Some, codes, string_bytes};
-ghost use Rattle.script_lines.specs.Words.{words_of};
+ghost use Rattle.std.specs.Prelude.{◌≡◌, ◌≤◌, ◌++◌, ◌∷◌, List, ℕ, [], true, false, IfOk, IfSome, IsSome, IsNone, OnOk, None, Some, option_map, codes, string_bytes};
 ghost use Rattle.line_filter.specs.Desks.{Told as TellsSuch};
 ghost use Rattle.line_filter.specs.Orders.{told};
 ghost use Rattle.line_filter.specs.Reporting.{TellsLines};
@@ -9,11 +8,11 @@ ghost use Rattle.set_tending.specs.Rounds.{Acts, Adds};
 ghost use Rattle.set_tending.specs.Sending.{tended_send_fault};
 ghost use Rattle.script_terminal.specs.TermAnswers.{command_of};
 ghost use Rattle.line_play.specs.SetDoing.{stood, first_of, IsNoLink, ObeysAt, ObeyEach, Commands, Looks, Rebalances, NoFocus, NoRebalance, IsFault, state_at, value_at, IsShowable, MayShow, Changes, Refuses};
-ghost use Rattle.line_play.specs.SetObeying.{Obeys, IsSent, IsUntaken, IsTurnedDown, octets_sent, sent_by};
-ghost use Rattle.line_play.specs.SetOrders.{plain_set_order, set_order_of};
+ghost use Rattle.line_play.specs.SetObeying.{Obeys, IsSent, IsUntaken, IsTurnedDown};
+ghost use Rattle.line_play.specs.SetOrders.{plain_set_order, send, is_send};
 ghost use Rattle.line_play.specs.SetShowing.{IsAnswer};
 
-use crate::set_orders::{Focus, SetOrder, set_order_in};
+use crate::set_orders::{Focus, Given, SetOrder};
 use crate::set_state::SetState;
 use crate::texts::{refusal_in, text_of};
 use line_filter::Reports;
@@ -162,15 +161,15 @@ impl SetState {
         &self,
         alloc: Global,
         focus: Focus,
-        order: &SetOrder<'_>,
+        order: &SetOrder,
     ) -> io::Result<Option<Refused>>
         ensures some { IfOk result (λ r. IfSome r (λ why. Refuses (plain_set_order order.now) focus (stood self.now) (string_bytes why) (stood self.now))) }
         ensures none { IfOk result (λ r. IsNone r → MayShow (plain_set_order order.now) focus self.now.tender) }
     {
         match order {
-            SetOrder::State(process) => self.why_no_state(alloc, focus, process),
+            SetOrder::State(process) => self.why_no_state(alloc, focus, process.as_str()),
             SetOrder::Value(process, variable) => {
-                self.why_no_value(alloc, focus, process, variable)
+                self.why_no_value(alloc, focus, process.as_str(), variable.as_str())
             }
             _ => Ok(None),
         }
@@ -235,9 +234,9 @@ impl SetState {
         &mut self,
         alloc: Global,
         focus: Focus,
-        order: &SetOrder<'_>,
+        order: &SetOrder,
     ) -> Result<Option<Refused>, AllocError>
-        requires { octets_sent order.now ≡ None }
+        requires { is_send (plain_set_order order.now) ≡ false }
         ensures adds { OnOk result (Adds self.old.tender self.new.tender) }
         ensures changes { IfOk result (λ r. IsNone r → Changes (plain_set_order order.now) focus (stood self.old) (stood self.new)) }
         ensures refuses { IfOk result (λ r. IfSome r (λ why. Refuses (plain_set_order order.now) focus (stood self.old) (string_bytes why) (stood self.new))) }
@@ -277,8 +276,7 @@ impl SetState {
         octets: &[u8],
         reports: &mut P,
     ) -> io::Result<()>
-        requires { sent_by (words_of text.now) ≡ Some octets.now }
-        ensures { OnOk result (TellsSuch (λ bytes. Obeys text.now focus (stood self.old) bytes (stood self.new)) (P.stand reports.old) (P.stand reports.new)) }
+        ensures { OnOk result (TellsSuch (λ bytes. Obeys text.now (Some (send octets.now)) focus (stood self.old) bytes (stood self.new)) (P.stand reports.old) (P.stand reports.new)) }
     {
         match obey_send(alloc, &mut self.tender, octets)? {
             Some(why) => self.refuse(alloc, why.as_str(), reports),
@@ -292,7 +290,7 @@ impl SetState {
         alloc: Global,
         focus: Focus,
         text: &str,
-        order: &SetOrder<'_>,
+        order: &SetOrder,
         reports: &mut P,
     ) -> io::Result<()>
         ensures { OnOk result (TellsSuch (IsAnswer (plain_set_order order.now) focus (stood self.now) text.now) (P.stand reports.old) (P.stand reports.new)) }
@@ -307,13 +305,11 @@ impl SetState {
         alloc: Global,
         focus: Focus,
         text: &str,
-        order: &SetOrder<'_>,
+        order: &SetOrder,
         reports: &mut P,
     ) -> io::Result<()>
-        requires sends { sent_by (words_of text.now) ≡ None }
-        requires none { octets_sent order.now ≡ None }
-        requires reads { set_order_of (words_of text.now) ≡ Some (plain_set_order order.now) }
-        ensures { OnOk result (TellsSuch (λ bytes. Obeys text.now focus (stood self.old) bytes (stood self.new)) (P.stand reports.old) (P.stand reports.new)) }
+        requires { is_send (plain_set_order order.now) ≡ false }
+        ensures { OnOk result (TellsSuch (λ bytes. Obeys text.now (Some (plain_set_order order.now)) focus (stood self.old) bytes (stood self.new)) (P.stand reports.old) (P.stand reports.new)) }
     {
         if let Some(why) = self.why_unanswered(alloc, focus, order)? {
             return self.refuse(alloc, why.as_str(), reports);
@@ -330,31 +326,31 @@ impl SetState {
         alloc: Global,
         focus: Focus,
         text: &str,
-        order: &SetOrder<'_>,
+        order: &SetOrder,
         reports: &mut P,
     ) -> io::Result<()>
-        requires sends { octets_sent order.now ≡ sent_by (words_of text.now) }
-        requires reads { set_order_of (words_of text.now) ≡ Some (plain_set_order order.now) }
-        ensures { OnOk result (TellsSuch (λ bytes. Obeys text.now focus (stood self.old) bytes (stood self.new)) (P.stand reports.old) (P.stand reports.new)) }
+        ensures { OnOk result (TellsSuch (λ bytes. Obeys text.now (Some (plain_set_order order.now)) focus (stood self.old) bytes (stood self.new)) (P.stand reports.old) (P.stand reports.new)) }
     {
         match order {
-            SetOrder::Send(octets) => self.obey_sending(alloc, focus, text, octets, reports),
+            SetOrder::Send(octets) => {
+                self.obey_sending(alloc, focus, text, octets.as_slice(), reports)
+            }
             _ => self.obey_other(alloc, focus, text, order, reports),
         }
     }
 
-    /// Does what a line says, and tells it.
+    /// Does what an order says as it was given, and tells it.
     pub(crate) fn obey<P: Reports>(
         &mut self,
         alloc: Global,
         focus: Focus,
-        text: &str,
+        order: &Given,
         reports: &mut P,
     ) -> io::Result<()>
-        ensures { OnOk result (TellsSuch (λ bytes. Obeys text.now focus (stood self.old) bytes (stood self.new)) (P.stand reports.old) (P.stand reports.new)) }
+        ensures { OnOk result (TellsSuch (λ bytes. Obeys (string_bytes order.now.text) (option_map plain_set_order order.now.said) focus (stood self.old) bytes (stood self.new)) (P.stand reports.old) (P.stand reports.new)) }
     {
-        match set_order_in(alloc, text)? {
-            Some(order) => self.obey_order(alloc, focus, text, &order, reports),
+        match &order.said {
+            Some(said) => self.obey_order(alloc, focus, order.text.as_str(), said, reports),
             None => self.refuse(alloc, "X1 BadLine", reports),
         }
     }

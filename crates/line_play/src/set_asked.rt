@@ -312,15 +312,15 @@ impl SetState {
         &self,
         alloc: Global,
         link: usize,
-        order: &SetOrder<'_>,
+        order: &SetOrder,
         reports: &mut P,
     ) -> io::Result<()>
         ensures { OnOk result (TellsLines (P.stand reports.old) (P.stand reports.new) (shown_of (plain_set_order order.now) (stood self.now) link)) }
     {
         match order {
-            SetOrder::State(process) => self.tell_state(alloc, link, process, reports),
+            SetOrder::State(process) => self.tell_state(alloc, link, process.as_str(), reports),
             SetOrder::Value(process, variable) => {
-                self.tell_value(alloc, link, process, variable, reports)
+                self.tell_value(alloc, link, process.as_str(), variable.as_str(), reports)
             }
             SetOrder::Measure(measure) => self.tell_measure(alloc, link, *measure, reports),
             SetOrder::Aborted => self.tell_aborted(alloc, link, reports),
@@ -335,7 +335,7 @@ impl SetState {
         alloc: Global,
         from: usize,
         to: usize,
-        order: &SetOrder<'_>,
+        order: &SetOrder,
         reports: &mut P,
     ) -> io::Result<()>
         requires { from ≤ to }
@@ -360,7 +360,7 @@ impl SetState {
         &self,
         alloc: Global,
         focus: Focus,
-        order: &SetOrder<'_>,
+        order: &SetOrder,
         reports: &mut P,
     ) -> io::Result<()>
         ensures { OnOk result (TellsSuch (Shows (plain_set_order order.now) focus (stood self.now)) (P.stand reports.old) (P.stand reports.new)) }

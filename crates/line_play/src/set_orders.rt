@@ -1,12 +1,10 @@
 //! Orders to a set, as they are written.
-ghost use Rattle.std.specs.Prelude.{◌≡◌, IfOk, IfSome, None, Some, option_map, option_and_then};
+ghost use Rattle.std.specs.Prelude.{◌≡◌, IfOk, option_map, option_and_then, string_bytes};
 ghost use Rattle.script_lines.specs.Lines.{texts};
-ghost use Rattle.script_lines.specs.Words.{words_of};
 ghost use Rattle.script_links.specs.Octets.{octets_of};
 ghost use Rattle.script_links.specs.Orders.{order_of};
 ghost use Rattle.script_links.specs.TermCommands.{plain_term_command};
-ghost use Rattle.line_play.specs.SetObeying.{octets_sent, sent_by};
-ghost use Rattle.line_play.specs.SetOrders.{plain_set_order, on, links as to_links, alone_of, focus_of, question_of, asked_of, pair_of, other_order_of, sent_word as word_sent, send_of, set_order_of};
+ghost use Rattle.line_play.specs.SetOrders.{plain_set_order, on, links as to_links, alone_of, focus_of, question_of, asked_of, pair_of, other_order_of, sent_word as word_sent, send_of, said_in, state, value};
 
 use script_lines::words_in;
 use script_links::{Order, TermCommand, count, octets_in, order_in, term_command_in};
@@ -30,15 +28,15 @@ pub enum Focus {
 
 /// An order.
 #[derive(Drop)]
-pub enum SetOrder<'a> {
+pub enum SetOrder {
     /// `on L` and `on all`: what follows speaks of these links.
     On(Focus),
     /// One to a link.
     Link(Order),
     /// `state P`.
-    State(&'a str),
+    State(String),
     /// `value P x`.
-    Value(&'a str, &'a str),
+    Value(String, String),
     /// `measure NAME`: what was counted.
     Measure(Measure),
     /// `measure aborted_periods`: how many proving periods were aborted.
@@ -73,9 +71,8 @@ fn focus_in(word: &str) -> Option<Focus>
 }
 
 /// An order to links.
-fn link_order<'a>(word: &str) -> Option<SetOrder<'a>>
-    ensures sends { IfSome result (λ s. octets_sent s ≡ None) }
-    ensures reads { option_map plain_set_order result ≡ option_map to_links (order_of word.now) }
+fn link_order(word: &str) -> Option<SetOrder>
+    ensures { option_map plain_set_order result ≡ option_map to_links (order_of word.now) }
 {
     match order_in(word) {
         Some(order) => Some(SetOrder::Link(order)),
@@ -84,9 +81,8 @@ fn link_order<'a>(word: &str) -> Option<SetOrder<'a>>
 }
 
 /// An order of one word.
-fn word_in<'a>(word: &str) -> Option<SetOrder<'a>>
-    ensures sends { IfSome result (λ s. octets_sent s ≡ None) }
-    ensures reads { option_map plain_set_order result ≡ alone_of word.now }
+fn word_in(word: &str) -> Option<SetOrder>
+    ensures { option_map plain_set_order result ≡ alone_of word.now }
 {
     match word {
         "measure" => Some(SetOrder::Measures),
@@ -99,9 +95,8 @@ fn word_in<'a>(word: &str) -> Option<SetOrder<'a>>
 }
 
 /// An order to send these octets, where they are a message.
-fn sent<'a>(octets: Vec<u8>) -> Option<SetOrder<'a>>
-    ensures some { IfSome result (λ s. octets_sent s ≡ Some octets.items) }
-    ensures reads { option_map plain_set_order result ≡ send_of octets.items }
+fn sent(octets: Vec<u8>) -> Option<SetOrder>
+    ensures { option_map plain_set_order result ≡ send_of octets.items }
 {
     if octets.len() < LEAST {
         return None;
@@ -113,9 +108,8 @@ fn sent<'a>(octets: Vec<u8>) -> Option<SetOrder<'a>>
 }
 
 /// `send HEX`.
-fn send_in<'a>(alloc: Global, word: &str) -> Result<Option<SetOrder<'a>>, AllocError>
-    ensures some { IfOk result (λ o. IfSome o (λ s. octets_sent s ≡ octets_of word.now)) }
-    ensures reads { IfOk result (λ o. option_map plain_set_order o ≡ option_and_then send_of (octets_of word.now)) }
+fn send_in(alloc: Global, word: &str) -> Result<Option<SetOrder>, AllocError>
+    ensures { IfOk result (λ o. option_map plain_set_order o ≡ option_and_then send_of (octets_of word.now)) }
 {
     match octets_in(alloc, word)? {
         Some(octets) => Ok(sent(octets)),
@@ -123,17 +117,48 @@ fn send_in<'a>(alloc: Global, word: &str) -> Result<Option<SetOrder<'a>>, AllocE
     }
 }
 
+/// A name of its own.
+fn owned(alloc: Global, name: &str) -> Result<String, AllocError>
+    ensures { IfOk result (λ s. string_bytes s ≡ name.now) }
+{
+    let mut text = String::new(alloc);
+    text.push_str(name)?;
+    Ok(text)
+}
+
+/// `state P`.
+fn state_of(alloc: Global, process: &str) -> Result<SetOrder, AllocError>
+    ensures { IfOk result (λ o. plain_set_order o ≡ state process.now) }
+{
+    let process = owned(alloc, process)?;
+    Ok(SetOrder::State(process))
+}
+
+/// `value P x`.
+fn value_of(alloc: Global, process: &str, variable: &str) -> Result<SetOrder, AllocError>
+    ensures { IfOk result (λ o. plain_set_order o ≡ value process.now variable.now) }
+{
+    let process = owned(alloc, process)?;
+    let variable = owned(alloc, variable)?;
+    Ok(SetOrder::Value(process, variable))
+}
+
 /// What a command of a terminal's script asks of links, if it asks for something.
-fn question<'a>(command: &TermCommand<'a>) -> Option<SetOrder<'a>>
-    ensures sends { IfSome result (λ s. octets_sent s ≡ None) }
-    ensures reads { option_map plain_set_order result ≡ question_of (plain_term_command command.now) }
+fn question(alloc: Global, command: &TermCommand<'_>) -> Result<Option<SetOrder>, AllocError>
+    ensures { IfOk result (λ o. option_map plain_set_order o ≡ question_of (plain_term_command command.now)) }
 {
     match command {
-        TermCommand::State(process) => Some(SetOrder::State(*process)),
-        TermCommand::Value(process, variable) => Some(SetOrder::Value(*process, *variable)),
-        TermCommand::Measure(measure) => Some(SetOrder::Measure(*measure)),
-        TermCommand::Aborted => Some(SetOrder::Aborted),
-        TermCommand::Reset => Some(SetOrder::Reset),
+        TermCommand::State(process) => {
+            let order = state_of(alloc, process)?;
+            Ok(Some(order))
+        }
+        TermCommand::Value(process, variable) => {
+            let order = value_of(alloc, process, variable)?;
+            Ok(Some(order))
+        }
+        TermCommand::Measure(measure) => Ok(Some(SetOrder::Measure(*measure))),
+        TermCommand::Aborted => Ok(Some(SetOrder::Aborted)),
+        TermCommand::Reset => Ok(Some(SetOrder::Reset)),
         TermCommand::Order(_)
         | TermCommand::Unit(_)
         | TermCommand::Units(_, _)
@@ -145,17 +170,16 @@ fn question<'a>(command: &TermCommand<'a>) -> Option<SetOrder<'a>>
         | TermCommand::Told
         | TermCommand::Accepted
         | TermCommand::Retrieve(_)
-        | TermCommand::Expect(_) => None,
+        | TermCommand::Expect(_) => Ok(None),
     }
 }
 
 /// What is asked of links, by the words for it: what their actors are, and what was measured.
-fn asked_in<'a>(alloc: Global, words: &[&'a str]) -> Result<Option<SetOrder<'a>>, AllocError>
-    ensures sends { IfOk result (λ o. IfSome o (λ s. octets_sent s ≡ None)) }
-    ensures reads { IfOk result (λ o. option_map plain_set_order o ≡ asked_of (texts words.now)) }
+fn asked_in(alloc: Global, words: &[&str]) -> Result<Option<SetOrder>, AllocError>
+    ensures { IfOk result (λ o. option_map plain_set_order o ≡ asked_of (texts words.now)) }
 {
     match term_command_in(alloc, words)? {
-        Some(command) => Ok(question(&command)),
+        Some(command) => question(alloc, &command),
         None => Ok(None),
     }
 }
@@ -175,8 +199,7 @@ pub(crate) fn is_set_report(alloc: Global, line: &str) -> Result<bool, AllocErro
 
 /// The word after `send`, where that is all.
 fn sent_word<'a>(words: &[&'a str]) -> Option<&'a str>
-    ensures sends { sent_by (texts words.now) ≡ option_and_then octets_of (option_map (λ w. w.now) result) }
-    ensures word { word_sent (texts words.now) ≡ option_map (λ w. w.now) result }
+    ensures { word_sent (texts words.now) ≡ option_map (λ w. w.now) result }
 {
     match words {
         [first, word] => { if *first == "send" { Some(*word) } else { None } }
@@ -185,9 +208,8 @@ fn sent_word<'a>(words: &[&'a str]) -> Option<&'a str>
 }
 
 /// What the word after `on` says.
-fn on_in<'a>(word: &str) -> Option<SetOrder<'a>>
-    ensures sends { IfSome result (λ s. octets_sent s ≡ None) }
-    ensures reads { option_map plain_set_order result ≡ option_map on (focus_of word.now) }
+fn on_in(word: &str) -> Option<SetOrder>
+    ensures { option_map plain_set_order result ≡ option_map on (focus_of word.now) }
 {
     match focus_in(word) {
         Some(focus) => Some(SetOrder::On(focus)),
@@ -196,13 +218,12 @@ fn on_in<'a>(word: &str) -> Option<SetOrder<'a>>
 }
 
 /// What two words say, where the first isn't `send`: `on L`, `on all`, or what is asked of links.
-fn pair_in<'a>(
+fn pair_in(
     alloc: Global,
-    first: &'a str,
-    word: &'a str,
-) -> Result<Option<SetOrder<'a>>, AllocError>
-    ensures sends { IfOk result (λ o. IfSome o (λ s. octets_sent s ≡ None)) }
-    ensures reads { IfOk result (λ o. option_map plain_set_order o ≡ pair_of first.now word.now) }
+    first: &str,
+    word: &str,
+) -> Result<Option<SetOrder>, AllocError>
+    ensures { IfOk result (λ o. option_map plain_set_order o ≡ pair_of first.now word.now) }
 {
     if first == "on" {
         return Ok(on_in(word));
@@ -211,9 +232,8 @@ fn pair_in<'a>(
 }
 
 /// An order that sends nothing.
-fn other_in<'a>(alloc: Global, words: &[&'a str]) -> Result<Option<SetOrder<'a>>, AllocError>
-    ensures sends { IfOk result (λ o. IfSome o (λ s. octets_sent s ≡ None)) }
-    ensures reads { IfOk result (λ o. option_map plain_set_order o ≡ other_order_of (texts words.now)) }
+fn other_in(alloc: Global, words: &[&str]) -> Result<Option<SetOrder>, AllocError>
+    ensures { IfOk result (λ o. option_map plain_set_order o ≡ other_order_of (texts words.now)) }
 {
     match words {
         [] => Ok(None),
@@ -224,14 +244,37 @@ fn other_in<'a>(alloc: Global, words: &[&'a str]) -> Result<Option<SetOrder<'a>>
 }
 
 /// The order that a line says; none where it says none.
-pub fn set_order_in<'a>(alloc: Global, line: &'a str) -> Result<Option<SetOrder<'a>>, AllocError>
-    ensures some { IfOk result (λ o. IfSome o (λ s. octets_sent s ≡ sent_by (words_of line.now))) }
-    ensures reads { IfOk result (λ o. option_map plain_set_order o ≡ set_order_of (words_of line.now)) }
+pub fn set_order_in(alloc: Global, line: &str) -> Result<Option<SetOrder>, AllocError>
+    ensures { IfOk result (λ o. option_map plain_set_order o ≡ said_in line.now) }
 {
     let words = words_in(alloc, line)?;
     let said = words.as_slice();
     match sent_word(said) {
         Some(word) => send_in(alloc, word),
         None => other_in(alloc, said),
+    }
+}
+
+/// An order as it was given, with what it says; nothing, where it reads as none.
+#[derive(Drop)]
+pub struct Given {
+    /// Its words, as they were given.
+    pub text: String,
+    /// What they say.
+    pub said: Option<SetOrder>,
+}
+
+impl Given {
+    /// Reads an order.
+    ///
+    /// # Errors
+    ///
+    /// Where there is no memory.
+    pub fn read(alloc: Global, text: String) -> Result<Given, AllocError>
+        ensures text { IfOk result (λ g. string_bytes g.text ≡ string_bytes text) }
+        ensures said { IfOk result (λ g. option_map plain_set_order g.said ≡ said_in (string_bytes text)) }
+    {
+        let said = set_order_in(alloc, text.as_str())?;
+        Ok(Given { text, said })
     }
 }

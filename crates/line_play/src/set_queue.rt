@@ -1,20 +1,32 @@
 //! Orders that wait.
 ghost use Rattle.std.specs.Prelude.{◌≡◌, ◌↔◌, ◌≤◌, ◌++◌, ◌∷◌, [], length, option_map, slice_get, IfSome, IsNone, IsTrue, string_bytes};
+ghost use Rattle.line_play.specs.SetOrders.{plain_set_order, says_so, starts_links};
 ghost use Rattle.line_play.specs.SetRounds.{MOST_WAITING as MOST, waited_of, waiting_in, starts_in, any_starts};
 
-use crate::set_orders::Focus;
+use crate::set_orders::{Focus, Given};
 use std::alloc::Global;
 use std::collections::VecDeque;
 
 /// How many orders may wait behind a message that does.
 const MOST_WAITING: usize = 1_024;
 
-/// An order that waits, with the links that it speaks of, and whether it starts these.
+/// An order that waits, with the links that it speaks of.
 #[derive(Drop)]
 pub struct Waiting {
     pub focus: Focus,
-    pub text: String,
-    pub starts: bool,
+    pub order: Given,
+}
+
+impl Waiting {
+    /// Whether it starts links.
+    fn starts(&self) -> bool
+        ensures { result ≡ says_so starts_links (option_map plain_set_order self.now.order.said) }
+    {
+        match &self.order.said {
+            Some(order) => order.starts(),
+            None => false,
+        }
+    }
 }
 
 /// Orders that wait, in their order.
@@ -52,7 +64,7 @@ impl Queue {
         ensures { result ≡ starts_in (slice_get (waiting_in self.now) place) }
     {
         match self.waiting.get(place) {
-            Some(waiting) => waiting.starts,
+            Some(waiting) => waiting.starts(),
             None => false,
         }
     }
@@ -86,15 +98,9 @@ impl Queue {
     }
 
     /// One more waits. Whether there was memory.
-    pub fn put(&mut self, focus: Focus, text: String, starts: bool) -> bool
-        ensures { IsTrue result → waiting_in self.new ≡ waiting_in self.old ++ record { focus = focus; text = string_bytes text; starts = starts } ∷ [] }
+    pub fn put(&mut self, focus: Focus, order: Given) -> bool
+        ensures { IsTrue result → waiting_in self.new ≡ waiting_in self.old ++ record { focus = focus; text = string_bytes order.text; said = option_map plain_set_order order.said } ∷ [] }
     {
-        self.waiting
-            .push_back(Waiting {
-                focus,
-                text,
-                starts,
-            })
-            .is_ok()
+        self.waiting.push_back(Waiting { focus, order }).is_ok()
     }
 }

@@ -2,11 +2,11 @@
 use Rattle.std.specs.Prelude.{◌≡◌, ⊤, ℕ, List, [], Option, None, Some}
 use Rattle.rtrb.specs.Ring.{sent}
 use Rattle.std.specs.Io.KnownBytes.{Appends}
+use Rattle.line_filter.specs.Orders.{Timed}
 use Rattle.line_filter.specs.Reporting.{Stand, whole, lossy}
 use Rattle.line_streams.specs.Departing.{TellsOn, TellsLost}
 use Rattle.line_streams.specs.declared.opening.OrderStream.{OrderStream}
-use Rattle.line_streams.specs.declared.opening.OrderStream.TheVariants.{Nothing, File as from_file}
-use Rattle.line_streams.specs.declared.opening.OrderStream.TheVariants.{Fifo as from_fifo}
+use Rattle.line_streams.specs.declared.opening.OrderStream.TheVariants.{Nothing, Live}
 use Rattle.line_streams.specs.declared.opening.ReportStream.{ReportStream}
 use Rattle.line_streams.specs.declared.records.RecordStream.{RecordStream}
 use Rattle.line_streams.specs.declared.records.RecordStream.TheVariants.{File as record_file}
@@ -14,18 +14,21 @@ use Rattle.line_streams.specs.declared.records.RecordStream.TheVariants.{Fifo as
 use Rattle.line_streams.specs.declared.opening.ReportStream.TheVariants.{Errors, File as to_file}
 use Rattle.line_streams.specs.declared.opening.ReportStream.TheVariants.{Fifo as to_fifo}
 
--- what there is to read: what a file or a FIFO holds isn't known
+-- the octets of orders that there are: what a file or a FIFO holds isn't known
 abbrev pub known_of : OrderStream → Option (List ℕ)
 known_of Nothing = Some []
-known_of (from_file file) = None
-known_of (from_fifo arrivals) = None
+known_of (Live orders) = None
+
+-- which orders are left
+abbrev pub left_of : OrderStream → Option (List Timed)
+left_of Nothing = Some []
+left_of (Live orders) = None
 
 -- from nowhere without a path, and else from what it names
 abbrev pub ComeFrom : {A : Type 0} → Option A → OrderStream → Type 0
 ComeFrom None stream = stream ≡ Nothing
 ComeFrom (Some path) Nothing = ⊥
-ComeFrom (Some path) (from_file file) = ⊤
-ComeFrom (Some path) (from_fifo arrivals) = ⊤
+ComeFrom (Some path) (Live orders) = ⊤
 
 -- without a path they go where the errors go, and else to what it names
 abbrev pub GoTo : {A E : Type 0} → Option A → E → ReportStream E → Type 0

@@ -1,14 +1,16 @@
 //! What is opened for orders and for reports.
 ghost use Rattle.std.specs.Prelude.{IfOk, OnOk};
 ghost use Rattle.line_filter.specs.Reporting.{TellsLine};
-ghost use Rattle.line_streams.specs.Known.{known_of, stand_of, ComeFrom, GoTo, IsReported, EndsTold};
+ghost use Rattle.line_streams.specs.Known.{left_of, stand_of, ComeFrom, GoTo, IsReported, EndsTold};
 
+use crate::ahead::Source;
 use crate::arrivals::Arrivals;
 use crate::departures::Departures;
-use line_filter::Reports;
+use crate::live::LiveOrders;
+use line_filter::{Orders, Reports};
 use std::alloc::Global;
 use std::fs::{self, File, OpenOptions};
-use std::io::{self, Read, Write};
+use std::io::{self, Write};
 use std::rt::Files;
 use std::thread::Threads;
 use std::time::Clock;
@@ -18,20 +20,33 @@ use std::time::Clock;
 pub enum OrderStream {
     /// There are none.
     Nothing,
-    /// A regular file, read on as it grows.
-    File(File),
-    /// What may keep a reader waiting, as a FIFO.
-    Fifo(Arrivals),
+    /// A file or a FIFO.
+    Live(LiveOrders),
 }
 
-impl Read for OrderStream {
-    ghost remaining = { known_of };
+impl Orders for OrderStream {
+    ghost left = { left_of };
 
-    fn read(&mut self, part: &mut [u8]) -> io::Result<usize> {
+    fn next(&mut self, alloc: Global, now: u64) -> io::Result<Option<String>> {
         match self {
-            OrderStream::Nothing => Ok(0),
-            OrderStream::File(file) => file.read(part),
-            OrderStream::Fifo(arrivals) => arrivals.read(part),
+            OrderStream::Nothing => Ok(None),
+            OrderStream::Live(orders) => match orders.next(alloc, now)? {
+                Some(order) => Ok(Some(order)),
+                None => Ok(None),
+            },
+        }
+    }
+
+    fn begins_anew(&mut self, alloc: Global) -> io::Result<bool> {
+        match self {
+            OrderStream::Nothing => Ok(false),
+            OrderStream::Live(orders) => {
+                if orders.rewind(alloc)? {
+                    Ok(true)
+                } else {
+                    Ok(false)
+                }
+            }
         }
     }
 }
@@ -41,6 +56,19 @@ pub fn open_both<R: Files<File = File>>(rt: &R, path: &str) -> io::Result<File> 
     let mut how = OpenOptions::new();
     how.read(true).write(true);
     how.open(rt, path)
+}
+
+/// Opens a file or a FIFO that orders come from.
+fn open_source<R: Files<File = File> + Threads>(
+    rt: &R,
+    alloc: Global,
+    path: &str,
+) -> io::Result<Source> {
+    if rt.metadata(path)?.is_file() {
+        return Ok(Source::File(fs::open(rt, path)?));
+    }
+    let file = open_both(rt, path)?;
+    Ok(Source::Fifo(Arrivals::start(rt, alloc, file)?))
 }
 
 /// Opens what orders come from; none without a path.
@@ -58,11 +86,8 @@ pub fn open_orders<R: Files<File = File> + Threads>(
     let Some(path) = path else {
         return Ok(OrderStream::Nothing);
     };
-    if rt.metadata(path)?.is_file() {
-        return Ok(OrderStream::File(fs::open(rt, path)?));
-    }
-    let file = open_both(rt, path)?;
-    Ok(OrderStream::Fifo(Arrivals::start(rt, alloc, file)?))
+    let source = open_source(rt, alloc, path)?;
+    Ok(OrderStream::Live(LiveOrders::new(alloc, source)))
 }
 
 /// Where reports go.

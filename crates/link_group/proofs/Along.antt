@@ -17,8 +17,8 @@ use Rattle.actor_machine.specs.Ledger.{rebased}
 use Rattle.link_processes.specs.declared.processes.Processes.{Processes}
 use Rattle.link_processes.specs.Machine.{with_book, is_low, tidied, unit_taken, error_taken, octets_taken, counting_told}
 use Rattle.link_processes.proofs.Keeping.{unit_keeps, error_keeps, octets_keep, counting_keeps}
-use Rattle.group_members.specs.Hearing.{Reads, as_unit, as_error, AreTaken, nothing, unit, errored, sixteen, Hears, silent, octet}
-use Rattle.group_members.specs.TermLaws.{accepted_read, accepted_taken, accepted_along}
+use Rattle.link_term.specs.Hearing.{Reads, as_unit, as_error, AreTaken, nothing, unit, errored, sixteen, Hears, silent, octet}
+use Rattle.link_term.specs.Laws.{accepted_read, accepted_taken, accepted_along}
 use Rattle.link_group.specs.Ends.{Ends, place_behind, Lives, arrives, is_lost, comes_back, is_lost_back, is_beginning}
 use Rattle.link_group.specs.Along.{heeded, units_read, units_taken, units_along, Arrive, none_arrives, one_lost, one_arrives}
 use Rattle.link_group.proofs.Heeding.{began_stays, begins_or_stays, fresh_begins, ends_heed}

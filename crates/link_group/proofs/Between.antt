@@ -14,11 +14,11 @@ use Rattle.group_changeover.specs.Availability.{retrieval_in}
 use Rattle.group_changeover.specs.Sharing.{selection_of, link_of, of, pick, counts_of}
 use Rattle.group_changeover.specs.declared.errors.DivertFault.{DivertFault}
 use Rattle.group_changeover.proofs.Equal.{Same, same}
-use Rattle.group_members.specs.declared.link.Link.{Link}
-use Rattle.group_members.specs.OneLink.{lacking, accepted_of, window, puts}
-use Rattle.group_members.specs.Links.{change}
-use Rattle.group_members.specs.Failing.{messages_by, changeover_begins_at}
-use Rattle.group_members.specs.Moving.{Diversion, Diverted, is_out_at, hand_by, without_hand, term_takes, takes_on, takers, is_own, moved_by, moved, move_fault, goes_on, moves, back_fault, back, gives_back, division, hands_over, ends_at, keeps_at}
+use Rattle.link_group.specs.declared.link.Link.{Link}
+use Rattle.link_group.specs.OneLink.{lacking, accepted_of, window, puts}
+use Rattle.link_group.specs.Links.{change}
+use Rattle.link_group.specs.Failing.{messages_by, changeover_begins_at}
+use Rattle.link_group.specs.Moving.{Diversion, Diverted, is_out_at, hand_by, without_hand, term_takes, takes_on, takers, is_own, moved_by, moved, move_fault, goes_on, moves, back_fault, back, gives_back, division, hands_over, ends_at, keeps_at}
 use Rattle.link_group.specs.Set.{LinkSet, change_by, sent, bound_at}
 use Rattle.link_group.specs.Changing.{messages_for, after_failure, after_retrieve}
 use Rattle.link_group.specs.Diverting.{diverted, settled_by, after_hand, after_divert}

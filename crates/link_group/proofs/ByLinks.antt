@@ -1,11 +1,11 @@
 -- A call of one link's terminal.
-use Rattle.std.proofs.Common.{◌≡◌, ℕ, ◌+◌, ◌-◌, ◌^◌, ◌≤◌, zero, suc, Option, List, [], ◌∷◌, ◌++◌, length, take, drop, refl, sym, ap, subst, arith}
+use Rattle.std.proofs.Common.{◌≡◌, ℕ, ◌+◌, ◌-◌, ◌^◌, ◌≤◌, zero, suc, Option, List, [], ◌∷◌, ◌++◌, length, take, drop, Some, refl, sym, ap, ◌∙◌, subst, arith}
 use Rattle.std.specs.Prelude.{min, slice_get}
-use Rattle.group_members.specs.declared.link.Link.{Link}
-use Rattle.group_members.specs.Links.{change}
-use Rattle.group_members.specs.Doing.{AtLink, asked, came_by}
+use Rattle.link_group.specs.declared.link.Link.{Link}
+use Rattle.link_group.specs.Links.{change}
+use Rattle.link_group.specs.Doing.{AtLink, asked, came_by}
 use Rattle.link_processes.specs.declared.commands.Command.{Command}
-use Rattle.group_members.specs.Commanding.{cleared_at, Commanded}
+use Rattle.link_group.specs.Commanding.{cleared_at, Commanded, cleared_by}
 use Rattle.link_group.specs.Set.{LinkSet}
 use Rattle.link_group.specs.Placing.{table_if}
 use Rattle.link_group.specs.Lines.{ByLink, ByCommand}
@@ -42,3 +42,7 @@ written n xs items e = all-of n xs (drop (length xs) items) e
 -- and how many those are
 pub few_written : (n most : ℕ) (xs items : List Link) → length xs ≡ n → n ≤ most → length (take n (xs ++ drop (length xs) items)) ≤ most
 few_written n most xs items e h = let size = ap (λ (ys : List Link). length ys) (written n xs items e) in omega (arith, size, e, h)
+
+pub cleared_here : (command : Command) (ks : List Link) (l : ℕ) (was : Link) (n : ℕ) → slice_get ks l ≡ Some was → n ≡ length (cleared_by command was)
+    → n ≡ length (cleared_at command (slice_get ks l))
+cleared_here command ks l was n e is = is ∙ sym (ap (λ (o : Option Link). length (cleared_at command o)) e)

@@ -20,12 +20,12 @@ use Rattle.group_changeover.specs.declared.errors.SendError.TheVariants as send
 use Rattle.group_changeover.specs.declared.errors.RetrieveError.{RetrieveError}
 use Rattle.group_changeover.specs.declared.errors.RetrieveError.TheVariants as retrieve
 use Rattle.group_changeover.specs.declared.errors.AbandonError.TheVariants as abandon
-use Rattle.group_members.specs.declared.link.Link.{Link}
+use Rattle.link_group.specs.declared.link.Link.{Link}
 use Rattle.link_processes.specs.Laws.{KeptLaw}
-use Rattle.group_members.specs.OneLink.{number_behind, window, held, messages, handed_by, unknown, is_changing, put_fault, puts, unsure_by, retrieve_fault, retrieve_fault_by, retrieve_fault_in, accepted_in, accepted_of, lacking, hands_out, abandon_by, abandon_fault}
-use Rattle.group_members.specs.Links.{change, fault_at}
-use Rattle.group_members.specs.Failing.{handed, given_up, messages_by, none_known}
-use Rattle.group_members.specs.Moving.{retrieval_by}
+use Rattle.link_group.specs.OneLink.{number_behind, window, held, messages, handed_by, unknown, is_changing, put_fault, puts, unsure_by, retrieve_fault, retrieve_fault_by, retrieve_fault_in, accepted_in, accepted_of, lacking, hands_out, abandon_by, abandon_fault}
+use Rattle.link_group.specs.Links.{change, fault_at}
+use Rattle.link_group.specs.Failing.{handed, given_up, messages_by, none_known}
+use Rattle.link_group.specs.Moving.{retrieval_by}
 use Rattle.link_group.specs.Set.{LinkSet, points_of, send_fault, send_fault_by, change_by, sent, bound_at}
 use Rattle.link_group.specs.Changing.{retrieve_fault_at, after_retrieve, messages_for, abandon_fault_at, after_abandon, unsent_at}
 use Rattle.link_group.specs.Laws.{held_by, held_at}

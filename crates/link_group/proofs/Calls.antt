@@ -7,12 +7,12 @@ use Rattle.su_octets.specs.declared.units.Unit.{Unit}
 use Rattle.link_transceiver.specs.TransceiverState.{TransceiverState}
 use Rattle.link_processes.specs.declared.processes.Processes.{Processes}
 use Rattle.link_processes.specs.Machine.{tidied, sent}
-use Rattle.group_members.specs.Term.{Term}
-use Rattle.group_members.specs.declared.link.Link.{Link}
-use Rattle.group_members.specs.Links.{change}
-use Rattle.group_members.specs.Doing.{Listened, Sent, began, unbegun, leaves_out, asked_of, asked}
-use Rattle.group_members.specs.Hearing.{Hears}
-use Rattle.group_members.specs.TermLaws.{accepted_along}
+use Rattle.link_term.specs.Term.{Term}
+use Rattle.link_group.specs.declared.link.Link.{Link}
+use Rattle.link_group.specs.Links.{change}
+use Rattle.link_group.specs.Doing.{Listened, Sent, began, unbegun, leaves_out, asked_of, asked}
+use Rattle.link_term.specs.Hearing.{Hears}
+use Rattle.link_term.specs.Laws.{accepted_along}
 use Rattle.link_group.specs.Set.{LinkSet}
 use Rattle.link_group.specs.Lines.{ByLink, seen}
 use Rattle.link_group.specs.Ends.{Ends, Lives, place_behind, near_else, far_else}

@@ -1,20 +1,15 @@
 -- Commands that were refused.
-use Rattle.std.proofs.Common.{◌≡◌, ℕ, zero, suc, List, [], ◌∷◌, Option, Some, None, slice_set, refl, sym, ap, ◌∙◌, subst}
-use Rattle.std.specs.Prelude.{slice_get}
+use Rattle.std.proofs.Common.{◌≡◌, ℕ, List, Option, Some, None, slice_set, refl, sym, ap, ◌∙◌, subst}
 use Rattle.link_processes.specs.declared.commands.Command.{Command}
-use Rattle.group_members.specs.declared.commanding.CommandError.{CommandError}
-use Rattle.group_members.specs.declared.commanding.CommandError.TheVariants as error
-use Rattle.group_members.specs.declared.link.Link.{Link}
-use Rattle.group_members.specs.Doing.{AtLink}
-use Rattle.group_members.specs.Commanding.{Commands, Commanded, Barred, Refused, Lacks}
+use Rattle.link_group.specs.declared.commanding.CommandError.{CommandError}
+use Rattle.link_group.specs.declared.commanding.CommandError.TheVariants as error
+use Rattle.link_group.specs.declared.link.Link.{Link}
+use Rattle.link_group.specs.Doing.{AtLink}
+use Rattle.link_group.specs.Commanding.{Commands, Commanded, Barred, Refused, Lacks}
 use Rattle.link_group.specs.Set.{LinkSet}
 use Rattle.link_group.specs.Lines.{Alone, IsCommandError}
 use Rattle.link_group.proofs.Live.{Live, over, live_same, refused_alone}
-
-set_same : (ks : List Link) (l : ℕ) (k : Link) → slice_get ks l ≡ Some k → slice_set ks l k ≡ ks
-set_same [] l k e = refl
-set_same (x ∷ ks) zero k e = let same : x ≡ k = cc in ap (λ (y : Link). y ∷ ks) (sym same)
-set_same (x ∷ ks) (suc l) k e = ap (λ (ys : List Link). x ∷ ys) (set_same ks l k e)
+use Rattle.link_group.proofs.Numbered.{set_same}
 
 alone : (did : Link → Link → Type 0) (l : ℕ) (c : LinkSet) (ks : List Link) → AtLink did l c.links ks → Alone did l c (record c { links = ks })
 alone did l c ks at = record { links = ks; at = at; set = refl }

@@ -4,21 +4,21 @@ use Rattle.std.specs.Prelude.{min, slice_get}
 use Rattle.std.proofs.lemmas.List.Sums.{sum_by-append}
 use Rattle.plain_laws.proofs.Truths.{by_test}
 use Rattle.resend_store.specs.declared.messages.Msu.{Msu}
-use Rattle.group_members.specs.Term.{Term}
+use Rattle.link_term.specs.Term.{Term}
 use Rattle.group_changeover.specs.declared.changeover.Changeover.{Changeover}
-use Rattle.group_members.specs.declared.link.Link.{Link}
-use Rattle.group_members.specs.OneLink.{unknown}
-use Rattle.group_members.specs.Failing.{hears as heard_at, sent_by}
-use Rattle.group_members.specs.Links.{change}
-use Rattle.group_members.specs.Moving.{Diversion, is_out_at, hand_by}
-use Rattle.group_members.specs.Ticking.{passed}
+use Rattle.link_group.specs.declared.link.Link.{Link}
+use Rattle.link_group.specs.OneLink.{unknown}
+use Rattle.link_group.specs.Failing.{hears as heard_at, sent_by}
+use Rattle.link_group.specs.Links.{change}
+use Rattle.link_group.specs.Moving.{Diversion, is_out_at, hand_by}
+use Rattle.link_group.specs.Ticking.{passed}
 use Rattle.link_group.specs.Set.{LinkSet, sent, bound_at}
 use Rattle.group_changeover.specs.Bound.{unbound}
 use Rattle.link_group.specs.Changing.{is_for, after_failure, after_message, after_retrieve, after_abandon}
 use Rattle.link_group.specs.Diverting.{settled, emptied, with_division, after_hand, after_divert}
 use Rattle.link_group.specs.Placing.{rebalanced}
 use Rattle.link_processes.specs.declared.commands.Command.{Command}
-use Rattle.group_members.specs.Commanding.{cleared_at}
+use Rattle.link_group.specs.Commanding.{cleared_at}
 use Rattle.link_group.specs.Lines.{seen, all_seen, after_admission, ByLink, ByCommand, Alone}
 use Rattle.link_group.specs.Ticks.{with_room, after_ticks}
 use Rattle.link_group.specs.New.{new_set}

@@ -16,9 +16,9 @@ use Rattle.group_changeover.proofs.Equal.{Same, same}
 use Rattle.group_changeover.proofs.Unbound.{IsUnbound, unbound-append, unbound-all}
 use Rattle.group_changeover.proofs.Lists.{of-off, of-off_other}
 use Rattle.group_changeover.specs.declared.errors.DivertFault.{DivertFault}
-use Rattle.group_members.specs.declared.link.Link.{Link}
-use Rattle.group_members.specs.OneLink.{held, messages}
-use Rattle.group_members.specs.Moving.{retrieval_by, term_takes, takes_on, Diversion, take_fault, move_fault_by, move_fault, moved_by, moved, Diverted, goes_on, moves}
+use Rattle.link_group.specs.declared.link.Link.{Link}
+use Rattle.link_group.specs.OneLink.{held, messages}
+use Rattle.link_group.specs.Moving.{retrieval_by, term_takes, takes_on, Diversion, take_fault, move_fault_by, move_fault, moved_by, moved, Diverted, goes_on, moves}
 use Rattle.link_group.specs.Set.{LinkSet, points_of}
 use Rattle.link_group.specs.Laws.{held_by, held_at}
 use Rattle.link_group.specs.Reached.{Gone}

@@ -10,21 +10,21 @@ use Rattle.link_transceiver.specs.TransceiverState.{TransceiverState}
 use Rattle.link_processes.specs.Machine.{tidied, to_clear}
 use Rattle.link_processes.specs.declared.commands.Command.{Command}
 use Rattle.link_processes.specs.Laws.{KeptLaw}
-use Rattle.group_members.specs.Kept.{window_of}
-use Rattle.group_members.specs.Term.{Term, with_processes}
+use Rattle.link_term.specs.Kept.{window_of}
+use Rattle.link_term.specs.Term.{Term, with_processes}
 use Rattle.group_changeover.specs.declared.availability.Availability.{Availability}
 use Rattle.group_changeover.specs.Laws.{StepsKeepPlaces}
 use Rattle.group_changeover.specs.Places.{OnePlace}
 use Rattle.group_changeover.specs.Sharing.{link_of}
-use Rattle.group_members.specs.declared.link.Link.{Link}
-use Rattle.group_members.specs.OneLink.{held, messages}
+use Rattle.link_group.specs.declared.link.Link.{Link}
+use Rattle.link_group.specs.OneLink.{held, messages}
 use Rattle.group_changeover.specs.declared.bound.Points.{Points}
 use Rattle.group_changeover.specs.Bound.{unbound}
 use Rattle.group_changeover.proofs.Unbound.{IsUnbound, unbound-nil}
-use Rattle.group_members.specs.Commanding.{starts_anew, marked, started, behind_command, cleared_of, cleared_at, Commanded, Refused}
-use Rattle.group_members.specs.Doing.{Listened, Spoken, Sent, Reported}
-use Rattle.group_members.specs.Moving.{is_out_at, without_hand}
-use Rattle.group_members.specs.New.{IsUnused, fresh}
+use Rattle.link_group.specs.Commanding.{starts_anew, marked, started, behind_command, cleared_of, cleared_at, Commanded, Refused}
+use Rattle.link_group.specs.Doing.{Listened, Spoken, Sent, Reported}
+use Rattle.link_group.specs.Moving.{is_out_at, without_hand}
+use Rattle.link_group.specs.New.{IsUnused, fresh}
 use Rattle.link_group.specs.New.{points, new_set}
 use Rattle.link_group.specs.Set.{LinkSet, points_of, sent, bound_at}
 use Rattle.link_group.specs.Changing.{after_failure, after_message, after_retrieve, messages_for, after_abandon, unsent_at}

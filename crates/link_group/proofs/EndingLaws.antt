@@ -15,12 +15,12 @@ use Rattle.group_changeover.specs.Availability.{retrieval_in, with_retrieval}
 use Rattle.group_changeover.specs.Places.{standing}
 use Rattle.group_changeover.specs.Sharing.{counts_of, link_of, pick}
 use Rattle.group_changeover.specs.declared.errors.DivertFault.{DivertFault}
-use Rattle.group_members.specs.declared.link.Link.{Link}
+use Rattle.link_group.specs.declared.link.Link.{Link}
 use Rattle.group_changeover.specs.declared.bound.Points.{Points}
 use Rattle.group_changeover.proofs.Unbound.{IsUnbound}
-use Rattle.group_members.specs.OneLink.{shares}
-use Rattle.group_members.specs.Links.{change}
-use Rattle.group_members.specs.Moving.{retrieval_by, is_out_at, is_so_out, is_still, is_open, places_from, open_links, others, own_place, way, first_some, takers, is_own, holds_at, takes_on, Diversion, division, Diverted, moves, back_fault, back, gives_back, hands_over, ends_on, ends_at, keeps_at}
+use Rattle.link_group.specs.OneLink.{shares}
+use Rattle.link_group.specs.Links.{change}
+use Rattle.link_group.specs.Moving.{retrieval_by, is_out_at, is_so_out, is_still, is_open, places_from, open_links, others, own_place, way, first_some, takers, is_own, holds_at, takes_on, Diversion, division, Diverted, moves, back_fault, back, gives_back, hands_over, ends_on, ends_at, keeps_at}
 use Rattle.link_group.specs.Set.{LinkSet, points_of}
 use Rattle.link_group.specs.Diverting.{diverted, settled_by, with_division, after_taken}
 use Rattle.link_group.specs.Laws.{held_by, held_at}

@@ -15,13 +15,13 @@ use Rattle.link_processes.specs.Offering.{offer_event}
 use Rattle.group_changeover.specs.declared.changeover.Changeover.{Changeover}
 use Rattle.group_changeover.specs.Saying.{number_in}
 use Rattle.group_changeover.specs.Sharing.{selection_of, link_of}
-use Rattle.group_members.specs.declared.link.Link.{Link}
-use Rattle.group_members.specs.OneLink.{window, number_behind, accepted_of, hands_out as handed_by_number, puts}
-use Rattle.group_members.specs.Doing.{Listened}
-use Rattle.group_members.specs.Failing.{handed, given_up}
-use Rattle.group_members.specs.TermLaws.{accepted_along}
-use Rattle.group_members.specs.Speaking.{given as units_given}
-use Rattle.group_members.specs.Ticking.{roomy, passed}
+use Rattle.link_group.specs.declared.link.Link.{Link}
+use Rattle.link_group.specs.OneLink.{window, number_behind, accepted_of, hands_out as handed_by_number, puts}
+use Rattle.link_group.specs.Doing.{Listened}
+use Rattle.link_group.specs.Failing.{handed, given_up}
+use Rattle.link_term.specs.Laws.{accepted_along}
+use Rattle.link_term.specs.Speaking.{given as units_given}
+use Rattle.link_group.specs.Ticking.{roomy, passed}
 use Rattle.link_group.specs.Set.{LinkSet, change_by, sent, bound_at}
 use Rattle.link_group.specs.Changing.{after_failure, order_at, after_message, reply_to, after_retrieve, after_abandon}
 use Rattle.link_group.specs.Diverting.{after_divert}

@@ -23,7 +23,7 @@ use Rattle.link_transceiver.specs.Laws.{Loses, accepted_of, acknowledged_of}
 use Rattle.link_transceiver.proofs.Acknowledging.{keeps_unacknowledged}
 use Rattle.link_transceiver.proofs.Holding.{holds_back}
 use Rattle.link_transceiver.proofs.Withholding.{withholds as stays_withheld}
-use Rattle.group_members.specs.OneLink.{count_told}
+use Rattle.link_group.specs.OneLink.{count_told}
 use Rattle.link_group.specs.Ends.{Ends, units_in, ends_anew, given, near_sends, far_sends, arrived, place_behind, came_back, Lives, begins, gets, near_goes, far_goes, arrives, is_lost, comes_back, is_lost_back, withholds, acknowledges, near_else, far_else, tells, hears, EndsComplete}
 use Rattle.link_group.proofs.Units.{outgoing_of, outgoing_in, outgoings, outgoings-append, telling_of, telling_in, telling_by, tellings, tellings-append, says_none, fills_in, gives_one, going, SameIntake, tells_none, tells_one, answering, Comes, passes_by, is_judged, status_comes, unit_comes, coming_in, Obeys, ignores, is_obeyed, status_back, unit_back, coming_back, judged_spare}
 use Rattle.link_group.proofs.Sounding.{sound_given, sound_sent, sound_filled, sound_arrived, sound_lost, sound_came_back, sound_lost_back, sound_answered, sound_front, sound_again, sound_place, sound_few, sound_sizes, sound_whole, sound_in_order}

@@ -1,5 +1,5 @@
 -- Fields of messages.
-use Rattle.std.proofs.Common.{◌≡◌, ℕ, ◌≤◌, ◌%◌, Bool, true, false, List, [], ◌∷◌, Option, Some, None, length, drop, arith, refl, sym, ap, subst}
+use Rattle.std.proofs.Common.{◌≡◌, ℕ, ◌≤◌, ◌%◌, Bool, true, false, List, [], ◌∷◌, Option, Some, None, length, drop, arith, refl, sym, ap}
 use Rattle.std.specs.Prelude.{◌↔◌, ◌&&◌, slice_get}
 use Rattle.resend_store.specs.declared.messages.Msu.{Msu}
 use Rattle.group_changeover.specs.declared.bound.Points.{Points}
@@ -9,12 +9,12 @@ use Rattle.group_changeover.specs.declared.labels.Label.{Label}
 use Rattle.group_changeover.specs.declared.changeover.Changeover.{Changeover}
 use Rattle.group_changeover.specs.declared.changeover.Kind.{Kind}
 use Rattle.group_changeover.specs.Labels.{label_in}
-use Rattle.group_changeover.specs.Changeovers.{Reads, Says}
-use Rattle.group_members.specs.declared.link.Link.{Link}
+use Rattle.group_changeover.specs.Changeovers.{Reads}
+use Rattle.link_group.specs.declared.link.Link.{Link}
 use Rattle.link_group.specs.Set.{LinkSet}
-use Rattle.group_members.specs.Links.{read_at}
+use Rattle.link_group.specs.Links.{read_at}
 use Rattle.link_group.specs.Changing.{message, order_by, order_at, IsRead}
-use Rattle.group_members.specs.Failing.{order_of}
+use Rattle.link_group.specs.Failing.{order_of}
 
 pub long_enough : (octets : List ℕ) (l : Label) → label_in octets ≡ Some l → 2 ≤ length octets
 long_enough [] l e = absurd (none_some e)
@@ -39,12 +39,9 @@ order_is : (c : LinkSet) (l : ℕ) (o : Option Link) (k : Kind) → Some k ≡ r
 order_is c l None k e = absurd (some_none e)
 order_is c l (Some link) k e = let same : k ≡ order_of link = cc in ap (message c.own c.peer l) same
 
-pub order_says : (octets : List ℕ) (c : LinkSet) (own peer l : ℕ) (k : Kind) → Says octets (message own peer l k) → Some k ≡ read_at order_of (slice_get c.links l) → c.own ≡ own → c.peer ≡ peer
-    → Says octets (order_at c l)
+pub order_here : (c : LinkSet) (own peer l : ℕ) (k : Kind) → Some k ≡ read_at order_of (slice_get c.links l) → c.own ≡ own → c.peer ≡ peer → message own peer l k ≡ order_at c l
 unfolding order_at
-order_says octets c own peer l k says e o p =
-    let whole : message own peer l k ≡ order_by c l (slice_get c.links l) = rw (sym o, sym p) (order_is c l (slice_get c.links l) k e) in
-    subst (λ (m : Changeover). Says octets m) whole says
+order_here c own peer l k e o p = rw (sym o, sym p) (order_is c l (slice_get c.links l) k e)
 
 -- ---- what a message reads as
 

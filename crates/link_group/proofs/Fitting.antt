@@ -13,10 +13,10 @@ use Rattle.group_changeover.specs.Sharing.{selection_of}
 use Rattle.group_changeover.specs.declared.bound.Points.{Points}
 use Rattle.group_changeover.proofs.Equal.{Same, same}
 use Rattle.group_changeover.proofs.Unbound.{IsUnbound}
-use Rattle.group_members.specs.declared.link.Link.{Link}
-use Rattle.group_members.specs.OneLink.{messages}
-use Rattle.group_members.specs.Links.{change}
-use Rattle.group_members.specs.Moving.{retrieval_by}
+use Rattle.link_group.specs.declared.link.Link.{Link}
+use Rattle.link_group.specs.OneLink.{messages}
+use Rattle.link_group.specs.Links.{change}
+use Rattle.link_group.specs.Moving.{retrieval_by}
 use Rattle.link_group.proofs.Getting.{change_here, change_other}
 
 abbrev pub IsSmall : Msu → Type 0

@@ -3,10 +3,10 @@ use Rattle.std.proofs.Common.{◌≡◌, ℕ, ◌<◌, zero, suc, List, [], ◌�
 use Rattle.std.specs.Prelude.{slice_get, option_map, map}
 use Rattle.std.proofs.lemmas.Option.{slice_get-map}
 use Rattle.plain_laws.proofs.Options.{none_some}
-use Rattle.group_members.specs.declared.link.Link.{Link}
+use Rattle.link_group.specs.declared.link.Link.{Link}
 use Rattle.group_changeover.proofs.Equal.{Same, same}
-use Rattle.group_members.specs.OneLink.{messages}
-use Rattle.group_members.specs.Links.{set_at, change}
+use Rattle.link_group.specs.OneLink.{messages}
+use Rattle.link_group.specs.Links.{set_at, change}
 use Rattle.link_group.specs.Laws.{held_by}
 
 pub set_other : {X : Type 0} (xs : List X) (l j : ℕ) (x : X) → (j ≡ l → ⊥) → slice_get (slice_set xs l x) j ≡ slice_get xs j

@@ -13,17 +13,17 @@ use Rattle.group_changeover.specs.Saying.{is_held_by}
 use Rattle.group_changeover.specs.Limits.{SELECTIONS}
 use Rattle.group_changeover.proofs.Equal.{Same, same}
 use Rattle.link_processes.specs.declared.commands.Command.{Command}
-use Rattle.group_members.specs.declared.link.Link.{Link}
-use Rattle.group_members.specs.Commanding.{cleared_at}
-use Rattle.group_members.specs.Term.{Term}
-use Rattle.group_members.specs.New.{fresh}
-use Rattle.group_members.specs.OneLink.{accepted_of, handed_by, puts, hands_out, with_hold, hold_by}
-use Rattle.group_members.specs.Links.{change}
-use Rattle.group_members.specs.Failing.{changeover_begins_at, marked, hears, handed, given_up, messages_by, none_known}
-use Rattle.group_members.specs.Doing.{began, unbegun, leaves_out, asked, admits_at}
-use Rattle.group_members.specs.Ticking.{roomy, passed}
-use Rattle.group_members.specs.Tables.{forgiven}
-use Rattle.group_members.specs.Moving.{Diversion, Diverted, is_out_at, hand_by, without_hand, takes_on, takers, is_own, moved_by, moved, move_fault, goes_on, moves, back_fault, back, gives_back, division, hands_over, ends_at, keeps_at}
+use Rattle.link_group.specs.declared.link.Link.{Link}
+use Rattle.link_group.specs.Commanding.{cleared_at}
+use Rattle.link_term.specs.Term.{Term}
+use Rattle.link_group.specs.New.{fresh}
+use Rattle.link_group.specs.OneLink.{accepted_of, handed_by, puts, hands_out, with_hold, hold_by}
+use Rattle.link_group.specs.Links.{change}
+use Rattle.link_group.specs.Failing.{changeover_begins_at, marked, hears, handed, given_up, messages_by, none_known}
+use Rattle.link_group.specs.Doing.{began, unbegun, leaves_out, asked, admits_at}
+use Rattle.link_group.specs.Ticking.{roomy, passed}
+use Rattle.link_group.specs.Tables.{forgiven}
+use Rattle.link_group.specs.Moving.{Diversion, Diverted, is_out_at, hand_by, without_hand, takes_on, takers, is_own, moved_by, moved, move_fault, goes_on, moves, back_fault, back, gives_back, division, hands_over, ends_at, keeps_at}
 use Rattle.link_group.specs.Set.{LinkSet, change_by, sent, bound_at}
 use Rattle.link_group.specs.Changing.{is_for, after_failure, after_message, after_retrieve, messages_for, after_abandon, unsent_at}
 use Rattle.link_group.specs.Diverting.{diverted, settled_by, emptied, after_taken}

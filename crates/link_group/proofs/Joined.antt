@@ -12,8 +12,8 @@ use Rattle.group_changeover.specs.declared.changeover.Changeover.{Changeover}
 use Rattle.group_changeover.specs.Bound.{unbound}
 use Rattle.group_changeover.specs.Saying.{is_out, count_in, number_in, begun_by_message}
 use Rattle.group_changeover.proofs.Unbound.{unbound-append}
-use Rattle.group_members.specs.declared.link.Link.{Link}
-use Rattle.group_members.specs.OneLink.{count_told, lacking, accepted_in, accepted_of, window}
+use Rattle.link_group.specs.declared.link.Link.{Link}
+use Rattle.link_group.specs.OneLink.{count_told, lacking, accepted_in, accepted_of, window}
 use Rattle.link_group.specs.Set.{LinkSet}
 use Rattle.link_group.specs.Changing.{is_for, after_message, after_retrieve}
 use Rattle.link_group.specs.Laws.{hand_at}

@@ -12,15 +12,15 @@ use Rattle.group_changeover.specs.declared.availability.Answer.TheVariants as an
 use Rattle.group_changeover.specs.declared.availability.Availability.{Availability}
 use Rattle.group_changeover.specs.declared.availability.Changing.{Changing}
 use Rattle.group_changeover.specs.Availability.{begun_by, fewer_in, waited_in, serves}
-use Rattle.group_members.specs.Term.{Term}
-use Rattle.group_members.specs.declared.link.Link.{Link}
-use Rattle.group_members.specs.OneLink.{puts}
-use Rattle.group_members.specs.Links.{change}
-use Rattle.group_members.specs.Commanding.{Refused, marked as marked_anew}
-use Rattle.group_members.specs.Doing.{admits_at, came, began, unbegun, leaves_out, asked_of, asked}
-use Rattle.group_members.specs.Failing.{changeover_begins_at, handed, given_up}
-use Rattle.group_members.specs.Tables.{forgiven}
-use Rattle.group_members.specs.Ticking.{roomy}
+use Rattle.link_term.specs.Term.{Term}
+use Rattle.link_group.specs.declared.link.Link.{Link}
+use Rattle.link_group.specs.OneLink.{puts}
+use Rattle.link_group.specs.Links.{change}
+use Rattle.link_group.specs.Commanding.{Refused, marked as marked_anew}
+use Rattle.link_group.specs.Doing.{admits_at, came, began, unbegun, leaves_out, asked_of, asked}
+use Rattle.link_group.specs.Failing.{changeover_begins_at, handed, given_up}
+use Rattle.link_group.specs.Tables.{forgiven}
+use Rattle.link_group.specs.Ticking.{roomy}
 use Rattle.link_group.specs.Set.{LinkSet, change_by, sent, bound_at}
 use Rattle.link_group.specs.Changing.{after_failure, after_retrieve, after_abandon}
 use Rattle.link_group.specs.Lines.{ByLink, Alone, after_admission}

@@ -1,10 +1,12 @@
 mod Along
+pub mod Below
 mod Between
 pub mod ByLinks
 mod Calling
 mod Calls
 pub mod Commands
 mod Counting
+pub mod Diversions
 mod Diverting
 mod Each
 mod EndingLaws
@@ -12,6 +14,7 @@ mod Far
 mod Faring
 pub mod Fields
 mod Fitting
+pub mod Fronts
 mod Getting
 mod Hands
 mod Heeding
@@ -20,7 +23,12 @@ mod Leaving
 mod Live
 mod Messages
 mod Near
+mod Numbered
+pub mod Opening
+pub mod Passing
 mod PlacingLaws
+pub mod Refusing
+pub mod Renewing
 pub mod Room
 mod Settling
 mod Shut
@@ -28,6 +36,7 @@ mod Sounding
 mod Staying
 mod Telling
 mod Terminals
+pub mod Turning
 mod Units
 mod Within
 mod Working

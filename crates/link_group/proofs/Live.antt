@@ -23,17 +23,17 @@ use Rattle.group_changeover.specs.declared.changeover.Kind.{Kind}
 use Rattle.group_changeover.specs.Bound.{is_bound}
 use Rattle.group_changeover.specs.Limits.{SELECTIONS}
 use Rattle.group_changeover.specs.Sharing.{selection_of, link_of, selections, pick}
-use Rattle.group_members.specs.declared.link.Link.{Link}
-use Rattle.group_members.specs.Term.{Term}
-use Rattle.group_members.specs.New.{IsUnused, fresh}
-use Rattle.group_members.specs.OneLink.{fault_of, put_fault, puts, bind_fault, retrieve_fault, retrieve_refusal, abandon_fault, is_changing}
-use Rattle.group_members.specs.Links.{change, fault_at}
-use Rattle.group_members.specs.Failing.{fail_fault_of, changeover_begins_at, hears as hears_at, handed, given_up, sent_by}
-use Rattle.group_members.specs.Moving.{able_links, is_out_at, hand_by, without_hand}
-use Rattle.group_members.specs.Tables.{any_below, in_way, forgiven}
-use Rattle.group_members.specs.Doing.{AtLink, Listened, Spoken, Sent, Reported, asked, came_by, came_first, admits_at, admits_by}
-use Rattle.group_members.specs.Ticking.{roomy, passed}
-use Rattle.group_members.specs.Commanding.{cleared_at, Commanded, Refused}
+use Rattle.link_group.specs.declared.link.Link.{Link}
+use Rattle.link_term.specs.Term.{Term}
+use Rattle.link_group.specs.New.{IsUnused, fresh}
+use Rattle.link_group.specs.OneLink.{fault_of, put_fault, puts, bind_fault, retrieve_fault, retrieve_refusal, abandon_fault, is_changing}
+use Rattle.link_group.specs.Links.{change, fault_at}
+use Rattle.link_group.specs.Failing.{fail_fault_of, changeover_begins_at, hears as hears_at, handed, given_up, sent_by}
+use Rattle.link_group.specs.Moving.{able_links, is_out_at, hand_by, without_hand}
+use Rattle.link_group.specs.Tables.{any_below, in_way, forgiven}
+use Rattle.link_group.specs.Doing.{AtLink, Listened, Spoken, Sent, Reported, asked, came_by, came_first, admits_at, admits_by}
+use Rattle.link_group.specs.Ticking.{roomy, passed}
+use Rattle.link_group.specs.Commanding.{cleared_at, Commanded, Refused}
 use Rattle.link_group.specs.Set.{LinkSet, points_of, send_fault, sent, bind_fault_at, bound_at}
 use Rattle.link_group.specs.Changing.{fail_fault, after_failure, is_for, after_message, retrieve_fault_at, after_retrieve, abandon_fault_at, after_abandon}
 use Rattle.link_group.specs.Diverting.{settled, after_hand, after_divert}

@@ -17,10 +17,10 @@ use Rattle.group_changeover.specs.declared.changeover.Kind.{Kind}
 use Rattle.group_changeover.specs.declared.changeover.Kind.TheVariants as kind
 use Rattle.group_changeover.specs.Availability.{changeover_begins, told_by, told_in}
 use Rattle.group_changeover.specs.Saying.{is_late, is_over, is_order, is_changing, count_in, begun_by_message, is_held_by, number_in, answer_by, answer_after, order_after}
-use Rattle.group_members.specs.declared.link.Link.{Link}
-use Rattle.group_members.specs.OneLink.{count_told, with_availability, with_hold, hold_by, accepted_at}
-use Rattle.group_members.specs.Links.{change}
-use Rattle.group_members.specs.Failing.{count_heard, marked, hears, replies, replies_at}
+use Rattle.link_group.specs.declared.link.Link.{Link}
+use Rattle.link_group.specs.OneLink.{count_told, with_availability, with_hold, hold_by, accepted_at}
+use Rattle.link_group.specs.Links.{change}
+use Rattle.link_group.specs.Failing.{count_heard, marked, hears, replies, replies_at}
 use Rattle.link_group.specs.Set.{LinkSet}
 use Rattle.link_group.specs.Changing.{is_for, after_message, order_by, order_at, reply_by, reply_to}
 use Rattle.link_group.specs.Joined.{end_of, end_at, number_of, if_for, counted_in, counted_of, IsTold}

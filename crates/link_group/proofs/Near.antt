@@ -12,13 +12,13 @@ use Rattle.link_processes.specs.Machine.{to_clear}
 use Rattle.group_changeover.specs.declared.availability.Availability.{Availability}
 use Rattle.group_changeover.specs.declared.changeover.Changeover.{Changeover}
 use Rattle.group_changeover.specs.Sharing.{selection_of, link_of}
-use Rattle.group_members.specs.declared.link.Link.{Link}
-use Rattle.group_members.specs.OneLink.{count_told, held, puts}
-use Rattle.group_members.specs.Links.{change}
-use Rattle.group_members.specs.Commanding.{behind_command, started, starts_anew}
-use Rattle.group_members.specs.Doing.{Listened, Spoken, Sent, Reported}
-use Rattle.group_members.specs.Speaking.{given as units_given}
-use Rattle.group_members.specs.Ticking.{roomy, passed}
+use Rattle.link_group.specs.declared.link.Link.{Link}
+use Rattle.link_group.specs.OneLink.{count_told, held, puts}
+use Rattle.link_group.specs.Links.{change}
+use Rattle.link_group.specs.Commanding.{behind_command, started, starts_anew}
+use Rattle.link_group.specs.Doing.{Listened, Spoken, Sent, Reported}
+use Rattle.link_term.specs.Speaking.{given as units_given}
+use Rattle.link_group.specs.Ticking.{roomy, passed}
 use Rattle.link_group.specs.Set.{LinkSet, change_by, sent, bound_at}
 use Rattle.link_group.specs.Changing.{after_failure, after_message, reply_to}
 use Rattle.link_group.specs.Diverting.{after_divert}

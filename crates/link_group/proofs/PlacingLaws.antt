@@ -17,10 +17,10 @@ use Rattle.group_changeover.proofs.Equal.{Same, same}
 use Rattle.group_changeover.proofs.Unbound.{none-of}
 use Rattle.group_changeover.proofs.Lists.{of-nil}
 use Rattle.group_changeover.specs.declared.errors.RebalanceError.TheVariants as rebalance
-use Rattle.group_members.specs.declared.link.Link.{Link}
-use Rattle.group_members.specs.OneLink.{held, messages, is_changing}
-use Rattle.group_members.specs.Moving.{holds, holds_at, able_links, anew_links}
-use Rattle.group_members.specs.Tables.{changing_by, changing_at, held_by_any, or_kept, anew_on, stands_in_way, in_way, any_below, forgiven}
+use Rattle.link_group.specs.declared.link.Link.{Link}
+use Rattle.link_group.specs.OneLink.{held, messages, is_changing}
+use Rattle.link_group.specs.Moving.{holds, holds_at, able_links, anew_links}
+use Rattle.link_group.specs.Tables.{changing_by, changing_at, held_by_any, or_kept, anew_on, stands_in_way, in_way, any_below, forgiven}
 use Rattle.link_group.specs.Set.{LinkSet, points_of}
 use Rattle.link_group.specs.Placing.{table_anew, rebalance_fault, rebalanced}
 use Rattle.link_group.specs.Laws.{held_by, held_at}

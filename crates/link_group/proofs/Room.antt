@@ -1,9 +1,9 @@
 -- Ticks of a set, and want of room.
 use Rattle.std.proofs.Common.{◌≡◌, ℕ, List, Option, map, sym, ◌∙◌, subst}
 use Rattle.std.specs.Prelude.{All}
-use Rattle.group_members.specs.declared.link.Link.{Link}
-use Rattle.group_members.specs.Ticking.{roomy, HasRoom, LacksRoom}
-use Rattle.group_members.proofs.Passing.{all_roomy}
+use Rattle.link_group.specs.declared.link.Link.{Link}
+use Rattle.link_group.specs.Ticking.{roomy, HasRoom, LacksRoom}
+use Rattle.link_group.proofs.Passing.{all_roomy}
 use Rattle.link_group.specs.Set.{LinkSet}
 use Rattle.link_group.specs.Ticks.{NoRoom}
 

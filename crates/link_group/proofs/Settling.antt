@@ -4,9 +4,9 @@ use Rattle.std.specs.Prelude.{slice_get}
 use Rattle.resend_store.specs.declared.messages.Msu.{Msu}
 use Rattle.group_changeover.specs.declared.errors.DivertFault.{DivertFault}
 use Rattle.group_changeover.specs.Sharing.{selections, link_of}
-use Rattle.group_members.specs.declared.link.Link.{Link}
-use Rattle.group_members.specs.Links.{change}
-use Rattle.group_members.specs.Moving.{Diversion, Diverted, division, takers, hands_over, ends_on, ends_at, keeps_at}
+use Rattle.link_group.specs.declared.link.Link.{Link}
+use Rattle.link_group.specs.Links.{change}
+use Rattle.link_group.specs.Moving.{Diversion, Diverted, division, takers, hands_over, ends_on, ends_at, keeps_at}
 use Rattle.link_group.specs.declared.ending.DivertError.TheVariants as error
 use Rattle.link_group.specs.Diverting.{diverted, settled_by, settled, left_by, left_fault}
 

@@ -12,8 +12,8 @@ use Rattle.link_transceiver.proofs.Withholding.{withholds as stays_withheld}
 use Rattle.link_processes.specs.declared.processes.Processes.{Processes}
 use Rattle.link_processes.specs.Machine.{tidied, unit_taken, error_taken, octets_taken, counting_told}
 use Rattle.link_processes.proofs.Keeping.{unit_keeps, error_keeps, octets_keep, counting_keeps}
-use Rattle.group_members.specs.Hearing.{Reads, as_unit, as_error, AreTaken, nothing, unit, errored, sixteen, Hears, silent, octet}
-use Rattle.group_members.specs.TermLaws.{accepted_read, accepted_taken, accepted_along}
+use Rattle.link_term.specs.Hearing.{Reads, as_unit, as_error, AreTaken, nothing, unit, errored, sixteen, Hears, silent, octet}
+use Rattle.link_term.specs.Laws.{accepted_read, accepted_taken, accepted_along}
 use Rattle.link_group.specs.Ends.{Ends, Lives, far_else}
 use Rattle.link_group.proofs.Along.{NearOn, near_same, near_joined, near_signal, FarOn, far_same, far_joined, far_signal, far_at, far_further, far_signals, tidied_same, read_began, taken_began, along_began}
 use Rattle.link_group.proofs.Faring.{held_far}

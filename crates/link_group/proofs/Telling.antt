@@ -10,9 +10,9 @@ use Rattle.group_changeover.specs.declared.changeover.Changeover.{Changeover}
 use Rattle.group_changeover.specs.declared.changeover.Kind.{Kind}
 use Rattle.group_changeover.specs.Availability.{told_by, told_in, told}
 use Rattle.group_changeover.specs.Saying.{is_out, count_in, begun_by_message, answer_by, answer_after}
-use Rattle.group_members.specs.declared.link.Link.{Link}
-use Rattle.group_members.specs.Links.{change}
-use Rattle.group_members.specs.Failing.{count_heard, hears}
+use Rattle.link_group.specs.declared.link.Link.{Link}
+use Rattle.link_group.specs.Links.{change}
+use Rattle.link_group.specs.Failing.{count_heard, hears}
 use Rattle.link_group.specs.Set.{LinkSet}
 use Rattle.link_group.specs.Changing.{is_for, after_message}
 use Rattle.link_group.specs.Joined.{counted_in, counted_of, takes_number}

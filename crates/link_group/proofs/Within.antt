@@ -23,15 +23,15 @@ use Rattle.link_processes.proofs.Keeping.{offered_keeps, sent_keeps}
 use Rattle.group_changeover.specs.declared.availability.Changing.{Changing}
 use Rattle.group_changeover.specs.declared.changeover.Kind.{Kind}
 use Rattle.group_changeover.specs.Saying.{is_held_by, is_out}
-use Rattle.group_members.specs.Term.{Term}
-use Rattle.group_members.specs.declared.link.Link.{Link}
-use Rattle.group_members.specs.OneLink.{with_availability, with_hold, hold_by}
-use Rattle.group_members.specs.Links.{change}
-use Rattle.group_members.specs.Commanding.{behind_command, cleared_at}
-use Rattle.group_members.specs.Doing.{Spoken, Reported, asked}
-use Rattle.group_members.specs.Failing.{marked, hears as hears_at}
-use Rattle.group_members.specs.Speaking.{given as units_given, left}
-use Rattle.group_members.specs.Ticking.{roomy, passed}
+use Rattle.link_term.specs.Term.{Term}
+use Rattle.link_group.specs.declared.link.Link.{Link}
+use Rattle.link_group.specs.OneLink.{with_availability, with_hold, hold_by}
+use Rattle.link_group.specs.Links.{change}
+use Rattle.link_group.specs.Commanding.{behind_command, cleared_at}
+use Rattle.link_group.specs.Doing.{Spoken, Reported, asked}
+use Rattle.link_group.specs.Failing.{marked, hears as hears_at}
+use Rattle.link_term.specs.Speaking.{given as units_given, left}
+use Rattle.link_group.specs.Ticking.{roomy, passed}
 use Rattle.link_group.specs.Set.{LinkSet}
 use Rattle.link_group.specs.Lines.{ByLink, ByCommand, all_seen}
 use Rattle.link_group.specs.Ticks.{with_room, after_ticks}

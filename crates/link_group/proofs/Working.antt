@@ -20,13 +20,13 @@ use Rattle.group_changeover.specs.declared.bound.Points.{Points}
 use Rattle.group_changeover.specs.Bound.{unbound}
 use Rattle.group_changeover.proofs.Equal.{same}
 use Rattle.group_changeover.proofs.Unbound.{unbound-append, unbound-behind}
-use Rattle.group_members.specs.declared.link.Link.{Link}
-use Rattle.group_members.specs.OneLink.{held, messages, window, with_hold, hold_by}
-use Rattle.group_members.specs.Links.{set_at, change}
-use Rattle.group_members.specs.Failing.{changeover_begins_at, count_heard, marked, hears}
-use Rattle.group_members.specs.Term.{term_with_transceiver}
-use Rattle.group_members.specs.Doing.{began, unbegun, leaves_out, anew, bound_told, came, came_first, marked_served, asked_of, asked, came_by, admits_at, admits_by, AtLink}
-use Rattle.group_members.specs.Ticking.{roomy, passed}
+use Rattle.link_group.specs.declared.link.Link.{Link}
+use Rattle.link_group.specs.OneLink.{held, messages, window, with_hold, hold_by}
+use Rattle.link_group.specs.Links.{set_at, change}
+use Rattle.link_group.specs.Failing.{changeover_begins_at, count_heard, marked, hears}
+use Rattle.link_term.specs.Term.{term_with_transceiver}
+use Rattle.link_group.specs.Doing.{began, unbegun, leaves_out, anew, bound_told, came, came_first, marked_served, asked_of, asked, came_by, admits_at, admits_by, AtLink}
+use Rattle.link_group.specs.Ticking.{roomy, passed}
 use Rattle.link_group.specs.Set.{LinkSet, points_of}
 use Rattle.link_group.specs.Changing.{after_failure, is_for, after_message}
 use Rattle.link_group.specs.Placing.{table_anew}

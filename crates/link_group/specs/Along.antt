@@ -9,9 +9,9 @@ use Rattle.link_transceiver.specs.TransceiverState.{TransceiverState}
 use Rattle.actor_machine.specs.declared.event.Event.{Event}
 use Rattle.link_processes.specs.declared.processes.Processes.{Processes}
 use Rattle.link_processes.specs.Machine.{offered, sent}
-use Rattle.group_members.specs.Hearing.{Reads, as_unit, as_error, AreTaken, nothing, unit, errored}
-use Rattle.group_members.specs.Hearing.{sixteen, Hears, silent, octet}
-use Rattle.group_members.specs.TermLaws.{accepted_along}
+use Rattle.link_term.specs.Hearing.{Reads, as_unit, as_error, AreTaken, nothing, unit, errored}
+use Rattle.link_term.specs.Hearing.{sixteen, Hears, silent, octet}
+use Rattle.link_term.specs.Laws.{accepted_along}
 use Rattle.link_group.specs.Ends.{Ends, place_behind, Lives}
 
 -- A unit, where it goes through the stores of an end: none does that bears a status, and none while

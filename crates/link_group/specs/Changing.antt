@@ -10,20 +10,20 @@ use Rattle.group_changeover.specs.declared.changeover.Kind.TheVariants as kind
 use Rattle.group_changeover.specs.declared.saying.Hearing.{Hearing}
 use Rattle.group_changeover.specs.declared.saying.Hearing.TheVariants as hearing
 use Rattle.group_changeover.specs.Changeovers.{Reads, Says}
-use Rattle.group_members.specs.declared.link.Link.{Link}
+use Rattle.link_group.specs.declared.link.Link.{Link}
 use Rattle.group_changeover.specs.declared.errors.FailError.{FailError}
 use Rattle.group_changeover.specs.declared.errors.FailError.TheVariants as fail
 use Rattle.group_changeover.specs.declared.errors.RetrieveError.{RetrieveError}
 use Rattle.group_changeover.specs.declared.errors.RetrieveError.TheVariants as retrieve
 use Rattle.group_changeover.specs.declared.errors.AbandonError.{AbandonError}
 use Rattle.group_changeover.specs.declared.errors.AbandonError.TheVariants as abandon
-use Rattle.group_members.specs.OneLink.{retrieve_fault, accepted_of, abandon_fault}
+use Rattle.link_group.specs.OneLink.{retrieve_fault, accepted_of, abandon_fault}
 use Rattle.link_group.specs.Set.{LinkSet}
-use Rattle.group_members.specs.Links.{change, fault_at}
-use Rattle.group_members.specs.Failing.{fail_fault_of, changeover_begins_at, order_of, hears}
-use Rattle.group_members.specs.Failing.{heard_at}
-use Rattle.group_members.specs.Failing.{replies_at, handed, messages_by, given_up, sent_by}
-use Rattle.group_members.specs.Failing.{none_known}
+use Rattle.link_group.specs.Links.{change, fault_at}
+use Rattle.link_group.specs.Failing.{fail_fault_of, changeover_begins_at, order_of, hears}
+use Rattle.link_group.specs.Failing.{heard_at}
+use Rattle.link_group.specs.Failing.{replies_at, handed, messages_by, given_up, sent_by}
+use Rattle.link_group.specs.Failing.{none_known}
 
 -- ---- a link fails
 

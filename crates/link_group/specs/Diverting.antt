@@ -3,10 +3,10 @@ use Rattle.std.specs.Prelude.{ℕ, if◌then◌else◌, List, length, map, Optio
 use Rattle.resend_store.specs.declared.messages.Msu.{Msu}
 use Rattle.group_changeover.specs.Sharing.{selections, link_of}
 use Rattle.group_changeover.specs.declared.errors.DivertFault.{DivertFault}
-use Rattle.group_members.specs.declared.link.Link.{Link}
-use Rattle.group_members.specs.Links.{change}
-use Rattle.group_members.specs.Moving.{Diversion, Diverted, division, takers, hands_over}
-use Rattle.group_members.specs.Moving.{is_out_at, hand_by, without_hand, ends_on, ends_at, keeps_at}
+use Rattle.link_group.specs.declared.link.Link.{Link}
+use Rattle.link_group.specs.Links.{change}
+use Rattle.link_group.specs.Moving.{Diversion, Diverted, division, takers, hands_over}
+use Rattle.link_group.specs.Moving.{is_out_at, hand_by, without_hand, ends_on, ends_at, keeps_at}
 use Rattle.link_group.specs.declared.ending.DivertError.{DivertError}
 use Rattle.link_group.specs.declared.ending.DivertError.TheVariants as error
 use Rattle.link_group.specs.Set.{LinkSet}

@@ -15,7 +15,7 @@ use Rattle.link_transceiver.specs.Judging.{judged}
 use Rattle.link_transceiver.specs.Going.{gone}
 use Rattle.link_transceiver.specs.Reporting.{reported}
 use Rattle.link_transceiver.specs.Laws.{accepted_of}
-use Rattle.group_members.specs.OneLink.{count_told, lacking}
+use Rattle.link_group.specs.OneLink.{count_told, lacking}
 
 pub record Ends : Type 0 where
   -- the end that sends messages, and the one that accepts them

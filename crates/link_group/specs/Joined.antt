@@ -18,15 +18,15 @@ use Rattle.group_changeover.specs.declared.changeover.Changeover.{Changeover}
 use Rattle.group_changeover.specs.Bound.{unbound}
 use Rattle.group_changeover.specs.Saying.{is_out, count_in, counts_in, number_in, begun_by_message}
 use Rattle.group_changeover.specs.Sharing.{selection_of, link_of}
-use Rattle.group_members.specs.declared.link.Link.{Link}
-use Rattle.group_members.specs.OneLink.{held}
-use Rattle.group_members.specs.Commanding.{behind_command, Refused}
-use Rattle.group_members.specs.Doing.{Listened, Spoken, Sent, Reported}
-use Rattle.group_members.specs.Failing.{handed, given_up}
-use Rattle.group_members.specs.Hearing.{Hears}
-use Rattle.group_members.specs.Speaking.{given as units_given}
-use Rattle.group_members.specs.TermLaws.{accepted_along}
-use Rattle.group_members.specs.Ticking.{roomy, passed}
+use Rattle.link_group.specs.declared.link.Link.{Link}
+use Rattle.link_group.specs.OneLink.{held}
+use Rattle.link_group.specs.Commanding.{behind_command, Refused}
+use Rattle.link_group.specs.Doing.{Listened, Spoken, Sent, Reported}
+use Rattle.link_group.specs.Failing.{handed, given_up}
+use Rattle.link_term.specs.Hearing.{Hears}
+use Rattle.link_term.specs.Speaking.{given as units_given}
+use Rattle.link_term.specs.Laws.{accepted_along}
+use Rattle.link_group.specs.Ticking.{roomy, passed}
 use Rattle.link_group.specs.Set.{LinkSet, sent, bound_at}
 use Rattle.link_group.specs.Changing.{after_failure, order_at, is_for, after_message, reply_to}
 use Rattle.link_group.specs.Changing.{after_retrieve, after_abandon}

@@ -4,9 +4,9 @@ use Rattle.std.specs.List.{count_by}
 use Rattle.resend_store.specs.declared.messages.Msu.{Msu}
 use Rattle.group_changeover.specs.Places.{Places, OnePlace}
 use Rattle.group_changeover.specs.Sharing.{link_of}
-use Rattle.group_members.specs.declared.link.Link.{Link}
-use Rattle.group_members.specs.OneLink.{messages}
-use Rattle.group_members.specs.Moving.{hand_by}
+use Rattle.link_group.specs.declared.link.Link.{Link}
+use Rattle.link_group.specs.OneLink.{messages}
+use Rattle.link_group.specs.Moving.{hand_by}
 use Rattle.link_group.specs.Set.{LinkSet}
 use Rattle.link_group.specs.Reached.{Gone, messages_gone, Reached}
 

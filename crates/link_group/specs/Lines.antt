@@ -1,15 +1,15 @@
 -- What a set does by one of its terminals, and what it makes of a link that comes into service.
 use Rattle.std.specs.Prelude.{◌≡◌, ℕ, ◌+◌, ◌-◌, ◌^◌, min, ◌≤◌, Bool, List, length, map, slice_get}
 use Rattle.std.specs.List.{list_any}
-use Rattle.group_members.specs.declared.link.Link.{Link}
+use Rattle.link_group.specs.declared.link.Link.{Link}
 use Rattle.link_group.specs.Set.{LinkSet}
-use Rattle.group_members.specs.Links.{change}
+use Rattle.link_group.specs.Links.{change}
 use Rattle.link_processes.specs.declared.commands.Command.{Command}
-use Rattle.group_members.specs.declared.commanding.CommandError.{CommandError}
-use Rattle.group_members.specs.declared.commanding.CommandError.TheVariants as error
-use Rattle.group_members.specs.Commanding.{cleared_at, Commanded, Barred, Refused, Lacks}
+use Rattle.link_group.specs.declared.commanding.CommandError.{CommandError}
+use Rattle.link_group.specs.declared.commanding.CommandError.TheVariants as error
+use Rattle.link_group.specs.Commanding.{cleared_at, Commanded, Barred, Refused, Lacks}
 use Rattle.link_group.specs.Placing.{table_if}
-use Rattle.group_members.specs.Doing.{AtLink, asked, came_first, came_by, admits_at, admits_by}
+use Rattle.link_group.specs.Doing.{AtLink, asked, came_first, came_by, admits_at, admits_by}
 
 -- ---- a link comes into service
 

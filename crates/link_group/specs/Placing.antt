@@ -5,11 +5,11 @@ use Rattle.group_changeover.specs.Limits.{SELECTIONS}
 use Rattle.group_changeover.specs.Sharing.{selections, pick}
 use Rattle.group_changeover.specs.declared.errors.RebalanceError.{RebalanceError}
 use Rattle.group_changeover.specs.declared.errors.RebalanceError.TheVariants as rebalance
-use Rattle.group_members.specs.declared.link.Link.{Link}
-use Rattle.group_members.specs.OneLink.{is_changing}
+use Rattle.link_group.specs.declared.link.Link.{Link}
+use Rattle.link_group.specs.OneLink.{is_changing}
 use Rattle.link_group.specs.Set.{LinkSet}
-use Rattle.group_members.specs.Moving.{able_links, anew_links}
-use Rattle.group_members.specs.Tables.{anew_on, in_way, any_below, forgiven}
+use Rattle.link_group.specs.Moving.{able_links, anew_links}
+use Rattle.link_group.specs.Tables.{anew_on, in_way, any_below, forgiven}
 
 -- the table made anew
 unfoldable pub table_anew : List Link → List (Option ℕ) → List (Option ℕ)

@@ -11,12 +11,12 @@ use Rattle.group_changeover.specs.Limits.{SELECTIONS}
 use Rattle.group_changeover.specs.Sharing.{selection_of}
 use Rattle.actor_machine.specs.declared.reply.Refusal.{Refusal}
 use Rattle.link_processes.specs.declared.commands.Command.{Command}
-use Rattle.group_members.specs.Term.{Term}
-use Rattle.group_members.specs.declared.link.Link.{Link}
-use Rattle.group_members.specs.OneLink.{window, held, accepted_of}
-use Rattle.group_members.specs.New.{IsUnused}
-use Rattle.group_members.specs.Doing.{Listened, Spoken, Sent, Reported}
-use Rattle.group_members.specs.Commanding.{cleared_at, Refused}
+use Rattle.link_term.specs.Term.{Term}
+use Rattle.link_group.specs.declared.link.Link.{Link}
+use Rattle.link_group.specs.OneLink.{window, held, accepted_of}
+use Rattle.link_group.specs.New.{IsUnused}
+use Rattle.link_group.specs.Doing.{Listened, Spoken, Sent, Reported}
+use Rattle.link_group.specs.Commanding.{cleared_at, Refused}
 use Rattle.group_changeover.specs.Bound.{is_bound, unbound}
 use Rattle.link_group.specs.Set.{LinkSet, points_of, send_fault, sent, bind_fault_at, bound_at}
 use Rattle.link_group.specs.Changing.{fail_fault, after_failure, after_message, retrieve_fault_at}

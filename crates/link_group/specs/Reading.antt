@@ -1,10 +1,10 @@
 -- What a set tells of one link.
 use Rattle.std.specs.Prelude.{ℕ, length, Option, Some, None, slice_get}
 use Rattle.actor_machine.specs.Ledger.{Ledger}
-use Rattle.group_members.specs.Term.{Term}
+use Rattle.link_term.specs.Term.{Term}
 use Rattle.resend_store.specs.declared.messages.Msu.{Msu}
-use Rattle.group_members.specs.declared.link.Link.{Link}
-use Rattle.group_members.specs.OneLink.{held, window}
+use Rattle.link_group.specs.declared.link.Link.{Link}
+use Rattle.link_group.specs.OneLink.{held, window}
 
 abbrev pub held_count : Link → ℕ
 held_count k = length (held k)

@@ -4,13 +4,13 @@ use Rattle.resend_store.specs.declared.messages.Msu.{Msu}
 use Rattle.group_changeover.specs.Sharing.{selection_of, link_of}
 use Rattle.group_changeover.specs.Bound.{is_bound}
 use Rattle.group_changeover.specs.declared.bound.Points.{Points}
-use Rattle.group_members.specs.declared.link.Link.{Link}
+use Rattle.link_group.specs.declared.link.Link.{Link}
 use Rattle.group_changeover.specs.declared.errors.SendError.{SendError}
 use Rattle.group_changeover.specs.declared.errors.SendError.TheVariants as send
 use Rattle.group_changeover.specs.declared.errors.BindError.{BindError}
 use Rattle.group_changeover.specs.declared.errors.BindError.TheVariants as bind
-use Rattle.group_members.specs.OneLink.{put_fault, puts, bind_fault}
-use Rattle.group_members.specs.Links.{change, fault_at}
+use Rattle.link_group.specs.OneLink.{put_fault, puts, bind_fault}
+use Rattle.link_group.specs.Links.{change, fault_at}
 
 pub record LinkSet : Type 0 where
   -- the codes of this point and of the other

@@ -3,8 +3,8 @@ use Rattle.std.specs.Prelude.{ℕ, ◌&&◌, not, Option, Some, None}
 use Rattle.link_transceiver.specs.TransceiverState.{is_held}
 use Rattle.group_changeover.specs.declared.availability.Answer.{Answer}
 use Rattle.group_changeover.specs.declared.availability.Changing.{Changing}
-use Rattle.group_members.specs.declared.link.Link.{Link}
-use Rattle.group_members.specs.OneLink.{is_serving, hold_of, is_far_out, is_own_out, gives_messages}
+use Rattle.link_group.specs.declared.link.Link.{Link}
+use Rattle.link_group.specs.OneLink.{is_serving, hold_of, is_far_out, is_own_out, gives_messages}
 use Rattle.link_group.specs.declared.state.LinkState.{LinkState}
 
 abbrev pub waited_in : Option Changing → Option ℕ

@@ -1,10 +1,10 @@
 -- Ticks pass on all links of a set, or on none.
 use Rattle.std.specs.Prelude.{◌≡◌, ℕ, List, map, Option, Some}
 use Rattle.actor_machine.specs.declared.reply.Refusal.{Refusal}
-use Rattle.group_members.specs.link_term_types.answers.CallError.{CallError}
-use Rattle.group_members.specs.link_term_types.answers.CallError.TheVariants as call
-use Rattle.group_members.specs.declared.link.Link.{Link}
-use Rattle.group_members.specs.Ticking.{roomy, LacksRoom, first_refusal, passed}
+use Rattle.link_term.specs.declared.answers.CallError.{CallError}
+use Rattle.link_term.specs.declared.answers.CallError.TheVariants as call
+use Rattle.link_group.specs.declared.link.Link.{Link}
+use Rattle.link_group.specs.Ticking.{roomy, LacksRoom, first_refusal, passed}
 use Rattle.link_group.specs.Set.{LinkSet}
 use Rattle.link_group.specs.Lines.{all_seen}
 

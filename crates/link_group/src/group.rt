@@ -1,15 +1,12 @@
 //! The set.
-ghost use Rattle.std.specs.Prelude.{◌≡◌, ◌<◌, length};
+ghost use Rattle.std.specs.Prelude.{◌≡◌, length};
 ghost use Rattle.group_changeover.specs.Sharing.{link_of};
-ghost use Rattle.group_members.specs.Limits.{MOST_LINKS, POINT_CODES};
-ghost use Rattle.group_changeover.specs.Changeovers.{IsKind, Says};
-ghost use Rattle.link_group.specs.Changing.{message};
 ghost use Rattle.link_group.specs.Laws.{Accounted};
 
 use crate::laws::{each_message_stands_in_one_place, unsure_messages_are_counted};
+use crate::link::Link;
 use arrayvec::ArrayVec;
-use group_changeover::{Changeover, Kind, Label, Table};
-use group_members::Link;
+use group_changeover::Table;
 use std::marker::Model;
 
 /// The octets of a message of changeover, as a signalling information field.
@@ -29,7 +26,7 @@ impl Model for Group {
     ghost use Rattle.std.specs.Prelude.{◌<◌, ◌≤◌, length};
     ghost use Rattle.std.specs.Coded.{codes};
     ghost use Rattle.tick_wheel.specs.Timers.{timers_code};
-    ghost use Rattle.group_members.specs.Limits.{MOST_LINKS, POINT_CODES};
+    ghost use Rattle.link_group.specs.Limits.{MOST_LINKS, POINT_CODES};
     ghost use Rattle.link_group.specs.Set.{LinkSet};
     ghost use Rattle.link_group.specs.Reached.{WasReached};
 
@@ -41,22 +38,6 @@ impl Model for Group {
 
     ghost invariant = { λ g. (length g.links.items ≤ MOST_LINKS) × (g.own < POINT_CODES) × (g.peer < POINT_CODES)
         × ∥ WasReached (record { own = g.own; peer = g.peer; links = g.links.items; table = g.table.links; unsure = g.unsure }) ∥₁ };
-}
-
-/// The field of a message of changeover from one point to another.
-pub(crate) fn sif_of(own: u16, peer: u16, link: usize, kind: Kind) -> Sif
-    requires own { own < POINT_CODES }
-    requires peer { peer < POINT_CODES }
-    requires link { link < MOST_LINKS }
-    requires kind { IsKind kind }
-    ensures { Says result.items (message own peer link kind) }
-{
-    let label = Label {
-        dpc: peer,
-        opc: own,
-        sls: link as u8,
-    };
-    Changeover { label, kind }.octets()
 }
 
 impl Group {

@@ -2,27 +2,37 @@
 //! link fails its messages go to the others, in order, but for those of which the far side tells that it has them.
 #![tactic(auto)]
 
+mod commanding;
+mod doing;
 mod ending;
 mod group;
+mod hand;
 mod laws;
 mod lines;
+mod link;
+mod links;
+mod moving;
 mod new;
+mod open;
 mod placing;
 mod reading;
 mod sending;
 mod state;
+mod tables;
+mod ticking;
 mod ticks;
 
+pub use commanding::CommandError;
 pub use ending::DivertError;
 pub use group::{Group, Sif};
-pub use group_changeover::{Answer, Counts, Hearing, Label};
-pub use group_members::{
-    AbandonError, BindError, CallError, Command, CommandError, DivertFault, FailError, LineError,
-    LinkError, LinkStatus, Mode, Msu, RebalanceError, Report, RetrieveError, SendError, Terminal,
+pub use group_changeover::{
+    AbandonError, Answer, BindError, Changeover, Counts, DivertFault, FailError, Hearing, Kind,
+    Label, LineError, LinkError, RebalanceError, RetrieveError, SendError,
 };
 pub use laws::{
     each_message_stands_in_one_place, ends_heed_all_else, retrieval_completes_each_life,
     sets_complete_each_life, terminals_fare_so, unsure_messages_are_counted,
 };
-pub use sending::Heard;
+pub use link_term::{CallError, Command, LinkStatus, Mode, Msu, Report, Terminal};
+pub use sending::{Answered, Heard};
 pub use state::LinkState;

@@ -2,36 +2,39 @@
 ghost use Rattle.std.specs.Prelude.{◌≡◌, ◌↔◌, ◌≤◌, ◌<◌, length, true, slice_get, IfOk, IfErr, OnOk, OnErr, Err};
 ghost use Rattle.link_group.specs.Lines.{ByLink, ByCommand, after_admission, IsCommandError};
 ghost use Rattle.link_group.specs.Placing.{table_if};
-ghost use Rattle.group_members.specs.Limits.{MOST_LINKS};
-ghost use Rattle.group_members.specs.Links.{change};
-ghost use Rattle.group_members.specs.Doing.{Listened, Spoken, Sent, Reported, asked, came_by, admits_at, admits_by, low_at};
+ghost use Rattle.link_group.specs.Limits.{MOST_LINKS};
+ghost use Rattle.link_group.specs.Links.{change};
+ghost use Rattle.link_group.specs.Doing.{Listened, Spoken, Sent, Reported, asked, came_by, admits_at, admits_by, low_at};
 
+use crate::commanding::CommandError;
 use crate::group::Group;
+use crate::link::Link;
 use crate::placing::place_anew;
-use group_changeover::Table;
-use group_members::{
-    Command, CommandError, LineError, Link, LinkError, Report, admit_at, command_at, listen_at,
-    see_at, send_at, speak_at, tell_at,
-};
+use group_changeover::{LineError, LinkError, Table};
+use link_term::{Command, Report};
 use su_octets::Unit;
 
 /// Looks whether a link came into service: as it may have selections for the first time, the table is made anew.
+#[tactic(auto, unfolding(crate::specs::Links::change))]
 fn see(links: &mut [Link], table: &mut Table, at: usize)
-    requires { length links.old ≤ MOST_LINKS }
+    requires few { length links.old ≤ MOST_LINKS }
+    requires there { at < length links.old }
     ensures links { links.new ≡ change links.old at asked }
     ensures table { table.new.links ≡ table_if (came_by (slice_get links.old at)) links.new table.old.links }
 {
-    let first = see_at(links, at);
+    let first = links[at].see();
     place_anew(links, table, first);
 }
 
 /// Level 3 admits a link, or does no longer: as it may have selections for the first time, the table is made anew.
+#[tactic(auto, unfolding(crate::specs::Links::change))]
 fn admit(links: &mut [Link], table: &mut Table, at: usize, way: bool)
-    requires { length links.old ≤ MOST_LINKS }
+    requires few { length links.old ≤ MOST_LINKS }
+    requires there { at < length links.old }
     ensures links { links.new ≡ change links.old at (admits_at way) }
     ensures table { table.new.links ≡ table_if (admits_by way (slice_get links.old at)) links.new table.old.links }
 {
-    let first = admit_at(links, at, way);
+    let first = links[at].admit(way);
     place_anew(links, table, first);
 }
 
@@ -68,7 +71,7 @@ impl Group {
         if link >= self.links.len() {
             return Err(LinkError::NoLink);
         }
-        let taken = listen_at(self.links.as_mut_slice(), link, octets);
+        let taken = self.links[link].listen(octets);
         see(self.links.as_mut_slice(), &mut self.table, link);
         Ok(taken)
     }
@@ -86,7 +89,7 @@ impl Group {
         if link >= self.links.len() {
             return Err(LineError::NoLink);
         }
-        match speak_at(self.links.as_mut_slice(), link, units) {
+        match self.links[link].speak(units) {
             Ok(octets) => {
                 see(self.links.as_mut_slice(), &mut self.table, link);
                 Ok(octets)
@@ -109,7 +112,7 @@ impl Group {
         if link >= self.links.len() {
             return Err(LineError::NoLink);
         }
-        match send_at(self.links.as_mut_slice(), link) {
+        match self.links[link].send() {
             Ok(unit) => {
                 see(self.links.as_mut_slice(), &mut self.table, link);
                 Ok(unit)
@@ -131,7 +134,7 @@ impl Group {
         if link >= self.links.len() {
             return Err(LinkError::NoLink);
         }
-        let report = tell_at(self.links.as_mut_slice(), link);
+        let report = self.links[link].tell();
         see(self.links.as_mut_slice(), &mut self.table, link);
         Ok(report)
     }
@@ -151,7 +154,7 @@ impl Group {
         if link >= self.links.len() {
             return Err(CommandError::NoLink);
         }
-        match command_at(self.links.as_mut_slice(), link, command) {
+        match self.links[link].command(command) {
             Ok(cleared) => {
                 self.unsure = self.unsure.saturating_add(cleared as u64);
                 see(self.links.as_mut_slice(), &mut self.table, link);

@@ -1,12 +1,15 @@
 //! New sets.
-ghost use Rattle.std.specs.Prelude.{◌≡◌, ◌<◌, ◌≤◌, All, vec_len, IfOk, IfErr};
-ghost use Rattle.group_members.specs.Limits.{MOST_LINKS, POINT_CODES};
-ghost use Rattle.group_members.specs.New.{IsUnused};
-ghost use Rattle.link_group.specs.New.{new_set};
+ghost use Rattle.std.specs.Prelude.{◌≡◌, ◌<◌, ◌≤◌, All, vec_len, IfOk, IfErr, [], map, vec_capacity};
+ghost use Rattle.link_group.specs.Limits.{MOST_LINKS, POINT_CODES};
+ghost use Rattle.link_group.specs.New.{IsUnused, new_set, fresh};
 
 use crate::group::Group;
-use group_changeover::Points;
-use group_members::{Terminal, able_links, all_fresh, table_of};
+use crate::hand::Hand;
+use crate::link::Link;
+use crate::open::able_links;
+use crate::tables::table_of;
+use group_changeover::{Availability, Behind, Points};
+use link_term::{Hold, Terminal};
 use std::alloc::Global;
 
 impl Group {
@@ -45,4 +48,44 @@ impl Group {
             unsure: 0,
         })
     }
+}
+
+/// A link over a terminal.
+fn fresh(alloc: Global, points: Points, mut terminal: Terminal) -> Link
+    ensures { result ≡ fresh points terminal }
+{
+    let _came = terminal.came_into_service();
+    let _began = terminal.began_anew();
+    terminal.hold(Hold::Free);
+    let served = terminal.in_service();
+    Link {
+        points,
+        terminal,
+        availability: Availability {
+            served,
+            admitted: true,
+            anew: false,
+            failed: false,
+            behind: Behind::Nothing,
+            changing: None,
+        },
+        hand: Hand::empty(alloc),
+    }
+}
+
+/// Links over terminals, for which there is room.
+pub(crate) fn all_fresh(
+    alloc: Global,
+    points: Points,
+    terminals: Vec<Terminal>,
+    mut links: Vec<Link>,
+) -> Vec<Link>
+    requires empty { links.items ≡ [] }
+    requires room { vec_len terminals ≤ vec_capacity links }
+    ensures { result.items ≡ map (fresh points) terminals.items }
+{
+    for terminal in terminals {
+        links.push_reserved(fresh(alloc, points, terminal));
+    }
+    links
 }

@@ -1,17 +1,16 @@
 //! Selections get links.
 ghost use Rattle.std.specs.Prelude.{◌≡◌, ◌≤◌, length, false, OnOk, OnErr};
-ghost use Rattle.group_members.specs.Limits.{MOST_LINKS};
+ghost use Rattle.link_group.specs.Limits.{MOST_LINKS};
 ghost use Rattle.group_changeover.specs.Sharing.{selections};
-ghost use Rattle.group_members.specs.OneLink.{fault_of};
-ghost use Rattle.group_members.specs.Moving.{able_links, anew_links};
+ghost use Rattle.link_group.specs.OneLink.{fault_of};
+ghost use Rattle.link_group.specs.Moving.{able_links, anew_links};
 ghost use Rattle.link_group.specs.Placing.{table_if, rebalance_fault, rebalanced};
 
 use crate::group::Group;
-use group_changeover::Table;
-use group_members::{
-    Link, RebalanceError, able_links, anew_links, any_changing, any_in_way, forgive_all,
-    table_anew, table_of,
-};
+use crate::link::Link;
+use crate::open::{able_links, anew_links};
+use crate::tables::{any_changing, any_in_way, forgive_all, table_anew, table_of};
+use group_changeover::{RebalanceError, Table};
 
 /// Makes the table anew, as a link may have selections for the first time, for all selections but those whose link is in changeover, and those of
 /// which any link holds messages.

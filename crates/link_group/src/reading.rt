@@ -1,16 +1,16 @@
 //! What a set tells of its links.
 ghost use Rattle.std.specs.Prelude.{◌≡◌, slice_get};
 ghost use Rattle.std.specs.Option.{option_copied};
-ghost use Rattle.group_members.specs.OneLink.{held};
-ghost use Rattle.group_members.specs.Links.{read_at};
+ghost use Rattle.link_group.specs.OneLink.{held};
+ghost use Rattle.link_group.specs.Links.{read_at};
 ghost use Rattle.link_group.specs.Reading.{held_count, sent_count, message_at, terminal_of, book_of};
-ghost use Rattle.group_members.specs.Tables.{changing_by};
-ghost use Rattle.group_members.specs.Moving.{retrieval_of, hand_count};
+ghost use Rattle.link_group.specs.Tables.{changing_by};
+ghost use Rattle.link_group.specs.Moving.{retrieval_of, hand_count};
 
 use crate::group::Group;
 use group_changeover::Counts;
-use group_members::{Msu, Terminal, hand_of, retrieval_of};
 use link_processes::Book;
+use link_term::{Msu, Terminal};
 
 impl Group {
     /// How many messages a link holds, if it is there.
@@ -57,7 +57,10 @@ impl Group {
     pub fn hand(&self, link: usize) -> Option<usize>
         ensures { result ≡ hand_count (slice_get self.now.links link) }
     {
-        hand_of(self.links.as_slice(), link)
+        match self.links.get(link) {
+            Some(link) => link.handed(),
+            None => None,
+        }
     }
 
     /// How many of these there are of each selection, as they were counted when the link handed them out, and anew when a diversion left some
@@ -65,7 +68,13 @@ impl Group {
     pub fn hand_counts(&self, link: usize) -> Option<Counts>
         ensures { result ≡ retrieval_of (slice_get self.now.links link) }
     {
-        retrieval_of(self.links.as_slice(), link)
+        match self.links.get(link) {
+            Some(link) => match link.availability.changing {
+                Some(changing) => changing.retrieval,
+                None => None,
+            },
+            None => None,
+        }
     }
 
     /// The terminal of a link, if it is there.

@@ -1,29 +1,69 @@
 //! Messages to send, and messages of a changeover.
-ghost use Rattle.std.specs.Prelude.{◌≡◌, true, Option, Some, length, OnOk, OnErr, IfOk, ◌<◌};
+ghost use Rattle.std.specs.Prelude.{◌≡◌, true, Option, Some, length, OnOk, OnErr, IfOk, IfSome, ◌<◌};
 ghost use Rattle.group_changeover.specs.Limits.{SELECTIONS};
 ghost use Rattle.group_changeover.specs.Sharing.{selection_of};
 ghost use Rattle.group_changeover.specs.Labels.{label_in, IsLabel};
-ghost use Rattle.group_changeover.specs.Changeovers.{Says};
+ghost use Rattle.group_changeover.specs.Changeovers.{IsKind, Says};
+ghost use Rattle.link_group.specs.Limits.{MOST_LINKS, POINT_CODES};
 ghost use Rattle.group_changeover.specs.declared.changeover.Changeover.{Changeover as PlainChangeover};
-ghost use Rattle.group_members.specs.OneLink.{fault_of, retrieve_refusal, abandon_refusal};
+ghost use Rattle.link_group.specs.OneLink.{fault_of, retrieve_refusal, abandon_refusal};
 ghost use Rattle.group_changeover.specs.Bound.{is_bound};
+ghost use Rattle.link_group.specs.Encodable.{IsEncodable};
 ghost use Rattle.link_group.specs.Set.{points_of, send_fault, sent, bind_fault_at, bound_at};
-ghost use Rattle.link_group.specs.Changing.{fail_fault, after_failure, order_at, is_for, IsReply, IsRead, after_message, hearing_of, reply_to, retrieve_fault_at, after_retrieve, messages_for, abandon_fault_at, after_abandon, unsent_at};
+ghost use Rattle.link_group.specs.Changing.{message, fail_fault, after_failure, order_at, is_for, IsReply, IsRead, after_message, hearing_of, reply_to, retrieve_fault_at, after_retrieve, messages_for, abandon_fault_at, after_abandon, unsent_at};
 
-use crate::group::{Group, Sif, sif_of};
-use group_changeover::{Changeover, Hearing, Label, Points, read_changeover, selection_of};
-use group_members::{
-    AbandonError, BindError, FailError, Msu, RetrieveError, SendError, abandon_at, bind_at,
-    fail_at, hear_at, heard_at, put_at, retrieve_at,
+use crate::group::{Group, Sif};
+use crate::links::{abandon_at, bind_at, fail_at, hear_at, heard_at, put_at, retrieve_at};
+use group_changeover::{
+    AbandonError, BindError, Changeover, FailError, Hearing, Kind, Label, Points, RetrieveError,
+    SendError, read_changeover, selection_of,
 };
+use link_term::Msu;
 
-/// What a message that came was, and the field of the answer to send.
-#[derive(Debug, Drop)]
-pub struct Heard {
+/// What a message that came was, and the answer to send.
+#[derive(Clone, Copy, Debug, PartialEq, Eq)]
+pub struct Answered {
     /// What it was.
     pub hearing: Hearing,
     /// The answer, to an order.
+    pub reply: Option<Changeover>,
+}
+
+/// What octets that came were, and the field of the answer to send.
+#[derive(Debug, Drop)]
+pub struct Heard {
+    /// What they were.
+    pub hearing: Hearing,
+    /// The answer, to an order.
     pub reply: Option<Sif>,
+}
+
+/// A message of changeover from one point to another.
+fn message(own: u16, peer: u16, link: usize, kind: Kind) -> Changeover
+    requires own { own < POINT_CODES }
+    requires peer { peer < POINT_CODES }
+    requires link { link < MOST_LINKS }
+    requires kind { IsKind kind }
+    ensures is { result ≡ message own peer link kind }
+    ensures encodable { IsEncodable result }
+{
+    let label = Label {
+        dpc: peer,
+        opc: own,
+        sls: link as u8,
+    };
+    Changeover { label, kind }
+}
+
+/// The field of an answer, if there is one.
+fn sif_of(reply: Option<Changeover>) -> Option<Sif>
+    requires { IfSome reply IsEncodable }
+    ensures { IsReply reply result }
+{
+    match reply {
+        Some(message) => Some(message.octets()),
+        None => None,
+    }
 }
 
 impl Group {
@@ -81,20 +121,36 @@ impl Group {
         bind_at(self.links.as_mut_slice(), link, msu)
     }
 
-    /// A link fails: its changeover begins. The field of the order to send for it, by another link (Q.704, changeover).
+    /// A link fails: its changeover begins. The order to send for it, by another link (Q.704, changeover).
     ///
     /// # Errors
     ///
     /// `K1 NoLink` where it isn't there, `K2 Waiting` where its changeover goes on. Nothing changes then.
     #[tactic(auto, unfolding(crate::specs::Changing::fail_fault, crate::specs::Changing::after_failure))]
+    pub fn begin_changeover(&mut self, link: usize) -> Result<Changeover, FailError>
+        ensures fault { fault_of result ≡ fail_fault self.old link }
+        ensures order { IfOk result (λ order. order ≡ order_at self.old link) }
+        ensures encodable { IfOk result IsEncodable }
+        ensures ok { OnOk result (self.new ≡ after_failure self.old link) }
+        ensures err { OnErr result (self.new ≡ self.old) }
+    {
+        let kind = fail_at(self.links.as_mut_slice(), link)?;
+        Ok(message(self.own, self.peer, link, kind))
+    }
+
+    /// The same, with the field of that order.
+    ///
+    /// # Errors
+    ///
+    /// Those of [`Group::begin_changeover`]. Nothing changes then.
     pub fn fail(&mut self, link: usize) -> Result<Sif, FailError>
         ensures fault { fault_of result ≡ fail_fault self.old link }
         ensures order { IfOk result (λ sif. Says sif.items (order_at self.old link)) }
         ensures ok { OnOk result (self.new ≡ after_failure self.old link) }
         ensures err { OnErr result (self.new ≡ self.old) }
     {
-        let kind = fail_at(self.links.as_mut_slice(), link)?;
-        Ok(sif_of(self.own, self.peer, link, kind))
+        let order = self.begin_changeover(link)?;
+        Ok(order.octets())
     }
 
     /// Whether a message is for this point, from the other.
@@ -115,24 +171,39 @@ impl Group {
         heard_at(self.links.as_slice(), link, message.kind)
     }
 
-    /// What a message leads to.
-    fn hear(&mut self, message: Changeover) -> Option<Sif>
-        requires { IsLabel message.label }
-        ensures set { self.new ≡ after_message self.old (Some message) }
-        ensures reply { IsReply (reply_to self.old (Some message)) result }
+    /// What a message leads to, and what is answered.
+    fn answer(&mut self, heard: Changeover) -> Option<Changeover>
+        requires { IsLabel heard.label }
+        ensures set { self.new ≡ after_message self.old (Some heard) }
+        ensures reply { result ≡ reply_to self.old (Some heard) }
+        ensures encodable { IfSome result IsEncodable }
     {
-        if !self.is_for(message) {
+        if !self.is_for(heard) {
             return None;
         }
-        let link = usize::from(message.label.sls);
-        match hear_at(self.links.as_mut_slice(), link, message.kind) {
-            Some(kind) => Some(sif_of(self.own, self.peer, link, kind)),
+        let link = usize::from(heard.label.sls);
+        match hear_at(self.links.as_mut_slice(), link, heard.kind) {
+            Some(kind) => Some(message(self.own, self.peer, link, kind)),
             None => None,
         }
     }
 
-    /// Takes the field of a message that came, and tells what it was, with that of the answer to send, if any. Octets that aren't just a message
-    /// of changeover, from the other point to this one and of a link that is there, change nothing and get no answer.
+    /// Takes a message of changeover that came, and tells what it was, with the answer to send, if any. One that isn't from the other point to this
+    /// one, or is about a link that isn't there, changes nothing and gets no answer.
+    pub fn hear(&mut self, message: Changeover) -> Answered
+        requires { IsLabel message.label }
+        ensures set { self.new ≡ after_message self.old (Some message) }
+        ensures hearing { result.hearing ≡ hearing_of self.old (Some message) }
+        ensures reply { result.reply ≡ reply_to self.old (Some message) }
+        ensures encodable { IfSome result.reply IsEncodable }
+    {
+        let hearing = self.hearing(message);
+        let reply = self.answer(message);
+        Answered { hearing, reply }
+    }
+
+    /// The same of the field of a message that came, with that of the answer. Octets that aren't just a message of changeover change nothing and get
+    /// no answer.
     pub fn changeover_message(&mut self, sif: &[u8]) -> Heard
         ensures set { (m : Option PlainChangeover) → IsRead sif.now m → self.new ≡ after_message self.old m }
         ensures hearing { (m : Option PlainChangeover) → IsRead sif.now m → result.hearing ≡ hearing_of self.old m }
@@ -140,9 +211,11 @@ impl Group {
     {
         match read_changeover(sif) {
             Some(message) => {
-                let hearing = self.hearing(message);
-                let reply = self.hear(message);
-                Heard { hearing, reply }
+                let answered = self.hear(message);
+                Heard {
+                    hearing: answered.hearing,
+                    reply: sif_of(answered.reply),
+                }
             }
             None => Heard {
                 hearing: Hearing::Nothing,

@@ -1,12 +1,12 @@
 //! What a link is, as level 3 sees it.
 ghost use Rattle.std.specs.Prelude.{◌≡◌, slice_get};
 ghost use Rattle.group_changeover.specs.Saying.{count_in};
-ghost use Rattle.group_members.specs.Links.{read_at};
+ghost use Rattle.link_group.specs.Links.{read_at};
 ghost use Rattle.link_group.specs.Stating.{waited_in, answer_in, state_of};
 
 use crate::group::Group;
+use crate::link::Link;
 use group_changeover::{Answer, Changing};
-use group_members::Link;
 
 /// What a link is.
 #[derive(Clone, Copy, Debug, PartialEq, Eq)]

@@ -1,16 +1,19 @@
 //! Ticks.
 ghost use Rattle.std.specs.List.{list_any};
 ghost use Rattle.std.specs.Prelude.{◌≡◌, ◌≤◌, length, map, None, IfOk, IfErr, OnOk};
-ghost use Rattle.group_members.specs.Limits.{MOST_LINKS};
-ghost use Rattle.group_members.specs.Doing.{asked, came_first};
-ghost use Rattle.group_members.specs.Ticking.{all_due};
+ghost use Rattle.link_group.specs.Limits.{MOST_LINKS};
+ghost use Rattle.link_group.specs.Doing.{asked, came_first};
+ghost use Rattle.link_group.specs.Ticking.{all_due};
 ghost use Rattle.link_group.specs.Placing.{table_if};
 ghost use Rattle.link_group.specs.Ticks.{with_room, tick_fault, after_ticks, IsTickError};
 
+use crate::doing::see_all;
 use crate::group::Group;
+use crate::link::Link;
 use crate::placing::place_anew;
+use crate::ticking::{make_room_all, pass_all, tick_refusal};
 use group_changeover::Table;
-use group_members::{CallError, Link, make_room_all, pass_all, see_all, tick_refusal};
+use link_term::CallError;
 
 /// Looks which links came into service: as one may have selections for the first time, the table is made anew.
 fn see_each(links: &mut [Link], table: &mut Table)

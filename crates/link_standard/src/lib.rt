@@ -4,5 +4,5 @@
 mod opening;
 
 pub use link_term::{CallError, Command, LinkStatus, Mode, Msu, OpenError, Report, Terminal};
-pub use mtp2_text::{LoadFault, STANDARD, Verified, load, standard};
+pub use mtp2_text::{LoadFault, OwnSet, Verified, load, standard};
 pub use opening::{NewError, new_terminal};

@@ -9,41 +9,18 @@ use Rattle.draw_sets.specs.Noting.{AreNoted}
 use Rattle.link_term.specs.Wanted.{wanted, Has, IsFirstLacking}
 use Rattle.link_term.specs.WantedText.{wanted_text}
 use Rattle.link_term.specs.link_processes_types.wanted.Wanted.{Wanted}
-use Rattle.script_check.specs.Checked.{given, IsGiven, IsRefusal, IsRefusedAt, IsSetOf}
+use Rattle.script_check.specs.Checked.{IsGiven, IsRefusal, IsRefusedAt, IsSetOf}
 use Rattle.script_check.specs.Fronts.{in_front}
 use Rattle.script_check.specs.Printed.{refusal_line}
 use Rattle.script_check.specs.declared.sets.Refusal.{Refusal}
-use Rattle.script_check.specs.declared.sets.SetWord.{SetWord}
-use Rattle.script_check.specs.declared.sets.SetWord.TheVariants.{Standard as standard_set, Q703 as q703_set, Monitors as monitors_set, Text}
 use Rattle.script_check.specs.turn_code_types.draft.Draft.{Draft}
-use Rattle.mtp2_words.specs.declared.requests.Named.{Named}
-use Rattle.mtp2_words.specs.declared.requests.Named.TheVariants.{Standard, Q703, Monitors, Stdin, File}
 use Rattle.mtp2_play.specs.Compared.{same_text, terminal_text, way_lines, AreAlike, AreFound, IsCompared, IsSummary, PrintsDifference, PrintsSide, SaysTerminal}
-use Rattle.mtp2_play.specs.Sets.{own_set_of, own_text_of}
 
 -- ---- whose sets these are
 
 -- what holds of bytes of which something may be known holds of some bytes
 pub of_some : (known : Option (List ℕ)) (P : List ℕ → Type 0) → IsGiven known P → IsGiven None P
 of_some known P g = record { bytes = g.bytes; are_known = tt; holds = g.holds }
-
--- what holds of the set of the program's own that is named holds of its text
-pub of_own : {R : Type 0} (remaining : R → Option (List ℕ)) (set : Named) (own : SetWord R) (P : List ℕ → Type 0) → own_set_of set ≡ Some own
-    → IsGiven (given remaining own) P → IsGiven (own_text_of set) P
-of_own remaining Standard standard_set P is g = g
-of_own remaining Standard q703_set P is g = search (rules, is)
-of_own remaining Standard monitors_set P is g = search (rules, is)
-of_own remaining Standard (Text text) P is g = search (rules, is)
-of_own remaining Q703 standard_set P is g = search (rules, is)
-of_own remaining Q703 q703_set P is g = g
-of_own remaining Q703 monitors_set P is g = search (rules, is)
-of_own remaining Q703 (Text text) P is g = search (rules, is)
-of_own remaining Monitors standard_set P is g = search (rules, is)
-of_own remaining Monitors q703_set P is g = search (rules, is)
-of_own remaining Monitors monitors_set P is g = g
-of_own remaining Monitors (Text text) P is g = search (rules, is)
-of_own remaining Stdin own P is g = of_some _ P g
-of_own remaining (File path) own P is g = of_some _ P g
 
 -- ---- where one of them is refused
 

@@ -1,8 +1,6 @@
 -- What holds of bytes of which something may be known holds of some bytes.
 use Rattle.std.proofs.Common.{subst, sym, ◌≡◌, ◌⊎◌, ℕ, Bool, false, inl, inr, List, Option, None, Some, rules, arith}
-use Rattle.script_check.specs.Checked.{given, IsGiven, PrintsCosts, PrintsRefusal}
-use Rattle.script_check.specs.declared.sets.SetWord.{SetWord}
-use Rattle.script_check.specs.declared.sets.SetWord.TheVariants.{Standard as standard_set, Q703 as q703_set, Monitors as monitors_set, Text}
+use Rattle.script_check.specs.Checked.{IsGiven, PrintsCosts, PrintsRefusal}
 use Rattle.script_play.specs.Played.{IsOnSet, IsPlayed, IsPlayedInPart, IsNotRun, IsRefused, set_refused, script_refused}
 use Rattle.script_play.specs.Seen.{IsPlaySeen, IsPlaySeenInPart, IsWatched, IsWatchedInPart}
 use Rattle.script_play.specs.declared.seeing.Wanted.{Wanted}
@@ -21,9 +19,8 @@ use Rattle.mtp2_words.specs.declared.ends.LineEnd.{LineEnd}
 use Rattle.mtp2_words.specs.declared.set_ends.SetEnd.{SetEnd}
 use Rattle.mtp2_play.specs.Printed.{IsDone, IsSetRun, IsSpoken, IsPlayedOn, IsWatchedOn}
 use Rattle.mtp2_words.specs.Limits.{usual_limits_of}
-use Rattle.mtp2_play.specs.Sets.{own_set_of, own_text_of}
+use Rattle.mtp2_play.specs.Sets.{own_text_of}
 use Rattle.mtp2_words.specs.declared.requests.Named.{Named}
-use Rattle.mtp2_words.specs.declared.requests.Named.TheVariants.{Standard, Q703, Monitors, Stdin, File}
 
 some_bytes : (known : Option (List ℕ)) (P : List ℕ → Type 0) → IsGiven known P → IsGiven None P
 some_bytes known P g = record { bytes = g.bytes; are_known = tt; holds = g.holds }
@@ -50,24 +47,6 @@ spoken known usual end status old new s = record {
   ends = s.ends;
 }
 
--- the set of the program's own that is named is over its text
-pub spoken_over_own : {R : Type 0} (remaining : R → Option (List ℕ)) (set : Named) (own : SetWord R) (usual : RoundLimits) (end : LineEnd) (status : ℕ) (old new : Line)
-    → own_set_of set ≡ Some own → IsSpoken (given remaining own) usual end status old new → IsSpoken (own_text_of set) usual end status old new
-spoken_over_own remaining Standard standard_set usual end status old new is s = s
-spoken_over_own remaining Standard q703_set usual end status old new is s = search (rules, is)
-spoken_over_own remaining Standard monitors_set usual end status old new is s = search (rules, is)
-spoken_over_own remaining Standard (Text text) usual end status old new is s = search (rules, is)
-spoken_over_own remaining Q703 standard_set usual end status old new is s = search (rules, is)
-spoken_over_own remaining Q703 q703_set usual end status old new is s = s
-spoken_over_own remaining Q703 monitors_set usual end status old new is s = search (rules, is)
-spoken_over_own remaining Q703 (Text text) usual end status old new is s = search (rules, is)
-spoken_over_own remaining Monitors standard_set usual end status old new is s = search (rules, is)
-spoken_over_own remaining Monitors q703_set usual end status old new is s = search (rules, is)
-spoken_over_own remaining Monitors monitors_set usual end status old new is s = s
-spoken_over_own remaining Monitors (Text text) usual end status old new is s = search (rules, is)
-spoken_over_own remaining Stdin own usual end status old new is s = search (rules, is)
-spoken_over_own remaining (File path) own usual end status old new is s = search (rules, is)
-
 -- ---- `set`
 
 pub set_run : (known : Option (List ℕ)) (plan : SetPlan) (ahead status : ℕ) → IsSetRun known plan ahead status → IsSetRun None plan ahead status
@@ -76,24 +55,6 @@ set_run known plan ahead status s = record {
   refused = λ h. some_bytes known (IsNoSet None None) (s.refused h);
   ends = s.ends;
 }
-
--- the set of the program's own that is named is over its text
-pub set_over_own : {R : Type 0} (remaining : R → Option (List ℕ)) (set : Named) (own : SetWord R) (plan : SetPlan) (ahead status : ℕ) → own_set_of set ≡ Some own
-    → IsSetRun (given remaining own) plan ahead status → IsSetRun (own_text_of set) plan ahead status
-set_over_own remaining Standard standard_set plan ahead status is s = s
-set_over_own remaining Standard q703_set plan ahead status is s = search (rules, is)
-set_over_own remaining Standard monitors_set plan ahead status is s = search (rules, is)
-set_over_own remaining Standard (Text text) plan ahead status is s = search (rules, is)
-set_over_own remaining Q703 standard_set plan ahead status is s = search (rules, is)
-set_over_own remaining Q703 q703_set plan ahead status is s = s
-set_over_own remaining Q703 monitors_set plan ahead status is s = search (rules, is)
-set_over_own remaining Q703 (Text text) plan ahead status is s = search (rules, is)
-set_over_own remaining Monitors standard_set plan ahead status is s = search (rules, is)
-set_over_own remaining Monitors q703_set plan ahead status is s = search (rules, is)
-set_over_own remaining Monitors monitors_set plan ahead status is s = s
-set_over_own remaining Monitors (Text text) plan ahead status is s = search (rules, is)
-set_over_own remaining Stdin own plan ahead status is s = search (rules, is)
-set_over_own remaining (File path) own plan ahead status is s = search (rules, is)
 
 not_two : (status : ℕ) → (status ≡ 0) ⊎ (status ≡ 4) → status ≡ 2 → ⊥
 not_two status (inl done) two = omega (arith, done, two)
@@ -119,9 +80,6 @@ set_over known plan ahead status tender new ran ends = record {
 pub set_turned_down : (known : Option (List ℕ)) (plan : SetPlan) (ahead status : ℕ) → (status ≡ 2 → IsGiven known (IsNoSet None None)) → (status ≡ 2) ⊎ (status ≡ 4)
     → IsSetRun known plan ahead status
 set_turned_down known plan ahead status why ends = record { ran = λ done. absurd (not_zero status ends done); refused = why; ends = inr ends }
-
-pub set_failed : (known : Option (List ℕ)) (plan : SetPlan) (ahead status : ℕ) → status ≡ 4 → IsSetRun known plan ahead status
-set_failed known plan ahead status four = set_turned_down known plan ahead status (λ two. absurd (omega (arith, four, two))) (inr four)
 
 -- by the limits of the set that is named
 pub planned : (known : Option (List ℕ)) (set : Named) (links : ℕ) (end : SetEnd) (limits : RoundLimits) (status : ℕ) → limits ≡ usual_limits_of set

@@ -3,7 +3,7 @@ use Rattle.std.proofs.Common.{◌≡◌, ℕ, Bool, List, Option, ap}
 use Rattle.line_filter.specs.Acts.{Act}
 use Rattle.line_filter.specs.Filters.{Goes, Serves, Served, IsOver, ServesPart, IsBegun, Streams, Line}
 use Rattle.line_filter.specs.Orders.{Timed, Tells, nothing, says, TellsAll, Obeys}
-use Rattle.line_filter.specs.Runs.{State, Exchanges, ObeysDue, no_order, one_order, ObeysAll, Minds, Behind, between, eighth, Steps, Runs, begins, octet}
+use Rattle.line_filter.specs.Runs.{State, Exchanges, ObeysDue, no_order, one_order, looks, ObeysAll, Minds, Behind, between, eighth, Steps, Runs, begins, octet}
 use Rattle.line_filter.specs.Speaking.{Voice, Gives, fixed, fresh, silent}
 use Rattle.line_filter.specs.declared.filter.Bits.{Bits}
 
@@ -47,6 +47,7 @@ obeys_due : {A B : Type 0} (f : A → B) (acts : A → Act → A → Type 0) (ot
 obeys_due f acts others m now t left _ _ _ no_order = no_order
 obeys_due f acts others m now t left _ _ _ (one_order text more w last before next goes_on obeyed) =
     one_order text more (f w) last (obeys_due f acts others m now t left _ _ _ before) next goes_on (obeys f acts others m now _ text more w obeyed)
+obeys_due f acts others m now t left _ _ _ (looks more last before looked) = looks more last (obeys_due f acts others m now t left _ _ _ before) looked
 
 obeys_all : {A B : Type 0} (f : A → B) (acts : A → Act → A → Type 0) (others : B → Act → B → Type 0) (m : Maps f acts others) (now : ℕ) (s : State A) (bytes : List ℕ)
     (goes_on : Bool) (t : State A) → ObeysAll acts now s bytes goes_on t → ObeysAll others now (at f s) bytes goes_on (at f t)

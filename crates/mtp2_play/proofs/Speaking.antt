@@ -60,6 +60,12 @@ of_term orders one other bits ahead old new same h =
     let P : Term → Type 0 = λ t. Spoke orders t bits ahead old new in
     subst P same h
 
+pub begun_of : {A : Type 0} (orders : Option A) (one other : Term) (bits : Bits) (ahead : ℕ) (old new : Line) → other ≡ one → Begun orders other bits ahead old new
+    → Begun orders one bits ahead old new
+begun_of orders one other bits ahead old new same h =
+    let P : Term → Type 0 = λ t. Begun orders t bits ahead old new in
+    subst P same h
+
 -- the limits by another name
 pub over_limits : (known : Option (List ℕ)) (one other : RoundLimits) (mode : Mode) (term : Term) → one ≡ other → IsGiven known (IsNewOver one mode term)
     → IsGiven known (IsNewOver other mode term)

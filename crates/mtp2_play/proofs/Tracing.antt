@@ -1,14 +1,14 @@
 -- An end of a link with a trace does on its line what it does without.
 use Rattle.std.proofs.Common.{◌≡◌, ℕ, List, Option, subst, sym}
+use Rattle.line_filter.specs.Orders.{Timed}
 use Rattle.line_filter.specs.Filters.{IsOver, IsBegun, Streams, Line}
 use Rattle.line_filter.specs.Runs.{State}
 use Rattle.line_filter.specs.declared.desk.Desk.{Desk}
 use Rattle.line_filter.specs.declared.filter.Bits.{Bits}
-use Rattle.line_filter.specs.declared.stream.LineOrders.{LineOrders}
 use Rattle.line_play.specs.Lines.{end_acts}
 use Rattle.line_play.specs.Term.{Term}
 use Rattle.line_play.specs.declared.link_end.LinkEnd.{LinkEnd}
-use Rattle.mtp2_play.specs.Spoken.{AreGiven}
+use Rattle.mtp2_play.specs.Spoken.{AreGiven, ordered_by}
 use Rattle.mtp2_play.specs.TracedEnds.{traced_acts}
 use Rattle.mtp2_play.specs.declared.traces.TracedEnd.{TracedEnd}
 use Rattle.mtp2_play.proofs.Mapped.{Maps, at, over, begun}
@@ -33,11 +33,16 @@ pub begun_alone : {W : Type 0} (contents : W → Option (List ℕ)) (bits : Bits
 begun_alone contents bits ahead count s old new x = begun end_of (traced_acts contents) end_acts (acts_alone contents) bits ahead count s old new x
 
 -- the orders that a desk has are those that it was made with
-pub given_to : {A R : Type 0} (orders : Option A) (known : R → Option (List ℕ)) (one other : LineOrders R) → other ≡ one → AreGiven orders (known one.reader)
-    → AreGiven orders (known other.reader)
-given_to {R = R} orders known one other same given =
-    let P : LineOrders R → Type 0 = λ o. AreGiven orders (known o.reader) in
+pub given_to : {A O : Type 0} (orders : Option A) (known : O → Option (List ℕ)) (one other : O) → other ≡ one → AreGiven orders (known one) → AreGiven orders (known other)
+given_to {O = O} orders known one other same given =
+    let P : O → Type 0 = λ o. AreGiven orders (known o) in
     subst P (sym same) given
+
+pub ordered_to : {O : Type 0} (left : O → Option (List Timed)) (known : O → Option (List ℕ)) (one other : O) → other ≡ one → left one ≡ ordered_by (known one)
+    → left other ≡ ordered_by (known other)
+ordered_to {O = O} left known one other same ordered =
+    let P : O → Type 0 = λ o. left o ≡ ordered_by (known o) in
+    subst P (sym same) ordered
 
 -- so is its terminal that of its end
 pub terminal_of : {W : Type 0} (one other : TracedEnd W) (term : Term) → other ≡ one → one.end.terminal ≡ term → other.end.terminal ≡ term

@@ -24,6 +24,8 @@ use Rattle.mtp2_words.specs.declared.ends.LineEnd.{LineEnd}
 use Rattle.mtp2_play.specs.Compared.{IsCompared}
 use Rattle.mtp2_play.specs.Sets.{own_text_of}
 use Rattle.mtp2_words.specs.Limits.{usual_limits_of}
+use Rattle.mtp2_words.specs.Own.{text_of}
+use Rattle.mtp2_words.specs.mtp2_text_types.own.OwnSet.{OwnSet}
 use Rattle.mtp2_words.specs.declared.seeing.Seeing.{Seeing}
 use Rattle.mtp2_words.specs.declared.seeing.Sight.{Sight}
 use Rattle.mtp2_words.specs.declared.seeing.Sight.TheVariants as sights
@@ -141,9 +143,9 @@ pub record IsSetRun (known : Option (List ℕ)) (plan : SetPlan) (ahead status :
   pub refused : status ≡ 2 → IsGiven known (IsNoSet None None)
   pub ends : IsDone status
 
--- what `text` prints: the text of the set of the program's own that is named
-pub record IsPrinted (set : Named) (status : ℕ) (old new : Option (List ℕ)) : Type 0 where
-  pub held : status ≡ 0 → IsSomeAnd (own_text_of set) (Appends old new)
+-- what `text` prints: the text of a set of the program's own
+pub record IsPrinted (set : OwnSet) (status : ℕ) (old new : Option (List ℕ)) : Type 0 where
+  pub held : status ≡ 0 → Appends old new (text_of set)
   pub ends : (status ≡ 0) ⊎ (status ≡ 4)
 
 -- what a request has printed, and with which exit status; only `line` reads what is handed to it

@@ -1,10 +1,11 @@
 //! The command `check`, on one set or on several.
-ghost use Rattle.std.specs.Prelude.{◌≡◌, ◌⊎◌, None};
+ghost use Rattle.std.specs.Prelude.{◌≡◌, ◌⊎◌, None, Some};
 ghost use Rattle.script_check.specs.Checked.{IsGiven, PrintsCosts, PrintsRefusal};
+ghost use Rattle.mtp2_words.specs.Own.{text_of};
 ghost use Rattle.mtp2_play.specs.Printed.{AreCheckedAll, IsChecked};
 
 use crate::sets::{STDIN, own_set, set_word};
-use mtp2_words::Named;
+use mtp2_words::{Named, OwnSet};
 use plain_text::{NamedReader, Teller};
 use script_check::{FAILED, HELD, SetWord, check, in_front};
 use std::alloc::Global;
@@ -16,16 +17,20 @@ use std::rt::Runtime;
 fn check_own<H: Eprint, W: Write>(
     alloc: Global,
     teller: &Teller<'_, H>,
-    set: &Named<'_>,
+    own: OwnSet,
     writer: &mut W,
 ) -> u8
-    ensures printed { IsChecked set.now result (W.contents writer.old) (W.contents writer.new) }
+    ensures costs { result ≡ 0 → IsGiven (Some (text_of own)) (PrintsCosts (W.contents writer.old) (W.contents writer.new)) }
+    ensures refusal { result ≡ 2 → IsGiven (Some (text_of own)) (PrintsRefusal (W.contents writer.old) (W.contents writer.new)) }
     ensures status { (result ≡ 0) ⊎ (result ≡ 2) ⊎ (result ≡ 4) }
 {
-    match own_set(set) {
-        Some(own) => check(alloc, own, set_word(set), writer, &mut teller.errors()),
-        None => FAILED,
-    }
+    check(
+        alloc,
+        own_set(own),
+        own.word(),
+        writer,
+        &mut teller.errors(),
+    )
 }
 
 /// Runs `check` on a text that comes from a reader.
@@ -61,12 +66,7 @@ fn run_check<R: Runtime + AllocGlobal, H: Eprint, W: Write>(
     ensures status { (result ≡ 0) ⊎ (result ≡ 2) ⊎ (result ≡ 4) }
 {
     match set {
-        Named::Standard | Named::Q703 | Named::Monitors => check_own(
-            rt.alloc(),
-            teller,
-            &set,
-            writer,
-        ),
+        Named::Own(own) => check_own(rt.alloc(), teller, own, writer),
         Named::Stdin => {
             let text = NamedReader::new(teller, STDIN, rt.reader());
             check_text(rt.alloc(), teller, set_word(&set), text, writer)

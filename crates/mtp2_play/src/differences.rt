@@ -6,18 +6,16 @@ ghost use Rattle.script_check.specs.Checked.{given, IsGiven, IsRefusal, IsSetOf}
 ghost use Rattle.script_check.specs.Fronts.{in_front};
 ghost use Rattle.script_check.specs.Printed.{refusal_line};
 ghost use Rattle.mtp2_play.specs.Compared.{same_text, terminal_text, way_lines, AreAlike, AreFound, IsCompared, IsSummary, PrintsDifference, PrintsSide, SaysTerminal};
+ghost use Rattle.mtp2_words.specs.Own.{text_of};
 ghost use Rattle.mtp2_play.specs.Sets.{own_text_of};
 
 use crate::sets::{STDIN, own_set, set_word};
 use draw_diff::{Difference, compare, lines_in, ways_in};
 use draw_sets::with_statements;
 use link_term::Names;
-use mtp2_words::Named;
+use mtp2_words::{Named, OwnSet};
 use plain_text::{NamedReader, Teller, read_text};
-use script_check::{
-    FAILED, HELD, MONITORS, Q703, REFUSED, Refusal, STANDARD, SetWord, find_set, in_front,
-    refuse_set,
-};
+use script_check::{FAILED, HELD, REFUSED, Refusal, SetWord, find_set, in_front, refuse_set};
 use std::alloc::{AllocError, Global};
 use std::io::{self, Read, Write};
 use std::rt::Runtime;
@@ -140,32 +138,21 @@ fn read_side<H: Eprint, S: Read + Drop, W: Write>(
     }
 }
 
-/// The text of a set of the program's own.
-fn own_text(set: &Named<'_>) -> &'static str {
-    match set {
-        Named::Q703 => Q703,
-        Named::Monitors => MONITORS,
-        _ => STANDARD,
-    }
-}
-
 /// A set of the program's own, or the exit status where there is none.
 fn own_side<H: Eprint, W: Write>(
     alloc: Global,
     teller: &Teller<'_, H>,
     named: SideName<'_>,
-    set: &Named<'_>,
+    own: OwnSet,
     writer: &mut W,
 ) -> Result<Side, u8>
-    ensures set { IfOk result (λ side. IsGiven (own_text_of set.now) (λ bytes. IsSetOf bytes side.set)) }
+    ensures set { IfOk result (λ side. IsGiven (Some (text_of own)) (λ bytes. IsSetOf bytes side.set)) }
     ensures kept { IfOk result (λ _. W.contents writer.new ≡ W.contents writer.old) }
-    ensures refused { IfErr result (λ s. s ≡ 2 → IsGiven (own_text_of set.now) (PrintsSide named.entry.side.now (W.contents writer.old) (W.contents writer.new))) }
+    ensures refused { IfErr result (λ s. s ≡ 2 → IsGiven (Some (text_of own)) (PrintsSide named.entry.side.now (W.contents writer.old) (W.contents writer.new))) }
     ensures status { IfErr result (λ s. (s ≡ 2) ⊎ (s ≡ 4)) }
 {
-    match own_set(set) {
-        Some(own) => with_text(alloc, teller, named, own, own_text(set).as_bytes(), writer),
-        None => Err(FAILED),
-    }
+    let text = own.text().as_bytes();
+    with_text(alloc, teller, named, own_set(own), text, writer)
 }
 
 /// One of the sets that the command line names, or the exit status where there is none.
@@ -184,9 +171,7 @@ fn named_side<R: Runtime + AllocGlobal, H: Eprint, W: Write>(
     let name = set_word(&set);
     let named = SideName { side, name };
     match set {
-        Named::Standard | Named::Q703 | Named::Monitors => {
-            own_side(rt.alloc(), teller, named, &set, writer)
-        }
+        Named::Own(own) => own_side(rt.alloc(), teller, named, own, writer),
         Named::Stdin => {
             let reader = NamedReader::new(teller, STDIN, rt.reader());
             read_side(rt.alloc(), teller, named, reader, writer)

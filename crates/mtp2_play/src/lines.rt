@@ -1,14 +1,15 @@
 //! The command `line`.
-ghost use Rattle.std.specs.Prelude.{◌≡◌, ◌⊎◌, None};
+ghost use Rattle.std.specs.Prelude.{◌≡◌, ◌⊎◌, None, Some};
 ghost use Rattle.script_check.specs.Checked.{given};
 ghost use Rattle.mtp2_words.specs.Limits.{usual_limits_of};
+ghost use Rattle.mtp2_words.specs.Own.{text_of};
 ghost use Rattle.mtp2_play.specs.Sets.{own_text_of};
 ghost use Rattle.mtp2_play.specs.Printed.{IsSpoken};
 
 use crate::running::run_line as run_on;
 use crate::sets::own_set;
 use line_play::SetWord;
-use mtp2_words::{LineEnd, Named};
+use mtp2_words::{LineEnd, Named, OwnSet};
 use plain_text::{NamedReader, Teller};
 use script_check::FAILED;
 use std::fs::{self, File};
@@ -74,18 +75,16 @@ fn line_own<H: Files<File = File> + Threads + Eprint + Clock + AllocGlobal, R: R
     host: &H,
     teller: &Teller<'_, H>,
     set: &Named<'_>,
+    own: OwnSet,
     end: &LineEnd<'_>,
     reader: &mut R,
     writer: &mut W,
 ) -> u8
-    ensures { IsSpoken (own_text_of set.now) (usual_limits_of set.now) end.now result
+    ensures { IsSpoken (Some (text_of own)) (usual_limits_of set.now) end.now result
         (record { read = R.remaining reader.old; written = W.contents writer.old })
         (record { read = R.remaining reader.new; written = W.contents writer.new }) }
 {
-    match own_set(set) {
-        Some(own) => line_on(host, teller, set, end, own, reader, writer),
-        None => FAILED,
-    }
+    line_on(host, teller, set, end, own_set(own), reader, writer)
 }
 
 /// Runs `line`: line octets come from a reader, and go to a writer. Gives the exit status: 0 at the end of the line or at the order `quit`, 2 where
@@ -111,9 +110,7 @@ pub fn run_line<H: Files<File = File> + Threads + Eprint + Clock + AllocGlobal, 
             }
             Err(error) => teller.fail(path, &error),
         },
-        Named::Standard | Named::Q703 | Named::Monitors => line_own(
-            host, teller, set, end, reader, writer,
-        ),
+        Named::Own(own) => line_own(host, teller, set, *own, end, reader, writer),
         Named::Stdin => FAILED,
     }
 }

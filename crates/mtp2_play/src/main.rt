@@ -88,7 +88,7 @@ fn run<
             process,
             states,
         } => run_draw(rt, teller, *set, &picture_of(*process, *states), writer),
-        Request::Print { set } => print_own(set, writer),
+        Request::Print { set } => print_own(*set, writer),
         Request::Diff { old, new } => run_diff(rt, teller, *old, *new, writer),
     }
 }

@@ -5,8 +5,7 @@ use crate::sets::{STDIN, own_set};
 use draw_sets::{Picture, draw};
 use mtp2_words::Named;
 use plain_text::{NamedReader, Teller};
-use script_check::{FAILED, SetWord};
-use std::alloc::Global;
+use script_check::SetWord;
 use std::fs;
 use std::io::Write;
 use std::rt::Runtime;
@@ -25,16 +24,6 @@ pub fn picture_of(process: Option<&str>, states: bool) -> Picture<'_> {
     }
 }
 
-/// Draws a set of the program's own.
-fn draw_own<W: Write>(alloc: Global, set: &Named<'_>, picture: &Picture<'_>, writer: &mut W) -> u8
-    ensures { (result ≡ 0) ⊎ (result ≡ 2) ⊎ (result ≡ 4) }
-{
-    match own_set(set) {
-        Some(own) => draw(alloc, own, picture, writer),
-        None => FAILED,
-    }
-}
-
 /// Runs `draw` on the set that the command line names.
 pub fn run_draw<R: Runtime + AllocGlobal, H: Eprint, W: Write>(
     rt: &R,
@@ -46,12 +35,7 @@ pub fn run_draw<R: Runtime + AllocGlobal, H: Eprint, W: Write>(
     ensures { (result ≡ 0) ⊎ (result ≡ 2) ⊎ (result ≡ 4) }
 {
     match set {
-        Named::Standard | Named::Q703 | Named::Monitors => draw_own(
-            rt.alloc(),
-            &set,
-            picture,
-            writer,
-        ),
+        Named::Own(own) => draw(rt.alloc(), own_set(own), picture, writer),
         Named::Stdin => {
             let text = NamedReader::new(teller, STDIN, rt.reader());
             draw(rt.alloc(), SetWord::Text(text), picture, writer)

@@ -4,12 +4,13 @@ ghost use Rattle.script_check.specs.Checked.{given};
 ghost use Rattle.script_play.specs.Played.{IsOnSet, IsRefused};
 ghost use Rattle.script_play.specs.Seen.{IsPlaySeen, IsPlaySeenInPart, IsWatched, IsWatchedInPart};
 ghost use Rattle.mtp2_words.specs.Limits.{usual_limits_of};
+ghost use Rattle.mtp2_words.specs.declared.requests.Named.TheVariants.{Own};
 ghost use Rattle.mtp2_play.specs.Printed.{IsPlayedOn, IsWatchedOn, path_by, wanted_for, wanted_by};
 
 use crate::sets::{STDIN, own_set, set_word};
-use mtp2_words::{Named, Seeing, Sight, Source};
+use mtp2_words::{Named, OwnSet, Seeing, Sight, Source};
 use plain_text::{NamedReader, Teller};
-use script_check::{FAILED, SetWord};
+use script_check::SetWord;
 use script_play::{Cut, Told, Wanted, play, play_seen};
 use std::alloc::Global;
 use std::fs;
@@ -142,19 +143,26 @@ fn play_source<R: Runtime + AllocGlobal, H: Eprint, S: Read + Drop, F: Write, W:
 fn play_own<R: Runtime + AllocGlobal, H: Eprint, F: Write, W: Write>(
     rt: &R,
     teller: &Teller<'_, H>,
-    set: Named<'_>,
+    own: OwnSet,
     script: Source<'_>,
     watch: &mut Watch<F>,
     writer: &mut W,
 ) -> u8
-    ensures printed { IsWatchedOn set.entry watch.old.echo watch.old.wanted result (W.contents writer.old) (W.contents writer.new)
+    ensures printed { IsWatchedOn (Own own) watch.old.echo watch.old.wanted result (W.contents writer.old) (W.contents writer.new)
         (option_map F.contents watch.old.out) (option_map F.contents watch.new.out) }
     ensures status { (result ≡ 0) ⊎ (result ≡ 1) ⊎ (result ≡ 2) ⊎ (result ≡ 4) }
 {
-    match own_set(&set) {
-        Some(own) => play_source(rt, teller, own, &set, set_word(&set), script, watch, writer),
-        None => FAILED,
-    }
+    let named = Named::Own(own);
+    play_source(
+        rt,
+        teller,
+        own_set(own),
+        &named,
+        own.word(),
+        script,
+        watch,
+        writer,
+    )
 }
 
 /// Runs a script on a set whose text comes from a reader.
@@ -207,9 +215,7 @@ fn run_watched<R: Runtime + AllocGlobal, H: Eprint, F: Write, W: Write>(
     ensures status { (result ≡ 0) ⊎ (result ≡ 1) ⊎ (result ≡ 2) ⊎ (result ≡ 4) }
 {
     match set {
-        Named::Standard | Named::Q703 | Named::Monitors => play_own(
-            rt, teller, set, script, watch, writer,
-        ),
+        Named::Own(own) => play_own(rt, teller, own, script, watch, writer),
         Named::Stdin => {
             let text = NamedReader::new(teller, STDIN, rt.reader());
             play_text(

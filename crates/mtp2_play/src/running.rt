@@ -1,19 +1,19 @@
 //! One end of a link on its line, from its first octet to its last.
-ghost use Rattle.std.specs.Prelude.{◌≡◌, ◌⊎◌, None, IfOk, min};
+ghost use Rattle.std.specs.Prelude.{◌≡◌, ◌⊎◌, ℕ, List, Option, None, IfOk, min};
 ghost use Rattle.line_filter.specs.Filters.{MOST_AHEAD};
 ghost use Rattle.line_filter.specs.Speaking.{IsSilent};
-ghost use Rattle.line_filter.specs.Reading.{left_of};
 ghost use Rattle.line_play.specs.Checked.{given, IsGiven};
 ghost use Rattle.line_play.specs.Opening.{IsNoSet};
-ghost use Rattle.line_streams.specs.Known.{known_of};
+ghost use Rattle.line_streams.specs.Known.{known_of, left_of};
 ghost use Rattle.mtp2_words.specs.Limits.{usual_limits_of};
 ghost use Rattle.mtp2_play.specs.Spoken.{AreGiven, ordered_by, SpokeBy, Spoke, SpokeOver, Begun, BegunOver, IsUntouched};
 
 use crate::measuring::write_measures;
 use crate::traced::{end_trace, open_traced, serve_traced, traced_desk};
-use line_filter::{LineOrders, Reports};
+use crate::traces::TracedEnd;
+use line_filter::{Orders, Reports};
 use line_play::{Desk, LinkEnd, MOST_AHEAD, SetWord, Terminal, link_desk, new_terminal, run_link};
-use line_streams::{OrderStream, ReportStream, open_orders, open_reports};
+use line_streams::{OrderStream, RecordStream, ReportStream, keep_apart, open_orders, open_reports};
 use mtp2_words::{LineEnd, Named};
 use plain_text::{Errors, FAILED, Teller};
 use std::alloc::Global;
@@ -26,7 +26,7 @@ use std::time::Clock;
 /// What orders come from, and where reports go.
 #[derive(Drop)]
 struct Streams<'a, H: Eprint> {
-    orders: LineOrders<OrderStream>,
+    orders: OrderStream,
     reports: ReportStream<Errors<'a, H>>,
     /// Where measurements go, if somewhere.
     measures: Option<File>,
@@ -81,14 +81,17 @@ fn open_streams<'a, H: Files<File = File> + Threads + Eprint + AllocGlobal>(
     teller: &Teller<'_, H>,
     end: &LineEnd<'_>,
 ) -> io::Result<Streams<'a, H>>
-    ensures given { IfOk result (λ s. AreGiven end.now.orders (known_of s.orders.reader)) }
-    ensures orders { IfOk result (λ s. left_of known_of s.orders ≡ ordered_by (known_of s.orders.reader)) }
+    ensures given { IfOk result (λ s. AreGiven end.now.orders (known_of s.orders)) }
+    ensures orders { IfOk result (λ s. left_of s.orders ≡ ordered_by (known_of s.orders)) }
 {
     let alloc = host.alloc();
     let orders = match open_orders(host, alloc, end.orders) {
         Ok(orders) => orders,
         Err(error) => return Err(told(teller, end.orders, error)),
     };
+    if let Err(error) = keep_apart(host, end.orders, end.reports) {
+        return Err(told(teller, Some(end.reports.unwrap_or("standard error")), error));
+    }
     let errors = Errors { rt: host };
     let reports = match open_reports(host, alloc, end.reports, errors) {
         Ok(reports) => reports,
@@ -96,29 +99,49 @@ fn open_streams<'a, H: Files<File = File> + Threads + Eprint + AllocGlobal>(
     };
     let measures = create(host, teller, end.measures)?;
     Ok(Streams {
-        orders: LineOrders::new(alloc, orders),
+        orders,
         reports,
         measures,
     })
 }
 
-/// Runs a terminal on its line, behind the octets that go ahead, by the orders that whole lines say.
-fn serve<O: Read, P: Reports, R: Read, W: Write>(
+/// Ends a run: what was measured is written, and reports that are still to go on are waited for. Gives the exit status: the one that is given, or 4.
+fn end_streams<H: Files + Eprint + Clock + AllocGlobal>(
+    host: &H,
+    measures: Option<File>,
+    terminal: &Terminal,
+    reports: &mut ReportStream<Errors<'_, H>>,
+    now: u64,
+    status: u8,
+) -> u8
+    requires { (status ≡ 0) ⊎ (status ≡ 4) }
+    ensures zero { result ≡ 0 → status ≡ 0 }
+    ensures status { (result ≡ 0) ⊎ (result ≡ 4) }
+{
+    let measured = end_measures(host.alloc(), measures, terminal);
+    match reports.end(host, now) {
+        Ok(()) => status_of(status, measured),
+        Err(_) => FAILED,
+    }
+}
+
+/// Runs a terminal on its line, behind the octets that go ahead.
+fn serve<O: Orders, P: Reports, R: Read, W: Write>(
     alloc: Global,
     end: &LineEnd<'_>,
-    desk: &mut Desk<LinkEnd, LineOrders<O>, P>,
+    desk: &mut Desk<LinkEnd, O, P>,
     reader: &mut R,
     writer: &mut W,
 ) -> u8
     requires none_held { desk.old.terminal.held ≡ None }
     requires silent { IsSilent desk.old.voice }
-    requires given { AreGiven end.now.orders (O.remaining desk.old.orders.reader) }
-    requires ordered { left_of O.remaining desk.old.orders ≡ ordered_by (O.remaining desk.old.orders.reader) }
     requires new { desk.old.count ≡ 0 }
-    ensures spoke { result ≡ 0 → SpokeBy (O.remaining desk.old.orders.reader) desk.old.terminal.terminal end.now.bits (min end.now.ahead MOST_AHEAD)
+    ensures spoke { (octets : Option (List ℕ)) → O.left desk.old.orders ≡ ordered_by octets → result ≡ 0
+        → SpokeBy octets desk.old.terminal.terminal end.now.bits (min end.now.ahead MOST_AHEAD)
         (record { read = R.remaining reader.old; written = W.contents writer.old; told = P.stand desk.old.reports })
         (record { read = R.remaining reader.new; written = W.contents writer.new; told = P.stand desk.new.reports }) }
-    ensures begun { Begun end.now.orders desk.old.terminal.terminal end.now.bits (min end.now.ahead MOST_AHEAD)
+    ensures begun { (octets : Option (List ℕ)) → AreGiven end.now.orders octets → O.left desk.old.orders ≡ ordered_by octets
+        → Begun end.now.orders desk.old.terminal.terminal end.now.bits (min end.now.ahead MOST_AHEAD)
         (record { read = R.remaining reader.old; written = W.contents writer.old })
         (record { read = R.remaining reader.new; written = W.contents writer.new }) }
     ensures status { (result ≡ 0) ⊎ (result ≡ 4) }
@@ -127,7 +150,78 @@ fn serve<O: Read, P: Reports, R: Read, W: Write>(
     run_link(alloc, desk, end.bits, ahead, reader, writer)
 }
 
-/// Has a terminal speak on its line, without a trace.
+/// Has a terminal at its desk speak on its line, and ends its run.
+fn speak_plain<H: Files<File = File> + Threads + Eprint + Clock + AllocGlobal, R: Read, W: Write>(
+    host: &H,
+    end: &LineEnd<'_>,
+    desk: &mut Desk<LinkEnd, OrderStream, ReportStream<Errors<'_, H>>>,
+    measures: Option<File>,
+    reader: &mut R,
+    writer: &mut W,
+) -> u8
+    requires none_held { desk.old.terminal.held ≡ None }
+    requires silent { IsSilent desk.old.voice }
+    requires new { desk.old.count ≡ 0 }
+    requires given { AreGiven end.now.orders (known_of desk.old.orders) }
+    requires ordered { left_of desk.old.orders ≡ ordered_by (known_of desk.old.orders) }
+    ensures spoke { result ≡ 0 → Spoke end.now.orders desk.old.terminal.terminal end.now.bits (min end.now.ahead MOST_AHEAD)
+        (record { read = R.remaining reader.old; written = W.contents writer.old })
+        (record { read = R.remaining reader.new; written = W.contents writer.new }) }
+    ensures begun { Begun end.now.orders desk.old.terminal.terminal end.now.bits (min end.now.ahead MOST_AHEAD)
+        (record { read = R.remaining reader.old; written = W.contents writer.old })
+        (record { read = R.remaining reader.new; written = W.contents writer.new }) }
+    ensures status { (result ≡ 0) ⊎ (result ≡ 4) }
+{
+    let status = serve(host.alloc(), end, desk, reader, writer);
+    let now = desk.millisecond();
+    end_streams(
+        host,
+        measures,
+        &desk.terminal.terminal,
+        &mut desk.reports,
+        now,
+        status,
+    )
+}
+
+/// The same of one with a trace.
+fn speak_traced<H: Files<File = File> + Threads + Eprint + Clock + AllocGlobal, R: Read, W: Write>(
+    host: &H,
+    teller: &Teller<'_, H>,
+    end: &LineEnd<'_>,
+    desk: &mut Desk<TracedEnd<RecordStream>, OrderStream, ReportStream<Errors<'_, H>>>,
+    measures: Option<File>,
+    reader: &mut R,
+    writer: &mut W,
+) -> u8
+    requires none_held { desk.old.terminal.end.held ≡ None }
+    requires silent { IsSilent desk.old.voice }
+    requires new { desk.old.count ≡ 0 }
+    requires given { AreGiven end.now.orders (known_of desk.old.orders) }
+    requires ordered { left_of desk.old.orders ≡ ordered_by (known_of desk.old.orders) }
+    ensures spoke { result ≡ 0 → Spoke end.now.orders desk.old.terminal.end.terminal end.now.bits (min end.now.ahead MOST_AHEAD)
+        (record { read = R.remaining reader.old; written = W.contents writer.old })
+        (record { read = R.remaining reader.new; written = W.contents writer.new }) }
+    ensures begun { Begun end.now.orders desk.old.terminal.end.terminal end.now.bits (min end.now.ahead MOST_AHEAD)
+        (record { read = R.remaining reader.old; written = W.contents writer.old })
+        (record { read = R.remaining reader.new; written = W.contents writer.new }) }
+    ensures status { (result ≡ 0) ⊎ (result ≡ 4) }
+{
+    let status = serve_traced(host.alloc(), end, desk, reader, writer);
+    let now = desk.millisecond();
+    let path = end.trace.unwrap_or("trace");
+    let ended = end_trace(host, teller, path, status, now, &mut desk.terminal.trace);
+    end_streams(
+        host,
+        measures,
+        &desk.terminal.end.terminal,
+        &mut desk.reports,
+        now,
+        ended,
+    )
+}
+
+/// Has a terminal speak on its line, with a trace where one is asked for.
 fn speak<H: Files<File = File> + Threads + Eprint + Clock + AllocGlobal, R: Read, W: Write>(
     host: &H,
     teller: &Teller<'_, H>,
@@ -156,87 +250,15 @@ fn speak<H: Files<File = File> + Threads + Eprint + Clock + AllocGlobal, R: Read
     else {
         return FAILED;
     };
-    let mut desk = link_desk(terminal, orders, reports);
-    let status = serve(host.alloc(), end, &mut desk, reader, writer);
-    let measured = end_measures(host.alloc(), measures, &desk.terminal.terminal);
-    let now = desk.millisecond();
-    match desk.reports.end(host, now) {
-        Ok(()) => status_of(status, measured),
-        Err(_) => FAILED,
-    }
-}
-
-/// Has a terminal speak on its line, with a trace to a file of this name.
-fn speak_traced<H: Files<File = File> + Threads + Eprint + Clock + AllocGlobal, R: Read, W: Write>(
-    host: &H,
-    teller: &Teller<'_, H>,
-    end: &LineEnd<'_>,
-    path: &str,
-    terminal: Terminal,
-    reader: &mut R,
-    writer: &mut W,
-) -> u8
-    ensures spoke { result ≡ 0 → Spoke end.now.orders terminal end.now.bits (min end.now.ahead MOST_AHEAD)
-        (record { read = R.remaining reader.old; written = W.contents writer.old })
-        (record { read = R.remaining reader.new; written = W.contents writer.new }) }
-    ensures begun { IsUntouched (record { read = R.remaining reader.old; written = W.contents writer.old })
-        (record { read = R.remaining reader.new; written = W.contents writer.new })
-        ⊎ Begun end.now.orders terminal end.now.bits (min end.now.ahead MOST_AHEAD)
-        (record { read = R.remaining reader.old; written = W.contents writer.old })
-        (record { read = R.remaining reader.new; written = W.contents writer.new }) }
-    ensures status { (result ≡ 0) ⊎ (result ≡ 4) }
-{
-    let Ok(
-        Streams {
-            orders,
-            reports,
-            measures,
-        },
-    ) = open_streams(host, teller, end)
-    else {
-        return FAILED;
+    let Some(path) = end.trace else {
+        let mut desk = link_desk(terminal, orders, reports);
+        return speak_plain(host, end, &mut desk, measures, reader, writer);
     };
     let Ok(traced) = open_traced(host, teller, path, end.every, terminal) else {
         return FAILED;
     };
     let mut desk = traced_desk(traced, orders, reports);
-    let status = serve_traced(host.alloc(), end, &mut desk, reader, writer);
-    let now = desk.millisecond();
-    let ended = end_trace(host, teller, path, status, now, &mut desk.terminal.trace);
-    let measured = end_measures(host.alloc(), measures, &desk.terminal.end.terminal);
-    match desk.reports.end(host, now) {
-        Ok(()) => status_of(ended, measured),
-        Err(_) => FAILED,
-    }
-}
-
-/// Has a terminal speak on its line, with a trace where one is asked for.
-fn speak_as_asked<
-    H: Files<File = File> + Threads + Eprint + Clock + AllocGlobal,
-    R: Read,
-    W: Write,
->(
-    host: &H,
-    teller: &Teller<'_, H>,
-    end: &LineEnd<'_>,
-    terminal: Terminal,
-    reader: &mut R,
-    writer: &mut W,
-) -> u8
-    ensures spoke { result ≡ 0 → Spoke end.now.orders terminal end.now.bits (min end.now.ahead MOST_AHEAD)
-        (record { read = R.remaining reader.old; written = W.contents writer.old })
-        (record { read = R.remaining reader.new; written = W.contents writer.new }) }
-    ensures begun { IsUntouched (record { read = R.remaining reader.old; written = W.contents writer.old })
-        (record { read = R.remaining reader.new; written = W.contents writer.new })
-        ⊎ Begun end.now.orders terminal end.now.bits (min end.now.ahead MOST_AHEAD)
-        (record { read = R.remaining reader.old; written = W.contents writer.old })
-        (record { read = R.remaining reader.new; written = W.contents writer.new }) }
-    ensures status { (result ≡ 0) ⊎ (result ≡ 4) }
-{
-    match end.trace {
-        Some(path) => speak_traced(host, teller, end, path, terminal, reader, writer),
-        None => speak(host, teller, end, terminal, reader, writer),
-    }
+    speak_traced(host, teller, end, &mut desk, measures, reader, writer)
 }
 
 /// Puts one end of a link on a line: line octets come from a reader, and one goes to a writer for each, after those that go ahead (8,000 at
@@ -283,7 +305,7 @@ pub fn run_line<
         set,
         &mut Errors { rt: host },
     ) {
-        Ok(terminal) => speak_as_asked(host, teller, end, terminal, reader, writer),
+        Ok(terminal) => speak(host, teller, end, terminal, reader, writer),
         Err(status) => status,
     }
 }

@@ -1,19 +1,20 @@
 //! The command `set`.
-ghost use Rattle.std.specs.Prelude.{◌≡◌, ◌⊎◌, None, length, IfErr, IsOk, OnOk};
+ghost use Rattle.std.specs.Prelude.{◌≡◌, ◌⊎◌, None, Some, length, IfErr, IsOk, OnOk};
 ghost use Rattle.script_check.specs.Checked.{given};
 ghost use Rattle.line_play.specs.SetDesks.{Ran, RanFrom, place_of};
 ghost use Rattle.line_play.specs.SetRounds.{Made};
 ghost use Rattle.mtp2_play.specs.SetRuns.{plan_of};
+ghost use Rattle.mtp2_words.specs.Own.{text_of};
 ghost use Rattle.mtp2_play.specs.Sets.{own_text_of};
 ghost use Rattle.mtp2_play.specs.Printed.{IsSetRun};
 
 use crate::set_lines::SetLines;
 use crate::set_tap::SetTap;
 use crate::sets::own_set;
-use line_filter::{LineOrders, Orders, Reports};
+use line_filter::{Orders, Reports};
 use line_play::{Ends, Lines, SetDesk, SetPlan, Tender, open_tender};
-use line_streams::{OrderStream, ReportStream, open_orders, open_records, open_reports};
-use mtp2_words::{Named, SetEnd};
+use line_streams::{OrderStream, ReportStream, keep_apart, open_orders, open_records, open_reports};
+use mtp2_words::{Named, OwnSet, SetEnd};
 use plain_text::{Errors, FAILED, HELD, NamedReader, Teller};
 use script_check::SetWord;
 use std::fs::{self, File};
@@ -127,7 +128,7 @@ fn serve<H: Files<File = File> + Threads + Eprint + Clock + AllocGlobal>(
     lines: &[&str],
     end: &SetEnd<'_>,
     tender: Tender,
-    orders: LineOrders<OrderStream>,
+    orders: OrderStream,
     reports: ReportStream<Errors<'_, H>>,
 ) -> u8
     ensures ran { result ≡ 0 → RanFrom end.now.ahead tender }
@@ -174,11 +175,13 @@ fn begin<H: Files<File = File> + Threads + Eprint + Clock + AllocGlobal>(
         Ok(orders) => orders,
         Err(error) => return teller.fail(end.orders.unwrap_or("orders"), &error),
     };
+    if let Err(error) = keep_apart(host, end.orders, end.reports) {
+        return teller.fail(end.reports.unwrap_or("standard error"), &error);
+    }
     let reports = match open_reports(host, host.alloc(), end.reports, Errors { rt: host }) {
         Ok(reports) => reports,
         Err(error) => return teller.fail(end.reports.unwrap_or("reports"), &error),
     };
-    let orders = LineOrders::new(host.alloc(), orders);
     serve(host, teller, lines, end, tender, orders, reports)
 }
 
@@ -231,13 +234,11 @@ fn run_own<H: Files<File = File> + Threads + Eprint + Clock + AllocGlobal>(
     named: &Named<'_>,
     lines: &[&str],
     end: &SetEnd<'_>,
+    own: OwnSet,
 ) -> u8
-    ensures { IsSetRun (own_text_of named.now) (plan_of named.now (length lines.now) end.now) end.now.ahead result }
+    ensures { IsSetRun (Some (text_of own)) (plan_of named.now (length lines.now) end.now) end.now.ahead result }
 {
-    match own_set(named) {
-        Some(own) => run_on(host, teller, named, lines, end, own),
-        None => FAILED,
-    }
+    run_on(host, teller, named, lines, end, own_set(own))
 }
 
 /// Runs `set`: one end of a set of links, each on its line. Gives the exit status: 0 behind `quit`, or once no line could be opened for 10 s and all
@@ -259,9 +260,7 @@ pub fn run_set<H: Files<File = File> + Threads + Eprint + Clock + AllocGlobal>(
             }
             Err(error) => teller.fail(path, &error),
         },
-        Named::Standard | Named::Q703 | Named::Monitors => {
-            run_own(host, teller, named, lines, end)
-        }
+        Named::Own(own) => run_own(host, teller, named, lines, end, *own),
         Named::Stdin => FAILED,
     }
 }

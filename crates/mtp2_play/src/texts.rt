@@ -3,8 +3,8 @@ ghost use Rattle.std.specs.Prelude.{◌≡◌, ◌⊎◌};
 ghost use Rattle.std.specs.Io.KnownBytes.{Appends};
 ghost use Rattle.mtp2_play.specs.Printed.{IsPrinted};
 
-use mtp2_words::Named;
-use script_check::{FAILED, HELD, MONITORS, Q703, STANDARD};
+use mtp2_words::OwnSet;
+use script_check::{FAILED, HELD};
 use std::io::Write;
 
 /// Prints a text. Gives the exit status.
@@ -18,15 +18,9 @@ fn print_text<W: Write>(text: &str, writer: &mut W) -> u8
     }
 }
 
-/// Prints the text of a set of the program's own. Gives the exit status: 0, or 4 where a write fails or the set is none of these.
-pub fn print_own<W: Write>(set: &Named<'_>, writer: &mut W) -> u8
-    ensures { IsPrinted set.now result (W.contents writer.old) (W.contents writer.new) }
+/// Prints the text of a set of the program's own. Gives the exit status: 0, or 4 where a write fails.
+pub fn print_own<W: Write>(set: OwnSet, writer: &mut W) -> u8
+    ensures { IsPrinted set result (W.contents writer.old) (W.contents writer.new) }
 {
-    match set {
-        Named::Standard => print_text(STANDARD, writer),
-        Named::Q703 => print_text(Q703, writer),
-        Named::Monitors => print_text(MONITORS, writer),
-        Named::Stdin => FAILED,
-        Named::File(_) => FAILED,
-    }
+    print_text(set.text(), writer)
 }

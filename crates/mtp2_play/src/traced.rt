@@ -1,15 +1,14 @@
 //! One end of a link on its line, with a trace.
-ghost use Rattle.std.specs.Prelude.{◌≡◌, ◌≤◌, ◌⊎◌, None, IfOk, min};
+ghost use Rattle.std.specs.Prelude.{◌≡◌, ◌≤◌, ◌⊎◌, ℕ, List, Option, None, IfOk, min};
 ghost use Rattle.line_filter.specs.Desks.{state_of};
 ghost use Rattle.line_filter.specs.Filters.{MOST_AHEAD, IsOver, IsBegun};
-ghost use Rattle.line_filter.specs.Reading.{left_of};
 ghost use Rattle.line_filter.specs.Speaking.{IsSilent};
 ghost use Rattle.script_play.specs.TracedActs.{IsNewTracer};
 ghost use Rattle.mtp2_play.specs.Spoken.{AreGiven, ordered_by, SpokeBy, Begun};
 ghost use Rattle.mtp2_play.specs.TracedEnds.{traced_acts};
 
 use crate::traces::{Trace, TracedEnd};
-use line_filter::{Bits, LineOrders, Orders, Reports, Voice, run_line};
+use line_filter::{Bits, Orders, Reports, Voice, run_line};
 use line_play::{Desk, LinkEnd, MOST_AHEAD, Terminal};
 use line_streams::{RecordStream, open_records};
 use mtp2_words::LineEnd;
@@ -97,23 +96,23 @@ fn run_traced<T: Write, O: Orders, P: Reports, R: Read, W: Write>(
     }
 }
 
-/// Runs an end on its line, behind the octets that go ahead, by the orders that whole lines say, and traces what happens.
-pub fn serve_traced<T: Write, O: Read, P: Reports, R: Read, W: Write>(
+/// Runs an end on its line, behind the octets that go ahead, and traces what happens.
+pub fn serve_traced<T: Write, O: Orders, P: Reports, R: Read, W: Write>(
     alloc: Global,
     end: &LineEnd<'_>,
-    desk: &mut Desk<TracedEnd<T>, LineOrders<O>, P>,
+    desk: &mut Desk<TracedEnd<T>, O, P>,
     reader: &mut R,
     writer: &mut W,
 ) -> u8
     requires none_held { desk.old.terminal.end.held ≡ None }
     requires silent { IsSilent desk.old.voice }
-    requires given { AreGiven end.now.orders (O.remaining desk.old.orders.reader) }
-    requires ordered { left_of O.remaining desk.old.orders ≡ ordered_by (O.remaining desk.old.orders.reader) }
     requires new { desk.old.count ≡ 0 }
-    ensures spoke { result ≡ 0 → SpokeBy (O.remaining desk.old.orders.reader) desk.old.terminal.end.terminal end.now.bits (min end.now.ahead MOST_AHEAD)
+    ensures spoke { (octets : Option (List ℕ)) → O.left desk.old.orders ≡ ordered_by octets → result ≡ 0
+        → SpokeBy octets desk.old.terminal.end.terminal end.now.bits (min end.now.ahead MOST_AHEAD)
         (record { read = R.remaining reader.old; written = W.contents writer.old; told = P.stand desk.old.reports })
         (record { read = R.remaining reader.new; written = W.contents writer.new; told = P.stand desk.new.reports }) }
-    ensures begun { Begun end.now.orders desk.old.terminal.end.terminal end.now.bits (min end.now.ahead MOST_AHEAD)
+    ensures begun { (octets : Option (List ℕ)) → AreGiven end.now.orders octets → O.left desk.old.orders ≡ ordered_by octets
+        → Begun end.now.orders desk.old.terminal.end.terminal end.now.bits (min end.now.ahead MOST_AHEAD)
         (record { read = R.remaining reader.old; written = W.contents writer.old })
         (record { read = R.remaining reader.new; written = W.contents writer.new }) }
     ensures status { (result ≡ 0) ⊎ (result ≡ 4) }

@@ -9,25 +9,17 @@ ghost use Rattle.turn_verify.specs.Meant.{IsSetOf};
 ghost use Rattle.turn_verify.specs.Loaded.{IsLoaded, IsRead, IsSoundText, Gives, IsRefused};
 
 mod monitors_text;
+mod own;
 mod q703_text;
 mod standard_text;
 
 pub use monitors_text::MONITORS;
+pub use own::OwnSet;
 pub use q703_text::Q703;
+pub use resend_store::RoundLimits;
 pub use standard_text::STANDARD;
 use std::alloc::Global;
 pub use turn_verify::{LexFault, LoadFault, Verified, load};
-
-/// The set of a text.
-fn set_of(alloc: Global, text: &str) -> Result<Verified, LoadFault>
-    ensures utf8 { IsUtf8 text.now }
-    ensures accepted { IfOk result (λ v. IsLoaded text.now v) }
-    ensures exact { (ts : List lexeme.Token) (b : PlainBlock) → IsSoundText text.now ts b → Gives result (MatchesBlock b) }
-    ensures every { (ts : List lexeme.Token) (b : PlainBlock) → IsRead text.now ts b → IfOk result (IsSetOf b) }
-    ensures refused { IfErr result (λ e. IsRefused text.now e) }
-{
-    load(alloc, text)
-}
 
 /// The set of the text [`STANDARD`].
 ///
@@ -41,22 +33,7 @@ pub fn standard(alloc: Global) -> Result<Verified, LoadFault>
     ensures every { (ts : List lexeme.Token) (b : PlainBlock) → IsRead STANDARD.now ts b → IfOk result (IsSetOf b) }
     ensures refused { IfErr result (λ e. IsRefused STANDARD.now e) }
 {
-    set_of(alloc, STANDARD)
-}
-
-/// The set of the text [`MONITORS`].
-///
-/// # Errors
-///
-/// What `load` answers for the text. It is accepted, as the table of texts shows, so [`LoadFault::NoMemory`] alone comes.
-pub fn monitors(alloc: Global) -> Result<Verified, LoadFault>
-    ensures utf8 { IsUtf8 MONITORS.now }
-    ensures accepted { IfOk result (λ v. IsLoaded MONITORS.now v) }
-    ensures exact { (ts : List lexeme.Token) (b : PlainBlock) → IsSoundText MONITORS.now ts b → Gives result (MatchesBlock b) }
-    ensures every { (ts : List lexeme.Token) (b : PlainBlock) → IsRead MONITORS.now ts b → IfOk result (IsSetOf b) }
-    ensures refused { IfErr result (λ e. IsRefused MONITORS.now e) }
-{
-    set_of(alloc, MONITORS)
+    OwnSet::Standard.load(alloc)
 }
 
 /// The set of the text [`Q703`].
@@ -71,5 +48,20 @@ pub fn q703(alloc: Global) -> Result<Verified, LoadFault>
     ensures every { (ts : List lexeme.Token) (b : PlainBlock) → IsRead Q703.now ts b → IfOk result (IsSetOf b) }
     ensures refused { IfErr result (λ e. IsRefused Q703.now e) }
 {
-    set_of(alloc, Q703)
+    OwnSet::Q703.load(alloc)
+}
+
+/// The set of the text [`MONITORS`].
+///
+/// # Errors
+///
+/// What `load` answers for the text. It is accepted, as the table of texts shows, so [`LoadFault::NoMemory`] alone comes.
+pub fn monitors(alloc: Global) -> Result<Verified, LoadFault>
+    ensures utf8 { IsUtf8 MONITORS.now }
+    ensures accepted { IfOk result (λ v. IsLoaded MONITORS.now v) }
+    ensures exact { (ts : List lexeme.Token) (b : PlainBlock) → IsSoundText MONITORS.now ts b → Gives result (MatchesBlock b) }
+    ensures every { (ts : List lexeme.Token) (b : PlainBlock) → IsRead MONITORS.now ts b → IfOk result (IsSetOf b) }
+    ensures refused { IfErr result (λ e. IsRefused MONITORS.now e) }
+{
+    OwnSet::Monitors.load(alloc)
 }

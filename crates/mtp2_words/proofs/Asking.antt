@@ -14,10 +14,11 @@ use Rattle.mtp2_words.specs.declared.set_ends.SetEnd.{SetEnd}
 use Rattle.mtp2_words.specs.declared.set_ends.SetWords.{SetWords}
 use Rattle.mtp2_words.specs.declared.ends.LineEnd.{LineEnd}
 use Rattle.mtp2_words.specs.declared.ends.LineWords.{LineWords}
-use Rattle.mtp2_words.specs.Words.{command_of, workers_of, AreStdin, IsNamed, IsDiff, IsOwnNamed, IsPlay, IsPrint, IsSoak, IsSource, NamesNone, says_true}
+use Rattle.mtp2_words.specs.Words.{command_of, workers_of, AreStdin, IsNamed, IsDiff, IsPlay, IsPrint, IsSoak, IsSource, says_true}
+use Rattle.mtp2_text.specs.Own.{word_of, NamesNone}
 use Rattle.mtp2_words.specs.Seeing.{IsSeenBy}
 use Rattle.mtp2_words.specs.declared.seeing.Seeing.{Seeing}
-use Rattle.mtp2_words.specs.Asked.{Given, given_by, given_in, AreAllAsked, AreNamed, AreBothStdin, AreUnderIds, AsksEnd, AsksNothing, IsAsked, IsAskedBy, IsNoPlay, IsNoPrint, IsNoSoak, SaysNothing, AsksDiff, AsksDraw, IsNoDiff, AreSetUnderIds, AsksSetEnd, AreLinesOf, AreNoLines, AreSeenUnder, AsksSeen, SaysNoSeeing}
+use Rattle.mtp2_words.specs.Asked.{Given, given_by, given_in, AreAllAsked, AreNamed, AreBothStdin, AreUnderIds, AsksEnd, AsksNothing, IsAsked, IsAskedBy, IsNoPlay, IsNoPrint, IsNoSoak, SaysNothing, AsksDiff, AsksDraw, IsNoDiff, AreSetUnderIds, AsksSetEnd, AreLinesOf, AreNoLines, AreSeenUnder, AsksSeen}
 use Rattle.mtp2_words.specs.declared.seeing.SeeingWords.{SeeingWords}
 use Rattle.mtp2_words.specs.declared.requests.Named.{Named}
 use Rattle.mtp2_words.specs.declared.requests.Request.{Request}
@@ -54,9 +55,6 @@ both_words given set_word script_word e f b = (same_Some set_word _ (e ∙ b.set
 -- what is to be seen is asked for by options
 pub sees : (given : Given) (words : SeeingWords) (o : Option Seeing) → AreSeenUnder given words → IfSome o (IsSeenBy words) → IfSome o (AsksSeen given)
 sees given words o under h = IfSome_then o h (λ seen s. record { words = words; under_ids = under; seen_is = s })
-
-pub sees_nothing : (given : Given) → SaysNoSeeing given → IsNoPlay given
-sees_nothing given n = inr (inr (inr n))
 
 pub plays : (given : Given) (set_word script_word : Text) (wanted : Seeing) (request : Request) → Some set_word ≡ given (codes "SET")
     → Some script_word ≡ given (codes "SCRIPT") → AsksSeen given wanted → IsPlay set_word script_word wanted request
@@ -262,7 +260,7 @@ prints given word (Line set end) e h = absurd h
 prints given word (Tend set lines end) e h = absurd h
 prints given word (Frame octets) e h = absurd h
 prints given word (Draw set process states) e h = absurd h
-prints given word (Print set) e h = some_word (given (codes "SET")) word (IsOwnNamed set) e h
+prints given word (Print set) e h = some_word (given (codes "SET")) word (λ w. w ≡ word_of set) e h
 prints given word (Diff old new) e h = absurd h
 
 pub is_print : (word : Text) (request : Request) → IsPrint word request → command_of request ≡ codes "text"

@@ -12,8 +12,9 @@ use Rattle.mtp2_words.specs.declared.set_ends.SetEnd.{SetEnd}
 use Rattle.mtp2_words.specs.declared.set_ends.SetWords.{SetWords}
 use Rattle.mtp2_words.specs.declared.ends.LineEnd.{LineEnd}
 use Rattle.mtp2_words.specs.declared.ends.LineWords.{LineWords}
-use Rattle.mtp2_words.specs.Words.{command_of, says_true, workers_of, IsNamed, IsOwnNamed}
-use Rattle.mtp2_words.specs.Words.{IsSource, IsText, IsSetText, IsNoSetText, NamesNone}
+use Rattle.mtp2_words.specs.Words.{command_of, says_true, workers_of, IsNamed}
+use Rattle.mtp2_words.specs.Words.{IsSource, IsText, IsSetText, IsNoSetText}
+use Rattle.mtp2_text.specs.Own.{word_of, NamesNone}
 use Rattle.mtp2_words.specs.Seeing.{IsSeenBy, IsNoSeeing}
 use Rattle.mtp2_words.specs.declared.seeing.Seeing.{Seeing}
 use Rattle.mtp2_words.specs.declared.seeing.SeeingWords.{SeeingWords}
@@ -172,7 +173,7 @@ IsAsked given (Tend set lines end) = AsksSet given set end
 IsAsked given (Frame octets) = given (codes "HEX") ≡ Some octets.now
 IsAsked given (Draw set process states) =
     AsksDraw given set (option_map (λ w. w.now) process) states
-IsAsked given (Print set) = IsSomeAnd (given (codes "SET")) (IsOwnNamed set)
+IsAsked given (Print set) = IsSomeAnd (given (codes "SET")) (λ word. word ≡ word_of set)
 IsAsked given (Diff old new) = AsksDiff given old new
 
 -- the sets that words name, each one its own, in their order

@@ -9,18 +9,12 @@ use Rattle.script_links.specs.resend_store_types.messages.Mode.TheVariants.{Basi
 use Rattle.script_links.specs.resend_store_types.messages.RoundLimits.{RoundLimits}
 use Rattle.script_links.specs.Numbers.{count_of}
 use Rattle.mtp2_words.specs.declared.requests.Named.{Named}
-use Rattle.mtp2_words.specs.declared.requests.Named.TheVariants.{Standard, Q703, Monitors, Stdin}
-use Rattle.mtp2_words.specs.declared.requests.Named.TheVariants.{File}
-
--- N2 of the set `q703`, where nothing else is chosen
-abbrev pub Q703_OCTETS : ℕ
-Q703_OCTETS = 3000
+use Rattle.mtp2_words.specs.declared.requests.Named.TheVariants.{Own, Stdin, File}
+use Rattle.mtp2_text.specs.Own.{limits_of}
 
 -- the limits over a set where none are chosen
 abbrev pub usual_limits_of : Named → RoundLimits
-usual_limits_of Standard = usual_limits
-usual_limits_of Q703 = record { messages = N1; octets = Q703_OCTETS }
-usual_limits_of Monitors = usual_limits
+usual_limits_of (Own own) = limits_of own
 usual_limits_of Stdin = usual_limits
 usual_limits_of (File path) = usual_limits
 

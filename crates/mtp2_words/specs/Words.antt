@@ -5,8 +5,9 @@ use Rattle.std.specs.Int.{is_in_range}
 use Rattle.plain_laws.specs.Limits.{LEAST_WORKERS, MOST_WORKERS}
 use Rattle.script_links.specs.Numbers.{count_of}
 use Rattle.mtp2_words.specs.declared.requests.Named.{Named}
-use Rattle.mtp2_words.specs.declared.requests.Named.TheVariants.{Standard, Q703, Monitors, Stdin}
-use Rattle.mtp2_words.specs.declared.requests.Named.TheVariants.{File}
+use Rattle.mtp2_words.specs.declared.requests.Named.TheVariants.{Own, Stdin, File}
+use Rattle.mtp2_text.specs.Own.{word_of, NamesNone}
+use Rattle.mtp2_text.specs.declared.own.OwnSet.TheVariants.{Standard, Q703}
 use Rattle.mtp2_words.specs.declared.requests.Source.{Source}
 use Rattle.mtp2_words.specs.declared.requests.Source.TheVariants.{Stdin as stdin}
 use Rattle.mtp2_words.specs.declared.requests.Source.TheVariants.{File as script_file}
@@ -17,16 +18,12 @@ use Rattle.mtp2_words.specs.declared.requests.Request.TheVariants.{Tend, Draw, P
 
 -- a file may have any name but these
 pub record IsFileName (word : List ℕ) : Type 0 where
-  pub not_standard : word ≡ codes "standard" → ⊥
-  pub not_q703 : word ≡ codes "q703" → ⊥
-  pub not_monitors : word ≡ codes "monitors" → ⊥
+  pub not_own : NamesNone word
   pub not_stdin : word ≡ codes "stdin" → ⊥
 
 -- the set that a word names
 abbrev pub IsNamed : Named → List ℕ → Type 0
-IsNamed Standard word = word ≡ codes "standard"
-IsNamed Q703 word = word ≡ codes "q703"
-IsNamed Monitors word = word ≡ codes "monitors"
+IsNamed (Own own) word = word ≡ word_of own
 IsNamed Stdin word = word ≡ codes "stdin"
 IsNamed (File path) word = (path.now ≡ word) × IsFileName word
 
@@ -81,9 +78,7 @@ IsSoak script_word workers_word (Diff old new) = ⊥
 
 -- the set of the program's own that a word names
 abbrev pub IsOwnNamed : Named → List ℕ → Type 0
-IsOwnNamed Standard word = word ≡ codes "standard"
-IsOwnNamed Q703 word = word ≡ codes "q703"
-IsOwnNamed Monitors word = word ≡ codes "monitors"
+IsOwnNamed (Own own) word = word ≡ word_of own
 IsOwnNamed Stdin word = ⊥
 IsOwnNamed (File path) word = ⊥
 
@@ -96,14 +91,8 @@ IsPrint word (Line set end) = ⊥
 IsPrint word (Tend set lines end) = ⊥
 IsPrint word (Frame octets) = ⊥
 IsPrint word (Draw set process states) = ⊥
-IsPrint word (Print set) = IsOwnNamed set word
+IsPrint word (Print set) = word ≡ word_of set
 IsPrint word (Diff old new) = ⊥
-
--- a word names none of them
-pub record NamesNone (word : List ℕ) : Type 0 where
-  pub not_standard : word ≡ codes "standard" → ⊥
-  pub not_q703 : word ≡ codes "q703" → ⊥
-  pub not_monitors : word ≡ codes "monitors" → ⊥
 
 -- what `diff` asks for by two words; standard input isn't both
 pub record IsDiff (old_word new_word : List ℕ) (old new : Named) : Type 0 where
@@ -113,21 +102,19 @@ pub record IsDiff (old_word new_word : List ℕ) (old new : Named) : Type 0 wher
 
 -- the set that a word names for a terminal on a line: standard input is the line, and no text
 abbrev pub IsTextNamed : Named → List ℕ → Type 0
-IsTextNamed Standard word = word ≡ codes "standard"
-IsTextNamed Q703 word = word ≡ codes "q703"
-IsTextNamed Monitors word = word ≡ codes "monitors"
+IsTextNamed (Own own) word = word ≡ word_of own
 IsTextNamed Stdin word = ⊥
 IsTextNamed (File path) word = (path.now ≡ word) × IsFileName word
 
 -- the same by a word that may be there; `standard` where there is none
 abbrev pub IsText : Option (List ℕ) → Named → Type 0
-IsText None set = set ≡ Standard
+IsText None set = set ≡ Own Standard
 IsText (Some word) set = IsTextNamed set word
 
 -- the processes of the links of a set, by a word for a set of the program's own or one for a text,
 -- of which one may be there; `q703` where none is
 abbrev pub IsSetText : Option (List ℕ) → Option (List ℕ) → Named → Type 0
-IsSetText None None set = set ≡ Q703
+IsSetText None None set = set ≡ Own Q703
 IsSetText None (Some text) set = IsTextNamed set text
 IsSetText (Some own) None set = IsOwnNamed set own
 IsSetText (Some own) (Some text) set = ⊥

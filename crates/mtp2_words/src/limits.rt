@@ -5,21 +5,14 @@ ghost use Rattle.mtp2_words.specs.Limits.{usual_limits_of, messages_named, messa
 use crate::requests::Named;
 use script_links::{Mode, RoundLimits, USUAL_LIMITS, count};
 
-/// With how many unacknowledged octets cyclic retransmission is forced over the set `q703` where nothing else is chosen. On a full line these last
-/// less long than the far side may take to acknowledge a message.
-const Q703_OCTETS: u16 = 3_000;
-
 impl Named<'_> {
     /// The limits of forced retransmission over this set, where none are chosen.
     pub fn usual_limits(&self) -> RoundLimits
         ensures { result ≡ usual_limits_of self.now }
     {
         match self {
-            Named::Q703 => RoundLimits {
-                messages: USUAL_LIMITS.messages,
-                octets: Q703_OCTETS,
-            },
-            Named::Standard | Named::Monitors | Named::Stdin | Named::File(_) => USUAL_LIMITS,
+            Named::Own(own) => own.round_limits(),
+            Named::Stdin | Named::File(_) => USUAL_LIMITS,
         }
     }
 }

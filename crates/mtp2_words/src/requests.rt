@@ -2,16 +2,13 @@
 use crate::ends::LineEnd;
 use crate::seeing::Seeing;
 use crate::set_ends::SetEnd;
+use mtp2_text::OwnSet;
 
 /// A text or a set, as a word of the command line names it.
 #[derive(Clone, Copy, PartialEq, Eq, Debug)]
 pub enum Named<'a> {
-    /// `standard`: a set of the program's own.
-    Standard,
-    /// `q703`: a set of the program's own.
-    Q703,
-    /// `monitors`: a set of the program's own.
-    Monitors,
+    /// `standard`, `q703` or `monitors`: a set of the program's own.
+    Own(OwnSet),
     /// `stdin`: standard input.
     Stdin,
     /// A file.
@@ -73,6 +70,6 @@ pub enum Request<'a> {
     },
     /// `text SET`: a set of the program's own.
     Print {
-        set: Named<'a>,
+        set: OwnSet,
     },
 }

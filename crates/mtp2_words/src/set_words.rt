@@ -1,7 +1,8 @@
 //! The words of the command `set`.
 ghost use Rattle.std.specs.Prelude.{◌≡◌, IfOk, IfSome, IsNone, IsSomeAnd, option_map, codes};
 ghost use Rattle.clap.specs.Words.{all_of, found_of, rows_of};
-ghost use Rattle.mtp2_words.specs.Words.{command_of, IsOwnNamed, NamesNone, IsSetText, IsNoSetText};
+ghost use Rattle.mtp2_words.specs.Words.{command_of, IsOwnNamed, IsSetText, IsNoSetText};
+ghost use Rattle.mtp2_text.specs.Own.{NamesNone};
 ghost use Rattle.mtp2_words.specs.Asked.{given_by, IsAsked, AreAllAsked, AsksSetEnd, IsNoSetEndBy, IsNoSet, AreLinesOf, AreNoLines};
 
 use crate::flags::is_given;
@@ -9,6 +10,7 @@ use crate::requests::{Named, Request};
 use crate::set_ends::{SetEnd, SetWords, are_few, set_end};
 use crate::words::text_named;
 use clap::ArgMatches;
+use mtp2_text::OwnSet;
 use std::alloc::{AllocError, Global};
 
 /// The end of a set of links that the matches of `set` stand for, without its lines.
@@ -55,11 +57,9 @@ fn own_named<'a>(word: &str) -> Option<Named<'a>>
     ensures some { IfSome result (λ set. IsOwnNamed set word.now) }
     ensures none { IsNone result → NamesNone word.now }
 {
-    match word {
-        "standard" => Some(Named::Standard),
-        "q703" => Some(Named::Q703),
-        "monitors" => Some(Named::Monitors),
-        _ => None,
+    match OwnSet::named(word) {
+        Some(own) => Some(Named::Own(own)),
+        None => None,
     }
 }
 
@@ -75,7 +75,7 @@ fn text_of<'a>(own: Option<&'a str>, text: Option<&'a str>) -> Option<Named<'a>>
         },
         None => match text {
             Some(text) => text_named(text),
-            None => Some(Named::Q703),
+            None => Some(Named::Own(OwnSet::Q703)),
         },
     }
 }

@@ -1,9 +1,10 @@
 //! The command line.
 ghost use Rattle.std.specs.Prelude.{◌≡◌, ◌⊎◌, Some, None, [], true, map, string_bytes, IfSome, IfOk, IfErr, IsNone, option_map, codes};
 ghost use Rattle.clap.specs.Words.{fault_of, found_of, kind_of, rows_of, subcommand_name_of, subcommand_of, subcommand_rows_of, takes};
-ghost use Rattle.mtp2_words.specs.Words.{IsDiff, command_of, workers_of, IsNamed, IsSource, AreStdin, IsPrint, NamesNone, IsPlay, IsSoak, IsTextNamed, IsText};
+ghost use Rattle.mtp2_words.specs.Words.{IsDiff, command_of, workers_of, IsNamed, IsSource, AreStdin, IsPrint, IsPlay, IsSoak, IsTextNamed, IsText};
 ghost use Rattle.mtp2_words.specs.Asked.{given_by, AreAllAsked, AreNamed, AsksEnd, AsksNothing, IsAsked, IsAskedBy, IsNoCheck, IsNoFrame, IsNoLine, IsNoPlay, IsNoPrint, IsNoSoak, SaysNoEnd, SaysNothing, IsNoDiff, IsNoDraw};
 ghost use Rattle.mtp2_words.specs.Commands.{all_commands};
+ghost use Rattle.mtp2_text.specs.Own.{NamesNone};
 ghost use Rattle.mtp2_words.specs.TurnedDown.{IsTurnedDown};
 
 use crate::commands::all_commands;
@@ -16,18 +17,19 @@ use crate::set_words::tended;
 use crate::sights::seen_of;
 use clap::error::ErrorKind;
 use clap::{ArgMatches, Error};
+use mtp2_text::OwnSet;
 use std::alloc::{AllocError, Global};
 
 /// The set that a word names.
 fn set_named(word: &str) -> Named<'_>
     ensures { IsNamed result word.now }
 {
-    match word {
-        "standard" => Named::Standard,
-        "q703" => Named::Q703,
-        "monitors" => Named::Monitors,
-        "stdin" => Named::Stdin,
-        path => Named::File(path),
+    match OwnSet::named(word) {
+        Some(own) => Named::Own(own),
+        None => match word {
+            "stdin" => Named::Stdin,
+            path => Named::File(path),
+        },
     }
 }
 
@@ -75,12 +77,10 @@ pub(crate) fn text_named(word: &str) -> Option<Named<'_>>
     ensures some { IfSome result (λ set. IsTextNamed set word.now) }
     ensures none { IsNone result → word.now ≡ codes "stdin" }
 {
-    match word {
-        "standard" => Some(Named::Standard),
-        "q703" => Some(Named::Q703),
-        "monitors" => Some(Named::Monitors),
-        "stdin" => None,
-        path => Some(Named::File(path)),
+    match set_named(word) {
+        Named::Own(own) => Some(Named::Own(own)),
+        Named::Stdin => None,
+        Named::File(path) => Some(Named::File(path)),
     }
 }
 
@@ -91,7 +91,7 @@ fn text_of<'a>(word: Option<&'a str>) -> Option<Named<'a>>
 {
     match word {
         Some(word) => text_named(word),
-        None => Some(Named::Standard),
+        None => Some(Named::Own(OwnSet::Standard)),
     }
 }
 
@@ -226,15 +226,9 @@ fn printed<'a>(word: &'a str) -> Option<Request<'a>>
     ensures print { IfSome result (IsPrint word.now) }
     ensures none { IsNone result → NamesNone word.now }
 {
-    match word {
-        "standard" => Some(Request::Print {
-            set: Named::Standard,
-        }),
-        "q703" => Some(Request::Print { set: Named::Q703 }),
-        "monitors" => Some(Request::Print {
-            set: Named::Monitors,
-        }),
-        _ => None,
+    match OwnSet::named(word) {
+        Some(set) => Some(Request::Print { set }),
+        None => None,
     }
 }
 

@@ -1,6 +1,5 @@
 -- What a loop over lines has read, and what texts read as.
-use Rattle.std.proofs.Common.{◌≡◌, ℕ, ◌+◌, ◌<◌, ◌≤◌, List, ◌∷◌, map, length, drop, get_or, None, Some, Ok, Err, refl, sym, ap, ◌∙◌}
-use Rattle.std.proofs.lemmas.List.{drop_more}
+use Rattle.std.proofs.Common.{◌≡◌, ℕ, ◌<◌, ◌≤◌, List, ◌∷◌, map, length, None, Some, Ok, Err, refl}
 use Rattle.std.proofs.lemmas.Bool.{lt-ltb, le-ltb}
 use Rattle.plain_text.specs.Reading.{LONGEST}
 use Rattle.script_lines.specs.declared.lines.Line.{Line}
@@ -14,23 +13,6 @@ use Rattle.pool_soak.specs.Scripts.{PlainSoak, empty, added, read, soak_of, IsFa
 read_on : (s t : PlainSoak) (line : Line) (more : List Line) → added s (texts line.words.items) ≡ Some t
     → read s (map plain_line (line ∷ more)) ≡ read t (map plain_line more)
 read_on s t line more is = rw is refl
-
-read_off : (s : PlainSoak) (line : Line) (more : List Line) → added s (texts line.words.items) ≡ None
-    → read s (map plain_line (line ∷ more)) ≡ Err line.number
-read_off s line more none = rw none refl
-
-at_line : (lines : List Line) (i : ℕ) (line : Line) → i < length lines → line ≡ get_or lines i line → drop i lines ≡ line ∷ drop (i + 1) lines
-at_line lines i line within is = drop_more lines i line within ∙ ap (λ l. l ∷ drop (i + 1) lines) (sym is)
-
-pub reads_on : (s t : PlainSoak) (lines : List Line) (i : ℕ) (line : Line) → i < length lines → line ≡ get_or lines i line → added s (texts line.words.items) ≡ Some t
-    → read s (map plain_line (drop i lines)) ≡ read t (map plain_line (drop (i + 1) lines))
-reads_on s t lines i line within is adds =
-    ap (λ ls. read s (map plain_line ls)) (at_line lines i line within is) ∙ read_on s t line (drop (i + 1) lines) adds
-
-pub reads_off : (s : PlainSoak) (lines : List Line) (i : ℕ) (line : Line) → i < length lines → line ≡ get_or lines i line → added s (texts line.words.items) ≡ None
-    → read s (map plain_line (drop i lines)) ≡ Err line.number
-reads_off s lines i line within is none =
-    ap (λ ls. read s (map plain_line ls)) (at_line lines i line within is) ∙ read_off s line (drop (i + 1) lines) none
 
 -- ---- texts
 

@@ -1,3 +1,4 @@
 pub mod Long
+pub mod Own
 pub mod Prints
 mod Written

@@ -59,21 +59,9 @@ pub set_read : (r : Result Draft SetFault) (known : Option (List ℕ)) (read : T
 set_read (Ok v) known read reading set = record { bytes = reading.bytes; are_known = reading.are_known; holds = set reading.bytes reading.keeps }
 set_read (Err e) known read reading set = tt
 
-pub fault_read : (r : Result Draft SetFault) (known : Option (List ℕ)) (read : TextRead) → IsReading known read
-    → IfErr r (λ e. IsRefusal e → (bytes : List ℕ) → Keeps bytes read → IsRefusalOf bytes e)
-    → IfErr r (λ e. IsRefusal e → IsGiven known (λ bytes. IsRefusalOf bytes e))
-fault_read (Ok v) known read reading fault = tt
-fault_read (Err e) known read reading fault = λ judged.
-    record { bytes = reading.bytes; are_known = reading.are_known; holds = fault judged reading.bytes reading.keeps }
-
 pub set_own : (r : Result Draft SetFault) (text : List ℕ) → IfOk r (IsSetOf text) → IfOk r (λ v. IsGiven (Some text) (λ bytes. IsSetOf bytes v))
 set_own (Ok v) text set = record { bytes = text; are_known = refl; holds = set }
 set_own (Err e) text set = tt
-
-pub fault_own : (r : Result Draft SetFault) (text : List ℕ) → IfErr r (λ e. IsRefusal e → IsRefusalOf text e)
-    → IfErr r (λ e. IsRefusal e → IsGiven (Some text) (λ bytes. IsRefusalOf bytes e))
-fault_own (Ok v) text fault = tt
-fault_own (Err e) text fault = λ judged. record { bytes = text; are_known = refl; holds = fault judged }
 
 -- ---- with their places
 

@@ -3,9 +3,9 @@ use Rattle.std.proofs.Common.{◌≡◌, ℕ, List, ◌++◌, Option, None, Some
 use Rattle.std.specs.Io.KnownBytes.{Appends}
 use Rattle.turn_code.specs.declared.draft.Draft.{Draft}
 use Rattle.script_check.specs.declared.sets.SetFault.{SetFault}
-use Rattle.script_check.specs.Printed.{refusal_line, set_lines}
+use Rattle.script_check.specs.Printed.{refusal_line}
 use Rattle.script_check.specs.declared.sets.Refusal.{Refusal}
-use Rattle.script_check.specs.Checked.{IsGiven, IsAccepted, IsNotAccepted, IsSetOf, IsRefusal, IsRefusalOf, IsRefusedAt, PrintsCosts, PrintsPointed, PrintsRefusal}
+use Rattle.script_check.specs.Checked.{IsGiven, IsAccepted, IsNotAccepted, IsSetOf, IsRefusal, IsRefusalOf, IsRefusedAt, PrintsPointed, PrintsRefusal}
 
 -- what is known of the text of an accepted set
 pub is_accepted : (bytes : List ℕ) (d : Draft) → IsSetOf bytes d → IsAccepted bytes
@@ -20,10 +20,6 @@ accepted_bytes known d g = held_of known g.bytes IsAccepted g.are_known (is_acce
 
 pub refused_bytes : (known : Option (List ℕ)) (fault : SetFault) → IsGiven known (λ bytes. IsRefusalOf bytes fault) → IfSome known IsNotAccepted
 refused_bytes known fault g = held_of known g.bytes IsNotAccepted g.are_known g.holds.refused
-
-pub costs_printed : (known old new : Option (List ℕ)) (d : Draft) → IsGiven known (λ bytes. IsSetOf bytes d) → Appends old new (set_lines d) → IsGiven known (PrintsCosts old new)
-costs_printed known old new d g printed =
-    record { bytes = g.bytes; are_known = g.are_known; holds = record { draft = d; is_set = g.holds; printed = printed } }
 
 pub refusal_printed : (known old new : Option (List ℕ)) (fault : SetFault) → IsRefusal fault → IsGiven known (λ bytes. IsRefusalOf bytes fault)
     → Appends old new (refusal_line fault) → IsGiven known (PrintsRefusal old new)

@@ -5,9 +5,9 @@ use Rattle.sdl_lex.specs.Lexed.{Answers}
 use Rattle.sdl_lex.specs.declared.lexemes.Token.{Token}
 use Rattle.script_check.specs.Telling.{Fits}
 use Rattle.std.specs.Io.KnownBytes.{Appends}
-use Rattle.script_point.specs.mtp2_text_types.standard_text.TheConstants.{STANDARD}
-use Rattle.script_point.specs.mtp2_text_types.q703_text.TheConstants.{Q703 as Q703_TEXT}
-use Rattle.script_point.specs.mtp2_text_types.monitors_text.TheConstants.{MONITORS}
+use Rattle.script_point.specs.Own.{text_of}
+use Rattle.script_point.specs.mtp2_text_types.own.OwnSet.{OwnSet}
+use Rattle.script_point.specs.mtp2_text_types.own.OwnSet.TheVariants as own
 use Rattle.plain_text.specs.Reading.{LONGEST}
 use Rattle.turn_code.specs.declared.draft.Draft.{Draft}
 use Rattle.script_point.specs.Loaded.{IsSound, IsLoaded, IsRefused}
@@ -23,11 +23,17 @@ use Rattle.script_check.specs.declared.sets.SetWord.{SetWord}
 use Rattle.script_check.specs.declared.sets.SetWord.TheVariants.{Standard, Q703, Monitors, Text}
 use Rattle.script_check.specs.Printed.{refusal_line, set_lines}
 
+-- the word for a set of the program's own
+abbrev pub own_word : {R : Type 0} → OwnSet → SetWord R
+own_word own.Standard = Standard
+own_word own.Q703 = Q703
+own_word own.Monitors = Monitors
+
 -- the bytes of a set's text, where they are known
 abbrev pub given : {R : Type 0} → (R → Option (List ℕ)) → SetWord R → Option (List ℕ)
-given remaining Standard = Some STANDARD.now
-given remaining Q703 = Some Q703_TEXT.now
-given remaining Monitors = Some MONITORS.now
+given remaining Standard = Some (text_of own.Standard)
+given remaining Q703 = Some (text_of own.Q703)
+given remaining Monitors = Some (text_of own.Monitors)
 given remaining (Text reader) = remaining reader
 
 -- the set is one that the caller gives as a text, and no set of the program's own

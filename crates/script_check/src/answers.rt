@@ -82,7 +82,7 @@ pub(crate) fn no_answer(
         of_truths(decision)
     } else {
         (
-            "a DECISION of Integers has an ELSE",
+            "a DECISION of Integers wants an ELSE",
             "write ELSE: in front of ENDDECISION",
         )
     };

@@ -4,6 +4,7 @@
 mod answers;
 mod checking;
 mod costs;
+mod ends;
 mod extents;
 mod limits;
 mod operands;
@@ -15,5 +16,7 @@ mod telling;
 
 pub use checking::{check, refuse_set, tell_refusal, write_refusal};
 pub use plain_text::{FAILED, HELD, REFUSED, USAGE, refuse, write_line};
-pub use script_point::{LexFault, LoadFault, MONITORS, Q703, STANDARD, in_front, load, standard};
+pub use script_point::{
+    LexFault, LoadFault, MONITORS, OwnSet, Q703, STANDARD, in_front, load, standard,
+};
 pub use sets::{Refusal, SetFault, SetWord, find_set, load_set};

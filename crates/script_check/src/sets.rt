@@ -2,14 +2,15 @@
 ghost use Rattle.std.specs.Prelude.{◌≡◌, ◌↔◌, List, ℕ, Ok, Err, IfOk, IfErr, IsFalse};
 ghost use Rattle.plain_text.specs.Reading.{Keeps};
 ghost use Rattle.script_point.specs.Loaded.{IsRefused};
-ghost use Rattle.script_check.specs.Checked.{given, IsGiven, IsRefusal, IsRefusalOf, IsRefusedAt, IsSetOf, IsText, IsTold, IsTooLong, PointsIn, PointsOut};
+ghost use Rattle.script_check.specs.Checked.{given, own_word, IsGiven, IsRefusal, IsRefusalOf, IsRefusedAt, IsSetOf, IsText, IsTold, IsTooLong, PointsIn, PointsOut};
+ghost use Rattle.script_point.specs.Own.{text_of};
 ghost use Rattle.script_check.specs.declared.sets.SetFault.TheVariants.{NotRead};
+ghost use Rattle.script_check.specs.declared.sets.SetWord.TheVariants.{Text};
 
 use crate::telling::told_of;
 use plain_text::{MOST_BYTES, TextRead, line_at_limit, read_text};
 use script_point::{
-    LexFault, LoadFault, MONITORS, Q703, STANDARD, Verified, load, monitors, point_head,
-    point_nowhere, point_out, q703, standard,
+    LexFault, LoadFault, OwnSet, Verified, load, point_head, point_nowhere, point_out,
 };
 use std::alloc::{AllocError, Global};
 use std::io::Read;
@@ -27,6 +28,32 @@ pub enum SetWord<R> {
     Monitors,
     /// The set of the text that a reader gives.
     Text(R),
+}
+
+impl<R> SetWord<R> {
+    /// The word for a set of the program's own.
+    pub fn of_own(own: OwnSet) -> SetWord<R>
+        ensures { result ≡ own_word own }
+    {
+        match own {
+            OwnSet::Standard => SetWord::Standard,
+            OwnSet::Q703 => SetWord::Q703,
+            OwnSet::Monitors => SetWord::Monitors,
+        }
+    }
+
+    /// The set of the program's own that is named; the reader of the text, where it is none.
+    pub fn own(self) -> Result<OwnSet, R>
+        ensures own { IfOk result (λ own. self ≡ own_word own) }
+        ensures text { IfErr result (λ reader. self ≡ Text reader) }
+    {
+        match self {
+            SetWord::Standard => Ok(OwnSet::Standard),
+            SetWord::Q703 => Ok(OwnSet::Q703),
+            SetWord::Monitors => Ok(OwnSet::Monitors),
+            SetWord::Text(reader) => Err(reader),
+        }
+    }
 }
 
 /// Why there is no set.
@@ -115,37 +142,13 @@ fn text_set(alloc: Global, text: &str) -> Result<Verified, SetFault>
     }
 }
 
-/// The set of `standard`.
-fn standard_set(alloc: Global) -> Result<Verified, SetFault>
-    ensures set { IfOk result (IsSetOf STANDARD.now) }
-    ensures fault { IfErr result (λ e. IsRefusal e → IsRefusalOf STANDARD.now e) }
+/// A set of the program's own.
+fn own_set(alloc: Global, own: OwnSet) -> Result<Verified, SetFault>
+    ensures set { IfOk result (IsSetOf (text_of own)) }
+    ensures fault { IfErr result (λ e. IsRefusal e → IsRefusalOf (text_of own) e) }
     ensures own { IfErr result (λ e. e ≡ NotRead → ⊥) }
 {
-    match standard(alloc) {
-        Ok(set) => Ok(set),
-        Err(fault) => Err(SetFault::Load(fault)),
-    }
-}
-
-/// The set of `q703`.
-fn q703_set(alloc: Global) -> Result<Verified, SetFault>
-    ensures set { IfOk result (IsSetOf Q703.now) }
-    ensures fault { IfErr result (λ e. IsRefusal e → IsRefusalOf Q703.now e) }
-    ensures own { IfErr result (λ e. e ≡ NotRead → ⊥) }
-{
-    match q703(alloc) {
-        Ok(set) => Ok(set),
-        Err(fault) => Err(SetFault::Load(fault)),
-    }
-}
-
-/// The set of `monitors`.
-fn monitors_set(alloc: Global) -> Result<Verified, SetFault>
-    ensures set { IfOk result (IsSetOf MONITORS.now) }
-    ensures fault { IfErr result (λ e. IsRefusal e → IsRefusalOf MONITORS.now e) }
-    ensures own { IfErr result (λ e. e ≡ NotRead → ⊥) }
-{
-    match monitors(alloc) {
+    match own.load(alloc) {
         Ok(set) => Ok(set),
         Err(fault) => Err(SetFault::Load(fault)),
     }
@@ -248,11 +251,9 @@ pub fn find_set<R: Read + Drop>(alloc: Global, set: SetWord<R>) -> Result<Verifi
     ensures fault { IfErr result (λ r. IsRefusal r.fault → IsGiven (given R.remaining set) (λ bytes. IsRefusedAt bytes r)) }
     ensures read { IfErr result (λ r. r.fault ≡ NotRead → IsText set) }
 {
-    match set {
-        SetWord::Standard => pointed_set(alloc, STANDARD.as_bytes(), standard_set(alloc)),
-        SetWord::Q703 => pointed_set(alloc, Q703.as_bytes(), q703_set(alloc)),
-        SetWord::Monitors => pointed_set(alloc, MONITORS.as_bytes(), monitors_set(alloc)),
-        SetWord::Text(mut reader) => read_set(alloc, &mut reader),
+    match set.own() {
+        Ok(own) => pointed_set(alloc, own.text().as_bytes(), own_set(alloc, own)),
+        Err(mut reader) => read_set(alloc, &mut reader),
     }
 }
 

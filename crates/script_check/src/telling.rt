@@ -1,10 +1,11 @@
-//! What is said of a refusal, and where it is found where it names no place itself.
+//! What is said of a refusal, and where it is found where it names no place itself, or where more than that.
 ghost use Rattle.std.specs.Prelude.{List, Ok, IfOk, IfSome, IsTrue};
 ghost use Rattle.sdl_lex.specs.Lexed.{Answers};
 ghost use Rattle.sdl_lex.specs.declared.lexemes.Token as lexeme;
 ghost use Rattle.script_check.specs.Telling.{Fits, FitsRule, IsNameAt, IsNamed, IsTokenAt};
 
 use crate::answers::no_answer;
+use crate::ends::no_end;
 use crate::limits::tell_over;
 use crate::receivers::{no_receiver, two_receivers};
 use crate::sort_notes::explain;
@@ -45,20 +46,22 @@ fn of_unset(
 /// What is said of a rule that is broken at a place of a process.
 fn of_place(
     alloc: Global,
-    notes: &mut Notes,
+    told: &mut Told,
     block: &BlockTable<'_>,
     process: &ProcessTable<'_>,
-    text: &str,
+    read: &Reading<'_>,
     fault: &RuleFault,
 ) -> Result<(), AllocError> {
+    let notes = &mut told.notes;
     match fault {
         RuleFault::WrongSort(at) => match wrong_sort(block, process, *at) {
             Some(cause) => explain(alloc, notes, &cause),
             None => Ok(()),
         },
-        RuleFault::NoReceiver(at) => no_receiver(alloc, notes, block, process, text, *at),
+        RuleFault::NoReceiver(at) => no_receiver(alloc, notes, block, process, read.text, *at),
         RuleFault::TwoReceivers(at) => two_receivers(alloc, notes, block, process, *at),
         RuleFault::NoAnswer(at) => no_answer(notes, process, *at),
+        RuleFault::NoState(at) => no_end(told, process, read, *at),
         _ => Ok(()),
     }
 }
@@ -67,6 +70,7 @@ fn of_place(
 fn place_of(fault: &RuleFault) -> Option<u32> {
     match fault {
         RuleFault::WrongSort(at)
+        | RuleFault::NoState(at)
         | RuleFault::NoReceiver(at)
         | RuleFault::TwoReceivers(at)
         | RuleFault::NoAnswer(at) => Some(*at),
@@ -79,7 +83,7 @@ fn of_block(
     alloc: Global,
     told: &mut Told,
     block: &BlockTable<'_>,
-    text: &str,
+    read: &Reading<'_>,
     fault: &RuleFault,
 ) -> Result<(), AllocError> {
     match fault {
@@ -92,7 +96,7 @@ fn of_block(
             let Some(process) = process_at(block, at) else {
                 return Ok(());
             };
-            of_place(alloc, &mut told.notes, block, process, text, fault)
+            of_place(alloc, told, block, process, read, fault)
         }
     }
 }
@@ -102,11 +106,11 @@ fn of_tree(
     alloc: Global,
     told: &mut Told,
     block: &Block,
-    text: &str,
+    read: &Reading<'_>,
     fault: &RuleFault,
 ) -> Result<(), AllocError> {
     match BlockTable::new(alloc, block) {
-        Ok(table) => of_block(alloc, told, &table, text, fault),
+        Ok(table) => of_block(alloc, told, &table, read, fault),
         Err(TableFault::NoMemory) => Err(AllocError),
         Err(TableFault::DoubleName(_)) => Ok(()),
     }
@@ -120,7 +124,7 @@ fn add_of_tree(
     fault: &RuleFault,
 ) -> Result<(), AllocError> {
     match parse(alloc, read.tokens) {
-        Ok(block) => of_tree(alloc, told, &block, read.text, fault),
+        Ok(block) => of_tree(alloc, told, &block, read, fault),
         Err(ParseFault::NoMemory) => Err(AllocError),
         Err(_) => Ok(()),
     }
@@ -165,7 +169,7 @@ fn fitting_rule(tokens: &[Token], fault: &RuleFault, place: u32) -> Option<u32>
     ensures { IfSome result (FitsRule tokens.now fault.now) }
 {
     match fault {
-        RuleFault::Limit(_) => token_at(tokens, place),
+        RuleFault::NoState(_) | RuleFault::Limit(_) => token_at(tokens, place),
         RuleFault::Unset { variable, .. } => name_at(tokens, *variable, place),
         _ => None,
     }

@@ -17,8 +17,8 @@ use Rattle.link_group.specs.Placing.{rebalance_fault, rebalanced}
 use Rattle.link_group.specs.Printed.{send_error_text, bind_error_text, fail_error_text, rebalance_error_text}
 use Rattle.link_group.specs.Ticking.{all_due}
 use Rattle.link_group.specs.Ticks.{with_room, tick_fault, after_ticks, IsTickError}
-use Rattle.link_group.specs.group_members_types.commanding.CommandError.{CommandError}
-use Rattle.link_group.specs.group_members_types.commanding.CommandError.TheVariants as barring
+use Rattle.link_group.specs.declared.commanding.CommandError.{CommandError}
+use Rattle.link_group.specs.declared.commanding.CommandError.TheVariants as barring
 use Rattle.link_group.specs.group_changeover_types.errors.LinkError.{LinkError}
 use Rattle.link_group.specs.group_changeover_types.errors.LinkError.TheVariants as linking
 use Rattle.link_group.specs.group_changeover_types.errors.SendError.{SendError}

@@ -3,7 +3,7 @@ use Rattle.std.proofs.Common.{◌≡◌, ℕ, ◌+◌, ◌<◌, ◌≤◌, List,
 use Rattle.std.specs.Prelude.{codes, is_some, slice_get, slice_set}
 use Rattle.std.proofs.lemmas.List.{length-drop, drop-drop}
 use Rattle.link_transceiver.specs.declared.signals.Report.{Report}
-use Rattle.link_group.specs.group_members_types.link.Link.{Link}
+use Rattle.link_group.specs.declared.link.Link.{Link}
 use Rattle.link_group.specs.Set.{LinkSet}
 use Rattle.link_group.specs.Links.{change, set_at}
 use Rattle.link_group.specs.Doing.{Reported, asked, asked_of, began, unbegun, leaves_out}

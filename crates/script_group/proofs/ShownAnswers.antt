@@ -3,7 +3,7 @@ use Rattle.std.proofs.Common.{◌≡◌, ℕ, suc, ◌+◌, List, ◌++◌, Opti
 use Rattle.std.specs.Prelude.{codes}
 use Rattle.std.specs.Fmt.{decimal}
 use Rattle.actor_machine.specs.Ledger.{Ledger}
-use Rattle.link_group.specs.group_members_types.link.Link.{Link}
+use Rattle.link_group.specs.declared.link.Link.{Link}
 use Rattle.link_group.specs.Links.{read_at}
 use Rattle.link_group.specs.Reading.{held_count, sent_count, book_of}
 use Rattle.script_terminal.specs.Answers.{actor_named, state_line, value_line}

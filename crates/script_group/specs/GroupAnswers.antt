@@ -13,9 +13,9 @@ use Rattle.link_transceiver.specs.declared.signals.Report.{Report}
 use Rattle.group_changeover.specs.declared.changeover.Changeover.{Changeover}
 use Rattle.su_octets.specs.Bits.{AreOctets}
 use Rattle.group_changeover.specs.Changeovers.{Says}
-use Rattle.link_group.specs.group_members_types.link.Link.{Link}
-use Rattle.link_group.specs.group_members_types.commanding.CommandError.{CommandError}
-use Rattle.link_group.specs.group_members_types.commanding.CommandError.TheVariants as barring
+use Rattle.link_group.specs.declared.link.Link.{Link}
+use Rattle.link_group.specs.declared.commanding.CommandError.{CommandError}
+use Rattle.link_group.specs.declared.commanding.CommandError.TheVariants as barring
 use Rattle.link_group.specs.group_changeover_types.errors.FailError.{FailError}
 use Rattle.link_group.specs.group_changeover_types.errors.RetrieveError.{RetrieveError}
 use Rattle.link_group.specs.group_changeover_types.errors.AbandonError.{AbandonError}

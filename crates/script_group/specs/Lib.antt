@@ -12,5 +12,5 @@ pub use Rattle.link_group.specs.Doing
 pub use Rattle.link_group.specs.Set
 pub use Rattle.link_group.specs.Reading
 pub use Rattle.link_group.specs.Links
-pub use Rattle.link_group.specs.group_members_types
+pub use Rattle.link_group.specs.declared as link_group_types
 pub use Rattle.link_group.specs.New

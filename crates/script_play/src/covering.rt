@@ -9,7 +9,7 @@ ghost use Rattle.script_play.specs.Seen.{IsPlayTold, IsPlayToldInPart, IsCovered
 
 use crate::watching::{tell, watch_text};
 use plain_text::{TextRead, read_text};
-use script_check::{MONITORS, Q703, STANDARD, SetWord, find_set, refuse_set};
+use script_check::{SetWord, find_set, refuse_set};
 use script_covered::{BlockTable, TextCoverage, parse, tokens};
 use script_seen::{ActorName, Ended, FAILED, Item, RoundLimits, Watcher, write_line};
 use std::alloc::Global;
@@ -257,13 +257,11 @@ pub(crate) fn play_covered<S: Read + Drop, R: Read + Drop, T: Write, W: Write, E
         → IsRefused (given S.remaining set) (R.remaining script) (W.contents writer.old) (W.contents writer.new) }
     ensures status { (result ≡ 0) ⊎ (result ≡ 1) ⊎ (result ≡ 2) ⊎ (result ≡ 4) }
 {
-    match set {
-        SetWord::Text(mut reader) => match read_text(alloc, &mut reader) {
+    match set.own() {
+        Ok(own) => cover_own(alloc, own.text(), usual, name, script, out, writer, errors),
+        Err(mut reader) => match read_text(alloc, &mut reader) {
             Ok(of_set) => cover_read(alloc, &of_set, usual, name, script, out, writer, errors),
             Err(_) => FAILED,
         },
-        SetWord::Standard => cover_own(alloc, STANDARD, usual, name, script, out, writer, errors),
-        SetWord::Q703 => cover_own(alloc, Q703, usual, name, script, out, writer, errors),
-        SetWord::Monitors => cover_own(alloc, MONITORS, usual, name, script, out, writer, errors),
     }
 }

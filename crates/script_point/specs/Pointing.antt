@@ -1,11 +1,14 @@
 -- The word at which a refusal points.
-use Rattle.std.specs.Prelude.{◌≡◌, ℕ, ◌+◌, ◌==◌, if◌then◌else◌, List, [], ◌∷◌, Option, Some, None}
+use Rattle.std.specs.Prelude.{◌≡◌, ℕ, ◌+◌, ◌==◌, Bool, true, false, ◌&&◌, if◌then◌else◌, List, []}
+use Rattle.std.specs.Prelude.{◌∷◌, Option, Some, None, is_some}
 use Rattle.std.specs.Prelude.{option_map, MatchOption, Ok, codes, string_bytes}
 use Rattle.std.specs.Option.{option_map_or}
 use Rattle.sdl_lex.specs.Lexed.{Answers}
 use Rattle.sdl_lex.specs.Printed as lexis
 use Rattle.sdl_tree.specs.Printed as parser
 use Rattle.sdl_sound.specs.Printed as rules
+use Rattle.sdl_sound.specs.declared.fault.RuleFault.{RuleFault}
+use Rattle.sdl_sound.specs.declared.fault.RuleFault.TheVariants as broken
 use Rattle.sdl_tree.specs.declared.fault.ParseFault.{ParseFault}
 use Rattle.sdl_tree.specs.declared.fault.ParseFault.TheVariants as parsing
 use Rattle.sdl_lex.specs.declared.lexemes.Token.{Token}
@@ -57,10 +60,37 @@ name_text (Parse fault line) = parser.fault_text fault
 name_text (Rule fault line) = rules.fault_text fault
 name_text NoMemory = codes "out of memory"
 
--- The same, and the token at the place where it is found, where the refusal itself names none.
+-- S4 names where a transition begins that runs off its end. It may be found where it does.
+abbrev pub runs_off : RuleFault → Bool
+runs_off (broken.DoubleName place) = false
+runs_off (broken.UnknownName place) = false
+runs_off (broken.WrongSort place) = false
+runs_off (broken.NoState place) = true
+runs_off (broken.NoReceiver place) = false
+runs_off (broken.TwoReceivers place) = false
+runs_off (broken.JoinCycle place) = false
+runs_off (broken.NoAnswer place) = false
+runs_off (broken.BadDivisor place) = false
+runs_off (broken.Limit which) = false
+runs_off (broken.Unset variable path) = false
+runs_off broken.NoMemory = false
+
+abbrev pub is_found_elsewhere : LoadFault → Bool
+is_found_elsewhere (Lex fault line) = false
+is_found_elsewhere (Parse fault line) = false
+is_found_elsewhere (Rule fault line) = runs_off fault
+is_found_elsewhere NoMemory = false
+
+abbrev pub named_word : List Token → LoadFault → Option ℕ → Option Word
+named_word tokens fault found =
+    if is_found_elsewhere fault && is_some found then None else word_of tokens fault
+
+-- The word at the place that a refusal names, and the token at the place where it is found, where
+-- the refusal itself names none; of S4 the place where it is found counts first.
 abbrev pub word_in : List Token → LoadFault → Option ℕ → Option Word
 word_in tokens fault found =
-    option_map_or (λ word. Some word) (word_of tokens fault) (option_map (token_word tokens) found)
+    option_map_or (λ word. Some word) (named_word tokens fault found)
+    (option_map (token_word tokens) found)
 
 -- the lines that point at a refusal of a text with these tokens; without a place there is one line
 abbrev pub IsShown : List ℕ → List Token → LoadFault → Told → List ℕ → Type 0

@@ -21,7 +21,7 @@ mod words;
 pub use causes::add_notes;
 pub use fronts::in_front;
 pub use mtp2_text::{
-    LexFault, LoadFault, MONITORS, Q703, STANDARD, Verified, load, monitors, q703, standard,
+    LexFault, LoadFault, MONITORS, OwnSet, Q703, STANDARD, Verified, load, standard,
 };
 pub use notes::{Notes, Told};
 pub use pointing::{point_out, tokens_of};

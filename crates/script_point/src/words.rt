@@ -1,7 +1,7 @@
 //! The words of a text at which refusals point.
 ghost use Rattle.std.specs.Prelude.{◌≡◌, option_map, Some};
 ghost use Rattle.mtp2_text.specs.Loaded.{token_place, rule_place};
-ghost use Rattle.script_point.specs.Pointing.{token_end, token_word, lex_word, parse_word, word_of, word_in, name_text};
+ghost use Rattle.script_point.specs.Pointing.{token_end, token_word, lex_word, parse_word, word_of, runs_off, is_found_elsewhere, named_word, word_in, name_text};
 
 use crate::shown::Word;
 use mtp2_text::LoadFault;
@@ -99,11 +99,51 @@ fn word_of(tokens: &[Token], fault: &LoadFault) -> Option<Word>
     }
 }
 
-/// The word at which a refusal points: the one at the place that it names, else at the one where it is found.
+/// Whether a rule names where a transition begins, and is found where it runs off its end.
+fn runs_off(fault: &RuleFault) -> bool
+    ensures { result ≡ runs_off fault.now }
+{
+    match fault {
+        RuleFault::NoState(_) => true,
+        RuleFault::DoubleName(_)
+        | RuleFault::UnknownName(_)
+        | RuleFault::WrongSort(_)
+        | RuleFault::NoReceiver(_)
+        | RuleFault::TwoReceivers(_)
+        | RuleFault::JoinCycle(_)
+        | RuleFault::NoAnswer(_)
+        | RuleFault::BadDivisor(_)
+        | RuleFault::Limit(_)
+        | RuleFault::Unset { .. }
+        | RuleFault::NoMemory => false,
+    }
+}
+
+/// Whether a refusal is found at another place than the one that it names.
+fn is_found_elsewhere(fault: &LoadFault) -> bool
+    ensures { result ≡ is_found_elsewhere fault.now }
+{
+    match fault {
+        LoadFault::Rule { fault, .. } => runs_off(fault),
+        LoadFault::Lex { .. } | LoadFault::Parse { .. } | LoadFault::NoMemory => false,
+    }
+}
+
+/// The word at the place that a refusal names, unless it is found elsewhere.
+fn named_word(tokens: &[Token], fault: &LoadFault, found: Option<u32>) -> Option<Word>
+    ensures { result ≡ named_word tokens.now fault.now found }
+{
+    if is_found_elsewhere(fault) && found.is_some() {
+        return None;
+    }
+    word_of(tokens, fault)
+}
+
+/// The word at which a refusal points: the one at the place that it names, else at the one where it is found. Of S4 the one where it is found counts first.
 pub fn word_in(tokens: &[Token], fault: &LoadFault, found: Option<u32>) -> Option<Word>
     ensures { result ≡ word_in tokens.now fault.now found }
 {
-    match (word_of(tokens, fault), found) {
+    match (named_word(tokens, fault, found), found) {
         (Some(word), _) => Some(word),
         (None, Some(place)) => Some(token_word(tokens, place)),
         (None, None) => None,

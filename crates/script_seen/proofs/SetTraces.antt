@@ -23,7 +23,7 @@ use Rattle.script_group.specs.Links.{read_at}
 use Rattle.script_group.specs.New.{new_set}
 use Rattle.script_group.specs.Reading.{book_of}
 use Rattle.script_group.specs.Term.{Term}
-use Rattle.script_group.specs.group_members_types.link.Link.{Link}
+use Rattle.script_group.specs.link_group_types.link.Link.{Link}
 use Rattle.script_group.specs.TermRuns.{latest, IsNewWithin}
 use Rattle.script_group.specs.GroupAnswers.{Playing, Obeys}
 use Rattle.script_group.specs.GroupRuns.{OWN_POINT, OTHER_POINT, begun as begun_set, AreNew, begins as group_begins, IsGroupRun, IsGroupWritten, IsGroupMissed, IsGroupMissedBy, HasObeyed, was_met, was_done}

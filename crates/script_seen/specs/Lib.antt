@@ -28,7 +28,7 @@ pub use Rattle.script_group.specs.Term
 pub use Rattle.script_group.specs.TermAnswers
 pub use Rattle.script_group.specs.TermRuns
 pub use Rattle.script_group.specs.UnitLines
-pub use Rattle.script_group.specs.group_members_types
+pub use Rattle.script_group.specs.link_group_types
 pub use Rattle.script_links.specs.GroupScripts
 pub use Rattle.script_links.specs.TermScripts
 pub use Rattle.script_links.specs.resend_store_types

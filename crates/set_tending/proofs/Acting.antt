@@ -18,7 +18,7 @@ use Rattle.group_changeover.specs.declared.errors.RebalanceError.{RebalanceError
 use Rattle.group_changeover.specs.declared.errors.RetrieveError.{RetrieveError}
 use Rattle.link_group.specs.OneLink.{fault_of, retrieve_refusal, abandon_refusal}
 use Rattle.link_group.specs.Doing.{Listened, Sent, Reported}
-use Rattle.link_group.specs.group_members_types.commanding.CommandError.{CommandError}
+use Rattle.link_group.specs.declared.commanding.CommandError.{CommandError}
 use Rattle.link_group.specs.Set.{LinkSet, points_of, send_fault, sent, bind_fault_at, bound_at}
 use Rattle.link_group.specs.Changing.{fail_fault, after_failure, retrieve_fault_at, after_retrieve, abandon_fault_at, after_abandon}
 use Rattle.link_group.specs.Diverting.{after_divert}

@@ -12,8 +12,8 @@ use Rattle.group_changeover.specs.Bound.{is_bound}
 use Rattle.group_changeover.specs.declared.changeover.Changeover.{Changeover}
 use Rattle.link_group.specs.Commanding.{Refused}
 use Rattle.link_group.specs.Doing.{Listened, Sent, Reported}
-use Rattle.link_group.specs.group_members_types.commanding.CommandError.{CommandError}
-use Rattle.link_group.specs.group_members_types.commanding.CommandError.TheVariants as error
+use Rattle.link_group.specs.declared.commanding.CommandError.{CommandError}
+use Rattle.link_group.specs.declared.commanding.CommandError.TheVariants as error
 use Rattle.link_group.specs.Set.{LinkSet, points_of, send_fault, sent, bind_fault_at, bound_at}
 use Rattle.link_group.specs.Changing.{fail_fault, after_failure, after_message, IsRead, retrieve_fault_at, after_retrieve, abandon_fault_at, after_abandon}
 use Rattle.link_group.specs.Diverting.{after_divert}

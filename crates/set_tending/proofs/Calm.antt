@@ -5,7 +5,7 @@ use Rattle.std.proofs.lemmas.List.{take_more, take_all}
 use Rattle.std.proofs.lemmas.Option.{none-some, slice_get_within, get_or_from_slice_get}
 use Rattle.link_group.specs.OneLink.{is_changing}
 use Rattle.link_group.specs.Tables.{changing_by}
-use Rattle.link_group.specs.group_members_types.link.Link.{Link}
+use Rattle.link_group.specs.declared.link.Link.{Link}
 
 either : (a b c : Bool) → (a || b) ≡ false → (b ≡ false → c ≡ false) → (a || c) ≡ false
 either true b c h more = h

@@ -8,7 +8,7 @@ use Rattle.group_changeover.specs.declared.labels.Label.{Label}
 use Rattle.group_changeover.specs.Labels.{label_in}
 use Rattle.group_changeover.specs.Sharing.{selection_of, selection_by, link_of}
 use Rattle.group_changeover.specs.Bound.{is_bound}
-use Rattle.link_group.specs.group_members_types.link.Link.{Link}
+use Rattle.link_group.specs.declared.link.Link.{Link}
 use Rattle.link_group.specs.Set.{LinkSet, points_of}
 use Rattle.link_group.specs.Reading.{held_count, message_at}
 use Rattle.link_group.specs.Links.{read_at}

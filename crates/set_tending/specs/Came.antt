@@ -2,12 +2,14 @@
 use Rattle.std.specs.Prelude.{ℕ, ◌==◌, ◌/◌, ◌%◌, ◌&&◌, nat_lt, Bool, if◌then◌else◌, List, [], ◌∷◌}
 use Rattle.std.specs.Prelude.{Option, Some, None, drop, length}
 use Rattle.resend_store.specs.declared.messages.Msu.{Msu}
+use Rattle.group_changeover.specs.declared.bound.Points.{Points}
 use Rattle.group_changeover.specs.declared.labels.Label.{Label}
 use Rattle.group_changeover.specs.declared.changeover.Kind.TheVariants as kind
+use Rattle.group_changeover.specs.Bound.{is_bound}
 use Rattle.group_changeover.specs.Labels.{label_in}
 use Rattle.set_tending.specs.declared.came.Came.{Came}
 use Rattle.set_tending.specs.declared.came.Came.TheVariants.{Message, Changeover, Declaration}
-use Rattle.set_tending.specs.declared.came.Came.TheVariants.{Test, Answer}
+use Rattle.set_tending.specs.declared.came.Came.TheVariants.{Test, Answer, Own}
 use Rattle.set_tending.specs.declared.ends.Ends.{Ends}
 
 -- from the other point to this one
@@ -51,12 +53,27 @@ content_in indicator link content =
     if indicator == 0 then management_in link content
     else (if indicator == 1 then test_in link content else Message)
 
+-- of the set's own network, by the network indicator
+abbrev pub is_of : Ends → Msu → Bool
+is_of e m = m.sio / 64 == e.network
+
+abbrev pub points_of : Ends → Points
+points_of e = record { own = e.own; peer = e.peer }
+
+-- one of those that only this end sends, by a link: its line leads back here
+abbrev pub comes_back : Ends → Msu → Bool
+comes_back e m = is_bound (points_of e) m
+
+abbrev pub came_within : Ends → Msu → Label → Came
+came_within e m label =
+    if comes_between e label then content_in (m.sio % 16) label.sls (drop 4 m.sif.items)
+    else (if comes_back e m then Own else Message)
+
 abbrev pub came_by : Ends → Msu → Option Label → Came
 came_by e m None = Message
-came_by e m (Some label) =
-    if comes_between e label then content_in (m.sio % 16) label.sls (drop 4 m.sif.items)
-    else Message
+came_by e m (Some label) = came_within e m label
 
--- What is none of these, and what isn't between these points, is for level 3.
+-- What is none of these, what isn't between these points, and what is of another network, is for
+-- level 3.
 unfoldable pub came : Ends → Msu → Came
-came e m = came_by e m (label_in m.sif.items)
+came e m = if is_of e m then came_by e m (label_in m.sif.items) else Message

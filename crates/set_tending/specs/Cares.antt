@@ -1,11 +1,19 @@
 -- What is kept of each link, and how it changes.
-use Rattle.std.specs.Prelude.{ℕ, ◌+◌, ◌-◌, ◌^◌, ◌%◌, ◌&&◌, ◌||◌, nat_le, not, Bool, true, false}
+use Rattle.std.specs.Prelude.{ℕ, ◌+◌, ◌-◌, ◌^◌, ◌%◌, ◌==◌, ◌&&◌, ◌||◌, nat_le, not, Bool, true}
+use Rattle.std.specs.Prelude.{false}
 use Rattle.std.specs.Prelude.{if◌then◌else◌, min, max, Option, Some, None}
 use Rattle.std.specs.Prelude.{is_some, is_none}
+use Rattle.link_group.specs.Moving.{hand_count}
+use Rattle.link_group.specs.Tables.{changing_by}
+use Rattle.link_group.specs.declared.link.Link.{Link}
 use Rattle.group_changeover.specs.Saying.{is_order as is_kind_order}
+use Rattle.group_changeover.specs.declared.changeover.Kind.{Kind}
+use Rattle.group_changeover.specs.declared.changeover.Kind.TheVariants as kind
 use Rattle.set_tending.specs.declared.care.Care.{Care}
 use Rattle.set_tending.specs.declared.care.Owed.{Owed}
 use Rattle.set_tending.specs.declared.care.Testing.{Testing}
+use Rattle.set_tending.specs.declared.care.Urgency.{Urgency}
+use Rattle.set_tending.specs.declared.care.Urgency.TheVariants.{Open, Emergency, Calm}
 use Rattle.set_tending.specs.declared.care.Testing.TheVariants.{Rests}
 
 -- Q.704's T2 and T17, in ticks
@@ -37,10 +45,13 @@ new_care = record {
   serves = false;
   served = false;
   started = false;
+  renewed = false;
   stopping = false;
   rested = 0;
   due = None;
   outage = false;
+  urgency = Open;
+  urgent = false;
   patience = PATIENCE;
   owed = None;
   test = Rests 0;
@@ -51,7 +62,8 @@ new_care = record {
 -- it comes into service: its test begins now, and what was to be said of it speaks of numbers that
 -- are no more
 unfoldable pub risen : ℕ → Care → Care
-risen now c = record c { serves = true; served = true; owed = None; test = Rests now }
+risen now c =
+    record c { serves = true; served = true; urgent = false; owed = None; test = Rests now }
 
 abbrev pub due_if : Bool → ℕ → Option ℕ
 due_if true at = Some at
@@ -63,6 +75,7 @@ fallen now c = record c {
   serves = false;
   started = false;
   stopping = false;
+  urgent = false;
   rested = later now REST;
   due = due_if c.wanted (later now REST);
 }
@@ -79,7 +92,7 @@ let_be c = record c { wanted = false; due = None }
 
 -- its changeover begins
 abbrev pub changing : Care → Care
-changing c = record c { patience = PATIENCE }
+changing c = record c { renewed = false; patience = PATIENCE }
 
 abbrev pub stopped : Bool → Care → Care
 stopped stopping c = record c { stopping = stopping }
@@ -97,9 +110,79 @@ numbered c = record c { tests = (c.tests + 1) % 2 ^ 16 }
 abbrev pub owing : Option Owed → Care → Care
 owing owed c = record c { owed = owed }
 
--- it was started: its Start isn't due any more
+-- its changeover goes on, and its messages aren't handed out
+abbrev pub is_open_by : Option Link → Bool
+is_open_by k = changing_by k && is_none (hand_count k)
+
+-- What is owed about a link a tick later. It is owed for 1,400 ticks, of which those count in which
+-- another link would take it; an order that waits is owed while the link's changeover waits for an
+-- answer, and not once its messages only wait for diversion.
+abbrev pub left_on : Bool → Owed → ℕ
+left_on is_taken o = if is_taken then o.left - 1 else o.left
+
+abbrev pub is_over : Bool → Bool → Owed → Bool
+is_over is_taken is_open o =
+    (left_on is_taken o == 0) || (is_order o && (waits o && not is_open))
+
+abbrev pub owed_by : Bool → Bool → Option Owed → Option Owed
+owed_by is_taken is_open None = None
+owed_by is_taken is_open (Some o) =
+    if is_over is_taken is_open o then None else Some (record o { left = left_on is_taken o })
+
+unfoldable pub owed_on : Bool → Bool → Care → Option Owed
+owed_on is_taken is_open c = owed_by is_taken is_open c.owed
+
+-- messages of it were told as unsure: nothing is owed about it
+abbrev pub given_up : Care → Care
+given_up c = record c { owed = None }
+
+-- it was started: its Start isn't due any more, and nothing is owed about its service before
 abbrev pub begun : Care → Care
-begun c = record c { started = true; due = None }
+begun c = record c { started = true; renewed = true; due = None; owed = None }
+
+-- COO and COA tell a number; ECO and ECA don't
+abbrev pub is_numbered : Kind → Bool
+is_numbered (kind.Order accepted) = true
+is_numbered (kind.Acknowledgement accepted) = true
+is_numbered kind.EmergencyOrder = false
+is_numbered kind.EmergencyAcknowledgement = false
+
+-- No number is said of a link that was started, before its next changeover begins here.
+abbrev pub may_say : Care → Kind → Bool
+may_say c k = not (c.renewed && is_numbered k)
+
+abbrev pub without_number : Kind → Kind
+without_number (kind.Order accepted) = kind.EmergencyOrder
+without_number (kind.Acknowledgement accepted) = kind.EmergencyAcknowledgement
+without_number kind.EmergencyOrder = kind.EmergencyOrder
+without_number kind.EmergencyAcknowledgement = kind.EmergencyAcknowledgement
+
+-- what is said of it in place of this
+abbrev pub spoken : Care → Kind → Kind
+spoken c k = if c.renewed then without_number k else k
+
+-- It comes into service as an emergency where that was ordered, or where no other link is in service
+-- and nothing was ordered.
+abbrev pub is_emergency_by : Bool → Urgency → Bool
+is_emergency_by another_serves Open = not another_serves
+is_emergency_by another_serves Emergency = true
+is_emergency_by another_serves Calm = false
+
+abbrev pub is_emergency : Bool → Care → Bool
+is_emergency another_serves c = is_emergency_by another_serves c.urgency
+
+-- An emergency that was declared of it ends once another link carries messages, unless it was
+-- ordered.
+abbrev pub is_eased_by : Bool → Bool → Urgency → Bool
+is_eased_by another_carries urgent Open = urgent && another_carries
+is_eased_by another_carries urgent Emergency = false
+is_eased_by another_carries urgent Calm = urgent && another_carries
+
+abbrev pub is_eased : Bool → Care → Bool
+is_eased another_carries c = is_eased_by another_carries c.urgent c.urgency
+
+abbrev pub urged : Bool → Care → Care
+urged urgent c = record c { urgent = urgent }
 
 -- a tick passed in which the answer of its changeover could come
 abbrev pub waited : Care → Care

@@ -5,7 +5,7 @@ use Rattle.resend_store.specs.declared.messages.Msu.{Msu}
 use Rattle.group_changeover.specs.Sharing.{selection_of, link_of}
 use Rattle.group_changeover.specs.declared.errors.SendError.{SendError}
 use Rattle.group_changeover.specs.declared.errors.SendError.TheVariants.{Full}
-use Rattle.link_group.specs.group_members_types.link.Link.{Link}
+use Rattle.link_group.specs.declared.link.Link.{Link}
 use Rattle.link_group.specs.OneLink.{held}
 use Rattle.group_changeover.specs.Bound.{is_bound}
 use Rattle.link_group.specs.Set.{LinkSet, points_of, send_fault}

@@ -9,18 +9,19 @@ use Rattle.link_transceiver.specs.declared.signals.Report.TheVariants as report
 use Rattle.set_tending.specs.Came.{came}
 use Rattle.set_tending.specs.declared.came.Came.{Came}
 use Rattle.set_tending.specs.declared.came.Came.TheVariants.{Message, Changeover, Declaration}
-use Rattle.set_tending.specs.declared.came.Came.TheVariants.{Test, Answer}
+use Rattle.set_tending.specs.declared.came.Came.TheVariants.{Test, Answer, Own}
 use Rattle.set_tending.specs.declared.tender.Plan.{Plan}
 use Rattle.set_tending.specs.declared.told.Told.{Told}
 use Rattle.set_tending.specs.declared.told.Told.TheVariants as told
 
--- one for level 3, by what it is; a declaration about no link of the set is one too
+-- one for level 3, by what it is; a declaration and a test about no link of the set are too
 abbrev pub is_for_user_by : ℕ → Came → Bool
 is_for_user_by links Message = true
 is_for_user_by links (Changeover about kind) = false
 is_for_user_by links (Declaration about code) = nat_le links about
-is_for_user_by links (Test about) = false
+is_for_user_by links (Test about) = nat_le links about
 is_for_user_by links (Answer about) = false
+is_for_user_by links Own = false
 
 abbrev pub is_for_user : Plan → Msu → Bool
 is_for_user p m = is_for_user_by p.links (came p.ends m)
@@ -56,6 +57,7 @@ report_in (told.Hears link kind by_link) = []
 report_in (told.Unsure link count) = []
 report_in (told.Diverted link count) = []
 report_in (told.Tested link) = []
+report_in (told.Looped link) = []
 report_in (told.Shared shared) = []
 
 -- the reports that are told, in order

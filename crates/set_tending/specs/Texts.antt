@@ -43,4 +43,5 @@ told_text (told.Hears link kind by_link) =
 told_text (told.Unsure link count) = decimal link ++ codes " unsure " ++ decimal count
 told_text (told.Diverted link count) = decimal link ++ codes " diverted " ++ decimal count
 told_text (told.Tested link) = decimal link ++ codes " tested"
+told_text (told.Looped link) = decimal link ++ codes " looped"
 told_text (told.Shared shared) = codes "shared" ++ flat_map link_text shared

@@ -88,7 +88,7 @@ impl Tender {
         self.tell_unsure(link, before)
     }
 
-    /// Tells how many messages more count as unsure than did before.
+    /// Tells how many messages more count as unsure than did before. Nothing is owed about the link then.
     fn tell_unsure(&mut self, link: usize, before: u64) -> Result<(), CommandError>
         ensures { self.new ≡ self.old }
     {
@@ -96,6 +96,7 @@ impl Tender {
         if count == 0 {
             return Ok(());
         }
+        self.keep(link, self.care(link).given_up());
         match self.tell(Told::Unsure(link, count as usize)) {
             Ok(()) => Ok(()),
             Err(_) => Err(CommandError::NoMemory),

@@ -1,9 +1,10 @@
 //! What a message that came is to a set.
-ghost use Rattle.std.specs.Prelude.{◌≡◌};
-ghost use Rattle.set_tending.specs.Came.{comes_between, by_heading, by_pair, management_in, test_by, test_in, content_in, came};
+ghost use Rattle.std.specs.Prelude.{◌≡◌, Some};
+ghost use Rattle.group_changeover.specs.Labels.{label_in};
+ghost use Rattle.set_tending.specs.Came.{comes_between, is_of, by_heading, by_pair, management_in, test_by, test_in, content_in, comes_back, came_within, came};
 
 use crate::ends::Ends;
-use group_changeover::{Kind, Label, label_of};
+use group_changeover::{Kind, Label, Points, label_of};
 use link_group::Msu;
 
 /// What a message that came is.
@@ -19,6 +20,8 @@ pub enum Came {
     Test(usize),
     /// The answer to one.
     Answer(usize),
+    /// One that this end sent by the link: it came back.
+    Own,
 }
 
 /// A heading that stands alone.
@@ -106,22 +109,52 @@ impl Ends {
         label.dpc == self.own && label.opc == self.peer
     }
 
+    /// Whether a message is of the set's own network.
+    fn is_of(self, msu: &Msu) -> bool
+        ensures { result ≡ is_of self msu.now }
+    {
+        msu.sio / 64 == self.network
+    }
+
+    /// Whether a message is one of those that are bound to a link, from this point to the other.
+    fn comes_back(self, msu: &Msu) -> bool
+        ensures { result ≡ comes_back self msu.now }
+    {
+        let points = Points {
+            own: self.own,
+            peer: self.peer,
+        };
+        points.is_bound(msu)
+    }
+
+    /// What a message of the set's own network that came is.
+    fn came_within(self, label: Label, msu: &Msu) -> Came
+        requires { label_in msu.now.sif.items ≡ Some label }
+        ensures { result ≡ came_within self msu.now label }
+    {
+        if self.comes_between(label) {
+            return content_in(
+                msu.sio % 16,
+                usize::from(label.sls),
+                &msu.sif.as_slice()[4..],
+            );
+        }
+        if self.comes_back(msu) {
+            return Came::Own;
+        }
+        Came::Message
+    }
+
     /// What a message that came is.
     #[tactic(auto, unfolding(crate::specs::Came::came))]
     pub(crate) fn came(self, msu: &Msu) -> Came
         ensures { result ≡ came self msu.now }
     {
+        if !self.is_of(msu) {
+            return Came::Message;
+        }
         match label_of(msu) {
-            Some(label) => {
-                if !self.comes_between(label) {
-                    return Came::Message;
-                }
-                content_in(
-                    msu.sio % 16,
-                    usize::from(label.sls),
-                    &msu.sif.as_slice()[4..],
-                )
-            }
+            Some(label) => self.came_within(label, msu),
             None => Came::Message,
         }
     }

@@ -1,6 +1,6 @@
 //! What is kept of each link.
-ghost use Rattle.std.specs.Prelude.{◌≡◌};
-ghost use Rattle.set_tending.specs.Cares.{is_order, waits, new_care, risen, fallen, desired, let_be, changing, stopped, handed_out, tested, numbered, owing, begun, waited, is_coming, is_due};
+ghost use Rattle.std.specs.Prelude.{◌≡◌, Some};
+ghost use Rattle.set_tending.specs.Cares.{is_order, waits, new_care, risen, fallen, desired, let_be, changing, stopped, handed_out, tested, numbered, owing, left_on, is_over, owed_by, owed_on, given_up, begun, waited, is_coming, is_due, is_emergency, is_eased, urged, is_numbered, may_say, spoken};
 
 use group_changeover::Kind;
 use link_group::Command;
@@ -37,6 +37,27 @@ pub enum Testing {
     RunsAgain(u64),
 }
 
+/// Whether a message of changeover tells a number.
+fn is_numbered(kind: Kind) -> bool
+    ensures { result ≡ is_numbered kind }
+{
+    match kind {
+        Kind::Order(_) | Kind::Acknowledgement(_) => true,
+        Kind::EmergencyOrder | Kind::EmergencyAcknowledgement => false,
+    }
+}
+
+/// What level 3 ordered last of a link's emergency.
+#[derive(Clone, Copy, Debug, PartialEq, Eq)]
+pub enum Urgency {
+    /// Nothing.
+    Open,
+    /// That it is one.
+    Emergency,
+    /// That it is none.
+    Calm,
+}
+
 /// What is kept of a link.
 #[derive(Clone, Copy, Debug, PartialEq, Eq)]
 pub struct Care {
@@ -50,6 +71,8 @@ pub struct Care {
     pub served: bool,
     /// It was started, and hasn't gone down since.
     pub started: bool,
+    /// It was started since its last changeover began here.
+    pub renewed: bool,
     /// It was stopped, and hasn't gone down since.
     pub stopping: bool,
     /// The tick from which it may be started.
@@ -58,6 +81,10 @@ pub struct Care {
     pub due: Option<u64>,
     /// This side's processor is out, as was ordered.
     pub outage: bool,
+    /// What was ordered of its emergency.
+    pub urgency: Urgency,
+    /// An emergency of it was declared, and hasn't ended since.
+    pub urgent: bool,
     /// For how many ticks more the answer of its changeover is waited for, of those in which another link takes messages about it.
     pub patience: u64,
     /// What is to be said of it.
@@ -87,6 +114,37 @@ impl Owed {
     {
         self.by.is_none()
     }
+
+    /// For how many ticks more it is owed a tick later.
+    fn left_on(self, is_taken: bool) -> u64
+        ensures { result ≡ left_on is_taken self }
+    {
+        if is_taken {
+            self.left.saturating_sub(1)
+        } else {
+            self.left
+        }
+    }
+
+    /// Whether it isn't owed any more a tick later.
+    fn is_over(self, is_taken: bool, is_open: bool) -> bool
+        ensures { result ≡ is_over is_taken is_open self }
+    {
+        self.left_on(is_taken) == 0 || (self.is_order() && (self.waits() && !is_open))
+    }
+
+    /// The same a tick later.
+    fn on(self, is_taken: bool, is_open: bool) -> Option<Owed>
+        ensures { result ≡ owed_by is_taken is_open (Some self) }
+    {
+        if self.is_over(is_taken, is_open) {
+            return None;
+        }
+        Some(Owed {
+            left: self.left_on(is_taken),
+            ..self
+        })
+    }
 }
 
 impl Care {
@@ -100,10 +158,13 @@ impl Care {
             serves: false,
             served: false,
             started: false,
+            renewed: false,
             stopping: false,
             rested: 0,
             due: None,
             outage: false,
+            urgency: Urgency::Open,
+            urgent: false,
             patience: PATIENCE,
             owed: None,
             test: Testing::Rests(0),
@@ -120,6 +181,7 @@ impl Care {
         Care {
             serves: true,
             served: true,
+            urgent: false,
             owed: None,
             test: Testing::Rests(now),
             ..self
@@ -136,6 +198,7 @@ impl Care {
             serves: false,
             started: false,
             stopping: false,
+            urgent: false,
             rested,
             due: if self.wanted { Some(rested) } else { None },
             ..self
@@ -180,7 +243,7 @@ impl Care {
         }
     }
 
-    /// It took a command: it has power, and this side's processor is out, or is back.
+    /// It took a command: it has power, this side's processor is out, or is back, or its emergency begins or ends.
     pub fn obeyed(self, command: Command) -> Care {
         match command {
             Command::PowerOn => Care {
@@ -195,6 +258,16 @@ impl Care {
                 outage: false,
                 ..self
             },
+            Command::Emergency => Care {
+                urgency: Urgency::Emergency,
+                urgent: self.started,
+                ..self
+            },
+            Command::Calm => Care {
+                urgency: Urgency::Calm,
+                urgent: false,
+                ..self
+            },
             _ => self,
         }
     }
@@ -204,6 +277,7 @@ impl Care {
         ensures { result ≡ changing self }
     {
         Care {
+            renewed: false,
             patience: PATIENCE,
             ..self
         }
@@ -247,15 +321,84 @@ impl Care {
         Care { owed, ..self }
     }
 
-    /// It was started.
+    /// What is owed about it a tick later, whether another link would take it, and whether its changeover waits for the answer.
+    #[tactic(auto, unfolding(crate::specs::Cares::owed_on))]
+    pub fn owed_on(self, is_taken: bool, is_open: bool) -> Option<Owed>
+        ensures { result ≡ owed_on is_taken is_open self }
+    {
+        match self.owed {
+            Some(owed) => owed.on(is_taken, is_open),
+            None => None,
+        }
+    }
+
+    /// Messages of it were told as unsure: nothing that is to be said of it helps any more.
+    pub fn given_up(self) -> Care
+        ensures { result ≡ given_up self }
+    {
+        Care { owed: None, ..self }
+    }
+
+    /// It was started: what was to be said of it speaks of the service before.
     pub fn begun(self) -> Care
         ensures { result ≡ begun self }
     {
         Care {
             started: true,
+            renewed: true,
             due: None,
-            ..self
+            ..self.given_up()
         }
+    }
+
+    /// Whether this is said of it: nothing with a number once it was started, before its next changeover begins here.
+    pub fn may_say(self, kind: Kind) -> bool
+        ensures { result ≡ may_say self kind }
+    {
+        !(self.renewed && is_numbered(kind))
+    }
+
+    /// What is said of it in place of this: the emergency one, where the number isn't to be said.
+    pub fn spoken(self, kind: Kind) -> Kind
+        ensures { result ≡ spoken self kind }
+    {
+        if !self.renewed {
+            return kind;
+        }
+        match kind {
+            Kind::Order(_) | Kind::EmergencyOrder => Kind::EmergencyOrder,
+            Kind::Acknowledgement(_) | Kind::EmergencyAcknowledgement => {
+                Kind::EmergencyAcknowledgement
+            }
+        }
+    }
+
+    /// Whether it comes into service as an emergency: as was ordered; where nothing was, while no other link is in service.
+    pub fn is_emergency(self, another_serves: bool) -> bool
+        ensures { result ≡ is_emergency another_serves self }
+    {
+        match self.urgency {
+            Urgency::Open => !another_serves,
+            Urgency::Emergency => true,
+            Urgency::Calm => false,
+        }
+    }
+
+    /// Whether an emergency that was declared of it ends: once another link carries messages, unless it was ordered.
+    pub fn is_eased(self, another_carries: bool) -> bool
+        ensures { result ≡ is_eased another_carries self }
+    {
+        match self.urgency {
+            Urgency::Open | Urgency::Calm => self.urgent && another_carries,
+            Urgency::Emergency => false,
+        }
+    }
+
+    /// An emergency of it was declared, or has ended.
+    pub fn urged(self, urgent: bool) -> Care
+        ensures { result ≡ urged urgent self }
+    {
+        Care { urgent, ..self }
     }
 
     /// A tick passed in which the answer of its changeover could come.

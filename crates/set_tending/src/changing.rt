@@ -102,13 +102,13 @@ impl Tender {
         }
     }
 
-    /// Gives up the messages of a link that were sent, and keeps the others.
+    /// Gives up the messages of a link that were sent, and keeps the others. Nothing is owed about it any more.
     fn give_up(&mut self, link: usize, count: usize) -> Result<(), TendError>
         ensures { OnOk result (Adds self.old self.new) }
     {
         match self.abandon(link)? {
             HandsOut::Messages(left) => {
-                self.keep(link, self.care(link).handed(left));
+                self.keep(link, self.care(link).handed(left).given_up());
                 self.tell(Told::Unsure(link, count))
             }
             HandsOut::Unsure(_) | HandsOut::Nothing => Ok(()),

@@ -8,7 +8,7 @@ use crate::care::Testing;
 use crate::tender::{TendError, Tender};
 use crate::told::Told;
 use group_changeover::{Hearing, Kind};
-use link_group::{LinkStatus, Msu, Report};
+use link_group::{Command, LinkStatus, Msu, Report};
 
 /// How many ticks lie between two tests of a link (Q.707's T2: 30 to 90 s).
 const BETWEEN_TESTS: u64 = 60_000;
@@ -134,10 +134,14 @@ impl Tender {
                 self.tell_report(Told::Message(link, msu))
             }
             Came::Test(about) => {
-                self.answer_test(link, about, &msu);
-                Ok(())
+                if about < self.len() {
+                    self.answer_test(about, &msu);
+                    return Ok(());
+                }
+                self.tell_report(Told::Message(link, msu))
             }
             Came::Answer(about) => self.hear_answer(link, about, &msu),
+            Came::Own => self.hear_itself(link),
         }
     }
 
@@ -207,13 +211,28 @@ impl Tender {
         let _sent = self.send_by(by, msu);
     }
 
-    /// A test came by a link: it is answered by the same.
-    fn answer_test(&mut self, link: usize, about: usize, msu: &Msu)
+    /// A test came that names a link: it is answered by that link, whichever it came by, so that crossed lines pass no test (Q.707, 2.2).
+    fn answer_test(&mut self, about: usize, msu: &Msu)
         ensures { Adds self.old self.new }
     {
         let test = msu.sif.as_slice().get(5..).unwrap_or(&[]);
         let answer = self.plan.ends.test_answer(about, test);
-        let _sent = self.send_by(link, answer);
+        let _sent = self.send_by(about, answer);
+    }
+
+    /// What this end sent by a link came back by it. The link goes out of service, until it is started by an order.
+    fn hear_itself(&mut self, link: usize) -> Result<(), TendError>
+        ensures { OnOk result (Adds self.old self.new) }
+    {
+        let care = self.care(link);
+        if !care.wanted {
+            return Ok(());
+        }
+        self.keep(link, care.let_be());
+        self.tell(Told::Looped(link))?;
+        let stopping = self.command(link, Command::Stop)?;
+        self.keep(link, self.care(link).stopped(stopping));
+        Ok(())
     }
 
     /// An answer to a test came by a link. It counts where it names that link and has the pattern of the test that runs.

@@ -1,8 +1,9 @@
 //! Messages that are owed to the other point.
-ghost use Rattle.std.specs.Prelude.{◌≡◌, OnOk};
+ghost use Rattle.std.specs.Prelude.{◌≡◌, false, slice_get, OnOk};
+ghost use Rattle.set_tending.specs.Cares.{is_open_by, may_say};
 ghost use Rattle.set_tending.specs.Rounds.{Adds};
 
-use crate::care::{Owed, PATIENCE};
+use crate::care::{Care, Owed, PATIENCE};
 use crate::tender::{TendError, Tender};
 use crate::told::Told;
 use group_changeover::{Kind, read_changeover};
@@ -110,29 +111,31 @@ impl Tender {
         Some(Owed { by: None, ..left })
     }
 
-    /// What is owed about a link a tick later.
-    fn waited(&self, about: usize, owed: Owed) -> Owed {
-        if self.least_loaded(about).is_some() {
-            Owed {
-                left: owed.left.saturating_sub(1),
-                ..owed
-            }
-        } else {
-            owed
-        }
+    /// Whether a changeover of a link goes on, and its messages aren't handed out.
+    fn is_open(&self, about: usize) -> bool
+        ensures { result ≡ is_open_by (slice_get self.now.set.links about) }
+    {
+        self.set.in_changeover(about) && self.set.hand(about).is_none()
     }
 
     /// What is owed about a link a tick later, once what is over was dropped: each after 1,400 ticks in which another link would take it, an order
-    /// as its changeover ends, and what was acknowledged.
+    /// as its messages are handed out, and what was acknowledged.
     fn owed_now(&self, about: usize) -> Option<Owed> {
-        let owed = self.waited(about, self.care(about).owed?);
-        if owed.left == 0 {
-            return None;
-        }
-        if owed.is_order() && owed.waits() && !self.set.in_changeover(about) {
-            return None;
-        }
+        let is_taken = self.least_loaded(about).is_some();
+        let owed = self.care(about).owed_on(is_taken, self.is_open(about))?;
         self.owed_still(about, owed)
+    }
+
+    /// Has a message of changeover about a link of which this is kept go by another one. Whether that takes it.
+    fn say(&mut self, about: usize, care: Care, kind: Kind, by: usize) -> bool
+        ensures adds { Adds self.old self.new }
+        ensures number { may_say care kind ≡ false → self.new ≡ self.old }
+    {
+        if !care.may_say(kind) {
+            return false;
+        }
+        let msu = self.plan.ends.changeover(about, kind);
+        self.send_by(by, msu)
     }
 
     /// Has what is owed about a link go by another one, where one takes it.
@@ -142,12 +145,14 @@ impl Tender {
         let Some(by) = self.least_loaded(about) else {
             return Ok(owed);
         };
-        let msu = self.plan.ends.changeover(about, owed.kind);
-        if !self.send_by(by, msu) {
+        let care = self.care(about);
+        let kind = care.spoken(owed.kind);
+        if !self.say(about, care, kind, by) {
             return Ok(owed);
         }
-        self.tell(Told::Says(about, owed.kind, by))?;
+        self.tell(Told::Says(about, kind, by))?;
         Ok(Owed {
+            kind,
             by: Some(by),
             ..owed
         })

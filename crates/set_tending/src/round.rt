@@ -65,6 +65,7 @@ impl Tender {
         self.test(link, state)?;
         self.resume(link, state)?;
         self.pay_owed(link)?;
+        self.hurry(link)?;
         self.start(link)
     }
 

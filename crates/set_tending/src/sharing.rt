@@ -220,7 +220,7 @@ impl Tender {
     }
 
     /// Whether a link but these carries messages.
-    fn another_carries(&self, links: &[usize]) -> bool {
+    pub(crate) fn another_carries(&self, links: &[usize]) -> bool {
         for link in 0..self.len() {
             match self.state(link) {
                 Some(state) if state.carrying && state.admitted && !links.contains(&link) => {

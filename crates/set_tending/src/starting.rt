@@ -57,6 +57,51 @@ impl Tender {
         self.leave(links.as_slice())
     }
 
+    /// Declares an emergency of a link that is to come into service, where it is one and none was declared.
+    fn urge(&mut self, link: usize) -> Result<(), TendError>
+        ensures { OnOk result (Adds self.old self.new) }
+    {
+        let care = self.care(link);
+        if care.urgent || !care.is_emergency(self.another_serves(link)) {
+            return Ok(());
+        }
+        let urgent = self.command(link, Command::Emergency)?;
+        self.keep(link, self.care(link).urged(urgent));
+        Ok(())
+    }
+
+    /// Ends the emergency of a link, once another one carries messages.
+    fn ease(&mut self, link: usize) -> Result<(), TendError>
+        ensures { OnOk result (Adds self.old self.new) }
+    {
+        if !self.care(link).is_eased(self.another_carries(&[link])) {
+            return Ok(());
+        }
+        let eased = self.command(link, Command::Calm)?;
+        self.keep(link, self.care(link).urged(!eased));
+        Ok(())
+    }
+
+    /// What a link that was started, and isn't in service yet, is told of emergencies.
+    pub(crate) fn hurry(&mut self, link: usize) -> Result<(), TendError>
+        ensures { OnOk result (Adds self.old self.new) }
+    {
+        let care = self.care(link);
+        if !care.started || care.serves {
+            return Ok(());
+        }
+        self.urge(link)?;
+        self.ease(link)
+    }
+
+    /// Gives a link Start, as an emergency where it is one. Whether it took it.
+    fn begin_start(&mut self, link: usize) -> Result<bool, TendError>
+        ensures { OnOk result (Adds self.old self.new) }
+    {
+        self.urge(link)?;
+        self.command(link, Command::Start)
+    }
+
     /// Starts a link where that is due, and doesn't wait for what is to be said of it, for 1,400 ticks at most.
     pub(crate) fn start(&mut self, link: usize) -> Result<(), TendError>
         ensures { OnOk result (Adds self.old self.new) }
@@ -69,7 +114,7 @@ impl Tender {
             return Ok(());
         }
         self.leave_stuck(link)?;
-        if !self.command(link, Command::Start)? {
+        if !self.begin_start(link)? {
             return Ok(());
         }
         let care = self.care(link).begun();

@@ -37,6 +37,8 @@ pub enum Told {
     Diverted(usize, usize),
     /// A link was tested, and is admitted.
     Tested(usize),
+    /// What this end sent by a link came back by it.
+    Looped(usize),
     /// Selections have other links.
     Shared(SharedOut),
 }
@@ -158,6 +160,7 @@ impl fmt::Display for Told {
             Told::Unsure(link, count) => write!(f, "{link} unsure {count}"),
             Told::Diverted(link, count) => write!(f, "{link} diverted {count}"),
             Told::Tested(link) => write!(f, "{link} tested"),
+            Told::Looped(link) => write!(f, "{link} looped"),
             Told::Shared(shared) => {
                 let links = Links(shared.as_slice());
                 write!(f, "shared{links}")

@@ -6,9 +6,9 @@ mod told;
 use crate::calls::Stopped;
 use crate::events::read::{events_of, limits_of};
 use crate::events::told::write_replies;
+use crate::texts::text_of;
 use actor_book::run_events;
 use actor_headline::{Book, LoadFault, TextRun, run_text};
-use link_standard::STANDARD;
 use std::alloc::Global;
 
 /// Rebases a book, lets the events of these lines happen to it, and writes what is answered.
@@ -53,14 +53,6 @@ fn run(alloc: Global, text: &mut String, events: &str, source: &str) -> Result<(
             Ok(())
         }
         Err(fault) => write_fault(text, fault),
-    }
-}
-
-/// The text that is named, or that stands there.
-fn text_of(source: &str) -> &str {
-    match source {
-        "standard" => STANDARD,
-        _ => source,
     }
 }
 

@@ -52,6 +52,7 @@ mod run;
 mod sets;
 mod shown;
 mod steps;
+mod texts;
 mod wheels;
 
 use crate::calls::Stopped;

@@ -2,6 +2,7 @@
 
 use crate::calls::Stopped;
 use link_standard::{Verified, standard};
+use mtp2_text::q703;
 use std::alloc::Global;
 use trials_groups::{Stopped as SetStopped, make_calls, run_script, run_sets, run_tended};
 
@@ -28,10 +29,31 @@ pub fn make_sets(alloc: Global, text: &mut String, runs: &str) -> Result<(), Sto
     run_sets(alloc, text, &set, runs).map_err(why_stopped)
 }
 
-/// Makes runs of two sets that tend themselves, and writes what came of each.
+/// The processes of `q703`.
+fn q703_set(alloc: Global) -> Result<Verified, Stopped> {
+    match q703(alloc) {
+        Ok(set) => Ok(set),
+        Err(_) => Err(Stopped::NoMemory),
+    }
+}
+
+/// The processes of a run.
+fn set_of(alloc: Global, run: &str) -> Result<Verified, Stopped> {
+    for word in run.split_whitespace() {
+        if word == "q703" {
+            return q703_set(alloc);
+        }
+    }
+    standard_set(alloc)
+}
+
+/// Makes runs of two sets that tend themselves, and writes what came of each: over `q703` where a run says so, else over `standard`.
 pub fn make_tended(alloc: Global, text: &mut String, runs: &str) -> Result<(), Stopped> {
-    let set = standard_set(alloc)?;
-    run_tended(alloc, text, &set, runs).map_err(why_stopped)
+    for run in runs.lines() {
+        let set = set_of(alloc, run)?;
+        run_tended(alloc, text, &set, run).map_err(why_stopped)?;
+    }
+    Ok(())
 }
 
 /// Does what a script of two sets says, and writes what both told.

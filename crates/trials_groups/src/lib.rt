@@ -20,6 +20,7 @@ mod shown;
 mod tended;
 mod tended_channel;
 mod tended_end;
+mod tended_orders;
 mod tended_pair;
 mod tended_run;
 mod tended_script;

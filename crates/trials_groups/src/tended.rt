@@ -56,6 +56,8 @@ fn ties(alloc: Global, run: TendedRun) -> Result<Vec<Tie>, Stopped> {
             over: channel(alloc, run.clocked)?,
             back: channel(alloc, run.clocked)?,
             until: 0,
+            cut_at: 0,
+            cut_for: 0,
         };
         if ties.push(tie).is_err() {
             return Err(Stopped::NoMemory);
@@ -129,10 +131,12 @@ fn write_faults(text: &mut String, faults: Faults) -> Result<(), Stopped> {
         noises,
         stalls,
         totals,
+        staggered,
+        orders,
     } = faults;
     writeln!(
         text,
-        "    cuts {cuts} one way {one_way} noises {noises} stalls {stalls} all {totals}"
+        "    cuts {cuts} one way {one_way} noises {noises} stalls {stalls} all {totals} staggered {staggered} orders {orders}"
     )?;
     Ok(())
 }
@@ -201,7 +205,7 @@ fn run_line(alloc: Global, text: &mut String, set: &Verified, line: &str) -> Res
 }
 
 /// Makes the run of each line: `basic` or `cyclic`, how many links, the seed, for how many seconds faults come, how many milliseconds lie between two of them on
-/// average (0 for none), how many messages a second each end is given; then, as is wanted, `fifo`, `untested`, `sums`, `loud`. Writes whether messages came
+/// average (0 for none), how many messages a second each end is given; then, as is wanted, `fifo`, `untested`, `orders`, `staggered`, `q703`, `sums`, `loud`. Writes whether messages came
 /// once, in order of their selections, none missing but as many as were told as unsure, and whether both ends are whole 40 seconds behind the last fault.
 ///
 /// # Errors

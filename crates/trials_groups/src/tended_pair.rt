@@ -4,6 +4,7 @@ use crate::calls::Stopped;
 use crate::dice::Dice;
 use crate::tended_channel::{Channel, Weather};
 use crate::tended_end::TendedEnd;
+use crate::tended_orders::Orders;
 use crate::tended_run::TendedRun;
 
 /// For how many rounds lines are fair at the end.
@@ -18,6 +19,10 @@ pub struct Tie {
     pub back: Channel,
     /// The round at which it is fair again.
     pub until: u64,
+    /// The round at which it is cut, where that is to come, else 0.
+    pub cut_at: u64,
+    /// For how many rounds it is cut then.
+    pub cut_for: u64,
 }
 
 /// What a round needs room for.
@@ -35,6 +40,8 @@ pub struct Faults {
     pub noises: u32,
     pub stalls: u32,
     pub totals: u32,
+    pub staggered: u32,
+    pub orders: u32,
 }
 
 impl Tie {
@@ -45,7 +52,18 @@ impl Tie {
         self.until = until;
     }
 
+    /// It is cut later, for so many rounds.
+    fn plan(&mut self, at: u64, rounds: u64) {
+        self.cut_at = at;
+        self.cut_for = rounds;
+    }
+
     fn clear(&mut self, now: u64) {
+        if self.cut_at != 0 && self.cut_at <= now {
+            self.befall(Weather::Cut, Weather::Cut, now.wrapping_add(self.cut_for));
+            self.cut_at = 0;
+            return;
+        }
         if self.until <= now {
             self.over.weather = Weather::Fair;
             self.back.weather = Weather::Fair;
@@ -61,6 +79,8 @@ impl Faults {
             noises: 0,
             stalls: 0,
             totals: 0,
+            staggered: 0,
+            orders: 0,
         }
     }
 
@@ -117,6 +137,28 @@ impl Faults {
         }
     }
 
+    /// All lines are cut, one after another, each for some 17 seconds.
+    fn cut_in_turn(&mut self, ties: &mut [Tie], now: u64, dice: &mut Dice) {
+        self.staggered = self.staggered.wrapping_add(1);
+        let first = (dice.draw() % 16) as usize;
+        let between = 100 + dice.draw() % 3_000;
+        let count = ties.len().max(1);
+        for (link, tie) in ties.iter_mut().enumerate() {
+            let turn = link.wrapping_add(first) % count;
+            let at = now.wrapping_add((turn as u64).wrapping_mul(between));
+            tie.plan(at, 15_000 + dice.draw() % 4_000);
+        }
+    }
+
+    /// All lines are cut: at once, or in turn.
+    fn strike_all(&mut self, ties: &mut [Tie], now: u64, run: TendedRun, dice: &mut Dice) {
+        if run.staggered && dice.one_in(2) {
+            self.cut_in_turn(ties, now, dice);
+        } else {
+            self.cut_all(ties, now, dice);
+        }
+    }
+
     /// Faults of a round.
     fn strike(
         &mut self,
@@ -129,8 +171,9 @@ impl Faults {
         if !dice.one_in(run.faults) {
             return Ok(());
         }
-        if dice.one_in(24) {
-            self.cut_all(ties, now, dice);
+        let often = if run.staggered { 6 } else { 24 };
+        if dice.one_in(often) {
+            self.strike_all(ties, now, run, dice);
             if run.loud {
                 writeln!(text, "{now} all lines cut")?;
             }
@@ -178,12 +221,16 @@ pub fn make_tended_rounds(
 ) -> Result<Faults, Stopped> {
     let mut dice = Dice::new(run.seed);
     let mut faults = Faults::new();
+    let mut orders = Orders::new();
     near.switch_on();
     far.switch_on();
     let last = u64::from(run.seconds).wrapping_mul(1_000);
     for now in 0..last.wrapping_add(CALM) {
+        orders.take_back(near, 0, now);
+        orders.take_back(far, 1, now);
         if now < last {
             faults.strike(ties, now, run, text, &mut dice)?;
+            orders.strike(near, far, now, run, text, &mut dice)?;
         }
         for (link, tie) in ties.iter_mut().enumerate() {
             tie.clear(now);
@@ -196,5 +243,6 @@ pub fn make_tended_rounds(
             far.give_due(run.rate, &mut dice);
         }
     }
+    faults.orders = orders.count;
     Ok(faults)
 }

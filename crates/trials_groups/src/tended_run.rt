@@ -20,6 +20,10 @@ pub struct TendedRun {
     pub clocked: bool,
     /// Whether links are tested.
     pub tests: bool,
+    /// Whether orders come too, as often as faults.
+    pub orders: bool,
+    /// Whether all lines are cut one after another, and stay cut for long.
+    pub staggered: bool,
     /// Whether it is shown how many messages there were.
     pub sums: bool,
     /// Whether all that is told is shown.
@@ -41,7 +45,7 @@ fn number(words: &mut SplitWhitespace<'_>) -> Option<u32> {
     }
 }
 
-/// A word more.
+/// A word more. Of which set of processes a run is, whoever opens the sets says: `q703` changes nothing here.
 fn with_word(run: TendedRun, word: &str) -> Option<TendedRun> {
     match word {
         "fifo" => Some(TendedRun {
@@ -52,6 +56,15 @@ fn with_word(run: TendedRun, word: &str) -> Option<TendedRun> {
             tests: false,
             ..run
         }),
+        "orders" => Some(TendedRun {
+            orders: true,
+            ..run
+        }),
+        "staggered" => Some(TendedRun {
+            staggered: true,
+            ..run
+        }),
+        "q703" => Some(run),
         "sums" => Some(TendedRun { sums: true, ..run }),
         "loud" => Some(TendedRun { loud: true, ..run }),
         _ => None,
@@ -70,10 +83,12 @@ pub fn tended_run_of(line: &str) -> Option<TendedRun> {
         rate: number(&mut words)?,
         clocked: true,
         tests: true,
+        orders: false,
+        staggered: false,
         sums: false,
         loud: false,
     };
-    for _word in 0..4u8 {
+    for _word in 0..7u8 {
         match words.next() {
             Some(word) => run = with_word(run, word)?,
             None => return Some(run),

@@ -28,6 +28,8 @@ struct Side {
 struct Ties {
     over: Vec<Channel>,
     back: Vec<Channel>,
+    /// The link whose line comes back to the near end, if there is one: the far one hears nothing there.
+    looped: Option<usize>,
 }
 
 fn stopped_by(error: TendError) -> Stopped {
@@ -201,6 +203,22 @@ fn carry_one(
     back.put(out.as_slice())
 }
 
+/// A round of a line that comes back to the near end.
+fn carry_back(
+    near: &mut Side,
+    far: &mut Side,
+    link: usize,
+    over: &mut Channel,
+    came: &mut Vec<u8>,
+    out: &mut Vec<u8>,
+) -> Result<(), Stopped> {
+    let mut dice = Dice::new(0);
+    over.take(came, &mut dice)?;
+    near.pass(link, came.as_slice(), out)?;
+    over.put(out.as_slice())?;
+    far.pass(link, &[], out)
+}
+
 /// A round of all lines.
 fn carry(
     near: &mut Side,
@@ -216,7 +234,11 @@ fn carry(
         let Some(back) = ties.back.get_mut(link) else {
             return Err(Stopped::Refused);
         };
-        carry_one(near, far, link, over, back, came, out)?;
+        if ties.looped == Some(link) {
+            carry_back(near, far, link, over, came, out)?;
+        } else {
+            carry_one(near, far, link, over, back, came, out)?;
+        }
     }
     Ok(())
 }
@@ -280,6 +302,11 @@ fn step(
         }
         "heal" => {
             befall(ties, number as usize, Weather::Fair);
+            ties.looped = None;
+            Ok(())
+        }
+        "loop" => {
+            ties.looped = Some(number as usize);
             Ok(())
         }
         _ => Err(Stopped::BadLine),
@@ -325,13 +352,14 @@ fn run_near(
     let mut ties = Ties {
         over: channels(alloc, links)?,
         back: channels(alloc, links)?,
+        looped: None,
     };
     let mut far = open_side(alloc, set, links, "far", Way { from: 2, to: 1 })?;
     steps(alloc, text, near, &mut far, &mut ties, lines)
 }
 
 /// Does what a script says, and writes what both ends told: `links N` first; then `near ORDER` and `far ORDER`; `run N`, so many rounds, behind which is
-/// written what was told, near's before far's; `cut L` and `heal L`. The near point is 1, the far one 2. An ORDER is `power`, `start`, `stop`, `outage` or
+/// written what was told, near's before far's; `cut L`, `loop L` (its line comes back to the near end) and `heal L`. The near point is 1, the far one 2. An ORDER is `power`, `start`, `stop`, `outage` or
 /// `back` with a link or `all`, or `send` with a selection, whose first message is sent.
 ///
 /// # Errors

@@ -4,8 +4,9 @@ use crate::calls::Stopped;
 use crate::pools::wanderer::{Made, NAMES, Wanderer, Way};
 use crate::rounds::clock::now;
 use crate::run::number;
+use crate::texts::{accepted, text_of};
 use actor_book::{ActorName, Book, Limits, number_of};
-use link_standard::{LoadFault, Verified, load, standard};
+use link_standard::{Verified, load};
 use std::alloc::{AllocError, Global};
 use std::rt::Runtime;
 use std::sync::Wait;
@@ -54,21 +55,9 @@ fn plan_of(line: &str) -> Option<Plan> {
     })
 }
 
-/// The set of a text that is accepted.
-fn accepted(loaded: Result<Verified, LoadFault>) -> Result<Verified, Stopped> {
-    match loaded {
-        Ok(set) => Ok(set),
-        Err(_) => Err(Stopped::Refused),
-    }
-}
-
 /// The set that a trial names.
 fn set_of(alloc: Global, text: &str) -> Result<Verified, Stopped> {
-    if text == "standard" {
-        accepted(standard(alloc))
-    } else {
-        accepted(load(alloc, text))
-    }
+    accepted(load(alloc, text_of(text)))
 }
 
 /// Adds the signals that routes bring an actor of a process from the environment.

@@ -1,7 +1,8 @@
 //! The sets whose turns are measured.
 
 use crate::calls::Stopped;
-use link_standard::{LoadFault, Verified, load, standard};
+use crate::texts::accepted;
+use link_standard::{Verified, load, standard};
 use std::alloc::{AllocError, Global};
 
 /// The text of the counter.
@@ -47,14 +48,6 @@ fn long_text(alloc: Global) -> Result<String, AllocError> {
     }
     text.push_str(";\nNEXTSTATE Run; ENDSTATE Run; ENDPROCESS P; ENDBLOCK B;\n")?;
     Ok(text)
-}
-
-/// The set of a text that is accepted.
-fn accepted(loaded: Result<Verified, LoadFault>) -> Result<Verified, Stopped> {
-    match loaded {
-        Ok(set) => Ok(set),
-        Err(_) => Err(Stopped::Refused),
-    }
 }
 
 /// The set of the long piece.

@@ -1,11 +1,12 @@
 use Rattle.std.proofs.Common.{IsNone, IfSome, refl, sym, ◌∙◌, string_bytes}
 use Rattle.line_filter.specs.Orders.{NextIs, NoneIsDue}
 use Rattle.line_play.proofs.SetObeying.{moved, not_both}
-use Rattle.line_play.proofs.SetRounds.{attends_first, attends_more, attends_over, attends_full, attends_quit}
+use Rattle.line_play.proofs.SetRounds.{attends_first, attends_looked, attends_more, attends_over, attends_full, attends_quit}
 use Rattle.line_play.proofs.set_attending.attend.Goals as goal
 
 pub loop-order-init : goal.loop-order-init
-loop-order-init g c = attends_first _ _ _ _ _ _ _ c.in_ok-obey_waiting.ensures.obeys c.in_ok-obey_waiting.ensures.rests
+loop-order-init g c =
+    attends_looked _ _ _ _ _ _ _ _ _ _ (attends_first _ _ _ _ _ _ _ c.in_ok-obey_waiting.ensures.obeys c.in_ok-obey_waiting.ensures.rests) c.now-now.ensures c.in_ok-look_anew.ensures
 
 pub returns-then-is_full : goal.returns-then-is_full
 returns-then-is_full g c = attends_full _ _ _ _ _ _ _ _ c.loop-order.invariant (c.is_full.ensures c.if-is_full.true)

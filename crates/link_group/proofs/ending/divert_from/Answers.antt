@@ -1,7 +1,7 @@
 use Rattle.std.proofs.Common.{ℕ, List, length, map, refl, ap, ◌∙◌, rules}
 use Rattle.std.specs.Prelude.{slice_get}
 use Rattle.group_changeover.specs.Sharing.{selections, link_of}
-use Rattle.group_members.specs.Moving.{Diversion, Diverted, division, ends_on}
+use Rattle.link_group.specs.Moving.{Diversion, Diverted, division, ends_on}
 use Rattle.link_group.specs.Diverting.{diverted}
 use Rattle.link_group.proofs.Settling.{diverted_by, left_none, left_some, settled_whole, settled_part}
 use Rattle.link_group.proofs.ending.divert_from.Goals as goal

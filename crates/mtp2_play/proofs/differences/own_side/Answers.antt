@@ -1,12 +1,13 @@
-use Rattle.std.proofs.Common.{sym, ◌∙◌}
-use Rattle.std.proofs.lemmas.Result.{IfErr-weaker, IfOk-weaker}
-use Rattle.mtp2_play.proofs.Comparing.{of_own}
+use Rattle.std.specs.Prelude.{IfErr, IfOk}
+use Rattle.script_check.specs.Checked.{IsGiven, IsSetOf}
+use Rattle.script_check.proofs.Own.{to_text}
+use Rattle.mtp2_play.specs.Compared.{PrintsSide}
 use Rattle.mtp2_play.proofs.differences.own_side.Goals as goal
 
-pub returns-in-Some-clause-set : goal.returns-in-Some-clause-set
-returns-in-Some-clause-set g c =
-    IfOk-weaker c.with_text.result _ _ (λ side h. of_own _ c.args.set.now c.in-Some.own _ (sym c.own_set.ensures ∙ c.in-Some.is) h) c.with_text.ensures.set
+pub returns-clause-set : goal.returns-clause-set
+returns-clause-set g c =
+    to_text _ c.args.own _ (λ known. IfOk c.with_text.result (λ side. IsGiven known (λ bytes. IsSetOf bytes side.set))) c.own_set.ensures c.with_text.ensures.set
 
-pub returns-in-Some-clause-refused : goal.returns-in-Some-clause-refused
-returns-in-Some-clause-refused g c =
-    IfErr-weaker c.with_text.result _ _ (λ s h two. of_own _ c.args.set.now c.in-Some.own _ (sym c.own_set.ensures ∙ c.in-Some.is) (h two)) c.with_text.ensures.refused
+pub returns-clause-refused : goal.returns-clause-refused
+returns-clause-refused g c =
+    to_text _ c.args.own _ (λ known. IfErr c.with_text.result (λ s. s ≡ 2 → IsGiven known (PrintsSide c.args.named.side.now _ _))) c.own_set.ensures c.with_text.ensures.refused

@@ -1,6 +1,8 @@
-use Rattle.std.proofs.Common.{sym, ◌∙◌}
-use Rattle.mtp2_play.proofs.Known.{spoken_over_own}
+use Rattle.script_check.proofs.Own.{to_text}
+use Rattle.mtp2_words.specs.Limits.{usual_limits_of}
+use Rattle.mtp2_play.specs.Printed.{IsSpoken}
 use Rattle.mtp2_play.proofs.lines.line_own.Goals as goal
 
-pub returns-in-Some : goal.returns-in-Some
-returns-in-Some g c = spoken_over_own _ c.args.set.now c.in-Some.own _ _ _ _ _ (sym c.own_set.ensures ∙ c.in-Some.is) c.line_on.ensures
+pub returns : goal.returns
+returns g c =
+    to_text _ c.args.own _ (λ known. IsSpoken known (usual_limits_of c.args.set.now) c.args.end.now c.line_on.result _ _) c.own_set.ensures c.line_on.ensures

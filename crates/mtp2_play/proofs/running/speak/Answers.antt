@@ -1,11 +1,17 @@
-use Rattle.std.proofs.Common.{rules}
-use Rattle.line_streams.specs.Known.{known_of}
-use Rattle.mtp2_play.specs.Spoken.{AreGiven}
-use Rattle.mtp2_play.proofs.Speaking.{of_term, with_orders}
+use Rattle.std.proofs.Common.{inr}
+use Rattle.line_streams.specs.Known.{known_of, left_of}
+use Rattle.mtp2_play.proofs.Speaking.{of_term, begun_of}
+use Rattle.mtp2_play.proofs.Tracing.{given_to, ordered_to, terminal_of}
 use Rattle.mtp2_play.proofs.running.speak.Goals as goal
 
-pub returns-in-Ok-end-clause-spoke : goal.returns-in-Ok-end-clause-spoke
-returns-in-Ok-end-clause-spoke g c zero =
-    let given : AreGiven c.args.end.now.orders (known_of c.link_desk-desk.result.orders.reader) = search rules in
-    of_term _ _ _ _ _ _ _ c.link_desk-desk.ensures.terminal_is
-    (with_orders _ _ _ _ _ _ _ _ _ _ _ given (c.serve-status.ensures.spoke (c.status_of.ensures.zero zero)))
+pub speak_plain-requires-clause-given : goal.speak_plain-requires-clause-given
+speak_plain-requires-clause-given g c = given_to _ known_of _ _ c.link_desk-desk.ensures.orders_are c.in-Ok.ensures.given
+
+pub speak_plain-requires-clause-ordered : goal.speak_plain-requires-clause-ordered
+speak_plain-requires-clause-ordered g c = ordered_to left_of known_of _ _ c.link_desk-desk.ensures.orders_are c.in-Ok.ensures.orders
+
+pub speak_traced-requires-clause-given : goal.speak_traced-requires-clause-given
+speak_traced-requires-clause-given g c = given_to _ known_of _ _ c.traced_desk-desk.ensures.orders c.in-Ok.ensures.given
+
+pub speak_traced-requires-clause-ordered : goal.speak_traced-requires-clause-ordered
+speak_traced-requires-clause-ordered g c = ordered_to left_of known_of _ _ c.traced_desk-desk.ensures.orders c.in-Ok.ensures.orders

@@ -1,8 +1,6 @@
 use Rattle.std.proofs.Common.{◌≡◌, ◌⊎◌, ℕ, inl, inr, arith}
 use Rattle.line_streams.specs.Known.{known_of}
-use Rattle.mtp2_play.specs.Spoken.{AreGiven}
-use Rattle.mtp2_play.proofs.Speaking.{of_term, with_orders}
-use Rattle.mtp2_play.proofs.Tracing.{given_to, terminal_of}
+use Rattle.mtp2_play.proofs.Speaking.{with_orders}
 use Rattle.mtp2_play.proofs.running.speak_traced.Goals as goal
 
 -- the status is that of the run, or 4
@@ -10,11 +8,10 @@ held : (status served : ℕ) → (status ≡ served) ⊎ (status ≡ 4) → stat
 held status served (inl same) zero = omega (arith, same, zero)
 held status served (inr failed) zero = absurd (omega (arith, failed, zero))
 
-pub returns-in-Ok-end-clause-spoke : goal.returns-in-Ok-end-clause-spoke
-returns-in-Ok-end-clause-spoke g c zero =
-    let given : AreGiven c.args.end.now.orders (known_of c.traced_desk-desk.result.orders.reader) =
-    given_to _ known_of _ _ c.traced_desk-desk.ensures.orders c.in-Ok.ensures.given in
-    let same : c.traced_desk-desk.result.terminal.end.terminal ≡ c.args.terminal =
-    terminal_of _ _ _ c.traced_desk-desk.ensures.terminal c.in-Ok-open_traced.ensures.terminal in
-    of_term _ _ _ _ _ _ _ same
-    (with_orders _ _ _ _ _ _ _ _ _ _ _ given (c.serve_traced-status.ensures.spoke (held _ _ c.end_trace-ended.ensures (c.status_of.ensures.zero zero))))
+pub returns-clause-spoke : goal.returns-clause-spoke
+returns-clause-spoke g c zero =
+    with_orders _ _ _ _ _ _ _ _ _ _ _ c.requires.given
+    (c.serve_traced-status.ensures.spoke (known_of c.args.desk.now.orders) c.requires.ordered (held _ _ c.end_trace-ended.ensures (c.end_streams.ensures.zero zero)))
+
+pub returns-clause-begun : goal.returns-clause-begun
+returns-clause-begun g c = c.serve_traced-status.ensures.begun (known_of c.args.desk.now.orders) c.requires.given c.requires.ordered

@@ -1,6 +1,5 @@
 use Rattle.std.proofs.Common.{None}
-use Rattle.line_filter.specs.Reading.{left_of}
-use Rattle.line_streams.specs.Known.{known_of, stand_of}
+use Rattle.line_streams.specs.Known.{left_of, stand_of}
 use Rattle.line_play.specs.SetDesks.{place_of}
 use Rattle.line_play.proofs.SetDesks.{ran_from}
 use Rattle.mtp2_play.proofs.Known.{ends_as, ran_as}
@@ -9,7 +8,7 @@ use Rattle.mtp2_play.proofs.tended.serve.Goals as goal
 pub returns-clause-ran : goal.returns-clause-ran
 returns-clause-ran g c = λ done.
     ran_as c.status_of-status.result _ _
-    (λ zero. ran_from c.go_round-ran.result (left_of known_of) _ _ _ _ _ (place_of (left_of known_of) c.go_round-ran.new.desk)
+    (λ zero. ran_from c.go_round-ran.result left_of _ _ _ _ _ (place_of left_of c.go_round-ran.new.desk)
     (stand_of (λ errors. None) c.in-Ok-new.desk.reports) (stand_of (λ errors. None) c.go_round-ran.new.desk.reports) None None
     c.in-Ok-new.ensures c.go_round-ran.ensures (c.status_of-status.ensures.ran zero)) c.end_tap.ensures done
 

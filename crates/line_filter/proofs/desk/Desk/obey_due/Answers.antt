@@ -1,11 +1,11 @@
 use Rattle.std.proofs.Common.{refl, sym, ◌∙◌}
 use Rattle.std.specs.Prelude.{IfSome, string_bytes}
 use Rattle.line_filter.specs.Orders.{NextIs}
-use Rattle.line_filter.proofs.Telling.{moved, not_both, due_none, due_more, due_ended}
+use Rattle.line_filter.proofs.Telling.{moved, not_both, due_looked, due_more, due_ended}
 use Rattle.line_filter.proofs.desk.Desk.obey_due.Goals as goal
 
 pub loop-obeyed-init : goal.loop-obeyed-init
-loop-obeyed-init g c = record { told = due_none _ _ _ _ _; voice = refl; count = refl }
+loop-obeyed-init g c = record { told = due_looked _ _ _ _ _ _ _ c.in_ok-look_anew.ensures; voice = refl; count = refl }
 
 pub returns-then-is_quit-clause-made : goal.returns-then-is_quit-clause-made
 returns-then-is_quit-clause-made g c =

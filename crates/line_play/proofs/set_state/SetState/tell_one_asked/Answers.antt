@@ -2,10 +2,10 @@ use Rattle.line_play.proofs.SetTelling.{shown_none}
 use Rattle.line_play.proofs.set_state.SetState.tell_one_asked.Goals as goal
 
 pub returns-in-State : goal.returns-in-State
-returns-in-State g c = rw c.in-State.is c.tell_state.ensures
+returns-in-State g c = rw (c.in-State.is, ← c.as_str.ensures.value) c.tell_state.ensures
 
 pub returns-in-Value : goal.returns-in-Value
-returns-in-Value g c = rw c.in-Value.is c.tell_value.ensures
+returns-in-Value g c = rw (c.in-Value.is, ← c.as_str-in-Value.ensures.value, ← c.as_str-in-Value-2.ensures.value) c.tell_value.ensures
 
 pub returns-in-Measure : goal.returns-in-Measure
 returns-in-Measure g c = rw c.in-Measure.is c.tell_measure.ensures

@@ -1,13 +1,17 @@
-use Rattle.std.proofs.Common.{rules, refl, arith, ◌∙◌}
-use Rattle.link_group.proofs.ByLinks.{by_command, written, few_written}
+use Rattle.std.proofs.Common.{rules, refl, arith, slice_set, Some, None, sym}
+use Rattle.link_group.specs.Commanding.{Commands}
+use Rattle.link_group.proofs.Numbered.{here, at_link, few_set}
+use Rattle.link_group.proofs.ByLinks.{by_command, written, few_written, cleared_here}
 use Rattle.link_group.proofs.Commands.{command_error, commanded, live_error}
-use Rattle.link_group.proofs.Live.{over, live_from, commanded_by_command}
+use Rattle.link_group.proofs.Live.{over, commanded_by_command}
 use Rattle.link_group.proofs.group.Group.command.Goals as goal
 
 pub returns-in-Ok-clause-ok : goal.returns-in-Ok-clause-ok
 returns-in-Ok-clause-ok c =
-    by_command c.args.command c.args.link c.args.self.now _ _ c.command_at.new.links c.as_mut_slice-in-Ok.result.now c.see.new.links _ c.self.inside.own c.self.inside.peer c.self.inside.unsure c.in-Ok.cleared _ c.self.inside.table.links c.see.new.table.links (search rules) refl (commanded c.args.command c.args.link _ c.command_at.new.links c.in-Ok.ensures.did)
-    (c.as_mut_slice-in-Ok.ensures.value ∙ written c.self.inside.links.len c.command_at.new.links c.self.inside.links.items (search rules)) (written c.self.inside.links.len c.see.new.links _ (search rules)) c.see.ensures.links c.see.ensures.table c.in-Ok.ensures.cleared (search rules)
+    by_command c.args.command c.args.link c.args.self.now _ c.self.inside.links.items (slice_set c.self.inside.links.items c.args.link c.command.new.self) c.as_mut_slice.result.now c.see.new.links _ c.self.inside.own c.self.inside.peer c.self.inside.unsure c.in-Ok.cleared _ c.self.inside.table.links c.see.new.table.links (sym c.self.view_is) refl
+    (commanded c.args.command c.args.link _ (slice_set c.self.inside.links.items c.args.link c.command.new.self) (at_link (Commands c.args.command None) c.args.link c.self.inside.links.items _ c.command.new.self (here c.self.inside.links.items c.args.link c.index_mut.result.now (search rules) c.index_mut.ensures.value) c.in-Ok.ensures.did))
+    c.as_mut_slice.ensures.value (written c.self.inside.links.len c.see.new.links _ (search rules)) c.see.ensures.links c.see.ensures.table
+    (cleared_here c.args.command c.self.inside.links.items c.args.link _ c.in-Ok.cleared (here c.self.inside.links.items c.args.link c.index_mut.result.now (search rules) c.index_mut.ensures.value) c.in-Ok.ensures.cleared) (search rules)
 
 pub invariant_of-self : goal.invariant_of-self
 invariant_of-self c = (
@@ -15,20 +19,23 @@ invariant_of-self c = (
   c.self.invariant.1,
   c.self.invariant.2,
   commanded_by_command c.args.command c.args.link (over c.self.inside.own c.self.inside.peer c.self.inside.unsure c.self.inside.table.links _) _
-      (by_command c.args.command c.args.link _ _ _ c.command_at.new.links c.as_mut_slice-in-Ok.result.now c.see.new.links _ c.self.inside.own c.self.inside.peer c.self.inside.unsure c.in-Ok.cleared _ c.self.inside.table.links c.see.new.table.links refl refl (commanded c.args.command c.args.link _ c.command_at.new.links c.in-Ok.ensures.did)
-      (c.as_mut_slice-in-Ok.ensures.value ∙ written c.self.inside.links.len c.command_at.new.links c.self.inside.links.items (search rules)) (written c.self.inside.links.len c.see.new.links _ (search rules)) c.see.ensures.links c.see.ensures.table c.in-Ok.ensures.cleared (search rules))
-      (live_from c.self.inside.own c.self.inside.peer c.self.inside.unsure c.self.inside.table.links _ _ (search rules) c.self.invariant.3),
+      (by_command c.args.command c.args.link _ _ c.self.inside.links.items (slice_set c.self.inside.links.items c.args.link c.command.new.self) c.as_mut_slice.result.now c.see.new.links _ c.self.inside.own c.self.inside.peer c.self.inside.unsure c.in-Ok.cleared _ c.self.inside.table.links c.see.new.table.links refl refl
+      (commanded c.args.command c.args.link _ (slice_set c.self.inside.links.items c.args.link c.command.new.self) (at_link (Commands c.args.command None) c.args.link c.self.inside.links.items _ c.command.new.self (here c.self.inside.links.items c.args.link c.index_mut.result.now (search rules) c.index_mut.ensures.value) c.in-Ok.ensures.did))
+      c.as_mut_slice.ensures.value (written c.self.inside.links.len c.see.new.links _ (search rules)) c.see.ensures.links c.see.ensures.table
+      (cleared_here c.args.command c.self.inside.links.items c.args.link _ c.in-Ok.cleared (here c.self.inside.links.items c.args.link c.index_mut.result.now (search rules) c.index_mut.ensures.value) c.in-Ok.ensures.cleared) (search rules))
+      c.self.invariant.3,
 )
 
 pub invariant_of-self-in-Err : goal.invariant_of-self-in-Err
 invariant_of-self-in-Err c = (
-  few_written c.self.inside.links.len _ c.command_at.new.links c.self.inside.links.items (search rules) (omega (arith, c.self.invariant.0, c.self.inside.links.ok.0)),
+  few_set _ c.self.inside.links.items c.args.link c.command.new.self c.self.invariant.0,
   c.self.invariant.1,
   c.self.invariant.2,
-  live_error c.args.command c.args.link c.self.inside.own c.self.inside.peer c.self.inside.unsure c.self.inside.table.links _ c.command_at.new.links _ c.in-Err.fault (written c.self.inside.links.len c.command_at.new.links c.self.inside.links.items (search rules)) c.in-Err.ensures.did (live_from c.self.inside.own c.self.inside.peer c.self.inside.unsure c.self.inside.table.links _ _ (search rules) c.self.invariant.3),
+  live_error c.args.command c.args.link c.self.inside.own c.self.inside.peer c.self.inside.unsure c.self.inside.table.links c.self.inside.links.items (slice_set c.self.inside.links.items c.args.link c.command.new.self) _ c.in-Err.fault refl
+      (at_link (Commands c.args.command (Some c.in-Err.fault)) c.args.link c.self.inside.links.items _ c.command.new.self (here c.self.inside.links.items c.args.link c.index_mut.result.now (search rules) c.index_mut.ensures.value) c.in-Err.ensures.did) c.self.invariant.3,
 )
 
 pub returns-in-Err-clause-err : goal.returns-in-Err-clause-err
 returns-in-Err-clause-err c =
-    command_error c.args.command c.args.link c.args.self.now _ _ c.command_at.new.links _ c.self.inside.own c.self.inside.peer c.self.inside.unsure c.self.inside.table.links c.in-Err.fault
-    refl c.in-Err.ensures.did (written c.self.inside.links.len c.command_at.new.links c.self.inside.links.items (search rules)) (search rules) (search rules) (search rules) (search rules) (search rules)
+    command_error c.args.command c.args.link c.args.self.now _ c.self.inside.links.items (slice_set c.self.inside.links.items c.args.link c.command.new.self) _ c.self.inside.own c.self.inside.peer c.self.inside.unsure c.self.inside.table.links c.in-Err.fault refl
+    (at_link (Commands c.args.command (Some c.in-Err.fault)) c.args.link c.self.inside.links.items _ c.command.new.self (here c.self.inside.links.items c.args.link c.index_mut.result.now (search rules) c.index_mut.ensures.value) c.in-Err.ensures.did) refl (search rules) (search rules) (search rules) (search rules) (search rules)

@@ -1,7 +1,7 @@
 use Rattle.std.proofs.Common.{rules, refl, ap, ◌∙◌, arith, List, map}
 use Rattle.link_group.proofs.ByLinks.{written, few_written}
-use Rattle.group_members.specs.declared.link.Link.{Link}
-use Rattle.group_members.specs.Ticking.{roomy}
+use Rattle.link_group.specs.declared.link.Link.{Link}
+use Rattle.link_group.specs.Ticking.{roomy}
 use Rattle.link_group.specs.Ticks.{after_ticks}
 use Rattle.link_group.proofs.Live.{over, live_from, live_roomy, live_lacking, ticked_is, live_ticked}
 use Rattle.link_group.proofs.Room.{no_room, room_on}

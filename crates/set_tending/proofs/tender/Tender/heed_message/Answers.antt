@@ -3,7 +3,7 @@ use Rattle.std.proofs.lemmas.Result.{on_ok_weaker}
 use Rattle.set_tending.specs.Came.{came}
 use Rattle.set_tending.specs.Rounds.{Adds}
 use Rattle.set_tending.specs.Tended.{Tended}
-use Rattle.set_tending.specs.declared.came.Came.TheVariants.{Changeover, Declaration, Test, Answer}
+use Rattle.set_tending.specs.declared.came.Came.TheVariants.{Changeover, Declaration, Test, Answer, Own}
 use Rattle.set_tending.proofs.Doing.{adds_nothing, adds_same, adds_then, acts_quiet}
 use Rattle.set_tending.proofs.Passing.{unheard, of_a_link}
 use Rattle.set_tending.proofs.tender.Tender.heed_message.Goals as goal
@@ -29,11 +29,20 @@ returns-in_ok-tell-in-Changeover c =
     (adds_then c.args.self.now c.tell.new.self c.hear_changeover.new.self (adds_same c.args.self.now c.tell.new.self c.tell.ensures) adds))
     c.hear_changeover.ensures
 
-pub returns-in-Test : goal.returns-in-Test
-returns-in-Test c =
+pub returns-then-about-len-3 : goal.returns-then-about-len-3
+returns-then-about-len-3 c =
     acts_quiet c.args.self.now c.answer_test.new.self _
-    (unheard c.args.self.now.plan c.args.link c.args.msu (Test c.in-Test.about) (sym c.in-Test.is ∙ (c.came.ensures ∙ ap (λ (t : Tended). came t.plan.ends c.args.msu) c.self.view_is)) refl)
+    (unheard c.args.self.now.plan c.args.link c.args.msu (Test c.in-Test.about) (sym c.in-Test.is ∙ (c.came.ensures ∙ ap (λ (t : Tended). came t.plan.ends c.args.msu) c.self.view_is)) (of_a_link _ _ (subst (λ (n : ℕ). c.in-Test.about < n) c.len-in-Test.ensures c.if-about-len-3.true)))
     c.answer_test.ensures
+
+pub returns-in-Own : goal.returns-in-Own
+returns-in-Own c =
+    on_ok_weaker c.hear_itself.result
+    (λ (adds : Adds c.args.self.now c.hear_itself.new.self).
+    acts_quiet c.args.self.now c.hear_itself.new.self _
+    (unheard c.args.self.now.plan c.args.link c.args.msu Own (sym c.in-Own.is ∙ (c.came.ensures ∙ ap (λ (t : Tended). came t.plan.ends c.args.msu) c.self.view_is)) refl)
+    adds)
+    c.hear_itself.ensures
 
 pub returns-in-Answer : goal.returns-in-Answer
 returns-in-Answer c =

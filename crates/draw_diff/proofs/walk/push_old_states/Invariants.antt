@@ -1,8 +1,0 @@
-use Rattle.std.proofs.Common.{◌≡◌, ◌++◌, drop, map}
-use Rattle.std.specs.List.{flat_map}
-use Rattle.draw_diff.specs.Ways.{old_state_lines}
-use Rattle.draw_diff.proofs.walk.push_old_states.Given as goal
-
-abbrev pub invariant-loop-state : goal.invariant-loop-state
-invariant-loop-state l =
-    l.text.items ++ flat_map (λ q. old_state_lines l.pair q l.others) (drop l.state-index l.states) ≡ l.initial.text.items ++ flat_map (λ q. old_state_lines l.pair q l.others) l.states

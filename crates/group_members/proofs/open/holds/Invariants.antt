@@ -1,8 +1,0 @@
-use Rattle.std.proofs.Common.{◌≡◌, false, take}
-use Rattle.std.specs.List.{list_any}
-use Rattle.group_members.specs.OneLink.{held}
-use Rattle.group_members.specs.Moving.{is_unbound_on}
-use Rattle.group_members.proofs.open.holds.Given as goal
-
-abbrev pub invariant-loop-place : goal.invariant-loop-place
-invariant-loop-place l = list_any (is_unbound_on l.link.points l.selection) (take l.place (held l.link)) ≡ false

@@ -1,7 +1,0 @@
-use Rattle.std.proofs.Common.{◌≡◌, false, take}
-use Rattle.std.specs.List.{list_any}
-use Rattle.group_members.specs.OneLink.{is_changing}
-use Rattle.group_members.proofs.tables.any_changing.Given as goal
-
-abbrev pub invariant-loop-link : goal.invariant-loop-link
-invariant-loop-link l = list_any is_changing (take l.link-index l.links) ≡ false

@@ -1,6 +1,0 @@
-use Rattle.std.proofs.Common.{◌≡◌, false}
-use Rattle.group_members.specs.Tables.{any_below, in_way}
-use Rattle.group_members.proofs.tables.any_in_way.Given as goal
-
-abbrev pub invariant-loop-selection : goal.invariant-loop-selection
-invariant-loop-selection l = any_below (in_way l.links l.table.links l.able) l.selection ≡ false

@@ -1,6 +1,0 @@
-use Rattle.std.proofs.Common.{◌≡◌, drop}
-use Rattle.group_members.specs.Ticking.{first_refusal}
-use Rattle.group_members.proofs.ticking.tick_refusal.Given as goal
-
-abbrev pub invariant-loop-link : goal.invariant-loop-link
-invariant-loop-link l = first_refusal l.ticks (drop l.link-index l.links) ≡ first_refusal l.ticks l.links

@@ -1,0 +1,35 @@
+-- The sets of the program's own: the word that names each, its text, and its limits of forced
+-- retransmission (Q.703, 6.4).
+use Rattle.std.specs.Prelude.{◌≡◌, ℕ, List, codes}
+use Rattle.resend_store.specs.Limits.{N1}
+use Rattle.resend_store.specs.Messages.{usual_limits}
+use Rattle.resend_store.specs.declared.messages.RoundLimits.{RoundLimits}
+use Rattle.mtp2_text.specs.declared.own.OwnSet.{OwnSet}
+use Rattle.mtp2_text.specs.declared.own.OwnSet.TheVariants.{Standard, Q703, Monitors}
+use Rattle.mtp2_text.specs.declared.standard_text.TheConstants.{STANDARD}
+use Rattle.mtp2_text.specs.declared.q703_text.TheConstants.{Q703 as Q703_TEXT}
+use Rattle.mtp2_text.specs.declared.monitors_text.TheConstants.{MONITORS}
+
+abbrev pub word_of : OwnSet → List ℕ
+word_of Standard = codes "standard"
+word_of Q703 = codes "q703"
+word_of Monitors = codes "monitors"
+
+abbrev pub text_of : OwnSet → List ℕ
+text_of Standard = STANDARD.now
+text_of Q703 = Q703_TEXT.now
+text_of Monitors = MONITORS.now
+
+-- N2 of `q703`, where nothing else is chosen
+abbrev pub Q703_OCTETS : ℕ
+Q703_OCTETS = 3000
+
+-- the limits where none are chosen
+abbrev pub limits_of : OwnSet → RoundLimits
+limits_of Standard = usual_limits
+limits_of Q703 = record { messages = N1; octets = Q703_OCTETS }
+limits_of Monitors = usual_limits
+
+-- a word names none of them
+abbrev pub NamesNone : List ℕ → Type 0
+NamesNone word = (set : OwnSet) → word ≡ word_of set → ⊥

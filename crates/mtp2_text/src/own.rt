@@ -1,0 +1,97 @@
+//! The sets of the program's own: their words, their texts, what they load to, and their limits of forced retransmission.
+
+ghost use Rattle.std.specs.Prelude.{◌≡◌, List, IfOk, IfErr, IfSome, IsNone, IsUtf8};
+ghost use Rattle.sdl_lex.specs.declared.lexemes.Token as lexeme;
+ghost use Rattle.sdl_ast.specs.Plain.{PlainBlock};
+ghost use Rattle.turn_verify.specs.Blocks.{MatchesBlock};
+ghost use Rattle.turn_verify.specs.Meant.{IsSetOf};
+ghost use Rattle.turn_verify.specs.Loaded.{IsLoaded, IsRead, IsSoundText, Gives, IsRefused};
+ghost use Rattle.mtp2_text.specs.Own.{limits_of, text_of, word_of, NamesNone};
+
+use crate::monitors_text::MONITORS;
+use crate::q703_text::Q703;
+use crate::standard_text::STANDARD;
+use resend_store::{RoundLimits, USUAL_LIMITS};
+use std::alloc::Global;
+use turn_verify::{LoadFault, Verified, load};
+
+/// With how many unacknowledged octets cyclic retransmission is forced over the set `q703` where nothing else is chosen. On a full line these last
+/// less long than the far side may take to acknowledge a message.
+const Q703_OCTETS: u16 = 3_000;
+
+/// A set of processes of the program's own.
+#[derive(Clone, Copy, PartialEq, Eq, Debug)]
+pub enum OwnSet {
+    /// `standard`: the signalling link terminal (Q.703), as a profile.
+    Standard,
+    /// `q703`: the signalling link terminal by the letter of Q.703.
+    Q703,
+    /// `monitors`: the two error rate monitors (Q.703, 10).
+    Monitors,
+}
+
+impl OwnSet {
+    /// The set that a word names; none where it names none of them.
+    #[tactic(auto, using(crate::proofs::Own::names_none))]
+    pub fn named(word: &str) -> Option<OwnSet>
+        ensures some { IfSome result (λ set. word.now ≡ word_of set) }
+        ensures none { IsNone result → NamesNone word.now }
+    {
+        match word {
+            "standard" => Some(Self::Standard),
+            "q703" => Some(Self::Q703),
+            "monitors" => Some(Self::Monitors),
+            _ => None,
+        }
+    }
+
+    /// The word that names it.
+    pub fn word(self) -> &'static str
+        ensures { result.now ≡ word_of self }
+    {
+        match self {
+            Self::Standard => "standard",
+            Self::Q703 => "q703",
+            Self::Monitors => "monitors",
+        }
+    }
+
+    /// Its text.
+    pub fn text(self) -> &'static str
+        ensures text { result.now ≡ text_of self }
+        ensures utf8 { IsUtf8 result.now }
+    {
+        match self {
+            Self::Standard => STANDARD,
+            Self::Q703 => Q703,
+            Self::Monitors => MONITORS,
+        }
+    }
+
+    /// The set of its text.
+    ///
+    /// # Errors
+    ///
+    /// What `load` answers for the text. It is accepted, as the table of texts shows, so [`LoadFault::NoMemory`] alone comes.
+    pub fn load(self, alloc: Global) -> Result<Verified, LoadFault>
+        ensures accepted { IfOk result (IsLoaded (text_of self)) }
+        ensures exact { (ts : List lexeme.Token) (b : PlainBlock) → IsSoundText (text_of self) ts b → Gives result (MatchesBlock b) }
+        ensures every { (ts : List lexeme.Token) (b : PlainBlock) → IsRead (text_of self) ts b → IfOk result (IsSetOf b) }
+        ensures refused { IfErr result (IsRefused (text_of self)) }
+    {
+        load(alloc, self.text())
+    }
+
+    /// The limits of forced retransmission over it, where none are chosen.
+    pub fn round_limits(self) -> RoundLimits
+        ensures { result ≡ limits_of self }
+    {
+        match self {
+            Self::Q703 => RoundLimits {
+                messages: USUAL_LIMITS.messages,
+                octets: Q703_OCTETS,
+            },
+            Self::Standard | Self::Monitors => USUAL_LIMITS,
+        }
+    }
+}

@@ -1,0 +1,20 @@
+//! Texts by name, and the sets of texts that are accepted.
+
+use crate::calls::Stopped;
+use link_standard::{LoadFault, OwnSet, Verified};
+
+/// The text of the set of the program's own that is named, else the text that stands there.
+pub fn text_of(source: &str) -> &str {
+    match OwnSet::named(source) {
+        Some(own) => own.text(),
+        None => source,
+    }
+}
+
+/// The set of a text that is accepted.
+pub fn accepted(loaded: Result<Verified, LoadFault>) -> Result<Verified, Stopped> {
+    match loaded {
+        Ok(set) => Ok(set),
+        Err(_) => Err(Stopped::Refused),
+    }
+}

@@ -1,0 +1,143 @@
+//! Orders at both ends by chance, each taken back some time later.
+
+use crate::calls::Stopped;
+use crate::dice::Dice;
+use crate::tended_end::TendedEnd;
+use crate::tended_run::TendedRun;
+use set_tending::Command;
+
+/// In so many rounds links come into service first.
+const FIRST: u64 = 15_000;
+
+/// Which orders hold of the links of both ends, and until which round; 0 where none does.
+#[derive(Clone, Copy)]
+pub struct Orders {
+    until: [u64; 32],
+    kinds: [u8; 32],
+    /// How many were given.
+    pub count: u32,
+}
+
+/// An order that is to be given of a link at an end.
+#[derive(Clone, Copy)]
+struct Order {
+    at: usize,
+    link: usize,
+    kind: u8,
+    until: u64,
+}
+
+/// What begins.
+fn order_of(kind: u8) -> Command {
+    match kind {
+        0 | 1 => Command::Outage,
+        2 => Command::Busy,
+        3 => Command::Overload,
+        4 => Command::Emergency,
+        _ => Command::Stop,
+    }
+}
+
+/// What ends it.
+fn order_behind(kind: u8) -> Command {
+    match kind {
+        0 | 1 => Command::Back,
+        2 | 3 => Command::Free,
+        4 => Command::Calm,
+        _ => Command::Start,
+    }
+}
+
+fn place_of(at: usize, link: usize) -> usize {
+    (at % 2).wrapping_mul(16).wrapping_add(link % 16)
+}
+
+impl Orders {
+    /// None was given.
+    pub fn new() -> Orders {
+        Orders {
+            until: [0; 32],
+            kinds: [0; 32],
+            count: 0,
+        }
+    }
+
+    /// What holds no longer is taken back.
+    pub fn take_back(&mut self, end: &mut TendedEnd, at: usize, now: u64) {
+        for link in 0..end.tender.len() {
+            let place = place_of(at, link);
+            if self.until[place] == 0 || now < self.until[place] {
+                continue;
+            }
+            self.until[place] = 0;
+            let _done = end
+                .tender
+                .obey(link, order_behind(self.kinds[place]))
+                .is_ok();
+        }
+    }
+
+    /// An order is given, unless one holds of that link.
+    fn give(
+        &mut self,
+        end: &mut TendedEnd,
+        order: Order,
+        text: &mut String,
+    ) -> Result<(), Stopped> {
+        let Order {
+            at,
+            link,
+            kind,
+            until,
+        } = order;
+        let place = place_of(at, link);
+        if self.until[place] != 0 {
+            return Ok(());
+        }
+        self.until[place] = until;
+        self.kinds[place] = kind;
+        self.count = self.count.wrapping_add(1);
+        let _done = end.tender.obey(link, order_of(kind)).is_ok();
+        if end.loud {
+            let command = order_of(kind);
+            writeln!(text, "end {at} link {link}: {command:?} until {until}")?;
+        }
+        Ok(())
+    }
+
+    /// Orders of a round: one, and now and then a stop of another link at the other end.
+    pub fn strike(
+        &mut self,
+        near: &mut TendedEnd,
+        far: &mut TendedEnd,
+        now: u64,
+        run: TendedRun,
+        text: &mut String,
+        dice: &mut Dice,
+    ) -> Result<(), Stopped> {
+        if !run.orders || now < FIRST || !dice.one_in(run.faults) {
+            return Ok(());
+        }
+        let at = (dice.draw() % 2) as usize;
+        let longest = [300, 3_000, 8_000][(dice.draw() % 3) as usize];
+        let links = (run.links as u64).max(1);
+        let order = Order {
+            at,
+            link: (dice.draw() % links) as usize,
+            kind: (dice.draw() % 6) as u8,
+            until: now.wrapping_add(20 + dice.draw() % longest),
+        };
+        let other = Order {
+            at: 1 - at,
+            link: (dice.draw() % links) as usize,
+            kind: 5,
+            until: now.wrapping_add(50),
+        };
+        let (one, two) = if at == 0 { (near, far) } else { (far, near) };
+        self.give(one, order, text)?;
+        if dice.one_in(3) && other.link != order.link {
+            self.give(two, other, text)?;
+        }
+        Ok(())
+    }
+}
