@@ -32,7 +32,7 @@ pub enum OwnSet {
 
 impl OwnSet {
     /// The set that a word names; none where it names none of them.
-    #[tactic(auto, using(crate::proofs::Own::names_none))]
+    #[tactic(auto, using(crate::proofs::Naming::names_none))]
     pub fn named(word: &str) -> Option<OwnSet>
         ensures some { IfSome result (λ set. word.now ≡ word_of set) }
         ensures none { IsNone result → NamesNone word.now }
