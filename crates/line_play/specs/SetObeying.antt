@@ -67,9 +67,9 @@ pub data IsRefused (said : Option PlainSetOrder) (whom : Focus) (p : Stood) (why
       → Adds p.tender q.tender → Refuses what whom p why q
       → IsRefused said whom p why q
 
--- An order about these links, written so, that says this is obeyed, and that is told: `send` took its
--- message, for which there was room; or what else it says is done by calls of the set that take none,
--- and what it asked for is told behind that; or it is refused.
+-- An order about these links, written so, that says this is obeyed, and that is told: `send` took
+-- its message, for which there was room; or what else it says is done by calls of the set that take
+-- none, and what it asked for is told behind that; or it is refused.
 pub data Obeys (order : List ℕ) (said : Option PlainSetOrder) (whom : Focus) (p : Stood) :
     List ℕ → Stood → Type 0 where
   sends : {u : Tended} (m : Msu) → Sends said m → tended_send_fault p.tender.set m ≡ None

@@ -218,11 +218,7 @@ fn on_in(word: &str) -> Option<SetOrder>
 }
 
 /// What two words say, where the first isn't `send`: `on L`, `on all`, or what is asked of links.
-fn pair_in(
-    alloc: Global,
-    first: &str,
-    word: &str,
-) -> Result<Option<SetOrder>, AllocError>
+fn pair_in(alloc: Global, first: &str, word: &str) -> Result<Option<SetOrder>, AllocError>
     ensures { IfOk result (λ o. option_map plain_set_order o ≡ pair_of first.now word.now) }
 {
     if first == "on" {

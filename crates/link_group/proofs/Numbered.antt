@@ -4,7 +4,7 @@ use Rattle.std.specs.Prelude.{slice_get}
 use Rattle.link_group.specs.declared.link.Link.{Link}
 use Rattle.link_group.specs.Doing.{AtLink}
 
-there-is : (ks : List Link) (l : ℕ) (d : Link) → l < length ks → slice_get ks l ≡ Some (get_or ks l d)
+pub there-is : (ks : List Link) (l : ℕ) (d : Link) → l < length ks → slice_get ks l ≡ Some (get_or ks l d)
 there-is [] l d h = absurd (omega (arith, h))
 there-is (k ∷ ks) zero d h = refl
 there-is (k ∷ ks) (suc l) d h = there-is ks l d (omega (arith, h))

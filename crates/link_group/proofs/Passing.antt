@@ -19,7 +19,7 @@ use Rattle.group_changeover.specs.Availability.{waits}
 use Rattle.link_group.specs.declared.link.Link.{Link}
 use Rattle.link_group.specs.Doing.{came_first}
 use Rattle.link_group.specs.Ticking.{roomy, HasRoom, LacksRoom, first_some, first_refusal, passed, due_in, due_at, all_due}
-use Rattle.link_group.proofs.ByLinks.{there-is}
+use Rattle.link_group.proofs.Numbered.{there-is}
 
 -- ---- room
 

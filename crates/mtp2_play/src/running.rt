@@ -13,7 +13,9 @@ use crate::traced::{end_trace, open_traced, serve_traced, traced_desk};
 use crate::traces::TracedEnd;
 use line_filter::{Orders, Reports};
 use line_play::{Desk, LinkEnd, MOST_AHEAD, SetWord, Terminal, link_desk, new_terminal, run_link};
-use line_streams::{OrderStream, RecordStream, ReportStream, keep_apart, open_orders, open_reports};
+use line_streams::{
+    OrderStream, RecordStream, ReportStream, keep_apart, open_orders, open_reports,
+};
 use mtp2_words::{LineEnd, Named};
 use plain_text::{Errors, FAILED, Teller};
 use std::alloc::Global;

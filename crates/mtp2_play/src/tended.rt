@@ -13,7 +13,9 @@ use crate::set_tap::SetTap;
 use crate::sets::own_set;
 use line_filter::{Orders, Reports};
 use line_play::{Ends, Lines, SetDesk, SetPlan, Tender, open_tender};
-use line_streams::{OrderStream, ReportStream, keep_apart, open_orders, open_records, open_reports};
+use line_streams::{
+    OrderStream, ReportStream, keep_apart, open_orders, open_records, open_reports,
+};
 use mtp2_words::{Named, OwnSet, SetEnd};
 use plain_text::{Errors, FAILED, HELD, NamedReader, Teller};
 use script_check::SetWord;

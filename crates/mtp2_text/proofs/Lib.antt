@@ -1,1 +1,1 @@
-mod Own
+mod Naming

@@ -19,6 +19,17 @@ use turn_verify::{LoadFault, Verified, load};
 /// less long than the far side may take to acknowledge a message.
 const Q703_OCTETS: u16 = 3_000;
 
+/// The set of a text.
+fn set_of(alloc: Global, text: &str) -> Result<Verified, LoadFault>
+    ensures utf8 { IsUtf8 text.now }
+    ensures accepted { IfOk result (IsLoaded text.now) }
+    ensures exact { (ts : List lexeme.Token) (b : PlainBlock) → IsSoundText text.now ts b → Gives result (MatchesBlock b) }
+    ensures every { (ts : List lexeme.Token) (b : PlainBlock) → IsRead text.now ts b → IfOk result (IsSetOf b) }
+    ensures refused { IfErr result (IsRefused text.now) }
+{
+    load(alloc, text)
+}
+
 /// A set of processes of the program's own.
 #[derive(Clone, Copy, PartialEq, Eq, Debug)]
 pub enum OwnSet {
@@ -32,7 +43,7 @@ pub enum OwnSet {
 
 impl OwnSet {
     /// The set that a word names; none where it names none of them.
-    #[tactic(auto, using(crate::proofs::Own::names_none))]
+    #[tactic(auto, using(crate::proofs::Naming::names_none))]
     pub fn named(word: &str) -> Option<OwnSet>
         ensures some { IfSome result (λ set. word.now ≡ word_of set) }
         ensures none { IsNone result → NamesNone word.now }
@@ -58,8 +69,7 @@ impl OwnSet {
 
     /// Its text.
     pub fn text(self) -> &'static str
-        ensures text { result.now ≡ text_of self }
-        ensures utf8 { IsUtf8 result.now }
+        ensures { result.now ≡ text_of self }
     {
         match self {
             Self::Standard => STANDARD,
@@ -74,12 +84,13 @@ impl OwnSet {
     ///
     /// What `load` answers for the text. It is accepted, as the table of texts shows, so [`LoadFault::NoMemory`] alone comes.
     pub fn load(self, alloc: Global) -> Result<Verified, LoadFault>
+        ensures utf8 { IsUtf8 (text_of self) }
         ensures accepted { IfOk result (IsLoaded (text_of self)) }
         ensures exact { (ts : List lexeme.Token) (b : PlainBlock) → IsSoundText (text_of self) ts b → Gives result (MatchesBlock b) }
         ensures every { (ts : List lexeme.Token) (b : PlainBlock) → IsRead (text_of self) ts b → IfOk result (IsSetOf b) }
         ensures refused { IfErr result (IsRefused (text_of self)) }
     {
-        load(alloc, self.text())
+        set_of(alloc, self.text())
     }
 
     /// The limits of forced retransmission over it, where none are chosen.

@@ -30,7 +30,8 @@ pub record IsNameAt (tokens : List Token) (x : List ℕ) (at : ℕ) : Type 0 whe
   pub begins : token.start ≡ at
   pub named : IsNamed x token.lexeme
 
--- Where a limit is passed, or a transition runs off its end, a token begins; where a variable is read unset stands its name.
+-- Where a limit is passed, or a transition runs off its end, a token begins; where a variable is
+-- read unset stands its name.
 abbrev pub FitsRule : List Token → RuleFault → ℕ → Type 0
 FitsRule tokens (rules.DoubleName place) at = Unit {0}
 FitsRule tokens (rules.UnknownName place) at = Unit {0}

@@ -79,13 +79,23 @@ fn in_decision(read: &Reading<'_>, decision: &Decision) -> Option<u32> {
     }
 }
 
-/// The answer at which a transition that runs off does so; none, where it does behind its last statement.
+/// The answer at which a DECISION runs off, if this statement is one.
+#[cycle(finding)]
+fn in_statement(read: &Reading<'_>, statement: &Statement) -> Option<u32> {
+    match statement {
+        Statement::Act(_) => None,
+        Statement::Decide(decision) => in_decision(read, decision),
+    }
+}
+
+/// The answer at which a transition that runs off does so: that of its last statement; none, where it does behind that.
 #[cycle(finding)]
 fn in_transition(read: &Reading<'_>, transition: &Transition) -> Option<u32> {
-    match transition.statements.last() {
-        Some(Statement::Decide(decision)) => in_decision(read, decision),
-        _ => None,
+    let mut found = None;
+    for statement in &transition.statements {
+        found = in_statement(read, statement);
     }
+    found
 }
 
 /// The transition of the INPUT at a place of a state's clauses.
@@ -134,10 +144,6 @@ pub(crate) fn no_end(
     told.found = Some(place);
     told.notes.said.clear();
     told.notes.hint.clear();
-    told.notes
-        .said
-        .push_str("this answer has no end, and nothing stands behind its DECISION")?;
-    told.notes
-        .hint
-        .push_str("write NEXTSTATE, STOP or JOIN in it, or behind the DECISION")
+    told.notes.said.push_str("this answer has no end, and nothing stands behind its DECISION")?;
+    told.notes.hint.push_str("write NEXTSTATE, STOP or JOIN in it, or behind the DECISION")
 }

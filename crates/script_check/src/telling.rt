@@ -52,15 +52,16 @@ fn of_place(
     read: &Reading<'_>,
     fault: &RuleFault,
 ) -> Result<(), AllocError> {
-    let notes = &mut told.notes;
     match fault {
         RuleFault::WrongSort(at) => match wrong_sort(block, process, *at) {
-            Some(cause) => explain(alloc, notes, &cause),
+            Some(cause) => explain(alloc, &mut told.notes, &cause),
             None => Ok(()),
         },
-        RuleFault::NoReceiver(at) => no_receiver(alloc, notes, block, process, read.text, *at),
-        RuleFault::TwoReceivers(at) => two_receivers(alloc, notes, block, process, *at),
-        RuleFault::NoAnswer(at) => no_answer(notes, process, *at),
+        RuleFault::NoReceiver(at) => {
+            no_receiver(alloc, &mut told.notes, block, process, read.text, *at)
+        }
+        RuleFault::TwoReceivers(at) => two_receivers(alloc, &mut told.notes, block, process, *at),
+        RuleFault::NoAnswer(at) => no_answer(&mut told.notes, process, *at),
         RuleFault::NoState(at) => no_end(told, process, read, *at),
         _ => Ok(()),
     }

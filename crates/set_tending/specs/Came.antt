@@ -64,14 +64,14 @@ points_of e = record { own = e.own; peer = e.peer }
 abbrev pub comes_back : Ends → Msu → Bool
 comes_back e m = is_bound (points_of e) m
 
-abbrev pub came_within : Ends → Msu → Label → Came
-came_within e m label =
-    if comes_between e label then content_in (m.sio % 16) label.sls (drop 4 m.sif.items)
+abbrev pub came_within : Ends → Msu → Label → List ℕ → Came
+came_within e m label content =
+    if comes_between e label then content_in (m.sio % 16) label.sls content
     else (if comes_back e m then Own else Message)
 
 abbrev pub came_by : Ends → Msu → Option Label → Came
 came_by e m None = Message
-came_by e m (Some label) = came_within e m label
+came_by e m (Some label) = came_within e m label (drop 4 m.sif.items)
 
 -- What is none of these, what isn't between these points, and what is of another network, is for
 -- level 3.

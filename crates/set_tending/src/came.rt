@@ -1,6 +1,5 @@
 //! What a message that came is to a set.
-ghost use Rattle.std.specs.Prelude.{◌≡◌, Some};
-ghost use Rattle.group_changeover.specs.Labels.{label_in};
+ghost use Rattle.std.specs.Prelude.{◌≡◌};
 ghost use Rattle.set_tending.specs.Came.{comes_between, is_of, by_heading, by_pair, management_in, test_by, test_in, content_in, comes_back, came_within, came};
 
 use crate::ends::Ends;
@@ -127,17 +126,12 @@ impl Ends {
         points.is_bound(msu)
     }
 
-    /// What a message of the set's own network that came is.
-    fn came_within(self, label: Label, msu: &Msu) -> Came
-        requires { label_in msu.now.sif.items ≡ Some label }
-        ensures { result ≡ came_within self msu.now label }
+    /// What a message of the set's own network that came is: its label, and what stands behind it.
+    fn came_within(self, msu: &Msu, label: Label, content: &[u8]) -> Came
+        ensures { result ≡ came_within self msu.now label content.now }
     {
         if self.comes_between(label) {
-            return content_in(
-                msu.sio % 16,
-                usize::from(label.sls),
-                &msu.sif.as_slice()[4..],
-            );
+            return content_in(msu.sio % 16, usize::from(label.sls), content);
         }
         if self.comes_back(msu) {
             return Came::Own;
@@ -154,7 +148,7 @@ impl Ends {
             return Came::Message;
         }
         match label_of(msu) {
-            Some(label) => self.came_within(label, msu),
+            Some(label) => self.came_within(msu, label, &msu.sif.as_slice()[4..]),
             None => Came::Message,
         }
     }

@@ -3,6 +3,9 @@
 use crate::messages::{Way, place_of};
 use set_tending::Msu;
 
+/// Of how many numbers below the next one it is remembered whether they were left out: 16 times the bits of a word.
+const REMEMBERED: u32 = 1_024;
+
 /// How many messages went out and came in, in all and of each of 16 selections.
 #[derive(Clone, Copy)]
 pub struct Counts {
@@ -10,11 +13,17 @@ pub struct Counts {
     pub sent: u32,
     /// How many came.
     pub came: u32,
-    /// How many of those came twice, too late, or aren't what was sent.
-    pub wrong: u32,
+    /// How many of those had come before.
+    pub twice: u32,
+    /// How many of those came after a later one of their selection, for the first time.
+    pub late: u32,
+    /// How many of those aren't what was sent.
+    pub altered: u32,
     sent_of: [u32; 16],
     /// The number that comes next of each selection, or a later one where messages are missing.
     next_of: [u32; 16],
+    /// Which of the last numbers below that were left out, a bit each, by what is left of the number over 1,024.
+    left_out: [[u64; 16]; 16],
 }
 
 impl Counts {
@@ -23,9 +32,12 @@ impl Counts {
         Counts {
             sent: 0,
             came: 0,
-            wrong: 0,
+            twice: 0,
+            late: 0,
+            altered: 0,
             sent_of: [0; 16],
             next_of: [0; 16],
+            left_out: [[0; 16]; 16],
         }
     }
 
@@ -41,14 +53,50 @@ impl Counts {
         self.sent = self.sent.wrapping_add(1);
     }
 
+    /// How many came twice, out of order, or aren't what was sent.
+    pub fn wrong(&self) -> u32 {
+        self.twice
+            .wrapping_add(self.late)
+            .wrapping_add(self.altered)
+    }
+
+    /// Notes whether a number of a selection was left out. Gives whether it was so noted before.
+    fn note(&mut self, place: usize, number: u32, is_out: bool) -> bool {
+        let word = (number / 64 % 16) as usize;
+        let bit = 1u64 << (number % 64);
+        let before = self.left_out[place % 16][word] & bit != 0;
+        if is_out {
+            self.left_out[place % 16][word] |= bit;
+        } else {
+            self.left_out[place % 16][word] &= !bit;
+        }
+        before
+    }
+
+    /// A message came of a number that is below the next one.
+    fn come_again(&mut self, place: usize, number: u32, next: u32) {
+        let is_remembered = next.wrapping_sub(number) <= REMEMBERED;
+        if is_remembered && self.note(place, number, false) {
+            self.late = self.late.wrapping_add(1);
+        } else {
+            self.twice = self.twice.wrapping_add(1);
+        }
+    }
+
     /// A message came of a number of a selection.
     fn come(&mut self, selection: u8, number: u32) {
         let place = usize::from(selection % 16);
-        if number < self.next_of[place] {
-            self.wrong = self.wrong.wrapping_add(1);
-        } else {
-            self.next_of[place] = number.wrapping_add(1);
+        let next = self.next_of[place];
+        if number < next {
+            self.come_again(place, number, next);
+            return;
         }
+        let first = next.max(number.saturating_sub(REMEMBERED));
+        for left in first..number {
+            let _before = self.note(place, left, true);
+        }
+        let _before = self.note(place, number, false);
+        self.next_of[place] = number.wrapping_add(1);
     }
 
     /// A message came.
@@ -56,7 +104,7 @@ impl Counts {
         self.came = self.came.wrapping_add(1);
         match place_of(way, msu) {
             Some((selection, number)) => self.come(selection, number),
-            None => self.wrong = self.wrong.wrapping_add(1),
+            None => self.altered = self.altered.wrapping_add(1),
         }
     }
 }

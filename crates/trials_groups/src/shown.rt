@@ -41,7 +41,7 @@ fn write_head(text: &mut String, run: Run, schedule: &Schedule) -> Result<(), Al
 /// What is to be said of one way. Messages that are missing may be no more than those that count as unsure where they were sent.
 fn verdict(from: &Counts, to: &Counts, unsure: u64) -> &'static str {
     let missing = u64::from(from.sent.saturating_sub(to.came));
-    if to.wrong > 0 || to.came > from.sent {
+    if to.wrong() > 0 || to.came > from.sent {
         "WRONG: some came twice or out of order"
     } else if missing > unsure {
         "WRONG: more are missing than are unsure"
@@ -91,7 +91,7 @@ fn write_late_way(
     to: &SetEnd,
 ) -> Result<(), AllocError> {
     let missing = u64::from(from.counts.sent.saturating_sub(to.counts.came));
-    let verdict = if missing <= from.group.unsure() && to.counts.wrong == 0 {
+    let verdict = if missing <= from.group.unsure() && to.counts.wrong() == 0 {
         "each once or unsure, in order"
     } else {
         verdict(&from.counts, &to.counts, from.group.unsure())

@@ -68,13 +68,16 @@ fn ties(alloc: Global, run: TendedRun) -> Result<Vec<Tie>, Stopped> {
 
 /// How many messages never came.
 fn missing(from: &TendedEnd, to: &TendedEnd) -> u64 {
-    let came = to.counts.came.saturating_sub(to.counts.wrong);
+    let came = to
+        .counts
+        .came
+        .saturating_sub(to.counts.twice.wrapping_add(to.counts.altered));
     u64::from(from.counts.sent.saturating_sub(came))
 }
 
 /// What is to be said of one way.
 fn verdict(from: &TendedEnd, to: &TendedEnd) -> &'static str {
-    if to.counts.wrong > 0 {
+    if to.counts.wrong() > 0 {
         "WRONG: some came twice or out of order"
     } else if missing(from, to) > from.unsure {
         "WRONG: more are missing than are unsure"
@@ -92,7 +95,9 @@ fn end_verdict(end: &TendedEnd) -> &'static str {
 fn write_sums(text: &mut String, from: &TendedEnd, to: &TendedEnd) -> Result<(), Stopped> {
     let sent = from.counts.sent;
     let came = to.counts.came;
-    let wrong = to.counts.wrong;
+    let twice = to.counts.twice;
+    let late = to.counts.late;
+    let altered = to.counts.altered;
     let missing = missing(from, to);
     let unsure = from.unsure;
     let refused = from.refused;
@@ -101,7 +106,7 @@ fn write_sums(text: &mut String, from: &TendedEnd, to: &TendedEnd) -> Result<(),
     let silences = from.silences;
     writeln!(
         text,
-        "    sent {sent} came {came} wrong {wrong} missing {missing} unsure {unsure} refused {refused} changeovers {changeovers} restarts {restarts} silences {silences}"
+        "    sent {sent} came {came} twice {twice} out of order {late} altered {altered} missing {missing} unsure {unsure} refused {refused} changeovers {changeovers} restarts {restarts} silences {silences}"
     )?;
     Ok(())
 }

@@ -1,4 +1,5 @@
 //! Orders at both ends by chance, each taken back some time later.
+ghost use Rattle.std.specs.Prelude.{◌<◌};
 
 use crate::calls::Stopped;
 use crate::dice::Dice;
@@ -48,8 +49,22 @@ fn order_behind(kind: u8) -> Command {
     }
 }
 
-fn place_of(at: usize, link: usize) -> usize {
-    (at % 2).wrapping_mul(16).wrapping_add(link % 16)
+/// Where what holds of a link of an end stands.
+fn place_of(at: usize, link: usize) -> usize
+    ensures { result < 32 }
+{
+    at % 2 * 16 + link % 16
+}
+
+/// How many rounds an order holds at most.
+fn longest_of(drawn: u64) -> u64
+    ensures { 0 < result }
+{
+    match drawn % 3 {
+        0 => 300,
+        1 => 3_000,
+        _ => 8_000,
+    }
 }
 
 impl Orders {
@@ -119,16 +134,16 @@ impl Orders {
             return Ok(());
         }
         let at = (dice.draw() % 2) as usize;
-        let longest = [300, 3_000, 8_000][(dice.draw() % 3) as usize];
+        let longest = longest_of(dice.draw());
         let links = (run.links as u64).max(1);
         let order = Order {
             at,
             link: (dice.draw() % links) as usize,
             kind: (dice.draw() % 6) as u8,
-            until: now.wrapping_add(20 + dice.draw() % longest),
+            until: now.wrapping_add(20).wrapping_add(dice.draw() % longest),
         };
         let other = Order {
-            at: 1 - at,
+            at: 1usize.wrapping_sub(at),
             link: (dice.draw() % links) as usize,
             kind: 5,
             until: now.wrapping_add(50),

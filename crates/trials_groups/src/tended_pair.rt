@@ -150,9 +150,9 @@ impl Faults {
         }
     }
 
-    /// All lines are cut: at once, or in turn.
+    /// All lines are cut: in turn, where a run says so, else at once.
     fn strike_all(&mut self, ties: &mut [Tie], now: u64, run: TendedRun, dice: &mut Dice) {
-        if run.staggered && dice.one_in(2) {
+        if run.staggered {
             self.cut_in_turn(ties, now, dice);
         } else {
             self.cut_all(ties, now, dice);
@@ -171,7 +171,7 @@ impl Faults {
         if !dice.one_in(run.faults) {
             return Ok(());
         }
-        let often = if run.staggered { 6 } else { 24 };
+        let often = if run.staggered { 4 } else { 24 };
         if dice.one_in(often) {
             self.strike_all(ties, now, run, dice);
             if run.loud {

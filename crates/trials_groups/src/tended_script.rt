@@ -14,6 +14,12 @@ use turn_check::Verified;
 /// How many octets go ahead on a line.
 const AHEAD: usize = 8;
 
+/// The name of the far end.
+const FAR: &str = "far";
+
+/// The points between which its messages go.
+const FAR_WAY: Way = Way { from: 2, to: 1 };
+
 /// One end of a script.
 #[derive(Drop)]
 struct Side {
@@ -274,23 +280,16 @@ fn befall(ties: &mut Ties, link: usize, weather: Weather) {
     }
 }
 
-/// Does what a line says.
-fn step(
+/// Does what a line says of lines, or of time.
+fn step_on(
     alloc: Global,
     text: &mut String,
     near: &mut Side,
     far: &mut Side,
     ties: &mut Ties,
-    line: &str,
+    word: &str,
+    rest: &str,
 ) -> Result<(), Stopped> {
-    let Some((word, rest)) = line.split_once(' ') else {
-        return Err(Stopped::BadLine);
-    };
-    match word {
-        "near" => return near.order(text, rest),
-        "far" => return far.order(text, rest),
-        _ => {}
-    }
     let Ok(number) = rest.parse::<u32>() else {
         return Err(Stopped::BadLine);
     };
@@ -313,17 +312,42 @@ fn step(
     }
 }
 
+/// Does what a line says.
+fn step(
+    alloc: Global,
+    text: &mut String,
+    set: &Verified,
+    near: &mut Side,
+    far: &mut Side,
+    ties: &mut Ties,
+    line: &str,
+) -> Result<(), Stopped> {
+    let Some((word, rest)) = line.split_once(' ') else {
+        return Err(Stopped::BadLine);
+    };
+    match word {
+        "near" => near.order(text, rest),
+        "far" if rest == "anew" => {
+            *far = open_side(alloc, set, near.tender.len(), FAR, FAR_WAY)?;
+            Ok(())
+        }
+        "far" => far.order(text, rest),
+        _ => step_on(alloc, text, near, far, ties, word, rest),
+    }
+}
+
 /// Does what all lines say.
 fn steps(
     alloc: Global,
     text: &mut String,
+    set: &Verified,
     near: &mut Side,
     far: &mut Side,
     ties: &mut Ties,
     lines: &str,
 ) -> Result<(), Stopped> {
     for line in lines.lines() {
-        step(alloc, text, near, far, ties, line)?;
+        step(alloc, text, set, near, far, ties, line)?;
     }
     Ok(())
 }
@@ -354,13 +378,14 @@ fn run_near(
         back: channels(alloc, links)?,
         looped: None,
     };
-    let mut far = open_side(alloc, set, links, "far", Way { from: 2, to: 1 })?;
-    steps(alloc, text, near, &mut far, &mut ties, lines)
+    let mut far = open_side(alloc, set, links, FAR, FAR_WAY)?;
+    steps(alloc, text, set, near, &mut far, &mut ties, lines)
 }
 
 /// Does what a script says, and writes what both ends told: `links N` first; then `near ORDER` and `far ORDER`; `run N`, so many rounds, behind which is
-/// written what was told, near's before far's; `cut L`, `loop L` (its line comes back to the near end) and `heal L`. The near point is 1, the far one 2. An ORDER is `power`, `start`, `stop`, `outage` or
-/// `back` with a link or `all`, or `send` with a selection, whose first message is sent.
+/// written what was told, near's before far's; `cut L`, `loop L` (its line comes back to the near end) and `heal L`; `far anew`: a far end at which nothing
+/// has happened takes the place of the other. The near point is 1, the far one 2. An ORDER is `power`, `start`, `stop`, `outage` or `back` with a link or
+/// `all`, or `send` with a selection, whose first message is sent.
 ///
 /// # Errors
 ///

@@ -14,4 +14,4 @@ pub returns-in-Ok-clause-fault : goal.returns-in-Ok-clause-fault
 returns-in-Ok-clause-fault g c =
     of_text g.R.Read.remaining c.in-Ok.own _ _
     (λ known. IfErr c.pointed_set.result (λ r. IsRefusal r.fault → IsGiven known (λ bytes. IsRefusedAt bytes r))) c.in-Ok.ensures refl
-    (fault_placed_own _ _ _ _ (c.as_bytes.ensures.value ∙ c.text.ensures.text) c.pointed_set.ensures.fault c.own_set.ensures.fault)
+    (fault_placed_own _ _ _ _ (c.as_bytes.ensures.value ∙ c.text.ensures) c.pointed_set.ensures.fault c.own_set.ensures.fault)

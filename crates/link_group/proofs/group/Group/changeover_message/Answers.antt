@@ -1,5 +1,4 @@
 use Rattle.std.proofs.Common.{◌∙◌, sym, ap, subst, Option}
-use Rattle.arrayvec.specs.ArrayVec.{ArrayVec}
 use Rattle.group_changeover.specs.declared.changeover.Changeover.{Changeover}
 use Rattle.link_group.specs.Changing.{after_message, hearing_of, reply_to, IsReply}
 use Rattle.link_group.proofs.Fields.{one_reading}

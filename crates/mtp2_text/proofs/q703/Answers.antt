@@ -1,0 +1,4 @@
+use Rattle.mtp2_text.proofs.q703.Goals as goal
+
+pub returns-clause-utf8 : goal.returns-clause-utf8
+returns-clause-utf8 c = c.load.ensures.utf8
