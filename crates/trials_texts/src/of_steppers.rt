@@ -1,16 +1,19 @@
 //! Turns by two steppers, on words and on values with their sorts: each transition of a set runs on ten inputs, with numbers at the ends of their range, and
 //! each of its places is stepped from.
 
-use crate::inputs::input_of;
-use crate::sorted::has_room;
+ghost use Rattle.std.specs.Prelude.{◌≤◌, IsTrue, IfSome};
+ghost use Rattle.turn_code.specs.Code.{sends};
+ghost use Rattle.turn_code.specs.Fits.{Fits};
+ghost use Rattle.turn_code.specs.Machine.{HasRoom, HasRoomFor};
+
 use crate::tally::tally_of as steps_of;
 use arrayvec::ArrayVec;
 use mtp2_text::{LoadFault, Verified, load, monitors, standard};
 use turn_code::{
-    After, Effect, End, Input, Instruction, Machine, Operands, Place, ProcessNumber, StateNumber,
-    copied_variables, same_variables, step_plain,
+    Address, After, DraftVariable, Effect, End, Input, Instruction, Machine, Operands, Party,
+    Place, ProcessNumber, Sort, StateNumber, Value, copied_variables, same_variables, step_plain,
 };
-use turn_machine::{new_machine, run_in};
+use turn_machine::{Received, fits, new_machine, run_in};
 
 /// Every operation and relation, parameters and variables of both sorts, all three effects, answers to whoever sent, ways that join.
 const MILL: &str = "BLOCK Mill;
@@ -51,6 +54,84 @@ CONNECTION back:
 ENDCONNECTION back;
 ENDPROCESS Wheel;
 ENDBLOCK Mill;";
+
+/// A value of a sort: numbers at the ends of their range and about 0 come in turn, and both Booleans.
+fn value_of(sort: Sort, turn: u32) -> Value {
+    match sort {
+        Sort::Boolean => Value::Bool(turn % 2 == 1),
+        Sort::Integer => match turn % 5 {
+            0 => Value::Int(i32::MIN),
+            1 => Value::Int(i32::MAX),
+            2 => Value::Int(0),
+            3 => Value::Int(-1),
+            _ => Value::Int(1),
+        },
+    }
+}
+
+/// A value for each variable, at most 32.
+fn values_of(variables: &[DraftVariable], turn: u32) -> ArrayVec<Option<Value>, 32> {
+    let mut values = ArrayVec::new();
+    let mut next = turn;
+    for variable in variables {
+        if values.len() < 32 {
+            values.push(Some(value_of(variable.sort, next)));
+        }
+        next = next.wrapping_add(1);
+    }
+    values
+}
+
+/// A value for each parameter, at most 4.
+fn parameters_of(sorts: &[Sort], turn: u32) -> ArrayVec<Value, 4> {
+    let mut values = ArrayVec::new();
+    let mut next = turn;
+    for sort in sorts {
+        if values.len() < 4 {
+            values.push(value_of(*sort, next));
+        }
+        next = next.wrapping_add(3);
+    }
+    values
+}
+
+/// The parties of a set in turn: the environment first, then its processes.
+fn sender_of(number: u8) -> Address {
+    Address {
+        party: match number {
+            0 => Party::Environment,
+            _ => Party::Process(ProcessNumber(number - 1)),
+        },
+        instance: None,
+    }
+}
+
+/// Whether an instruction sends at most 4 parameters.
+fn sends_few(instruction: Instruction) -> bool
+    ensures { IsTrue result → sends instruction ≤ 4 }
+{
+    match instruction {
+        Instruction::Output(_, _, count) => count <= 4,
+        _ => true,
+    }
+}
+
+/// Whether there is room for an instruction, whatever it does.
+fn has_room_for(instruction: Instruction, machine: &Machine) -> bool
+    ensures { IsTrue result → HasRoomFor instruction machine.now.operands machine.now.effects.items }
+{
+    sends_few(instruction) && machine.operands.len() < 16 && machine.effects.len() < 32
+}
+
+/// Whether there is room for the instruction at a place, if there is one.
+fn has_room(code: &[Instruction], place: usize, machine: &Machine) -> bool
+    ensures { IsTrue result → HasRoom code.now place machine.now.operands machine.now.effects.items }
+{
+    match code.get(place) {
+        Some(instruction) => has_room_for(*instruction, machine),
+        None => true,
+    }
+}
 
 /// Runs code from its first instruction on, on the values of an input that the machine has already. None where it doesn't end within 512 instructions.
 fn run_sorted(code: &[Instruction], input: &Input, machine: &mut Machine) -> Option<End> {
@@ -103,6 +184,34 @@ fn are_alike(one: &Machine, other: &Machine) -> bool {
         && same_effects(one.effects.as_slice(), other.effects.as_slice())
 }
 
+/// What comes with an input in a turn, from the first party that may send it.
+fn received(
+    set: &Verified,
+    process: ProcessNumber,
+    place: Place,
+    number: usize,
+    turn: u32,
+) -> Option<Input>
+    ensures { IfSome result (λ input. Fits set.now process.0 place number input) }
+{
+    let transition = set.transition(process, place, number)?;
+    let variables = values_of(transition.process.variables.as_slice(), turn);
+    for sender in 0..17u8 {
+        let received = Received {
+            parameters: parameters_of(transition.parameters, turn),
+            sender: Some(sender_of(sender)),
+        };
+        if fits(set, process, place, number, &variables, &received) {
+            return Some(Input {
+                variables,
+                parameters: received.parameters,
+                sender: received.sender,
+            });
+        }
+    }
+    None
+}
+
 /// Runs a transition in a turn by both steppers; nothing where no input fits it.
 fn run_both(
     tally: &mut Tally,
@@ -110,12 +219,12 @@ fn run_both(
     process: ProcessNumber,
     place: Place,
     number: usize,
-    turn: i32,
+    turn: u32,
 ) {
     let Some(transition) = set.transition(process, place, number) else {
         return;
     };
-    let Some(input) = input_of(set, process, place, number, turn) else {
+    let Some(input) = received(set, process, place, number, turn) else {
         return;
     };
     let mut sorted = Machine {
@@ -138,7 +247,7 @@ fn run_turns(
     place: Place,
     number: usize,
 ) {
-    for turn in 0..10i32 {
+    for turn in 0..10u32 {
         run_both(tally, set, process, place, number, turn);
     }
 }
