@@ -146,6 +146,17 @@ def cut_libraries(rt):
         with store[0].in_turn(crate, False, key) as has_waited:
             return has_waited and store[0].give(crate, False, key)
 
+    def is_proved_here(crate):
+        """Whether `rt ci` proved this very crate on this machine, over the libraries that stand in out/."""
+        if not hasattr(rt, "Kept"):
+            return False
+        if not store:
+            rt.Crate.allowed = rt.handles_of(os.path.dirname(os.path.dirname(crate.folder)))
+            store.append(rt.Kept([]))
+        for it in crate.below():
+            store[0].is_built(it)
+        return store[0].at is not None and os.path.isdir(store[0].place(crate, False, store[0].key(crate)))
+
     def build_rlib(crate, flags, anew):
         if anew:
             return whole(crate, flags, anew)
@@ -164,7 +175,7 @@ def cut_libraries(rt):
             note(crate, below, stamp)
         return status
 
-    crates.is_built, crates.build_rlib = is_built, build_rlib
+    crates.is_built, crates.build_rlib, rt.is_proved_here = is_built, build_rlib, is_proved_here
     # (what another checkout built fits only what stands on that very library there; what `rt ci` kept fits in each)
     if hasattr(rt, "take_rlib"):
         elsewhere = rt.take_rlib
