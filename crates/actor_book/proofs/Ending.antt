@@ -182,13 +182,6 @@ counts_on b n t kept h =
     let most : (state_of b).turns ≤ 2 ^ 40 = kept.bounded.turns in
     omega arith
 
-pub instructions_on : (b : Ledger) (count : ℕ) → IsKept b → count < 2 ^ 32 → (state_of b).instructions + count < 2 ^ 64
-instructions_on b count kept small =
-    let sum : (state_of b).finishes + outs (state_of b).actors ≡ (state_of b).turns = kept.bounded.finishes in
-    let most : (state_of b).turns ≤ 2 ^ 40 = kept.bounded.turns in
-    let all : (state_of b).instructions ≤ 512 * (state_of b).finishes = kept.bounded.instructions in
-    omega arith
-
 -- ---- timers
 
 in_process : (ss : List DraftSignal) (n : ℕ) (p : DraftProcess) (s : Place) (i : ℕ) (t : Transition) → place_at ss n p s i ≡ Some t → t.process ≡ p

@@ -57,21 +57,10 @@ begins_there state sets b c n r takes h l = record {
 
 -- ---- a turn ends
 
-pub has_out_there : (b : Ledger) (r : Lying) (t : Turn) (n : ℕ) → r ≡ Ran t → n ≡ t.actor → turn_out b t.actor ≡ Some t → HasOutThere b r n
-has_out_there b r t n is own out = subst (λ (x : Lying). HasOutThere b x n) (sym is) (sym own, ap (turn_out b) own ∙ out)
-
-pub not_out_there : (b : Ledger) (r : Lying) (t : Turn) → r ≡ Ran t → (turn_out b t.actor ≡ Some t → ⊥) → IsOutThere b r → ⊥
-not_out_there b r t is not out = not (subst (λ (x : Lying). IsOutThere b x) is out)
-
 pub none_there : (b : Ledger) (r : Lying) → (HasRun r → ⊥) → IsOutThere b r → ⊥
 none_there b Free not out = absurd out
 none_there b (Begun t) not out = absurd out
 none_there b (Ran t) not out = not tt
-
-pub out_there : (b : Ledger) (r : Lying) (n : ℕ) → HasOutThere b r n → IsOutThere b r
-out_there b Free n h = absurd h
-out_there b (Begun t) n h = absurd h
-out_there b (Ran t) n h = ap (turn_out b) h.0 ∙ h.1
 
 pub is_ending : (b : Ledger) (r : Lying) (n : ℕ) (e : Ended) → HasOutThere b r n → EndedSo r e → IsEnding (turn_out b n) e.end e.machine
 is_ending b Free n e h k = absurd h
