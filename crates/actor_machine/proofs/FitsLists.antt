@@ -1,5 +1,5 @@
 -- Lists of which one element changes, and lists each of whose elements has a property.
-use Rattle.std.proofs.Common.{◌≡◌, ◌≢◌, ℕ, zero, suc, Bool, true, false, cond, List, [], ◌∷◌, length, map, ap, Option, Some, None, refl, sym, ◌∙◌, subst, inl, inr, arith, length-set}
+use Rattle.std.proofs.Common.{◌≡◌, ◌≢◌, ℕ, zero, suc, Bool, true, false, cond, List, [], ◌∷◌, map, ap, Option, Some, None, refl, sym, ◌∙◌, subst, inl, inr, arith}
 use Rattle.std.specs.Prelude.{slice_get, slice_set, option_map, position, filter, Contains}
 use Rattle.std.specs.List.{AllByRecursion}
 use Rattle.std.proofs.lemmas.Option.{same_Some, none-some, slice_get-get_or, slice_get-map}
@@ -29,13 +29,6 @@ change_same {A} xs n f a h = by (slice_get xs n) refl h
     by : (o : Option A) → slice_get xs n ≡ o → slice_get (set_at xs n f o) n ≡ Some a → (x : A) × (slice_get xs n ≡ Some x) × (f x ≡ a)
     by None e g = absurd (none-some a (sym e ∙ g))
     by (Some x) e g = (x, e, same_Some (f x) a (sym (written_same xs n x (f x) e) ∙ g))
-
-pub change-length : {A : Type 0} (xs : List A) (n : ℕ) (f : A → A) → length (change xs n f) ≡ length xs
-change-length {A} xs n f = by (slice_get xs n)
-  where
-    by : (o : Option A) → length (set_at xs n f o) ≡ length xs
-    by None = refl
-    by (Some x) = length-set xs n (f x)
 
 -- what is read of each element stays, where the change keeps it
 map_set : {A B : Type 0} (g : A → B) (xs : List A) (n : ℕ) (x y : A) → slice_get xs n ≡ Some x → g y ≡ g x → map g (slice_set xs n y) ≡ map g xs

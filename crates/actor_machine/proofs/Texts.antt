@@ -52,10 +52,6 @@ same_step act d w (Finish n) means fits = same_at act d n w (slice_get w.actors 
 same_step act d w (Advance k) means fits = refl
 same_step act d w TakeEnv means fits = refl
 
-fits_first : (d : Draft) (w : Core) (es : List Event) → FitsAlong d w es → CoreFits d w
-fits_first d w [] h = h
-fits_first d w (e ∷ es) h = h.0
-
 same_replay : (act : Meaning) (d : Draft) (w : Core) (es : List Event) → Means act d → FitsAlong d w es
     → replay d act w es ≡ replay d (runs d) w es
 same_replay act d w [] means fits = refl
