@@ -92,10 +92,6 @@ unfolding reports
 close-counting content None count s some counts same = absurd (some counts)
 close-counting content (Some n) count s some counts same = append-nil (sixteen_of s) ∙ same
 
-pub close-nothing : (content : Content) (mode : Option ℕ) (s : Bool) → sixteen_of s ≡ reports Nothing mode
-    → reports_of (record { sixteen = s; closed = closed.Nothing }) content ≡ reports Nothing mode
-close-nothing content mode s same = append-nil (sixteen_of s) ∙ same
-
 -- a wrong content moves the mode on as none does
 pub wrong-moves : (mode : Option ℕ) (b : Bool) → mode_after Wrong b mode ≡ mode_after Nothing b mode
 unfolding mode_after
@@ -122,10 +118,6 @@ closing-wrong closing content mode new is counts =
     let Q : Option ℕ → Type 0 = λ m. Counts m new in
     subst P (sym is) (subst Q (sym (wrong-moves mode false)) counts)
 
-pub closing-nothing : (closing : Closed) (content : Content) (mode new : Option ℕ) → closing ≡ closed.Nothing → Counts (mode_after Nothing false mode) new
-    → Counts (mode_after (verdict_of closing content) false mode) new
-closing-nothing closing content mode new is counts = let P : Closed → Type 0 = λ k. Counts (mode_after (verdict_of k content) false mode) new in subst P (sym is) counts
-
 pub given-correct : (closing : Closed) (content : Content) (mode : Option ℕ) (s : Bool) → closing ≡ closed.Correct → sixteen_of s ≡ reports Nothing mode
     → reports_of (record { sixteen = s; closed = closing }) content ≡ reports (verdict_of closing content) mode
 given-correct closing content mode s is same =
@@ -143,9 +135,3 @@ pub given-counting : (closing : Closed) (content : Content) (mode count : Option
 given-counting closing content mode count s is normal counts same =
     let P : Closed → Type 0 = λ k. reports_of (record { sixteen = s; closed = closed.Nothing }) content ≡ reports (verdict_of k content) mode in
     subst P (sym is) (close-counting content mode count s (some_when count normal) counts same)
-
-pub given-nothing : (closing : Closed) (content : Content) (mode : Option ℕ) (s : Bool) → closing ≡ closed.Nothing → sixteen_of s ≡ reports Nothing mode
-    → reports_of (record { sixteen = s; closed = closing }) content ≡ reports (verdict_of closing content) mode
-given-nothing closing content mode s is same =
-    let P : Closed → Type 0 = λ k. reports_of (record { sixteen = s; closed = k }) content ≡ reports (verdict_of k content) mode in
-    subst P (sym is) (close-nothing content mode s same)

@@ -1,9 +1,8 @@
 -- Octets that go on the line whole: eight bits behind those of a part, and octets without five 1s in a row.
-use Rattle.std.proofs.Common.{◌≡◌, ℕ, ◌+◌, ◌-◌, ◌*◌, ◌/◌, ◌%◌, ◌^◌, ◌<◌, ◌≤◌, zero, suc, Bool, true, false, cond, List, [], ◌∷◌, ◌++◌, reverse, refl, sym, ap, ◌∙◌, arith, subst, append_assoc, inl, inr}
+use Rattle.std.proofs.Common.{◌≡◌, ℕ, ◌+◌, ◌-◌, ◌*◌, ◌/◌, ◌%◌, ◌^◌, ◌<◌, zero, suc, Bool, true, false, cond, List, [], ◌∷◌, ◌++◌, reverse, refl, sym, ap, ◌∙◌, arith, subst, append_assoc, inl, inr}
 use Rattle.std.specs.Prelude.{◌==◌, ◌&&◌, ◌⊎◌, nat_lt, nat_le, min, bit_and}
 use Rattle.std.specs.Int.{leading_ones, trailing_zeros, w8, w16}
 use Rattle.std.specs.Bool.{beq}
-use Rattle.std.proofs.Math.Nat.{mul-le-mul_left, mul_comm}
 use Rattle.std.proofs.lemmas.Nat.{shr_high, mod_low, shl_whole, one_shl, pow_pos}
 use Rattle.std.proofs.lemmas.List.{reverse-reverse, reverse-append}
 use Rattle.std.proofs.lemmas.Bool.{eqb-true, ltb-true, and_parts as both}
@@ -45,13 +44,6 @@ pub packed_shifted : (octets : List ℕ) (bits len octet : ℕ) (h : List Bool) 
 packed_shifted octets bits len octet h short small fits packed =
     let P : ℕ → Type 0 = λ m. Packed (octets ++ (bits + m) % 256 ∷ []) ((bits + m) / 256) len (reverse (low_bits 8 octet) ++ h) in
     subst P (sym (shl_whole octet 8 len 16 small (omega arith))) (packed_eight octets bits len octet h fits packed)
-
-pub high_fits : (bits len octet : ℕ) → len < 8 → octet < 256 → bits < 2 ^ len → (bits + octet * 2 ^ len % 65536) / 256 < 2 ^ len
-high_fits bits len octet short small fits =
-    let whole : octet * 2 ^ len % 65536 ≡ octet * 2 ^ len = shl_whole octet 8 len 16 small (omega arith) in
-    let most : 2 ^ len * (octet + 1) ≤ 2 ^ len * 256 = mul-le-mul_left (2 ^ len) (omega arith) in
-    let turned : octet * 2 ^ len ≡ 2 ^ len * octet = mul_comm octet (2 ^ len) in
-    omega (arith, whole, most, turned, fits)
 
 -- ---- the bits of an octet and the 0s among them
 -- what goes on the line behind so many 1s in a row, in order, and how many 1s it ends with
