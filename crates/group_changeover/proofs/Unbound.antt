@@ -3,7 +3,7 @@ use Rattle.std.proofs.Common.{◌≡◌, ℕ, ◌+◌, Bool, true, false, not, c
 use Rattle.std.specs.Prelude.{All, filter, ◌&&◌}
 use Rattle.std.specs.List.{list_any}
 use Rattle.std.proofs.lemmas.List.{take-append-drop}
-use Rattle.std.proofs.lemmas.List.Elements.{filter-append, All-filter, All-nil, All-cons, All-head, All-tail}
+use Rattle.std.proofs.lemmas.List.Elements.{filter-append, All-nil, All-cons, All-head, All-tail}
 use Rattle.std.proofs.lemmas.List.Filters.{length-filter_both}
 use Rattle.plain_laws.proofs.Truths.{neither_first, neither_second}
 use Rattle.resend_store.specs.declared.messages.Msu.{Msu}
@@ -50,9 +50,7 @@ all-unbound p (m ∷ ms) = one_by p m (unbound p ms) (is_bound p m) refl (all-un
 pub unbound-twice : (p : Points) (ms : List Msu) → unbound p (unbound p ms) ≡ unbound p ms
 unbound-twice p ms = unbound-all p (unbound p ms) (all-unbound p ms)
 
-pub unbound-filter : (P : Msu → Type 0) (p : Points) (ms : List Msu) → All P ms → All P (unbound p ms)
 unfolding unbound
-unbound-filter P p ms all = All-filter (λ m. not (is_bound p m)) P ms all
 
 -- where those behind a place are left out, what isn't bound stays
 pub unbound-behind : (p : Points) (n : ℕ) (ms : List Msu) → unbound p (take n ms ++ unbound p (drop n ms)) ≡ unbound p ms
