@@ -6,10 +6,8 @@ use Rattle.turn_check.specs.Named.{IsFirst, IsNowhere, signal_names}
 use Rattle.turn_code.specs.declared.draft.Draft.{Draft}
 use Rattle.turn_code.specs.declared.numbers.SignalNumber.{SignalNumber}
 use Rattle.link_processes.specs.Known.{option_word, touches, IsTouched}
-use Rattle.link_processes.specs.Wanted.{FitsSent, FitsHeard, FitsCounting, MaySendIt, MayHearIt, MayCountIt}
 use Rattle.link_processes.specs.declared.words.OptionName.{OptionName}
 use Rattle.link_processes.specs.declared.words.OptionName.TheVariants as option
-use Rattle.link_processes.specs.declared.words.ProcessName.{ProcessName}
 
 -- a name stands first at one place
 pub first_once : (names : List (List ℕ)) (m n : ℕ) (name : List ℕ) → IsFirst names m name → IsFirst names n name → m ≡ n
@@ -25,9 +23,6 @@ first_once names m n name first second =
 same_number : (j k : SignalNumber) → j.0 ≡ k.0 → j ≡ k
 same_number j k e = ap (λ (n : ℕ). record { 0 = n }) e
 
-one_touched : (d : Draft) (name : OptionName) (j k : SignalNumber) → IsTouched d name j → IsTouched d name k → j ≡ k
-one_touched d name j k first second = same_number j k (first_once (signal_names d) j.0 k.0 (option_word name) first.named second.named)
-
 -- no route carries the first of that name, so none that is first
 pub untouched : (d : Draft) (name : OptionName) (j : SignalNumber) → IsFirst (signal_names d) j.0 (option_word name) → list_any (touches j) d.routes ≡ false
     → (k : SignalNumber) → IsTouched d name k → ⊥
@@ -38,16 +33,3 @@ untouched d name j first none k touched =
 
 pub not_named : (d : Draft) (name : OptionName) → IsNowhere (signal_names d) (option_word name) → (k : SignalNumber) → IsTouched d name k → ⊥
 not_named d name none k touched = none k.0 touched.named.there
-
--- what one of them is, all are
-pub sent_by_one : (d : Draft) (to : ProcessName) (name : OptionName) (k : SignalNumber) → IsTouched d name k → FitsSent d to name k → MaySendIt d to name
-sent_by_one d to name k touched fits j other =
-    let P : SignalNumber → Type 0 = λ x. FitsSent d to name x in subst P (one_touched d name k j touched other) fits
-
-pub heard_by_one : (d : Draft) (name : OptionName) (k : SignalNumber) → IsTouched d name k → FitsHeard d name k → MayHearIt d name
-heard_by_one d name k touched fits j other =
-    let P : SignalNumber → Type 0 = λ x. FitsHeard d name x in subst P (one_touched d name k j touched other) fits
-
-pub counted_by_one : (d : Draft) (to : ProcessName) (k : SignalNumber) → IsTouched d option.Counting k → FitsCounting d to k → MayCountIt d to
-counted_by_one d to k touched fits j other =
-    let P : SignalNumber → Type 0 = λ x. FitsCounting d to x in subst P (one_touched d option.Counting k j touched other) fits
