@@ -1,5 +1,5 @@
 -- Units out, one after another.
-use Rattle.std.proofs.Common.{◌≡◌, ℕ, ◌+◌, ◌-◌, ◌*◌, ◌<◌, ◌≤◌, zero, suc, true, Option, Some, None, List, [], ◌∷◌, ◌++◌, refl, sym, ap, ◌∙◌, subst, append-nil, append_assoc, arith}
+use Rattle.std.proofs.Common.{◌≡◌, ℕ, ◌+◌, ◌-◌, ◌*◌, ◌<◌, ◌≤◌, zero, suc, true, Option, None, List, [], ◌∷◌, ◌++◌, refl, sym, ap, ◌∙◌, subst, append-nil, append_assoc, arith}
 use Rattle.std.specs.Option.{option_to_list}
 use Rattle.su_octets.specs.Frame.{Frame, SpareBitsAreZero}
 use Rattle.su_octets.specs.declared.units.Unit as units
@@ -62,9 +62,6 @@ given_next (suc k) t =
     ∙ ap (λ (us : List units.Unit). option_to_list (sent (tidied t)).unit ++ us) (given_next k (sent (tidied t)).processes)
     ∙ sym (append_assoc (option_to_list (sent (tidied t)).unit) (given k (sent (tidied t)).processes) (given 1 (left k (sent (tidied t)).processes)))
 
-pub spoke_nothing : (t : Term) (before : List ℕ) → Spoke t before 0 t before
-spoke_nothing t before = record { processes = refl; line = refl; speaks = speaks_nothing t.sending before }
-
 pub spoke_more : (t m u : Term) (a b c : List ℕ) (n : ℕ) → Spoke t a n m b → Spoke m b 1 u c → Spoke t a (n + 1) u c
 spoke_more t m u a b c n first second =
     let P : List units.Unit → Type 0 = λ us. Speaks t.sending a us u.sending c in
@@ -76,16 +73,6 @@ spoke_more t m u a b c n first second =
       speaks = subst P (sym (given_next n t.processes))
           (speaks_joined t.sending m.sending u.sending a b c (given n t.processes) (given 1 (left n t.processes)) first.speaks next);
     }
-
-list_of_some : (o : Option units.Unit) (u : units.Unit) → o ≡ Some u → u ∷ [] ≡ option_to_list o ++ []
-list_of_some o u h = sym (ap (λ (x : Option units.Unit). option_to_list x ++ []) h)
-
--- a unit went out
-pub spoke_unit : (t m u : Term) (a b : List ℕ) (x : units.Unit) → Some x ≡ (sent (tidied t.processes)).unit → m.processes ≡ (sent (tidied t.processes)).processes
-    → u.processes ≡ m.processes → u.line ≡ t.line → Speaks t.sending a (x ∷ []) u.sending b → Spoke t a 1 u b
-spoke_unit t m u a b x unit processes same line speaks =
-    let P : List units.Unit → Type 0 = λ us. Speaks t.sending a us u.sending b in
-    record { processes = same ∙ processes; line = line; speaks = subst P (list_of_some (sent (tidied t.processes)).unit x (sym unit)) speaks }
 
 none_given : (o : Option units.Unit) → o ≡ None → [] ≡ option_to_list o ++ []
 none_given o h = sym (ap (λ (x : Option units.Unit). option_to_list x ++ []) h)
@@ -109,24 +96,6 @@ spoke_same t m u a b c n h k spoke =
     let P : Term → Type 0 = λ x. Spoke t a n x c in
     let Q : List ℕ → Type 0 = λ xs. Spoke t a n m xs in
     subst P (sym h) (subst Q (sym k) spoke)
-
-pub spoke_from : (t u : Term) (a b c : List ℕ) (n : ℕ) → a ≡ b → Spoke t a n u c → Spoke t b n u c
-spoke_from t u a b c n h spoke = let P : List ℕ → Type 0 = λ xs. Spoke t xs n u c in subst P h spoke
-
-speaks_from : (r s t : Stuffer) (a b c : List ℕ) (us : List units.Unit) → r ≡ s → a ≡ b → Speaks r a us t c → Speaks s b us t c
-speaks_from r s t a b c us h k speaks =
-    let P : Stuffer → Type 0 = λ x. Speaks x b us t c in
-    let Q : List ℕ → Type 0 = λ xs. Speaks r xs us t c in
-    subst P h (subst Q k speaks)
-
--- the same where the terminal is taken apart for the stuffer
-pub spoke_apart : (t m inside u : Term) (a before b : List ℕ) (x : units.Unit) → Some x ≡ (sent (tidied t.processes)).unit
-    → m ≡ record t { processes = (sent (tidied t.processes)).processes } → inside ≡ m → u.processes ≡ inside.processes → u.line ≡ inside.line → before ≡ a
-    → Speaks inside.sending before (x ∷ []) u.sending b → Spoke t a 1 u b
-spoke_apart t m inside u a before b x unit h view processes line same speaks =
-    let whole : inside ≡ record t { processes = (sent (tidied t.processes)).processes } = view ∙ h in
-    spoke_unit t inside u a b x unit (ap (λ (y : Term). y.processes) whole) processes (line ∙ ap (λ (y : Term). y.line) whole)
-    (speaks_from inside.sending t.sending u.sending before a b (x ∷ []) (ap (λ (y : Term). y.sending) whole) same speaks)
 
 not_below : (n : ℕ) → n < n → ⊥
 not_below n h = omega (arith, h)
@@ -155,11 +124,6 @@ spoken_less t m u n asked b octets one less spoke h k low = record {
 
 pub spoken_all : (t u : Term) (n asked : ℕ) (octets : List ℕ) → n ≡ asked → Spoke t [] n u octets → IsSpoken t asked u octets
 spoken_all t u n asked octets h spoke = let P : ℕ → Type 0 = λ k. IsSpoken t k u octets in subst P h (spoken t u n octets spoke)
-
-pub spoken_none : (t : Term) (units : ℕ) (octets : List ℕ) → units ≡ 0 → octets ≡ [] → IsSpoken t units t octets
-spoken_none t units octets h k =
-    let P : List ℕ → Type 0 = λ xs. Spoke t [] 0 t xs in
-    spoken_all t t 0 units octets (sym h) (subst P (sym k) (spoke_nothing t []))
 
 pub room_left : (len cap new_len new_cap units gone : ℕ) → gone < units → len + (units - gone) * 352 ≤ cap → new_len ≤ len + 352 → cap ≤ new_cap
     → new_len + (units - (gone + 1)) * 352 ≤ new_cap
