@@ -203,23 +203,6 @@ in_order w (call ∷ calls) fits plain =
           (at_number (waiting (step w call)) (plus (step w call).first (step w call).sent) (plus (plus w.first w.sent) 1) (step w call) calls number rest)
     ]
 
--- no call leaves more sent than kept
-fits_by : (b : Bool) (v w : Window) → v.sent ≤ length v.kept → w.sent ≤ length w.kept → (if b then v else w).sent ≤ length (if b then v else w).kept
-fits_by true v w h k = h
-fits_by false v w h k = k
-
-fits_step : (w : Window) (call : Call) → w.sent ≤ length w.kept → (step w call).sent ≤ length (step w call).kept
-fits_step w (put m) fits = (put_is w m fits).fits
-fits_step w (put_diverted m) fits = (diverted_is w m fits).fits
-fits_step w next_unit fits = (next_steps w fits).fits
-fits_step w (on_back bsn bib) fits = (back_is w bsn bib fits).fits
-fits_step w (retrieve fsn) fits = fits_by (is_accepted w (retrieve fsn)) (emptied w fsn) w (omega arith) fits
-fits_step w fresh fits = omega arith
-
-fits_after : (w : Window) (calls : List Call) → w.sent ≤ length w.kept → (after w calls).sent ≤ length (after w calls).kept
-fits_after w [] fits = fits
-fits_after w (call ∷ calls) fits = fits_after (step w call) calls (fits_step w call fits)
-
 number_known : (w : Window) (fsn : Option ℕ) → plus (plus w.first (count_known w fsn)) 0 ≡ number_after w fsn
 number_known w (Some fsn) = omega arith
 number_known w None = omega arith
