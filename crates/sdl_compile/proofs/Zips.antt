@@ -17,7 +17,7 @@ use Rattle.sdl_tables.specs.Rows.{stimulus_inputs}
 use Rattle.sdl_tables.specs.Names.{Input, states_of, of_state, by_state}
 use Rattle.sdl_meaning.specs.Outcomes.{Scope}
 use Rattle.sdl_compile.specs.Scopes.{input_by}
-use Rattle.sdl_compile.specs.Drafts.{AllReady, AreReady, IsReadyInput, IsInputOf, AreInputsOf, MatchesInput, MatchesInputs, IsTrigger, AreTriggers, AllTriggers, sets_of}
+use Rattle.sdl_compile.specs.Drafts.{AllReady, AreReady, IsReadyInput, IsInputOf, AreInputsOf, MatchesInput, MatchesInputs, AreTriggers, AllTriggers, sets_of}
 use Rattle.sdl_meaning.specs.Declarations.{trigger_sorts}
 use Rattle.sdl_compile.specs.Settings.{IsReadyPiece}
 use Rattle.sdl_meaning.proofs.Counted.{size_is}
@@ -38,11 +38,6 @@ zip_some R (x ∷ xs) zero [] y lt zips r = (r, tt)
 zip_some R (x ∷ xs) zero (z ∷ ys) y lt zips r = absurd zips
 zip_some R (x ∷ xs) (suc i) [] y lt zips r = absurd zips
 zip_some R (x ∷ xs) (suc i) (z ∷ ys) y lt zips r = (zips.0, zip_some R xs i ys y (omega arith) zips.1 r)
-
-pub ready_more : {A : Type 0} (c : Scope) (f : A → Input) (xs : List A) (i : ℕ) (d : A) → i < length xs → AreReady c (map f (drop i xs)) → IsReadyInput c (f (get_or xs i d)) × AreReady c (map f (drop (suc i) xs))
-ready_more c f [] i d lt h = absurd (omega arith)
-ready_more c f (x ∷ xs) zero d lt h = h
-ready_more c f (x ∷ xs) (suc i) d lt h = ready_more c f xs i d (omega arith) h
 
 -- each of them is ready
 pub ready_at : {A : Type 0} (c : Scope) (f : A → Input) (xs : List A) (i : ℕ) (x : A) → i < length xs → x ≡ get_or xs i x → AreReady c (map f xs) → IsReadyInput c (f x)
@@ -72,11 +67,6 @@ pub all_ready_more : {A : Type 0} (c : Scope) (f : A → List Input) (xs : List 
 all_ready_more c f [] i d lt h = absurd (omega arith)
 all_ready_more c f (x ∷ xs) zero d lt h = h
 all_ready_more c f (x ∷ xs) (suc i) d lt h = all_ready_more c f xs i d (omega arith) h
-
-pub triggers_more : (c : Scope) (xs : List Identifier) (i : ℕ) (d : Identifier) → i < length xs → AreTriggers c (drop i xs) → IsTrigger c (get_or xs i d) × AreTriggers c (drop (suc i) xs)
-triggers_more c [] i d lt h = absurd (omega arith)
-triggers_more c (x ∷ xs) zero d lt h = h
-triggers_more c (x ∷ xs) (suc i) d lt h = triggers_more c xs i d (omega arith) h
 
 -- what each list of names is, list i is
 pub triggers_at : {A : Type 0} (c : Scope) (f : A → List Identifier) (xs : List A) (i : ℕ) (d : A) → i < length xs → AllTriggers c (map f xs) → AreTriggers c (f (get_or xs i d))
