@@ -2,16 +2,15 @@
 use Rattle.std.proofs.Common.{◌≡◌, ℕ, ◌+◌, ◌<◌, ◌≤◌, Bool, true, false, cond, List, [], ◌∷◌, ◌++◌, length, drop, map, Option, Some, None, refl, sym, ap, ◌∙◌, subst, arith, append_assoc, append-nil, length-append}
 use Rattle.std.specs.Prelude.{get_or, slice_get}
 use Rattle.std.specs.List.{sum_by}
-use Rattle.std.specs.Option.{option_map, option_map_or}
+use Rattle.std.specs.Option.{option_map_or}
 use Rattle.std.proofs.lemmas.List.Sums.{sum_by-cons}
 use Rattle.std.proofs.lemmas.List.{drop_more}
 use Rattle.sdl_ast.specs.declared.tree.Range.{Range}
 use Rattle.sdl_ast.specs.declared.tree.Answer.{Answer}
 use Rattle.sdl_ast.specs.declared.tree.Statement.{Statement}
 use Rattle.sdl_ast.specs.declared.tree.Transition.{Transition}
-use Rattle.sdl_ast.specs.declared.tree.Connection.{Connection}
 use Rattle.sdl_ast.specs.Plain.{Tree, Text, falls, decides, Choice, nothing_else, otherwise, answer, PlainStatement, act, decide, before, PlainAnswer, all_answers, PlainConnection}
-use Rattle.sdl_ast.specs.Views.{plain_statement, plain_answer, statement_of, statements_before, answers_before, else_choice, connection_of}
+use Rattle.sdl_ast.specs.Views.{plain_statement, plain_answer, statement_of, statements_before, answers_before, else_choice}
 use Rattle.turn_code.specs.declared.instruction.Instruction.{Instruction}
 use Rattle.sdl_tables.specs.Names.{Variable, variables_of}
 use Rattle.sdl_sound.specs.Longest.{Piece, cost_of, action_cost, size, tests_size, bodies_size}
@@ -20,7 +19,6 @@ use Rattle.sdl_meaning.specs.Outcomes.{Scope}
 use Rattle.sdl_meaning.specs.Named.{NamedText, NamedChoice, NamedConnections}
 use Rattle.sdl_meaning.specs.Code.{tree_code, action_code, leave_code, body_size, else_size, answers_size, tests_code, pick_code, bodies_place, else_place, answers_place, after_choice, text_code, else_code, answers_code, bodies_code, truth_code, integer_code, text_at, size_at, places_code, place_in, connections_code, text_place, connections_place, piece_code}
 use Rattle.sdl_meaning.proofs.Sizes.{places_size, tree_size, leave_size, tests_are, text_size_is, answers_size_is, else_size_is}
-use Rattle.std.proofs.lemmas.Option.{slice_get-map as slice_map}
 
 -- ---- one more item of a list
 
@@ -231,11 +229,6 @@ module _ (c : Scope) (to : ℕ → ℕ) where
               ∙ ap (λ k. old ++ (tests_code c (answers_place c n all) all ++ (else_code c to (else_place n all) (after_choice c false n all) all ++ answers_code c to (answers_place c n all) k all))) here
 
 -- ---- connections
-
-pub text_missing : (c : Scope) (xs : List Connection) (n : ℕ) → c.process.connections ≡ map connection_of xs → slice_get xs n ≡ None → text_at c n ≡ falls
-text_missing c xs n is e =
-    ap (λ cs. option_map_or (λ (k : PlainConnection). k.text) (slice_get cs n) falls) is
-    ∙ ap (λ o. option_map_or (λ (k : PlainConnection). k.text) o falls) (slice_map connection_of xs n ∙ ap (option_map connection_of) e)
 
 module _ (c : Scope) (to : ℕ → ℕ) (ns : List ℕ) (i n : ℕ) (lt : i < length ns) (is : n ≡ get_or ns i n) (old new : List Instruction) (made : new ≡ old ++ text_code c to (length old) (text_at c n)) where
   one_number : drop i ns ≡ n ∷ drop (i + 1) ns

@@ -107,16 +107,5 @@ one_spaced c start ns ps p left m h lt at inside =
         differs true f = absurd (e (let g : n ≡ m = grind (arith, nat_tests) in g))
         differs false f = refl
 
-pub all_spaced : (c : Scope) (start : ℕ) (ns ps : List ℕ) (p left : ℕ) → Spaced c start ns ps p left → left ≡ 0 → (n : ℕ) → places_by ps n ≡ place_in c start ns n
-all_spaced c start ns ps p left h e n =
-    let d : drop left ns ≡ ns = ap (λ k. drop k ns) e ∙ drop_none ns in
-    let s = ap (sum_by (size_at c)) d in
-    let q : p ≡ start = omega (arith, h.rest, s) in
-    h.places n ∙ ap (λ l. place_in c p l n) d ∙ ap (λ p. place_in c p ns n) q
-  where
-    drop_none : (ns : List ℕ) → drop 0 ns ≡ ns
-    drop_none [] = refl
-    drop_none (n ∷ ns) = refl
-
 pub all_low : (c : Scope) (start : ℕ) (ns ps : List ℕ) (p left : ℕ) → Spaced c start ns ps p left → start + sum_by (size_at c) ns ≤ 512 → All (λ p. p ≤ 512) ps
 all_low c start ns ps p left h le k d lt = let f = h.low k in let g = get_or_default ps k d 0 lt in omega (arith, f, g, le)
