@@ -18,7 +18,7 @@ use Rattle.turn_code.specs.declared.draft.DraftVariable.{DraftVariable}
 use Rattle.turn_code.specs.Rules.{greatest, depths}
 use Rattle.turn_code.specs.declared.draft.PlaceFacts.{PlaceFacts}
 use Rattle.turn_code.specs.Code.{sort_at}
-use Rattle.sdl_tables.specs.Names.{Variable, variables_of, connection_named}
+use Rattle.sdl_tables.specs.Names.{variables_of, connection_named}
 use Rattle.sdl_sound.specs.Statements.{Statement, acts, asks, covers, statements_of, choice_statements}
 use Rattle.sdl_sound.specs.Sorts.{wrong_action, wrong_statement, variable_sort}
 use Rattle.sdl_sound.specs.Going.{goes_on as may_go_on}
@@ -211,9 +211,6 @@ mutual
   choice_above c join b nothing_else h = omega arith
   choice_above c join b (otherwise body) h = depth_above c join b body h
   choice_above c join b (answer at rs body others) h = let k = depth_above c join b body h.0 in let l = choice_above c join b others h.1 in omega (arith, k, l)
-
-abbrev by_depth : List Variable → (List ℕ → ℕ) → Text → ℕ
-by_depth vs join t = depth join t
 
 pub record HasDepth (c : Scope) (b n : ℕ) : Type 0 where
   pub connection : PlainConnection

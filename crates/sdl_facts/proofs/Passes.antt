@@ -49,9 +49,6 @@ begun w known code e h = record {
 pub ended : (w : Instruction → ℕ) (known : List ℕ) (code : List Instruction) (counts : List ℕ) → HasCounted w known code counts 0 → AreCountsFrom w known code counts
 ended w known code counts h = record { length = h.size; each = λ k i at. h.done k i (omega arith) at }
 
-pub next_within : (known : List ℕ) (code : List Instruction) (counts : List ℕ) (p : ℕ) (js : List ℕ) → AreWithin (512 + (length code - p)) counts → greatest (map (number_at counts) js) ≤ 512 + (length code - p)
-next_within known code counts p js h = greatest_within (number_at counts) js (512 + (length code - p)) h
-
 pub counted : (w : Instruction → ℕ) (known : List ℕ) (code : List Instruction) (counts : List ℕ) (q : ℕ) (i : Instruction) (x : ℕ) → HasCounted w known code counts (q + 1) → slice_get code q ≡ Some i → w i ≤ 1
     → x ≡ w i + greatest (map (number_at counts) (successors i q)) → HasCounted w known code (set counts q x) q
 counted w known code counts q i x h at one e =

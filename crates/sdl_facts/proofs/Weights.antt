@@ -38,9 +38,6 @@ sum_ones : (xs : List Instruction) → sum_by one xs ≡ length xs
 sum_ones [] = refl
 sum_ones (x ∷ xs) = let h = sum_ones xs in omega (arith, h, sum_by-cons one x xs)
 
-pub one_weighs : (c : Scope) → IsWeight c one 1
-one_weighs c = record { jumping = λ n. refl; state = λ n. refl; stopping = refl; dropping = refl; testing = λ n r. refl; choosing = λ n choice. refl }
-
 module _ (c : Scope) (join : List ℕ → ℕ) where
   same_tests : (rs : List Range) (x y u z : ℕ) → x ≡ y → u ≡ z → tests_tally c one 1 join rs x u ≡ tests_budget rs y z
   same_tests [] x y u z e f = f
