@@ -2,7 +2,7 @@
 use Rattle.std.proofs.Common.{◌≡◌, ℕ, zero, suc, ◌+◌, ◌<◌, ◌≤◌, Bool, true, false, List, [], ◌∷◌, ◌++◌, length, refl, ap, sym, ◌∙◌, subst, arith, inl, inr, Option, Some, None, take, get_or, append_assoc, append-nil, length-append}
 use Rattle.std.specs.Prelude.{slice_get, slice_set, Contains, All, replicate}
 use Rattle.std.proofs.lemmas.Bool.{cases_eq, cases_Bool, eqb-true}
-use Rattle.std.proofs.lemmas.List.{length-set, length-replicate, take_all, take_more}
+use Rattle.std.proofs.lemmas.List.{length-set, length-replicate, take_more}
 use Rattle.std.proofs.lemmas.List.Elements.{All-contains, All-push, Contains-append_left, Contains-append_right, Contains-push, Contains-push_cases, All-more}
 use Rattle.std.specs.Option.{option_map, option_map_or}
 use Rattle.std.specs.Global.{Vec}
@@ -66,17 +66,6 @@ sees_new k marks found within are free = record {
   ];
 }
 
-pub finds_none : (marks : List Bool) (found : List ℕ) → AreFound marks found → Finds [] marks found marks found
-finds_none marks found are = record {
-  count = refl;
-  stays = λ n m. m;
-  added = [];
-  all = sym (append-nil found);
-  are = are;
-  marked = λ i d no. absurd (omega (arith, no));
-  only = λ n m. inl m;
-}
-
 -- one node after others
 pub finds_more : (nodes : List ℕ) (i d : ℕ) (a : List Bool) (u : List ℕ) (b : List Bool) (v : List ℕ) (c : List Bool) (w : List ℕ)
     → i < length nodes → Finds (take i nodes) a u b v → Finds (get_or nodes i d ∷ []) b v c w → Finds (take (i + 1) nodes) a u c w
@@ -95,11 +84,6 @@ finds_more nodes i d a u b v c w within first second = record {
     | inr last ↦ inr (subst (λ l. Contains l n) (sym (take_more nodes i d within)) (Contains-append_right (take i nodes) (get_or nodes i d ∷ []) n last))
   ];
 }
-
--- all of them
-pub finds_all : (nodes : List ℕ) (i : ℕ) (a : List Bool) (u : List ℕ) (b : List Bool) (v : List ℕ) → length nodes ≤ i
-    → Finds (take i nodes) a u b v → Finds nodes a u b v
-finds_all nodes i a u b v past h = subst (λ l. Finds l a u b v) (take_all i nodes past) h
 
 -- ---- going on from what was found
 

@@ -323,11 +323,6 @@ seen_set marks t d n fresh e = elim (get_set_cases marks t n (Open d) New e) [
   | inr not ↦ (not.1, not.0)
 ]
 
-new_of : (n : ℕ) (k : ℕ) → n < k → slice_get (replicate k New) n ≡ Some New
-new_of n zero h = absurd (omega (arith, h))
-new_of zero (suc k) h = refl
-new_of (suc n) (suc k) h = new_of n k (omega (arith, h))
-
 new_only : (n : ℕ) (k : ℕ) (m : Mark) → slice_get (replicate k New) n ≡ Some m → m ≡ New
 new_only n zero m e = let bad : None ≡ Some m = e in absurd (cc)
 new_only zero (suc k) m e = let is : Some New ≡ Some m = e in cc

@@ -67,9 +67,6 @@ so_far_order ps p place orders order h is = record {
   none = λ e. cycles_push ps p ∙ ap (λ l. l ++ process_cycles p) (h.none e) ∙ is.1;
 }
 
-some_not : {A : Type 0} (o : Option A) (x : A) → o ≡ Some x → o ≡ None → ⊥
-some_not o x a b = let bad : Some x ≡ None = sym a ∙ b in cc
-
 marks_found : (o : Option ℕ) (places : List ℕ) → Marks o places → IfSome o (Contains places)
 marks_found None places h = tt
 marks_found (Some at) places h = h
