@@ -157,9 +157,6 @@ else_answers nothing_else b e = absurd (let k : ⊥ = cc in k)
 else_answers (otherwise body) b e = refl
 else_answers (answer at rs body others) b e = or_true (list_any (names_truth b) rs) (answers b others) (else_answers others b e)
 
-one_named : (n : ℕ) → nat_eq n 1 ≡ true → n ≡ 1
-one_named n e = grind (arith, nat_tests)
-
 both_named : (m n : ℕ) (b : Bool) → nat_eq m 1 && nat_eq n 1 ≡ true → cond b m n ≡ 1
 both_named m n true e = grind (arith, nat_tests)
 both_named m n false e = grind (arith, nat_tests)

@@ -15,7 +15,7 @@ use Rattle.turn_code.specs.declared.input.Address.{Address}
 use Rattle.turn_code.specs.declared.trouble.Trouble.TheVariants.{WrongSort}
 use Rattle.turn_code.specs.Run.{Progress, tick}
 use Rattle.sdl_sound.specs.Longest.{is_division, cost_of, assignment_cost, assignments_cost, sending_cost, sendings_cost, action_cost, place_cost, places_cost}
-use Rattle.sdl_meaning.specs.Act.{slot, end_in, read, written, write, Working, reckons, compares, joins, working, is_truth, apply_one, apply_two, divisor_of, quotient, divide, value_of, values_of, receiver_of, assign, put_out, send, send_all, start_timer, stop_timer, perform, pass, take_places}
+use Rattle.sdl_meaning.specs.Act.{slot, read, written, write, Working, reckons, compares, joins, working, is_truth, apply_one, apply_two, divisor_of, quotient, divide, value_of, values_of, receiver_of, assign, put_out, send, send_all, start_timer, stop_timer, perform, pass, take_places}
 use Rattle.sdl_meaning.specs.Outcomes.{Scope, variable_at, timer_at, signal_at, in_trouble, Outcome, goes_on, over, then_do}
 
 -- what a part has cost by its end
@@ -113,10 +113,6 @@ assign_cost c (t ∷ ts) s =
     cost_bind (s.count + cost_of t.value) (s.count + assignments_cost (t ∷ ts)) (value_of c t.value s) (λ x s. then_do (write (variable_at c t.variable) x s) (λ _ s. assign c ts s)) (omega (arith, sum_by-cons assignment_cost t ts)) (value_cost c t.value s)
     (λ x v le. cost_bind (v.count + 1) (s.count + assignments_cost (t ∷ ts)) (write (variable_at c t.variable) x v) (λ _ s. assign c ts s) (omega (arith, le, sum_by-cons assignment_cost t ts)) (write_cost (variable_at c t.variable) x v)
     (λ _ w le2. let h = assign_cost c ts w in omega (arith, h, le, le2, sum_by-cons assignment_cost t ts)))
-
-pub end_in_cost : (o : Option ℕ) (s : Progress) → cost_by (end_in o s) ≤ s.count + 1
-end_in_cost None s = omega arith
-end_in_cost (Some q) s = omega arith
 
 start_cost : (o : Option ℕ) (x : Value) (s : Progress) → cost_by (start_timer o x s) ≤ s.count
 start_cost None x s = omega arith
