@@ -4,10 +4,10 @@ use Rattle.std.proofs.lemmas.List.{take_more}
 use Rattle.sdl_ast.specs.declared.tree.Range.{Range}
 use Rattle.sdl_ast.specs.declared.tree.Statement.{Statement}
 use Rattle.sdl_ast.specs.declared.tree.Answer.{Answer}
-use Rattle.sdl_ast.specs.Plain.{Tree, Text, does, decides, Choice, nothing_else, otherwise, answer, PlainAction, PlainProcess}
+use Rattle.sdl_ast.specs.Plain.{Tree, Text, decides, Choice, nothing_else, otherwise, answer, PlainProcess}
 use Rattle.sdl_ast.specs.Views.{statement_of, answer_of, statements_before, answers_before}
 use Rattle.sdl_tables.specs.Names.{variables_of}
-use Rattle.sdl_sound.specs.Longest.{cost_of, depth_of, action_cost, action_depth, action_effects, tests_budget, budget, case_budget, pick_budget, depth, effects, size, bodies_size, tests_size, jump_size}
+use Rattle.sdl_sound.specs.Longest.{cost_of, depth_of, tests_budget, budget, case_budget, pick_budget, depth, effects, size, bodies_size, tests_size, jump_size}
 use Rattle.sdl_sound.specs.Going.{goes_on, choice_goes_on}
 use Rattle.sdl_sound.specs.Sorts.{is_truth}
 use Rattle.sdl_measures.specs.Measures.{capped}
@@ -24,18 +24,6 @@ pub tests_more : (ranges : List Range) (i : ℕ) (d : Range) (b o : ℕ) → i <
 tests_more ranges i d b o within = ap (λ l. tests_budget l b o) (take_more ranges i d within) ∙ tests_push (take i ranges) (get_or ranges i d) b o
 
 -- ---- constructs
-
-pub action_measured : (p : PlainProcess) (ms : List Measure) (a : PlainAction) (t : Text) (k e : ℕ) (m : Measure) (cost deep eff : ℕ) (r : Measure)
-    → cost ≡ capped (action_cost a) → deep ≡ capped (action_depth a) → eff ≡ capped (action_effects a)
-    → r.budget ≡ capped (cost + m.budget) → r.depth ≡ max deep m.depth → r.effects ≡ capped (eff + m.effects) → r.size ≡ capped (cost + m.size) → r.goes_on ≡ m.goes_on
-    → IsMeasured p ms t k e m → IsMeasured p ms (does a t) k e r
-action_measured p ms a t k e m cost deep eff r c d f rb rd re rs rg h = record {
-  budget = omega (arith, c, rb, h.budget);
-  depth = omega (arith, d, rd, h.depth);
-  effects = omega (arith, f, re, h.effects);
-  size = omega (arith, c, rs, h.size);
-  goes_on = rg ∙ h.goes_on;
-}
 
 -- a DECISION: `choice` is 1 for a Boolean question, whose choice is an instruction of its own
 pub decision_measured : (p : PlainProcess) (ms : List Measure) (at : ℕ) (q : Tree) (c : Choice) (t : Text) (k e : ℕ) (truth : Bool) (rest bodies : Measure) (cost deep choice : ℕ) (r : Measure)

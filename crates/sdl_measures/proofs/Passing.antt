@@ -102,22 +102,12 @@ passed_both p qs rs a b c h k e = record {
   effects = λ short. any_both (is_busy p) qs rs a.effects b.effects c.effects (h.effects (first_short a.size b.size c.size e.size short)) (k.effects (other_short a.size b.size c.size e.size short)) e.effects;
 }
 
-pub passed_first : (p : PlainProcess) (q : Piece) (rs : List Piece) (a b c : Passed) → IsPassed p q a → ArePassed p rs b → IsEither a b c → ArePassed p (q ∷ rs) c
-passed_first p q rs a b c h k e = record {
-  size = e.size ∙ ap (λ y. y || b.size) h.size ∙ ap (λ y. is_long p q || y) k.size;
-  depth = λ short. e.depth ∙ ap (λ y. y || b.depth) h.depth ∙ ap (λ y. is_deep p q || y) (k.depth (other_short a.size b.size c.size e.size short));
-  effects = λ short. e.effects ∙ ap (λ y. y || b.effects) h.effects ∙ ap (λ y. is_busy p q || y) (k.effects (other_short a.size b.size c.size e.size short));
-}
-
 pub all_push : (ps : List PlainProcess) (p : PlainProcess) (a b c : Passed) → AllPassed ps a → ArePassed p (pieces_of p) b → IsEither a b c → AllPassed (ps ++ p ∷ []) c
 all_push ps p a b c h k e = record {
   size = any_push (λ p. list_any (is_long p) (pieces_of p)) ps p a.size b.size c.size h.size k.size e.size;
   depth = λ short. any_push (λ p. list_any (is_deep p) (pieces_of p)) ps p a.depth b.depth c.depth (h.depth (first_short a.size b.size c.size e.size short)) (k.depth (other_short a.size b.size c.size e.size short)) e.depth;
   effects = λ short. any_push (λ p. list_any (is_busy p) (pieces_of p)) ps p a.effects b.effects c.effects (h.effects (first_short a.size b.size c.size e.size short)) (k.effects (other_short a.size b.size c.size e.size short)) e.effects;
 }
-
-pub none_passed : (p : PlainProcess) → ArePassed p [] (record { size = false; depth = false; effects = false })
-none_passed p = record { size = refl; depth = λ short. refl; effects = λ short. refl }
 
 over_by : (most b : ℕ) → most < 4294967295 → nat_lt most (capped b) ≡ nat_lt most b
 over_by most b small = elim (cases_lt most b) [
