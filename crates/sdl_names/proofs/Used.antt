@@ -6,9 +6,6 @@ use Rattle.sdl_meaning.specs.Outcomes.{Scope}
 use Rattle.sdl_names.specs.declared.uses.Use.{Use}
 use Rattle.sdl_names.specs.Uses.{IsUse, AreUses}
 
-pub no_uses : (c : Scope) → AreUses c []
-no_uses c = λ k u e. absurd (let k : ⊥ = cc in k)
-
 pub one_slot : (c : Scope) (us : List (Option Use)) → AreUses c us → AreUses c (us ++ None ∷ [])
 one_slot c us h = λ k u e. at us k u h e
   where
