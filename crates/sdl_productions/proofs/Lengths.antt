@@ -318,9 +318,6 @@ pub state_takes : Shortens state_at
 unfolding state_at
 state_takes = first_takes (shortens_token (a_word words.State)) λ _. name_keeps >>= λ name. keeps_separated_from name name_keeps >>= λ names. terminator_keeps >>= λ _. keeps_many a_clause clause_keeps >>= λ clauses. keeps_optional (a_word words.EndState) (end_state_keeps name.name) >>= λ _. keeps_give _
 
-pub state_keeps : NeverLonger state_at
-state_keeps = less_never_longer _ state_takes
-
 pub end_connection_keeps : (name : List ℕ) → NeverLonger (end_connection_at name)
 unfolding end_connection_at
 end_connection_keeps name = keeps_token (a_word words.EndConnection) >>= λ _. closing_keeps name
@@ -371,9 +368,6 @@ process_takes = first_takes process_head_takes λ head. keeps_many a_declaration
 pub entity_takes : Shortens entity_at
 unfolding entity_at
 entity_takes = takes_choice (a_word words.Signal) signals_takes (takes_choice (a_word words.SignalRoute) route_takes (takes_choice (a_word words.Connect) connect_takes process_takes))
-
-pub entity_keeps : NeverLonger entity_at
-entity_keeps = less_never_longer _ entity_takes
 
 -- the same where no tree above one that is too high is built
 

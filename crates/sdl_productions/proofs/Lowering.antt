@@ -27,10 +27,6 @@ use Rattle.sdl_productions.specs.Machine.{whole_trees, low_trees, low_binary, lo
 
 -- the machine
 
-cond_placed : (b : Bool) (p : ℕ) (x y : Tree) → placed p (if b then x else y) ≡ (if b then placed p x else placed p y)
-cond_placed true p x y = refl
-cond_placed false p x y = refl
-
 placed-placed : (p q : ℕ) (x : Tree) → placed p (placed q x) ≡ placed p x
 placed-placed p q (number at k) = refl
 placed-placed p q (truth at b) = refl

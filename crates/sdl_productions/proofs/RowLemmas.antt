@@ -3,7 +3,7 @@ use Rattle.std.proofs.Common.{◌≡◌, ℕ, ◌<◌, ◌≤◌, true, false, L
 use Rattle.sdl_lex.specs.declared.lexemes.Token.{Token}
 use Rattle.sdl_lex.specs.declared.lexemes.Symbol.TheVariants.{Comma}
 use Rattle.sdl_productions.specs.Tokens.{begins, a_symbol}
-use Rattle.sdl_productions.specs.Readings.{Reading, read, fails, At, then_read, many, token, give, prepend, Shortens, NeverLonger, behind_comma, separated_from}
+use Rattle.sdl_productions.specs.Readings.{Reading, read, fails, At, then_read, many, token, prepend, Shortens, NeverLonger, behind_comma}
 use Rattle.sdl_productions.specs.Mirrors.{Stops}
 use Rattle.sdl_productions.specs.declared.stop.Stop.{Stop}
 use Rattle.sdl_productions.specs.declared.stop.Stop.TheVariants.{Unexpected, NoMemory}
@@ -34,14 +34,6 @@ row_done f p r xs ts e k = k ∙ ap (prepend xs) (many_stops f p ts e) ∙ ap (�
 pub row_fails : {A B : Type 0} (f : Token → Option B) (p : At A) (r : Reading (List A)) (xs : List A) (ts us : List Token)
     → begins f ts ≡ true → p ts ≡ fails us → r ≡ prepend xs (many f p ts) → r ≡ fails us
 row_fails f p r xs ts us e h k = k ∙ ap (prepend xs) (many_fails f p ts us e h)
-
-pub separated_begins : {A : Type 0} (x : A) (p : At A) (ts : List Token)
-    → separated_from x p ts ≡ prepend (x ∷ []) (many (a_symbol Comma) (behind_comma p) ts)
-separated_begins {A} x p ts = by_reading (many (a_symbol Comma) (behind_comma p) ts)
-  where
-    by_reading : (r : Reading (List A)) → then_read r (λ xs. give (x ∷ xs)) ≡ prepend (x ∷ []) r
-    by_reading (read xs us) = refl
-    by_reading (fails us) = refl
 
 pub shortens_behind_comma : {A : Type 0} (p : At A) → NeverLonger p → Shortens (behind_comma p)
 shortens_behind_comma p sp ts y us h = by_comma (token (a_symbol Comma) ts) refl h
