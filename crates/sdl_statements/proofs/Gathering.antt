@@ -1,6 +1,6 @@
 -- Who may have sent what transitions begin with, gathered one after another.
-use Rattle.std.proofs.Common.{◌≡◌, ◌⊎◌, inl, inr, arith, Option, Some, None, ℕ, zero, suc, ◌+◌, ◌<◌, Bool, true, false, not, ◌&&◌, ◌||◌, List, [], ◌∷◌, ◌++◌, if◌then◌else◌, fold, map, take, length, get_or, bytes_eq, refl, sym, ap, ◌∙◌, subst, true≢false}
-use Rattle.std.specs.Prelude.{All, slice_set, replicate}
+use Rattle.std.proofs.Common.{◌≡◌, inl, inr, arith, Option, Some, None, ℕ, zero, suc, ◌+◌, ◌<◌, Bool, true, false, not, ◌&&◌, ◌||◌, List, [], ◌∷◌, ◌++◌, if◌then◌else◌, fold, map, take, length, get_or, bytes_eq, refl, sym, ap, ◌∙◌, subst, true≢false}
+use Rattle.std.specs.Prelude.{All, replicate}
 use Rattle.std.specs.Option.{option_map_or}
 use Rattle.std.specs.List.{list_any, list_all}
 use Rattle.std.proofs.lemmas.List.{take_more}
@@ -115,20 +115,6 @@ all_more P row i x lt is =
     ∙ ap (λ y. list_all P (take i row) && P y) (sym is)))
 
 -- ---- marks
-
-marked_set : (marks : List Bool) (n k : ℕ) → is_marked (slice_set marks n true) k ≡ true → (Some n ≡ Some k) ⊎ (is_marked marks k ≡ true)
-marked_set [] n k e = inr e
-marked_set (m ∷ marks) zero zero e = inl refl
-marked_set (m ∷ marks) zero (suc k) e = inr e
-marked_set (m ∷ marks) (suc n) zero e = inr e
-marked_set (m ∷ marks) (suc n) (suc k) e = elim (marked_set marks n k e) [
-  | inl same ↦ inl (ap (λ j. Some (suc j)) (some_same n k same))
-  | inr was ↦ inr was
-]
-
--- one mark more
-pub marks_set : (marks new : List Bool) (n : ℕ) → new ≡ slice_set marks n true → Marks (Some n) marks new
-marks_set marks new n is k e = marked_set marks n k (ap (λ l. is_marked l k) (sym is) ∙ e)
 
 pub none_marked : (n k : ℕ) → is_marked (replicate n false) k ≡ true → ⊥
 none_marked zero k e = true≢false (sym e)

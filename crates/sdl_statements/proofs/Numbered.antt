@@ -8,7 +8,7 @@ use Rattle.std.specs.Option.{option_map_or}
 use Rattle.std.proofs.lemmas.List.Folds.{list_any-append}
 use Rattle.std.proofs.lemmas.Option.{none-some}
 use Rattle.sdl_tables.specs.Routes.{same_party}
-use Rattle.sdl_statements.specs.Distinct.{same_numbers, same_sender, has_sender, sender_number, has_number, HaveMarks}
+use Rattle.sdl_statements.specs.Distinct.{same_numbers, same_sender, sender_number, has_number, HaveMarks}
 use Rattle.sdl_scopes.specs.Reaches.{is_marked}
 use Rattle.sdl_scopes.specs.declared.sender.Sender.{Sender}
 use Rattle.sdl_scopes.specs.declared.sender.Sender.TheVariants.{Nobody, Party}
@@ -23,12 +23,6 @@ or_all false = refl
 
 -- ---- marks
 
-pub more_marks : (marks : List Bool) (n : ℕ) → is_marked (marks ++ false ∷ []) n ≡ is_marked marks n
-more_marks [] zero = refl
-more_marks [] (suc n) = refl
-more_marks (b ∷ marks) zero = refl
-more_marks (b ∷ marks) (suc n) = more_marks marks n
-
 marked_more : (marks : List Bool) (m n : ℕ) → m < length marks → is_marked (slice_set marks m true) n ≡ (is_marked marks n || nat_eq m n)
 marked_more [] m n lt = absurd (omega (arith, lt))
 marked_more (b ∷ marks) zero zero lt = or_all b ∙ ap (λ t. b || t) (sym (eq-eqb 0 0 refl))
@@ -38,19 +32,8 @@ marked_more (b ∷ marks) (suc m) (suc n) lt = marked_more marks m n (omega (ari
 
 -- ---- one sender more
 
-pub none_noted : HaveMarks [] []
-none_noted = λ n. refl
-
 numbered_so : (n : ℕ) (u : Sender) (o : Option ℕ) → sender_number u ≡ o → has_number n u ≡ option_map_or (λ m. nat_eq m n) o false
 numbered_so n u o e = ap (λ (k : Option ℕ). option_map_or (λ m. nat_eq m n) k false) e
-
--- one without a number
-pub noted_none : (xs : List Sender) (marks : List Bool) (u : Sender) → sender_number u ≡ None → HaveMarks xs marks → HaveMarks (xs ++ u ∷ []) marks
-noted_none xs marks u e have = λ n.
-    have n
-    ∙ (or_none (list_any (has_number n) xs)
-    ∙ (ap (λ b. list_any (has_number n) xs || (b || false)) (sym (numbered_so n u None e))
-    ∙ sym (list_any-append (has_number n) xs (u ∷ []))))
 
 pub noted_one : (xs : List Sender) (marks grown new : List Bool) (u : Sender) (m : ℕ) → sender_number u ≡ Some m
     → ((n : ℕ) → is_marked grown n ≡ is_marked marks n) → m < length grown → new ≡ slice_set grown m true → HaveMarks xs marks → HaveMarks (xs ++ u ∷ []) new
@@ -73,7 +56,3 @@ one_is Nobody (Party y) n e = refl
 one_is (Party x) (Party y) n e =
     by_number x.number n (same_party x.party y.party)
     ∙ ap (λ (o : Option ℕ). same_numbers x.number o (same_party x.party y.party)) (sym e)
-
-pub asked_by_number : (xs : List Sender) (u : Sender) (n : ℕ) → sender_number u ≡ Some n → list_any (has_number n) xs ≡ has_sender xs u
-asked_by_number [] u n e = refl
-asked_by_number (x ∷ xs) u n e = λ i. one_is x u n e i || asked_by_number xs u n e i
