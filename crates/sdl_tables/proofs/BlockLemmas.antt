@@ -14,7 +14,7 @@ use Rattle.std.proofs.lemmas.Grind.{flat_map-append}
 use Rattle.sdl_ast.specs.declared.expression.Identifier.{Identifier}
 use Rattle.sdl_ast.specs.Plain.{PlainSignal, PlainProcess, PlainBlock}
 use Rattle.sdl_tables.specs.Names.{same_name, is_in, names_once, number_of, signal_names, route_names, process_names, signals_of, routes_of, processes_of, signal_named, timers_of}
-use Rattle.sdl_tables.specs.Scopes.{Marks, repeats, process_scopes, shared, signal_timers, double_names}
+use Rattle.sdl_tables.specs.Scopes.{Marks, repeats, process_scopes, shared, signal_timers}
 use Rattle.sdl_tables.proofs.Repeats.{is_in-names_once}
 use Rattle.plain_laws.proofs.Lists.{append-nil_right, not_empty}
 use Rattle.plain_laws.proofs.Searches.{position-map, find-at}
@@ -92,21 +92,6 @@ pub inside-processes : {A : Type 0} (f : A → PlainProcess) (xs : List A) (ps :
 inside-processes f xs ps e =
     sym (flat_map-map (λ p. flat_map (repeats []) (process_scopes p)) f xs)
     ∙ (ap (flat_map (λ p. flat_map (repeats []) (process_scopes p))) e ∙ sym (flat_map-flat_map (repeats []) process_scopes ps))
-
-pub Marks-block : (b : PlainBlock) (ss rs ps : List Identifier) (places alarms : List ℕ) (one two three four five double : Option ℕ)
-    → ss ≡ signal_names b → rs ≡ route_names b → ps ≡ process_names b
-    → places ≡ flat_map (repeats []) (flat_map process_scopes (processes_of b)) → alarms ≡ signal_timers b
-    → Marks one (repeats [] ss) → Marks two (repeats [] rs) → Marks three (repeats [] ps) → Marks four places → Marks five alarms
-    → ((vs ws xs ys zs : List ℕ) → Marks one vs → Marks two ws → Marks three xs → Marks four ys → Marks five zs
-    → Marks double ((vs ++ (ws ++ (xs ++ ys))) ++ zs))
-    → Marks double (double_names b)
-Marks-block b ss rs ps places alarms one two three four five double e f g h i m n o p q join =
-    join (repeats [] (signal_names b)) (repeats [] (route_names b)) (repeats [] (process_names b))
-    (flat_map (repeats []) (flat_map process_scopes (processes_of b))) (signal_timers b)
-    (subst (λ (x : List Identifier). Marks one (repeats [] x)) e m)
-    (subst (λ (x : List Identifier). Marks two (repeats [] x)) f n)
-    (subst (λ (x : List Identifier). Marks three (repeats [] x)) g o)
-    (subst (Marks four) h p) (subst (Marks five) i q)
 
 -- a table has each name once: that changes nothing
 shared-once : (ids xs : List Identifier) → shared (names_once ids) xs ≡ shared ids xs

@@ -274,7 +274,3 @@ stamped_covered names before ids seen stamp old covers = record {
   count = old.count;
   same = λ x n h. old.same x n h ∙ sym (is_in-append before ids x ∙ both_in (is_in before x) (is_in ids x) (covers x));
 }
-
--- the first of these places is one
-pub marks_first : (at : ℕ) (places : List ℕ) → Marks (Some at) (at ∷ places)
-marks_first at places = (0, omega arith, refl)

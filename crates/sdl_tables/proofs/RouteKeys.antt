@@ -11,8 +11,7 @@ use Rattle.sdl_tables.specs.Routes.{same_party}
 use Rattle.sdl_tables.specs.declared.route_index.Side.{Side}
 use Rattle.sdl_tables.specs.declared.route_index.Side.TheVariants as sides
 use Rattle.sdl_tables.specs.declared.route_index.End.{End}
-use Rattle.sdl_tables.specs.declared.route_index.Passage.{Passage}
-use Rattle.sdl_tables.specs.RouteIndexes.{same_side, same_end, same_passage, side_of}
+use Rattle.sdl_tables.specs.RouteIndexes.{same_side, same_end, side_of}
 
 pub side_same : (x y : Side) → same_side x y ≡ true → x ≡ y
 side_same sides.Environment sides.Environment h = refl
@@ -22,9 +21,6 @@ side_same (sides.Process x) (sides.Process y) h = ap sides.Process ((bytes_eq-De
 
 pub end_parts : (x y : End) → same_end x y ≡ (same_side x.side y.side && bytes_eq x.signal y.signal)
 end_parts x y = refl
-
-pub passage_parts : (x y : Passage) → same_passage x y ≡ (same_side x.from y.from && (same_side x.to y.to && bytes_eq x.signal y.signal))
-passage_parts x y = refl
 
 pub end_same : (x y : End) → same_end x y ≡ true → x ≡ y
 end_same x y h =
