@@ -6,20 +6,16 @@ use Rattle.sdl_lex.specs.declared.lexemes.Symbol.TheVariants.{Semicolon, Assign,
 use Rattle.sdl_ast.specs.declared.tree.Literal.TheVariants as literals
 use Rattle.sdl_ast.specs.Plain.{Tree, signals, route, connect, variables, timers}
 use Rattle.sdl_productions.specs.Tokens.{a_word, a_symbol, a_number, a_name, a_sort, a_party, a_constant, a_quoted}
-use Rattle.sdl_productions.specs.Readings.{At, NeverLonger}
+use Rattle.sdl_productions.specs.Readings.{At}
 use Rattle.sdl_productions.specs.Machine.{whole_trees, expression_at}
 use Rattle.sdl_tree.specs.DeclarationSyntax.{names_syntax, comment_syntax, terminator_syntax, signal_syntax, signals_syntax, path_syntax, route_syntax, connect_syntax, negative_syntax, constant_syntax, initial_syntax, group_syntax, variables_syntax, timers_syntax, declaration_syntax}
 use Rattle.sdl_productions.specs.DeclarationProductions.{names_at, comment_at, terminator_at, signal_at, signals_at, path_at, route_at, connect_at, negative_at, constant_at, initial_at, group_at, variables_at, timers_at, declaration_at}
-use Rattle.sdl_productions.proofs.Rests.{expression_keeps}
 use Rattle.sdl_productions.proofs.Decides.{Decides, give_decides, token_decides, choice_decides, optional_decides, ◌>>=◌}
 use Rattle.sdl_productions.proofs.Rows.{separated_decides, list_decides}
 
 -- expressions with all their trees
 abbrev pub whole : At Tree
 whole = expression_at whole_trees
-
-pub whole_keeps : NeverLonger whole
-whole_keeps = expression_keeps whole_trees
 
 pub names_decides : Decides names_syntax names_at
 names_decides = separated_decides (token_decides a_name)
