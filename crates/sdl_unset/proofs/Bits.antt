@@ -4,7 +4,6 @@ use Rattle.std.specs.Prelude.{slice_get}
 use Rattle.std.specs.Int.{bit_at, bit_not, w32}
 use Rattle.std.proofs.lemmas.Nat.Bits.{bit_at_and, bit_at_or, bit_at_not, bit_at-lt, bit_at-zero, bit_at_ones, bit_at-pow_same, bit_at-pow_other}
 use Rattle.std.proofs.lemmas.Bool.{cases_eq, cases_Bool}
-use Rattle.std.proofs.lemmas.List.{map-append}
 use Rattle.std.proofs.lemmas.List.Quantifiers.{position-Some}
 use Rattle.std.proofs.Math.Bool.{or-false, and-false as and_false}
 use Rattle.std.proofs.Math.Nat.{one-mul, mod-eq_of_lt}
@@ -13,12 +12,10 @@ use Rattle.std.proofs.lemmas.Option.{get_or_from_slice_get, slice_get-get_or}
 use lib.Bits.{bit_and, bit_or}
 use Rattle.sdl_unset.specs.Graph.{has}
 use Rattle.sdl_ast.specs.declared.expression.Identifier.{Identifier}
-use Rattle.sdl_ast.specs.Plain.{Tree, binary, PlainProcess}
-use Rattle.sdl_ast.specs.declared.expression.BinaryOperator.{BinaryOperator}
+use Rattle.sdl_ast.specs.Plain.{PlainProcess}
 use Rattle.sdl_tables.specs.Names.{same_name, is_in, number_of, variable_names}
-use Rattle.sdl_sound.specs.Names.{tree_names}
 use Rattle.sdl_tables.specs.Scopes.{repeats}
-use Rattle.sdl_sound.specs.Paths.{Event, reads, sets, tree_events, reads_first, sets_in}
+use Rattle.sdl_sound.specs.Paths.{Event, reads, sets, reads_first, sets_in}
 use Rattle.sdl_unset.specs.Flows.{Tells, Does}
 use Rattle.sdl_unset.specs.declared.firsts.Firsts.{Firsts}
 use Rattle.sdl_unset.specs.declared.flow.Flow.{Flow}
@@ -190,9 +187,3 @@ does_set firsts p x bits fits h = (
         has_not bits v fits small ∙ ap not (h.at v id small there ∙ sym (or-false (same_name id.name x)));
   },
 )
-
--- the operand on the left is read first
-pub does_binary : (p : PlainProcess) (at : ℕ) (operator : BinaryOperator) (l r : Tree) (f : Flow) → Does p (tree_events l ++ tree_events r) f
-    → Does p (tree_events (binary at operator l r)) f
-does_binary p at operator l r f d =
-    subst (λ (es : List Event). Does p es f) (sym (map-append (λ (id : Identifier). reads id.name) (tree_names l) (tree_names r))) d

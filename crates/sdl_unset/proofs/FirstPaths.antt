@@ -21,12 +21,6 @@ use Rattle.plain_laws.proofs.Places.{among_at as reached_place}
 
 -- ---- one visit more
 
-pub kept_later : (path : List Step) (s q : ℕ) (visits : List Visit) → s ≤ q → AreKept path s visits → AreKept path q visits
-kept_later path s q visits le h = record {
-  order = h.order;
-  most = λ v here. elim (h.most v here) [ inl l ↦ inl l | inr e ↦ inr (e.0, omega (arith, e.1, le)) ];
-}
-
 pub kept_push : (path : List Step) (s q : ℕ) (visits : List Visit) (v : Visit) → v.path.items ≡ path → v.state ≡ s → s < q → AreKept path s visits
     → AreKept path q (visits ++ v ∷ [])
 kept_push path s q visits v by at lt h = record {
@@ -87,9 +81,6 @@ abbrev pub IsEntered : List Passage → ℕ → List Step → List Visit → Lis
 IsEntered ps n path old new = AreSorted ps → AreKept path 0 old
     → AreUnder path new × ((q : ℕ) → AreBelow ps n q → AreKept path q new)
 
-pub entered_none : (ps : List Passage) (path : List Step) (visits : List Visit) → IsEntered ps 0 path visits visits
-entered_none ps path visits = λ sorted h. (under_kept path 0 visits h, λ q below. kept_later path 0 q visits (omega arith) h)
-
 pub entered_past : (ps : List Passage) (n : ℕ) (path : List Step) (old new : List Visit) → IsEntered ps n path old new → IsEntered ps (n + 1) path old new
 entered_past ps n path old new h = λ sorted k. let was = h sorted k in (was.0, λ q below. was.1 q (λ j p lt there. below j p (omega (arith, lt)) there))
 
@@ -144,9 +135,6 @@ near_more x count seen visits new path state inputs n t there more states visite
 pub kept_next : (path : List Step) (state n : ℕ) (visits : List Visit) → AreUnder (path ++ Input state n ∷ []) visits → AreKept (path ++ Input state (n + 1) ∷ []) 0 visits
 kept_next path state n visits h =
     kept_under (path ++ Input state n ∷ []) (path ++ Input state (n + 1) ∷ []) visits (before_last path (Input state n) (Input state (n + 1)) (inr (refl, omega arith))) h
-
-pub near_none : (x count : ℕ) (visits : List Visit) (path : List Step) (state : ℕ) (inputs : List Summary) → AreNear count x visits path state inputs 0
-near_none x count visits path state inputs i t lt at = absurd (omega (arith, lt))
 
 -- what holds of each of the first ones
 pub taken_at : {A : Type 0} (P : A → Type 0) (xs : List A) (n i : ℕ) (x : A) → n ≤ length xs → All P (take n xs) → i < n → slice_get xs i ≡ Some x → P x

@@ -2,7 +2,6 @@
 use Rattle.std.proofs.Common.{◌≡◌, ℕ, zero, suc, ◌+◌, ◌<◌, ◌≤◌, List, [], ◌∷◌, ◌++◌, length, take, get_or, None, Some, refl, ap, sym, ◌∙◌, subst, arith, inl, inr, length-append}
 use Rattle.std.specs.Prelude.{slice_get}
 use Rattle.std.proofs.lemmas.Bool.{cases_eq, cases_lt}
-use Rattle.std.proofs.lemmas.List.{take_more}
 use Rattle.std.proofs.lemmas.Option.{slice_get-get_or}
 use Rattle.sdl_unset.specs.declared.paths.Step.{Step}
 use Rattle.sdl_unset.specs.declared.paths.Step.TheVariants.{Start, Input}
@@ -148,11 +147,6 @@ earlier_at (x ∷ path) (y ∷ other) zero a b same at there h =
 earlier_at (x ∷ path) (y ∷ other) (suc n) a b same at there h =
     let parts = tails x y (take n path) (take n other) same in
     inr (parts.0, earlier_at path other n a b parts.1 at there h)
-
-pub same_more : (path other : List Step) (n : ℕ) (a b : Step) → n < length path → n < length other → a ≡ get_or path n a → b ≡ get_or other n b → a ≡ b
-    → take n path ≡ take n other → take (n + 1) path ≡ take (n + 1) other
-same_more path other n a b lt less at there e same =
-    take_more path n a lt ∙ (ap (λ (u : Step). take n path ++ u ∷ []) (sym at ∙ (e ∙ there)) ∙ (ap (λ (l : List Step). l ++ get_or other n b ∷ []) same ∙ sym (take_more other n b less)))
 
 pub earlier_read : (path other : List Step) (n : ℕ) (d e : Step) → take n path ≡ take n other → n < length path → length path ≡ length other
     → Precedes (get_or path n d) (get_or other n e) → Earlier path other

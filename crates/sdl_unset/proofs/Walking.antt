@@ -5,28 +5,21 @@ use lib.Bits.{bit_or}
 use Rattle.sdl_ast.specs.declared.tree.End.{End}
 use Rattle.sdl_ast.specs.declared.tree.Transition.{Transition}
 use Rattle.sdl_ast.specs.declared.tree.Statement.{Statement}
-use Rattle.sdl_ast.specs.declared.tree.Statement.TheVariants.{Act, Decide}
+use Rattle.sdl_ast.specs.declared.tree.Statement.TheVariants.{Decide}
 use Rattle.sdl_ast.specs.declared.tree.Decision.{Decision, out-Decision}
 use Rattle.sdl_ast.specs.declared.tree.Answer.{Answer}
-use Rattle.sdl_ast.specs.declared.tree.Action.{Action}
 use Rattle.sdl_ast.specs.Plain.{falls, ends, nothing_else, otherwise, PlainStatement, PlainAnswer, all_before, all_answers, PlainProcess}
-use Rattle.sdl_ast.specs.Views.{plain_statement, plain_answer, tree_of, action_of, end_text, else_choice, text_of, statement_of, statements_before, answers_before, choice_of}
+use Rattle.sdl_ast.specs.Views.{plain_statement, plain_answer, tree_of, end_text, else_choice, text_of, statement_of, statements_before, answers_before, choice_of}
 use Rattle.sdl_tables.specs.Names.{states_of}
-use Rattle.sdl_sound.specs.Paths.{tree_events, action_events}
+use Rattle.sdl_sound.specs.Paths.{tree_events}
 use Rattle.sdl_sound.specs.Chances.{Chances, event_chances, behind, beside, chances, choice_chances}
 use Rattle.sdl_unset.specs.Flows.{Doings, Walked, Forked, text_doings, choice_doings, end_doings}
 use Rattle.sdl_unset.specs.declared.walker.Walker.{Walker}
-use Rattle.sdl_ast.proofs.Views.{text_of-is, statement_of-act, statement_of-decide, plain_answer-is}
+use Rattle.sdl_ast.proofs.Views.{text_of-is, statement_of-decide, plain_answer-is}
 use Rattle.sdl_unset.proofs.Walkers.{behind_leaving, walked_same, walked_behind, fork_more, fork_end, forked_same, statements_then, statements_more, answers_then, answers_more}
 
 abbrev pub Told : Type 0
 Told = List ℕ → ℕ → List ℕ → Chances
-
-pub walked_act : (p : PlainProcess) (told : Told) (action : Action) (a b : Walker) → Walked p (λ x q. event_chances (action_events (action_of action)) x) a b
-    → Walked p (text_doings p told (statement_of (Act action) falls)) a b
-walked_act p told action a b w =
-    walked_same p (λ x q. event_chances (action_events (action_of action)) x) (text_doings p told (statement_of (Act action) falls)) a b
-    (λ x q. sym (ap (chances (states_of p) (told x q) x q) (statement_of-act action falls) ∙ behind_leaving (event_chances (action_events (action_of action)) x))) w
 
 pub walked_decide : (p : PlainProcess) (told : Told) (d : Decision) (a b c : Walker)
     → Walked p (λ x q. event_chances (tree_events (tree_of (out-Decision d).question)) x) a b → Walked p (choice_doings p told (choice_of d)) b c
