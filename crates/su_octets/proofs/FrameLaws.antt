@@ -159,9 +159,6 @@ pub refused_by : (octets : List ℕ) (fault : UnitFault) → Refuses octets faul
 refused_by octets fault refused f =
     (λ same. let P : UnitFault → Type 0 = λ g. Refuses octets g in let e : fault ≡ f = cc in subst P e refused, λ of_f. ap Err (one_fault octets fault f refused of_f))
 
-pub not_refused_by : (octets : List ℕ) (u : Unit) → Frame octets u → (f : UnitFault) → (◌≡◌ {A = Result Unit UnitFault} (Ok u) (Err f)) ↔ Refuses octets f
-not_refused_by octets u frame f = (λ same. absurd (let e : ◌≡◌ {A = Result Unit UnitFault} (Ok u) (Err f) = same in cc), λ refused. absurd (not_refused octets u f frame refused))
-
 -- ---- what encode and decode put together
 content_is : (unit : Unit) (h : Head) (n : ℕ) (l0 l1 l2 l3 l4 : List ℕ) → l0 ≡ [] → l1 ≡ l0 ++ (h.bsn + 128 * h.bib) ∷ [] → l2 ≡ l1 ++ (h.fsn + 128 * h.fib) ∷ []
     → l3 ≡ l2 ++ n ∷ [] → l4 ≡ l3 ++ body_of unit → h ≡ head_of unit → n ≡ length_indicator (length (body_of unit)) → l4 ≡ content_of unit 0
