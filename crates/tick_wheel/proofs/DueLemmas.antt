@@ -1,5 +1,5 @@
 -- What is due in a table is what is due in its map.
-use Rattle.std.proofs.Common.{◌≡◌, ℕ, ◌≤◌, ◌+◌, Bool, true, false, ◌||◌, ◌&&◌, cond, T, ◌++◌, take, drop, List, [], ◌∷◌, length, get_or, map, is_some, Option, Some, None, refl, sym, ap, subst, ◌∙◌, inl, inr, arith, nat_le, ◌==◌, Decides, Ordering}
+use Rattle.std.proofs.Common.{◌≡◌, ℕ, ◌≤◌, ◌+◌, Bool, true, false, ◌||◌, ◌&&◌, cond, T, List, [], ◌∷◌, get_or, map, is_some, Option, Some, None, refl, sym, ap, subst, ◌∙◌, inl, inr, arith, nat_le, ◌==◌, Decides, Ordering}
 use Rattle.std.specs.declared.cmp.Ordering.TheVariants.{Less, Equal, Greater}
 use Rattle.std.specs.Ordering.{eq_by_cmp, is_lt, is_eq, ordering_reverse, ordering_then, nat_cmp}
 use Rattle.std.specs.List.{filter, list_any, IsDistinct, AllByRecursion}
@@ -11,7 +11,6 @@ use Rattle.std.specs.FinMap.Entries.{below_all}
 use Rattle.std.proofs.lemmas.List.Sorted.{list_any-IsPermutation}
 use Rattle.std.proofs.lemmas.Map.Keys.{sorted_from_all_adjacent, sorted_head, sorted_tail, IsDistinct-IsPermutation, apart_from_distinct}
 use Rattle.std.proofs.lemmas.Cmp.{eq_by_cmp_equiv}
-use Rattle.std.proofs.Math.Seq.{take-append_seam}
 use Rattle.std.proofs.lemmas.Bool.{false≢true, and_from as both}
 use Rattle.std.proofs.lemmas.Bool.Decides.{Decides-like, Decides-and, Decides-eqb, leb_tells}
 use Rattle.std.proofs.lemmas.Map.Views.{Contains-from_any, list_any-from_Contains, tells_apart}
@@ -99,10 +98,6 @@ due_from-filter : (clock place : ℕ) (table : List (Option ℕ)) → filter (λ
 due_from-filter clock place [] = refl
 due_from-filter clock place (None ∷ table) = due_from-filter clock (place + 1) table
 due_from-filter clock place (Some d ∷ table) = rw (due_from-filter clock (place + 1) table) refl
-
--- a list that is written back over one as long
-pub written_back : {A : Type 0} (xs ys : List A) (n : ℕ) → length ys ≡ n → take n (ys ++ drop (length ys) xs) ≡ ys
-written_back xs ys n e = rw (← e) (take-append_seam ys (drop (length ys) xs))
 
 -- whether a deadline is the one of a pair, and has come by a clock
 abbrev pub is_that : Due → ℕ → Option ℕ → Bool

@@ -1,7 +1,7 @@
 -- The orders of timers and of due pairs are total, and only equal ones tie.
-use Rattle.std.proofs.Common.{◌≡◌, ℕ, ◌<◌, true, false, refl, ap, ◌∙◌, arith, Ordering}
-use Rattle.std.specs.declared.cmp.Ordering.TheVariants.{Less, Equal, Greater}
-use Rattle.std.specs.Ordering.{nat_cmp, ordering_then, ordering_reverse, eq_by_cmp, is_eq}
+use Rattle.std.proofs.Common.{◌≡◌, ℕ, ◌<◌, true, false, ap, ◌∙◌, arith}
+use Rattle.std.specs.declared.cmp.Ordering.TheVariants.{Less}
+use Rattle.std.specs.Ordering.{nat_cmp, ordering_reverse, eq_by_cmp, is_eq}
 use Rattle.std.specs.Cmp.{IsTotalOrder}
 use Rattle.std.specs.FinMap.{IsAntisymmetric}
 use Rattle.std.proofs.lemmas.Cmp.{on_total, then_total, nat_cmp_total, tied_itself}
@@ -38,12 +38,3 @@ same_place i j e = rw e (ap is_eq (tied_itself timers_total (timer_at j)))
 
 pub earlier_place : (i j : ℕ) → i < j → eq_by_cmp timer_cmp (timer_at j) (timer_at i) ≡ false
 earlier_place i j h = ap is_eq (timers_total.antisymm (timer_at j) (timer_at i) ∙ ap ordering_reverse (timer_at-rises i j h))
-
-then_apart : (r : Ordering) → is_eq (ordering_then r Less) ≡ false
-then_apart Less = refl
-then_apart Equal = refl
-then_apart Greater = refl
-
--- two pairs whose timers are of different places differ
-pub pairs_apart : (d e i j : ℕ) → i < j → eq_by_cmp due_cmp (record { deadline = d; timer = timer_at i }) (record { deadline = e; timer = timer_at j }) ≡ false
-pairs_apart d e i j h = rw (timer_at-rises i j h) (then_apart (nat_cmp d e))

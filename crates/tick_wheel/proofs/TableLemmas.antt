@@ -175,11 +175,6 @@ kept-kept clock (Some d) = elim (nat_le d clock) as (λ b. nat_le d clock ≡ b 
   | false ↦ λ e. ap (λ b. cond b None (Some d)) e
 ] refl
 
--- once what is due has left, nothing is
-pub NoneDue-kept : (clock : ℕ) (table : List (Option ℕ)) → NoneDue clock (map (kept clock) table)
-NoneDue-kept clock [] = refl
-NoneDue-kept clock (d ∷ table) = λ i. kept-kept clock d i ∷ NoneDue-kept clock table i
-
 later-kept : (clock : ℕ) (d : Option ℕ) → kept clock d ≡ d → IfSome d (λ e. clock < e)
 later-kept clock None h = tt
 later-kept clock (Some d) h = elim (leb_tells d clock) [
