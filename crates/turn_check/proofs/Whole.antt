@@ -1,11 +1,11 @@
 -- From transitions to inputs, states, processes and the draft.
-use Rattle.std.proofs.Common.{◌≡◌, ℕ, zero, suc, ◌<◌, ◌≤◌, length, Some, None, refl, sym, ap, ◌∙◌, subst, arith, ⊎_elim}
+use Rattle.std.proofs.Common.{◌≡◌, ℕ, ◌<◌, ◌≤◌, length, Some, None, refl, sym, ap, ◌∙◌, arith, ⊎_elim}
 use Rattle.std.specs.Prelude.{slice_get}
 use Rattle.std.proofs.lemmas.Bool.{cases_lt}
 use Rattle.std.proofs.lemmas.Option.{slice_get_past}
-use Rattle.turn_code.specs.Transitions.{Transition, transition_at, start_of, input_of, process_at}
+use Rattle.turn_code.specs.Transitions.{Transition, transition_at, start_of, process_at}
 use Rattle.turn_code.specs.Rules.{KeepsSetLimits, KeepsProcessLimits}
-use Rattle.turn_code.specs.Valid.{Keeps, KeepsAt, IsBrokenAt, IsValidTransition, IsValid}
+use Rattle.turn_code.specs.Valid.{Keeps, KeepsAt, IsValidTransition, IsValid}
 use Rattle.turn_code.specs.Paths.{PathLaw}
 use Rattle.turn_code.specs.Safe.{SafeLaw}
 use Rattle.turn_code.specs.declared.input.Place.{Place}
@@ -14,7 +14,6 @@ use Rattle.turn_code.specs.declared.numbers.StateNumber.{StateNumber}
 use Rattle.turn_code.specs.declared.draft.Draft.{Draft}
 use Rattle.turn_code.specs.declared.draft.DraftProcess.{DraftProcess}
 use Rattle.turn_code.specs.declared.draft.DraftState.{DraftState}
-use Rattle.turn_code.specs.declared.draft.DraftInput.{DraftInput}
 use Rattle.turn_code.specs.declared.rule.Rule.{Rule}
 use Rattle.turn_code.specs.declared.rule.Rule.TheVariants.{Jump, Shape, Under, Sort, Unset, State, Number, Limit, Budget}
 use Rattle.turn_check.specs.Walk.{IsValidAt, IsValidState, IsValidProcess}
@@ -25,32 +24,9 @@ pub start_at_0 : (d : Draft) (p : ℕ) (process : DraftProcess) → slice_get d.
     → transition_at d p Start 0 ≡ Some (start_of p process)
 start_at_0 d p process e = ap (process_at d.signals p Start 0) e
 
-pub input_there : (d : Draft) (p : ℕ) (process : DraftProcess) (q : StateNumber) (state : DraftState) (i : ℕ) (x : DraftInput)
-    → slice_get d.processes p ≡ Some process → slice_get process.states q.0 ≡ Some state → slice_get state.inputs i ≡ Some x
-    → transition_at d p (InState q) i ≡ Some (input_of d.signals p process state x)
-input_there d p process q state i x pe qe xe =
-    ap (process_at d.signals p (InState q) i) pe ∙ rw (qe, xe) refl
-
-pub valid_input : (d : Draft) (p : ℕ) (s : Place) (i : ℕ) (t : Transition) → transition_at d p s i ≡ Some t → IsValidTransition d t → IsValidAt d p s i
-valid_input d p s i t e valid = record {
-  each = λ t' e'.
-      let same : Some t ≡ Some t' = sym e ∙ e' in
-      let same' : t ≡ t' = cc in
-      subst (IsValidTransition d) same' valid;
-}
-
 -- nothing is there
 pub valid_none : (d : Draft) (p : ℕ) (s : Place) (i : ℕ) → transition_at d p s i ≡ None → IsValidAt d p s i
 valid_none d p s i none = record { each = λ t e. let no : None ≡ Some t = sym none ∙ e in cc }
-
-start_by : (d : Draft) (p : ℕ) (process : DraftProcess) → slice_get d.processes p ≡ Some process
-    → IsValidTransition d (start_of p process) → (i : ℕ) → IsValidAt d p Start i
-start_by d p process e valid zero = valid_input d p Start 0 (start_of p process) (start_at_0 d p process e) valid
-start_by d p process e valid (suc i) = valid_none d p Start (suc i) (ap (process_at d.signals p Start (suc i)) e)
-
-pub valid_start : (d : Draft) (p : ℕ) (process : DraftProcess) → slice_get d.processes p ≡ Some process
-    → IsValidTransition d (start_of p process) → IsValidState d p Start
-valid_start d p process e valid = record { each = start_by d p process e valid }
 
 pub no_input : (d : Draft) (p : ℕ) (process : DraftProcess) (q : StateNumber) (state : DraftState) (i : ℕ)
     → slice_get d.processes p ≡ Some process → slice_get process.states q.0 ≡ Some state → slice_get state.inputs i ≡ None → IsValidAt d p (InState q) i
@@ -96,9 +72,6 @@ draft_below d limits n long below = record {
 }
 
 -- ---- from what is broken to where it is broken
-pub broken_at : (d : Draft) (rule : Rule) (p : ℕ) (s : Place) (i k : ℕ) (t : Transition) → transition_at d p s i ≡ Some t
-    → (Keeps rule d t k → ⊥) → IsBrokenAt d rule p s i k
-broken_at d rule p s i k t e broken at = broken (at.each t e)
 
 pub valid_keeps : (d : Draft) (rule : Rule) (p : ℕ) (s : Place) (i k : ℕ) → IsValid d → KeepsAt d rule p s i k
 valid_keeps d rule p s i k valid = record {
