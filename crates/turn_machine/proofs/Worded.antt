@@ -5,14 +5,14 @@ use Rattle.std.specs.Int.{bit_at}
 use Rattle.std.proofs.lemmas.Bool.Decides.{eqb_tells}
 use Rattle.std.proofs.lemmas.List.{take_more, length-set}
 use Rattle.std.proofs.lemmas.Nat.Bits.{bit_at-zero, bit_at_lowest, bit_at-suc}
-use Rattle.std.proofs.lemmas.Option.{slice_get-get_or, slice_get_within, get_or_from_slice_get, same_Some}
+use Rattle.std.proofs.lemmas.Option.{slice_get-get_or, get_or_from_slice_get, same_Some}
 use Rattle.turn_code.specs.Values.{sort_of}
 use Rattle.turn_code.specs.Fits.{HasSort, HaveSorts}
 use Rattle.turn_code.specs.declared.value.Sort.{Sort}
 use Rattle.turn_code.specs.declared.value.Value.{Value}
 use Rattle.turn_code.specs.declared.draft.DraftVariable.{DraftVariable}
 use Rattle.turn_check.specs.Bare.{Bare, kept}
-use Rattle.turn_check.specs.Meant.{word_of, IsKept, AreWordsOf}
+use Rattle.turn_check.specs.Meant.{word_of, IsKept}
 use Rattle.turn_check.specs.Sorts.{is_boolean, sort_bits, sorts_of}
 use Rattle.turn_machine.specs.Wording.{kept_value, IsKeptTo, IsVariable, AreVariables}
 use Rattle.turn_check.proofs.Standing.{kept_here, kept_elsewhere}
@@ -92,15 +92,6 @@ kept_to_more old b new vs n o less here h e = subst (λ (u : Bare). IsKeptTo old
 pub kept_to_next : (old b new : Bare) (vs : List (Option Value)) (n : ℕ) (d : Option Value) → n < length vs → length vs ≤ 32 → IsKeptTo old b vs n
     → new ≡ kept_value b n (get_or vs n d) → IsKeptTo old new vs (n + 1)
 kept_to_next old b new vs n d less few h e = kept_to_more old b new vs n (get_or vs n d) (omega arith) (slice_get-get_or vs n d less) h e
-
-pub words_made : (old new : Bare) (vs : List (Option Value)) (ps : List Value) → old.stack ≡ [] → old.depth ≡ 0
-    → ((j : ℕ) (x : Value) → slice_get ps j ≡ Some x → slice_get old.params j ≡ Some (word_of x)) → IsKeptTo old new vs (length vs) → AreWordsOf new [] vs ps
-words_made old new vs ps stack depth params h = record {
-  operands = h.stack ∙ stack;
-  depth = h.depth ∙ depth;
-  variables = λ v x e. h.kept v x (slice_get_within vs v x e) e;
-  parameters = λ j x e. ap (λ u. slice_get u j) h.params ∙ params j x e;
-}
 
 -- ---- values of words
 bit_tells : (t q : Truth) (n : ℕ) → (IsTrue t ↔ (n ≡ 1)) → n ≡ (if q then 1 else 0) → q ≡ t
