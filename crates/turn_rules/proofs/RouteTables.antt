@@ -60,41 +60,8 @@ set_one sets s k n b new there told = elim (cases_eq n s) [
       ∙ ap (λ c. holds (slice_index_or sets n none) b || (c && eqb k b)) (sym (ne_eqb s n (λ e. ne (sym e)))))
 ]
 
-pub row_set : (rows : List Row) (q k s p n b : ℕ) (new : Row) → q < length rows
-    → ((m c : ℕ) → holds (slice_index_or new.sets m none) c ≡ (holds (slice_index_or (slice_index_or rows q (record { sets = [] })).sets m none) c || (eqb s m && eqb k c)))
-    → holds (slice_index_or (slice_index_or (slice_set rows q new) p (record { sets = [] })).sets n none) b
-    ≡ (holds (slice_index_or (slice_index_or rows p (record { sets = [] })).sets n none) b || (eqb q p && (eqb s n && eqb k b)))
-row_set rows q k s p n b new there told = elim (cases_eq p q) [
-  | inl e ↦
-      ap (λ m. holds (slice_index_or (slice_index_or (slice_set rows q new) m (record { sets = [] })).sets n none) b) e
-      ∙ (ap (λ (r : Row). holds (slice_index_or r.sets n none) b) (get_or-set_same rows q new (record { sets = [] }) there)
-      ∙ (told n b
-      ∙ (ap (λ m. holds (slice_index_or (slice_index_or rows m (record { sets = [] })).sets n none) b || (eqb s n && eqb k b)) (sym e)
-      ∙ ap (λ c. holds (slice_index_or (slice_index_or rows p (record { sets = [] })).sets n none) b || (c && (eqb s n && eqb k b))) (sym (eq-eqb q p (sym e))))))
-  | inr ne ↦
-      ap (λ (r : Row). holds (slice_index_or r.sets n none) b) (get_or-set_other rows q p new (record { sets = [] }) ne)
-      ∙ (or_and_false (holds (slice_index_or (slice_index_or rows p (record { sets = [] })).sets n none) b) (eqb s n && eqb k b)
-      ∙ ap (λ c. holds (slice_index_or (slice_index_or rows p (record { sets = [] })).sets n none) b || (c && (eqb s n && eqb k b))) (sym (ne_eqb q p (λ e. ne (sym e)))))
-]
-
--- past the rows
-pub row_past : (a b : Bool) (q p : ℕ) → p < 16 → 16 ≤ q → a ≡ (a || (eqb q p && b))
-row_past a b q p low high =
-    or_and_false a b ∙ ap (λ c. a || (c && b)) (sym (ne_eqb q p (λ e. omega arith)))
-
 pub any_push : (f : Mention → Bool) (ms : List Mention) (m : Mention) → list_any f (ms ++ m ∷ []) ≡ (list_any f ms || f m)
 any_push f ms m = list_any-append f ms (m ∷ []) ∙ ap (λ b. list_any f ms || b) (or-false (f m))
-
-pub tells_push : (old new : RouteTable) (ms : List Mention) (m : Mention) → Tells old ms
-    → ((p n b : ℕ) → p < 16 → holds (listed new.receivers p n) b ≡ (holds (listed old.receivers p n) b || is_sent p n b m))
-    → ((p n b : ℕ) → p < 16 → holds (listed new.senders p n) b ≡ (holds (listed old.senders p n) b || is_brought p n b m))
-    → Tells new (ms ++ m ∷ [])
-tells_push old new ms m t out back = record {
-  receivers = λ p n b low.
-      out p n b low ∙ (ap (λ c. c || is_sent p n b m) (t.receivers p n b low) ∙ sym (any_push (is_sent p n b) ms m));
-  senders = λ p n b low.
-      back p n b low ∙ (ap (λ c. c || is_brought p n b m) (t.senders p n b low) ∙ sym (any_push (is_brought p n b) ms m));
-}
 
 -- ---- from signals under way to paths
 

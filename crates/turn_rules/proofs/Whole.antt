@@ -1,5 +1,5 @@
 -- From entries and parts to rules, and back.
-use Rattle.std.proofs.Common.{◌≡◌, ℕ, zero, suc, ◌+◌, ◌*◌, ◌^◌, ◌<◌, ◌≤◌, List, [], ◌∷◌, length, Some, None, refl, sym, ap, ◌∙◌, arith, inl, inr, pow_mono, pow-suc}
+use Rattle.std.proofs.Common.{◌≡◌, ℕ, zero, suc, ◌*◌, ◌<◌, ◌≤◌, List, [], ◌∷◌, length, Some, None, sym, ap, ◌∙◌, arith, inl, inr}
 use Rattle.std.specs.Prelude.{slice_get, Contains}
 use Rattle.std.proofs.lemmas.Option.{slice_get_within, slice_get_cases}
 use Rattle.turn_code.specs.Transitions.{Transition}
@@ -9,7 +9,7 @@ use Rattle.turn_code.specs.declared.draft.Draft.{Draft}
 use Rattle.turn_code.specs.declared.draft.PlaceFacts.{PlaceFacts}
 use Rattle.turn_code.specs.declared.rule.Rule.{Rule}
 use Rattle.turn_code.specs.declared.rule.Rule.TheVariants.{Jump, Shape, Under, Sort, Unset, State, Number, Limit, Budget}
-use Rattle.turn_rules.specs.Parts.{Part, AllParts, Entry, AllEntries, HasParts}
+use Rattle.turn_rules.specs.Parts.{Part, AllParts, AllEntries, HasParts}
 
 only_zero : (j : ℕ) → Contains {X = ℕ} (0 ∷ []) j → 0 ≡ j
 only_zero j (zero, low, e) = e
@@ -81,20 +81,6 @@ valid_from d t a parts = record {
   budget = λ k. keeps_from d t k a Budget (λ i f ie fe. (parts k i f ie fe).budget);
 }
 
-zero_first : Contains {X = ℕ} (0 ∷ []) 0
-zero_first = (0, omega arith, refl)
-
-pub keeps_entry : (rule : Rule) (d : Draft) (t : Transition) → Keeps rule d t 0 → Entry rule d t
-keeps_entry Jump d t h = h.entry refl
-keeps_entry Shape d t h = record { facts = h.facts refl; empty = λ f fe. h.entry refl 0 f zero_first fe }
-keeps_entry Under d t h = tt
-keeps_entry Sort d t h = h.initial refl
-keeps_entry Unset d t h = λ f fe. h.entry refl 0 f zero_first fe
-keeps_entry State d t h = tt
-keeps_entry Number d t h = record { trigger = h.trigger refl; saves = h.saves refl }
-keeps_entry Limit d t h = record { process = h.process refl; piece = h.piece refl }
-keeps_entry Budget d t h = h.certificate refl
-
 pub keeps_part : (rule : Rule) (d : Draft) (t : Transition) (k : ℕ) (i : Instruction) (f : PlaceFacts)
     → slice_get t.piece.code k ≡ Some i → slice_get t.piece.facts k ≡ Some f → Keeps rule d t k → Part rule d t k i f
 keeps_part Jump d t k i f ie fe h = h.each i ie
@@ -126,10 +112,3 @@ no_parts_code d t k none = record { each = λ i f ie fe. let no : None ≡ Some 
 
 pub no_parts_facts : (d : Draft) (t : Transition) (k : ℕ) → slice_get t.piece.facts k ≡ None → HasParts d t k
 no_parts_facts d t k none = record { each = λ i f ie fe. let no : None ≡ Some f = sym none ∙ fe in cc }
-
--- ---- a set of at most 32 variables
-pub set_small : (n r : ℕ) → suc n ≤ 32 → r < 2 ^ n → 1 + 2 * r < 2 ^ 32
-set_small n r h low =
-    let step : 2 ^ suc n ≡ 2 ^ n * 2 = pow-suc 2 n in
-    let most : 2 ^ suc n ≤ 2 ^ 32 = pow_mono h in
-    omega arith
