@@ -2,7 +2,7 @@
 use Rattle.std.proofs.Common.{◌≡◌, ℕ, ◌+◌, ◌-◌, ◌<◌, ◌≤◌, zero, suc, Bool, List, [], ◌∷◌, ◌++◌, length, map, take, drop, get_or, Option, refl, sym, ap, ◌∙◌, subst, append_assoc, append-nil, arith}
 use Rattle.std.specs.List.{flat_map}
 use Rattle.std.specs.Io.KnownBytes.{Appends}
-use Rattle.std.proofs.lemmas.List.{map_push, take_more, take_all, drop_all, length-drop}
+use Rattle.std.proofs.lemmas.List.{map_push, take_more, take_all, length-drop}
 use Rattle.rtrb.specs.Ring.{received}
 use Rattle.line_filter.specs.Filters.{turned}
 use Rattle.line_filter.specs.declared.filter.Bits.{Bits}
@@ -82,12 +82,6 @@ went_all contents octets i old new over went =
 pub same_tapped : {W S : Type 0} (contents : S → Option (List ℕ)) (before : Option (List ℕ)) (gone : List ℕ) (seen : List Seen) (ahead : ℕ) (t : OutTap W S)
     → HasTapped contents before gone seen t → HasTapped contents before gone seen (record t { ahead = ahead })
 same_tapped contents before gone seen ahead t has = record { captures = has.captures; file = has.file }
-
-pub all_ahead : {W S : Type 0} (contents : S → Option (List ℕ)) (before : Option (List ℕ)) (gone octets : List ℕ) (seen : List Seen) (t new : OutTap W S)
-    → length octets ≤ t.ahead → HasTapped contents before gone seen new → HasTapped contents before (gone ++ drop t.ahead octets) seen new
-all_ahead contents before gone octets seen t new few has =
-    let P : List ℕ → Type 0 = λ xs. HasTapped contents before xs seen new in
-    subst P (sym (append-nil gone) ∙ ap (λ l. gone ++ l) (sym (drop_all t.ahead octets few))) has
 
 pub tail_is : (xs : List ℕ) (n : ℕ) → take (length xs - n) (drop n xs) ≡ drop n xs
 tail_is xs n = take_all (length xs - n) (drop n xs) (let e : length (drop n xs) ≤ length xs - n = omega (arith, length-drop n xs) in e)
