@@ -86,9 +86,6 @@ free_off : (p : Points) (s : ℕ) (ms : List Msu) → All (IsUnbound p) ms → A
 unfolding off
 free_off p s ms free = All-filter (λ m. not (is_on s m)) (IsUnbound p) ms free
 
-pub out_takes : (ms : List Msu) (o : Option Link) (f : Option Link) → IsOut o → f ≡ o → IsOut f
-out_takes ms o f out e = subst (λ (x : Option Link). IsOut x) (sym e) out
-
 -- the retrieval of a link that is out may be any
 fits_other : (p : Points) (o : Option Link) (ms new : List Msu) → IsOut o → All IsSmall new → All (IsUnbound p) new → FitsAt p o ms → FitsAt p o new
 fits_other p None ms new out small free fits = absurd out
