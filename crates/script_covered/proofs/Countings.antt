@@ -208,9 +208,6 @@ pub counts_more : (f : ℕ → ℕ) (c d : Places) (spot n : ℕ) → spot < len
 counts_more f c d spot n within is are same has = λ under k.
     ap (λ (l : List ℕ). get_or l k 0) are ∙ set_more f c.times.items spot n within is (has (sym same ∙ under)) k
 
-pub counts_over : (f : ℕ → ℕ) (d : Places) → d.over ≡ true → HasCounts f d
-counts_over f d over = λ under. absurd (true≢false (sym over ∙ under))
-
 counts_as : (f g : ℕ → ℕ) (c : Places) → ((k : ℕ) → f k ≡ g k) → HasCounts f c → HasCounts g c
 counts_as f g c same has = λ under k. has under k ∙ same k
 

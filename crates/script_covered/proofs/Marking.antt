@@ -1,19 +1,15 @@
 -- What stands in a text: one statement and one answer further.
-use Rattle.std.proofs.Common.{◌≡◌, ◌∙◌, ℕ, ◌+◌, ◌<◌, ◌≤◌, List, [], ◌∷◌, ◌++◌, append_assoc, append-nil, length, drop, get_or, Option, sym, ap}
+use Rattle.std.proofs.Common.{◌≡◌, ◌∙◌, ℕ, ◌+◌, ◌<◌, ◌≤◌, List, [], ◌∷◌, ◌++◌, append_assoc, length, drop, get_or, Option, sym, ap}
 use Rattle.std.proofs.lemmas.List.{drop_more, drop_all}
-use Rattle.sdl_ast.specs.declared.tree.Action.{Action}
 use Rattle.sdl_ast.specs.declared.tree.Answer.{Answer}
-use Rattle.sdl_ast.specs.declared.tree.Decision.{Decision, out-Decision}
 use Rattle.sdl_ast.specs.declared.tree.Statement.{Statement}
-use Rattle.sdl_ast.specs.declared.tree.Statement.TheVariants.{Act, Decide}
 use Rattle.sdl_ast.specs.declared.tree.Transition.{Transition}
 use Rattle.sdl_ast.specs.Plain.{Text, Choice}
-use Rattle.sdl_ast.specs.Views.{text_of, action_of, choice_of, else_choice, statement_of, statements_before, answers_before}
-use Rattle.sdl_ast.proofs.Views.{answer_of-is, statement_of-act, statement_of-decide}
-use Rattle.script_covered.specs.Ways.{action_place}
+use Rattle.sdl_ast.specs.Views.{text_of, else_choice, statement_of, statements_before, answers_before}
+use Rattle.sdl_ast.proofs.Views.{answer_of-is}
 use Rattle.script_covered.specs.Lcov.{text_marks, choice_marks}
 use Rattle.script_covered.specs.declared.marks.Mark.{Mark}
-use Rattle.script_covered.specs.declared.marks.Mark.TheVariants.{Begins, Answer as Answered, Else}
+use Rattle.script_covered.specs.declared.marks.Mark.TheVariants.{Answer as Answered, Else}
 
 pub statements_on : (start old new : List Mark) (ss : List Statement) (i : ℕ) (s : Statement) (last : Text) → i < length ss → s ≡ get_or ss i s
     → ((rest : Text) → new ++ text_marks rest ≡ old ++ text_marks (statement_of s rest)) → old ++ text_marks (statements_before (drop i ss) last) ≡ start
@@ -25,23 +21,6 @@ statements_on start old new ss i s last lt is step before =
 pub statements_past : (start now : List Mark) (ss : List Statement) (i : ℕ) (last : Text) → length ss ≤ i → now ++ text_marks (statements_before (drop i ss) last) ≡ start
     → now ++ text_marks last ≡ start
 statements_past start now ss i last past before = ap (λ l. now ++ text_marks (statements_before l last)) (sym (drop_all i ss past)) ∙ before
-
-pub act_more : (a : Action) (old new : List Mark) (k : ℕ) → k ≡ action_place (action_of a) → new ≡ old ++ Begins k ∷ [] → (rest : Text)
-    → new ++ text_marks rest ≡ old ++ text_marks (statement_of (Act a) rest)
-act_more a old new k is more rest =
-    ap (λ l. l ++ text_marks rest) more
-    ∙ (append_assoc old (Begins k ∷ []) (text_marks rest)
-    ∙ (ap (λ n. old ++ Begins n ∷ text_marks rest) is ∙ ap (λ t. old ++ text_marks t) (sym (statement_of-act a rest))))
-
-pub decision_more : (d : Decision) (old mid new : List Mark) → mid ≡ old ++ Begins (out-Decision d).at ∷ [] → new ≡ mid ++ choice_marks (out-Decision d).at 0 (choice_of d) → (rest : Text)
-    → new ++ text_marks rest ≡ old ++ text_marks (statement_of (Decide d) rest)
-decision_more d old mid new one more rest =
-    let k = (out-Decision d).at in
-    let answers = choice_marks k 0 (choice_of d) in
-    ap (λ l. l ++ text_marks rest) more
-    ∙ (append_assoc mid answers (text_marks rest)
-    ∙ (ap (λ l. l ++ (answers ++ text_marks rest)) one
-    ∙ (append_assoc old (Begins k ∷ []) (answers ++ text_marks rest) ∙ ap (λ t. old ++ text_marks t) (sym (statement_of-decide d rest)))))
 
 pub answers_on : (start old mid new : List Mark) (k n : ℕ) (xs : List Answer) (i : ℕ) (x : Answer) (others : Choice) → i < length xs → x ≡ get_or xs i x
     → mid ≡ old ++ Answered x.at k n ∷ [] → new ≡ mid ++ text_marks (text_of x.body) → old ++ choice_marks k n (answers_before (drop i xs) others) ≡ start
@@ -67,18 +46,3 @@ pub with_else : (start now mid new : List Mark) (k n : ℕ) (t : Transition) →
     → now ++ (Else k n ∷ text_marks (text_of t)) ≡ start → new ≡ start
 with_else start now mid new k n t one body before =
     body ∙ (ap (λ l. l ++ text_marks (text_of t)) one ∙ (append_assoc now (Else k n ∷ []) (text_marks (text_of t)) ∙ before))
-
-pub without_else : (start now : List Mark) → now ++ [] ≡ start → now ≡ start
-without_else start now before = sym (append-nil now) ∙ before
-
--- two pieces, and four
-pub begun_then : (old mid new : List Mark) (m : Mark) (more : List Mark) → mid ≡ old ++ m ∷ [] → new ≡ mid ++ more → new ≡ old ++ (m ∷ more)
-begun_then old mid new m more one then = then ∙ (ap (λ l. l ++ more) one ∙ append_assoc old (m ∷ []) more)
-
-pub process_pieces : (old a b c d : List Mark) (m : Mark) (start inputs joins : List Mark) → a ≡ old ++ m ∷ [] → b ≡ a ++ start → c ≡ b ++ inputs → d ≡ c ++ joins
-    → d ≡ old ++ ((m ∷ start) ++ (inputs ++ joins))
-process_pieces old a b c d m start inputs joins one two three four =
-    let begun : b ≡ old ++ (m ∷ start) = begun_then old a b m start one two in
-    four ∙ (ap (λ l. l ++ joins) three
-    ∙ (append_assoc b inputs joins
-    ∙ (ap (λ l. l ++ (inputs ++ joins)) begun ∙ append_assoc old (m ∷ start) (inputs ++ joins))))

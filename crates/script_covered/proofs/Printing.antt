@@ -1,19 +1,18 @@
 -- What is told of a text: lines, and how many.
-use Rattle.std.proofs.Common.{◌≡◌, ◌∙◌, ℕ, zero, suc, ◌+◌, ◌-◌, ◌<◌, ◌≤◌, Bool, true, false, true≢false, ◌||◌, cond, max, List, [], ◌∷◌, ◌++◌, append_assoc, append-nil, length, map, take, get_or, replicate, slice_set, Option, None, Some, unwrap_or, arith, refl, sym, ap, subst}
+use Rattle.std.proofs.Common.{◌≡◌, ◌∙◌, ℕ, zero, suc, ◌+◌, ◌<◌, ◌≤◌, Bool, true, false, true≢false, ◌||◌, cond, List, [], ◌∷◌, ◌++◌, append_assoc, append-nil, length, map, take, get_or, replicate, Option, None, Some, arith, refl, sym, ap, subst}
 use Rattle.std.specs.Prelude.{◌==◌, nat_eq, nat_lt, if◌then◌else◌, codes, count_by, slice_get, slice_index, option_to_list}
 use Rattle.std.specs.List.{flat_map, range_with_len}
 use Rattle.std.proofs.lemmas.Bool.{eqb-true as same_number}
 use Rattle.std.proofs.lemmas.Bool.Decides.{nat_tests}
-use Rattle.std.proofs.lemmas.List.{length_push, take_more, take_all, length-take-le, length-replicate, get_or-set_same, get_or-set_other, length-set, get_or-replicate, get_or_default}
+use Rattle.std.proofs.lemmas.List.{length_push, take_more, take_all, length-take-le, length-replicate, get_or-replicate, get_or_default}
 use Rattle.std.proofs.lemmas.List.FromFn.{fill_by_all}
-use Rattle.std.proofs.lemmas.List.Sums.{sum_by_push, sum_by_more, fold_more}
-use Rattle.std.proofs.lemmas.Option.{slice_get_past}
+use Rattle.std.proofs.lemmas.List.Sums.{sum_by_push, sum_by_more}
 use Rattle.sdl_sound.proofs.Spread.{flat_more}
 use Rattle.sdl_ast.specs.Plain.{PlainBlock}
 use Rattle.sdl_tables.specs.Names.{processes_of, signal_names}
 use Rattle.turn_machine.specs.Turn.{Turn}
 use Rattle.script_covered.specs.Covered.{times, others, turns_of, taken_by, known_turns, HasTurns, HasTaken, Covers}
-use Rattle.script_covered.specs.Lcov.{Transition, row_of, all_rows, block_marks, line_at, AreLines, counted, turns_line, summary, rows_text, taken_word, branch_line, mark_line, mark_times, answers_text, IsSection, begins_at, seen_at, seen_on, Sees, line_count, line_counts, count_line, count_lines, lines_text, report_text, lcov_text}
+use Rattle.script_covered.specs.Lcov.{Transition, row_of, all_rows, block_marks, line_at, AreLines, counted, turns_line, summary, rows_text, taken_word, branch_line, mark_line, mark_times, answers_text, IsSection, line_count, line_counts, count_line, count_lines, lines_text, report_text, lcov_text}
 use Rattle.script_covered.specs.declared.coverage.Coverage.{Coverage}
 use Rattle.script_covered.specs.declared.coverage.Counts.{Counts}
 use Rattle.script_covered.specs.declared.coverage.TurnCounts.{TurnCounts}
@@ -44,9 +43,6 @@ section_push text ns line times s t is more hits h = record {
     by_test : (b : Bool) → (if b then s.hit + 1 else s.hit) ≡ s.hit + cond b 1 0
     by_test true = refl
     by_test false = omega arith
-
-pub section_none : (text ns : List ℕ) (s : Section) → IsSection text ns s → IsSection (text ++ []) (ns ++ []) s
-section_none text ns s h = section_as text ns _ _ s (append-nil text) (append-nil ns) h
 
 -- with its counts, at the end of a text
 pub section_to : (found hit lines ns old a b new : List ℕ) (s : Section) → a ≡ old ++ s.text.items → b ≡ a ++ counted found s.found → new ≡ b ++ counted hit s.hit → IsSection lines ns s
@@ -169,37 +165,6 @@ lines_are text lines i all h = record { number = h.number ∙ all; are = λ k le
 past_end : (text : List ℕ) (k : ℕ) → length text ≤ k → line_at text (length text) ≡ line_at text k
 past_end text k past = ap (λ l. count_by is_newline l + 1) (take_all (length text) text (omega arith) ∙ sym (take_all k text past))
 
-pub line_there : (text lines : List ℕ) (k n : ℕ) → slice_get lines k ≡ Some n → AreLines text lines → n ≡ line_at text k
-line_there text lines k n there h = by_side (nat_lt (length text) k) refl
-  where
-    by_side : (b : Bool) → nat_lt (length text) k ≡ b → n ≡ line_at text k
-    by_side true e =
-        let none : slice_get lines k ≡ None = slice_get_past lines k (grind (arith, nat_tests, h.number)) in
-        absurd (let f : ⊥ = cc in f)
-    by_side false e =
-        let le : k ≤ length text = grind (arith, nat_tests) in
-        let same : Some n ≡ Some (line_at text k) = sym there ∙ h.are k le in
-        cc
-
-pub line_past : (text lines : List ℕ) (k n : ℕ) → slice_get lines k ≡ None → n ≡ line_at text (length text) → AreLines text lines → n ≡ line_at text k
-line_past text lines k n none is h = is ∙ past_end text k (by_side (nat_lt k (length text + 1)) refl)
-  where
-    by_side : (b : Bool) → nat_lt k (length text + 1) ≡ b → length text ≤ k
-    by_side true e =
-        let le : k ≤ length text = grind (arith, nat_tests) in
-        absurd (let f : ⊥ = let there = h.are k le in cc in f)
-    by_side false e = grind (arith, nat_tests)
-
-pub last_there : (text lines : List ℕ) (n : ℕ) → slice_get lines (length lines - 1) ≡ Some n → AreLines text lines → n ≡ line_at text (length text)
-last_there text lines n there h =
-    line_there text lines (length text) n (ap (slice_get lines) (let e : length text ≡ length lines - 1 = omega (arith, h.number) in e) ∙ there) h
-
-pub last_nowhere : (text lines : List ℕ) → slice_get lines (length lines - 1) ≡ None → AreLines text lines → 0 ≡ line_at text (length text)
-last_nowhere text lines none h =
-    let there = h.are (length text) (omega arith) in
-    let same : slice_get lines (length text) ≡ None = ap (slice_get lines) (let e : length text ≡ length lines - 1 = omega (arith, h.number) in e) ∙ none in
-    absurd (let f : ⊥ = cc in f)
-
 -- ---- the counts of lines
 
 pub count_lines_more : (n : ℕ) (os : List (Option ℕ)) (o : Option ℕ) → count_lines n (os ++ o ∷ []) ≡ count_lines n os ++ count_line (n + length os) o
@@ -225,35 +190,6 @@ pub lines_section_past : (os : List (Option ℕ)) (i : ℕ) (s : Section) → le
     → IsSection (count_lines 0 os) (flat_map option_to_list os) s
 lines_section_past os i s past h = section_as _ _ _ _ s (ap (count_lines 0) (sym (take_all i os past))) (ap (flat_map option_to_list) (sym (take_all i os past))) h
 
--- something on a line is seen there, and nowhere else
-pub seen_there : (text : List ℕ) (f : ℕ → ℕ) (m : Mark) (k line times : ℕ) (old new : List (Option ℕ)) → begins_at m ≡ Some k → line ≡ line_at text k → times ≡ f k
-    → new ≡ slice_set old line (Some (max (unwrap_or (get_or old line None) 0) times)) → Sees text f m old new
-seen_there text f m k line times old new here at so is = record {
-  number = ap length is ∙ length-set old line _;
-  sees = λ j lt. ap (λ l. get_or l j None) is ∙ (by_test j (nat_eq line j) refl lt ∙ sym (told j));
-}
-  where
-    told : (j : ℕ) → seen_on text f j (get_or old j None) m ≡ (if line == j then Some (max (unwrap_or (get_or old j None) 0) times) else get_or old j None)
-    told j =
-        ap (seen_at text f j (get_or old j None)) here
-        ∙ (ap (λ n. if n == j then Some (max (unwrap_or (get_or old j None) 0) (f k)) else get_or old j None) (sym at)
-        ∙ ap (λ n. if line == j then Some (max (unwrap_or (get_or old j None) 0) n) else get_or old j None) (sym so))
-
-    by_test : (j : ℕ) (b : Bool) → nat_eq line j ≡ b → j < length old
-        → get_or (slice_set old line (Some (max (unwrap_or (get_or old line None) 0) times))) j None
-        ≡ (if nat_eq line j then Some (max (unwrap_or (get_or old j None) 0) times) else get_or old j None)
-    by_test j true e lt =
-        let same : line ≡ j = same_number line j e in
-        subst (λ i. get_or (slice_set old line (Some (max (unwrap_or (get_or old line None) 0) times))) i None ≡ (if nat_eq line i then Some (max (unwrap_or (get_or old i None) 0) times) else get_or old i None)) same
-        (get_or-set_same old line _ None (omega (arith, lt, same))
-        ∙ ap (λ b. if b then Some (max (unwrap_or (get_or old line None) 0) times) else get_or old line None) (let t : true ≡ nat_eq line line = grind (arith, nat_tests) in t))
-    by_test j false e lt =
-        get_or-set_other old line j _ None (λ same. let f : ⊥ = grind (arith, nat_tests) in f)
-        ∙ ap (λ b. if b then Some (max (unwrap_or (get_or old j None) 0) times) else get_or old j None) (sym e)
-
-pub seen_nowhere : (text : List ℕ) (f : ℕ → ℕ) (m : Mark) (old : List (Option ℕ)) → begins_at m ≡ None → Sees text f m old old
-seen_nowhere text f m old here = record { number = refl; sees = λ j lt. sym (ap (seen_at text f j (get_or old j None)) here) }
-
 -- so far these marks were seen
 pub record AreSeen (text : List ℕ) (f : ℕ → ℕ) (ms : List Mark) (count : ℕ) (os : List (Option ℕ)) : Type 0 where
   pub number : length os ≡ count
@@ -263,16 +199,6 @@ pub none_seen : (text : List ℕ) (f : ℕ → ℕ) (ms : List Mark) (count : �
 none_seen text f ms count os none is = record {
   number = ap length is ∙ length-replicate count None;
   seen = λ line lt. ap (λ l. get_or l line None) is ∙ (get_or-replicate count line None None lt ∙ ap (λ l. line_count text f l line) (sym none));
-}
-
-pub mark_seen : (text : List ℕ) (f : ℕ → ℕ) (ms : List Mark) (i : ℕ) (m : Mark) (count : ℕ) (old new : List (Option ℕ)) → i < length ms → m ≡ get_or ms i m
-    → AreSeen text f (take i ms) count old → Sees text f m old new → AreSeen text f (take (i + 1) ms) count new
-mark_seen text f ms i m count old new lt is h s = record {
-  number = s.number ∙ h.number;
-  seen = λ line less.
-      s.sees line (omega (arith, less, h.number))
-      ∙ (ap (λ o. seen_on text f line o m) (h.seen line less)
-      ∙ (ap (seen_on text f line (line_count text f (take i ms) line)) is ∙ sym (fold_more (seen_on text f line) None ms i m lt)));
 }
 
 pub all_seen : (text : List ℕ) (f : ℕ → ℕ) (ms : List Mark) (i count : ℕ) (os : List (Option ℕ)) → length ms ≤ i → count ≡ line_at text (length text) + 1 → AreSeen text f (take i ms) count os
