@@ -6,7 +6,7 @@ use Rattle.actor_machine.specs.Ledger.{Ledger}
 use Rattle.link_group.specs.declared.link.Link.{Link}
 use Rattle.link_group.specs.Links.{read_at}
 use Rattle.link_group.specs.Reading.{held_count, sent_count, book_of}
-use Rattle.script_terminal.specs.Answers.{actor_named, state_line, value_line}
+use Rattle.script_terminal.specs.Answers.{actor_named, state_line}
 use Rattle.script_group.specs.Shown.{entry_at, entries_to, waited_text}
 use Rattle.script_group.specs.GroupAnswers.{NO_LINK, held_line, state_at, value_at}
 
@@ -31,14 +31,6 @@ held_is (Some k) n m text held sent is =
     let b : m ≡ sent_count k = cc in
     is ∙ (ap (λ x. decimal x ++ codes " sent " ++ decimal m) a ∙ ap (λ x. decimal (held_count k) ++ codes " sent " ++ decimal x) b)
 
-pub held_nowhere : (o : Option Link) (text : List ℕ) → None ≡ read_at held_count o → text ≡ NO_LINK → text ≡ held_line o
-held_nowhere None text none is = is
-held_nowhere (Some k) text none is = absurd (cc)
-
-pub sent_nowhere : (o : Option Link) (text : List ℕ) → None ≡ read_at sent_count o → text ≡ NO_LINK → text ≡ held_line o
-sent_nowhere None text none is = is
-sent_nowhere (Some k) text none is = absurd (cc)
-
 pub state_is : (o : Option Link) (b : Ledger) (process text : List ℕ) → Some b ≡ read_at book_of o → text ≡ state_line b (actor_named b process)
     → text ≡ state_at process o
 state_is None b process text is shown = absurd (cc)
@@ -47,12 +39,6 @@ state_is (Some k) b process text is shown = let same : b ≡ book_of k = cc in s
 pub state_nowhere : (o : Option Link) (process text : List ℕ) → None ≡ read_at book_of o → text ≡ NO_LINK → text ≡ state_at process o
 state_nowhere None process text none is = is
 state_nowhere (Some k) process text none is = absurd (cc)
-
-pub value_is : (o : Option Link) (b : Ledger) (process variable text : List ℕ) → Some b ≡ read_at book_of o
-    → text ≡ value_line b variable (actor_named b process) → text ≡ value_at process variable o
-value_is None b process variable text is shown = absurd (cc)
-value_is (Some k) b process variable text is shown =
-    let same : b ≡ book_of k = cc in shown ∙ ap (λ x. value_line x variable (actor_named x process)) same
 
 pub value_nowhere : (o : Option Link) (process variable text : List ℕ) → None ≡ read_at book_of o → text ≡ NO_LINK → text ≡ value_at process variable o
 value_nowhere None process variable text none is = is
