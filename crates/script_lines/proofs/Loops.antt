@@ -5,19 +5,14 @@ use Rattle.std.specs.List.{filter_map}
 use Rattle.std.proofs.lemmas.List.{drop_more, drop-map}
 use Rattle.std.proofs.lemmas.Bool.{lt-ltb, le-ltb}
 use Rattle.script_lines.specs.declared.lines.Line.{Line}
-use Rattle.script_lines.specs.declared.settings.Setting.{Setting}
 use Rattle.script_lines.specs.declared.settings.Settings.{Settings}
 use Rattle.script_lines.specs.declared.script.ScriptFault.{ScriptFault}
 use Rattle.script_lines.specs.declared.script.ScriptFault.TheVariants.{BadLine, NoMemory}
 use Rattle.plain_text.specs.Reading.{LONGEST}
 use Rattle.script_lines.specs.Lines.{PlainLine, texts, plain_line, lines_of, line_at}
-use Rattle.script_lines.specs.Scripts.{is_bad, said_of, setting_of, set, defaults, after_head, commands_by, script_of, IsBadLine, IsFaultOf}
+use Rattle.script_lines.specs.Scripts.{is_bad, said_of, setting_of, defaults, after_head, commands_by, script_of, IsBadLine, IsFaultOf}
 
 -- ---- first lines
-
-pub head-go : (s : Settings) (line : Line) (more : List Line) (setting : Setting) → setting_of (texts line.words.items) ≡ Some setting
-    → after_head s (map plain_line (line ∷ more)) ≡ after_head (set setting s) (map plain_line more)
-head-go s line more setting is = rw is refl
 
 pub head-stop : (s : Settings) (line : Line) (more : List Line) → setting_of (texts line.words.items) ≡ None
     → after_head s (map plain_line (line ∷ more)) ≡ (s, map plain_line (line ∷ more))
