@@ -1,5 +1,5 @@
 -- What is captured of one command of a link set's script, on the link that lines speak of.
-use Rattle.std.proofs.Common.{◌≡◌, ◌∙◌, ℕ, zero, suc, ◌<◌, Bool, true, false, List, [], ◌∷◌, ◌++◌, append-nil, length, slice_set, Option, Some, sym, ap, subst}
+use Rattle.std.proofs.Common.{◌≡◌, ◌∙◌, ℕ, zero, suc, ◌<◌, Bool, true, false, List, [], ◌∷◌, ◌++◌, length, slice_set, Option, Some, sym, ap, subst}
 use Rattle.std.specs.Prelude.{slice_get}
 use Rattle.std.specs.List.{flat_map}
 use Rattle.std.specs.Io.KnownBytes.{Appends}
@@ -13,7 +13,7 @@ use Rattle.script_links.specs.GroupScripts.{PlainGroupSaid}
 use Rattle.script_seen.specs.Lines.{line_of}
 use Rattle.script_seen.specs.GroupAnswers.{Playing, Obeys, Outputs}
 use Rattle.script_seen.specs.GroupRuns.{prints, IsGroupRun, HasGivenOut, HasObeyed, was_met, was_done}
-use Rattle.script_play.specs.Captured.{Hears, nothing, IsCapturing}
+use Rattle.script_play.specs.Captured.{Hears, IsCapturing}
 use Rattle.script_play.specs.CapturedSets.{IsComing, is_noted, set_time, SendsOn, Goes, goes_out, comes_in, holds, IsCapturedThere}
 use Rattle.script_play.specs.declared.capturing.LinkSeen.{LinkSeen}
 use Rattle.script_play.proofs.OtherLinks.{heard_apart, sent_apart}
@@ -77,14 +77,6 @@ there_out every first before said n begun old new from to now next last printed 
 -- what comes in by a command, by another name
 pub set_comes_as : (c d : PlainGroupCommand) (come : List ℕ) → c ≡ d → IsComing d come → IsComing c come
 set_comes_as c d come same coming = let P : PlainGroupCommand → Type 0 = λ k. IsComing k come in subst P (sym same) coming
-
--- none do
-pub nothing_heard : (number at : ℕ) (now : Option (List ℕ)) (l : LinkSeen) (every : Bool) (came : List ℕ) (ss : List Seen) (begun : Option (List ℕ))
-    → IsCapturing number every came ss begun now l
-    → (last : List Seen) × Hears number at came [] ss last × IsCapturing number every (came ++ []) last begun now l
-nothing_heard number at now l every came ss begun known =
-    let C : List ℕ → Type 0 = λ xs. IsCapturing number every xs ss begun now l in
-    (ss, nothing came ss, subst C (sym (append-nil came)) known)
 
 no_out : (c : PlainGroupCommand) (n : ℕ) → is_noted c ≡ true → c ≡ group.out n → ⊥
 no_out c n noted is =
