@@ -1,5 +1,5 @@
 -- What is told of single events.
-use Rattle.std.proofs.Common.{◌≡◌, ◌∙◌, ℕ, ◌+◌, Bool, true, false, List, [], ◌∷◌, ◌++◌, append-nil, Option, Some, None, refl, sym, ap, subst, map}
+use Rattle.std.proofs.Common.{◌≡◌, ◌∙◌, ℕ, Bool, true, false, List, [], ◌∷◌, ◌++◌, append-nil, Option, Some, None, refl, sym, ap, subst}
 use Rattle.std.specs.Prelude.{slice_get, if◌then◌else◌, option_map}
 use Rattle.std.specs.List.{flat_map}
 use Rattle.turn_code.specs.Outcome.{Outcome}
@@ -7,13 +7,13 @@ use Rattle.turn_code.specs.declared.draft.Draft.{Draft}
 use Rattle.turn_machine.specs.Turn.{Turn, outcome_of}
 use Rattle.actor_machine.specs.Core.{Core, names_in}
 use Rattle.actor_machine.specs.Ledger.{turn_at}
-use Rattle.actor_machine.specs.Step.{due_in, report_of}
+use Rattle.actor_machine.specs.Step.{report_of}
 use Rattle.actor_machine.specs.declared.name.ActorName.{ActorName}
 use Rattle.actor_machine.specs.declared.event.Event.TheVariants as event
 use Rattle.actor_machine.specs.declared.event.Offer.{Offer}
 use Rattle.actor_machine.specs.declared.reply.Report.{Report}
 use Rattle.script_group.specs.Lines.{line_of}
-use Rattle.script_seen.specs.Told.{told, offer_line, skip_lines, due_line, turn_lines, end_lines, outcome_by}
+use Rattle.script_seen.specs.Told.{told, offer_line, skip_lines, turn_lines, end_lines, outcome_by}
 
 pub told_offer : (every : Bool) (d : Draft) (w : Core) (o : Offer) → line_of (offer_line d w o) ≡ flat_map line_of (told every d w (event.Offer o))
 unfolding told
@@ -32,9 +32,7 @@ pub told_skip : (every : Bool) (d : Draft) (w : Core) (n : ℕ)
 unfolding told
 told_skip every d w n = refl
 
-pub told_advance : (every : Bool) (d : Draft) (w : Core) (k : ℕ) → map (due_line d w (w.timers.clock + k)) (due_in w k) ≡ told every d w (event.Advance k)
 unfolding told
-told_advance every d w k = refl
 
 ended_is : (every : Bool) (d : Draft) (w : Core) (n : ℕ) (me : Option ActorName) (t : Option Turn) (name : ActorName) (turn : Turn) (o : Outcome) → me ≡ Some name
     → t ≡ Some turn → outcome_of turn ≡ Some o
