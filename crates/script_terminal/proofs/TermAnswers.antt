@@ -45,14 +45,6 @@ asked_ok e t u text is says goes =
       makes = goes ∙ ap (λ a. with_processes t (after_answer a e t.processes)) says;
     }
 
-pub asked_due : (e : Event) (t u : Term) (text : List ℕ) (due : ℕ) → text ≡ codes "ok due " ++ decimal due
-    → Says (reply.Passed due) ≡ (ask (tidied t.processes).book e).answer → u ≡ with_processes t (offered e (tidied t.processes)) → IsAsked e t text u
-asked_due e t u text due is says goes =
-    record {
-      says = is ∙ ap (λ a. answer_text t.processes.book.set 0 a) says;
-      makes = goes ∙ ap (λ a. with_processes t (after_answer a e t.processes)) says;
-    }
-
 pub asked_refused : {A : Type 0} (f : A → Reply) (e : Event) (t u : Term) (text : List ℕ) (error : CallError) → IsRefusedLine error text
     → IsAnswer f (Err error) (ask (tidied t.processes).book e).answer → Leaves t u error → IsAsked e t text u
 asked_refused f e t u text (Refused r) is says leaves =
@@ -304,9 +296,3 @@ times_more keeps octets n t m u before takes =
     let P : ℕ → Type 0 = λ k. TakesTimes keeps octets k t u in
     let number : suc n ≡ n + 1 = omega arith in
     subst P number (again n t m u before takes)
-
-pub times_all : (keeps : Bool) (octets : List ℕ) (n m : ℕ) (t u : Term) → n ≤ m → m ≤ n → TakesTimes keeps octets n t u → TakesTimes keeps octets m t u
-times_all keeps octets n m t u most least times =
-    let P : ℕ → Type 0 = λ k. TakesTimes keeps octets k t u in
-    let number : n ≡ m = omega (arith, most, least) in
-    subst P number times
