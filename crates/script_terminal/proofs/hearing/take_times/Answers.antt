@@ -1,4 +1,4 @@
-use Rattle.script_terminal.proofs.TermAnswers.{times_none, times_more, times_all}
+use Rattle.script_terminal.proofs.TermAnswers.{times_none, times_more}
 use Rattle.script_terminal.proofs.hearing.take_times.Goals as goal
 
 pub loop-taken-init : goal.loop-taken-init
