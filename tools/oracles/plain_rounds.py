@@ -147,6 +147,7 @@ class Side:
                 self.tender.send(b"\x83" + labelled(self.peer, self.own, int(what), bytes(4)))
                 return
             for at in links:
+                self.tender.set.link(at)
                 {
                     "power": lambda at: self.tender.power(at), "start": lambda at: self.tender.stop(at, False), "stop": lambda at: self.tender.stop(at, True),
                     "outage": lambda at: self.tender.outage(at, True), "back": lambda at: self.tender.outage(at, False),
