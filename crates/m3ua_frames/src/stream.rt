@@ -125,6 +125,7 @@ impl Deframer {
     /// Takes octets of a piece up to the first that completes something, and says how many it took: all of them where nothing is complete.
     pub fn take(&mut self, piece: &[u8]) -> (usize, Heard)
         ensures within { result.0 ≤ length piece.now }
+        ensures progress { 0 < length piece.now → 0 < result.0 }
         ensures state { self.new ≡ reading_after self.old (take result.0 piece.now) }
         ensures items { items_in self.old (take result.0 piece.now) ≡ option_to_list (item_told result.1 self.new.octets) }
         ensures all { item_told result.1 [] ≡ None → result.0 ≡ length piece.now }
