@@ -117,6 +117,101 @@ def items(stream):
         stream = stream[told:]
 
 
+class Gateway:
+    """One ASP in one AS (4.3). What a call answers is a list of what is sent: names of messages, with a code or a state where they have one."""
+
+    def __init__(self, context=0):
+        self.context, self.asp, self.server, self.taken, self.refused, self.kept, self.lost = context, "DOWN", "DOWN", [], 0, [], 0
+
+    def serves(self, state):
+        """The AS comes to a state: an ASP that isn't down is told of it (4.3.4.5)."""
+        changed, self.server = self.server != state, state
+        return [("NTFY", state)] if changed and self.asp != "DOWN" else []
+
+    def unexpected(self, data=False):
+        self.refused += data
+        return [("ERR", 0x06)]
+
+    def ours(self, found):
+        value = first(found, CONTEXT)
+        return value is None or value == struct.pack(">I", self.context)
+
+    def ended(self):
+        """The stream ends (4.2.3): no ASP can serve."""
+        self.asp = "DOWN"
+        self.serves({"ACTIVE": "PENDING", "INACTIVE": "DOWN"}.get(self.server, self.server))
+        return []
+
+    def expired(self):
+        """T(r) runs out (4.3.2)."""
+        if self.server != "PENDING":
+            return []
+        self.lost, self.kept = self.lost + len(self.kept), []
+        return ["lose"] + self.serves("DOWN" if self.asp == "DOWN" else "INACTIVE")
+
+    def octets(self, octets):
+        """A message of the stream."""
+        try:
+            name, found = decoded(octets)
+        except Fault as fault:
+            # an ERR, however it is spoilt, is answered by none (3.8.1)
+            return [] if len(octets) >= 4 and tuple(octets[2:4]) == (0, 0) else [("ERR", fault.args[0])]
+        down = self.asp == "DOWN"
+        if name == "ERR":
+            return []
+        if name == "BEAT":
+            return ["BEAT ACK"]
+        if name == "ASPUP":
+            was, self.asp = self.asp, "INACTIVE"
+            if was == "ACTIVE":
+                return ["ASPUP ACK", ("ERR", 0x06)] + self.serves("PENDING")
+            if was == "INACTIVE":
+                return ["ASPUP ACK"]
+            if self.server == "DOWN":
+                self.server = "INACTIVE"
+            return ["ASPUP ACK", ("NTFY", self.server)]
+        if name == "ASPDN":
+            self.asp = "DOWN"
+            self.serves({"ACTIVE": "PENDING", "INACTIVE": "DOWN"}.get(self.server, self.server))
+            return ["ASPDN ACK"]
+        if name == "DATA":
+            return self.data(found)
+        if down or name not in ("ASPAC", "ASPIA", "DAUD", "REG REQ", "SCON"):
+            return self.unexpected()
+        if name in ("ASPAC", "ASPIA"):
+            return self.traffic(name, found)
+        return {"DAUD": ["audited"], "REG REQ": ["REG RSP"], "SCON": []}[name]
+
+    def traffic(self, name, found):
+        if not self.ours(found):
+            return [("ERR", 0x19)]
+        if name == "ASPIA":
+            was, self.asp = self.asp, "INACTIVE"
+            return ["ASPIA ACK"] + (self.serves("PENDING") if was == "ACTIVE" else [])
+        mode = first(found, MODE)
+        if mode is not None and struct.unpack(">I", mode)[0] not in (1, 2, 3):
+            return [("ERR", 0x05)]
+        if self.asp == "ACTIVE":
+            return ["ASPAC ACK"]
+        waited, self.asp = self.server == "PENDING", "ACTIVE"
+        return ["ASPAC ACK"] + self.serves("ACTIVE") + ["destinations"] + (["release"] if waited else [])
+
+    def data(self, found):
+        if self.asp == "DOWN":
+            return self.unexpected(True)
+        if not self.ours(found):
+            self.refused += 1
+            return [("ERR", 0x19)]
+        if self.asp != "ACTIVE":
+            return self.unexpected(True)
+        msu = message(protocol(first(found, PROTOCOL)))
+        if msu is None or msu[0] & 15 < 3:
+            self.refused += 1
+            return [("ERR", 0x12)]
+        self.taken.append(msu)
+        return ["take"]
+
+
 # ---- as the program trials_m3ua prints them
 SHOWN = [INFO, CONTEXT, DIAGNOSTIC, HEARTBEAT, MODE, CODE, STATUS, IDENTIFIER, AFFECTED, CORRELATION, NETWORK, USER, CONGESTION, CONCERNED, KEY, REGISTRATION,
          DEREGISTRATION, LOCAL, PROTOCOL]

@@ -1,27 +1,30 @@
 -- Octets are those of one message at most, and what is sent is read.
-use Rattle.std.proofs.Common.{◌≡◌, ℕ, ◌+◌, ◌-◌, ◌*◌, ◌/◌, ◌%◌, ◌^◌, ◌<◌, ◌≤◌, Bool, true, false, List, [], ◌∷◌, ◌++◌, length, take, drop, Result, Ok, Err, inl, refl, sym, ap, subst, ◌∙◌, append_assoc, arith}
-use Rattle.std.specs.Prelude.{replicate}
+use Rattle.std.proofs.Common.{◌≡◌, ℕ, ◌+◌, ◌-◌, ◌*◌, ◌/◌, ◌%◌, ◌^◌, ◌<◌, ◌≤◌, Bool, true, false, cond, eqb, ◌⊎◌, List, [], ◌∷◌, ◌++◌, length, take, drop, Result, Ok, Err, inl, inr, refl, sym, ap, subst, ◌∙◌, append_assoc, arith}
+use Rattle.std.specs.Prelude.{replicate, slice_index}
 use Rattle.std.specs.List.{AllByRecursion}
 use Rattle.std.proofs.lemmas.List.{length-append, length-replicate}
-use Rattle.std.proofs.lemmas.List.Concat.{flat_map-cons}
 use Rattle.m3ua_frames.specs.declared.faults.Fault.{Fault}
 use Rattle.m3ua_frames.specs.declared.faults.Fault.TheVariants as fault
 use Rattle.m3ua_frames.specs.declared.kinds.Kind.{Kind}
 use Rattle.m3ua_frames.specs.declared.kinds.Kind.TheVariants as kind
-use Rattle.m3ua_frames.specs.Kinds.{class_of, type_of, kind_by}
+use Rattle.m3ua_frames.specs.Kinds.{class_of, type_of, kind_by, management, transfer, network, state, traffic, keys}
 use Rattle.m3ua_frames.specs.Numbers.{number_2, number_4, octets_2, octets_4}
 use Rattle.m3ua_frames.specs.Parameters.{Parameter, IsFirst, IsParameter, AreParameters, padding_after, padded, all_padded}
-use Rattle.m3ua_frames.specs.Frame.{Message, IsFrame, Refuses, IsMessage, spelling, header, mandatory, has_all, kind_in, TellsLength}
+use Rattle.m3ua_frames.specs.Frame.{Message, IsFrame, Refuses, IsMessage, spelling, header, mandatory, has_all, kind_in, TellsLength, IsVersion1}
 use Rattle.m3ua_frames.proofs.ParameterLaws.{one_list}
 
 same_kind : (r : Result Kind Fault) (a b : Kind) → r ≡ Ok a → r ≡ Ok b → a ≡ b
 same_kind r a b e f = let both = sym e ∙ f in cc
 
-pub one_message : (octets : List ℕ) (m n : Message) → IsFrame octets m → IsFrame octets n → m ≡ n
-one_message octets m n h k =
-    let kinds : m.kind ≡ n.kind = same_kind (kind_in octets) m.kind n.kind h.kind k.kind in
-    let lists : m.parameters ≡ n.parameters = one_list (drop 8 octets) m.parameters n.parameters h.parameters k.parameters in
+same_message : (octets : List ℕ) (m n : Message) → kind_in octets ≡ Ok m.kind → kind_in octets ≡ Ok n.kind
+    → AreParameters (drop 8 octets) m.parameters → AreParameters (drop 8 octets) n.parameters → m ≡ n
+same_message octets m n m_kind n_kind m_list n_list =
+    let kinds : m.kind ≡ n.kind = same_kind (kind_in octets) m.kind n.kind m_kind n_kind in
+    let lists : m.parameters ≡ n.parameters = one_list (drop 8 octets) m.parameters n.parameters m_list n_list in
     ap (λ (x : Kind). record { kind = x; parameters = m.parameters }) kinds ∙ ap (λ (ps : List Parameter). record { kind = n.kind; parameters = ps }) lists
+
+pub one_message : (octets : List ℕ) (m n : Message) → IsFrame octets m → IsFrame octets n → m ≡ n
+one_message octets m n h k = same_message octets m n h.kind k.kind h.parameters k.parameters
 
 no_kind : (r : Result Kind Fault) (a : Kind) (f : Fault) → r ≡ Ok a → r ≡ Err f → ⊥
 no_kind r a f e g = let both = sym e ∙ g in cc
@@ -33,10 +36,8 @@ no_fault octets m fault.UnknownClass h k = no_kind (kind_in octets) m.kind fault
 no_fault octets m fault.UnknownType h k = no_kind (kind_in octets) m.kind fault.UnknownType h.kind k.2
 no_fault octets m fault.Field h k = k.3 (m.parameters, h.parameters)
 no_fault octets m fault.Missing h k =
-    let n : Message = k.2.0 in
-    let kinds : m.kind ≡ n.kind = same_kind (kind_in octets) m.kind n.kind h.kind k.2.1 in
-    let lists : m.parameters ≡ n.parameters = one_list (drop 8 octets) m.parameters n.parameters h.parameters k.2.2 in
-    let there : has_all (mandatory n.kind) n.parameters ≡ true = rw (← kinds, ← lists) h.complete in
+    let same : m ≡ k.2.0 = same_message octets m k.2.0 h.kind k.2.1 h.parameters k.2.2 in
+    let there = subst (λ (x : Message). has_all (mandatory x.kind) x.parameters ≡ true) same h.complete in
     let both : true ≡ false = sym there ∙ k.2.3 in cc
 
 pub one_reason : (octets : List ℕ) (a b : Fault) → Refuses octets a → Refuses octets b → a ≡ b
@@ -119,7 +120,7 @@ first_again p rest h =
 
 list_again : (ps : List Parameter) → AllByRecursion IsParameter ps → AreParameters (all_padded ps) ps
 list_again [] h = refl
-list_again (p ∷ ps) h = (all_padded ps, (subst (λ (s : List ℕ). IsFirst s p (all_padded ps)) (sym (flat_map-cons padded p ps)) (first_again p (all_padded ps) h.0), list_again ps h.1))
+list_again (p ∷ ps) h = (all_padded ps, first_again p (all_padded ps) h.0, list_again ps h.1)
 
 pub spelled_is_read : (m : Message) → IsMessage m → IsFrame (spelling m) m
 spelled_is_read m h = record {
@@ -129,3 +130,65 @@ spelled_is_read m h = record {
   parameters = list_again m.parameters h.each;
   complete = h.complete;
 }
+
+-- ---- why there is no such message
+
+abbrev IsUnknown : Fault → Type 0
+IsUnknown f = (f ≡ fault.UnknownClass) ⊎ (f ≡ fault.UnknownType)
+
+skip : (b : Bool) (k : Kind) (r : Result Kind Fault) (f : Fault) → cond b (Ok k) r ≡ Err f → r ≡ Err f
+skip true k r f e = absurd cc
+skip false k r f e = e
+
+no_type : (r : Result Kind Fault) (f : Fault) → r ≡ Err f → r ≡ Err fault.UnknownType → IsUnknown f
+no_type r f e g = let both = sym e ∙ g in inr cc
+
+no_class : (r : Result Kind Fault) (f : Fault) → r ≡ Err f → r ≡ Err fault.UnknownClass → IsUnknown f
+no_class r f e g = let both = sym e ∙ g in inl cc
+
+either : (b : Bool) (x y : Result Kind Fault) (f : Fault) → (x ≡ Err f → IsUnknown f) → (y ≡ Err f → IsUnknown f) → cond b x y ≡ Err f → IsUnknown f
+either true x y f of_x of_y e = of_x e
+either false x y f of_x of_y e = of_y e
+
+found_not : (k : Kind) (f : Fault) → Ok k ≡ Err f → IsUnknown f
+found_not k f e = absurd cc
+
+type_last : (f : Fault) → Err fault.UnknownType ≡ Err f → IsUnknown f
+type_last f e = no_type (Err fault.UnknownType) f e refl
+
+class_last : (f : Fault) → Err fault.UnknownClass ≡ Err f → IsUnknown f
+class_last f e = no_class (Err fault.UnknownClass) f e refl
+
+management_errs : (t : ℕ) (f : Fault) → management t ≡ Err f → IsUnknown f
+management_errs t f e = type_last f (skip (eqb t 1) _ _ f (skip (eqb t 0) _ _ f e))
+
+transfer_errs : (t : ℕ) (f : Fault) → transfer t ≡ Err f → IsUnknown f
+transfer_errs t f e = type_last f (skip (eqb t 1) _ _ f e)
+
+network_errs : (t : ℕ) (f : Fault) → network t ≡ Err f → IsUnknown f
+network_errs t f e = type_last f (skip (eqb t 6) _ _ f (skip (eqb t 5) _ _ f (skip (eqb t 4) _ _ f (skip (eqb t 3) _ _ f (skip (eqb t 2) _ _ f (skip (eqb t 1) _ _ f e))))))
+
+state_errs : (t : ℕ) (f : Fault) → state t ≡ Err f → IsUnknown f
+state_errs t f e = type_last f (skip (eqb t 6) _ _ f (skip (eqb t 5) _ _ f (skip (eqb t 4) _ _ f (skip (eqb t 3) _ _ f (skip (eqb t 2) _ _ f (skip (eqb t 1) _ _ f e))))))
+
+traffic_errs : (t : ℕ) (f : Fault) → traffic t ≡ Err f → IsUnknown f
+traffic_errs t f e = type_last f (skip (eqb t 4) _ _ f (skip (eqb t 3) _ _ f (skip (eqb t 2) _ _ f (skip (eqb t 1) _ _ f e))))
+
+keys_errs : (t : ℕ) (f : Fault) → keys t ≡ Err f → IsUnknown f
+keys_errs t f e = type_last f (skip (eqb t 4) _ _ f (skip (eqb t 3) _ _ f (skip (eqb t 2) _ _ f (skip (eqb t 1) _ _ f e))))
+
+kind_errs : (c t : ℕ) (f : Fault) → kind_by c t ≡ Err f → IsUnknown f
+kind_errs c t f e =
+    either (eqb c 0) _ _ f (management_errs t f) (λ e1.
+    either (eqb c 1) _ _ f (transfer_errs t f) (λ e2.
+    either (eqb c 2) _ _ f (network_errs t f) (λ e3.
+    either (eqb c 3) _ _ f (state_errs t f) (λ e4.
+    either (eqb c 4) _ _ f (traffic_errs t f) (λ e5.
+    either (eqb c 9) _ _ f (keys_errs t f) (class_last f) e5) e4) e3) e2) e1) e
+
+pub refused_kind : (octets : List ℕ) (f : Fault) → TellsLength octets → IsVersion1 octets → kind_in octets ≡ Err f → Refuses octets f
+refused_kind octets f counted version e =
+    elim (kind_errs (slice_index octets 2) (slice_index octets 3) f e) [
+      | inl class ↦ subst (Refuses octets) (sym class) (counted, version, e ∙ ap (λ (x : Fault). Err x) class)
+      | inr type ↦ subst (Refuses octets) (sym type) (counted, version, e ∙ ap (λ (x : Fault). Err x) type)
+    ]

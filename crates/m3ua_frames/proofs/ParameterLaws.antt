@@ -31,12 +31,12 @@ past_choice : (b c : Bool) (n : ℕ) (octets rest : List ℕ) → b ≡ eqb (len
 past_choice true c n octets rest at_b at_c e =
     let nothing : octets ≡ [] = nil_from_length octets (eqb-true _ _ (sym at_b)) in
     let same : octets ≡ rest = cc in
-    ([], (inr (refl, sym same ∙ nothing), same))
+    ([], inr (refl, sym same ∙ nothing), same)
 past_choice false true n octets rest at_b at_c e = absurd cc
 past_choice false false n octets rest at_b at_c e =
     let same : drop n octets ≡ rest = cc in
     let long : n ≤ length octets = ltb-false _ _ (sym at_c) in
-    (take n octets, (inl (omega (arith, length-take n octets)), sym (take-append-drop n octets) ∙ ap (λ (r : List ℕ). take n octets ++ r) same))
+    (take n octets, inl (omega (arith, length-take n octets)), sym (take-append-drop n octets) ∙ ap (λ (r : List ℕ). take n octets ++ r) same)
 
 past_sound : (n : ℕ) (octets rest : List ℕ) → past_padding n octets ≡ Some rest → (padding : List ℕ) × IsPadding n padding rest × (octets ≡ padding ++ rest)
 past_sound n octets rest e = past_choice (eqb (length octets) 0) (ltb (length octets) n) n octets rest refl refl e
@@ -79,8 +79,8 @@ first_sound octets p rest e =
       counted = omega (arith, long);
       sized = ap (is_sized tag) long ∙ d.0;
       padding = behind.0;
-      padded = subst (λ (k : ℕ). IsPadding (padding_after k) behind.0 m.0) (sym long) behind.1.0;
-      parts = sym (take-append-drop n (drop 4 octets)) ∙ ap (λ (r : List ℕ). take n (drop 4 octets) ++ r) behind.1.1;
+      padded = subst (λ (k : ℕ). IsPadding (padding_after k) behind.0 m.0) (sym long) behind.1;
+      parts = sym (take-append-drop n (drop 4 octets)) ∙ ap (λ (r : List ℕ). take n (drop 4 octets) ++ r) behind.2;
     } in
     subst (λ (x : Parameter × List ℕ). IsFirst octets x.0 x.1) m.2 whole
 
@@ -108,31 +108,31 @@ first_shorter octets p rest h =
 
 pub one_list : (octets : List ℕ) (ps qs : List Parameter) → AreParameters octets ps → AreParameters octets qs → ps ≡ qs
 one_list octets [] [] a b = refl
-one_list octets [] (q ∷ qs) a b = absurd (omega (arith, ap length a, b.1.0.headed))
-one_list octets (p ∷ ps) [] a b = absurd (omega (arith, ap length b, a.1.0.headed))
+one_list octets [] (q ∷ qs) a b = absurd (omega (arith, ap length a, b.1.headed))
+one_list octets (p ∷ ps) [] a b = absurd (omega (arith, ap length b, a.1.headed))
 one_list octets (p ∷ ps) (q ∷ qs) a b =
-    let same = one_first octets p q a.0 b.0 a.1.0 b.1.0 in
-    let others : AreParameters a.0 qs = subst (λ (r : List ℕ). AreParameters r qs) (sym same.1) b.1.1 in
-    ap (λ (x : Parameter). x ∷ ps) same.0 ∙ ap (λ (xs : List Parameter). q ∷ xs) (one_list a.0 ps qs a.1.1 others)
+    let same = one_first octets p q a.0 b.0 a.1 b.1 in
+    let others : AreParameters a.0 qs = subst (λ (r : List ℕ). AreParameters r qs) (sym same.1) b.2 in
+    ap (λ (x : Parameter). x ∷ ps) same.0 ∙ ap (λ (xs : List Parameter). q ∷ xs) (one_list a.0 ps qs a.2 others)
 
 abbrev pub Good : List ℕ → Type 0
 Good octets = (ps : List Parameter) × AreParameters octets ps
 
 pub good_up : (octets : List ℕ) (p : Parameter) (rest : List ℕ) → parameter_at octets ≡ Some (p, rest) → Good rest → Good octets
-good_up octets p rest e g = (p ∷ g.0, (rest, (first_sound octets p rest e, g.1)))
+good_up octets p rest e g = (p ∷ g.0, (rest, first_sound octets p rest e, g.1))
 
 -- what follows the first
 pub behind_first : (octets : List ℕ) (p : Parameter) (rest : List ℕ) (ps : List Parameter) → parameter_at octets ≡ Some (p, rest) → AreParameters octets ps
     → (qs : List Parameter) × (ps ≡ p ∷ qs) × AreParameters rest qs
 behind_first octets p rest [] e a = absurd (omega (arith, ap length a, (first_sound octets p rest e).headed))
 behind_first octets p rest (q ∷ qs) e a =
-    let same = one_first octets q p a.0 rest a.1.0 (first_sound octets p rest e) in
-    (qs, (ap (λ (x : Parameter). x ∷ qs) same.0, subst (λ (r : List ℕ). AreParameters r qs) same.1 a.1.1))
+    let same = one_first octets q p a.0 rest a.1 (first_sound octets p rest e) in
+    (qs, ap (λ (x : Parameter). x ∷ qs) same.0, subst (λ (r : List ℕ). AreParameters r qs) same.1 a.2)
 
 pub good_down : (octets : List ℕ) (p : Parameter) (rest : List ℕ) → parameter_at octets ≡ Some (p, rest) → Good octets → Good rest
-good_down octets p rest e g = let b = behind_first octets p rest g.0 e g.1 in (b.0, b.1.1)
+good_down octets p rest e g = let b = behind_first octets p rest g.0 e g.1 in (b.0, b.2)
 
 -- where there is no first one, there is none
 pub none_first : (octets : List ℕ) (ps : List Parameter) → parameter_at octets ≡ None → AreParameters octets ps → ps ≡ []
 none_first octets [] e a = refl
-none_first octets (p ∷ ps) e a = let there = first_complete octets p a.0 a.1.0 in absurd cc
+none_first octets (p ∷ ps) e a = let there = first_complete octets p a.0 a.1 in absurd cc

@@ -6,9 +6,8 @@ use Rattle.m3ua_frames.specs.Protocol.{Protocol, protocol_octets, protocol_in, p
 abbrev pub IsBytes : List ℕ → Type 0
 IsBytes octets = (i : ℕ) → get_or octets i 0 < 256
 
-four : (a b c d : ℕ) → a < 256 → b < 256 → c < 256 → d < 256 → octets_4 (2 ^ 24 * a + 2 ^ 16 * b + 2 ^ 8 * c + d) ≡ a ∷ b ∷ c ∷ d ∷ []
-four a b c d a_fits b_fits c_fits d_fits =
-    let n : ℕ = 2 ^ 24 * a + 2 ^ 16 * b + 2 ^ 8 * c + d in
+four_by : (n a b c d : ℕ) → a < 256 → b < 256 → c < 256 → d < 256 → n ≡ 2 ^ 24 * a + 2 ^ 16 * b + 2 ^ 8 * c + d → octets_4 n ≡ a ∷ b ∷ c ∷ d ∷ []
+four_by n a b c d a_fits b_fits c_fits d_fits is =
     let e0 : n / 2 ^ 24 ≡ a = omega arith in
     let e1 : n / 2 ^ 16 % 2 ^ 8 ≡ b = omega arith in
     let e2 : n / 2 ^ 8 % 2 ^ 8 ≡ c = omega arith in
@@ -18,46 +17,51 @@ four a b c d a_fits b_fits c_fits d_fits =
     ∙ ap (λ (x : ℕ). a ∷ b ∷ x ∷ n % 2 ^ 8 ∷ []) e2
     ∙ ap (λ (x : ℕ). a ∷ b ∷ c ∷ x ∷ []) e3
 
+four : (a b c d : ℕ) → a < 256 → b < 256 → c < 256 → d < 256 → octets_4 (2 ^ 24 * a + 2 ^ 16 * b + 2 ^ 8 * c + d) ≡ a ∷ b ∷ c ∷ d ∷ []
+four a b c d a_fits b_fits c_fits d_fits = four_by (2 ^ 24 * a + 2 ^ 16 * b + 2 ^ 8 * c + d) a b c d a_fits b_fits c_fits d_fits refl
+
 -- twelve octets or more are protocol data
 pub protocol_again : (octets : List ℕ) → IsBytes octets → 12 ≤ length octets
-    → octets ≡ protocol_octets (record { opc = number_4 octets 0; dpc = number_4 octets 4; si = get_or octets 8 0; ni = get_or octets 9 0; mp = get_or octets 10 0; sls = get_or octets 11 0; data = drop 12 octets })
-protocol_again (a ∷ b ∷ c ∷ d ∷ e ∷ f ∷ g ∷ h ∷ si ∷ ni ∷ mp ∷ sls ∷ data) fits long =
+    → octets ≡ protocol_octets (record { opc = number_4 octets 0; dpc = number_4 octets 4; si = get_or octets 8 0; ni = get_or octets 9 0; mp = get_or octets 10 0; sls = get_or octets 11 0; user_data = drop 12 octets })
+protocol_again (a ∷ b ∷ c ∷ d ∷ e ∷ f ∷ g ∷ h ∷ si ∷ ni ∷ mp ∷ sls ∷ user) fits long =
     let opc = four a b c d (fits 0) (fits 1) (fits 2) (fits 3) in
     let dpc = four e f g h (fits 4) (fits 5) (fits 6) (fits 7) in
-    sym (ap (λ (x : List ℕ). x ++ octets_4 (2 ^ 24 * e + 2 ^ 16 * f + 2 ^ 8 * g + h) ++ si ∷ ni ∷ mp ∷ sls ∷ data) opc
-    ∙ ap (λ (x : List ℕ). (a ∷ b ∷ c ∷ d ∷ []) ++ x ++ si ∷ ni ∷ mp ∷ sls ∷ data) dpc)
+    sym (ap (λ (x : List ℕ). x ++ octets_4 (2 ^ 24 * e + 2 ^ 16 * f + 2 ^ 8 * g + h) ++ si ∷ ni ∷ mp ∷ sls ∷ user) opc
+    ∙ ap (λ (x : List ℕ). (a ∷ b ∷ c ∷ d ∷ []) ++ x ++ si ∷ ni ∷ mp ∷ sls ∷ user) dpc)
 protocol_again _ fits long = absurd (omega arith)
 
 -- ---- labels
 
+-- the label and the service information octet of what can be carried
 abbrev pub label_number : Protocol → ℕ
 label_number p = p.dpc + p.opc * 2 ^ 14 + p.sls * 2 ^ 28
+
+abbrev pub service : Protocol → ℕ
+service p = p.si + p.mp * 2 ^ 4 + p.ni * 2 ^ 6
 
 pub label_small : (p : Protocol) → IsCarried p → label_number p < 2 ^ 32
 label_small p h = omega (arith, h.opc, h.dpc, h.sls)
 
-label_again : (n : ℕ) → n < 2 ^ 32 → label (n % 2 ^ 8) (n / 2 ^ 8 % 2 ^ 8) (n / 2 ^ 16 % 2 ^ 8) (n / 2 ^ 24) ≡ n
-label_again n small = omega arith
-
-pub carried_again : (p : Protocol) → IsCarried p
-    → protocol_in (p.si + p.mp * 16 + p.ni * 64) (label_number p % 2 ^ 8 ∷ label_number p / 2 ^ 8 % 2 ^ 8 ∷ label_number p / 2 ^ 16 % 2 ^ 8 ∷ label_number p / 2 ^ 24 ∷ p.data) ≡ Some p
-carried_again p h =
-    let n : ℕ = label_number p in
-    let sio : ℕ = p.si + p.mp * 16 + p.ni * 64 in
-    let same : label (n % 2 ^ 8) (n / 2 ^ 8 % 2 ^ 8) (n / 2 ^ 16 % 2 ^ 8) (n / 2 ^ 24) ≡ n = label_again n (label_small p h) in
+carried_by : (p : Protocol) (n sio : ℕ) → IsCarried p → n ≡ label_number p → sio ≡ service p → protocol_by sio n p.user_data ≡ p
+carried_by p n sio h at_n at_sio =
     let opc : n / 2 ^ 14 % 2 ^ 14 ≡ p.opc = omega (arith, h.opc, h.dpc, h.sls) in
     let dpc : n % 2 ^ 14 ≡ p.dpc = omega (arith, h.opc, h.dpc, h.sls) in
     let sls : n / 2 ^ 28 ≡ p.sls = omega (arith, h.opc, h.dpc, h.sls) in
     let si : sio % 2 ^ 4 ≡ p.si = omega (arith, h.si, h.mp, h.ni) in
     let mp : sio / 2 ^ 4 % 2 ^ 2 ≡ p.mp = omega (arith, h.si, h.mp, h.ni) in
     let ni : sio / 2 ^ 6 ≡ p.ni = omega (arith, h.si, h.mp, h.ni) in
-    ap (λ (x : ℕ). Some (protocol_by sio x p.data)) same
-    ∙ ap (λ (x : ℕ). Some (record { opc = x; dpc = n % 2 ^ 14; si = sio % 2 ^ 4; ni = sio / 2 ^ 6; mp = sio / 2 ^ 4 % 2 ^ 2; sls = n / 2 ^ 28; data = p.data })) opc
-    ∙ ap (λ (x : ℕ). Some (record { opc = p.opc; dpc = x; si = sio % 2 ^ 4; ni = sio / 2 ^ 6; mp = sio / 2 ^ 4 % 2 ^ 2; sls = n / 2 ^ 28; data = p.data })) dpc
-    ∙ ap (λ (x : ℕ). Some (record { opc = p.opc; dpc = p.dpc; si = x; ni = sio / 2 ^ 6; mp = sio / 2 ^ 4 % 2 ^ 2; sls = n / 2 ^ 28; data = p.data })) si
-    ∙ ap (λ (x : ℕ). Some (record { opc = p.opc; dpc = p.dpc; si = p.si; ni = x; mp = sio / 2 ^ 4 % 2 ^ 2; sls = n / 2 ^ 28; data = p.data })) ni
-    ∙ ap (λ (x : ℕ). Some (record { opc = p.opc; dpc = p.dpc; si = p.si; ni = p.ni; mp = x; sls = n / 2 ^ 28; data = p.data })) mp
-    ∙ ap (λ (x : ℕ). Some (record { opc = p.opc; dpc = p.dpc; si = p.si; ni = p.ni; mp = p.mp; sls = x; data = p.data })) sls
+    rw (opc, dpc, si, ni, mp, sls) refl
+
+label_again : (n : ℕ) → label (n % 2 ^ 8) (n / 2 ^ 8 % 2 ^ 8) (n / 2 ^ 16 % 2 ^ 8) (n / 2 ^ 24) ≡ n
+label_again n = omega arith
+
+-- what can be carried is the protocol data of the message with this octet and this label
+pub carried_again : (p : Protocol) (n : ℕ) (user : List ℕ) → IsCarried p → n ≡ label_number p → user ≡ p.user_data
+    → protocol_in (service p) (n % 2 ^ 8 ∷ n / 2 ^ 8 % 2 ^ 8 ∷ n / 2 ^ 16 % 2 ^ 8 ∷ n / 2 ^ 24 ∷ user) ≡ Some p
+carried_again p n user h at_n at_user =
+    ap (λ (xs : List ℕ). Some (protocol_by (service p) (label (n % 2 ^ 8) (n / 2 ^ 8 % 2 ^ 8) (n / 2 ^ 16 % 2 ^ 8) (n / 2 ^ 24)) xs)) at_user
+    ∙ ap (λ (x : ℕ). Some (protocol_by (service p) x p.user_data)) (label_again n)
+    ∙ ap (λ (x : Protocol). Some x) (carried_by p n (service p) h at_n refl)
 
 -- ---- one message
 
@@ -70,7 +74,7 @@ same_fields sio tio n m a b p e f =
     let si : sio % 2 ^ 4 ≡ tio % 2 ^ 4 = ap (λ (x : Protocol). x.si) both in
     let ni : sio / 2 ^ 6 ≡ tio / 2 ^ 6 = ap (λ (x : Protocol). x.ni) both in
     let mp : sio / 2 ^ 4 % 2 ^ 2 ≡ tio / 2 ^ 4 % 2 ^ 2 = ap (λ (x : Protocol). x.mp) both in
-    (omega arith, omega arith, ap (λ (x : Protocol). x.data) both)
+    (omega arith, omega arith, ap (λ (x : Protocol). x.user_data) both)
 
 pub one_carrier : (sio tio : ℕ) (a b : List ℕ) (p : Protocol) → IsBytes a → IsBytes b → protocol_in sio a ≡ Some p → protocol_in tio b ≡ Some p → (sio ≡ tio) × (a ≡ b)
 one_carrier sio tio (a0 ∷ a1 ∷ a2 ∷ a3 ∷ a) (b0 ∷ b1 ∷ b2 ∷ b3 ∷ b) p a_fits b_fits e f =
@@ -81,7 +85,7 @@ one_carrier sio tio (a0 ∷ a1 ∷ a2 ∷ a3 ∷ a) (b0 ∷ b1 ∷ b2 ∷ b3 ∷
     let c1 : a1 ≡ b1 = omega (arith, same.1, a_fits 0, a_fits 1, a_fits 2, a_fits 3, b_fits 0, b_fits 1, b_fits 2, b_fits 3) in
     let c2 : a2 ≡ b2 = omega (arith, same.1, a_fits 0, a_fits 1, a_fits 2, a_fits 3, b_fits 0, b_fits 1, b_fits 2, b_fits 3) in
     let c3 : a3 ≡ b3 = omega (arith, same.1, c0, c1, c2) in
-    let data : a ≡ b = same.2 in
+    let user : a ≡ b = same.2 in
     (same.0, cc)
 one_carrier sio tio [] b p a_fits b_fits e f = absurd cc
 one_carrier sio tio (a0 ∷ []) b p a_fits b_fits e f = absurd cc

@@ -3,8 +3,8 @@ use Rattle.std.proofs.Common.{◌≡◌, ℕ, zero, suc, ◌+◌, ◌-◌, ◌<�
 use Rattle.std.specs.Prelude.{is_some}
 use Rattle.std.specs.List.{concat}
 use Rattle.std.specs.Option.{option_to_list}
-use Rattle.std.proofs.lemmas.Bool.{ltb-false, le-ltb, eqb-true, ltb-true}
-use Rattle.std.proofs.lemmas.List.{take_at, drop_at, take-append-le, drop-append-le, length-append, length-take, length-drop, get_or_append_left, append-nil}
+use Rattle.std.proofs.lemmas.Bool.{ltb-true, ltb-false, lt-ltb, eqb-true, eqb-false, cases_lt}
+use Rattle.std.proofs.lemmas.List.{take_at, drop_at, take_more, length-append, get_or_append_left, append-nil}
 use Rattle.m3ua_frames.specs.Numbers.{number_4}
 use Rattle.m3ua_frames.specs.Stream.{Item, whole, too_long, broken, Stream, IsBeginning, Reading, start, told, judged, begun, read_on, after, item_at, reading_after, items_in, items_of_pieces, IsWithin, IsReading}
 
@@ -44,9 +44,6 @@ Judges xs (Some broken) = (8 ≤ length xs) × (told xs < 8)
 Judges xs (Some (too_long h)) = (8 ≤ length xs) × (4096 < told xs) × (h ≡ xs)
 Judges xs (Some (whole m)) = (8 ≤ length xs) × (8 ≤ told xs) × (told xs ≤ 4096) × (length xs ≡ told xs) × (m ≡ xs)
 
-eqb-false : (a b : ℕ) → eqb a b ≡ false → a ≢ b
-eqb-false a b e same = let t : eqb a a ≡ false = ap (λ (x : ℕ). eqb a x) same ∙ e in grind (arith, Rattle.std.proofs.lemmas.Bool.Decides.nat_tests)
-
 judge_by : (a b c d : Bool) (xs : List ℕ) → a ≡ ltb (length xs) 8 → b ≡ ltb (told xs) 8 → c ≡ ltb 4096 (told xs) → d ≡ eqb (length xs) (told xs)
     → Judges xs (cond a None (cond b (Some broken) (cond c (Some (too_long xs)) (cond d (Some (whole xs)) None))))
 judge_by true b c d xs at_a at_b at_c at_d = inl (ltb-true _ _ (sym at_a))
@@ -71,7 +68,7 @@ told-append xs ys long =
 
 begun_by : (xs : List ℕ) (j : Option Item) → Judges xs j → IsWithin xs → IsBeginning (cond (is_some j) [] xs)
 begun_by xs None (inl short) within = inl short
-begun_by xs None (inr r) within = inr (r.1, r.2, elim (Rattle.std.proofs.lemmas.Bool.cases_lt 8 (length xs)) [
+begun_by xs None (inr r) within = inr (r.1, r.2, elim (cases_lt 8 (length xs)) [
   | inl lt ↦ omega (arith, within lt, r.3)
   | inr le ↦ omega (arith, r.0, r.1, r.3)
 ])
@@ -121,7 +118,7 @@ one_more xs os (Some broken) e h within hyp =
     (omega (arith, length-append xs os, h.0), omega (arith, h.1), ended_nothing xs os 0)
 one_more xs os (Some (too_long m)) e h within hyp =
     let same = told-append xs os h.0 in
-    let eight : length xs ≡ 8 = elim (Rattle.std.proofs.lemmas.Bool.cases_lt 8 (length xs)) [ inl lt ↦ absurd (omega (arith, within lt, h.1)) | inr le ↦ omega (arith, le, h.0) ] in
+    let eight : length xs ≡ 8 = elim (cases_lt 8 (length xs)) [ inl lt ↦ absurd (omega (arith, within lt, h.1)) | inr le ↦ omega (arith, le, h.0) ] in
     let nothing : begun xs ≡ [] = ap (λ (o : Option Item). cond (is_some o) [] xs) e in
     let rest : Stream (drop (told xs - 8) (begun xs ++ os)) (items_in (R xs (told xs - 8)) os) = hyp xs (told xs - 8) within (λ _. nothing) in
     let rest2 : Stream (drop (told xs - 8) os) (items_in (R xs (told xs - 8)) os) = subst (λ (b : List ℕ). Stream (drop (told xs - 8) (b ++ os)) (items_in (R xs (told xs - 8)) os)) nothing rest in
@@ -134,19 +131,40 @@ one_more xs os (Some (whole m)) e h within hyp =
     let counted : length xs ≡ told (xs ++ os) = omega (arith, h.3) in
     (omega (arith, h.1), omega (arith, h.2), omega (arith, length-append xs os), h.4 ∙ sym (take_at xs os (told (xs ++ os)) counted), subst (λ (s : List ℕ). Stream s (items_in (R xs 0) os)) (sym (drop_at xs os (told (xs ++ os)) counted)) rest)
 
-pub reads_on : (os octets : List ℕ) (over : ℕ) → IsWithin octets → (0 < over → begun octets ≡ []) → Stream (drop over (begun octets ++ os)) (items_in (R octets over) os)
+passes : (octets : List ℕ) (over o : ℕ) → (item_at (R octets (suc over)) o ≡ None) × (after (R octets (suc over)) o ≡ R octets over)
 unfolding after item_at
+passes octets over o =
+    let more : ltb 0 (suc over) ≡ true = lt-ltb 0 (suc over) (omega arith) in
+    let less : suc over - 1 ≡ over = omega arith in
+    (rw more refl, rw (more, less) refl)
+
+takes : (octets : List ℕ) (o : ℕ) → (item_at (R octets 0) o ≡ judged (begun octets ++ o ∷ [])) × (after (R octets 0) o ≡ read_on (begun octets ++ o ∷ []) (judged (begun octets ++ o ∷ [])))
+unfolding after item_at
+takes octets o = (refl, refl)
+
+-- an octet's item and what follows it
+items_by : (r q : Reading) (i : Option Item) (o : ℕ) (os : List ℕ) → item_at r o ≡ i → after r o ≡ q → option_to_list i ++ items_in q os ≡ items_in r (o ∷ os)
+items_by r q i o os item state =
+    ap (λ (j : Option Item). option_to_list j ++ items_in q os) (sym item) ∙ ap (λ (s : Reading). option_to_list (item_at r o) ++ items_in s os) (sym state)
+
+pub reads_on : (os octets : List ℕ) (over : ℕ) → IsWithin octets → (0 < over → begun octets ≡ []) → Stream (drop over (begun octets ++ os)) (items_in (R octets over) os)
 reads_on [] octets zero within begins = subst (λ (s : List ℕ). Stream s []) (sym (append-nil (begun octets))) (begun_begins octets within)
 reads_on [] octets (suc over) within begins = subst (λ (s : List ℕ). Stream (drop (suc over) (s ++ [])) []) (sym (begins (omega arith))) (inl (omega arith))
 reads_on (o ∷ os) octets zero within begins =
     let xs : List ℕ = begun octets ++ o ∷ [] in
-    subst (λ (s : List ℕ). Stream s (option_to_list (judged xs) ++ items_in (read_on xs (judged xs)) os)) (append_assoc (begun octets) (o ∷ []) os)
-    (one_more xs os (judged xs) refl (judges xs) (grown octets o within) (λ ys k w b. reads_on os ys k w b))
+    let step = takes octets o in
+    let rest : Stream (xs ++ os) (option_to_list (judged xs) ++ items_in (read_on xs (judged xs)) os) = one_more xs os (judged xs) refl (judges xs) (grown octets o within) (λ ys k w b. reads_on os ys k w b) in
+    let all : option_to_list (judged xs) ++ items_in (read_on xs (judged xs)) os ≡ items_in (R octets 0) (o ∷ os) = items_by (R octets 0) (read_on xs (judged xs)) (judged xs) o os step.0 step.1 in
+    subst (λ (s : List ℕ). Stream s (items_in (R octets 0) (o ∷ os))) (append_assoc (begun octets) (o ∷ []) os)
+    (subst (λ (is : List Item). Stream (xs ++ os) is) all rest)
 reads_on (o ∷ os) octets (suc over) within begins =
     let nothing : begun octets ≡ [] = begins (omega arith) in
+    let step = passes octets over o in
     let rest = reads_on os octets over within (λ _. nothing) in
     let rest2 : Stream (drop over os) (items_in (R octets over) os) = subst (λ (s : List ℕ). Stream (drop over (s ++ os)) (items_in (R octets over) os)) nothing rest in
-    subst (λ (s : List ℕ). Stream (drop (suc over) (s ++ (o ∷ os))) (items_in (R octets over) os)) (sym nothing) rest2
+    let all : items_in (R octets over) os ≡ items_in (R octets (suc over)) (o ∷ os) = items_by (R octets (suc over)) (R octets over) None o os step.0 step.1 in
+    subst (λ (s : List ℕ). Stream (drop (suc over) (s ++ (o ∷ os))) (items_in (R octets (suc over)) (o ∷ os))) (sym nothing)
+    (subst (λ (is : List Item). Stream (drop over os) is) all rest2)
 
 pub stream_read : (s : List ℕ) → Stream s (items_in start s)
 stream_read s = reads_on s [] 0 (λ long. absurd (omega (arith, long))) (λ lt. absurd (omega (arith, lt)))
@@ -169,17 +187,17 @@ any_cut a b same = items_of_all start a ∙ ap (items_in start) same ∙ sym (it
 
 -- ---- steps of the code
 
+reading-append : (r : Reading) (xs ys : List ℕ) → reading_after r (xs ++ ys) ≡ reading_after (reading_after r xs) ys
+reading-append r [] ys = refl
+reading-append r (x ∷ xs) ys = reading-append (after r x) xs ys
+
 pub reading_more : (r : Reading) (xs : List ℕ) (i : ℕ) → i < length xs → reading_after r (take (i + 1) xs) ≡ after (reading_after r (take i xs)) (get_or xs i 0)
-reading_more r [] i lt = absurd (omega arith)
-reading_more r (x ∷ xs) zero lt = refl
-reading_more r (x ∷ xs) (suc i) lt = reading_more (after r x) xs i (omega arith)
+reading_more r xs i lt = ap (reading_after r) (take_more xs i 0 lt) ∙ reading-append r (take i xs) (get_or xs i 0 ∷ [])
 
 pub items_more : (r : Reading) (xs : List ℕ) (i : ℕ) → i < length xs → items_in r (take (i + 1) xs) ≡ items_in r (take i xs) ++ option_to_list (item_at (reading_after r (take i xs)) (get_or xs i 0))
-items_more r [] i lt = absurd (omega arith)
-items_more r (x ∷ xs) zero lt = append-nil (option_to_list (item_at r x))
-items_more r (x ∷ xs) (suc i) lt =
-    ap (λ (s : List Item). option_to_list (item_at r x) ++ s) (items_more (after r x) xs i (omega arith))
-    ∙ sym (append_assoc (option_to_list (item_at r x)) (items_in (after r x) (take i xs)) (option_to_list (item_at (reading_after (after r x) (take i xs)) (get_or xs i 0))))
+items_more r xs i lt =
+    let last : items_in (reading_after r (take i xs)) (get_or xs i 0 ∷ []) ≡ option_to_list (item_at (reading_after r (take i xs)) (get_or xs i 0)) = append-nil _ in
+    ap (items_in r) (take_more xs i 0 lt) ∙ items-append r (take i xs) (get_or xs i 0 ∷ []) ∙ ap (λ (s : List Item). items_in r (take i xs) ++ s) last
 
 pub long_told : (xs h : List ℕ) → judged xs ≡ Some (too_long h) → (8 ≤ length xs) × (4096 < told xs)
 long_told xs h e = let j : Judges xs (Some (too_long h)) = subst (Judges xs) e (judges xs) in (j.0, j.1)

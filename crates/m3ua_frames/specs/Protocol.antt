@@ -14,7 +14,7 @@ pub record Protocol : Type 0 where
   pub ni : ℕ
   pub mp : ℕ
   pub sls : ℕ
-  pub data : List ℕ
+  pub user_data : List ℕ
 
 -- protocol data without where its data lie
 abbrev pub view : ProtocolData → Protocol
@@ -25,13 +25,13 @@ view p = record {
   ni = p.ni;
   mp = p.mp;
   sls = p.sls;
-  data = p.data.now;
+  user_data = p.user_data.now;
 }
 
 -- its octets: two numbers of four octets, four of one, and the data
 abbrev pub protocol_octets : Protocol → List ℕ
 protocol_octets p =
-    octets_4 p.opc ++ octets_4 p.dpc ++ p.si ∷ p.ni ∷ p.mp ∷ p.sls ∷ p.data
+    octets_4 p.opc ++ octets_4 p.dpc ++ p.si ∷ p.ni ∷ p.mp ∷ p.sls ∷ p.user_data
 
 -- the routing label of a message as one number: the first octet is the lowest
 abbrev pub label : ℕ → ℕ → ℕ → ℕ → ℕ
@@ -41,14 +41,14 @@ label a b c d = a + 2 ^ 8 * b + 2 ^ 16 * c + 2 ^ 24 * d
 -- service information octet has the service indicator in its lower half; above it two bits of
 -- priority, and two of the network indicator.
 abbrev pub protocol_by : ℕ → ℕ → List ℕ → Protocol
-protocol_by sio label data = record {
-  opc = label / 2 ^ 14 % 2 ^ 14;
-  dpc = label % 2 ^ 14;
+protocol_by sio n user = record {
+  opc = n / 2 ^ 14 % 2 ^ 14;
+  dpc = n % 2 ^ 14;
   si = sio % 2 ^ 4;
   ni = sio / 2 ^ 6;
   mp = sio / 2 ^ 4 % 2 ^ 2;
-  sls = label / 2 ^ 28;
-  data = data;
+  sls = n / 2 ^ 28;
+  user_data = user;
 }
 
 -- what a message is as protocol data; nothing where its field has no label
@@ -57,7 +57,7 @@ protocol_in sio [] = None
 protocol_in sio (a ∷ []) = None
 protocol_in sio (a ∷ b ∷ []) = None
 protocol_in sio (a ∷ b ∷ c ∷ []) = None
-protocol_in sio (a ∷ b ∷ c ∷ d ∷ data) = Some (protocol_by sio (label a b c d) data)
+protocol_in sio (a ∷ b ∷ c ∷ d ∷ user) = Some (protocol_by sio (label a b c d) user)
 
 abbrev pub protocol_of : Msu → Option Protocol
 protocol_of m = protocol_in m.sio m.sif.items
@@ -70,4 +70,4 @@ pub record IsCarried (p : Protocol) : Type 0 where
   pub ni : p.ni < 2 ^ 2
   pub mp : p.mp < 2 ^ 2
   pub sls : p.sls < 2 ^ 4
-  pub data : length p.data ≤ 268
+  pub user_data : length p.user_data ≤ 268

@@ -28,7 +28,7 @@ pub struct ProtocolData<'a> {
     /// Signalling link selection.
     pub sls: u8,
     /// User protocol data.
-    pub data: &'a [u8],
+    pub user_data: &'a [u8],
 }
 
 /// The protocol data that octets are; none where there are fewer than 12.
@@ -46,7 +46,7 @@ pub fn protocol_data(octets: &[u8]) -> Option<ProtocolData<'_>>
         ni: octets[9],
         mp: octets[10],
         sls: octets[11],
-        data: &octets[12..],
+        user_data: &octets[12..],
     })
 }
 
@@ -55,7 +55,7 @@ pub fn protocol_data_of(msu: &Msu) -> Option<ProtocolData<'_>>
     ensures { option_map view result ≡ protocol_of msu.now }
 {
     match msu.sif.as_slice() {
-        [a, b, c, d, data @ ..] => {
+        [a, b, c, d, user_data @ ..] => {
             let low = *a as u32 + *b as u32 * 0x0100;
             let label = low + *c as u32 * 0x0001_0000 + *d as u32 * 0x0100_0000;
             Some(ProtocolData {
@@ -65,7 +65,7 @@ pub fn protocol_data_of(msu: &Msu) -> Option<ProtocolData<'_>>
                 ni: msu.sio / 64,
                 mp: msu.sio / 16 % 4,
                 sls: (label / 0x1000_0000) as u8,
-                data,
+                user_data,
             })
         }
         _ => None,
@@ -78,7 +78,7 @@ fn is_carried(p: &ProtocolData<'_>) -> bool
 {
     let label = p.opc < 0x4000 && p.dpc < 0x4000 && p.sls < 16;
     let service = p.si < 16 && p.ni < 4 && p.mp < 4;
-    label && service && p.data.len() <= 268
+    label && service && p.user_data.len() <= 268
 }
 
 /// The MTP message that protocol data stands for; none where a point code has more than 14 bits, the service indicator or the selection more than 4,
@@ -96,7 +96,7 @@ pub fn message_of(p: &ProtocolData<'_>) -> Option<Msu>
     sif.push((label / 0x0100 % 0x0100) as u8);
     sif.push((label / 0x0001_0000 % 0x0100) as u8);
     sif.push((label / 0x0100_0000) as u8);
-    sif.try_extend_from_slice(p.data).unwrap();
+    sif.try_extend_from_slice(p.user_data).unwrap();
     Some(Msu {
         sio: p.si + p.mp * 16 + p.ni * 64,
         sif,
@@ -105,18 +105,18 @@ pub fn message_of(p: &ProtocolData<'_>) -> Option<Msu>
 
 /// Puts protocol data as a parameter behind what there is.
 pub fn push_protocol_data<const N: usize>(octets: &mut ArrayVec<u8, N>, p: &ProtocolData<'_>)
-    requires fits { length p.now.data.now + 16 < 2 ^ 16 }
-    requires room { array_vec_len octets.old + length p.now.data.now + 19 ≤ N }
+    requires fits { length p.now.user_data.now + 16 < 2 ^ 16 }
+    requires room { array_vec_len octets.old + length p.now.user_data.now + 19 ≤ N }
     ensures { octets.new.items ≡ octets.old.items ++ padded (record { tag = PROTOCOL_DATA; value = protocol_octets (view p.now) }) }
 {
     push_2(octets, tag::PROTOCOL_DATA);
-    push_2(octets, p.data.len() as u16 + 16);
+    push_2(octets, p.user_data.len() as u16 + 16);
     push_4(octets, p.opc);
     push_4(octets, p.dpc);
     octets.push(p.si);
     octets.push(p.ni);
     octets.push(p.mp);
     octets.push(p.sls);
-    octets.try_extend_from_slice(p.data).unwrap();
-    push_zeros(octets, padding_after(p.data.len()));
+    octets.try_extend_from_slice(p.user_data).unwrap();
+    push_zeros(octets, padding_after(p.user_data.len() + 12));
 }

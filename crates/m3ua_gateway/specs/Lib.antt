@@ -1,0 +1,4 @@
+pub mod Hearing
+pub mod Laws
+pub mod States
+pub mod Table
