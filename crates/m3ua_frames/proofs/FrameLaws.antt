@@ -1,17 +1,18 @@
 -- Octets are those of one message at most, and what is sent is read.
-use Rattle.std.proofs.Common.{◌≡◌, ℕ, ◌+◌, ◌-◌, ◌*◌, ◌/◌, ◌%◌, ◌^◌, ◌<◌, ◌≤◌, Bool, true, false, cond, eqb, ◌⊎◌, List, [], ◌∷◌, ◌++◌, length, take, drop, Result, Ok, Err, inl, inr, refl, sym, ap, subst, ◌∙◌, append_assoc, arith}
-use Rattle.std.specs.Prelude.{replicate, slice_index}
+use Rattle.std.proofs.Common.{◌≡◌, ℕ, ◌+◌, ◌-◌, ◌*◌, ◌/◌, ◌%◌, ◌^◌, ◌<◌, ◌≤◌, Bool, true, false, cond, eqb, ◌⊎◌, List, [], ◌∷◌, ◌++◌, length, take, drop, get_or, Option, Some, None, Result, Ok, Err, inl, inr, refl, sym, ap, subst, ◌∙◌, append_assoc, arith}
+use Rattle.std.specs.Prelude.{replicate, slice_index, is_some, ◌&&◌}
+use Rattle.std.specs.Option.{option_map}
 use Rattle.std.specs.List.{AllByRecursion}
-use Rattle.std.proofs.lemmas.List.{length-append, length-replicate}
+use Rattle.std.proofs.lemmas.List.{at_drop_more, length-replicate}
 use Rattle.m3ua_frames.specs.declared.faults.Fault.{Fault}
 use Rattle.m3ua_frames.specs.declared.faults.Fault.TheVariants as fault
 use Rattle.m3ua_frames.specs.declared.kinds.Kind.{Kind}
 use Rattle.m3ua_frames.specs.declared.kinds.Kind.TheVariants as kind
 use Rattle.m3ua_frames.specs.Kinds.{class_of, type_of, kind_by, management, transfer, network, state, traffic, keys}
 use Rattle.m3ua_frames.specs.Numbers.{number_2, number_4, octets_2, octets_4}
-use Rattle.m3ua_frames.specs.Parameters.{Parameter, IsFirst, IsParameter, AreParameters, padding_after, padded, all_padded}
+use Rattle.m3ua_frames.specs.Parameters.{Parameter, IsFirst, IsParameter, AreParameters, padding_after, padded, all_padded, value_of}
 use Rattle.m3ua_frames.specs.Frame.{Message, IsFrame, Refuses, IsMessage, spelling, header, mandatory, has_all, kind_in, TellsLength, IsVersion1}
-use Rattle.m3ua_frames.proofs.ParameterLaws.{one_list}
+use Rattle.m3ua_frames.proofs.ParameterLaws.{Good, one_list}
 
 same_kind : (r : Result Kind Fault) (a b : Kind) → r ≡ Ok a → r ≡ Ok b → a ≡ b
 same_kind r a b e f = let both = sym e ∙ f in cc
@@ -150,14 +151,14 @@ either : (b : Bool) (x y : Result Kind Fault) (f : Fault) → (x ≡ Err f → I
 either true x y f of_x of_y e = of_x e
 either false x y f of_x of_y e = of_y e
 
-found_not : (k : Kind) (f : Fault) → Ok k ≡ Err f → IsUnknown f
-found_not k f e = absurd cc
+abbrev bad : Fault → Result Kind Fault
+bad f = Err f
 
-type_last : (f : Fault) → Err fault.UnknownType ≡ Err f → IsUnknown f
-type_last f e = no_type (Err fault.UnknownType) f e refl
+type_last : (f : Fault) → bad fault.UnknownType ≡ Err f → IsUnknown f
+type_last f e = no_type (bad fault.UnknownType) f e refl
 
-class_last : (f : Fault) → Err fault.UnknownClass ≡ Err f → IsUnknown f
-class_last f e = no_class (Err fault.UnknownClass) f e refl
+class_last : (f : Fault) → bad fault.UnknownClass ≡ Err f → IsUnknown f
+class_last f e = no_class (bad fault.UnknownClass) f e refl
 
 management_errs : (t : ℕ) (f : Fault) → management t ≡ Err f → IsUnknown f
 management_errs t f e = type_last f (skip (eqb t 1) _ _ f (skip (eqb t 0) _ _ f e))
@@ -192,3 +193,25 @@ refused_kind octets f counted version e =
       | inl class ↦ subst (Refuses octets) (sym class) (counted, version, e ∙ ap (λ (x : Fault). Err x) class)
       | inr type ↦ subst (Refuses octets) (sym type) (counted, version, e ∙ ap (λ (x : Fault). Err x) type)
     ]
+
+-- ---- steps of the code
+
+pub seen : {A B : Type 0} (f : A → B) (o : Option A) (v : Option B) → option_map f o ≡ v → is_some v ≡ is_some o
+seen f None v e = ap is_some (sym e)
+seen f (Some x) v e = ap is_some (sym e)
+
+-- the tags from a place on
+pub all_from : (tags : List ℕ) (i t : ℕ) (ps : List Parameter) → i < length tags → t ≡ get_or tags i 0 → has_all (drop i tags) ps ≡ (is_some (value_of t ps) && has_all (drop (i + 1) tags) ps)
+all_from tags i t ps lt at =
+    at_drop_more (λ (ts : List ℕ). has_all ts ps) tags i 0 lt ∙ ap (λ (x : ℕ). is_some (value_of x ps) && has_all (drop (i + 1) tags) ps) (sym at)
+
+pub all_there : (octets : List ℕ) (kind : Kind) → TellsLength octets → IsVersion1 octets → kind_in octets ≡ Ok kind → Good (drop 8 octets)
+    → ((ps : List Parameter) → AreParameters (drop 8 octets) ps → true ≡ has_all (mandatory kind) ps)
+    → (ps : List Parameter) × AreParameters (drop 8 octets) ps × IsFrame octets (record { kind = kind; parameters = ps })
+all_there octets kind counted version is g all =
+    (g.0, g.1, record { counted = counted; version = version; kind = is; parameters = g.1; complete = sym (all g.0 g.1) })
+
+pub not_all_there : (octets : List ℕ) (kind : Kind) → TellsLength octets → IsVersion1 octets → kind_in octets ≡ Ok kind → Good (drop 8 octets)
+    → ((ps : List Parameter) → AreParameters (drop 8 octets) ps → false ≡ has_all (mandatory kind) ps) → Refuses octets fault.Missing
+not_all_there octets kind counted version is g all =
+    (counted, version, (record { kind = kind; parameters = g.0 }, is, g.1, sym (all g.0 g.1)))

@@ -136,3 +136,38 @@ good_down octets p rest e g = let b = behind_first octets p rest g.0 e g.1 in (b
 pub none_first : (octets : List ℕ) (ps : List Parameter) → parameter_at octets ≡ None → AreParameters octets ps → ps ≡ []
 none_first octets [] e a = refl
 none_first octets (p ∷ ps) e a = let there = first_complete octets p a.0 a.1 in absurd cc
+
+-- ---- steps of the code
+
+pub none_good : (rest octets : List ℕ) → 0 < length rest → parameter_at rest ≡ None → (Good octets → Good rest) → Good octets → ⊥
+none_good rest octets long e down g =
+    let there : Good rest = down g in
+    let none : there.0 ≡ [] = none_first rest there.0 e there.1 in
+    let empty : rest ≡ [] = subst (AreParameters rest) none there.1 in
+    omega (arith, ap length empty)
+
+-- the parameter that is found is the first one with its tag, or stands before it
+pub value_behind : (tag : ℕ) (octets rest after : List ℕ) (p : Parameter) → parameter_at rest ≡ Some (p, after) → eqb p.tag tag ≡ false
+    → ((ps : List Parameter) → AreParameters octets ps → (qs : List Parameter) × AreParameters rest qs × (value_of tag ps ≡ value_of tag qs))
+    → (ps : List Parameter) → AreParameters octets ps → (qs : List Parameter) × AreParameters after qs × (value_of tag ps ≡ value_of tag qs)
+value_behind tag octets rest after p e other so_far ps a =
+    let here = so_far ps a in
+    let b = behind_first rest p after here.0 e here.1 in
+    let skips : value_of tag (p ∷ b.0) ≡ value_of tag b.0 = ap (λ (t : Bool). cond t (Some p.value) (value_of tag b.0)) other in
+    (b.0, b.2, here.2 ∙ ap (value_of tag) b.1 ∙ skips)
+
+pub value_there : (tag : ℕ) (octets rest after : List ℕ) (p : Parameter) → parameter_at rest ≡ Some (p, after) → eqb p.tag tag ≡ true
+    → ((ps : List Parameter) → AreParameters octets ps → (qs : List Parameter) × AreParameters rest qs × (value_of tag ps ≡ value_of tag qs))
+    → (ps : List Parameter) → AreParameters octets ps → Some p.value ≡ value_of tag ps
+value_there tag octets rest after p e same so_far ps a =
+    let here = so_far ps a in
+    let b = behind_first rest p after here.0 e here.1 in
+    let takes : value_of tag (p ∷ b.0) ≡ Some p.value = ap (λ (t : Bool). cond t (Some p.value) (value_of tag b.0)) same in
+    sym (here.2 ∙ ap (value_of tag) b.1 ∙ takes)
+
+pub value_nowhere : (tag : ℕ) (octets rest : List ℕ) → parameter_at rest ≡ None
+    → ((ps : List Parameter) → AreParameters octets ps → (qs : List Parameter) × AreParameters rest qs × (value_of tag ps ≡ value_of tag qs))
+    → (ps : List Parameter) → AreParameters octets ps → None ≡ value_of tag ps
+value_nowhere tag octets rest e so_far ps a =
+    let here = so_far ps a in
+    sym (here.2 ∙ ap (value_of tag) (none_first rest here.0 e here.1))

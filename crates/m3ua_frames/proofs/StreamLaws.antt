@@ -6,7 +6,9 @@ use Rattle.std.specs.Option.{option_to_list}
 use Rattle.std.proofs.lemmas.Bool.{ltb-true, ltb-false, lt-ltb, eqb-true, eqb-false, cases_lt}
 use Rattle.std.proofs.lemmas.List.{take_at, drop_at, take_more, length-append, get_or_append_left, append-nil}
 use Rattle.m3ua_frames.specs.Numbers.{number_4}
-use Rattle.m3ua_frames.specs.Stream.{Item, whole, too_long, broken, Stream, IsBeginning, Reading, start, told, judged, begun, read_on, after, item_at, reading_after, items_in, items_of_pieces, IsWithin, IsReading}
+use Rattle.m3ua_frames.specs.declared.stream.Heard.{Heard}
+use Rattle.m3ua_frames.specs.declared.stream.Heard.TheVariants as heard
+use Rattle.m3ua_frames.specs.Stream.{item_told, Item, whole, too_long, broken, Stream, IsBeginning, Reading, start, told, judged, begun, read_on, after, item_at, reading_after, items_in, items_of_pieces, IsWithin, IsReading}
 
 -- ---- one list of items
 
@@ -201,3 +203,46 @@ items_more r xs i lt =
 
 pub long_told : (xs h : List ℕ) → judged xs ≡ Some (too_long h) → (8 ≤ length xs) × (4096 < told xs)
 long_told xs h e = let j : Judges xs (Some (too_long h)) = subst (Judges xs) e (judges xs) in (j.0, j.1)
+
+pub step_ended : (r : Reading) (o : ℕ) → r.ended ≡ true → (after r o ≡ r) × (item_at r o ≡ None)
+unfolding after item_at
+step_ended r o ended = (rw ended refl, rw ended refl)
+
+pub step_over : (octets : List ℕ) (over o : ℕ) (ended : Bool) → ended ≡ false → 0 < over
+    → (after (record { octets = octets; over = over; ended = ended }) o ≡ record { octets = octets; over = over - 1; ended = ended }) × (item_at (record { octets = octets; over = over; ended = ended }) o ≡ None)
+unfolding after item_at
+step_over octets over o ended goes_on more =
+    let passes_on : ltb 0 over ≡ true = lt-ltb 0 over more in
+    (rw (goes_on, passes_on) refl, rw (goes_on, passes_on) refl)
+
+pub step_taken : (octets xs : List ℕ) (over o : ℕ) (ended : Bool) (j : Option Item) → ended ≡ false → over ≡ 0 → xs ≡ begun octets ++ o ∷ [] → judged xs ≡ j
+    → (after (record { octets = octets; over = over; ended = ended }) o ≡ read_on xs j) × (item_at (record { octets = octets; over = over; ended = ended }) o ≡ j)
+step_taken octets xs over o ended j goes_on none is e =
+    let same : record { octets = octets; over = over; ended = ended } ≡ R octets 0 = ap (λ (k : ℕ). record { octets = octets; over = k; ended = ended }) none ∙ ap (λ (b : Bool). record { octets = octets; over = 0; ended = b }) goes_on in
+    let step = takes octets o in
+    (ap (λ (r : Reading). after r o) same ∙ step.1 ∙ ap (λ (ys : List ℕ). read_on ys (judged ys)) (sym is) ∙ ap (read_on xs) e,
+    ap (λ (r : Reading). item_at r o) same ∙ step.0 ∙ ap judged (sym is) ∙ e)
+
+pub is_plain : (xs : List ℕ) (over k : ℕ) (ended b : Bool) → over ≡ k → ended ≡ b → record { octets = xs; over = over; ended = ended } ≡ record { octets = xs; over = k; ended = b }
+is_plain xs over k ended b e f = ap (λ (n : ℕ). record { octets = xs; over = n; ended = ended }) e ∙ ap (λ (c : Bool). record { octets = xs; over = k; ended = c }) f
+
+pub grown_to : (octets xs : List ℕ) (o : ℕ) → IsWithin octets → xs ≡ begun octets ++ o ∷ [] → IsWithin xs
+grown_to octets xs o within is = subst IsWithin (sym is) (grown octets o within)
+
+-- ---- steps of a piece
+
+pub piece_state : (r s : Reading) (xs : List ℕ) (i o : ℕ) → i < length xs → o ≡ get_or xs i 0 → s ≡ reading_after r (take i xs) → after s o ≡ reading_after r (take (i + 1) xs)
+piece_state r s xs i o lt at state =
+    ap (after s) at ∙ ap (λ (q : Reading). after q (get_or xs i 0)) state ∙ sym (reading_more r xs i lt)
+
+pub piece_items : (r s : Reading) (xs : List ℕ) (i o : ℕ) (t : Option Item) → i < length xs → o ≡ get_or xs i 0 → s ≡ reading_after r (take i xs) → items_in r (take i xs) ≡ [] → item_at s o ≡ t
+    → items_in r (take (i + 1) xs) ≡ option_to_list t
+piece_items r s xs i o t lt at state nothing e =
+    items_more r xs i lt ∙ ap (λ (is : List Item). is ++ option_to_list (item_at (reading_after r (take i xs)) (get_or xs i 0))) nothing
+    ∙ ap option_to_list (sym (ap (item_at s) at ∙ ap (λ (q : Reading). item_at q (get_or xs i 0)) state) ∙ e)
+
+pub some_item : (h : Heard) → (h ≡ heard.Nothing → ⊥) → item_told h [] ≡ None → ⊥
+some_item heard.Nothing not_nothing e = not_nothing refl
+some_item heard.Message not_nothing e = cc
+some_item heard.TooLong not_nothing e = cc
+some_item heard.Broken not_nothing e = cc

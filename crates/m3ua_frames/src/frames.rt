@@ -79,7 +79,10 @@ pub fn decode(octets: &[u8]) -> Result<Frame<'_>, Fault>
     if octets[0] != 1 {
         return Err(Fault::Version);
     }
-    let kind = kind_of(octets[2], octets[3])?;
+    let kind = match kind_of(octets[2], octets[3]) {
+        Ok(kind) => kind,
+        Err(fault) => return Err(fault),
+    };
     let parameters = &octets[8..];
     if !are_parameters(parameters) {
         return Err(Fault::Field);
