@@ -139,6 +139,10 @@ none_first octets (p ∷ ps) e a = let there = first_complete octets p a.0 a.1 i
 
 -- ---- steps of the code
 
+none_left : (rest : List ℕ) (qs : List Parameter) → length rest ≡ 0 → AreParameters rest qs → qs ≡ []
+none_left rest [] empty a = refl
+none_left rest (q ∷ qs) empty a = absurd (omega (arith, empty, a.1.headed))
+
 pub none_good : (rest octets : List ℕ) → 0 < length rest → parameter_at rest ≡ None → (Good octets → Good rest) → Good octets → ⊥
 none_good rest octets long e down g =
     let there : Good rest = down g in
@@ -171,3 +175,10 @@ pub value_nowhere : (tag : ℕ) (octets rest : List ℕ) → parameter_at rest �
 value_nowhere tag octets rest e so_far ps a =
     let here = so_far ps a in
     sym (here.2 ∙ ap (value_of tag) (none_first rest here.0 e here.1))
+
+pub value_at_end : (tag : ℕ) (octets rest : List ℕ) → length rest ≡ 0
+    → ((ps : List Parameter) → AreParameters octets ps → (qs : List Parameter) × AreParameters rest qs × (value_of tag ps ≡ value_of tag qs))
+    → (ps : List Parameter) → AreParameters octets ps → None ≡ value_of tag ps
+value_at_end tag octets rest empty so_far ps a =
+    let here = so_far ps a in
+    sym (here.2 ∙ ap (value_of tag) (none_left rest here.0 empty here.1))

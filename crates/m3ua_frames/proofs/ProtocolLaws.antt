@@ -2,7 +2,6 @@
 use Rattle.std.proofs.Common.{◌≡◌, ℕ, ◌+◌, ◌*◌, ◌/◌, ◌%◌, ◌^◌, ◌<◌, ◌≤◌, List, [], ◌∷◌, ◌++◌, length, get_or, drop, Option, Some, None, refl, sym, ap, ◌∙◌, append_assoc, replicate, arith}
 use Rattle.m3ua_frames.specs.Numbers.{number_4, octets_2, octets_4}
 use Rattle.m3ua_frames.specs.Parameters.{padding_after, padded}
-use Rattle.m3ua_frames.specs.Tags.{PROTOCOL_DATA}
 use Rattle.m3ua_frames.specs.Protocol.{Protocol, protocol_octets, protocol_in, protocol_by, label, IsCarried}
 
 abbrev pub IsBytes : List ℕ → Type 0
@@ -100,12 +99,12 @@ one_carrier sio tio (a0 ∷ a1 ∷ a2 ∷ a3 ∷ a) (b0 ∷ b1 ∷ b2 ∷ []) p 
 
 -- ---- as it is put
 
-pub put_is_padded : (items : List ℕ) (p : Protocol) (n : ℕ) → n ≡ length p.user_data
-    → ((((((((items ++ octets_2 PROTOCOL_DATA) ++ octets_2 (n + 16)) ++ octets_4 p.opc) ++ octets_4 p.dpc) ++ p.si ∷ []) ++ p.ni ∷ []) ++ p.mp ∷ []) ++ p.sls ∷ []) ++ p.user_data ++ replicate (padding_after (n + 12)) 0
-    ≡ items ++ padded (record { tag = PROTOCOL_DATA; value = protocol_octets p })
-put_is_padded items p n at_n =
-    let all : n + 12 ≡ length (protocol_octets p) = omega arith in
-    let counted : n + 16 ≡ length (protocol_octets p) + 4 = omega arith in
-    ap (λ (x : ℕ). ((((((((items ++ octets_2 PROTOCOL_DATA) ++ octets_2 x) ++ octets_4 p.opc) ++ octets_4 p.dpc) ++ p.si ∷ []) ++ p.ni ∷ []) ++ p.mp ∷ []) ++ p.sls ∷ []) ++ p.user_data ++ replicate (padding_after (n + 12)) 0) counted
-    ∙ ap (λ (x : ℕ). ((((((((items ++ octets_2 PROTOCOL_DATA) ++ octets_2 (length (protocol_octets p) + 4)) ++ octets_4 p.opc) ++ octets_4 p.dpc) ++ p.si ∷ []) ++ p.ni ∷ []) ++ p.mp ∷ []) ++ p.sls ∷ []) ++ p.user_data ++ replicate (padding_after x) 0) all
+pub put_is_padded : (items value : List ℕ) (tag n k padding : ℕ) → n ≡ length value + 4 → k ≡ length value → padding ≡ padding_after k
+    → ((items ++ octets_2 tag) ++ octets_2 n) ++ value ++ replicate padding 0 ≡ items ++ padded (record { tag = tag; value = value })
+put_is_padded items value tag n k padding at_n at_k at_padding =
+    ap (λ (x : ℕ). ((items ++ octets_2 tag) ++ octets_2 x) ++ value ++ replicate padding 0) at_n
+    ∙ ap (λ (x : ℕ). ((items ++ octets_2 tag) ++ octets_2 (length value + 4)) ++ value ++ replicate x 0) (at_padding ∙ ap padding_after at_k)
     ∙ simp append_assoc
+
+pub put_fields : (items : List ℕ) (p : Protocol) → ((((((items ++ octets_4 p.opc) ++ octets_4 p.dpc) ++ p.si ∷ []) ++ p.ni ∷ []) ++ p.mp ∷ []) ++ p.sls ∷ []) ++ p.user_data ≡ items ++ protocol_octets p
+put_fields items p = simp append_assoc

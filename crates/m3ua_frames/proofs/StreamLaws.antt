@@ -223,7 +223,8 @@ step_taken octets xs over o ended j goes_on none is e =
     (ap (λ (r : Reading). after r o) same ∙ step.1 ∙ ap (λ (ys : List ℕ). read_on ys (judged ys)) (sym is) ∙ ap (read_on xs) e,
     ap (λ (r : Reading). item_at r o) same ∙ step.0 ∙ ap judged (sym is) ∙ e)
 
-pub is_plain : (xs : List ℕ) (over k : ℕ) (ended b : Bool) → over ≡ k → ended ≡ b → record { octets = xs; over = over; ended = ended } ≡ record { octets = xs; over = k; ended = b }
+pub is_plain : (xs : List ℕ) (over k : ℕ) (ended b : Bool) → over ≡ k → ended ≡ b
+    → ◌≡◌ {A = Reading} (record { octets = xs; over = over; ended = ended }) (record { octets = xs; over = k; ended = b })
 is_plain xs over k ended b e f = ap (λ (n : ℕ). record { octets = xs; over = n; ended = ended }) e ∙ ap (λ (c : Bool). record { octets = xs; over = k; ended = c }) f
 
 pub grown_to : (octets xs : List ℕ) (o : ℕ) → IsWithin octets → xs ≡ begun octets ++ o ∷ [] → IsWithin xs

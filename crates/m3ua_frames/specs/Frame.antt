@@ -1,5 +1,5 @@
 -- A message as octets: the common header and the parameters (RFC 4666, 3.1).
-use Rattle.std.specs.Prelude.{◌≡◌, ◌≢◌, ℕ, ◌+◌, ◌^◌, ◌<◌, ◌≤◌, Bool, true, false, ◌&&◌, is_some}
+use Rattle.std.specs.Prelude.{◌≡◌, ℕ, ◌+◌, ◌^◌, ◌<◌, ◌≤◌, Bool, true, false, is_some}
 use Rattle.std.specs.Prelude.{List, [], ◌∷◌, ◌++◌, length, drop, slice_index, Result, Ok, Err}
 use Rattle.std.specs.List.{list_all, AllByRecursion}
 use Rattle.m3ua_frames.specs.declared.faults.Fault.{Fault}
@@ -10,7 +10,8 @@ use Rattle.m3ua_frames.specs.Kinds.{class_of, type_of, kind_by}
 use Rattle.m3ua_frames.specs.Numbers.{number_4, octets_4}
 use Rattle.m3ua_frames.specs.Tags.{AFFECTED, USER_CAUSE, PROTOCOL_DATA, ERROR_CODE, STATUS}
 use Rattle.m3ua_frames.specs.Tags.{ROUTING_KEY, REGISTRATION, ROUTING_CONTEXT, DEREGISTRATION}
-use Rattle.m3ua_frames.specs.Parameters.{Parameter, AreParameters, IsParameter, all_padded, value_of}
+use Rattle.m3ua_frames.specs.Parameters.{Parameter, AreParameters, IsParameter, all_padded}
+use Rattle.m3ua_frames.specs.Parameters.{value_of}
 
 -- the tags of the parameters that a message has to have (3.3 to 3.8)
 abbrev pub mandatory : Kind → List ℕ
@@ -46,8 +47,8 @@ pub record Message : Type 0 where
 abbrev pub has_all : List ℕ → List Parameter → Bool
 has_all tags ps = list_all (λ tag. is_some (value_of tag ps)) tags
 
--- The header has eight octets: the version, a reserved one that may be any, the class, the type, and
--- the length of the message with its header.
+-- The header has eight octets: the version, a reserved one that may be any, the class, the type,
+-- and the length of the message with its header.
 abbrev pub TellsLength : List ℕ → Type 0
 TellsLength octets = (8 ≤ length octets) × (number_4 octets 4 ≡ length octets)
 

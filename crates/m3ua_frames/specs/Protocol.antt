@@ -1,5 +1,6 @@
--- Protocol data of DATA (RFC 4666, 3.3.1), and the MTP messages that it stands for (Q.704, 2.2, 14.2).
-use Rattle.std.specs.Prelude.{◌≡◌, ℕ, ◌+◌, ◌*◌, ◌/◌, ◌%◌, ◌^◌, ◌<◌, ◌≤◌, Option, Some, None}
+-- Protocol data of DATA (RFC 4666, 3.3.1), and the MTP messages that it stands for (Q.704, 2.2 and
+-- 14.2).
+use Rattle.std.specs.Prelude.{ℕ, ◌+◌, ◌*◌, ◌/◌, ◌%◌, ◌^◌, ◌<◌, ◌≤◌, Option, Some, None}
 use Rattle.std.specs.Prelude.{List, [], ◌∷◌, ◌++◌, length}
 use Rattle.resend_store.specs.declared.messages.Msu.{Msu}
 use Rattle.m3ua_frames.specs.declared.protocol.ProtocolData.{ProtocolData}

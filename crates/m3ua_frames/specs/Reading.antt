@@ -1,5 +1,6 @@
 -- How the code reads parameters: what octets begin with, if that is a parameter.
-use Rattle.std.specs.Prelude.{ℕ, ◌-◌, ◌==◌, nat_lt, if◌then◌else◌, List, length, take, drop, Option, Some, None}
+use Rattle.std.specs.Prelude.{ℕ, ◌-◌, ◌==◌, nat_lt, if◌then◌else◌, List, length, take, drop}
+use Rattle.std.specs.Prelude.{Option, Some, None}
 use Rattle.std.specs.Option.{option_map}
 use Rattle.m3ua_frames.specs.Numbers.{number_2}
 use Rattle.m3ua_frames.specs.Tags.{is_sized}

@@ -100,11 +100,16 @@ pub fn find(octets: &[u8], tag: u16) -> Option<&[u8]>
     ensures { (ps : List Parameter) → AreParameters octets.now ps → option_map (λ x. x.now) result ≡ value_of tag ps }
 {
     let mut rest = octets;
-    while let Some((found, value, after)) = first_parameter(rest) {
-        if found == tag {
-            return Some(value);
+    while !rest.is_empty() {
+        match first_parameter(rest) {
+            None => return None,
+            Some((found, value, after)) => {
+                if found == tag {
+                    return Some(value);
+                }
+                rest = after;
+            }
         }
-        rest = after;
     }
     None
 }

@@ -103,6 +103,21 @@ pub fn message_of(p: &ProtocolData<'_>) -> Option<Msu>
     })
 }
 
+/// Puts the octets of protocol data.
+fn push_fields<const N: usize>(octets: &mut ArrayVec<u8, N>, p: &ProtocolData<'_>)
+    requires { array_vec_len octets.old + length p.now.user_data.now + 12 ≤ N }
+    ensures items { octets.new.items ≡ octets.old.items ++ protocol_octets (view p.now) }
+    ensures len { array_vec_len octets.new ≡ array_vec_len octets.old + (length p.now.user_data.now + 12) }
+{
+    push_4(octets, p.opc);
+    push_4(octets, p.dpc);
+    octets.push(p.si);
+    octets.push(p.ni);
+    octets.push(p.mp);
+    octets.push(p.sls);
+    octets.try_extend_from_slice(p.user_data).unwrap();
+}
+
 /// Puts protocol data as a parameter behind what there is.
 pub fn push_protocol_data<const N: usize>(octets: &mut ArrayVec<u8, N>, p: &ProtocolData<'_>)
     requires fits { length p.now.user_data.now + 16 < 2 ^ 16 }
@@ -111,12 +126,6 @@ pub fn push_protocol_data<const N: usize>(octets: &mut ArrayVec<u8, N>, p: &Prot
 {
     push_2(octets, tag::PROTOCOL_DATA);
     push_2(octets, p.user_data.len() as u16 + 16);
-    push_4(octets, p.opc);
-    push_4(octets, p.dpc);
-    octets.push(p.si);
-    octets.push(p.ni);
-    octets.push(p.mp);
-    octets.push(p.sls);
-    octets.try_extend_from_slice(p.user_data).unwrap();
+    push_fields(octets, p);
     push_zeros(octets, padding_after(p.user_data.len() + 12));
 }

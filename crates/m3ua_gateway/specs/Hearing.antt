@@ -1,5 +1,6 @@
 -- What a message of the ASP is to a gateway.
-use Rattle.std.specs.Prelude.{◌≡◌, ℕ, ◌<◌, ◌≤◌, ◌==◌, ◌&&◌, nat_le, Bool, true, false, if◌then◌else◌}
+use Rattle.std.specs.Prelude.{◌≡◌, ℕ, ◌<◌, ◌≤◌, ◌==◌, ◌&&◌, nat_le, Bool, true}
+use Rattle.std.specs.Prelude.{if◌then◌else◌}
 use Rattle.std.specs.Prelude.{Option, Some, None, List, length}
 use Rattle.resend_store.specs.declared.messages.Msu.{Msu}
 use Rattle.m3ua_frames.specs.declared.kinds.Kind.{Kind}
@@ -22,8 +23,8 @@ is_mode None = true
 is_mode (Some value) =
     nat_le 4 (length value) && (nat_le 1 (number_4 value 0) && nat_le (number_4 value 0) 3)
 
--- The message that protocol data stands for, where its service indicator is 3 or more; None where it
--- stands for none.
+-- The message that protocol data stands for, where its service indicator is 3 or more; None where
+-- it stands for none.
 abbrev pub IsCarriedBy : Option (List ℕ) → Option Msu → Type 0
 IsCarriedBy None m = m ≡ None
 IsCarriedBy (Some value) (Some m) =

@@ -1,5 +1,7 @@
--- A life of a gateway: what happens to it, one after another, and what becomes of messages both ways.
-use Rattle.std.specs.Prelude.{◌≡◌, ℕ, ◌+◌, ◌<◌, ◌≤◌, ◌==◌, nat_lt, Bool, true, false, if◌then◌else◌, count_by}
+-- A life of a gateway: what happens to it, one after another, and what becomes of messages both
+-- ways.
+use Rattle.std.specs.Prelude.{◌≡◌, ℕ, ◌+◌, ◌/◌, ◌≤◌, ◌==◌, nat_lt, Bool, true, false}
+use Rattle.std.specs.Prelude.{if◌then◌else◌, count_by}
 use Rattle.std.specs.Prelude.{Option, Some, None, List, [], ◌∷◌, ◌++◌, length}
 use Rattle.std.specs.List.{list_any}
 use Rattle.resend_store.specs.declared.messages.Msu.{Msu}
@@ -83,7 +85,8 @@ after_happening l s actions = record l {
         else (if list_any is_loss actions then [] else l.holds.kept)
   };
   sent = l.sent ++ if_some is_release actions l.holds.kept;
-  lost = l.lost ++ (if list_any is_release actions then [] else if_some is_loss actions l.holds.kept)
+  lost = l.lost
+      ++ (if list_any is_release actions then [] else if_some is_loss actions l.holds.kept)
 }
 
 -- DATA is taken where the table takes it; else it is refused, and counted.
@@ -104,8 +107,8 @@ while_pending l m =
     }
     else record l { delivered = l.delivered ++ m ∷ []; lost = l.lost ++ m ∷ [] }
 
--- A message that the set delivers is sent while the AS is active, kept while it is pending and there
--- is room, and else lost.
+-- A message that the set delivers is sent while the AS is active, kept while it is pending and
+-- there is room, and else lost.
 abbrev pub after_delivery : Life → Msu → State → Life
 after_delivery l m state.Active =
     record l { delivered = l.delivered ++ m ∷ []; sent = l.sent ++ m ∷ [] }

@@ -1,4 +1,5 @@
--- The states of an ASP and of its AS (RFC 4666, 4.3.1, 4.3.2), as a gateway with one of each knows them.
+-- The states of an ASP and of its AS (RFC 4666, 4.3.1, 4.3.2), as a gateway with one of each knows
+-- them.
 use Rattle.m3ua_gateway.specs.declared.states.Asp.{Asp}
 use Rattle.m3ua_gateway.specs.declared.states.Asp.TheVariants as asp
 use Rattle.m3ua_gateway.specs.declared.states.Server.{Server}

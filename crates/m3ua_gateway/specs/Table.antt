@@ -1,4 +1,5 @@
--- The table of a gateway (RFC 4666, 4.3): what happens, what is done, and where the ASP and the AS are then.
+-- The table of a gateway (RFC 4666, 4.3): what happens, what is done, and where the ASP and
+-- the AS are then.
 use Rattle.std.specs.Prelude.{List, [], ◌∷◌}
 use Rattle.m3ua_gateway.specs.declared.states.Server.{Server}
 use Rattle.m3ua_gateway.specs.declared.states.Server.TheVariants as server
@@ -23,13 +24,15 @@ on_expired state.Down = (state.Down, [])
 on_expired state.Inactive = (state.Inactive, [])
 on_expired state.Active = (state.Active, [])
 on_expired state.DownPending = (state.Down, action.Lose ∷ [])
-on_expired state.InactivePending = (state.Inactive, action.Lose ∷ action.Notify server.Inactive ∷ [])
+on_expired state.InactivePending =
+    (state.Inactive, action.Lose ∷ action.Notify server.Inactive ∷ [])
 
 -- ASPUP (4.3.4.1)
 abbrev pub on_up : State → State × List Action
 on_up state.Down = (state.Inactive, action.UpAck ∷ action.Notify server.Inactive ∷ [])
 on_up state.Inactive = (state.Inactive, action.UpAck ∷ [])
-on_up state.Active = (state.InactivePending, action.UpAck ∷ action.Error 6 ∷ action.Notify server.Pending ∷ [])
+on_up state.Active =
+    (state.InactivePending, action.UpAck ∷ action.Error 6 ∷ action.Notify server.Pending ∷ [])
 on_up state.DownPending = (state.InactivePending, action.UpAck ∷ action.Notify server.Pending ∷ [])
 on_up state.InactivePending = (state.InactivePending, action.UpAck ∷ [])
 
@@ -44,16 +47,20 @@ on_down state.InactivePending = (state.DownPending, action.DownAck ∷ [])
 -- ASPAC (4.3.4.3)
 abbrev pub on_active : State → State × List Action
 on_active state.Down = (state.Down, action.Error 6 ∷ [])
-on_active state.Inactive = (state.Active, action.ActiveAck ∷ action.Notify server.Active ∷ action.Destinations ∷ [])
+on_active state.Inactive =
+    (state.Active, action.ActiveAck ∷ action.Notify server.Active ∷ action.Destinations ∷ [])
 on_active state.Active = (state.Active, action.ActiveAck ∷ [])
 on_active state.DownPending = (state.DownPending, action.Error 6 ∷ [])
-on_active state.InactivePending = (state.Active, action.ActiveAck ∷ action.Notify server.Active ∷ action.Destinations ∷ action.Release ∷ [])
+on_active state.InactivePending =
+    (state.Active, action.ActiveAck ∷ action.Notify server.Active ∷ action.Destinations
+    ∷ action.Release ∷ [])
 
 -- ASPIA (4.3.4.4)
 abbrev pub on_inactive : State → State × List Action
 on_inactive state.Down = (state.Down, action.Error 6 ∷ [])
 on_inactive state.Inactive = (state.Inactive, action.InactiveAck ∷ [])
-on_inactive state.Active = (state.InactivePending, action.InactiveAck ∷ action.Notify server.Pending ∷ [])
+on_inactive state.Active =
+    (state.InactivePending, action.InactiveAck ∷ action.Notify server.Pending ∷ [])
 on_inactive state.DownPending = (state.DownPending, action.Error 6 ∷ [])
 on_inactive state.InactivePending = (state.InactivePending, action.InactiveAck ∷ [])
 

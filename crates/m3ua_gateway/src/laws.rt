@@ -1,5 +1,5 @@
-//! Laws of the table. Each is the contract of a function that does nothing.
-ghost use Rattle.m3ua_gateway.specs.Laws.{ActiveTogether, NoErrorForAnError, TakenWhileActive, KeptWhilePending, ToldOfChanges};
+//! Laws of the table and of a life. Each is the contract of a function that does nothing.
+ghost use Rattle.m3ua_gateway.specs.Laws.{ActiveTogether, NoErrorForAnError, TakenWhileActive, KeptWhilePending, ToldOfChanges, Accounted};
 
 /// The ASP is active where the AS is.
 pub fn active_together()
@@ -24,4 +24,9 @@ pub fn kept_while_pending()
 /// An ASP that isn't down is told of each change of its AS (RFC 4666, 4.3.4.5).
 pub fn told_of_changes()
     ensures { ToldOfChanges }
+{}
+
+/// Over a life each message that the set delivered was sent, is kept or was lost, and each that came as DATA was taken by the set, waits or was refused.
+pub fn accounted()
+    ensures { Accounted }
 {}
