@@ -1,5 +1,5 @@
 -- Octets are those of one message at most, and what is sent is read.
-use Rattle.std.proofs.Common.{◌≡◌, ℕ, ◌+◌, ◌-◌, ◌*◌, ◌/◌, ◌%◌, ◌^◌, ◌<◌, ◌≤◌, Bool, true, false, cond, eqb, ◌⊎◌, List, [], ◌∷◌, ◌++◌, length, take, drop, get_or, Option, Some, None, Result, Ok, Err, inl, inr, refl, sym, ap, subst, ◌∙◌, append_assoc, arith}
+use Rattle.std.proofs.Common.{◌≡◌, ℕ, ◌+◌, ◌<◌, Bool, true, false, cond, eqb, ◌⊎◌, List, [], ◌∷◌, ◌++◌, length, drop, get_or, Option, Some, None, Result, Ok, Err, inl, inr, refl, sym, ap, subst, ◌∙◌, append_assoc, arith}
 use Rattle.std.specs.Prelude.{replicate, slice_index, is_some, ◌&&◌}
 use Rattle.std.specs.Option.{option_map}
 use Rattle.std.specs.List.{AllByRecursion}
@@ -9,9 +9,8 @@ use Rattle.m3ua_frames.specs.declared.faults.Fault.TheVariants as fault
 use Rattle.m3ua_frames.specs.declared.kinds.Kind.{Kind}
 use Rattle.m3ua_frames.specs.declared.kinds.Kind.TheVariants as kind
 use Rattle.m3ua_frames.specs.Kinds.{class_of, type_of, kind_by, management, transfer, network, state, traffic, keys}
-use Rattle.m3ua_frames.specs.Numbers.{number_2, number_4, octets_2, octets_4}
 use Rattle.m3ua_frames.specs.Parameters.{Parameter, IsFirst, IsParameter, AreParameters, padding_after, padded, all_padded, value_of}
-use Rattle.m3ua_frames.specs.Frame.{Message, IsFrame, Refuses, IsMessage, spelling, header, mandatory, has_all, kind_in, TellsLength, IsVersion1}
+use Rattle.m3ua_frames.specs.Frame.{Message, IsFrame, Refuses, IsMessage, spelling, mandatory, has_all, kind_in, TellsLength, IsVersion1}
 use Rattle.m3ua_frames.proofs.ParameterLaws.{Good, one_list}
 
 same_kind : (r : Result Kind Fault) (a b : Kind) → r ≡ Ok a → r ≡ Ok b → a ≡ b
@@ -110,14 +109,14 @@ first_again : (p : Parameter) (rest : List ℕ) → IsParameter p → IsFirst (p
 first_again p rest h =
     let pad : List ℕ = replicate (padding_after (length p.value)) 0 in
     record {
-  headed = omega arith;
-  tag = omega (arith, h.tag);
-  counted = omega (arith, h.fits);
-  sized = h.sized;
-  padding = pad;
-  padded = inl (length-replicate (padding_after (length p.value)) 0);
-  parts = append_assoc p.value pad rest;
-}
+      headed = omega arith;
+      tag = omega (arith, h.tag);
+      counted = omega (arith, h.fits);
+      sized = h.sized;
+      padding = pad;
+      padded = inl (length-replicate (padding_after (length p.value)) 0);
+      parts = append_assoc p.value pad rest;
+    }
 
 list_again : (ps : List Parameter) → AllByRecursion IsParameter ps → AreParameters (all_padded ps) ps
 list_again [] h = refl

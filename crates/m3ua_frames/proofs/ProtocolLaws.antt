@@ -1,5 +1,5 @@
 -- Protocol data and its octets, and MTP messages and their protocol data.
-use Rattle.std.proofs.Common.{◌≡◌, ℕ, ◌+◌, ◌*◌, ◌/◌, ◌%◌, ◌^◌, ◌<◌, ◌≤◌, List, [], ◌∷◌, ◌++◌, length, get_or, drop, Option, Some, None, refl, sym, ap, ◌∙◌, append_assoc, replicate, arith}
+use Rattle.std.proofs.Common.{◌≡◌, ℕ, ◌+◌, ◌*◌, ◌/◌, ◌%◌, ◌^◌, ◌<◌, ◌≤◌, List, [], ◌∷◌, ◌++◌, length, get_or, drop, Some, refl, sym, ap, ◌∙◌, append_assoc, replicate, arith}
 use Rattle.m3ua_frames.specs.Numbers.{number_4, octets_2, octets_4}
 use Rattle.m3ua_frames.specs.Parameters.{padding_after, padded}
 use Rattle.m3ua_frames.specs.Protocol.{Protocol, protocol_octets, protocol_in, protocol_by, label, IsCarried}

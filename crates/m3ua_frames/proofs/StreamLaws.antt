@@ -5,10 +5,9 @@ use Rattle.std.specs.List.{concat}
 use Rattle.std.specs.Option.{option_to_list}
 use Rattle.std.proofs.lemmas.Bool.{ltb-true, ltb-false, lt-ltb, eqb-true, eqb-false, cases_lt}
 use Rattle.std.proofs.lemmas.List.{take_at, drop_at, take_more, length-append, get_or_append_left, append-nil}
-use Rattle.m3ua_frames.specs.Numbers.{number_4}
 use Rattle.m3ua_frames.specs.declared.stream.Heard.{Heard}
 use Rattle.m3ua_frames.specs.declared.stream.Heard.TheVariants as heard
-use Rattle.m3ua_frames.specs.Stream.{item_told, Item, whole, too_long, broken, Stream, IsBeginning, Reading, start, told, judged, begun, read_on, after, item_at, reading_after, items_in, items_of_pieces, IsWithin, IsReading}
+use Rattle.m3ua_frames.specs.Stream.{item_told, Item, whole, too_long, broken, Stream, IsBeginning, Reading, start, told, judged, begun, read_on, after, item_at, reading_after, items_in, items_of_pieces, IsWithin}
 
 -- ---- one list of items
 
@@ -70,10 +69,14 @@ told-append xs ys long =
 
 begun_by : (xs : List ℕ) (j : Option Item) → Judges xs j → IsWithin xs → IsBeginning (cond (is_some j) [] xs)
 begun_by xs None (inl short) within = inl short
-begun_by xs None (inr r) within = inr (r.1, r.2, elim (cases_lt 8 (length xs)) [
-  | inl lt ↦ omega (arith, within lt, r.3)
-  | inr le ↦ omega (arith, r.0, r.1, r.3)
-])
+begun_by xs None (inr r) within = inr (
+  r.1,
+  r.2,
+  elim (cases_lt 8 (length xs)) [
+    | inl lt ↦ omega (arith, within lt, r.3)
+    | inr le ↦ omega (arith, r.0, r.1, r.3)
+  ],
+)
 begun_by xs (Some i) j within = inl (omega arith)
 
 pub begun_begins : (xs : List ℕ) → IsWithin xs → IsBeginning (begun xs)
@@ -219,9 +222,10 @@ pub step_taken : (octets xs : List ℕ) (over o : ℕ) (ended : Bool) (j : Optio
     → (after (record { octets = octets; over = over; ended = ended }) o ≡ read_on xs j) × (item_at (record { octets = octets; over = over; ended = ended }) o ≡ j)
 step_taken octets xs over o ended j goes_on none is e =
     let same : record { octets = octets; over = over; ended = ended } ≡ R octets 0 = ap (λ (k : ℕ). record { octets = octets; over = k; ended = ended }) none ∙ ap (λ (b : Bool). record { octets = octets; over = 0; ended = b }) goes_on in
-    let step = takes octets o in
-    (ap (λ (r : Reading). after r o) same ∙ step.1 ∙ ap (λ (ys : List ℕ). read_on ys (judged ys)) (sym is) ∙ ap (read_on xs) e,
-    ap (λ (r : Reading). item_at r o) same ∙ step.0 ∙ ap judged (sym is) ∙ e)
+    let step = takes octets o in (
+      ap (λ (r : Reading). after r o) same ∙ step.1 ∙ ap (λ (ys : List ℕ). read_on ys (judged ys)) (sym is) ∙ ap (read_on xs) e,
+      ap (λ (r : Reading). item_at r o) same ∙ step.0 ∙ ap judged (sym is) ∙ e,
+    )
 
 pub is_plain : (xs : List ℕ) (over k : ℕ) (ended b : Bool) → over ≡ k → ended ≡ b
     → ◌≡◌ {A = Reading} (record { octets = xs; over = over; ended = ended }) (record { octets = xs; over = k; ended = b })

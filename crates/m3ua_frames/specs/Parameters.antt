@@ -25,7 +25,7 @@ pub record IsFirst (octets : List ℕ) (p : Parameter) (rest : List ℕ) : Type 
   pub sized : is_sized p.tag (length p.value) ≡ true
   pub padding : List ℕ
   pub padded :
-    (length padding ≡ padding_after (length p.value)) ⊎ ((padding ≡ []) × (rest ≡ []))
+      (length padding ≡ padding_after (length p.value)) ⊎ ((padding ≡ []) × (rest ≡ []))
   pub parts : drop 4 octets ≡ p.value ++ (padding ++ rest)
 
 -- octets are these parameters, in this order

@@ -16,7 +16,7 @@ value_at tag n octets =
     if nat_lt (length octets) n then None
     else (if is_sized tag n
     then option_map (λ rest. (record { tag = tag; value = take n octets }, rest))
-        (past_padding (padding_after n) (drop n octets))
+    (past_padding (padding_after n) (drop n octets))
     else None)
 
 unfoldable pub parameter_at : List ℕ → Option (Parameter × List ℕ)

@@ -17,7 +17,5 @@ pub use frames::{Frame, decode, encode};
 pub use kinds::Kind;
 pub use numbers::number_4;
 pub use parameters::{are_parameters, find, push_number, push_parameter};
-pub use protocol::{
-    ProtocolData, message_of, protocol_data, protocol_data_of, push_protocol_data,
-};
+pub use protocol::{ProtocolData, message_of, protocol_data, protocol_data_of, push_protocol_data};
 pub use stream::{Deframer, Heard};

@@ -17,6 +17,7 @@ loop-rest-smaller c =
 
 pub loop-rest-preserved : goal.loop-rest-preserved
 loop-rest-preserved c =
-    let p : Parameter = record { tag = c.in-Some.field-0-0; value = c.in-Some.field-0-1.now } in
-    (λ g. c.loop-rest.invariant.0 (good_up c.loop-rest.rest.now p c.in-Some.after.now (sym c.in-Some.ensures) g),
-    λ g. good_down c.loop-rest.rest.now p c.in-Some.after.now (sym c.in-Some.ensures) (c.loop-rest.invariant.1 g))
+    let p : Parameter = record { tag = c.in-Some.field-0-0; value = c.in-Some.field-0-1.now } in (
+      λ g. c.loop-rest.invariant.0 (good_up c.loop-rest.rest.now p c.in-Some.after.now (sym c.in-Some.ensures) g),
+      λ g. good_down c.loop-rest.rest.now p c.in-Some.after.now (sym c.in-Some.ensures) (c.loop-rest.invariant.1 g),
+    )

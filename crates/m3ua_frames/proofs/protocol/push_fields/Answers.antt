@@ -1,4 +1,4 @@
-use Rattle.std.proofs.Common.{◌≡◌, ℕ, ◌++◌, List, [], ◌∷◌, refl, ap, ◌∙◌, rules}
+use Rattle.std.proofs.Common.{◌≡◌, ℕ, ◌++◌, List, [], ◌∷◌, ap, ◌∙◌, rules}
 use Rattle.m3ua_frames.specs.Numbers.{octets_4}
 use Rattle.m3ua_frames.specs.Protocol.{view}
 use Rattle.m3ua_frames.proofs.ProtocolLaws.{put_fields}

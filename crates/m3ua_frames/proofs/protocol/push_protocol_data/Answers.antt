@@ -1,4 +1,4 @@
-use Rattle.std.proofs.Common.{◌≡◌, ℕ, ◌+◌, ◌++◌, List, length, replicate, refl, ap, ◌∙◌, arith}
+use Rattle.std.proofs.Common.{ℕ, ◌+◌, ◌++◌, List, length, replicate, ap, ◌∙◌, arith}
 use Rattle.m3ua_frames.specs.Numbers.{octets_2}
 use Rattle.m3ua_frames.specs.Protocol.{view, protocol_octets}
 use Rattle.m3ua_frames.specs.Tags.{PROTOCOL_DATA}

@@ -1,5 +1,5 @@
-use Rattle.std.proofs.Common.{◌≡◌, ℕ, ◌-◌, ◌++◌, List, [], ◌∷◌, Bool, true, false, Option, Some, None, refl, sym, ap, ◌∙◌, arith}
-use Rattle.m3ua_frames.specs.Stream.{Reading, Item, whole, too_long, broken, after, item_at, judged, begun, told}
+use Rattle.std.proofs.Common.{◌≡◌, ℕ, ◌-◌, ◌++◌, List, [], ◌∷◌, true, false, Some, None, refl, sym, ap, ◌∙◌, arith}
+use Rattle.m3ua_frames.specs.Stream.{Reading, whole, too_long, broken, after, item_at, judged, begun, told}
 use Rattle.m3ua_frames.proofs.StreamLaws.{step_ended, step_over, step_taken, is_plain, grown_to}
 use Rattle.m3ua_frames.proofs.stream.Deframer.octet.Goals as goal
 

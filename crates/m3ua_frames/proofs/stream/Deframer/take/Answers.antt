@@ -1,6 +1,6 @@
-use Rattle.std.proofs.Common.{◌≡◌, ℕ, ◌+◌, [], get_or, take, Option, Some, None, refl, sym, ap, ◌∙◌, arith}
+use Rattle.std.proofs.Common.{◌≡◌, ℕ, get_or, None, refl, ap, ◌∙◌, arith}
 use Rattle.std.specs.Option.{option_to_list}
-use Rattle.m3ua_frames.specs.Stream.{Item, after, item_at, item_told, items_in, reading_after}
+use Rattle.m3ua_frames.specs.Stream.{item_told}
 use Rattle.m3ua_frames.specs.declared.stream.Heard.{Heard}
 use Rattle.m3ua_frames.proofs.StreamLaws.{piece_state, piece_items, some_item}
 use Rattle.m3ua_frames.proofs.stream.Deframer.take.Goals as goal
