@@ -80,7 +80,10 @@ fn write_message(text: &mut String, p: &ProtocolData<'_>) -> Result<(), AllocErr
 fn write_protocol(text: &mut String, p: &ProtocolData<'_>) -> Result<(), AllocError> {
     let (opc, dpc, si, ni, mp, sls) = (p.opc, p.dpc, p.si, p.ni, p.mp, p.sls);
     let octets = p.user_data.len();
-    write!(text, "  opc {opc} dpc {dpc} si {si} ni {ni} mp {mp} sls {sls} octets {octets}")?;
+    write!(
+        text,
+        "  opc {opc} dpc {dpc} si {si} ni {ni} mp {mp} sls {sls} octets {octets}"
+    )?;
     write_message(text, p)
 }
 

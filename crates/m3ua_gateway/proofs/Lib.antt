@@ -1,2 +1,0 @@
-pub mod LifeLaws
-pub mod TableLaws
