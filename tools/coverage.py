@@ -1,29 +1,29 @@
-#!/usr/bin/env python3
-"""Adds up what the scripts of the repository take of a set: its transitions, and the answers of its decisions. By the plain players, which were written apart from
-the program; and by the built program's own `play --coverage`, where that is asked for.
+"""Adds up what the scripts of the repository take of a set: its transitions, and the answers of its decisions. By the
+plain players, which were written apart from the program; and by the built program's own `play --coverage`, where that
+is asked for.
 
 usage: tools/coverage [standard|q703] [--lcov FILE] [--played]
 
-Prints `SET: N of M transitions, K of L answers`, and a line for each that no script takes: `PROCESS STATE/INPUT` or `PROCESS line N, answer M`, with what
-examples/untaken.txt says of it. With --lcov FILE it is written there in lcov's format, from which `genhtml --branch-coverage -o FOLDER FILE` makes pages.
-Of `standard` these are the scripts of examples/links, commands.txt and q781, of `q703` those of examples/q781 and examples/links. With --played the program
-(crates/mtp2_play/out/mtp2_play, or which MTP2_PLAY names) plays each of them with `--coverage`; a second line has what its files add up to, and each transition and
-each answer has to be taken as often as by the plain players. Scripts whose journal begins anew within a command, of which the program tells nothing, are left out of
-both, and counted on that line.
+Prints `SET: N of M transitions, K of L answers`, and a line for each that no script takes: `PROCESS STATE/INPUT` or
+`PROCESS line N, answer M`, with what examples/untaken.txt says of it. With --lcov FILE it is written there in lcov's
+format, from which `genhtml --branch-coverage -o FOLDER FILE` makes pages. Of `standard` these are the scripts of
+examples/links, commands.txt and q781, of `q703` those of examples/q781 and examples/links. With --played the program
+(crates/mtp2_play/out/mtp2_play, or which MTP2_PLAY names) plays each of them with `--coverage`; a second line has what
+its files add up to, and each transition and each answer has to be taken as often as by the plain players. Scripts whose
+journal begins anew within a command, of which the program tells nothing, are left out of both, and counted on that
+line.
 
-The last line is `N passed, M failed`: one for each that isn't taken, which passes where untaken.txt says why, and one for each line of untaken.txt, which fails
-where a script takes it. The status is 1 where one failed."""
+The last line is `N passed, M failed`: one for each that isn't taken, which passes where untaken.txt says why, and one
+for each line of untaken.txt, which fails where a script takes it. The status is 1 where one failed."""
 import collections
 import pathlib
 import sys
 import tempfile
 
-sys.path += map(str, pathlib.Path(__file__).resolve().parent.glob("*"))
-
-import plain_group
-import plain_term
-import plain_trace
-from built import PLAY, ROOT, Count, Run, missing, side_by_side, tool
+from tools.oracles import plain_group, plain_term, plain_trace
+from tools.oracles.plain_check import Refusal
+from tools.steps import commands
+from tools.steps.built import PLAY, ROOT, Count, Run, missing, side_by_side
 
 EXAMPLES = ROOT / "examples"
 SETS = {"standard": "standard.sdl", "q703": "q703.sdl"}
@@ -39,7 +39,6 @@ def scripts(word):
         for path in sorted((EXAMPLES / folder).glob("*.script")):
             yield str(path.relative_to(EXAMPLES)), path.read_bytes()
     if word == "standard":
-        commands = tool("commands")
         for name, lines in commands.parts():
             if not name.startswith("file ") and lines[0] == "play standard stdin":
                 yield f"commands.txt, {name}", commands.octets(commands.whole(lines[1 : lines.index("--")]))
@@ -49,7 +48,7 @@ def taken(text, word, name, script):
     """What a script takes: turns, answers, decisions that were asked, statements. None of one that isn't run here."""
     try:
         seen, _ = plain_trace.seen_of(text, script)
-    except (plain_term.BadLine, SystemExit, ValueError, KeyError, UnicodeDecodeError, plain_trace.Refusal):
+    except (plain_term.BadLine, SystemExit, ValueError, KeyError, UnicodeDecodeError, Refusal):
         return None
     it = seen.taken
     return it.turns, it.answers, it.asked, it.passed, it.thrown
@@ -65,19 +64,26 @@ def told(lines):
             times[name] += int(number)
         elif kind == "BRDA":
             line_number, place, number, taken_so = rest.split(",")
-            times[f"line {line_number} answer {int(number) + 1} of the DECISION at {place}"] += 0 if taken_so == "-" else int(taken_so)
+            times[f"line {line_number} answer {int(number) + 1} of the DECISION at {place}"] += (
+                0 if taken_so == "-" else int(taken_so)
+            )
     return times
 
 
 def played(text, word, name, script):
-    """The same by the program, and by the plain player: how often each was taken. None of a script of which the program tells nothing."""
+    """The same by the program, and by the plain player: how often each was taken. None of a script of which the program
+    tells nothing."""
     parts = taken(text, word, name, script)
     with tempfile.TemporaryDirectory() as room:
         path = pathlib.Path(room) / "coverage"
         run = Run(["play", f"examples/{SETS[word]}", "stdin", "--coverage", str(path)], script)
         found = path.read_text() if path.exists() else ""
     if not parts or not found:
-        return None if run.status in (2, 4) and not found else (name, f"status {run.status}, and the plain player {'runs' if parts else 'refuses'} it")
+        return (
+            None
+            if run.status in (2, 4) and not found
+            else (name, f"status {run.status}, and the plain player {'runs' if parts else 'refuses'} it")
+        )
     plain = plain_trace.Taken(text)
     for mine, more in zip((plain.turns, plain.answers, plain.asked, plain.passed, plain.thrown), parts):
         mine.update(more)
@@ -99,11 +105,17 @@ def by_program(word, text, given, count):
     answers = [it for it in ours if it.startswith("line ")]
     others = [it for it in ours if not it.startswith("line ")]
     print(
-        f"{word}, by the program: {sum(ours[it] > 0 for it in others)} of {len(others)} transitions, {sum(ours[it] > 0 for it in answers)} of {len(answers)} answers, "
+        f"{word}, by the program: {sum(ours[it] > 0 for it in others)} of {len(others)} transitions, "
+        f"{sum(ours[it] > 0 for it in answers)} of {len(answers)} answers, "
         f"by {ran} scripts; of {silent} it tells nothing"
     )
     for name in sorted({*ours, *theirs}):
-        count.case(f"{word} {name}", None if ours[name] == theirs[name] else f"{ours[name]} times by the program, {theirs[name]} by the plain players")
+        count.case(
+            f"{word} {name}",
+            None
+            if ours[name] == theirs[name]
+            else f"{ours[name]} times by the program, {theirs[name]} by the plain players",
+        )
 
 
 def reasons(word):
@@ -146,7 +158,10 @@ def main(words):
                     mine.update(more)
         transitions = sum(whole.turns[it] > 0 for it in whole.transitions)
         answers = [(place, answer) for place, places in whole.decisions.items() for answer in range(len(places))]
-        print(f"{word}: {transitions} of {len(whole.transitions)} transitions, {sum(whole.answers[it] > 0 for it in answers)} of {len(answers)} answers, by {ran} scripts")
+        print(
+            f"{word}: {transitions} of {len(whole.transitions)} transitions, "
+            f"{sum(whole.answers[it] > 0 for it in answers)} of {len(answers)} answers, by {ran} scripts"
+        )
         why, left = reasons(word), list(untaken(whole))
         for name in left:
             print(f"{word} {name}: {why.get(name, 'no script takes it')}")

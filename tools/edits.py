@@ -1,15 +1,19 @@
-#!/usr/bin/env python3
-"""Tries wrong bodies by hand: the edits in edits/CRATE/, which have the form of must-fail edits. The prover has to refuse each.
+"""Tries wrong bodies by hand: the edits in edits/CRATE/, which have the form of must-fail edits. The prover has to
+refuse each.
 
-Which edits the gate tries, and which stand here, is said in edits/README.md, and what edits/sums.txt keeps: when those of a crate were tried last, counted in landings.
+Which edits the gate tries, and which stand here, is said in edits/README.md, and what edits/sums.txt keeps: when those
+of a crate were tried last, counted in landings.
 
-usage: tools/edits [CRATE | CRATE/EDIT ..]   these; without words all of edits/. CRATE/EDIT is one, of edits/CRATE/ or of crates/CRATE/must-fail/
-       tools/edits --minutes N               those of the crates that were tried longest ago, as many as can be begun in N minutes, and records the landing
-                                             (with 0 it only records that); to be called once before a landing
+usage: tools/edits [CRATE | CRATE/EDIT ..]
+           these; without words all of edits/. CRATE/EDIT is one, of edits/CRATE/ or of crates/CRATE/must-fail/
+       tools/edits --minutes N
+           those of the crates that were tried longest ago, as many as can be begun in N minutes, and records the
+           landing (with 0 it only records that); to be called once before a landing
        tools/edits --apart ..                in front of these: each edit in a check of its own
 
-It ends with status 1 where one isn't refused. Edits of different functions of a crate are tried together in one check (tools/building/wrong_bodies.py), side by side with
-those of other crates, on as many processors as RT_JOBS says, or as there are. A line tells what each edit came to, and the last one how many came to what."""
+It ends with status 1 where one isn't refused. Edits of different functions of a crate are tried together in one check
+(tools/building/wrong_bodies.py), side by side with those of other crates, on as many processors as RT_JOBS says, or as
+there are. A line tells what each edit came to, and the last one how many came to what."""
 import collections
 import os
 import pathlib
@@ -17,11 +21,9 @@ import sys
 import threading
 import time
 
-sys.path += map(str, pathlib.Path(__file__).resolve().parents[0].glob("*"))
-
-import edit_sums
-from kit import by_hand, kit
-from wrong_bodies import AT_LIMIT, BY_NAME, REFUSED, Trial
+from tools.building.kit import by_hand, kit
+from tools.building.wrong_bodies import AT_LIMIT, BY_NAME, REFUSED, Trial
+from tools.looks import edit_sums
 
 ROOT = pathlib.Path(__file__).resolve().parent.parent
 WELL = (REFUSED, BY_NAME, AT_LIMIT)
@@ -77,7 +79,10 @@ class Run:
     def all(self):
         """Tries all crates, side by side."""
         self.rt.rtlib.guarded()
-        tasks = {(name, "edits"): ([], 0, self.rt.need(self.crates[name]), lambda given, jobs, name=name: self.one(name)) for name in self.chosen}
+        tasks = {
+            (name, "edits"): ([], 0, self.rt.need(self.crates[name]), lambda given, jobs, name=name: self.one(name))
+            for name in self.chosen
+        }
         self.rt.in_lanes(tasks)
 
     def tell(self):

@@ -1,6 +1,6 @@
-#!/usr/bin/env python3
-"""All tests: `rt ci`, whose output is passed on as it comes, and where that passed, the tools below on the programs that it built. The last line is
-`N passed, M failed`, of everything, and the status 0 only where nothing failed. What was skipped stands in the line before.
+"""All tests: `rt ci`, whose output is passed on as it comes, and where that passed, the tools below on the programs
+that it built. The last line is `N passed, M failed`, of everything, and the status 0 only where nothing failed. What
+was skipped stands in the line before.
 
 usage: tools/gate             all
        tools/gate --steps     the tools alone, on what an earlier run or `rt run` built
@@ -16,14 +16,13 @@ import subprocess
 import sys
 import time
 
-sys.path += map(str, pathlib.Path(__file__).resolve().parents[0].glob("*"))
-
-from kit import large_pages
+from tools.building.kit import large_pages
 
 ROOT = pathlib.Path(__file__).resolve().parent.parent
 OUT = ROOT / "crates" / "mtp2_play" / "out"
 LAST = re.compile(r"^(\d+) passed, (\d+) failed(?:, (\d+) skipped)?\r?$", re.M)
-# Seconds that a tool may take: all together take less than three minutes on a machine that has nothing else to do, and this is for one that has much.
+# Seconds that a tool may take: all together take less than three minutes on a machine that has nothing else to do, and
+# this is for one that has much.
 LIMIT = 1800
 # The most that one check was seen to take of memory, in octets, with some to spare.
 MOST_MEMORY = 4_500_000_000
@@ -56,7 +55,8 @@ def passed_on(process):
 
 
 def counted(name, process, text):
-    """How many passed, failed and were skipped, as the last line says that tells it; one failed more where none does, or it isn't what the status says."""
+    """How many passed, failed and were skipped, as the last line says that tells it; one failed more where none does,
+    or it isn't what the status says."""
     found = LAST.findall(text)
     counts = [int(it or 0) for it in found[-1]] if found else [0, 0, 0]
     if not found or (process.returncode and not counts[1]):
@@ -75,10 +75,11 @@ def free():
 
 
 def surroundings():
-    """The environment of `rt ci`; what it says already stays. Three lanes for four processors, where the memory holds a check in each, and one job for each
-    check: by itself `rt ci` plans on several times the memory that checks take, so that lanes are idle, and gives one of the upper crates four jobs, each
-    of which reads all libraries below; a fourth lane makes each check take more processor time, edits a third more (`RT_JOBS=2` takes the least, and half an
-    hour longer). And the prover keeps the memory that it frees for its own next use, and asks for large pages."""
+    """The environment of `rt ci`; what it says already stays. Three lanes for four processors, where the memory holds a
+    check in each, and one job for each check: by itself `rt ci` plans on several times the memory that checks take, so
+    that lanes are idle, and gives one of the upper crates four jobs, each of which reads all libraries below; a fourth
+    lane makes each check take more processor time, edits a third more (`RT_JOBS=2` takes the least, and half an hour
+    longer). And the prover keeps the memory that it frees for its own next use, and asks for large pages."""
     found, processors = dict(os.environ), len(os.sched_getaffinity(0))
     lanes = processors - processors // 4
     if free() >= lanes * MOST_MEMORY:
@@ -94,7 +95,9 @@ def proofs():
     if not shutil.which("rt"):
         print("gate: no `rt` on the PATH")
         return [0, 1, 0]
-    with subprocess.Popen(["rt", "ci"], cwd=ROOT, env=surroundings(), stdin=subprocess.DEVNULL, stdout=subprocess.PIPE) as process:
+    with subprocess.Popen(
+        ["rt", "ci"], cwd=ROOT, env=surroundings(), stdin=subprocess.DEVNULL, stdout=subprocess.PIPE
+    ) as process:
         watch(process.pid)
         return counted("rt ci", process, passed_on(process))
 
@@ -103,7 +106,9 @@ def watch(number):
     """Has tools/building/gate-cost record what a process takes. The gate goes on without where that can't be had."""
     silent = dict.fromkeys(["stdin", "stdout", "stderr"], subprocess.DEVNULL)
     try:
-        subprocess.Popen([ROOT / "tools" / "building" / "gate-cost", "--watch", str(number)], start_new_session=True, **silent)
+        subprocess.Popen(
+            [ROOT / "tools" / "building" / "gate-cost", "--watch", str(number)], start_new_session=True, **silent
+        )
     except OSError:
         pass
 
@@ -117,8 +122,15 @@ def end(process):
 def step(tool, program):
     """Runs a tool on a program. Gives its counts."""
     print(f"== {tool}: {program.relative_to(ROOT)}", flush=True)
-    since, how = time.time(), {"stdin": subprocess.DEVNULL, "stdout": subprocess.PIPE, "stderr": subprocess.STDOUT, "start_new_session": True}
-    with subprocess.Popen([ROOT / "tools" / "steps" / tool], env={**os.environ, "MTP2_PLAY": str(program), "PYTHONUTF8": "1"}, **how) as process:
+    since, how = time.time(), {
+        "stdin": subprocess.DEVNULL,
+        "stdout": subprocess.PIPE,
+        "stderr": subprocess.STDOUT,
+        "start_new_session": True,
+    }
+    with subprocess.Popen(
+        [ROOT / "tools" / "steps" / tool], env={**os.environ, "MTP2_PLAY": str(program), "PYTHONUTF8": "1"}, **how
+    ) as process:
         signal.signal(signal.SIGALRM, lambda *_: end(process))
         signal.alarm(LIMIT)
         try:

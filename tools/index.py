@@ -1,19 +1,19 @@
-#!/usr/bin/env python3
-"""Writes docs/index.md: a row for each definition that a table of a crate's README names, with its crate and file, and one for each public
-call of a crate, with its crate, its file and the names of its contract's clauses, all by name.
+"""Writes docs/index.md: a row for each definition that a table of a crate's README names, with its crate and file, and
+one for each public call of a crate, with its crate, its file and the names of its contract's clauses, all by name.
 
 usage: tools/index            writes docs/index.md, and says how many rows it has
        tools/index --check    says whether it is what would be written (status 0), or not (1); `tools/ready` asks it"""
 import pathlib
 import sys
 
-from crate_pages import crates, defines, functions, tabled
-from doc_names import text_of
+from tools.crate_pages import crates, defines, functions, tabled
+from tools.doc_names import text_of
 
 HEAD = """# Index
 
-By name: each definition that a table of a crate's README.md names (its file is specs/FILE.antt of the crate), and each public call with the
-names of its contract's clauses (its file is src/FILE.rt; `-`: one clause without a name). `tools/index` writes this page.
+By name: each definition that a table of a crate's README.md names (its file is specs/FILE.antt of the crate), and each
+public call with the names of its contract's clauses (its file is src/FILE.rt; `-`: one clause without a name).
+`tools/index` writes this page.
 
 | Name | Crate | File | Clauses |
 |---|---|---|---|
@@ -41,7 +41,9 @@ def page(root):
     for folder in crates(root):
         found.update(definitions(folder), calls(folder))
     ordered = sorted(found, key=lambda row: (row[0].lower(), *row))
-    return HEAD + "".join(f"| `{name}` | {crate} | {file} | {clauses} |\n" for name, crate, file, clauses in ordered), len(ordered)
+    return HEAD + "".join(
+        f"| `{name}` | {crate} | {file} | {clauses} |\n" for name, crate, file, clauses in ordered
+    ), len(ordered)
 
 
 def main(words):

@@ -1,12 +1,13 @@
-#!/usr/bin/env python3
-"""Says which pictures in docs/pictures aren't what `draw` makes of the sets `standard` and examples/q703.sdl, and makes them anew.
+"""Says which pictures in docs/pictures aren't what `draw` makes of the sets `standard` and examples/q703.sdl, and makes
+them anew.
 
 usage: tools/pictures            the stale ones, one a line, and the status 1 where there are some
        tools/pictures --make     writes those that are stale, and takes away those of processes that are gone
 
-The program is crates/mtp2_play/out/mtp2_play, else the one that bin/try compiles, where no source is newer, or that MTP2_PLAY names; where there
-is none it says so and ends with 0. Of each set there is SET/block.dot, of each process SET/PROCESS.svg and SET/PROCESS.states.dot. Where `dot` is on the PATH --make has
-it write block.svg and PROCESS.states.svg beside them, and refuses a diagram of which it warns."""
+The program is crates/mtp2_play/out/mtp2_play, else the one that bin/try compiles, where no source is newer, or that
+MTP2_PLAY names; where there is none it says so and ends with 0. Of each set there is SET/block.dot, of each process
+SET/PROCESS.svg and SET/PROCESS.states.dot. Where `dot` is on the PATH --make has it write block.svg and
+PROCESS.states.svg beside them, and refuses a diagram of which it warns."""
 import os
 import pathlib
 import shutil
@@ -15,7 +16,10 @@ import sys
 
 ROOT = pathlib.Path(__file__).resolve().parents[1]
 PICTURES = ROOT / "docs" / "pictures"
-PROGRAMS = [ROOT / "crates" / "mtp2_play" / "out" / "mtp2_play", ROOT / "crates" / "mtp2_play" / "out" / "try" / "mtp2_play"]
+PROGRAMS = [
+    ROOT / "crates" / "mtp2_play" / "out" / "mtp2_play",
+    ROOT / "crates" / "mtp2_play" / "out" / "try" / "mtp2_play",
+]
 # The name of each set, and the word for it; one whose text isn't there has no pictures.
 SETS = {"standard": "standard", "q703": ROOT / "examples" / "q703.sdl"}
 

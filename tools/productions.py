@@ -1,11 +1,13 @@
-#!/usr/bin/env python3
-"""Writes what follows from the productions of the grammar. Each production of crates/sdl_tree/specs/DeclarationSyntax.antt and Syntax.antt
-has a reading (sdl_productions/specs/DeclarationProductions.antt, Productions.antt), a proof that the reading gives no more tokens back than
-it got (sdl_productions/proofs/Lengths.antt) and a proof that the reading decides the production (sdl_tree/proofs/DeclarationsDecide.antt,
-SyntaxDecides.antt): the same steps in other words. The steps of a transition are written by hand.
+"""Writes what follows from the productions of the grammar. Each production of
+crates/sdl_tree/specs/DeclarationSyntax.antt and Syntax.antt has a reading
+(sdl_productions/specs/DeclarationProductions.antt, Productions.antt), a proof that the reading gives no more tokens
+back than it got (sdl_productions/proofs/Lengths.antt) and a proof that the reading decides the production
+(sdl_tree/proofs/DeclarationsDecide.antt, SyntaxDecides.antt): the same steps in other words. The steps of a transition
+are written by hand.
 
-usage: tools/productions [--check]     writes them (run `rt fmt` behind it); --check only names those that aren't what follows, and
-                                       ends with status 1 where there are any"""
+usage: tools/productions [--check]
+           writes them (run `rt fmt` behind it); --check only names those that aren't what follows, and ends with status
+           1 where there are any"""
 import pathlib
 import re
 import sys
@@ -29,8 +31,13 @@ class Production:
 
 def productions(text):
     """The productions that are put together of others, by name, in order."""
-    pattern = re.compile(r"^unfoldable pub (\w+)_syntax : (List ℕ → )?Grammar (.+)\n\1_syntax(?: name)? =( do\n(?:  .*\n?)+| .*\n?)", re.M)
-    found = {name: Production(name, own or "", kind, steps.rstrip("\n")) for name, own, kind, steps in pattern.findall(text)}
+    pattern = re.compile(
+        r"^unfoldable pub (\w+)_syntax : (List ℕ → )?Grammar (.+)\n\1_syntax(?: name)? =( do\n(?:  .*\n?)+| .*\n?)",
+        re.M,
+    )
+    found = {
+        name: Production(name, own or "", kind, steps.rstrip("\n")) for name, own, kind, steps in pattern.findall(text)
+    }
     for production in found.values():
         production.given = given(found, production.name)
     return found
@@ -44,7 +51,9 @@ def given(found, name):
 
 
 def renamed(steps, plain):
-    """The steps with each production named as it is called there; in brackets where it is an argument and has some of its own."""
+    """The steps with each production named as it is called there; in brackets where it is an argument and has some of
+    its own."""
+
     def called(match):
         before, name, own = match.groups()
         said = plain(name) + (own or "")
@@ -55,6 +64,7 @@ def renamed(steps, plain):
 
 def reading(found, production):
     """The definition of the reading."""
+
     def plain(name):
         return {"expression": "e", "text": "text_at whole_texts"}.get(name) or f"{name}_at {given(found, name)}".strip()
 
@@ -68,13 +78,20 @@ def deciding(found, production):
     """That the reading decides the production."""
     name = production.name
     at = f"{name}_at" + {"e": " whole", "": ""}[production.given]
-    of = (f"({name}_syntax name)", f"({at} name)") if production.own else (f"{name}_syntax", f"({at})" if " " in at else at)
+    of = (
+        (f"({name}_syntax name)", f"({at} name)")
+        if production.own
+        else (f"{name}_syntax", f"({at})" if " " in at else at)
+    )
     steps = re.sub(r"many (\w+) (\w+)_syntax\b", r"many \1 \2_takes \2_syntax", production.steps)
     for call in CALLS:
         steps = re.sub(rf"(?<![\w.]){call}(?= )", f"{'list' if call == 'list_in_parentheses' else call}_decides", steps)
     steps = re.sub(r"\b(\w+)_syntax\b", r"\1_decides", steps)
     kind, head = ("(name : List ℕ) → ", " name") if production.own else ("", "")
-    return f"{name}_decides : {kind}Decides {of[0]} {of[1]}\nunfolding {name}_syntax {name}_at\n{name}_decides{head} ={steps}"
+    return (
+        f"{name}_decides : {kind}Decides {of[0]} {of[1]}\nunfolding {name}_syntax {name}_at\n"
+        f"{name}_decides{head} ={steps}"
+    )
 
 
 def bracketed(said):
@@ -83,6 +100,7 @@ def bracketed(said):
 
 def kept(found, step):
     """That one step gives no more tokens back than it got."""
+
     def plain(name):
         said = {"expression": "k", "names": "keeps_separated name_keeps", "text": "text_keeps whole_texts"}
         return said.get(name) or f"{name}_keeps" + {"e": " e k", "": ""}[given(found, name)]
@@ -116,7 +134,9 @@ def shortening(found, production, takes):
             steps[0] = f"first_takes {taken(found, lines[0][1])} λ {lines[0][0]}. "
         said = "".join(steps)
     after, law = ("_takes", "Shortens") if takes else ("_keeps", "NeverLonger")
-    kind, head, at = {"e": ("(e : At Tree) → NeverLonger e → ", " e k", f"({name}_at e)"), "": ("", "", f"{name}_at")}[production.given]
+    kind, head, at = {"e": ("(e : At Tree) → NeverLonger e → ", " e k", f"({name}_at e)"), "": ("", "", f"{name}_at")}[
+        production.given
+    ]
     if production.own:
         kind, head, at = "(name : List ℕ) → ", " name", f"({name}_at name)"
     return f"{name}{after} : {kind}{law} {at}\nunfolding {name}_at\n{name}{after}{head} = {said}"
@@ -128,11 +148,15 @@ def squeezed(block):
 
 def blocks(text, after):
     """The blocks of a file that define what ends so: the name, and where the block begins and ends."""
-    return [(match[1], match.start(), match.end()) for match in re.finditer(rf"^(?:unfoldable )?(?:pub )?(\w+){after} : [^\n]*(?:\n[^\n]+)*", text, re.M)]
+    return [
+        (match[1], match.start(), match.end())
+        for match in re.finditer(rf"^(?:unfoldable )?(?:pub )?(\w+){after} : [^\n]*(?:\n[^\n]+)*", text, re.M)
+    ]
 
 
 def renew(path, after, wanted, text, there):
-    """The text with each block as it is wanted, and the names of those that were another; `there` gets the names of all."""
+    """The text with each block as it is wanted, and the names of those that were another; `there` gets the names of
+    all."""
     stale, out, last = [], [], 0
     for name, start, end in blocks(text, after):
         if name not in wanted:
@@ -150,19 +174,31 @@ def wanted_lengths(found, text):
     """What Lengths is to have: that a token is taken where it says so, else that none is given back more."""
     takes = {name for name, start, end in blocks(text, "_takes") if "unfolding" in text[start:end]}
     shorter = {name: production for name, production in found.items() if name != "block"}
-    return [("_takes", {name: shortening(found, production, True) for name, production in shorter.items() if name in takes}),
-            ("_keeps", {name: shortening(found, production, False) for name, production in shorter.items() if name not in takes})]
+    return [
+        (
+            "_takes",
+            {name: shortening(found, production, True) for name, production in shorter.items() if name in takes},
+        ),
+        (
+            "_keeps",
+            {name: shortening(found, production, False) for name, production in shorter.items() if name not in takes},
+        ),
+    ]
 
 
 def main(words):
     texts = [(CRATES / "sdl_tree/specs" / name).read_text() for name in ("DeclarationSyntax.antt", "Syntax.antt")]
     found = productions("\n".join(texts))
     said = []
-    written = {("sdl_productions/specs/DeclarationProductions.antt", "sdl_productions/specs/Productions.antt"):
-               lambda _: [("_at", {name: reading(found, production) for name, production in found.items()})],
-               ("sdl_productions/proofs/Lengths.antt",): lambda old: wanted_lengths(found, old),
-               ("sdl_tree/proofs/DeclarationsDecide.antt", "sdl_tree/proofs/SyntaxDecides.antt"):
-               lambda _: [("_decides", {name: deciding(found, production) for name, production in found.items()})]}
+    written = {
+        ("sdl_productions/specs/DeclarationProductions.antt", "sdl_productions/specs/Productions.antt"): lambda _: [
+            ("_at", {name: reading(found, production) for name, production in found.items()})
+        ],
+        ("sdl_productions/proofs/Lengths.antt",): lambda old: wanted_lengths(found, old),
+        ("sdl_tree/proofs/DeclarationsDecide.antt", "sdl_tree/proofs/SyntaxDecides.antt"): lambda _: [
+            ("_decides", {name: deciding(found, production) for name, production in found.items()})
+        ],
+    }
     for paths, rows in written.items():
         old = {path: (CRATES / path).read_text() for path in paths}
         new = dict(old)
@@ -175,7 +211,11 @@ def main(words):
         for path in paths:
             if new[path] != old[path] and "--check" not in words:
                 (CRATES / path).write_text(new[path])
-    print("\n".join([*said, f"{len(found)} productions, {len(said)} blocks {'stale' if '--check' in words else 'written'}"]))
+    print(
+        "\n".join(
+            [*said, f"{len(found)} productions, {len(said)} blocks {'stale' if '--check' in words else 'written'}"]
+        )
+    )
     return 1 if said and "--check" in words else 0
 
 

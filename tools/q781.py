@@ -1,22 +1,28 @@
-#!/usr/bin/env python3
-"""Plays the tests of Q.781 (the acceptance tests of MTP level 2), and those beside them, on a set: the scripts of examples/q781.
+"""Plays the tests of Q.781 (the acceptance tests of MTP level 2), and those beside them, on a set: the scripts of
+examples/q781.
 
-usage: tools/q781 [SET] [NAME ..]      prints `NAME TITLE: passed`, or `failed line N` with what was expected and what came, for each script whose name begins so
-                                       (all where none is named), and the sums; status 0 where those failed that known.txt says of SET, and no others
-       tools/q781 --changes [NAME ..]  makes each one-place change of changes.txt in examples/q703.sdl (those seen by a test whose name begins so), and plays the
-                                       test that it names: status 0 where each change is seen
+usage: tools/q781 [SET] [NAME ..]
+           prints `NAME TITLE: passed`, or `failed line N` with what was expected and what came, for each script whose
+           name begins so (all where none is named), and the sums; status 0 where those failed that known.txt says of
+           SET, and no others
+       tools/q781 --changes [NAME ..]
+           makes each one-place change of changes.txt in examples/q703.sdl (those seen by a test whose name begins so),
+           and plays the test that it names: status 0 where each change is seen
        --plain in front of these       asks the plain player, written apart from the program
-       --n2 N in front of a file       forced retransmission begins at N octets, 300 to 8,192, in the scripts that choose no N2 (also: --n2=N)
+       --n2 N in front of a file       forced retransmission begins at N octets, 300 to 8,192, in the scripts that
+                                       choose no N2 (also: --n2=N)
 
-The program is crates/mtp2_play/out/mtp2_play, where that is built, or the one that MTP2_PLAY names, else the one that bin/mtp2 takes. SET is `q703` (also where none
-is named), `standard`, or a file, looked up from the current folder: a text that has the names of a terminal. A word with which a test's name begins is a NAME; write
-`./7` for a file of that name. Test x.26 has an N2 of 3,000 octets, and a file 8,192, so it is skipped but where --n2 says 2,731 to 3,003.
-Status 1: a test failed of which known.txt doesn't say so, or passed of which it does; a change wasn't seen. 2: there is no such file, its text is refused, or there is
-no program. 3: no test has such a name, or the words are others.
+The program is crates/mtp2_play/out/mtp2_play, where that is built, or the one that MTP2_PLAY names, else the one that
+bin/mtp2 takes. SET is `q703` (also where none is named), `standard`, or a file, looked up from the current folder: a
+text that has the names of a terminal. A word with which a test's name begins is a NAME; write `./7` for a file of that
+name. Test x.26 has an N2 of 3,000 octets, and a file 8,192, so it is skipped but where --n2 says 2,731 to 3,003. Status
+1: a test failed of which known.txt doesn't say so, or passed of which it does; a change wasn't seen. 2: there is no
+such file, its text is refused, or there is no program. 3: no test has such a name, or the words are others.
 
-A script is a black box: units, octets of the line, commands and time go in; what goes out, what level 3 is told, the number accepted last and what is measured are
-expected, as Q.703 has them. N.MM is Q.781's test; x.NN is beside it. In known.txt `SET NAME WHY` is a line. In changes.txt
-`== NAME: WHAT` begins a change that the test NAME sees; a line `--` parts what stands in the text once from what is put in its place."""
+A script is a black box: units, octets of the line, commands and time go in; what goes out, what level 3 is told, the
+number accepted last and what is measured are expected, as Q.703 has them. N.MM is Q.781's test; x.NN is beside it. In
+known.txt `SET NAME WHY` is a line. In changes.txt `== NAME: WHAT` begins a change that the test NAME sees; a line `--`
+parts what stands in the text once from what is put in its place."""
 import os
 import pathlib
 import re
@@ -24,10 +30,8 @@ import subprocess
 import sys
 import tempfile
 
-sys.path += map(str, pathlib.Path(__file__).resolve().parent.glob("*"))
-
-from built import PLAY, ROOT, Run, side_by_side
-from plain_term import play
+from tools.oracles.plain_term import play
+from tools.steps.built import PLAY, ROOT, Run, side_by_side
 
 TESTS = ROOT / "examples" / "q781"
 TEXT = ROOT / "examples" / "q703.sdl"
@@ -45,7 +49,9 @@ class Wrong(Exception):
 def scripts(names):
     """The names of the scripts that are asked for, in order."""
     found = [it.name.removesuffix(".script") for it in TESTS.glob("*.script")]
-    ordered = sorted(found, key=lambda it: (it.startswith("x"), [int(part) for part in it.split(".") if part.isdigit()]))
+    ordered = sorted(
+        found, key=lambda it: (it.startswith("x"), [int(part) for part in it.split(".") if part.isdigit()])
+    )
     return [it for it in ordered if not names or it.startswith(tuple(names))]
 
 
@@ -100,9 +106,15 @@ def tests(plain, word, names, n2):
         print(f"{name} {title(name)}: {why or 'passed'}", flush=True)
         failed += [name] if why else []
     for name in skipped:
-        print(f"{name} {title(name)}: skipped, for it has an N2 of 3,000 octets and not {n2 or USUAL_N2:,}: --n2 3000 plays it")
+        print(
+            f"{name} {title(name)}: skipped, for it has an N2 of 3,000 octets and not {n2 or USUAL_N2:,}: --n2 "
+            "3000 plays it"
+        )
     strange = [it for it in wanted if (it in failed) != (it in expected)]
-    sums = f"{len(wanted) - len(failed)} passed, {len(failed)} failed, {len([it for it in failed if it not in strange])} of them known"
+    sums = (
+        f"{len(wanted) - len(failed)} passed, {len(failed)} failed, "
+        f"{len([it for it in failed if it not in strange])} of them known"
+    )
     print(sums + (f", {len(skipped)} skipped" if skipped else ""))
     for name in strange:
         print(f"{name} {'failed' if name in failed else 'passed'}, which known.txt doesn't say")
@@ -168,7 +180,10 @@ def asked(words):
     file = pathlib.Path(words[0])
     if file.is_file():
         return str(file.resolve()), words[1:]
-    raise Wrong(2 if file.suffix or file.name != words[0] else 3, f"`{words[0]}` is neither a file nor the beginning of a test's name")
+    raise Wrong(
+        2 if file.suffix or file.name != words[0] else 3,
+        f"`{words[0]}` is neither a file nor the beginning of a test's name",
+    )
 
 
 def check_names(names):

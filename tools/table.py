@@ -1,21 +1,32 @@
-#!/usr/bin/env python3
-"""Writes what the program trials reads and has to print: crates/trials/stdin and stdout. Its trials stand with their lines in examples/heard.txt, ports.txt, wheels.txt,
-events.txt, pools.txt and rounds.txt, and in examples/links/runs.txt, reports.txt, pairs.txt, tended.txt, rounds.txt and calls.txt.
+"""Writes what the program trials reads and has to print: crates/trials/stdin and stdout. Its trials stand with their
+lines in examples/heard.txt, ports.txt, wheels.txt, events.txt, pools.txt and rounds.txt, and in
+examples/links/runs.txt, reports.txt, pairs.txt, tended.txt, rounds.txt and calls.txt.
 
 usage: tools/table [--check]     with --check it writes nothing, and ends with status 1 where the files differ
 
-In a table `== NAME` begins an entry, and a line `--` parts its trial from the lines that are printed for it. In a trial of events `%N{..}` stands for N copies of
-what is in the braces, in which `#` is the number of the copy, from 1; a last line `@FILE` for the text of a file of examples/."""
-import pathlib
+In a table `== NAME` begins an entry, and a line `--` parts its trial from the lines that are printed for it. In a trial
+of events `%N{..}` stands for N copies of what is in the braces, in which `#` is the number of the copy, from 1; a last
+line `@FILE` for the text of a file of examples/."""
 import sys
 
-sys.path += map(str, pathlib.Path(__file__).resolve().parents[0].glob("*"))
-
-from built import ROOT, tool
+from tools.steps import examples
+from tools.steps.built import ROOT
 
 # The tables, by the kind of their trials.
-TRIALS = {"heard": "heard.txt", "ports": "ports.txt", "wheels": "wheels.txt", "events": "events.txt", "runs": "links/runs.txt", "reports": "links/reports.txt",
-          "sets": "links/pairs.txt", "tended": "links/tended.txt", "set_rounds": "links/rounds.txt", "set_calls": "links/calls.txt", "pools": "pools.txt", "rounds": "rounds.txt"}
+TRIALS = {
+    "heard": "heard.txt",
+    "ports": "ports.txt",
+    "wheels": "wheels.txt",
+    "events": "events.txt",
+    "runs": "links/runs.txt",
+    "reports": "links/reports.txt",
+    "sets": "links/pairs.txt",
+    "tended": "links/tended.txt",
+    "set_rounds": "links/rounds.txt",
+    "set_calls": "links/calls.txt",
+    "pools": "pools.txt",
+    "rounds": "rounds.txt",
+}
 
 
 def written_out(trial, copied):
@@ -26,7 +37,6 @@ def written_out(trial, copied):
 
 def trials():
     """The kind, the name, the trial and the lines of each entry."""
-    examples = tool("examples")
     for kind, path in TRIALS.items():
         for name, trial, lines in examples.parted(path):
             yield kind, name, written_out(trial, examples.copied) if kind == "events" else trial, lines

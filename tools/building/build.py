@@ -1,12 +1,14 @@
-#!/usr/bin/env python3
-"""Proves and builds the libraries below a program, side by side on all processors as their order and the memory allow, and says which as it goes.
-What is built already stays. The program itself is left to `rt run`, which then finds all of them built. `bin/mtp2_play` calls it.
+"""Proves and builds the libraries below a program, side by side on all processors as their order and the memory allow,
+and says which as it goes. What is built already stays. The program itself is left to `rt run`, which then finds all of
+them built. `bin/mtp2_play` calls it.
 
-usage: tools/building/build [PROGRAM]     mtp2_play where none is named; ends with status 1 where a library isn't proved, 2 where it couldn't try
-       tools/building/build --jobs        prints how many jobs a program's own proof can have once nothing else is proved
+usage: tools/building/build [PROGRAM]
+           mtp2_play where none is named; ends with status 1 where a library isn't proved, 2 where it couldn't try
+       tools/building/build --jobs
+           prints how many jobs a program's own proof can have once nothing else is proved
 
-It replaces what `rt run` does before it comes to the program: that builds one library after the other. Here the lanes of `rt ci` build them, by functions of the kit's own
-`rt`. Needless once `rt run` builds libraries side by side."""
+It replaces what `rt run` does before it comes to the program: that builds one library after the other. Here the lanes
+of `rt ci` build them, by functions of the kit's own `rt`. Needless once `rt run` builds libraries side by side."""
 import contextlib
 import os
 import pathlib
@@ -16,9 +18,7 @@ import threading
 import time
 import traceback
 
-sys.path += map(str, pathlib.Path(__file__).resolve().parents[1].glob("*"))
-
-from kit import kit
+from tools.building.kit import kit
 
 ROOT = pathlib.Path(__file__).resolve().parents[2]
 # The most that the proof of one crate was seen to take, in octets, with some to spare.
@@ -48,7 +48,10 @@ class Progress:
             minutes = (time.time() - self.since) / 60
             if said:
                 print(said, end="", file=sys.stderr)
-            self.say(f"{crate} {'is NOT proved' if said else 'is proved'}, {self.ended} of {self.number} done after {minutes:.1f} minutes")
+            self.say(
+                f"{crate} {'is NOT proved' if said else 'is proved'}, {self.ended} of {self.number} done after "
+                f"{minutes:.1f} minutes"
+            )
 
 
 def build(crate, given, jobs, progress):
@@ -68,7 +71,11 @@ def build(crate, given, jobs, progress):
 
 def lines(crate):
     """The lines of a crate's sources, definitions and proofs."""
-    return sum(it.read_bytes().count(b"\n") for part in ("src", "specs", "proofs") for it in pathlib.Path(crate.folder, part).rglob("*.*"))
+    return sum(
+        it.read_bytes().count(b"\n")
+        for part in ("src", "specs", "proofs")
+        for it in pathlib.Path(crate.folder, part).rglob("*.*")
+    )
 
 
 def known_times():
@@ -83,19 +90,21 @@ def known_times():
 
 
 def work_of(crates):
-    """How many seconds each crate's proof will take by one job, by name: as long as it took once, else by its lines. What has the longest chain behind it is
-    proved first."""
+    """How many seconds each crate's proof will take by one job, by name: as long as it took once, else by its lines.
+    What has the longest chain behind it is proved first."""
     known = known_times()
     return {it.name: known.get(it.name, lines(it) / LINES_A_SECOND) for it in crates}
 
 
 def memory(crate):
-    """The memory to plan on for a crate's proof: what the kit plans on grows with all that lies below, which no proof of an upper crate was seen to take."""
+    """The memory to plan on for a crate's proof: what the kit plans on grows with all that lies below, which no proof
+    of an upper crate was seen to take."""
     return min(crate.planned(), MOST_MEMORY)
 
 
 def jobs_alone():
-    """How many jobs a proof can have that nothing runs beside: one for each processor, as far as the memory that is free allows."""
+    """How many jobs a proof can have that nothing runs beside: one for each processor, as far as the memory that is
+    free allows."""
     free = os.sysconf("SC_AVPHYS_PAGES") * os.sysconf("SC_PAGE_SIZE")
     with contextlib.suppress(OSError):
         lines = pathlib.Path("/proc/meminfo").read_text().splitlines()
@@ -127,7 +136,8 @@ def main(words):
     tasks = {}
     for crate in lacking:
         waits = [(it.name, "proof") for it in crate.below() if it in lacking]
-        # (one job each, but where processors are idle: a second one reads all libraries anew, and makes a third more of the work)
+        # (one job each, but where processors are idle: a second one reads all libraries anew, and makes a third more of
+        # the work)
         work = lambda given, jobs, it=crate: build(it, given, jobs, progress)
         tasks[crate.name, "proof"] = (waits, seconds[crate.name], memory(crate), work)
     built = rt.in_lanes(tasks)

@@ -1,11 +1,13 @@
-#!/usr/bin/env python3
-"""Prints what the last `rt ci` of tools/gate took of processor, by crate and kind: its proof, its tests' proof, its must-fail edits, and what was built and run.
+"""Prints what the last `rt ci` of tools/gate took of processor, by crate and kind: its proof, its tests' proof, its
+must-fail edits, and what was built and run.
 
 usage: tools/building/gate-cost               prints the table of the last run, in minutes
-       tools/building/gate-cost --watch PID   records what the processes below PID take until PID has ended; tools/gate starts it so, beside `rt ci`
+       tools/building/gate-cost --watch PID
+           records what the processes below PID take until PID has ended; tools/gate starts it so, beside `rt ci`
 
-It looks at /proc once a second, so what a process took in its last second is missed; the first line has the whole run's own time as the
-system counts it. It says nothing to the gate, and the gate waits for nothing of it. The record is out/gate-cost at the top."""
+It looks at /proc once a second, so what a process took in its last second is missed; the first line has the whole run's
+own time as the system counts it. It says nothing to the gate, and the gate waits for nothing of it. The record is
+out/gate-cost at the top."""
 import os
 import pathlib
 import sys
@@ -18,8 +20,8 @@ EVERY = 1.0
 
 
 def look(top):
-    """Each process by its number: its parent, its time of birth, and its seconds with those of its children that have ended.
-    Without `top` once that has ended."""
+    """Each process by its number: its parent, its time of birth, and its seconds with those of its children that have
+    ended. Without `top` once that has ended."""
     found = {}
     for name in os.listdir("/proc"):
         if name.isdigit():
@@ -91,7 +93,8 @@ def watch(top):
 
 
 def write(mark, begun, whole, taken, names):
-    """Writes the record anew: a first line with the run's begin, its seconds by the clock and of processor, then a line for each crate and kind."""
+    """Writes the record anew: a first line with the run's begin, its seconds by the clock and of processor, then a line
+    for each crate and kind."""
     sums = {}
     for key, seconds in taken.items():
         sums[names[key]] = sums.get(names[key], 0) + seconds
@@ -113,7 +116,10 @@ def table():
     sums = {}
     for crate, kind, seconds in (it.split("\t") for it in lines):
         sums.setdefault(crate, dict.fromkeys(KINDS, 0.0))[kind] += float(seconds) / 60
-    print(f"{begun}: {float(clock) / 60:.1f} minutes by the clock, {float(whole) / 60:.1f} of processor{mark and ', cut off'}")
+    print(
+        f"{begun}: {float(clock) / 60:.1f} minutes by the clock, {float(whole) / 60:.1f} of "
+        f"processor{mark and ', cut off'}"
+    )
     print(f"{'crate':16}" + "".join(f"{it:>10}" for it in [*KINDS, "all"]))
     rows = sorted(sums.items(), key=lambda it: -sum(it[1].values()))
     for crate, row in [*rows, ("all", {it: sum(row[it] for _, row in rows) for it in KINDS})]:

@@ -1,11 +1,13 @@
-#!/usr/bin/env python3
-"""Lists the pairs of places in sources, definitions and proofs that share many lines: the same ones, or ones of the same shape with other names.
+"""Lists the pairs of places in sources, definitions and proofs that share many lines: the same ones, or ones of the
+same shape with other names.
 
-usage: tools/looks/alike [--lines N] [--most N] [--same] [PART ..]     12 lines or more, at most 200 pairs; --same without those of one shape alone;
+usage: tools/looks/alike [--lines N] [--most N] [--same] [PART ..]
+           12 lines or more, at most 200 pairs; --same without those of one shape alone;
     PART: src, specs or proofs, or crates by their names; else all
 
-It runs `duplicates` over copies, since that command doesn't know the endings .rt and .antt: imports, contracts' imports and remarks are blank lines
-there, so the numbers of the lines are those of the files. A pair is a place to look and no fault. Ends with status 2 where there is no `duplicates`."""
+It runs `duplicates` over copies, since that command doesn't know the endings .rt and .antt: imports, contracts' imports
+and remarks are blank lines there, so the numbers of the lines are those of the files. A pair is a place to look and no
+fault. Ends with status 2 where there is no `duplicates`."""
 import pathlib
 import re
 import shutil
@@ -55,8 +57,11 @@ def main(words):
     names = [it for it in words if it not in PARTS and it != "--same"]
     with tempfile.TemporaryDirectory() as folder:
         copied(ROOT / "crates", pathlib.Path(folder), parts, names)
-        asked = subprocess.run(["duplicates", "--repo", folder, "--min-lines", str(lines), "--most", str(most), "--seconds", "600"],
-                               capture_output=True, text=True)
+        asked = subprocess.run(
+            ["duplicates", "--repo", folder, "--min-lines", str(lines), "--most", str(most), "--seconds", "600"],
+            capture_output=True,
+            text=True,
+        )
     for line in asked.stdout.splitlines():
         if "--same" not in words or " shape" not in line:
             print(re.sub(r"\.rs\b", ".rt", re.sub(r"\.hs\b", ".antt", line)))

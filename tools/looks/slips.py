@@ -1,12 +1,14 @@
-#!/usr/bin/env python3
 """Makes one-place changes of a process text (examples/q703.sdl), and tells which of them no test of examples/q781 sees.
 
-usage: tools/looks/slips [KIND ..]            the changes of these kinds, all where none is named; status 1 where one isn't seen
+usage: tools/looks/slips [KIND ..]
+           the changes of these kinds, all where none is named; status 1 where one isn't seen
        tools/looks/slips --list [KIND ..]     names them, and plays nothing
-       tools/looks/slips --search N [KIND ..] plays N scripts made by chance too, on the text and on each change that no test sees: names one that tells the two apart
+       tools/looks/slips --search N [KIND ..] plays N scripts made by chance too, on the text and on each change that no
+                                              test sees: names one that tells the two apart
        --at N in front of these               only changes of that line of the text
        --text FILE in front of these          another text in place of examples/q703.sdl
-       --program in front of these            all tests by the program (MTP2_PLAY, or the built one) in place of the plain player
+       --program in front of these            all tests by the program (MTP2_PLAY, or the built one), and not by the
+                                              plain player
 
 | Kind | What is changed |
 |---|---|
@@ -21,9 +23,11 @@ usage: tools/looks/slips [KIND ..]            the changes of these kinds, all wh
 | `decisions` | a decision is always TRUE or always FALSE, or is with another bound |
 | `starts` | a variable begins with another value |
 
-A test is played where on the unchanged text it takes the transition that is changed (of a connection: one of its process): until then both do the same. Tests that take
-a thousand units are played by the program all the same, on changes of SUERM. A change that is refused as a text is none. Scripts made by chance are those of tools/oracles/random_terminals without what
-isn't seen from outside (states, values, how many timers ran out). One that tells two texts apart is left in out/slips/."""
+A test is played where on the unchanged text it takes the transition that is changed (of a connection: one of its
+process): until then both do the same. Tests that take a thousand units are played by the program all the same, on
+changes of SUERM. A change that is refused as a text is none. Scripts made by chance are those of
+tools/oracles/random_terminals without what isn't seen from outside (states, values, how many timers ran out). One that
+tells two texts apart is left in out/slips/."""
 import copy
 import pathlib
 import random
@@ -32,21 +36,27 @@ import sys
 import tempfile
 import typing
 
-sys.path += map(str, pathlib.Path(__file__).resolve().parents[1].glob("*"))
+from tools import q781 as asked
+from tools.oracles import plain_play, plain_term, random_terminals
+from tools.oracles.plain_check import Refusal
+from tools.steps.built import PLAY, ROOT, missing, side_by_side
 
-import plain_play
-import plain_term
-from built import PLAY, ROOT, missing, side_by_side, tool
-from plain_check import Refusal
-
-asked = sys.modules["q781"] = tool("q781")
 ROOM = ROOT / "out" / "slips"
 # A label before a statement: an answer, or the name of a connection.
 LABEL = re.compile(r"\s*(?:\(([^()]*)\)|(ELSE)|CONNECTION\s+(\w+))\s*:")
 WORD = re.compile(r"\s*(\w+)\s*")
 NUMBER = re.compile(r"\b\d+\b")
 # Timers outside the ranges of Q.703 (12), too short and too long, by their values in the text.
-RANGES = {45000: (39000, 51000), 25000: (4900, 151000), 1500: (990, 2010), 8200: (7400, 9600), 500: (390, 610), 100: (79, 121), 5000: (2900, 6100), 1000: (490, 2010)}
+RANGES = {
+    45000: (39000, 51000),
+    25000: (4900, 151000),
+    1500: (990, 2010),
+    8200: (7400, 9600),
+    500: (390, 610),
+    100: (79, 121),
+    5000: (2900, 6100),
+    1000: (490, 2010),
+}
 
 
 def masked(text):
@@ -117,7 +127,9 @@ class Changes:
                 self.process = self.body(it).split()[0]
             if it.word == "STATE":
                 names = [name.strip() for name in self.body(it).split(",")]
-                self.places.setdefault(self.process, []).extend(name for name in names if name not in self.places.get(self.process, []))
+                self.places.setdefault(self.process, []).extend(
+                    name for name in names if name not in self.places.get(self.process, [])
+                )
         for at, it in enumerate(every):
             self.follow(it)
             for label in it.labels:
@@ -144,11 +156,16 @@ class Changes:
         line = self.text.count("\n", 0, start) + 1
         place = " ".join(filter(None, [self.process, "/".join(self.states), self.heard]))
         changed = self.text[:start] + new + self.text[end:]
-        self.found.append(Change(kind, line, f"{kind} line {line}: {place}: {what}", changed, self.process, self.taken()))
+        self.found.append(
+            Change(kind, line, f"{kind} line {line}: {place}: {what}", changed, self.process, self.taken())
+        )
 
     def taken(self):
-        """The transitions of which one is taken where the change is met: state and signal; none where it may be any of the process."""
-        signals = [re.match(r"\s*(\w+)", it)[1].lower() for it in self.heard.split(",")] if self.states and self.heard else []
+        """The transitions of which one is taken where the change is met: state and signal; none where it may be any of
+        the process."""
+        signals = (
+            [re.match(r"\s*(\w+)", it)[1].lower() for it in self.heard.split(",")] if self.states and self.heard else []
+        )
         return {(state.lower(), signal) for state in self.states for signal in signals} or None
 
     def drop(self, kind, it, span, what):
@@ -215,7 +232,12 @@ class Changes:
         for span in spans:
             name = self.plain[slice(*stripped(self.plain, span))]
             left = [self.plain[slice(*stripped(self.plain, other))] for other in spans if other != span]
-            self.change("inputs", (it.body[0], end.end), ", ".join(left) + self.text[it.end : end.start] + f"ENDSTATE {left[0]}", f"none of it is heard in {name}")
+            self.change(
+                "inputs",
+                (it.body[0], end.end),
+                ", ".join(left) + self.text[it.end : end.start] + f"ENDSTATE {left[0]}",
+                f"none of it is heard in {name}",
+            )
 
     def of_nextstate(self, it, _):
         span = stripped(self.plain, it.body)
@@ -237,11 +259,21 @@ class Changes:
         inside = self.plain[slice(*span)]
         for it in re.finditer(r"\b(AND|OR|NOT)\b", inside):
             other = {"AND": "OR", "OR": "AND", "NOT": ""}[it[0]]
-            self.change(kind, (span[0] + it.start(), span[0] + it.end()), other, f"{other or 'no'} {'for ' if other else ''}{it[0]} in {name}")
+            self.change(
+                kind,
+                (span[0] + it.start(), span[0] + it.end()),
+                other,
+                f"{other or 'no'} {'for ' if other else ''}{it[0]} in {name}",
+            )
         words = re.split(r"\s+(?:AND|OR)\s+", inside)
         for word in words[:-1] if len(words) > 1 else []:
             at = span[0] + inside.index(word)
-            self.change(kind, (at, at + re.match(re.escape(word) + r"\s+(AND|OR)\s+", self.plain[at:]).end()), " ", f"no {word} in {name}")
+            self.change(
+                kind,
+                (at, at + re.match(re.escape(word) + r"\s+(AND|OR)\s+", self.plain[at:]).end()),
+                " ",
+                f"no {word} in {name}",
+            )
 
     def answer(self, span):
         inside = self.plain[slice(*span)]
@@ -299,7 +331,8 @@ class Built:
 
 
 def transitions(text, name):
-    """The transitions that a test takes: process, state and signal. Of a long one none is asked for: it is one of the monitor."""
+    """The transitions that a test takes: process, state and signal. Of a long one none is asked for: it is one of the
+    monitor."""
     if is_long(name):
         return None
     taken, begin = set(), plain_play.Book.begin
@@ -327,7 +360,8 @@ def meets(change, taken):
 
 
 def sees(change, by_program, tests):
-    """The test that sees a change, `refused` where the text is, or nothing. Tests stand in the order in which they are likely to."""
+    """The test that sees a change, `refused` where the text is, or nothing. Tests stand in the order in which they are
+    likely to."""
     try:
         players = {True: Built(change.text), False: None if by_program else Plain(change.text)}
     except Refusal:
@@ -352,8 +386,7 @@ def outside(lines):
 
 def chance(text, number):
     """A script made by chance on a text, without questions about what is inside."""
-    maker = tool("random_terminals")
-    lines = maker.script(random.Random(f"slips {number}"), text.encode(), ()).split("\n")
+    lines = random_terminals.script(random.Random(f"slips {number}"), text.encode(), ()).split("\n")
     return "\n".join(it for it in lines if not it.startswith(("state ", "value ", "expect "))).encode()
 
 
@@ -365,7 +398,9 @@ def whole(text, octets):
 def apart(changed, scripts):
     """The number of the first script that tells two texts apart; none where no one does."""
     player = Plain(changed)
-    return next((number for number, (octets, lines) in enumerate(scripts) if outside(player.play(octets)[0]) != lines), None)
+    return next(
+        (number for number, (octets, lines) in enumerate(scripts) if outside(player.play(octets)[0]) != lines), None
+    )
 
 
 def ordered(text):

@@ -1,10 +1,11 @@
-#!/usr/bin/env python3
 """Counts the statements that are proved in two files or more: what could stand once, below the crates that want it.
 
-usage: tools/looks/twice [--all] [CRATE ..]     the most frequent 40, or all; of the crates that are named, or of the whole repository
+usage: tools/looks/twice [--all] [CRATE ..]
+           the most frequent 40, or all; of the crates that are named, or of the whole repository
 
-A statement is the type of an item of proofs/ that has clauses, with the parameters of the module that it stands in; the names of items and of bound
-variables don't count. It reads the files alone and proves nothing, so two statements that only mean the same count as two."""
+A statement is the type of an item of proofs/ that has clauses, with the parameters of the module that it stands in; the
+names of items and of bound variables don't count. It reads the files alone and proves nothing, so two statements that
+only mean the same count as two."""
 import pathlib
 import re
 import sys
@@ -51,9 +52,12 @@ def items(lines, given=""):
 
 
 def plain(said):
-    """A type with each bound variable on its own, all numbered in the order in which they are bound, and without parentheses."""
+    """A type with each bound variable on its own, all numbered in the order in which they are bound, and without
+    parentheses."""
     said = BINDER.sub(lambda them: f"({them[1]}: ", said.replace("{", "(").replace("}", ")"))
-    said = re.sub(r"\(((?:[^\s():,]+ )+): ([^()]*)\)", lambda it: " ".join(f"({name} : {it[2]})" for name in it[1].split()), said)
+    said = re.sub(
+        r"\(((?:[^\s():,]+ )+): ([^()]*)\)", lambda it: " ".join(f"({name} : {it[2]})" for name in it[1].split()), said
+    )
     bound = [name for them in [*BINDER.findall(said), *LAMBDA.findall(said)] for name in them.split()]
     number = {name: f"v{at}" for at, name in enumerate(dict.fromkeys(bound))}
     said = re.sub(r"[^\s().,:]+", lambda word: number.get(word[0], word[0]), said)
@@ -83,7 +87,10 @@ def main(words):
         print("    " + ", ".join(f"{file}: {name}" for file, name, *_ in them))
     lines = sum(size for it in often for *_, size in it[1:])
     across = sum(len({file.split("/")[0] for file, *_ in it}) > 1 for it in often)
-    print(f"{len(often)} statements are proved in two files or more, {across} of them in two crates or more; {lines} lines would go")
+    print(
+        f"{len(often)} statements are proved in two files or more, {across} of them in two crates or more; {lines} "
+        "lines would go"
+    )
     return 0
 
 

@@ -1,9 +1,11 @@
-#!/usr/bin/env python3
-"""Lists the public functions of the crates that no test and no table calls: which neither a test function nor a program that the gate runs on a table (mtp2_play,
-trials) comes to, by the names in their bodies. A name says too much rather than too little: a method counts as called where one of that name is. Functions
-without code and those of a file laws.rt, which are laws, aren't asked for. What docs/proving.md names with its reason, under 'Public functions that no test calls', isn't listed.
+"""Lists the public functions of the crates that no test and no table calls: which neither a test function nor a program
+that the gate runs on a table (mtp2_play, trials) comes to, by the names in their bodies. A name says too much rather
+than too little: a method counts as called where one of that name is. Functions without code and those of a file
+laws.rt, which are laws, aren't asked for. What docs/proving.md names with its reason, under 'Public functions that no
+test calls', isn't listed.
 
-usage: tools/looks/untested             ends with status 1 where it lists something, or docs/proving.md names what is called
+usage: tools/looks/untested
+           ends with status 1 where it lists something, or docs/proving.md names what is called
        tools/looks/untested --all       lists those with a reason too"""
 import pathlib
 import re
@@ -26,11 +28,18 @@ def type_before(words, at):
         if not depth:
             break
         at -= 1
-    return words[at - 2] if words[at] == "<" and words[at - 1] == "::" else words[at - 1] if words[at] == "<" else words[at]
+    return (
+        words[at - 2]
+        if words[at] == "<" and words[at - 1] == "::"
+        else words[at - 1]
+        if words[at] == "<"
+        else words[at]
+    )
 
 
 class Function:
-    """A function: its crate, the type or trait that it belongs to, its name, and the names that stand in its body, each with what stands before it."""
+    """A function: its crate, the type or trait that it belongs to, its name, and the names that stand in its body, each
+    with what stands before it."""
 
     def __init__(self, crate, owner, name, is_law, is_public, is_root, body):
         self.crate, self.owner, self.name, self.is_law = crate, owner, name, is_law
@@ -106,7 +115,15 @@ def functions(path, crate):
             is_test = "test" in before and "#" in before
             is_public = bool(before) and before[-1] == "pub" or before[-2:] == ["pub", "const"]
             body = words[start + 1 : end - 1] if start is not None else []
-            yield Function(crate, owner, words[at + 1], path.name == "laws.rt", is_public and not is_trait, is_test or is_trait, body)
+            yield Function(
+                crate,
+                owner,
+                words[at + 1],
+                path.name == "laws.rt",
+                is_public and not is_trait,
+                is_test or is_trait,
+                body,
+            )
             at = end
             continue
         at += 1
@@ -145,11 +162,19 @@ def reasons():
     if REASONS not in text:
         return set()
     part = re.split(r"\n##", text.split(REASONS)[1])[0]
-    return {f"{crate}: {name}" for crate, names in re.findall(r"^- `(\w+)`: ((?:`[\w:]+`(?:, | and )?)+)", part, re.M) for name in re.findall(r"`([\w:]+)`", names)}
+    return {
+        f"{crate}: {name}"
+        for crate, names in re.findall(r"^- `(\w+)`: ((?:`[\w:]+`(?:, | and )?)+)", part, re.M)
+        for name in re.findall(r"`([\w:]+)`", names)
+    }
 
 
 def main(words):
-    every = [it for path in sorted((ROOT / "crates").glob("*/src/**/*.rt")) for it in functions(path, path.relative_to(ROOT / "crates").parts[0])]
+    every = [
+        it
+        for path in sorted((ROOT / "crates").glob("*/src/**/*.rt"))
+        for it in functions(path, path.relative_to(ROOT / "crates").parts[0])
+    ]
     seen, known = called(every), reasons()
     asked = [it for it in every if it.is_public and it.has_code and not it.is_law]
     lacking = {it.shown(): it for it in asked if id(it) not in seen}
@@ -158,7 +183,10 @@ def main(words):
     for name in sorted(known - set(lacking)):
         print(f"docs/proving.md names {name}, which is called or isn't there")
     found = len(set(lacking) - known) + len(known - set(lacking))
-    print(f"{len(asked)} public functions with code, {len(lacking)} that no test or table calls, {len(set(lacking) & known)} of them with a reason")
+    print(
+        f"{len(asked)} public functions with code, {len(lacking)} that no test or table calls, "
+        f"{len(set(lacking) & known)} of them with a reason"
+    )
     return 1 if found else 0
 
 

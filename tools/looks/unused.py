@@ -1,12 +1,12 @@
-#!/usr/bin/env python3
 """Lists the lemmas and definitions that nothing names: what may go.
 
 usage: tools/looks/unused [CRATE ..]     of the crates that are named, or of the whole repository
 
-It reads the items of proofs/*.antt and specs/*.antt (but proofs/Examples.antt, which nothing names), and asks for each whether its name stands in a
-source, a definition or a proof of any crate outside the item's own lines, imports left out (but for those that give another name). What only unused
-items name is unused too. It reads the files alone: a name that several items have, or a variable, counts as used for all of them, so a few more may be
-unused. Before an item goes, a check of its crate and of the crates above decides; tools/ready says where a README names it."""
+It reads the items of proofs/*.antt and specs/*.antt (but proofs/Examples.antt, which nothing names), and asks for each
+whether its name stands in a source, a definition or a proof of any crate outside the item's own lines, imports left out
+(but for those that give another name). What only unused items name is unused too. It reads the files alone: a name that
+several items have, or a variable, counts as used for all of them, so a few more may be unused. Before an item goes, a
+check of its crate and of the crates above decides; tools/ready says where a README names it."""
 import collections
 import pathlib
 import re
@@ -16,7 +16,23 @@ ROOT = pathlib.Path(__file__).resolve().parents[2]
 HEAD = re.compile(r"(?:(?:pub|unfoldable|abbrev|opaque|record|data|mutual)\s+)*([^\s:(){},.;]+)")
 IMPORT = re.compile(r"^(?:pub |ghost )*use\s[^{;\n]*(?:\{[^}]*\}?)?[^\n]*", re.M)
 WORD = re.compile(r"[^\s(){}\[\].,;:\"@&*#!<>=/|]+")
-NO_ITEMS = ("use", "pub use", "module", "mod", "pub mod", "syntax", "pub syntax", "open", "import", "infix", "infixl", "infixr", "private", "ruleset", "pub ruleset")
+NO_ITEMS = (
+    "use",
+    "pub use",
+    "module",
+    "mod",
+    "pub mod",
+    "syntax",
+    "pub syntax",
+    "open",
+    "import",
+    "infix",
+    "infixl",
+    "infixr",
+    "private",
+    "ruleset",
+    "pub ruleset",
+)
 
 
 def words(text):
@@ -27,7 +43,8 @@ def words(text):
 
 
 def blocks(lines):
-    """The lines of a file with their numbers, cut before each one that isn't indented; a remark goes with what follows it."""
+    """The lines of a file with their numbers, cut before each one that isn't indented; a remark goes with what follows
+    it."""
     block, ended = [], False
     for number, line in enumerate(lines, 1):
         starts = line.strip() and not line[0].isspace() and line[0] not in "})]"
@@ -67,8 +84,11 @@ def unused(counts, known):
     """The items that nothing names, again and again without those that are unused."""
     gone, more = set(), True
     while more:
-        more = {item for item, (_, own) in known.items() if item not in gone
-                and all(counts[part] <= own[part] for part in parts(item[1]))}
+        more = {
+            item
+            for item, (_, own) in known.items()
+            if item not in gone and all(counts[part] <= own[part] for part in parts(item[1]))
+        }
         for item in more:
             counts -= known[item][1]
         gone |= more
@@ -77,7 +97,12 @@ def unused(counts, known):
 
 def main(names):
     crates = ROOT / "crates"
-    files = [it for part in ("src", "specs", "proofs") for it in sorted(crates.glob(f"*/{part}/**/*")) if it.suffix in (".rt", ".antt")]
+    files = [
+        it
+        for part in ("src", "specs", "proofs")
+        for it in sorted(crates.glob(f"*/{part}/**/*"))
+        if it.suffix in (".rt", ".antt")
+    ]
     counts = collections.Counter()
     for file in files:
         counts += words(file.read_text())

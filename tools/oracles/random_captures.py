@@ -1,20 +1,18 @@
-#!/usr/bin/env python3
-"""Holds captures of `mtp2_play line` against tools/oracles/plain_capture.py, on the lines of tools/oracles/random_lines: the octets that go out are those without a capture,
-and the capture is that of the octets each way.
+"""Holds captures of `mtp2_play line` against tools/oracles/plain_capture.py, on the lines of
+tools/oracles/random_lines: the octets that go out are those without a capture, and the capture is that of the octets
+each way.
 
-usage: tools/oracles/random_captures [COUNT [SEED]]     100 lines where nothing is said; ends with status 1 where one differs"""
+usage: tools/oracles/random_captures [COUNT [SEED]]
+           100 lines where nothing is said; ends with status 1 where one differs"""
 import pathlib
 import sys
 import tempfile
 
-sys.path += map(str, pathlib.Path(__file__).resolve().parents[1].glob("*"))
-
-import plain_capture
-from built import PLAY, Run, missing, tool
-from plain_tied import turned
-from random_cases import dice
-
-lines = tool("random_lines")
+from tools.oracles import plain_capture
+from tools.oracles import random_lines as lines
+from tools.oracles.plain_tied import turned
+from tools.oracles.random_cases import dice
+from tools.steps.built import PLAY, Run, missing
 
 
 def fault(number, seed, path):

@@ -1,37 +1,30 @@
-#!/usr/bin/env python3
-"""Holds `mtp2_play diff` against tools/oracles/plain_diff.py on random pairs of process texts: a text of examples/ or one made by the grammar, and the same with few changes: a token
-replaced, statements or whole parts moved, connections renamed, something declared in front of the others or left out.
+"""Holds `mtp2_play diff` against tools/oracles/plain_diff.py on random pairs of process texts: a text of examples/ or
+one made by the grammar, and the same with few changes: a token replaced, statements or whole parts moved, connections
+renamed, something declared in front of the others or left out.
 
-usage: tools/oracles/random_diffs [COUNT [SEED]] [-j JOBS]     300 pairs where nothing is said; ends with status 1 where one differs
+usage: tools/oracles/random_diffs [COUNT [SEED]] [-j JOBS]
+           300 pairs where nothing is said; ends with status 1 where one differs
        tools/oracles/random_diffs [COUNT [SEED]] --only N      makes the Nth pair and says what comes of it
 
-The first text of each pair is left in out/random_diffs/; of a pair that differs the second one too, with both answers. MTP2_PLAY names another program than the built one."""
-import importlib.machinery
-import importlib.util
-import pathlib
+The first text of each pair is left in out/random_diffs/; of a pair that differs the second one too, with both answers.
+MTP2_PLAY names another program than the built one."""
 import re
 import sys
 import zlib
 
-sys.path += map(str, pathlib.Path(__file__).resolve().parents[1].glob("*"))
+from tools.oracles import random_texts as texts
+from tools.oracles.plain_check import Refusal, check
+from tools.oracles.plain_diff import compare
+from tools.oracles.random_cases import hold
+from tools.steps.built import ROOT
 
-from built import ROOT
-from plain_check import Refusal, check
-from plain_diff import compare
-from random_cases import hold
-
-
-def beside(name):
-    """The tool of this name in this folder, as a module."""
-    path = str(pathlib.Path(__file__).resolve().parent / name)
-    loader = importlib.machinery.SourceFileLoader(name, path)
-    module = importlib.util.module_from_spec(importlib.util.spec_from_loader(name, loader))
-    loader.exec_module(module)
-    return module
-
-
-texts = beside("random_texts")
-ALIKE = [[b"+", b"-", b"*"], [b"AND", b"OR", b"XOR"], [b"=", b"/=", b"<", b"<=", b">", b">="], [b"TRUE", b"FALSE"], [b"/", b"MOD", b"REM"]]
+ALIKE = [
+    [b"+", b"-", b"*"],
+    [b"AND", b"OR", b"XOR"],
+    [b"=", b"/=", b"<", b"<=", b">", b">="],
+    [b"TRUE", b"FALSE"],
+    [b"/", b"MOD", b"REM"],
+]
 ROOM = ROOT / "out" / "random_diffs"
 
 
@@ -79,7 +72,14 @@ def renamed(dice, text):
 
 def declared(dice, text):
     """Something in front of what is declared, so that numbers move."""
-    word, more = dice.choice([(rb"\bDCL\b", rb"DCL zz Integer := 7,"), (rb"\bSIGNAL\b", rb"SIGNAL Zz,"), (rb"\bTIMER\b", rb"TIMER Zt,"), (rb"\bSTATE\b", rb"STATE Zs; ENDSTATE; STATE")])
+    word, more = dice.choice(
+        [
+            (rb"\bDCL\b", rb"DCL zz Integer := 7,"),
+            (rb"\bSIGNAL\b", rb"SIGNAL Zz,"),
+            (rb"\bTIMER\b", rb"TIMER Zt,"),
+            (rb"\bSTATE\b", rb"STATE Zs; ENDSTATE; STATE"),
+        ]
+    )
     return re.sub(rb"(?i)" + word, more, text, count=1)
 
 

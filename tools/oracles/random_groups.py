@@ -1,25 +1,37 @@
-#!/usr/bin/env python3
-"""Holds `mtp2_play play` against tools/oracles/plain_group.py on random scripts of link sets, on the sets of tools/oracles/random_terminals.
+"""Holds `mtp2_play play` against tools/oracles/plain_group.py on random scripts of link sets, on the sets of
+tools/oracles/random_terminals.
 
-usage: tools/oracles/random_groups [COUNT [SEED]] [-j JOBS]     100 scripts where nothing is said; ends with status 1 where one differs
+usage: tools/oracles/random_groups [COUNT [SEED]] [-j JOBS]
+           100 scripts where nothing is said; ends with status 1 where one differs
        tools/oracles/random_groups [COUNT [SEED]] --only N      prints the Nth script and what comes of it
-       tools/oracles/random_groups --plain COUNT                plays them by the plain player alone, and tells what was seen
+       tools/oracles/random_groups --plain COUNT
+           plays them by the plain player alone, and tells what was seen
 
-A script is made while the plain player plays it, so that its messages of changeover are mostly such as the other end could send just then. One that differs
-is left in out/random_groups/, with both answers. MTP2_PLAY names another program than the built one."""
+A script is made while the plain player plays it, so that its messages of changeover are mostly such as the other end
+could send just then. One that differs is left in out/random_groups/, with both answers. MTP2_PLAY names another program
+than the built one."""
 import collections
-import pathlib
 import random
 import sys
 
-sys.path += map(str, pathlib.Path(__file__).resolve().parents[1].glob("*"))
+from tools.oracles import random_terminals as terminals
+from tools.oracles.plain_group import (
+    ALONE,
+    COA,
+    COO,
+    ECA,
+    ECO,
+    OTHER,
+    OWN,
+    Player,
+    command,
+    is_bound,
+    labelled,
+    play_text,
+)
+from tools.oracles.plain_term import Refused
+from tools.oracles.random_cases import hold
 
-from built import tool
-from plain_group import ALONE, COA, COO, ECA, ECO, OTHER, OWN, Player, command, is_bound, labelled, play_text
-from plain_term import Refused
-from random_cases import hold
-
-terminals = tool("random_terminals")
 OF_TERMINALS = ["accepted", "errors", "retrieve", "told", "units"]
 UP = ["command power", "command start", "unit FFFF0100", "unit FFFF0101", "tick 8200", "unit FFFF00"]
 
@@ -28,7 +40,9 @@ def order(dice, links, at):
     """A message of changeover for a link, as the other end could send it; now and then one that it couldn't."""
     link = links[at]
     sender, heading = link.sender, dice.choice([COO, COA, COA, COA, ECO, ECA])
-    fsn = (sender.acknowledged - sender.origin - 1 + dice.choice([0, link.sent(), dice.randrange(link.sent() + 1)])) % 128
+    fsn = (
+        sender.acknowledged - sender.origin - 1 + dice.choice([0, link.sent(), dice.randrange(link.sent() + 1)])
+    ) % 128
     if dice.random() < 0.05:
         fsn = dice.randrange(128)
     rest = [heading] if heading in (ECO, ECA) else [heading, fsn]
@@ -48,7 +62,18 @@ def sending(dice):
 
 def bound(dice):
     """A message that is bound to a link, or now and then one that isn't quite."""
-    indicator, rest = dice.choice([(0, [0x11, dice.randrange(256)]), (0, [0x21, dice.randrange(256)]), (0, [0x12]), (0, [0x22]), (0, [0x51, 3]), (0, [0x61, 3]), (0, [0x17]), (1, None)])
+    indicator, rest = dice.choice(
+        [
+            (0, [0x11, dice.randrange(256)]),
+            (0, [0x21, dice.randrange(256)]),
+            (0, [0x12]),
+            (0, [0x22]),
+            (0, [0x51, 3]),
+            (0, [0x61, 3]),
+            (0, [0x17]),
+            (1, None),
+        ]
+    )
     if rest is None:
         length = dice.choice([1, 4, 15])
         rest = [dice.choice([0x11, 0x21]), length * 16 + dice.randrange(16), *dice.randbytes(length)]
@@ -60,9 +85,23 @@ def steps(dice, player):
     """What may come next in a changeover of the link that is spoken of."""
     link = player.group.links[player.on]
     if link.out:
-        return dice.choice(["divert", "divert", "divert", "retrieve", "abandon", "command start", order(dice, player.group.links, player.on)])
+        return dice.choice(
+            [
+                "divert",
+                "divert",
+                "divert",
+                "retrieve",
+                "abandon",
+                "command start",
+                order(dice, player.group.links, player.on),
+            ]
+        )
     if link.changing:
-        return dice.choice(["retrieve", "retrieve", "abandon", order(dice, player.group.links, player.on)] if link.answered else [order(dice, player.group.links, player.on), "retrieve", "tick 700", "command start"])
+        return dice.choice(
+            ["retrieve", "retrieve", "abandon", order(dice, player.group.links, player.on)]
+            if link.answered
+            else [order(dice, player.group.links, player.on), "retrieve", "tick 700", "command start"]
+        )
     return dice.choice(["fail", "fail", "rebalance", "retrieve", "divert", order(dice, player.group.links, player.on)])
 
 
@@ -87,20 +126,39 @@ def next_lines(dice, player):
     if kind == "steps":
         return [steps(dice, player)]
     if kind == "shown":
-        return [dice.choice(["table", "table", "held", "unsure", "link", "link", "state LSC", "value LSC.1 r", "state LSC.2", "state Nobody"])]
+        return [
+            dice.choice(
+                [
+                    "table",
+                    "table",
+                    "held",
+                    "unsure",
+                    "link",
+                    "link",
+                    "state LSC",
+                    "value LSC.1 r",
+                    "state LSC.2",
+                    "state Nobody",
+                ]
+            )
+        ]
     if kind == "busy":
         return [f"tick {dice.choice([0, 1, 100, 700, 999, 1399, 1400, 65536])}"]
     if kind == "down":
         return [dice.choice(["command stop", "unit FFFF0103", "unit FFFF0100"])]
     if kind == "bound":
         message = bound(dice)
-        return [f"{'bound' if is_bound(bytes.fromhex(message), OWN, OTHER) and dice.random() < 0.9 else 'send'} {message}"]
+        return [
+            f"{'bound' if is_bound(bytes.fromhex(message), OWN, OTHER) and dice.random() < 0.9 else 'send'} {message}"
+        ]
     if kind == "admit":
         return [f"admit {dice.choice(['yes', 'yes', 'no'])}"]
     if kind == "terminal":
         line = terminals.next_line(dice, link)
         # (what only a terminal's script knows becomes a remark)
-        return [sending(dice) if line.startswith("msu") else f"# {line}" if line.split(" ")[0] in OF_TERMINALS else line]
+        return [
+            sending(dice) if line.startswith("msu") else f"# {line}" if line.split(" ")[0] in OF_TERMINALS else line
+        ]
     return [dice.choice([*ALONE, order(dice, links, player.on), "# remark", "", "expect ok"])]
 
 
@@ -124,7 +182,25 @@ def script(dice, text):
             except Refused:
                 pass
     if dice.random() < 0.02:
-        lines.insert(dice.randrange(1, len(lines)), dice.choice(["rest", "unit FF", "admit", "link 1", "command go", "msu 800102", "tick -1", "fail 1", "on", "send 80024000", "bound 800240000011", "bound"]))
+        lines.insert(
+            dice.randrange(1, len(lines)),
+            dice.choice(
+                [
+                    "rest",
+                    "unit FF",
+                    "admit",
+                    "link 1",
+                    "command go",
+                    "msu 800102",
+                    "tick -1",
+                    "fail 1",
+                    "on",
+                    "send 80024000",
+                    "bound 800240000011",
+                    "bound",
+                ]
+            ),
+        )
     lines += ["table", "unsure", *(it for at in range(links) for it in (f"on {at}", "held", "link", "state LSC"))]
     return "\n".join(lines) + dice.choice(["", "\n"])
 

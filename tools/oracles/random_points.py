@@ -1,40 +1,59 @@
-#!/usr/bin/env python3
-"""Holds what `mtp2_play check` points at in a refused text, and what it says of it, against tools/oracles/plain_point.py and plain_reasons.py: each text is an accepted one, of examples/ or made
-by the grammar, in which one word was changed: another of its kind, one of any kind, one left out, one more.
+"""Holds what `mtp2_play check` points at in a refused text, and what it says of it, against
+tools/oracles/plain_point.py and plain_reasons.py: each text is an accepted one, of examples/ or made by the grammar, in
+which one word was changed: another of its kind, one of any kind, one left out, one more.
 
-usage: tools/oracles/random_points [COUNT [SEED]] [-j JOBS]     300 refused texts where nothing is said; ends with status 1 where one differs
+usage: tools/oracles/random_points [COUNT [SEED]] [-j JOBS]
+           300 refused texts where nothing is said; ends with status 1 where one differs
        tools/oracles/random_points [COUNT [SEED]] --only N      prints the Nth text and what comes of it
 
 A text that differs is left in out/random_points/, with both answers. MTP2_PLAY
 names another program than the built one."""
 import functools
-import importlib.machinery
-import importlib.util
-import pathlib
 import sys
 
-sys.path += map(str, pathlib.Path(__file__).resolve().parents[1].glob("*"))
+from tools.oracles import random_texts as texts
+from tools.oracles.plain_commands import check_says
+from tools.oracles.plain_point import differs, ends, refusal
+from tools.oracles.plain_reader import lex
+from tools.oracles.random_cases import hold
 
-from plain_commands import check_says
-from plain_point import differs, ends, refusal
-from plain_reader import lex
-from random_cases import hold
-
-
-
-def beside(name):
-    """The tool of this name in this folder, as a module."""
-    path = str(pathlib.Path(__file__).resolve().parent / name)
-    loader = importlib.machinery.SourceFileLoader(name, path)
-    module = importlib.util.module_from_spec(importlib.util.spec_from_loader(name, loader))
-    loader.exec_module(module)
-    return module
-
-
-texts = beside("random_texts")
 # Words that stand in texts seldom.
-POOL = [b"ENV", b"SENDER", b"NOW", b"STOP", b"JOIN", b"ELSE", b"SAVE", b"-", b"MOD", b"'it''s'", b"(", b")", b";", b",", b":=", b":", b"0", b"2147483647", b"START", b"TRUE", b"NOT", b"TIMER",
-        b"CONNECTION", b"Nosuch", b"Integer", b"Boolean", b"TASK", b"OUTPUT", b"NEXTSTATE", b"=", b"<", b"IN", b"33", b"TO"]
+POOL = [
+    b"ENV",
+    b"SENDER",
+    b"NOW",
+    b"STOP",
+    b"JOIN",
+    b"ELSE",
+    b"SAVE",
+    b"-",
+    b"MOD",
+    b"'it''s'",
+    b"(",
+    b")",
+    b";",
+    b",",
+    b":=",
+    b":",
+    b"0",
+    b"2147483647",
+    b"START",
+    b"TRUE",
+    b"NOT",
+    b"TIMER",
+    b"CONNECTION",
+    b"Nosuch",
+    b"Integer",
+    b"Boolean",
+    b"TASK",
+    b"OUTPUT",
+    b"NEXTSTATE",
+    b"=",
+    b"<",
+    b"IN",
+    b"33",
+    b"TO",
+]
 
 
 def is_accepted(text):
@@ -47,7 +66,8 @@ def words(text):
 
 
 def changed(dice, text):
-    """The text with one word changed: one of its kind in its place, one of any kind, none, the same once more, or one in front."""
+    """The text with one word changed: one of its kind in its place, one of any kind, none, the same once more, or one
+    in front."""
     found = words(text)
     kind, at, end = dice.choice(found)
     own, other = text[at:end], dice.choice(POOL)
@@ -82,7 +102,12 @@ SEEN = [it for it in texts.BASES[0] if is_accepted(it)]
 
 def case(dice):
     text = refused(dice)
-    return ["check", "stdin"], text, (*check_says(text), functools.partial(differs, "stdin", text)), f"{len(text)} octets, {refusal(text)}"
+    return (
+        ["check", "stdin"],
+        text,
+        (*check_says(text), functools.partial(differs, "stdin", text)),
+        f"{len(text)} octets, {refusal(text)}",
+    )
 
 
 if __name__ == "__main__":

@@ -1,35 +1,49 @@
-#!/usr/bin/env python3
-"""Holds `mtp2_play play` against tools/oracles/plain_play.py on random scripts: half of them over the texts of examples/ and examples/scripts/, half over random
-texts (those of tools/oracles/random_texts that are accepted), whose processes have up to 8 instances.
+"""Holds `mtp2_play play` against tools/oracles/plain_play.py on random scripts: half of them over the texts of
+examples/ and examples/scripts/, half over random texts (those of tools/oracles/random_texts that are accepted), whose
+processes have up to 8 instances.
 
-usage: tools/oracles/random_scripts [COUNT [SEED]] [-j JOBS]     200 scripts where nothing is said; ends with status 1 where one differs
+usage: tools/oracles/random_scripts [COUNT [SEED]] [-j JOBS]
+           200 scripts where nothing is said; ends with status 1 where one differs
        tools/oracles/random_scripts [COUNT [SEED]] --only N      prints the Nth script and what comes of it
 
-A script that differs is left in out/random_scripts/, with both answers; the random texts are left there too. The scripts are made of the names of their
-text and of a few that it lacks. MTP2_PLAY names another program than the built one."""
+A script that differs is left in out/random_scripts/, with both answers; the random texts are left there too. The
+scripts are made of the names of their text and of a few that it lacks. MTP2_PLAY names another program than the built
+one."""
 import hashlib
-import pathlib
 import sys
 
-sys.path += map(str, pathlib.Path(__file__).resolve().parents[1].glob("*"))
-
-from built import ROOT, tool
-from plain_check import P, Refusal, check, lex
-from plain_play import play
-from random_cases import hold
+from tools.oracles.plain_check import P, Refusal, check, lex
+from tools.oracles.plain_play import play
+from tools.oracles.random_cases import hold
+from tools.oracles.random_texts import Text
+from tools.steps.built import ROOT
 
 VALUES = ["0", "1", "2", "-1", "4", "100", "2147483647", "-2147483648", "true", "false", "4711", "8"]
 
 
 def names_of(text):
-    """The names of the processes, with their variables, and of the signals with their sorts. A process that has several instances stands there
-    for each, and for one that there isn't."""
+    """The names of the processes, with their variables, and of the signals with their sorts. A process that has several
+    instances stands there for each, and for one that there isn't."""
     entities = P(text, lex(text)).block()
     signals = [(name[0], sorts) for it in entities if it[0] == "signals" for name, sorts in it[1]]
     parsed = [it[1] for it in entities if it[0] == "process"]
-    called = {it[0][0].lower(): [it[0][0], *(f"{it[0][0]}.{k}" for k in range(2, it[5] + 2) if it[5] > 1)] for it in parsed}
-    processes = [(word, [name[0] for d in it[1] if d[0] == "dcl" for name in d[1]]) for it in parsed for word in called[it[0][0].lower()]]
-    routes = [(word, s[0]) for it in entities if it[0] == "route" for a, b, ss in it[2] if a == "ENV" and b != "ENV" for s in ss for word in called[b[0].lower()]]
+    called = {
+        it[0][0].lower(): [it[0][0], *(f"{it[0][0]}.{k}" for k in range(2, it[5] + 2) if it[5] > 1)] for it in parsed
+    }
+    processes = [
+        (word, [name[0] for d in it[1] if d[0] == "dcl" for name in d[1]])
+        for it in parsed
+        for word in called[it[0][0].lower()]
+    ]
+    routes = [
+        (word, s[0])
+        for it in entities
+        if it[0] == "route"
+        for a, b, ss in it[2]
+        if a == "ENV" and b != "ENV"
+        for s in ss
+        for word in called[b[0].lower()]
+    ]
     return processes, signals, routes
 
 
@@ -61,8 +75,10 @@ def script(dice, names):
         process, variables = dice.choice(processes)
         if dice.random() < 0.02:
             process = "Nobody"
-        kind = dice.choices(["offer", "begin", "finish", "skip", "tick", "env", "rest", "flood", "state", "value", "expect", "bad"],
-                            [20, 16, 16, 6, 8, 10, 6, 3, 4, 8, 0.3, 0.1])[0]
+        kind = dice.choices(
+            ["offer", "begin", "finish", "skip", "tick", "env", "rest", "flood", "state", "value", "expect", "bad"],
+            [20, 16, 16, 6, 8, 10, 6, 3, 4, 8, 0.3, 0.1],
+        )[0]
         if kind == "offer":
             lines.append(f"offer {offer(dice, *names)}")
         elif kind == "flood":
@@ -93,13 +109,12 @@ def texts():
 
 
 TABLE, ROOM = list(texts()), ROOT / "out" / "random_scripts"
-made_text = tool("random_texts").Text
 
 
 def random_text(dice):
     """A random text that is accepted, in a file of its own."""
     while True:
-        text = made_text(dice).made()
+        text = Text(dice).made()
         try:
             check(text)
         except (Refusal, RecursionError):

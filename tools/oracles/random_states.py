@@ -1,33 +1,19 @@
-#!/usr/bin/env python3
-"""Holds `mtp2_play draw SET PROCESS --states` against tools/oracles/plain_states.py on a process of accepted process texts: those of examples/ and such as are made by the grammar.
+"""Holds `mtp2_play draw SET PROCESS --states` against tools/oracles/plain_states.py on a process of accepted process
+texts: those of examples/ and such as are made by the grammar.
 
-usage: tools/oracles/random_states [COUNT [SEED]] [-j JOBS]     300 diagrams where nothing is said; ends with status 1 where one differs
+usage: tools/oracles/random_states [COUNT [SEED]] [-j JOBS]
+           300 diagrams where nothing is said; ends with status 1 where one differs
        tools/oracles/random_states [COUNT [SEED]] --only N      prints the Nth text and what comes of it
 
-A text whose diagram differs is left in out/random_states/, with both answers. MTP2_PLAY names another program than the built one."""
-import importlib.machinery
-import importlib.util
-import pathlib
+A text whose diagram differs is left in out/random_states/, with both answers. MTP2_PLAY names another program than the
+built one."""
 import sys
 
-sys.path += map(str, pathlib.Path(__file__).resolve().parents[1].glob("*"))
-
-from plain_point import refusal
-from plain_reader import P, lex
-from plain_states import TooMany, draw
-from random_cases import hold
-
-
-def beside(name):
-    """The tool of this name in this folder, as a module."""
-    path = str(pathlib.Path(__file__).resolve().parent / name)
-    loader = importlib.machinery.SourceFileLoader(name, path)
-    module = importlib.util.module_from_spec(importlib.util.spec_from_loader(name, loader))
-    loader.exec_module(module)
-    return module
-
-
-texts = beside("random_texts")
+from tools.oracles import random_texts as texts
+from tools.oracles.plain_point import refusal
+from tools.oracles.plain_reader import P, lex
+from tools.oracles.plain_states import TooMany, draw
+from tools.oracles.random_cases import hold
 
 
 def processes(text):

@@ -1,33 +1,49 @@
-#!/usr/bin/env python3
-"""Holds `mtp2_play play` against tools/oracles/plain_term.py on random scripts of terminals: a third of them on `standard`, the others on `q703`, on copies of `standard` with
-other numbers and on the texts of examples/links.
+"""Holds `mtp2_play play` against tools/oracles/plain_term.py on random scripts of terminals: a third of them on
+`standard`, the others on `q703`, on copies of `standard` with other numbers and on the texts of examples/links.
 
-usage: tools/oracles/random_terminals [COUNT [SEED]] [-j JOBS]     100 scripts where nothing is said; ends with status 1 where one differs
+usage: tools/oracles/random_terminals [COUNT [SEED]] [-j JOBS]
+           100 scripts where nothing is said; ends with status 1 where one differs
        tools/oracles/random_terminals [COUNT [SEED]] --only N      prints the Nth script and what comes of it
-       tools/oracles/random_terminals --plain COUNT                plays them by the plain player alone, and tells which states were seen
+       tools/oracles/random_terminals --plain COUNT
+           plays them by the plain player alone, and tells which states were seen
 
-A script is made while the plain player plays it, so its units are mostly such as the other end could send just then. One that differs is left in
-out/random_terminals/, with both answers; the copies are left there too. MTP2_PLAY names another program than the built one."""
+A script is made while the plain player plays it, so its units are mostly such as the other end could send just then.
+One that differs is left in out/random_terminals/, with both answers; the copies are left there too. MTP2_PLAY names
+another program than the built one."""
 import collections
 import hashlib
-import pathlib
 import random
 import re
 import sys
 
-sys.path += map(str, pathlib.Path(__file__).resolve().parents[1].glob("*"))
-
-from plain_check import Refusal, check
-from plain_term import COMMANDS, MORE, PROCESSES, ROOT, USUAL, Terminal, command, do, play_text
-from plain_play import Refused
-from random_cases import hold
+from tools.oracles.plain_check import Refusal, check
+from tools.oracles.plain_play import Refused
+from tools.oracles.plain_term import COMMANDS, MORE, PROCESSES, ROOT, USUAL, Terminal, command, do, play_text
+from tools.oracles.random_cases import hold
 
 TEXT = (ROOT / "examples" / "standard.sdl").read_bytes()
 TEXTS = [f"examples/links/{it}.sdl" for it in ("strict", "counted", "least", "twofold", "orders", "counts")]
 NUMBER = re.compile(rb"\b\d+\b")
 ROOM = ROOT / "out" / "random_terminals"
-VARIABLES = [("LSC", "r"), ("LSC", "em"), ("LSC", "lpo"), ("LSC", "rpo"), ("IAC", "cp"), ("IAC", "more"), ("AERM", "n"), ("SUERM", "c"), ("SUERM", "n"),
-             ("SUERM", "octets"), ("SUERM", "said"), ("AERM", "said"), ("TXC", "run"), ("TXC", "cong"), ("RC", "k"), ("RC", "nosuch"), ("Nobody", "x")]
+VARIABLES = [
+    ("LSC", "r"),
+    ("LSC", "em"),
+    ("LSC", "lpo"),
+    ("LSC", "rpo"),
+    ("IAC", "cp"),
+    ("IAC", "more"),
+    ("AERM", "n"),
+    ("SUERM", "c"),
+    ("SUERM", "n"),
+    ("SUERM", "octets"),
+    ("SUERM", "said"),
+    ("AERM", "said"),
+    ("TXC", "run"),
+    ("TXC", "cong"),
+    ("RC", "k"),
+    ("RC", "nosuch"),
+    ("Nobody", "x"),
+]
 
 
 class Far:
@@ -58,18 +74,35 @@ class Far:
 
 
 def errors(dice):
-    return "line " + dice.choice(["007E", "007E007E", "007E" * dice.randrange(1, 8), "00", "FF", "FF" * dice.randrange(1, 40), "7E", "00" * 278 + "7E",
-                                  "00" * 279 + "7E", bytes(dice.randrange(256) for _ in range(dice.randrange(1, 60))).hex()])
+    return "line " + dice.choice(
+        [
+            "007E",
+            "007E007E",
+            "007E" * dice.randrange(1, 8),
+            "00",
+            "FF",
+            "FF" * dice.randrange(1, 40),
+            "7E",
+            "00" * 278 + "7E",
+            "00" * 279 + "7E",
+            bytes(dice.randrange(256) for _ in range(dice.randrange(1, 60))).hex(),
+        ]
+    )
 
 
 def in_service(dice, far):
-    kind = dice.choices(["msu", "out", "fill_in", "message", "busy", "outage", "status", "errors", "tick"], [10, 14, 10, 12, 2, 2, 1.5, 2, 8])[0]
+    kind = dice.choices(
+        ["msu", "out", "fill_in", "message", "busy", "outage", "status", "errors", "tick"],
+        [10, 14, 10, 12, 2, 2, 1.5, 2, 8],
+    )[0]
     if kind == "msu":
         return "msu " + bytes(dice.randrange(256) for _ in range(dice.choice([3, 4, 30, 273]))).hex()
     if kind == "out":
         return f"out {dice.choice([1, 1, 2, 3, 5, 8, 40])}"
     if kind in ("busy", "outage"):
-        return "command " + dice.choice(["busy", "free"] if kind == "busy" else ["outage", "back", "back", *dice.choice([["back"], MORE])])
+        return "command " + dice.choice(
+            ["busy", "free"] if kind == "busy" else ["outage", "back", "back", *dice.choice([["back"], MORE])]
+        )
     if kind == "status":
         return "unit " + far.status([4, 4, 5, 5, 5, 0, 1, 2, 3, 6, 7])
     if kind == "errors":
@@ -91,7 +124,11 @@ def under_way(dice, place, far):
     if dice.random() < 0.4:
         return f"tick {dice.choice([0, 1, 499, 500, 500, 1499, 8199, 8200, 8200, 8200, 24999, 45000, 65535, 65536])}"
     ready = place in ("alignedready", "alignednotready")
-    return "unit " + (far.fill_in() if ready and dice.random() < 0.7 else far.status([4, 3, 0, 5] if ready else [0, 0, 1, 1, 1, 1, 2, 3, 4, 5]))
+    return "unit " + (
+        far.fill_in()
+        if ready and dice.random() < 0.7
+        else far.status([4, 3, 0, 5] if ready else [0, 0, 1, 1, 1, 1, 2, 3, 4, 5])
+    )
 
 
 def called(dice, process):
@@ -105,12 +142,25 @@ def next_line(dice, terminal):
         return "command " + dice.choice(["emergency", "calm", "outage", "back", "busy", "free", *COMMANDS, *MORE])
     if dice.random() < 0.12:
         process, variable = dice.choice(VARIABLES)
-        return dice.choice([f"state {called(dice, dice.choice(PROCESSES))}", f"value {called(dice, process)} {variable}"])
+        return dice.choice(
+            [f"state {called(dice, dice.choice(PROCESSES))}", f"value {called(dice, process)} {variable}"]
+        )
     if dice.random() < 0.06:
-        return dice.choice(["accepted", "retrieve", f"retrieve {dice.choice([terminal.receiver.last, dice.randrange(128)])}", f"errors {dice.choice([1, 2, 4, 63, 64])}", f"units {dice.choice([1, 2, 3, 300])} {far.fill_in()}",
-                            f"units {dice.choice([1, 2, 3])} {far.message()}", *["told"] * (4 if terminal.keeps else 0)])
+        return dice.choice(
+            [
+                "accepted",
+                "retrieve",
+                f"retrieve {dice.choice([terminal.receiver.last, dice.randrange(128)])}",
+                f"errors {dice.choice([1, 2, 4, 63, 64])}",
+                f"units {dice.choice([1, 2, 3, 300])} {far.fill_in()}",
+                f"units {dice.choice([1, 2, 3])} {far.message()}",
+                *["told"] * (4 if terminal.keeps else 0),
+            ]
+        )
     if dice.random() < 0.01:
-        return dice.choice(["unit " + far.message(), "line 7E", "# remark", "", f"expect {dice.choice(['ok', 'silent'])}"])
+        return dice.choice(
+            ["unit " + far.message(), "line 7E", "# remark", "", f"expect {dice.choice(['ok', 'silent'])}"]
+        )
     return in_service(dice, far) if place in ("inservice", "procoutage") else under_way(dice, place, far)
 
 
@@ -120,7 +170,9 @@ def changed(dice):
         text = TEXT
         for _ in range(dice.choice([1, 1, 2, 3])):
             at = dice.choice(list(NUMBER.finditer(text)))
-            number = max(0, dice.choice([int(at[0]) + 1, int(at[0]) - 1, int(at[0]) * 2, int(at[0]) // 2, dice.randrange(12)]))
+            number = max(
+                0, dice.choice([int(at[0]) + 1, int(at[0]) - 1, int(at[0]) * 2, int(at[0]) // 2, dice.randrange(12)])
+            )
             text = text[: at.start()] + b"%d" % number + text[at.end() :]
         try:
             check(text)
@@ -150,7 +202,9 @@ def script(dice, text=TEXT, usual=()):
     mode, chosen = dice.choice(["basic", "cyclic"]), []
     if mode == "cyclic" and dice.random() < 0.5:
         chosen = [dice.choice([1, 2, 3, 7, 126, 127]), dice.choice([300, 301, 600, 2999, 8191, 8192])]
-    terminal, lines = Terminal(text, mode == "cyclic", *(chosen or usual)), [" ".join(["terminal", mode, *map(str, chosen)])]
+    terminal, lines = Terminal(text, mode == "cyclic", *(chosen or usual)), [
+        " ".join(["terminal", mode, *map(str, chosen)])
+    ]
     terminal.keeps = dice.random() < 0.5
     if dice.random() < 0.6:
         lines += ["command power", "command start", "unit FFFF0100", "unit FFFF0101", "tick 8200", "unit FFFF00"]
@@ -169,9 +223,36 @@ def script(dice, text=TEXT, usual=()):
     if terminal.keeps:
         lines += ["told"] * dice.randrange(1, 4)
     if dice.random() < 0.02:
-        lines.insert(dice.randrange(1, len(lines)), dice.choice(["rest", "unit FF", "command go", "msu 8001", "tick -1", "errors 0", "units 1 FFFF", "units 1000001 FFFF00", "told 1", "retrieve 128", "offer LSC PowerOn", "out"]))
+        lines.insert(
+            dice.randrange(1, len(lines)),
+            dice.choice(
+                [
+                    "rest",
+                    "unit FF",
+                    "command go",
+                    "msu 8001",
+                    "tick -1",
+                    "errors 0",
+                    "units 1 FFFF",
+                    "units 1000001 FFFF00",
+                    "told 1",
+                    "retrieve 128",
+                    "offer LSC PowerOn",
+                    "out",
+                ]
+            ),
+        )
     if dice.random() < 0.02:
-        lines[0] = dice.choice(["terminal basic 5 300", "terminal cyclic 0 300", "terminal cyclic 128 300", "terminal cyclic 1 299", "terminal cyclic 1 8193", "terminal cyclic 5"])
+        lines[0] = dice.choice(
+            [
+                "terminal basic 5 300",
+                "terminal cyclic 0 300",
+                "terminal cyclic 128 300",
+                "terminal cyclic 1 299",
+                "terminal cyclic 1 8193",
+                "terminal cyclic 5",
+            ]
+        )
     lines += [f"state {it}" for it in PROCESSES]
     return "\n".join(lines) + dice.choice(["", "\n"])
 

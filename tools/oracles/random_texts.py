@@ -1,34 +1,69 @@
-#!/usr/bin/env python3
-"""Holds `mtp2_play check` against tools/oracles/plain_check.py and plain_point.py on random process texts: half of them made by the grammar, mostly such as are accepted, and half
-texts of examples/ that were damaged: tokens or octets left out, doubled, changed, put elsewhere.
+"""Holds `mtp2_play check` against tools/oracles/plain_check.py and plain_point.py on random process texts: half of them
+made by the grammar, mostly such as are accepted, and half texts of examples/ that were damaged: tokens or octets left
+out, doubled, changed, put elsewhere.
 
-usage: tools/oracles/random_texts [COUNT [SEED]] [-j JOBS]     1,000 texts where nothing is said; ends with status 1 where one differs
+usage: tools/oracles/random_texts [COUNT [SEED]] [-j JOBS]
+           1,000 texts where nothing is said; ends with status 1 where one differs
        tools/oracles/random_texts [COUNT [SEED]] --only N      prints the Nth text and what comes of it
 
-A text that differs is left in out/random_texts/, with both answers. MTP2_PLAY names another program than the built one."""
+A text that differs is left in out/random_texts/, with both answers. MTP2_PLAY names another program than the built
+one."""
 import functools
-import pathlib
 import sys
 
-sys.path += map(str, pathlib.Path(__file__).resolve().parents[1].glob("*"))
-
-from built import tool
-from plain_check import Refusal, lex
-from plain_commands import check_says
-from plain_point import differs as points_elsewhere
-from random_cases import hold
+from tools.oracles.plain_check import Refusal, lex
+from tools.oracles.plain_commands import check_says
+from tools.oracles.plain_point import differs as points_elsewhere
+from tools.oracles.random_cases import hold
+from tools.steps import examples
 
 SORTS = ["Integer", "Boolean"]
 RELATIONS = ["=", "/=", "<", "<=", ">", ">="]
 NUMBERS = [0, 1, 2, 3, 7, 100, 2147483647]
-POOL = [b"ENV ", b"TO SENDER ", b"NEXTSTATE ", b"STOP; ", b"JOIN ", b"ELSE: ", b"(1, 2)", b"SAVE ", b"-", b"MOD ", b"'it''s'", b"COMMENT 'c'", b"/* c */", b"(", b")", b";",
-        b",", b":=", b"2147483647 ", b"2147483648 ", b"START; ", b"TRUE ", b"NOT ", b"TIMER ", b"CONNECTION ", b"\xc3\xa4", b"\xff", b"_", b"\n", b"(1,1)", b"(2)", b"(8,8)", b"(9,9)", b"(2,3)", b"(0)"]
+POOL = [
+    b"ENV ",
+    b"TO SENDER ",
+    b"NEXTSTATE ",
+    b"STOP; ",
+    b"JOIN ",
+    b"ELSE: ",
+    b"(1, 2)",
+    b"SAVE ",
+    b"-",
+    b"MOD ",
+    b"'it''s'",
+    b"COMMENT 'c'",
+    b"/* c */",
+    b"(",
+    b")",
+    b";",
+    b",",
+    b":=",
+    b"2147483647 ",
+    b"2147483648 ",
+    b"START; ",
+    b"TRUE ",
+    b"NOT ",
+    b"TIMER ",
+    b"CONNECTION ",
+    b"\xc3\xa4",
+    b"\xff",
+    b"_",
+    b"\n",
+    b"(1,1)",
+    b"(2)",
+    b"(8,8)",
+    b"(9,9)",
+    b"(2,3)",
+    b"(0)",
+]
 # The most octets of a text that is damaged, and of one of few that are longer.
 SHORT, LONG = 4000, 60000
 
 
 class Process:
-    """What a random process has: its name, its variables with their sorts, its timers, states and connections, and what comes to it and goes out by routes."""
+    """What a random process has: its name, its variables with their sorts, its timers, states and connections, and what
+    comes to it and goes out by routes."""
 
     def __init__(self, dice, number):
         self.name = f"P{number}"
@@ -45,7 +80,10 @@ class Text:
 
     def __init__(self, dice):
         self.dice, self.slips = dice, dice.choice([0, 0, 0, 0.004, 0.02, 0.06])
-        self.signals = {f"Sig{at}": [dice.choice(SORTS) for _ in range(dice.choice([0, 0, 1, 1, 2, 3, 4]))] for at in range(dice.randrange(1, 7))}
+        self.signals = {
+            f"Sig{at}": [dice.choice(SORTS) for _ in range(dice.choice([0, 0, 1, 1, 2, 3, 4]))]
+            for at in range(dice.randrange(1, 7))
+        }
         self.processes = [Process(dice, at) for at in range(dice.choice([1, 1, 2, 3]))]
 
     def slip(self):
@@ -72,7 +110,10 @@ class Text:
                 process.comes.update(signals if process.name == other else [])
                 for it in signals if process.name == one else []:
                     process.goes.setdefault(it, []).append(other)
-            paths.append(f"FROM {self.shown(one) if one != 'ENV' else one} TO {self.shown(other) if other != 'ENV' else other} WITH {', '.join(map(self.shown, signals))};")
+            paths.append(
+                f"FROM {self.shown(one) if one != 'ENV' else one} TO "
+                f"{self.shown(other) if other != 'ENV' else other} WITH {', '.join(map(self.shown, signals))};"
+            )
         return f"SIGNALROUTE r{number} {' '.join(paths)}"
 
     def variable(self, process, sort):
@@ -87,24 +128,42 @@ class Text:
         dice = self.dice
         name = self.variable(process, sort)
         if height == 0 or dice.random() < 0.3:
-            return name if name and dice.random() < 0.7 else self.number() if sort == "Integer" else dice.choice(["TRUE", "FALSE"])
+            return (
+                name
+                if name and dice.random() < 0.7
+                else self.number()
+                if sort == "Integer"
+                else dice.choice(["TRUE", "FALSE"])
+            )
         less = height - 1
         if sort == "Integer":
             kind = dice.randrange(4)
             if kind == 0:
-                made = f"{self.expression(process, sort, less)} {dice.choice(['/', 'MOD', 'REM'])} {self.number() if self.slip() else dice.choice([1, 2, 7, 128])}"
+                made = (
+                    f"{self.expression(process, sort, less)} {dice.choice(['/', 'MOD', 'REM'])} "
+                    f"{self.number() if self.slip() else dice.choice([1, 2, 7, 128])}"
+                )
             elif kind == 1:
                 made = f"-{self.expression(process, sort, 0)}"
             else:
-                made = f"{self.expression(process, sort, less)} {dice.choice(['+', '-', '*'])} {self.expression(process, sort, less)}"
+                made = (
+                    f"{self.expression(process, sort, less)} {dice.choice(['+', '-', '*'])} "
+                    f"{self.expression(process, sort, less)}"
+                )
         else:
             kind = dice.randrange(4)
             if kind == 0:
                 made = f"NOT {self.expression(process, sort, 0)}"
             elif kind == 1:
-                made = f"{self.expression(process, 'Integer', less)} {dice.choice(RELATIONS)} {self.expression(process, 'Integer', less)}"
+                made = (
+                    f"{self.expression(process, 'Integer', less)} {dice.choice(RELATIONS)} "
+                    f"{self.expression(process, 'Integer', less)}"
+                )
             else:
-                made = f"{self.expression(process, sort, less)} {dice.choice(['AND', 'OR', 'XOR', '=', '/='])} {self.expression(process, sort, less)}"
+                made = (
+                    f"{self.expression(process, sort, less)} {dice.choice(['AND', 'OR', 'XOR', '=', '/='])} "
+                    f"{self.expression(process, sort, less)}"
+                )
         return f"({made})" if dice.random() < 0.9 else made
 
     def constant(self, sort):
@@ -117,15 +176,23 @@ class Text:
         return self.dice.choice([str(low), f"{low}: {high}", f"{self.dice.choice(RELATIONS)} {low}", f"{high}: {low}"])
 
     def sending(self, process, has_sender):
-        signal = self.dice.choice(sorted(process.goes)) if process.goes and not self.slip() else self.dice.choice(sorted(self.signals))
-        values = [self.expression(process, self.dice.choice(SORTS) if self.slip() else it, 2) for it in self.signals[signal]]
+        signal = (
+            self.dice.choice(sorted(process.goes))
+            if process.goes and not self.slip()
+            else self.dice.choice(sorted(self.signals))
+        )
+        values = [
+            self.expression(process, self.dice.choice(SORTS) if self.slip() else it, 2) for it in self.signals[signal]
+        ]
         if self.slip():
             values.append("1")
         parties = [it for it in process.goes.get(signal, ["ENV"])]
         others = [it for it in parties if it != "ENV"]
         to = ""
         if len(set(parties)) > 1 or (others and self.dice.random() < 0.2):
-            to = " TO SENDER" if has_sender and self.dice.random() < 0.3 else f" TO {self.one(others)}" if others else ""
+            to = (
+                " TO SENDER" if has_sender and self.dice.random() < 0.3 else f" TO {self.one(others)}" if others else ""
+            )
         elif has_sender and self.dice.random() < 0.04:
             to = " TO SENDER"
         return f"OUTPUT {self.shown(signal)}{'(' + ', '.join(values) + ')' if values else ''}{to};"
@@ -137,7 +204,8 @@ class Text:
                 items.append(self.dice.choice(["'a text'", "''", "'it''s; /* no comment'"]))
             else:
                 name, sort = self.dice.choice(process.variables)
-                items.append(f"{self.shown(name)} := {self.expression(process, self.dice.choice(SORTS) if self.slip() else sort, self.dice.choice([0, 1, 2, 3]))}")
+                shown, wanted = self.shown(name), self.dice.choice(SORTS) if self.slip() else sort
+                items.append(f"{shown} := {self.expression(process, wanted, self.dice.choice([0, 1, 2, 3]))}")
         return f"TASK {', '.join(items)};"
 
     def decision(self, process, at, depth, has_sender):
@@ -149,7 +217,13 @@ class Text:
             question, labels = self.expression(process, "Boolean", 2), [it and f"({it})" for it in names]
         else:
             question = self.expression(process, "Integer", 2)
-            labels = [*(f"({', '.join(self.range() for _ in range(dice.choice([1, 1, 2])))})" for _ in range(dice.randrange(4))), None]
+            labels = [
+                *(
+                    f"({', '.join(self.range() for _ in range(dice.choice([1, 1, 2])))})"
+                    for _ in range(dice.randrange(4))
+                ),
+                None,
+            ]
         if self.slip():
             labels.pop()
         for label in labels:
@@ -166,7 +240,8 @@ class Text:
         return "STOP;" if kind > 0.93 else f"NEXTSTATE {self.one(process.states)};"
 
     def transition(self, process, at, depth, has_sender, is_whole):
-        """A transition, and whether it goes on behind its last statement. `at` is the first of the connections that it may join."""
+        """A transition, and whether it goes on behind its last statement. `at` is the first of the connections that it
+        may join."""
         dice, parts = self.dice, []
         for _ in range(dice.choice([0, 1, 1, 2, 3] if depth else [0, 1, 1, 2, 3, 4])):
             kind = dice.random()
@@ -179,7 +254,9 @@ class Text:
                 parts.append(self.sending(process, has_sender))
             elif kind < 0.6 and process.timers:
                 timer = self.one(process.timers)
-                parts.append(dice.choice([f"RESET({timer});", f"SET(NOW + {self.expression(process, 'Integer', 1)}, {timer});"]))
+                parts.append(
+                    dice.choice([f"RESET({timer});", f"SET(NOW + {self.expression(process, 'Integer', 1)}, {timer});"])
+                )
             else:
                 parts.append(self.task(process))
         if is_whole != self.slip() or (not is_whole and dice.random() < 0.5):
@@ -207,7 +284,15 @@ class Text:
         dice, number = self.dice, process.instances
         if self.slip():
             return dice.choice(["(0)", "(0,0)", "(9,9)", "(9)", f"({number},{number + 1})", "(2,1)", "(,2)"])
-        return dice.choice([*([""] if number == 1 else []), f"({number},{number})", f"({number})", f"({number},)", f"(0{number}, {number})"])
+        return dice.choice(
+            [
+                *([""] if number == 1 else []),
+                f"({number},{number})",
+                f"({number})",
+                f"({number},)",
+                f"(0{number}, {number})",
+            ]
+        )
 
     def process(self, process):
         dice = self.dice
@@ -216,14 +301,22 @@ class Text:
             parts.append(f"DCL {name} {sort}{f' := {self.constant(sort)}' if dice.random() < 0.75 else ''};")
         parts += [f"TIMER {it};" for it in process.timers]
         parts.append(f"START; {self.transition(process, 0, 0, False, True)[0]}")
-        bodies = [f"STATE {it}; {self.inputs(process)} {dice.choice(['', f'ENDSTATE {it};', 'ENDSTATE;'])}" for it in process.states]
-        bodies += [f"CONNECTION {it}: {self.transition(process, at + 1, 0, False, True)[0]} {dice.choice(['', 'ENDCONNECTION;'])}" for at, it in enumerate(process.connections)]
+        bodies = [
+            f"STATE {it}; {self.inputs(process)} {dice.choice(['', f'ENDSTATE {it};', 'ENDSTATE;'])}"
+            for it in process.states
+        ]
+        bodies += [
+            f"CONNECTION {it}: {self.transition(process, at + 1, 0, False, True)[0]} "
+            f"{dice.choice(['', 'ENDCONNECTION;'])}"
+            for at, it in enumerate(process.connections)
+        ]
         dice.shuffle(bodies)
         return " ".join([*parts, *bodies, f"ENDPROCESS {dice.choice(['', process.name])};"])
 
     def made(self):
         dice = self.dice
-        signals = [f"SIGNAL {', '.join(name + (f'({chr(44).join(sorts)})' if sorts else '') for name, sorts in self.signals.items())};"]
+        declared = [f"{name}({','.join(sorts)})" if sorts else name for name, sorts in self.signals.items()]
+        signals = [f"SIGNAL {', '.join(declared)};"]
         routes = [self.route(at) for at in range(dice.randrange(1, 2 + 2 * len(self.processes)))]
         entities = [*signals, *routes, *map(self.process, self.processes)]
         if dice.random() < 0.2:
@@ -231,13 +324,19 @@ class Text:
         if self.slip():
             entities.append(dice.choice(entities))
         text = f"BLOCK B; {' '.join(entities)} ENDBLOCK{dice.choice(['', ' b'])};"
-        return "".join(dice.choice(["\n", " ", "  ", "\t", " /* c */ ", "\r\n"]) if it == " " and dice.random() < 0.3 else it for it in text).encode()
+        return "".join(
+            dice.choice(["\n", " ", "  ", "\t", " /* c */ ", "\r\n"]) if it == " " and dice.random() < 0.3 else it
+            for it in text
+        ).encode()
 
 
 def tokens(text):
-    """The tokens of a text, each as its kind and its octets with what stands behind it; its octets where it has none."""
+    """The tokens of a text, each as its kind and its octets with what stands behind it; its octets where it has
+    none."""
     try:
-        found = [(it[0] if it[0] in ("name", "num") else "word" if it[0].isalpha() else "sign", it[2]) for it in lex(text)]
+        found = [
+            (it[0] if it[0] in ("name", "num") else "word" if it[0].isalpha() else "sign", it[2]) for it in lex(text)
+        ]
     except Refusal:
         return octets(text)
     return [(kind, text[one:other]) for (kind, one), (_, other) in zip(found, [*found[1:], ("", len(text))])]
@@ -283,7 +382,9 @@ def damaged(dice, text):
 
 def bases():
     """The texts that are damaged, all of which read: the short ones, and those that are longer."""
-    table = [(text.encode(), lines) for _, text, lines in tool("examples").texts() if len(text) <= LONG and text.count("(") < 1000]
+    table = [
+        (text.encode(), lines) for _, text, lines in examples.texts() if len(text) <= LONG and text.count("(") < 1000
+    ]
     texts = [text for text, lines in table if not lines.startswith(("refused L", "refused P"))]
     return [it for it in texts if len(it) <= SHORT], [it for it in texts if len(it) > SHORT]
 

@@ -1,23 +1,22 @@
-#!/usr/bin/env python3
-"""Holds `mtp2_play play` with `--trace`, `--chart`, `--coverage` or `--thrown` against tools/oracles/plain_trace.py on random scripts: those of random_scripts, of random_terminals,
-some of which ask what was measured too, and of random_groups, of which there are traces alone; a trace with `--every` or without, a chart of all turns or of some.
+"""Holds `mtp2_play play` with `--trace`, `--chart`, `--coverage` or `--thrown` against tools/oracles/plain_trace.py on
+random scripts: those of random_scripts, of random_terminals, some of which ask what was measured too, and of
+random_groups, of which there are traces alone; a trace with `--every` or without, a chart of all turns or of some.
 
-usage: tools/oracles/random_traces [COUNT [SEED]] [-j JOBS]     300 scripts where nothing is said; ends with status 1 where one differs
+usage: tools/oracles/random_traces [COUNT [SEED]] [-j JOBS]
+           300 scripts where nothing is said; ends with status 1 where one differs
        tools/oracles/random_traces [COUNT [SEED]] --only N      prints the Nth script and what comes of it
 With one of the four options itself, as in `random_traces 300 --coverage`, each script is held with that one.
 
-A script that differs is left in out/random_traces/, with both answers. MTP2_PLAY names another program than the built one."""
-import pathlib
+A script that differs is left in out/random_traces/, with both answers. MTP2_PLAY names another program than the built
+one."""
 import sys
 
-sys.path += map(str, pathlib.Path(__file__).resolve().parents[1].glob("*"))
-
-import plain_term
-import plain_trace
-from built import ROOT, tool
-from random_cases import hold
-
-BOOKS, TERMINALS, GROUPS = (tool(name).case for name in ("random_scripts", "random_terminals", "random_groups"))
+from tools.oracles import plain_term, plain_trace
+from tools.oracles.random_cases import hold
+from tools.oracles.random_groups import case as of_group
+from tools.oracles.random_scripts import case as of_book
+from tools.oracles.random_terminals import case as of_terminal
+from tools.steps.built import ROOT
 
 
 def text_of(word):
@@ -38,11 +37,16 @@ def measured(dice, script):
 
 
 def is_otherwise(told, ordered):
-    """What is wrong with what is told on standard error, where lines of its own may stand too, as of a signal that no route brings; whether their order is told."""
+    """What is wrong with what is told on standard error, where lines of its own may stand too, as of a signal that no
+    route brings; whether their order is told."""
 
     def look(said):
         found = b"".join(it for it in said.splitlines(True) if not it.startswith(b"mtp2_play:"))
-        return None if found == told or not ordered and sorted(found.splitlines()) == sorted(told.splitlines()) else f"{told!r}\nand not\n{found!r}"
+        return (
+            None
+            if found == told or not ordered and sorted(found.splitlines()) == sorted(told.splitlines())
+            else f"{told!r}\nand not\n{found!r}"
+        )
 
     return look
 
@@ -60,7 +64,7 @@ def wanted_of(seen, how, word):
 
 def case(dice):
     how, said = list(dice.choice(WANTED)), []
-    cases = dice.choice([BOOKS, TERMINALS, GROUPS] if "--trace" in how else [BOOKS, TERMINALS])
+    cases = dice.choice([of_book, of_terminal, of_group] if "--trace" in how else [of_book, of_terminal])
     if "--turns" in how:
         first = dice.randrange(20)
         how[1] = f"{first}..{first + dice.randrange(40)}"
@@ -74,7 +78,12 @@ def case(dice):
         seen, _ = plain_trace.seen_of(text_of(words[1]), script, "--every" in how, said.append, usual)
         told = lines(wanted_of(seen, how, words[1]))
     options = [*how, "/dev/stderr"]
-    return [*words, *options], script, (lines_said, status, is_otherwise(told, "--coverage" not in how)), f"{shown}, {' '.join(options)}"
+    return (
+        [*words, *options],
+        script,
+        (lines_said, status, is_otherwise(told, "--coverage" not in how)),
+        f"{shown}, {' '.join(options)}",
+    )
 
 
 def main(words):

@@ -1,19 +1,14 @@
-#!/usr/bin/env python3
-"""Plays the acceptance tests of examples/q781 (tools/q781) by the built program, on the sets `q703` and `standard`: a test fails just where known.txt says so. And
-each one-place change of `q703` in changes.txt whose test passes is seen by that test.
+"""Plays the acceptance tests of examples/q781 (tools/q781) by the built program, on the sets `q703` and `standard`: a
+test fails just where known.txt says so. And each one-place change of `q703` in changes.txt whose test passes is seen by
+that test.
 
 usage: tools/steps/acceptance [SET ..]     of crates/mtp2_play/out/mtp2_play, or of the program that MTP2_PLAY names
 
 The last line is `N passed, M failed`, and the status 1 where one failed."""
-import pathlib
 import sys
 
-sys.path += map(str, pathlib.Path(__file__).resolve().parents[1].glob("*"))
-
-from built import PLAY, Count, missing, side_by_side, tool
-
-# The processes that play side by side find it by this name.
-asked = sys.modules["q781"] = tool("q781")
+from tools import q781 as asked
+from tools.steps.built import PLAY, Count, missing
 
 
 def strange(word, name, known):
@@ -33,7 +28,9 @@ def main(words):
         count.all([(f"{word} {it}", word, it, it in known) for it in asked.scripts([])], strange)
     known = asked.known("q703")
     if not words:
-        count.all([(f"{it[0]} sees: {it[1]}", False, *it) for it in asked.changes() if it[0] not in known], asked.unseen)
+        count.all(
+            [(f"{it[0]} sees: {it[1]}", False, *it) for it in asked.changes() if it[0] not in known], asked.unseen
+        )
     return count.end()
 
 

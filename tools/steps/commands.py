@@ -1,15 +1,16 @@
-#!/usr/bin/env python3
-"""Runs the built program on command lines, and compares standard output, standard error and the status with what has to be there:
-the table examples/commands.txt, what examples/pointed.txt has of refused texts, and the examples of README.md and docs/: a line `    $ COMMAND`, with what it prints on the lines below it,
-of which a line `..` stands for any.
+"""Runs the built program on command lines, and compares standard output, standard error and the status with what has to
+be there: the table examples/commands.txt, what examples/pointed.txt has of refused texts, and the examples of README.md
+and docs/: a line `    $ COMMAND`, with what it prints on the lines below it, of which a line `..` stands for any.
 
 usage: tools/steps/commands            of crates/mtp2_play/out/mtp2_play, or of the program that MTP2_PLAY names
        tools/steps/commands --list     prints the command lines of the table
 
-The last line is `N passed, M failed`, and the status 1 where one failed. In the table `== NAME` begins an entry and `== file NAME` a file that lies in the
-folder where the command lines run, beside the folder examples. The first line of an entry has the words, as a shell parts them; then comes what stands in
-standard input, a line `--`, standard output, a line `exit N`, and standard error. `%N{..}` stands for N copies of what is in the braces, `<XX>` for an octet
-in two hexadecimal digits, a line `<TEXT NAME>` for the lines of a text in expected.txt, and a line `<FILE NAME>` for those of a file of examples/."""
+The last line is `N passed, M failed`, and the status 1 where one failed. In the table `== NAME` begins an entry and `==
+file NAME` a file that lies in the folder where the command lines run, beside the folder examples. The first line of an
+entry has the words, as a shell parts them; then comes what stands in standard input, a line `--`, standard output, a
+line `exit N`, and standard error. `%N{..}` stands for N copies of what is in the braces, `<XX>` for an octet in two
+hexadecimal digits, a line `<TEXT NAME>` for the lines of a text in expected.txt, and a line `<FILE NAME>` for those of
+a file of examples/."""
 import itertools
 import os
 import pathlib
@@ -19,9 +20,8 @@ import subprocess
 import sys
 import tempfile
 
-sys.path += map(str, pathlib.Path(__file__).resolve().parents[1].glob("*"))
-
-from built import LIMIT, PLAY, ROOT, Count, Run, differs, missing, tool
+from tools.steps import examples
+from tools.steps.built import LIMIT, PLAY, ROOT, Count, Run, differs, missing
 
 TABLE = ROOT / "examples" / "commands.txt"
 COPIES = re.compile(rb"%(\d+)\{([^}]*)\}")
@@ -65,17 +65,25 @@ def entry(lines, printed):
     ends = next(at for at, it in enumerate(lines) if re.fullmatch(r"exit \d", it) and at > parted)
     out = [line for it in lines[parted + 1 : ends] for line in standing_for(it, printed)]
     words = [octets(it) for it in shlex.split(lines[0])]
-    return words, octets(whole(lines[1:parted])), octets(whole(out)), int(lines[ends][5:]), octets(whole(lines[ends + 1 :]))
+    return (
+        words,
+        octets(whole(lines[1:parted])),
+        octets(whole(out)),
+        int(lines[ends][5:]),
+        octets(whole(lines[ends + 1 :])),
+    )
 
 
 def reasons(out):
-    """What stands on standard error beside this output, as a pattern: a line for the line of a script that is refused by X1, and one for each B3."""
+    """What stands on standard error beside this output, as a pattern: a line for the line of a script that is refused
+    by X1, and one for each B3."""
     lines = [it for it in out.split(b"\n") if it.startswith(b"refused X1 BadLine line ") or it == b"refused B3 NoRoute"]
     return b"".join(b"mtp2_play: line %s: .+\n" % (it.split()[-1] if b"X1" in it else b"[0-9]+") for it in lines)
 
 
 def fault(folder, words, given, out, status, said=None):
-    """What is wrong with the run of a command line, if something is. Where it isn't given what standard error holds, reasons stand there alone."""
+    """What is wrong with the run of a command line, if something is. Where it isn't given what standard error holds,
+    reasons stand there alone."""
     run = Run(words, given, folder=folder)
     if run.status != status:
         return f"status {run.status} and not {status}; it said {run.said[-300:].decode(errors='replace')!r}"
@@ -83,7 +91,11 @@ def fault(folder, words, given, out, status, said=None):
     if wrong:
         return f"of standard output {wrong}"
     if said is None:
-        return None if re.fullmatch(reasons(out), run.said) else f"of standard error: {run.said[-300:].decode(errors='replace')!r}"
+        return (
+            None
+            if re.fullmatch(reasons(out), run.said)
+            else f"of standard error: {run.said[-300:].decode(errors='replace')!r}"
+        )
     wrong = differs(said, run.said)
     return wrong and f"of standard error {wrong}"
 
@@ -101,7 +113,6 @@ def table(folder, printed):
 
 def pointed():
     """Each refused text with what stands on standard error, and the words, standard output and status of its check."""
-    examples = tool("examples")
     for name, text, said in examples.parted("pointed.txt"):
         text, said = (it.replace("<TAB>", "\t") for it in (text, said))
         given = examples.copied(text).rstrip("\n").encode()
@@ -123,15 +134,28 @@ def documents():
         lines = path.read_text().split("\n")
         for at, line in enumerate(lines):
             if line.startswith("    $ "):
-                shown = itertools.takewhile(lambda it: it.startswith("    ") and not it.startswith("    $ "), lines[at + 1 :])
+                shown = itertools.takewhile(
+                    lambda it: it.startswith("    ") and not it.startswith("    $ "), lines[at + 1 :]
+                )
                 printed = "".join("(?:.*\n)*" if it == "    .." else re.escape(it[4:]) + "\n" for it in shown)
                 yield f"{path.name}: {line[6:]}", line[6:], printed
 
 
 def shown(command, printed):
     """What is wrong with an example, if something is."""
-    run = subprocess.run(["sh", "-c", command], cwd=ROOT, env={**os.environ, "MTP2_PLAY": str(PLAY)}, capture_output=True, text=True, timeout=LIMIT)
-    return None if re.fullmatch(printed, run.stdout) else f"status {run.returncode}: {run.stdout[-200:]!r}, {run.stderr[-200:]!r}"
+    run = subprocess.run(
+        ["sh", "-c", command],
+        cwd=ROOT,
+        env={**os.environ, "MTP2_PLAY": str(PLAY)},
+        capture_output=True,
+        text=True,
+        timeout=LIMIT,
+    )
+    return (
+        None
+        if re.fullmatch(printed, run.stdout)
+        else f"status {run.returncode}: {run.stdout[-200:]!r}, {run.stderr[-200:]!r}"
+    )
 
 
 def main(words):
@@ -141,7 +165,7 @@ def main(words):
     if missing(PLAY):
         return 2
     count = Count("commands")
-    printed = tool("examples").expected()
+    printed = examples.expected()
     with tempfile.TemporaryDirectory() as room:
         folder = pathlib.Path(room)
         (folder / "examples").symlink_to(ROOT / "examples")

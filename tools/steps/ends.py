@@ -1,13 +1,14 @@
-#!/usr/bin/env python3
-"""Runs one end of a line where the streams of its orders and reports fail, come in pieces, are interrupted, come late or are drained late, and where
-a standard stream is closed.
+"""Runs one end of a line where the streams of its orders and reports fail, come in pieces, are interrupted, come late
+or are drained late, and where a standard stream is closed.
 
-usage: tools/steps/ends [--wait SECONDS] [PART ..]     the parts whose names begin so, all where none is named; of crates/mtp2_play/out/mtp2_play, or of the program
-                                                       that MTP2_PLAY names
+usage: tools/steps/ends [--wait SECONDS] [PART ..]
+           the parts whose names begin so, all where none is named; of crates/mtp2_play/out/mtp2_play, or of the program
+           that MTP2_PLAY names
 
-A report that doesn't come is waited for so many seconds (120 where none are said), and a run ten times as long at most, ten minutes at most: a few are enough for
-a program that is known to be wrong, on a machine that does nothing else. The last line is `N passed, M failed`, and the status 1 where one failed. Where no C compiler is
-there, what tools/c/streams.c and tools/c/rests.c do is skipped."""
+A report that doesn't come is waited for so many seconds (120 where none are said), and a run ten times as long at most,
+ten minutes at most: a few are enough for a program that is known to be wrong, on a machine that does nothing else. The
+last line is `N passed, M failed`, and the status 1 where one failed. Where no C compiler is there, what
+tools/c/streams.c and tools/c/rests.c do is skipped."""
 import argparse
 import contextlib
 import fcntl
@@ -20,11 +21,9 @@ import tempfile
 import threading
 import time
 
-sys.path += map(str, pathlib.Path(__file__).resolve().parents[1].glob("*"))
+from tools.steps import lines
+from tools.steps.built import LIMIT, PLAY, ROOT, Count, differs, library, missing, side_by_side
 
-from built import LIMIT, PLAY, ROOT, Count, differs, library, missing, side_by_side, tool
-
-lines = tool("lines")
 # Seconds for which a report is waited for, and that a run may take: a report that comes takes milliseconds.
 PATIENCE, LONGEST = 120, LIMIT
 ONES = b"\xff" * 8
@@ -79,8 +78,19 @@ class Line:
         if reports == "FIFO":
             os.mkfifo(self.reports)
             self.drain = Drain(self.reports, size)
-        words = ["basic", "--orders", str(self.orders), *(() if reports == "errors" else ("--reports", str(self.reports))), *words]
-        how = {"stdin": subprocess.PIPE, "stdout": subprocess.PIPE, "stderr": subprocess.PIPE, "env": {**os.environ, **variables}}
+        words = [
+            "basic",
+            "--orders",
+            str(self.orders),
+            *(() if reports == "errors" else ("--reports", str(self.reports))),
+            *words,
+        ]
+        how = {
+            "stdin": subprocess.PIPE,
+            "stdout": subprocess.PIPE,
+            "stderr": subprocess.PIPE,
+            "env": {**os.environ, **variables},
+        }
         self.run = subprocess.Popen([PLAY, "line", *words], **how)
         os.set_blocking(self.run.stderr.fileno(), False)
         self.limit = threading.Timer(LONGEST, self.run.kill)
@@ -158,14 +168,15 @@ def whole(room, orders, reports, **variables):
 
 
 def fails(room, orders, reports, number=1, **variables):
-    """What is wrong where the write or read of this number fails, if something is: the run ends with status 4, and what it told is a beginning. Each report before
-    is seen before the next order is given, so that none goes by another's write, and the order `quit` stands behind the last one: no run goes on."""
-    first = ONE_BY_ONE[:number - 1]
+    """What is wrong where the write or read of this number fails, if something is: the run ends with status 4, and what
+    it told is a beginning. Each report before is seen before the next order is given, so that none goes by another's
+    write, and the order `quit` stands behind the last one: no run goes on."""
+    first = ONE_BY_ONE[: number - 1]
     line = Line(room, orders, reports, given=b"", **variables)
     for place, order in enumerate(first):
         line.is_told(order)
         until(line, place + 1)
-    line.is_told(b"".join(ONE_BY_ONE[number - 1:]))
+    line.is_told(b"".join(ONE_BY_ONE[number - 1 :]))
     ended = time.monotonic() + PATIENCE
     while line.lives() and time.monotonic() < ended and line.gives():
         line.told()
@@ -178,22 +189,39 @@ def fails(room, orders, reports, number=1, **variables):
     # (on standard error stands, last, that it failed; a line that was cut may stand before that)
     if reports == "errors" and b"mtp2_play: failed" not in said:
         return f"{said!r} stands on standard error"
-    return None if reports == "errors" or (len(lines) <= len(wanted) and all(a == b or a.startswith(b) for a, b in zip(wanted, lines))) else repr(said)
+    return (
+        None
+        if reports == "errors"
+        or (len(lines) <= len(wanted) and all(a == b or a.startswith(b) for a, b in zip(wanted, lines)))
+        else repr(said)
+    )
 
 
 def disturbing(orders, reports):
-    """The part that has reads of orders from there and writes of reports to there fail, be cut, or be interrupted: a file, a FIFO, or standard error."""
+    """The part that has reads of orders from there and writes of reports to there fail, be cut, or be interrupted: a
+    file, a FIFO, or standard error."""
+
     def disturbed(room, loaded):
         if loaded is None:
             return
         those = {"LD_PRELOAD": loaded, "READS_OF": "/orders", "WRITES_OF": "2" if reports == "errors" else "/reports"}
         name = f"orders of a {orders}, reports to {'standard error' if reports == 'errors' else f'a {reports}'}"
-        for ways in [{}, {"READ_PART": "1"}, {"WRITE_PART": "1"}, {"INTERRUPTED": "1"}, {"READ_PART": "3", "WRITE_PART": "2", "INTERRUPTED": "1"}]:
+        for ways in [
+            {},
+            {"READ_PART": "1"},
+            {"WRITE_PART": "1"},
+            {"INTERRUPTED": "1"},
+            {"READ_PART": "3", "WRITE_PART": "2", "INTERRUPTED": "1"},
+        ]:
             yield f"{name}, {ways}", whole(room, orders, reports, **those, **ways)
         for number in (1, 2, 3):
-            yield f"{name}, write {number} fails", fails(room, orders, reports, number, **those, WRITE_FAILS=str(number))
+            yield f"{name}, write {number} fails", fails(
+                room, orders, reports, number, **those, WRITE_FAILS=str(number)
+            )
         for number in (1, 2):
-            yield f"{name}, read {number} of orders fails", fails(room, orders, reports, **those, READ_FAILS=str(number), READ_PART="7")
+            yield f"{name}, read {number} of orders fails", fails(
+                room, orders, reports, **those, READ_FAILS=str(number), READ_PART="7"
+            )
 
     return disturbed
 
@@ -202,7 +230,13 @@ def full(room, _):
     """Reports to standard error that is full."""
     with open("/dev/full", "wb") as nowhere:
         (room / "orders").write_bytes(b"power\n")
-        done = subprocess.run([PLAY, "line", "basic", "--orders", str(room / "orders")], input=ONES, stdout=subprocess.DEVNULL, stderr=nowhere, timeout=LONGEST)
+        done = subprocess.run(
+            [PLAY, "line", "basic", "--orders", str(room / "orders")],
+            input=ONES,
+            stdout=subprocess.DEVNULL,
+            stderr=nowhere,
+            timeout=LONGEST,
+        )
     yield "reports to standard error that is full", None if done.returncode == 4 else f"status {done.returncode}"
 
 
@@ -217,15 +251,21 @@ def opened(room, _):
     """How files are opened: a file of orders to read alone, and reports only once the orders are there."""
     line = Line(room, "file", "file")
     line.gives()
-    found = [pathlib.Path(f"/proc/{line.run.pid}/fdinfo/{it}").read_text() for it in os.listdir(f"/proc/{line.run.pid}/fd")
-             if os.readlink(f"/proc/{line.run.pid}/fd/{it}") == str(line.orders)]
+    found = [
+        pathlib.Path(f"/proc/{line.run.pid}/fdinfo/{it}").read_text()
+        for it in os.listdir(f"/proc/{line.run.pid}/fd")
+        if os.readlink(f"/proc/{line.run.pid}/fd/{it}") == str(line.orders)
+    ]
     ways = [int(it.split()[3], 8) & os.O_ACCMODE for it in found]
     line.ends()
     yield "a file of orders is opened to read", None if ways == [os.O_RDONLY] else f"opened as {ways}"
     kept = room / "kept"
     kept.write_bytes(b"1 ok power\n")
     got = lines.run(room, ONES, "basic", "--orders", str(room / "nowhere"), "--reports", str(kept))
-    yield "reports stay where the orders aren't there", None if (got[0], kept.read_bytes()) == (4, b"1 ok power\n") else f"status {got[0]}, {kept.read_bytes()!r}"
+    yield "reports stay where the orders aren't there", None if (got[0], kept.read_bytes()) == (
+        4,
+        b"1 ok power\n",
+    ) else f"status {got[0]}, {kept.read_bytes()!r}"
     for path in (room / "orders", kept):
         path.write_bytes(b"power\n")
     if os.geteuid() == 0 and os.access(PLAY, os.X_OK):
@@ -239,16 +279,22 @@ def as_another(room):
     room.chmod(0o755)
     words = [PLAY, "line", "basic", "--orders", str(room / "orders"), "--reports", str(room / "kept")]
     try:
-        done = subprocess.run(words, input=ONES, capture_output=True, timeout=LONGEST, user=65534, group=65534, extra_groups=[])
+        done = subprocess.run(
+            words, input=ONES, capture_output=True, timeout=LONGEST, user=65534, group=65534, extra_groups=[]
+        )
     except PermissionError:
         # (that user can't come to the program here)
         return
     said = (room / "kept").read_bytes()
-    yield "a user who may only read the orders", None if (done.returncode, said) == (0, b"1 ok power\n") else f"status {done.returncode}, {said!r}"
+    yield "a user who may only read the orders", None if (done.returncode, said) == (
+        0,
+        b"1 ok power\n",
+    ) else f"status {done.returncode}, {said!r}"
 
 
 def paused(room, _):
-    """Reports one at a time, each behind a pause in which the thread that has them go on falls asleep: each comes before the next order is given."""
+    """Reports one at a time, each behind a pause in which the thread that has them go on falls asleep: each comes
+    before the next order is given."""
     line = Line(room, "FIFO", "FIFO", given=b"")
     fault = None
     for number in range(300):
@@ -289,12 +335,15 @@ def asleep(room, _):
 
 
 def resting(room, loaded):
-    """Each report comes while the thread that had the one before go on rests between two instructions of its way into sleep, each time between others (tools/c/rests.c),
-    and nothing comes behind it: so the thread has to find it there before it sleeps."""
+    """Each report comes while the thread that had the one before go on rests between two instructions of its way into
+    sleep, each time between others (tools/c/rests.c), and nothing comes behind it: so the thread has to find it there
+    before it sleeps."""
     if loaded is None or platform.machine() != "x86_64":
         return
     given, rests = b"".join(b"at %d\ncalm\n" % it for it in range(1, RESTS + 1)), room / "rests"
-    line = Line(room, "file", "FIFO", given=given, LD_PRELOAD=library(room, "rests"), WRITES_OF="/reports", RESTS=str(rests))
+    line = Line(
+        room, "file", "FIFO", given=given, LD_PRELOAD=library(room, "rests"), WRITES_OF="/reports", RESTS=str(rests)
+    )
     fault, until = None, time.monotonic() + SPELL
     for number in range(1, RESTS + 1):
         line.gives()
@@ -309,12 +358,16 @@ def resting(room, loaded):
             time.sleep(0.0002)
         if time.monotonic() > until:
             break
-    yield f"{RESTS} reports to a thread that rests, or as many as come in {SPELL} seconds", fault or (f"status {line.ends()}" if line.ends() else None)
+    yield f"{RESTS} reports to a thread that rests, or as many as come in {SPELL} seconds", fault or (
+        f"status {line.ends()}" if line.ends() else None
+    )
     line.closes()
 
 
 def drained(line, told, how):
-    """Ends a line whose reports wait, has them drained by `how` meanwhile, and gives the status with what is wrong with what was told, if something is."""
+    """Ends a line whose reports wait, has them drained by `how` meanwhile, and gives the status with what is wrong with
+    what was told, if something is."""
+
     def drain():
         how()
         while not over.is_set():
@@ -333,7 +386,8 @@ def drained(line, told, how):
 
 
 def kept_back(room, loaded):
-    """Reports that wait for the other side of a small FIFO as the line ends, or fails: they go on as it is drained, by and by."""
+    """Reports that wait for the other side of a small FIFO as the line ends, or fails: they go on as it is drained, by
+    and by."""
     given = b"".join(b"at %d\nstate LSC\n" % it for it in range(1, 501))
     told = b"".join(b"%d ok state LSC\n%d state LSC PowerOff\n" % (it, it) for it in range(1, 501))
     line = Line(room, "file", "FIFO", given=given, size=SMALL)
@@ -354,7 +408,8 @@ def kept_back(room, loaded):
 
 
 def lost(room, _):
-    """Reports that found no room: how many is told once there is room, as the line ends too, however late that is drained."""
+    """Reports that found no room: how many is told once there is room, as the line ends too, however late that is
+    drained."""
     # (a line is shorter than the one that tells how many were lost: so at the end there is no room for that at once)
     given = b"".join(b"at %d\n" % it + b"calm\n" * 4 for it in range(1, 3001))
     told = b"".join(b"%d ok calm\n" % it * 4 for it in range(1, 3001)).splitlines()
@@ -371,21 +426,33 @@ def closed(room, _):
     (room / "orders").write_bytes(ORDERS)
     counter = str(ROOT / "examples" / "counter.sdl")
     words = ["line", "basic", "--orders", str(room / "orders"), "--reports", str(room / "reports")]
-    for name, shut, given, status in [("line without an input", 0, words, 4), ("line without an output", 1, words, 4),
-                                      ("line without an output, and no files", 1, words[:2], 4),
-                                      ("line without an output, and reports", 1, [*words[:2], *words[4:]], 4),
-                                      ("line without an input, and reports", 0, [*words[:2], *words[4:]], 4),
-                                      ("line that tells nowhere", 2, [*words[:2], *words[2:4]], 4),
-                                      ("line without standard error, and reports", 2, words, 0),
-                                      ("check without an output", 1, ["check", counter], 4), ("check of an input that is closed", 0, ["check", "stdin"], 4),
-                                      ("check of a file without an input", 0, ["check", counter], 0), ("check without standard error", 2, ["check", counter], 0),
-                                      ("a script that is closed", 0, ["play", "standard", "stdin"], 4), ("soak without an output", 1, ["soak", str(room / "soak"), "--workers", "1"], 4)]:
+    for name, shut, given, status in [
+        ("line without an input", 0, words, 4),
+        ("line without an output", 1, words, 4),
+        ("line without an output, and no files", 1, words[:2], 4),
+        ("line without an output, and reports", 1, [*words[:2], *words[4:]], 4),
+        ("line without an input, and reports", 0, [*words[:2], *words[4:]], 4),
+        ("line that tells nowhere", 2, [*words[:2], *words[2:4]], 4),
+        ("line without standard error, and reports", 2, words, 0),
+        ("check without an output", 1, ["check", counter], 4),
+        ("check of an input that is closed", 0, ["check", "stdin"], 4),
+        ("check of a file without an input", 0, ["check", counter], 0),
+        ("check without standard error", 2, ["check", counter], 0),
+        ("a script that is closed", 0, ["play", "standard", "stdin"], 4),
+        ("soak without an output", 1, ["soak", str(room / "soak"), "--workers", "1"], 4),
+    ]:
         (room / "reports").write_bytes(b"")
         (room / "soak").write_bytes(b"links 1\n")
         (room / "come").write_bytes(ONES * 9)
         files = [open(room / "come", "rb"), open(room / "went", "wb"), open(room / "said", "wb")]
-        shell = f"exec \"$@\" {shut}>&-" if shut else "exec \"$@\" <&-"
-        done = subprocess.run(["sh", "-c", shell, "sh", str(PLAY), *given], stdin=files[0], stdout=files[1], stderr=files[2], timeout=LONGEST)
+        shell = f'exec "$@" {shut}>&-' if shut else 'exec "$@" <&-'
+        done = subprocess.run(
+            ["sh", "-c", shell, "sh", str(PLAY), *given],
+            stdin=files[0],
+            stdout=files[1],
+            stderr=files[2],
+            timeout=LONGEST,
+        )
         reports, orders = (room / "reports").read_bytes(), (room / "orders").read_bytes()
         fault = None if done.returncode == status else f"status {done.returncode} and not {status}"
         if orders != ORDERS or b"\xff" in reports or (status == 4 and shut == 0 and given[0] == "line" and reports):
@@ -393,11 +460,23 @@ def closed(room, _):
         yield name, fault
 
 
-PARTS = [*(disturbing(orders, reports) for orders in ("file", "FIFO") for reports in ("file", "FIFO", "errors")), full, remarked, opened, paused, asleep, resting, kept_back, lost, closed]
+PARTS = [
+    *(disturbing(orders, reports) for orders in ("file", "FIFO") for reports in ("file", "FIFO", "errors")),
+    full,
+    remarked,
+    opened,
+    paused,
+    asleep,
+    resting,
+    kept_back,
+    lost,
+    closed,
+]
 
 
 def tried(place, loaded):
-    """The cases of a part, each with what is wrong with it. Where a run ends, or doesn't, as the part doesn't expect at all, that is the fault of a case too."""
+    """The cases of a part, each with what is wrong with it. Where a run ends, or doesn't, as the part doesn't expect at
+    all, that is the fault of a case too."""
     cases = []
     with tempfile.TemporaryDirectory() as folder:
         try:

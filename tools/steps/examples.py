@@ -1,36 +1,38 @@
-#!/usr/bin/env python3
-"""Runs the built program on the tables of texts and of scripts in examples/, and compares standard output and the status with what stands there; of a text
-that is refused also the line, the column and the carets on standard error with what the plain checker (tools/oracles/plain_point.py) points at.
+"""Runs the built program on the tables of texts and of scripts in examples/, and compares standard output and the
+status with what stands there; of a text that is refused also the line, the column and the carets on standard error with
+what the plain checker (tools/oracles/plain_point.py) points at.
 
-- `check`: each text of examples/ with its lines in expected.txt, also `standard` and `monitors` by their words; the texts of refusals.txt; and two texts cut off
-  behind each of their tokens.
-- `play`: the scripts of scripts/table.txt, and of links/table.txt, sets.txt and names.txt, those of terminals and of link sets; and links/*.script, which hold
-  themselves what they expect.
+- `check`: each text of examples/ with its lines in expected.txt, also `standard` and `monitors` by their words; the
+  texts of refusals.txt; and two texts cut off behind each of their tokens.
+- `play`: the scripts of scripts/table.txt, and of links/table.txt, sets.txt and names.txt, those of terminals and of
+  link sets; and links/*.script, which hold themselves what they expect.
 
-usage: tools/steps/examples [NAME ..]     the cases whose names begin so, all where none is named; of crates/mtp2_play/out/mtp2_play, or of the program that MTP2_PLAY
-                                    names
-       tools/steps/examples --plain       asks the plain checker and the plain players, written apart from the program, in its place
+usage: tools/steps/examples [NAME ..]
+           the cases whose names begin so, all where none is named; of crates/mtp2_play/out/mtp2_play, or of the program
+           that MTP2_PLAY names
+       tools/steps/examples --plain
+           asks the plain checker and the plain players, written apart from the program, in its place
        tools/steps/examples --list        prints the names of all cases
 
-The last line is `N passed, M failed`, and the status 1 where one failed. In refusals.txt `== NAME` begins an entry, and a line `--` parts its text from the lines
-that are printed for it. `%N{..}` in a text, or in its lines, stands for N copies of what is in the braces, in which `#` is the number of the copy, from 1. In a table of scripts
-`== TEXT: NAME` begins an entry, where TEXT is a file of examples/scripts or of examples; a line `--` parts the script from the lines; `exit N` as the last line
-says a status that isn't 0; `<CR>` and `<TAB>` stand for these characters, `%N{..}` for N copies."""
+The last line is `N passed, M failed`, and the status 1 where one failed. In refusals.txt `== NAME` begins an entry, and
+a line `--` parts its text from the lines that are printed for it. `%N{..}` in a text, or in its lines, stands for N
+copies of what is in the braces, in which `#` is the number of the copy, from 1. In a table of scripts `== TEXT: NAME`
+begins an entry, where TEXT is a file of examples/scripts or of examples; a line `--` parts the script from the lines;
+`exit N` as the last line says a status that isn't 0; `<CR>` and `<TAB>` stand for these characters, `%N{..}` for N
+copies."""
 import pathlib
 import re
 import sys
 import tempfile
 
-sys.path += map(str, pathlib.Path(__file__).resolve().parents[1].glob("*"))
-
-from built import PLAY, ROOT, Count, Run, differs, missing
-from plain_check import lex
-from plain_commands import check_says
-from plain_group import entries as link_entries
-from plain_group import play as play_link
-from plain_play import play as play_book
-from plain_point import differs as points_elsewhere
-from plain_term import SETS, text_of
+from tools.oracles.plain_check import lex
+from tools.oracles.plain_commands import check_says
+from tools.oracles.plain_group import entries as link_entries
+from tools.oracles.plain_group import play as play_link
+from tools.oracles.plain_play import play as play_book
+from tools.oracles.plain_point import differs as points_elsewhere
+from tools.oracles.plain_term import SETS, text_of
+from tools.steps.built import PLAY, ROOT, Count, Run, differs, missing
 
 EXAMPLES = ROOT / "examples"
 # The texts that are also read cut off behind each of their tokens.
@@ -93,12 +95,14 @@ def book_scripts():
         if lines[-1].startswith("exit "):
             status = int(lines.pop()[5:])
         script = copied(script).replace("<CR>", "\r").replace("<TAB>", "\t")
-        yield name, (path if path.is_file() else EXAMPLES / file).read_text(), script, [it for it in lines if it], status
+        yield name, (path if path.is_file() else EXAMPLES / file).read_text(), script, [
+            it for it in lines if it
+        ], status
 
 
 def link_scripts():
-    """The same of each entry of the tables of scripts of terminals and of link sets, with the word or the file of the set of processes; and of each text that may
-    lack a name."""
+    """The same of each entry of the tables of scripts of terminals and of link sets, with the word or the file of the
+    set of processes; and of each text that may lack a name."""
     for table in LINKS:
         for name, *rest in link_entries((EXAMPLES / "links" / table).read_text()):
             yield f"{table}, {name}", *rest
@@ -106,7 +110,9 @@ def link_scripts():
         lacking, there, edits = line.partition(": ")
         if there and not line.startswith("== "):
             word = f"links/least.sdl | {edits}"
-            yield f"names.txt, {word}: {lacking or 'lacks nothing'}", word, "terminal basic\ncommand power", [f"refused X2 NoName {lacking}" if lacking else "ok"], 2 if lacking else 0
+            yield f"names.txt, {word}: {lacking or 'lacks nothing'}", word, "terminal basic\ncommand power", [
+                f"refused X2 NoName {lacking}" if lacking else "ok"
+            ], 2 if lacking else 0
 
 
 def held():
@@ -128,7 +134,8 @@ def kept(folder, made, text):
 
 
 def cases(folder):
-    """Each case by its name: the words of a command line, standard input, standard output, if it is known, and the status. Texts are written to the folder."""
+    """Each case by its name: the words of a command line, standard input, standard output, if it is known, and the
+    status. Texts are written to the folder."""
     files, made = expected(), {}
     for name, text, lines in texts():
         words, given = (["check", str(EXAMPLES / name)], b"") if name in files else (["check", "stdin"], text.encode())
@@ -196,7 +203,9 @@ def main(words):
             return 2
         for name in strays():
             count.case(name, "stands in one of examples/ and expected.txt only")
-        chosen = [it for it in found if not names or it[0].startswith(names) or it[0].split(": ", 1)[1].startswith(names)]
+        chosen = [
+            it for it in found if not names or it[0].startswith(names) or it[0].split(": ", 1)[1].startswith(names)
+        ]
         count.all(chosen, plain_fault if is_plain else fault)
     return count.end()
 

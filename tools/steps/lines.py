@@ -1,8 +1,9 @@
-#!/usr/bin/env python3
-"""Runs the built program's `line` on files, pipes and FIFOs, and holds what it writes and tells against tools/oracles/plain_tied.py, a filter written apart from it, and
-against the lives of examples/line/lives.txt.
+"""Runs the built program's `line` on files, pipes and FIFOs, and holds what it writes and tells against
+tools/oracles/plain_tied.py, a filter written apart from it, and against the lives of examples/line/lives.txt.
 
-usage: tools/steps/lines [PART ..]     the parts whose names begin so, all where none is named; of crates/mtp2_play/out/mtp2_play, or of the program that MTP2_PLAY names
+usage: tools/steps/lines [PART ..]
+           the parts whose names begin so, all where none is named; of crates/mtp2_play/out/mtp2_play, or of the program
+           that MTP2_PLAY names
 
 The last line is `N passed, M failed`, and the status 1 where one failed."""
 import contextlib
@@ -16,12 +17,9 @@ import threading
 import time
 import zlib
 
-sys.path += map(str, pathlib.Path(__file__).resolve().parents[1].glob("*"))
-
-import plain_filter
-import plain_tied
-from built import LIMIT, PLAY, ROOT, Count, differs, missing, side_by_side
-from plain_tied import Filter, turned, two
+from tools.oracles import plain_filter, plain_tied
+from tools.oracles.plain_tied import Filter, turned, two
+from tools.steps.built import LIMIT, PLAY, ROOT, Count, differs, missing, side_by_side
 
 ORDERS = b"power\nemergency\nstart\nat 30\nstate LSC\nmsu 85010203\nmsu 850\nat 40\ncommand stop\nvalue LSC r\n"
 LINE = ROOT / "examples" / "line"
@@ -77,7 +75,9 @@ def files(room):
             wanted = plain(come, mode, ORDERS)
             yield f"noise {seed}, {mode}", held(run(room, come, mode, orders=ORDERS), wanted)
             high = bytes(map(turned, come)), bytes(map(turned, wanted[0]))
-            yield f"the same, high bits, {mode}", held(run(room, high[0], mode, "--bits", "high", orders=ORDERS), (high[1], wanted[1]))
+            yield f"the same, high bits, {mode}", held(
+                run(room, high[0], mode, "--bits", "high", orders=ORDERS), (high[1], wanted[1])
+            )
             (room / "come").write_bytes(come)
             with open(room / "come", "rb") as given:
                 yield f"the same, of a file, {mode}", held(from_file(room, given, mode), wanted)
@@ -91,12 +91,29 @@ def chosen(room):
     text, reports = ROOT / "examples" / "standard.sdl", room / "told"
     for mode in ("basic", "cyclic"):
         wanted = plain(come, mode, ORDERS, 24)
-        got = run(room, bytes(map(turned, come)), mode, "--text", str(text), "--reports", str(reports), "--bits", "high", "--ahead", "24", orders=ORDERS)
-        yield f"all at once, {mode}", held((got[0], got[1], reports.read_bytes()), (bytes(map(turned, wanted[0])), wanted[1]))
+        got = run(
+            room,
+            bytes(map(turned, come)),
+            mode,
+            "--text",
+            str(text),
+            "--reports",
+            str(reports),
+            "--bits",
+            "high",
+            "--ahead",
+            "24",
+            orders=ORDERS,
+        )
+        yield f"all at once, {mode}", held(
+            (got[0], got[1], reports.read_bytes()), (bytes(map(turned, wanted[0])), wanted[1])
+        )
 
 
 def from_file(room, given, mode):
-    done = subprocess.run([PLAY, "line", mode, "--orders", str(room / "orders")], stdin=given, capture_output=True, timeout=LIMIT)
+    done = subprocess.run(
+        [PLAY, "line", mode, "--orders", str(room / "orders")], stdin=given, capture_output=True, timeout=LIMIT
+    )
     return done.returncode, done.stdout, done.stderr
 
 
@@ -109,18 +126,30 @@ def orders(room):
         "3,000 octets": b"x" * 3000 + b"\nstate LSC\n",
         "no end": b"power\nstate LSC",
         "a long line without end": b"power\n" + b"x" * 2000,
-        "bad digits": b"msu 85010G\nmsu 8501020\nmsu 8501\nmsu " + b"85" * 273 + b"\nmsu " + b"85" * 274 + b"\nstate LSC\n",
+        "bad digits": b"msu 85010G\nmsu 8501020\nmsu 8501\nmsu "
+        + b"85" * 273
+        + b"\nmsu "
+        + b"85" * 274
+        + b"\nstate LSC\n",
         "no text": b"state LSC\xff\nstate \xc3\xa4\n\nstate LSC\n",
         "blanks and comments": b"\n   \n # one\n  state   LSC  \n#state LSC\n",
-        "reports": b"3 ok state LSC\n4 in service\n5 ok\n6 refused X1 BadLine\n7 lost 3\n8 message 85\nstate LSC\n9 ok msu 850102\n",
-        "a number and no report": b"5 stop\n7\n8 ok\n9 start\n12 state LSC\n10 power\n11 Lost 3\n13 lost\nstate LSC\n14 ok power\n15 okay power\n",
-        "at": b"at\nat x\nat 1 2\nat 5\nstate LSC\nat 3\nstate IAC\nat 99999999999999999999\nat 4294967296\nstate LSC\n",
-        "an earlier millisecond": b"at 5\nat 3\nstate LSC\nat 9\n7 ok state IAC\nat 0\n2 refused X1 BadLine\nat 12\nat 11\npower\n",
+        "reports": b"3 ok state LSC\n4 in service\n5 ok\n6 refused X1 BadLine\n7 lost 3\n8 message 85\nstate LSC\n"
+        b"9 ok msu 850102\n",
+        "a number and no report": b"5 stop\n7\n8 ok\n9 start\n12 state LSC\n10 power\n11 Lost 3\n13 lost\nstate "
+        b"LSC\n14 ok power\n15 okay power\n",
+        "at": b"at\nat x\nat 1 2\nat 5\nstate LSC\nat 3\nstate IAC\nat 99999999999999999999\nat 4294967296\nstate "
+        b"LSC\n",
+        "an earlier millisecond": b"at 5\nat 3\nstate LSC\nat 9\n7 ok state IAC\nat 0\n2 refused X1 BadLine\nat "
+        b"12\nat 11\npower\n",
         "a late report": b"4294967297 ok state LSC\nstate LSC\n",
         "quit": b"at 7\nquit\nstate LSC\n",
-        "other commands": b"tick 3\nout 1\nunit FFFF00\nline 7E\nexpect ok\nenv\nrest\nterminal basic\ncommand nothing\ncommand power\nstate LSC\n",
-        "words too many": b"value LSC r x\nstate LSC IAC x\npower now at once\nmsu 850102 03 04 05\nquit now\nat 5 6 7 8\n",
-        "long messages": b"".join(b"msu 85" + b"%02X" % it * size + b"\n" for it, size in enumerate([2, 61, 62, 63, 64, 271, 272, 273])),
+        "other commands": b"tick 3\nout 1\nunit FFFF00\nline 7E\nexpect ok\nenv\nrest\nterminal basic\ncommand "
+        b"nothing\ncommand power\nstate LSC\n",
+        "words too many": b"value LSC r x\nstate LSC IAC x\npower now at once\nmsu 850102 03 04 05\nquit now\nat 5 "
+        b"6 7 8\n",
+        "long messages": b"".join(
+            b"msu 85" + b"%02X" % it * size + b"\n" for it, size in enumerate([2, 61, 62, 63, 64, 271, 272, 273])
+        ),
         "remarks of 20,000 octets": b"# a remark\n" * 1819 + b"state LSC\n",
         "capitals": b"Power\nstate lsc\nSTATE LSC\n",
         "processes that aren't there": b"state Nobody\nvalue Nobody x\nvalue LSC nothing\n",
@@ -131,17 +160,26 @@ def orders(room):
 
 def crossed(room):
     """Two ends tied crosswise by pipes."""
-    done = subprocess.run([LINE / "two_ends"], capture_output=True, timeout=LIMIT, env={**os.environ, "MTP2_PLAY": str(PLAY)})
-    shown = [it for it in two("basic", 2100, (LINE / "first.orders").read_bytes(), (LINE / "second.orders").read_bytes())]
+    done = subprocess.run(
+        [LINE / "two_ends"], capture_output=True, timeout=LIMIT, env={**os.environ, "MTP2_PLAY": str(PLAY)}
+    )
+    shown = [
+        it for it in two("basic", 2100, (LINE / "first.orders").read_bytes(), (LINE / "second.orders").read_bytes())
+    ]
     wanted = "".join(f"{it.split(':')[0]}:\n" if it.startswith(("first: ", "second: ")) else f"{it}\n" for it in shown)
-    yield "two ends", f"status {done.returncode}, {done.stderr[-200:]!r}" if done.returncode else differs(wanted.encode(), done.stdout)
+    yield "two ends", f"status {done.returncode}, {done.stderr[-200:]!r}" if done.returncode else differs(
+        wanted.encode(), done.stdout
+    )
 
 
 class End:
-    """One end of a link that runs: whoever holds it gives it octets, and reads those that go out for them before it goes on."""
+    """One end of a link that runs: whoever holds it gives it octets, and reads those that go out for them before it
+    goes on."""
 
     def __init__(self, *words, mode="basic"):
-        self.run = subprocess.Popen([PLAY, "line", mode, *words], stdin=subprocess.PIPE, stdout=subprocess.PIPE, stderr=subprocess.DEVNULL)
+        self.run = subprocess.Popen(
+            [PLAY, "line", mode, *words], stdin=subprocess.PIPE, stdout=subprocess.PIPE, stderr=subprocess.DEVNULL
+        )
         self.until = time.monotonic() + LIMIT
         # (a run that goes nowhere ends so, and what is read from it with it)
         self.limit = threading.Timer(LIMIT, self.run.kill)
@@ -184,15 +222,20 @@ def told_by(path):
 
 
 def growing(room):
-    """Orders from a file that grows, and from a FIFO that is opened late and closed between: milliseconds pass until each was obeyed."""
+    """Orders from a file that grows, and from a FIFO that is opened late and closed between: milliseconds pass until
+    each was obeyed."""
     for kind in ("file", "FIFO"):
         path, reports = room / f"growing.{kind}", room / "growing.told"
         path.write_bytes(b"") if kind == "file" else os.mkfifo(path)
         reports.unlink(missing_ok=True)
-        end, wanted, fault = End("--orders", str(path), "--reports", str(reports)), [], None
+        end, wanted = End("--orders", str(path), "--reports", str(reports)), []
         end.gives(b"\xff" * 8)
-        for order, told in [(b"state LSC\nvalue LSC", [b"ok state LSC", b"state LSC PowerOff"]), (b" r\n", [b"ok value LSC r", b"value LSC r 0"]),
-                            (b"state IAC\n" * 3, [b"ok state IAC", b"state IAC Idle"] * 3), (b"state AERM\nquit\n", [b"ok state AERM", b"state AERM Idle", b"ok quit"])]:
+        for order, told in [
+            (b"state LSC\nvalue LSC", [b"ok state LSC", b"state LSC PowerOff"]),
+            (b" r\n", [b"ok value LSC r", b"value LSC r 0"]),
+            (b"state IAC\n" * 3, [b"ok state IAC", b"state IAC Idle"] * 3),
+            (b"state AERM\nquit\n", [b"ok state AERM", b"state AERM Idle", b"ok quit"]),
+        ]:
             # (a FIFO has been opened by the other side: octets have come back)
             more = os.open(path, os.O_WRONLY | os.O_APPEND | os.O_NONBLOCK)
             os.write(more, order)
@@ -212,7 +255,8 @@ def told_to(end, reports, wanted):
 
 
 def truncated(room):
-    """A file of orders that is truncated: it is read from its beginning again, what was read of it and not obeyed is given up, and that is told. Twice."""
+    """A file of orders that is truncated: it is read from its beginning again, what was read of it and not obeyed is
+    given up, and that is told. Twice."""
     path, reports = room / "truncated", room / "truncated.told"
     path.write_bytes(b"state LSC\nat 99999999\nstate IAC\nstate A")
     end, wanted = End("--orders", str(path), "--reports", str(reports)), [b"ok state LSC", b"state LSC PowerOff"]
@@ -230,7 +274,8 @@ def truncated(room):
 
 
 def quitting(room):
-    """A `quit` waits for the milliseconds of lines that were given together with it, and not for those of lines from before a second in which none came."""
+    """A `quit` waits for the milliseconds of lines that were given together with it, and not for those of lines from
+    before a second in which none came."""
     path, reports = room / "quitting", room / "quitting.told"
     for between, over in [(1100, True), (900, False)]:
         path.write_bytes(b"at 99999999\nstate LSC\n")
@@ -243,7 +288,13 @@ def quitting(room):
         # (the last octet of a run that ended is never answered)
         passed = end.gives(b"\xff" * 8)
         went, said = end.ends(), told_by(reports)
-        fault = f"status {went}" if went else None if (said, passed) == (([b"ok quit"], b"") if over else ([], b"\xff" * 8)) else f"{said}, {len(passed)} octets"
+        fault = (
+            f"status {went}"
+            if went
+            else None
+            if (said, passed) == (([b"ok quit"], b"") if over else ([], b"\xff" * 8))
+            else f"{said}, {len(passed)} octets"
+        )
         yield f"a quit {between} milliseconds behind an order that waits", fault
 
 
@@ -255,24 +306,41 @@ def same(room):
     os.link(path, room / "other")
     os.mkfifo(room / "pipe")
     refused = b": reports can't go where orders come from\n"
-    for name, orders, reports in [("one name", path, path), ("a link", path, room / "link"), ("the other way round", room / "link", path), ("a second name", path, room / "other"),
-                                  ("a longer path", path, room / ".." / room.name / "both"), ("a FIFO", room / "pipe", room / "pipe")]:
+    for name, orders, reports in [
+        ("one name", path, path),
+        ("a link", path, room / "link"),
+        ("the other way round", room / "link", path),
+        ("a second name", path, room / "other"),
+        ("a longer path", path, room / ".." / room.name / "both"),
+        ("a FIFO", room / "pipe", room / "pipe"),
+    ]:
         got = run(room, b"\xff" * 9, "basic", "--orders", str(orders), "--reports", str(reports))
         yield f"orders and reports in one file: {name}", held(got, (b"", f"mtp2_play: {reports}".encode() + refused), 4)
     with open(path, "rb") as file:
         number = file.fileno()
-        got = run(room, b"\xff" * 9, "basic", "--orders", f"/dev/fd/{number}", "--reports", str(path), pass_fds=[number])
+        got = run(
+            room, b"\xff" * 9, "basic", "--orders", f"/dev/fd/{number}", "--reports", str(path), pass_fds=[number]
+        )
         yield "orders and reports in one file: a number", held(got, (b"", f"mtp2_play: {path}".encode() + refused), 4)
     with open(path, "ab") as file:
-        done = subprocess.run([PLAY, "line", "basic", "--orders", str(path)], input=b"\xff" * 9, stdout=subprocess.PIPE, stderr=file, timeout=LIMIT)
+        done = subprocess.run(
+            [PLAY, "line", "basic", "--orders", str(path)],
+            input=b"\xff" * 9,
+            stdout=subprocess.PIPE,
+            stderr=file,
+            timeout=LIMIT,
+        )
     wanted = b"state LSC\nmtp2_play: standard error" + refused
-    yield "orders and reports in one file: standard error", f"status {done.returncode}" if done.returncode != 4 else differs(wanted, path.read_bytes())
+    yield (
+        "orders and reports in one file: standard " "error"
+    ), f"status {done.returncode}" if done.returncode != 4 else differs(wanted, path.read_bytes())
     apart = run(room, b"\xff" * 9, "basic", "--orders", "/dev/null", "--reports", "/dev/null")
     yield "orders and reports in a device", held(apart, (b"\xff" * 9, b""))
 
 
 def relayed(room, mode, milliseconds, damaged, words):
-    """Two ends, each of which is given what the other sent, a millisecond at a time; an octet of the second may be damaged on its way. What each sent."""
+    """Two ends, each of which is given what the other sent, a millisecond at a time; an octet of the second may be
+    damaged on its way. What each sent."""
     ends = [End(*it, mode=mode) for it in words]
     sent = [ends[0].run.stdout.read(8), b""]
     for now in range(milliseconds):
@@ -285,8 +353,9 @@ def relayed(room, mode, milliseconds, damaged, words):
 
 
 def by_files(entry):
-    """A life of examples/line/tied.txt: two ends by turns, held against the lines there; and then each by regular files, of which one has what the other
-    sent: it sends and tells the same, the first one also with the first bit of an octet on top, and sends the same by its own reports."""
+    """A life of examples/line/tied.txt: two ends by turns, held against the lines there; and then each by regular
+    files, of which one has what the other sent: it sends and tells the same, the first one also with the first bit of
+    an octet on top, and sends the same by its own reports."""
     name, _, (mode, milliseconds, *orders, damaged, sets, chosen), lines = entry
     limits = [it for name, number in zip(("--n1", "--n2"), chosen) if number is not None for it in (name, str(number))]
 
@@ -295,18 +364,34 @@ def by_files(entry):
         for one, given in enumerate(orders):
             (room / f"orders{one}").write_bytes(given)
             over = [*([] if sets[one] == "standard" else ["--text", sets[one]]), *limits]
-            words.append([*(["--ahead", "8"] if one == 0 else []), *over, "--orders", str(room / f"orders{one}"), "--reports", str(room / f"told{one}")])
+            words.append(
+                [
+                    *(["--ahead", "8"] if one == 0 else []),
+                    *over,
+                    "--orders",
+                    str(room / f"orders{one}"),
+                    "--reports",
+                    str(room / f"told{one}"),
+                ]
+            )
         sent = relayed(room, mode, milliseconds, damaged, words)
         told = [(room / f"told{one}").read_bytes() for one in (0, 1)]
-        shown = [f"{it}: {len(octets)} octets, {zlib.crc32(octets):08X}\n{text.decode()}" for it, octets, text in zip(("first", "second"), sent or (b"", b""), told)]
-        yield f"{name}: by turns", differs("".join(f"{it}\n" for it in lines).encode(), "".join(shown).encode()) if sent else "an end failed"
+        shown = [
+            f"{it}: {len(octets)} octets, {zlib.crc32(octets):08X}\n{text.decode()}"
+            for it, octets, text in zip(("first", "second"), sent or (b"", b""), told)
+        ]
+        yield f"{name}: by turns", differs(
+            "".join(f"{it}\n" for it in lines).encode(), "".join(shown).encode()
+        ) if sent else "an end failed"
         for one in (0, 1) if sent else ():
             (room / "come").write_bytes(sent[1 - one][: 8 * milliseconds])
             wanted = bytearray(sent[one])
             if one and damaged is not None:
                 wanted[damaged] ^= 16
             with open(room / "come", "rb") as given, open(room / "went", "wb") as out:
-                done = subprocess.run([PLAY, "line", mode, *words[one]], stdin=given, stdout=out, stderr=subprocess.PIPE, timeout=LIMIT)
+                done = subprocess.run(
+                    [PLAY, "line", mode, *words[one]], stdin=given, stdout=out, stderr=subprocess.PIPE, timeout=LIMIT
+                )
             got = done.returncode, (room / "went").read_bytes(), (room / f"told{one}").read_bytes()
             yield f"{name}: by files, end {one + 1}", held(got, (bytes(wanted), told[one]))
             if one == 0:
@@ -335,19 +420,32 @@ at 1000
 2 at 1000
 """
 AT_HAND = {
-    b"1": b"ok power,ok emergency,ok start,in service,ok msu 85010203,ok state LSC,state LSC InService,refused X1 BadLine,ok quit",
+    b"1": b"ok power,ok emergency,ok start,in service,ok msu 85010203,ok state LSC,state LSC InService,refused X1 "
+    b"BadLine,ok quit",
     b"2": b"ok power,ok emergency,ok start,in service,ok state LSC,state LSC InService,message 85010203,ok quit",
 }
 
 
 def by_hand(room):
-    """Two ends with orders by hand, all of them there from the beginning, a thousand times as fast as a line: what each tells, but for the millisecond."""
+    """Two ends with orders by hand, all of them there from the beginning, a thousand times as fast as a line: what each
+    tells, but for the millisecond."""
     (room / "typed").write_bytes(BY_HAND)
     for mode in ("basic", "cyclic"):
         with open(room / "typed", "rb") as typed:
-            done = subprocess.run([LINE / "by_hand", mode, "1000"], stdin=typed, capture_output=True, timeout=LIMIT, env={**os.environ, "MTP2_PLAY": str(PLAY)})
-        told = {number: b",".join(it.split(b" ", 2)[2] for it in done.stdout.splitlines() if it.startswith(number)) for number in AT_HAND}
-        yield f"by hand, {mode}", f"status {done.returncode}, {done.stderr[-200:]!r}" if done.returncode else None if told == AT_HAND else repr(told)
+            done = subprocess.run(
+                [LINE / "by_hand", mode, "1000"],
+                stdin=typed,
+                capture_output=True,
+                timeout=LIMIT,
+                env={**os.environ, "MTP2_PLAY": str(PLAY)},
+            )
+        told = {
+            number: b",".join(it.split(b" ", 2)[2] for it in done.stdout.splitlines() if it.startswith(number))
+            for number in AT_HAND
+        }
+        yield f"by hand, {mode}", (
+            f"status {done.returncode}, " f"{done.stderr[-200:]!r}"
+        ) if done.returncode else None if told == AT_HAND else repr(told)
 
 
 class Drain:
@@ -396,7 +494,8 @@ def undrained(room):
 
 
 def filled(room, path):
-    """The other side of the FIFO, an end that tells into it, and how many milliseconds passed: it has no room for all that they told."""
+    """The other side of the FIFO, an end that tells into it, and how many milliseconds passed: it has no room for all
+    that they told."""
     drain, end, passed = Drain(path), End("--reports", str(path), "--orders", str(room / "orders")), 0
     while end.has_time() and passed < 5500:
         passed += len(end.gives(b"\xff" * 8 * 100)) // 8
@@ -404,8 +503,8 @@ def filled(room, path):
 
 
 def late(room, path, told):
-    """What is wrong where the FIFO is drained once it is full, if something is: it is drained while more milliseconds pass, until one is told as it passes, so
-    nothing is left to go on."""
+    """What is wrong where the FIFO is drained once it is full, if something is: it is drained while more milliseconds
+    pass, until one is told as it passes, so nothing is left to go on."""
     drain, end, passed = filled(room, path)
     while end.has_time() and passed < 6000 and not drain.comes_to(told[2 * passed - 1]):
         passed += len(end.gives(b"\xff" * 8)) // 8
@@ -414,7 +513,8 @@ def late(room, path, told):
 
 
 def at_the_end(room, path, told):
-    """The same where it is drained as the line ends: what was lost behind the last line that found room is told behind that."""
+    """The same where it is drained as the line ends: what was lost behind the last line that found room is told behind
+    that."""
     drain, end, passed = filled(room, path)
     end.closes()
     while end.has_time():
@@ -443,21 +543,37 @@ def counted(told, got):
 
 def failing(room):
     """Statuses of files that aren't there, and of writes that fail."""
-    for words, status in [(("basic", "--orders", "nowhere/x"), 4), (("basic", "--reports", "nowhere/x"), 4), (("basic", "--orders", str(room)), 4),
-                          (("basic", "--ahead", "8001"), 3), (("other",), 3), (("basic", "--bits", "x"), 3), (("basic", "--text", "stdin"), 3), (("basic", "--n1", "5"), 3),
-                          (("basic", "--n2", "300"), 3), (("cyclic", "--n1", "0"), 3), (("cyclic", "--n1", "128"), 3), (("cyclic", "--n2", "299"), 3),
-                          (("cyclic", "--n2", "8193"), 3), (("cyclic", "--n1", "x"), 3), (("cyclic", "--n2", "-300"), 3)]:
+    for words, status in [
+        (("basic", "--orders", "nowhere/x"), 4),
+        (("basic", "--reports", "nowhere/x"), 4),
+        (("basic", "--orders", str(room)), 4),
+        (("basic", "--ahead", "8001"), 3),
+        (("other",), 3),
+        (("basic", "--bits", "x"), 3),
+        (("basic", "--text", "stdin"), 3),
+        (("basic", "--n1", "5"), 3),
+        (("basic", "--n2", "300"), 3),
+        (("cyclic", "--n1", "0"), 3),
+        (("cyclic", "--n1", "128"), 3),
+        (("cyclic", "--n2", "299"), 3),
+        (("cyclic", "--n2", "8193"), 3),
+        (("cyclic", "--n1", "x"), 3),
+        (("cyclic", "--n2", "-300"), 3),
+    ]:
         got = run(room, b"\xff" * 9, *words)
         yield " ".join(words), None if got[0] == status else f"status {got[0]} and not {status}"
     with open("/dev/full", "wb") as full:
-        done = subprocess.run([PLAY, "line", "basic"], input=b"\xff" * 9, stdout=full, stderr=subprocess.PIPE, timeout=LIMIT)
+        done = subprocess.run(
+            [PLAY, "line", "basic"], input=b"\xff" * 9, stdout=full, stderr=subprocess.PIPE, timeout=LIMIT
+        )
     yield "a full device", None if done.returncode == 4 else f"status {done.returncode}"
     yield "reports to a full device", untold(room, b"")
     yield "the same, and one behind the write that failed", untold(room, b"emergency\n")
 
 
 def untold(room, more):
-    """What is wrong where a report can't be written, if something is: the thread that writes ends, and the run does with a further report, or else with its line."""
+    """What is wrong where a report can't be written, if something is: the thread that writes ends, and the run does
+    with a further report, or else with its line."""
     path = room / "full.orders"
     # (an order that is told by a single report: no second one behind its write in the same millisecond)
     path.write_bytes(b"power\n")
@@ -474,7 +590,8 @@ def untold(room, more):
 
 
 def lived(room):
-    """The lives of examples/line/lives.txt: what comes in, the orders, and what has to be told, as they were worked out."""
+    """The lives of examples/line/lives.txt: what comes in, the orders, and what has to be told, as they were worked
+    out."""
     for name, mode, schedule, given, lines in plain_filter.lives():
         come, text = plain_filter.incoming(schedule), "\n".join(given).encode() + b"\n"
         sent, told = plain(come, mode, text)
@@ -497,16 +614,34 @@ def measured(room):
         yield name, f"status {got[0]}" if got[0] else differs(wanted.encode(), file.read_bytes())
     for path in (room / "nowhere" / "measures", room):
         got = run(room, b"\xff" * 33, "basic", "--measures", str(path))
-        yield f"{path.name} can't be made", None if got[:2] == (4, b"") and path.name.encode() in got[2] else f"status {got[0]}, {got[1:]!r}"
+        yield f"{path.name} can't be made", None if got[:2] == (4, b"") and path.name.encode() in got[
+            2
+        ] else f"status {got[0]}, {got[1:]!r}"
     got = run(room, b"\xff" * 33, "basic", "--measures", "/dev/full")
     yield "a full device", None if got[:2] == (4, b"\xff" * 33) else f"status {got[0]}"
 
 
-PARTS = [*map(by_files, plain_tied.entries()), files, chosen, orders, crossed, by_hand, lived, measured, growing, truncated, quitting, same, undrained, failing]
+PARTS = [
+    *map(by_files, plain_tied.entries()),
+    files,
+    chosen,
+    orders,
+    crossed,
+    by_hand,
+    lived,
+    measured,
+    growing,
+    truncated,
+    quitting,
+    same,
+    undrained,
+    failing,
+]
 
 
 def played(place):
-    """The cases of a part, each with what is wrong with it. Where a run ends, or doesn't, as the part doesn't expect at all, that is the fault of a case too."""
+    """The cases of a part, each with what is wrong with it. Where a run ends, or doesn't, as the part doesn't expect at
+    all, that is the fault of a case too."""
     cases = []
     with tempfile.TemporaryDirectory() as folder:
         try:

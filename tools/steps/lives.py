@@ -1,7 +1,6 @@
-#!/usr/bin/env python3
-"""Runs `mtp2_play line` on the lives of examples/line/lives.txt, and compares what is told with what stands there, and the octets that go out with those of a
-plain terminal (plain_filter.py). Each life is also run with the first bit of an octet on top, and by its own reports in place of its orders: what goes out is
-the same.
+"""Runs `mtp2_play line` on the lives of examples/line/lives.txt, and compares what is told with what stands there, and
+the octets that go out with those of a plain terminal (plain_filter.py). Each life is also run with the first bit of an
+octet on top, and by its own reports in place of its orders: what goes out is the same.
 
 usage: tools/steps/lives        of crates/mtp2_play/out/mtp2_play, or of the program that MTP2_PLAY names
 
@@ -10,10 +9,8 @@ import pathlib
 import sys
 import tempfile
 
-sys.path += map(str, pathlib.Path(__file__).resolve().parents[1].glob("*"))
-
-from built import PLAY, ROOT, Count, Run, differs, missing
-from plain_filter import incoming, lives, run, said
+from tools.oracles.plain_filter import incoming, lives, run, said
+from tools.steps.built import PLAY, ROOT, Count, Run, differs, missing
 
 TEXT = (ROOT / "examples" / "standard.sdl").read_bytes()
 MIRRORED = bytes(int(f"{octet:08b}"[::-1], 2) for octet in range(256))
@@ -23,13 +20,21 @@ def made(folder, mode, octets, orders, *words):
     """How a run ended: the octets that went out, and what was told."""
     (folder / "orders").write_text(orders)
     (folder / "reports").write_bytes(b"")
-    ended = Run(["line", mode, "--orders", str(folder / "orders"), "--reports", str(folder / "reports"), *words], octets, limit=300)
+    ended = Run(
+        ["line", mode, "--orders", str(folder / "orders"), "--reports", str(folder / "reports"), *words],
+        octets,
+        limit=300,
+    )
     return ended, (folder / "reports").read_bytes()
 
 
 def fault(name, mode, schedule, orders, lines):
     """What is wrong with a life, if something is."""
-    octets, wanted, text = incoming(schedule), "".join(f"{it}\n" for it in lines).encode(), "".join(f"{it}\n" for it in orders)
+    octets, wanted, text = (
+        incoming(schedule),
+        "".join(f"{it}\n" for it in lines).encode(),
+        "".join(f"{it}\n" for it in orders),
+    )
     gives = run(TEXT, mode == "cyclic", octets, said(orders), lambda _: None)
     with tempfile.TemporaryDirectory() as room:
         folder = pathlib.Path(room)

@@ -1,9 +1,11 @@
-#!/usr/bin/env python3
-"""Gives `set` the orders of examples/set/orders.txt on lines on which nothing comes, and compares what it tells, without its milliseconds; and has it run on a line that can't be opened,
-and on one that ends and is taken away: ten seconds later both runs are over. And on one whose FIFO kept 65,536 octets: few of them are answered.
-And by orders and reports in one file, which are refused; by a file of orders that is truncated; and by a `quit` that comes late.
+"""Gives `set` the orders of examples/set/orders.txt on lines on which nothing comes, and compares what it tells,
+without its milliseconds; and has it run on a line that can't be opened, and on one that ends and is taken away: ten
+seconds later both runs are over. And on one whose FIFO kept 65,536 octets: few of them are answered. And by orders and
+reports in one file, which are refused; by a file of orders that is truncated; and by a `quit` that comes late.
 
-usage: tools/steps/sets [NAME ..]     the entries whose names begin so, all where none is named; of crates/mtp2_play/out/mtp2_play, or of the program that MTP2_PLAY names
+usage: tools/steps/sets [NAME ..]
+           the entries whose names begin so, all where none is named; of crates/mtp2_play/out/mtp2_play, or of the
+           program that MTP2_PLAY names
 
 The last line is `N passed, M failed`, and the status 1 where one failed."""
 import os
@@ -13,9 +15,8 @@ import sys
 import tempfile
 import time
 
-sys.path += map(str, pathlib.Path(__file__).resolve().parents[1].glob("*"))
-
-from built import LIMIT, PLAY, Count, Run, differs, missing, side_by_side, tool
+from tools.steps import examples
+from tools.steps.built import LIMIT, PLAY, Count, Run, differs, missing
 
 
 def told(words, orders):
@@ -44,7 +45,10 @@ def without_line():
         room = pathlib.Path(name)
         run = Run(on_line(room, f"{room}/none"))
         said = f"mtp2_play: {room}/none: No such file or directory (os error 2)\n".encode()
-        return differs(b"0 0 line failed\nexit 4\n" + said, (room / "reports").read_bytes() + f"exit {run.status}\n".encode() + run.said)
+        return differs(
+            b"0 0 line failed\nexit 4\n" + said,
+            (room / "reports").read_bytes() + f"exit {run.status}\n".encode() + run.said,
+        )
 
 
 def line_taken():
@@ -80,7 +84,10 @@ def line_kept():
         answered = len(os.read(gone, 1 << 20))
         for it in (come, gone):
             os.close(it)
-        return differs(b"few answered, exit 0", f"{'few' if answered < kept // 2 else answered} answered, exit {run.status}".encode())
+        return differs(
+            b"few answered, exit 0",
+            f"{'few' if answered < kept // 2 else answered} answered, exit {run.status}".encode(),
+        )
 
 
 def shared(orders, reports, files):
@@ -89,24 +96,45 @@ def shared(orders, reports, files):
         room = pathlib.Path(name)
         (room / "both").write_text("quit\n")
         (room / "link").symlink_to(room / "both")
-        words = [it.replace("ROOM", str(room)) for it in ("set", "basic", "--link", "ROOM/none", "--own", "1", "--peer", "2", "--orders", orders, "--reports", reports)]
+        words = [
+            it.replace("ROOM", str(room))
+            for it in (
+                "set",
+                "basic",
+                "--link",
+                "ROOM/none",
+                "--own",
+                "1",
+                "--peer",
+                "2",
+                "--orders",
+                orders,
+                "--reports",
+                reports,
+            )
+        ]
         with open(room / "both", "r+b") as both:
             given = {it: both for it in files}
-            done = subprocess.run(["mtp2_play", *words], executable=str(PLAY), stderr=subprocess.PIPE, timeout=LIMIT, **given)
+            done = subprocess.run(
+                ["mtp2_play", *words], executable=str(PLAY), stderr=subprocess.PIPE, timeout=LIMIT, **given
+            )
         said = done.stderr.replace(str(room).encode(), b"ROOM")
         wanted = f"status 4, mtp2_play: {reports}: reports can't go where orders come from\nquit\n".encode()
         return differs(wanted, f"status {done.returncode}, ".encode() + said + (room / "both").read_bytes())
 
 
 def orders_anew():
-    """The fault of a run whose file of orders is truncated while it runs, or in which a `quit` comes late behind an order that waits."""
+    """The fault of a run whose file of orders is truncated while it runs, or in which a `quit` comes late behind an
+    order that waits."""
     with tempfile.TemporaryDirectory() as name:
         room = pathlib.Path(name)
         for fifo in ("a0", "b0"):
             os.mkfifo(room / fifo)
         orders, reports = room / "orders", room / "reports"
         orders.write_text("at 99999999\ntable\n")
-        run = subprocess.Popen(["mtp2_play", *on_line(room, f"{room}/a0,{room}/b0"), "--orders", str(orders)], executable=str(PLAY))
+        run = subprocess.Popen(
+            ["mtp2_play", *on_line(room, f"{room}/a0,{room}/b0"), "--orders", str(orders)], executable=str(PLAY)
+        )
         try:
             # (so much later each is given that it is no part of what was given before)
             for text in ("unsure\nat 99999999\nheld\n", None):
@@ -121,14 +149,21 @@ def orders_anew():
             run.kill()
             status = "too slow"
         told = [it.split(" ", 1)[1] for it in reports.read_text().splitlines()]
-        return differs(b"orders truncated, ok unsure, unsure 0, ok quit, exit 0", ", ".join([*(it for it in told if " line " not in it), f"exit {status}"]).encode())
+        return differs(
+            b"orders truncated, ok unsure, unsure 0, ok quit, exit 0",
+            ", ".join([*(it for it in told if " line " not in it), f"exit {status}"]).encode(),
+        )
 
 
-ENDED = {"a line that can't be opened": without_line, "a line that is taken away": line_taken, "a line that kept octets": line_kept,
-         "orders and reports in one file: a link": lambda: shared("ROOM/both", "ROOM/link", []),
-         "orders and reports in one file: standard input": lambda: shared("/dev/stdin", "ROOM/both", ["stdin"]),
-         "orders and reports in one file: standard output": lambda: shared("ROOM/link", "/dev/stdout", ["stdout"]),
-         "a file of orders is truncated, and a quit comes late": orders_anew}
+ENDED = {
+    "a line that can't be opened": without_line,
+    "a line that is taken away": line_taken,
+    "a line that kept octets": line_kept,
+    "orders and reports in one file: a link": lambda: shared("ROOM/both", "ROOM/link", []),
+    "orders and reports in one file: standard input": lambda: shared("/dev/stdin", "ROOM/both", ["stdin"]),
+    "orders and reports in one file: standard output": lambda: shared("ROOM/link", "/dev/stdout", ["stdout"]),
+    "a file of orders is truncated, and a quit comes late": orders_anew,
+}
 
 
 def ended(kind):
@@ -139,7 +174,7 @@ def main(names):
     if missing(PLAY):
         return 4
     count = Count("sets")
-    for name, trial, lines in tool("examples").parted("set/orders.txt"):
+    for name, trial, lines in examples.parted("set/orders.txt"):
         if names and not any(name.startswith(it) for it in names):
             continue
         words, orders = trial.split("\n", 1)

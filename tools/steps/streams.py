@@ -1,13 +1,15 @@
-#!/usr/bin/env python3
-"""Runs the built program where its streams fail, come in pieces or are interrupted, and on what is cut or changed: each prefix of scripts, texts and units,
-and each with one octet changed. A run has to say what the plain programs of this folder say (tools/oracles/plain_commands.py), and else to end with a status that
-the documents have.
+"""Runs the built program where its streams fail, come in pieces or are interrupted, and on what is cut or changed: each
+prefix of scripts, texts and units, and each with one octet changed. A run has to say what the plain programs of this
+folder say (tools/oracles/plain_commands.py), and else to end with a status that the documents have.
 
-usage: tools/steps/streams              of what is longer than 200 octets a part of the prefixes and of the changes, chosen by a seed
+usage: tools/steps/streams
+           of what is longer than 200 octets a part of the prefixes and of the changes, chosen by a seed
        tools/steps/streams --all        all prefixes, and a change at each place
        tools/steps/streams --seed N     another part
-       tools/steps/streams --few        of each input a few prefixes and changes, and no test of trials_texts: what tools/quick runs
-MTP2_PLAY names another program. The last line is `N passed, M failed`, and the status 1 where one failed. Where no C compiler is there, what
+       tools/steps/streams --few
+           of each input a few prefixes and changes, and no test of trials_texts: what tools/quick runs
+MTP2_PLAY names another program. The last line is `N passed, M failed`, and the status 1 where one failed. Where no C
+compiler is there, what
 tools/c/streams.c does is skipped."""
 import os
 import pathlib
@@ -18,14 +20,13 @@ import tempfile
 import threading
 import time
 
-sys.path += map(str, pathlib.Path(__file__).resolve().parents[1].glob("*"))
-
-from built import PLAY, ROOT, TESTS, Count, Run, differs, library, missing
-from plain_commands import check_says, frame_says, play_says, soak_says, standard_says
-from plain_units import check_octets
+from tools.oracles.plain_commands import check_says, frame_says, play_says, soak_says, standard_says
+from tools.oracles.plain_units import check_octets
+from tools.steps.built import PLAY, ROOT, TESTS, Count, Run, differs, library, missing
 
 LONGEST, MOST_READS = 262144, 1000000
-# How many prefixes and changes of an input are a part, and up to how many octets of it all are taken; and where few are wanted.
+# How many prefixes and changes of an input are a part, and up to how many octets of it all are taken; and where few are
+# wanted.
 PART, MOST_WHOLE = 60, 200
 FEW, MOST_FEW = 4, 20
 # How many octets come in on a line: more than it is asked for at once.
@@ -116,8 +117,17 @@ KINDS = {
     "soak": (lambda script: (["soak", "stdin", "--workers", "2"], script), soak_says),
     "frame": (lambda word: (["frame", word], b""), frame_says),
 }
-GIVEN = [("check", COUNTER), ("check", STANDARD), ("play", PRESS), ("play on a set", LAMP), ("play of a terminal", FIRST),
-         ("play of a terminal", CYCLIC), ("play of a set of links", LINKS), ("soak", SOAK), *(("frame", it) for it in UNITS)]
+GIVEN = [
+    ("check", COUNTER),
+    ("check", STANDARD),
+    ("play", PRESS),
+    ("play on a set", LAMP),
+    ("play of a terminal", FIRST),
+    ("play of a terminal", CYCLIC),
+    ("play of a set of links", LINKS),
+    ("soak", SOAK),
+    *(("frame", it) for it in UNITS),
+]
 
 
 # Streams that fail, or go in pieces.
@@ -147,8 +157,13 @@ def disturbed(folder, loaded, words, given):
         return f"undisturbed it ends with {ample.status} after {reads} reads and {writes} writes"
     lines, is_help = ample.wrote.split(b"\n"), "--help" in words
     # (what prints help gives up at its 65th interruption)
-    for ways in [{"READ_PART": "1"}, {"READ_PART": "7"}, {"INTERRUPTED": "1"}, {"WRITE_PART": "1"},
-                 {"READ_PART": "1", "WRITE_PART": "10" if is_help else "1", "INTERRUPTED": "1"}]:
+    for ways in [
+        {"READ_PART": "1"},
+        {"READ_PART": "7"},
+        {"INTERRUPTED": "1"},
+        {"WRITE_PART": "1"},
+        {"READ_PART": "1", "WRITE_PART": "10" if is_help else "1", "INTERRUPTED": "1"},
+    ]:
         wrong = ends(run(**ways), ample.status, ample.wrote)
         if wrong:
             return f"{ways}: {wrong}"
@@ -158,44 +173,77 @@ def disturbed(folder, loaded, words, given):
             return f"read {number} of {reads} fails: {wrong}"
     for number in sorted({*range(1, min(writes, 5) + 1), writes}):
         failing = run(WRITE_FAILS=str(number))
-        before = failing.wrote if is_help and ample.wrote.startswith(failing.wrote) else b"".join(it + b"\n" for it in lines[: number - 1])
-        wrong = ends(failing, 4, before) or ends(run(WRITE_FAILS=str(number), WRITE_PART="1"), 4, ample.wrote[: number - 1])
+        before = (
+            failing.wrote
+            if is_help and ample.wrote.startswith(failing.wrote)
+            else b"".join(it + b"\n" for it in lines[: number - 1])
+        )
+        wrong = ends(failing, 4, before) or ends(
+            run(WRITE_FAILS=str(number), WRITE_PART="1"), 4, ample.wrote[: number - 1]
+        )
         if wrong:
             return f"write {number} of {writes} fails: {wrong}"
     return None
 
 
 def line_disturbed(folder, loaded):
-    """What is wrong with the runs of `line` whose streams fail or go in pieces, if something is: octets go out as they come in, so what fails leaves a part of
-    what goes out else, and a part of what is told."""
+    """What is wrong with the runs of `line` whose streams fail or go in pieces, if something is: octets go out as they
+    come in, so what fails leaves a part of what goes out else, and a part of what is told."""
     (folder / "line.orders").write_bytes(b"power\nemergency\nstart\nat 30\nstate LSC\nmsu 850102\nstate IAC\n")
 
     def run(**variables):
-        ended = Run(["line", "basic", "--orders", "line.orders", "--reports", "line.told"], b"\x7e" * LINE, folder=folder, LD_PRELOAD=loaded, **variables)
+        ended = Run(
+            ["line", "basic", "--orders", "line.orders", "--reports", "line.told"],
+            b"\x7e" * LINE,
+            folder=folder,
+            LD_PRELOAD=loaded,
+            **variables,
+        )
         return ended, (folder / "line.told").read_bytes()
 
     ample, told = run(TELL="1")
     reads, writes, _ = stream_counts(ample)
     if ample.status != 0 or len(ample.wrote) != LINE or reads < 3 or not writes or told.count(b" ok ") != 6:
         return f"undisturbed it ends with {ample.status} after {reads} reads and {writes} writes"
-    for ways in [*({"READ_PART": str(it)} for it in [1, 7, 8, 4095, 4096]), {"INTERRUPTED": "1"}, {"WRITE_PART": "1"}, {"READ_PART": "7", "WRITE_PART": "10", "INTERRUPTED": "1"}]:
+    for ways in [
+        *({"READ_PART": str(it)} for it in [1, 7, 8, 4095, 4096]),
+        {"INTERRUPTED": "1"},
+        {"WRITE_PART": "1"},
+        {"READ_PART": "7", "WRITE_PART": "10", "INTERRUPTED": "1"},
+    ]:
         ended, said = run(**ways)
         wrong = ends(ended, 0, ample.wrote) or differs(told, said)
         if wrong:
             return f"{ways}: {wrong}"
-    for ways in [*({"READ_FAILS": str(it)} for it in [1, 2, 3, reads]), *({"WRITE_FAILS": "3", "WRITE_PART": str(it)} for it in [1, 100]), {"WRITE_FAILS": "1"}]:
+    for ways in [
+        *({"READ_FAILS": str(it)} for it in [1, 2, 3, reads]),
+        *({"WRITE_FAILS": "3", "WRITE_PART": str(it)} for it in [1, 100]),
+        {"WRITE_FAILS": "1"},
+    ]:
         ended, said = run(**ways)
-        if ended.status != 4 or ended.said != FAILED or not ample.wrote.startswith(ended.wrote) or not told.startswith(said):
+        if (
+            ended.status != 4
+            or ended.said != FAILED
+            or not ample.wrote.startswith(ended.wrote)
+            or not told.startswith(said)
+        ):
             return f"{ways}: status {ended.status}, {len(ended.wrote)} octets written, {said[-80:]!r} told"
     return None
 
 
 def trace_disturbed(folder, loaded):
-    """What is wrong with the runs of `play --trace` whose writes to the trace fail or go in pieces, if something is: what fails leaves a part of the trace and of what
-    is printed."""
+    """What is wrong with the runs of `play --trace` whose writes to the trace fail or go in pieces, if something is:
+    what fails leaves a part of the trace and of what is printed."""
 
     def run(**variables):
-        ended = Run(["play", "standard", "stdin", "--trace", "the.trace"], CYCLIC, folder=folder, LD_PRELOAD=loaded, WRITES_OF="the.trace", **variables)
+        ended = Run(
+            ["play", "standard", "stdin", "--trace", "the.trace"],
+            CYCLIC,
+            folder=folder,
+            LD_PRELOAD=loaded,
+            WRITES_OF="the.trace",
+            **variables,
+        )
         return ended, (folder / "the.trace").read_bytes()
 
     ample, traced = run(TELL="1")
@@ -211,7 +259,10 @@ def trace_disturbed(folder, loaded):
         ended, said = run(WRITE_FAILS=str(number))
         is_part = traced.startswith(said) and len(said) < len(traced) and said[-1:] in (b"", b"\n")
         if ended.status != 4 or ended.said != FAILED or not ample.wrote.startswith(ended.wrote) or not is_part:
-            return f"write {number} of {writes} fails: status {ended.status}, {len(ended.wrote)} octets written, {said[-80:]!r} traced"
+            return (
+                f"write {number} of {writes} fails: status {ended.status}, {len(ended.wrote)} octets written, "
+                f"{said[-80:]!r} traced"
+            )
     return None
 
 
@@ -231,7 +282,9 @@ def unread(folder, words, given):
 
 def workers(folder, loaded):
     """What is wrong with the threads that `soak` starts, if something is."""
-    run = lambda number, **variables: Run(["soak", "soak.script", "--workers", str(number)], folder=folder, LD_PRELOAD=loaded, TELL="1", **variables)
+    run = lambda number, **variables: Run(
+        ["soak", "soak.script", "--workers", str(number)], folder=folder, LD_PRELOAD=loaded, TELL="1", **variables
+    )
     for number in [1, 2, 3, 5, 16]:
         started = stream_counts(run(number))[2]
         if started != number:
@@ -246,15 +299,26 @@ def workers(folder, loaded):
 
 def books_come_back(folder, loaded):
     """What is wrong where no thread can be had and the books come back, if something is: a test, by its name."""
-    run = Run(["of_pools::want_of_threads_hands_the_books_back"], folder=folder, program=TESTS, LD_PRELOAD=loaded, THREADS_FAIL="1")
+    run = Run(
+        ["of_pools::want_of_threads_hands_the_books_back"],
+        folder=folder,
+        program=TESTS,
+        LD_PRELOAD=loaded,
+        THREADS_FAIL="1",
+    )
     return None if run.status == 0 else f"status {run.status}: {run.said[-100:]!r}"
 
 
 def script_fails(folder, loaded):
-    """What is wrong where the set is refused though the script's read fails, the other way round, and where the refusal can't be written, if something is."""
-    run = lambda **variables: Run(["play", "stdin", "press.script"], b"BLOCK B;", folder=folder, LD_PRELOAD=loaded, **variables)
+    """What is wrong where the set is refused though the script's read fails, the other way round, and where the refusal
+    can't be written, if something is."""
+    run = lambda **variables: Run(
+        ["play", "stdin", "press.script"], b"BLOCK B;", folder=folder, LD_PRELOAD=loaded, **variables
+    )
     refused = b"refused P1 Unexpected line 1\n"
-    return ends(run(READ_FAILS="3"), 2, refused) or ends(run(READ_FAILS="2"), 4, b"") or ends(run(WRITE_FAILS="1"), 4, b"")
+    return (
+        ends(run(READ_FAILS="3"), 2, refused) or ends(run(READ_FAILS="2"), 4, b"") or ends(run(WRITE_FAILS="1"), 4, b"")
+    )
 
 
 def is_device(path):
@@ -303,7 +367,11 @@ def growing(folder, words, given, said):
 
         threading.Thread(target=write, daemon=True).start()
         lines, status = said
-        return ends(Run([str(path) if it == GROWS else it for it in words], folder=folder), status, "".join(f"{it}\n" for it in lines).encode())
+        return ends(
+            Run([str(path) if it == GROWS else it for it in words], folder=folder),
+            status,
+            "".join(f"{it}\n" for it in lines).encode(),
+        )
 
 
 def drop_by_drop(folder, loaded, words, given, status, wrote):
@@ -331,28 +399,50 @@ def of_length(kind, text, size):
 
 def long_ones(loaded):
     """The longest inputs, and ones that are an octet longer, in one piece and in many."""
-    for kind, text in [("check", COUNTER), ("play", PRESS), ("play on a set", LAMP), ("play of a terminal", CYCLIC), ("play of a set of links", LINKS), ("soak", SOAK)]:
+    for kind, text in [
+        ("check", COUNTER),
+        ("play", PRESS),
+        ("play on a set", LAMP),
+        ("play of a terminal", CYCLIC),
+        ("play of a set of links", LINKS),
+        ("soak", SOAK),
+    ]:
         for size in [LONGEST, LONGEST + 1]:
             yield f"{kind}, {size} octets", kind, of_length(kind, text, size)
             if loaded:
-                yield f"{kind}, {size} octets, 100 at a time", kind, of_length(kind, text, size), (("LD_PRELOAD", loaded), ("READ_PART", "100"))
+                yield f"{kind}, {size} octets, 100 at a time", kind, of_length(kind, text, size), (
+                    ("LD_PRELOAD", loaded),
+                    ("READ_PART", "100"),
+                )
 
 
 def no_text(given):
     """What isn't UTF-8, or has signs of several octets, at its first, its last or its middle octet."""
-    for octets in [b"\xff", b"\x80", b"\xc3", b"\xc0\xaf", b"\xed\xa0\x80", b"\xf4\x90\x80\x80", b"\xc3\xa4", b"\xef\xbb\xbf"]:
+    for octets in [
+        b"\xff",
+        b"\x80",
+        b"\xc3",
+        b"\xc0\xaf",
+        b"\xed\xa0\x80",
+        b"\xf4\x90\x80\x80",
+        b"\xc3\xa4",
+        b"\xef\xbb\xbf",
+    ]:
         for at in [0, len(given) // 2, len(given) - 1]:
             yield f"octets {octets.hex()} at {at}", given[:at] + octets + given[at + 1 :]
 
 
 def units(dice):
-    """Words of units: of all lengths, with spare bits, and some that are cut off, too long, or have a wrong length indicator."""
+    """Words of units: of all lengths, with spare bits, and some that are cut off, too long, or have a wrong length
+    indicator."""
     for _ in range(PART):
         body = dice.randbytes(dice.choice([0, 0, 1, 1, 2, 3, 4, 61, 62, 63, 64, 272, 273, 274]))
         length = (min(len(body), 63) if dice.random() < 0.8 else dice.randrange(64)) | dice.choice([0, 0, 64, 128])
         content = dice.choice([b"\xff\xff", dice.randbytes(2), b"\x1f\x7c"]) + bytes([length]) + body
         octets = content + check_octets(content)
-        yield f"{len(octets)} octets, {octets[:5].hex()}", (octets.hex() if dice.random() < 0.5 else octets.hex().upper()).encode()
+        yield f"{len(octets)} octets, {octets[:5].hex()}", (
+            octets.hex() if dice.random() < 0.5 else octets.hex().upper()
+        ).encode()
 
 
 def beginnings(given, dice):
@@ -365,7 +455,11 @@ def changes(given, dice, kind):
     """One octet changed at places of an input: to a neighbour by one bit, or to any other."""
     places, by = range(len(given)), dice or random.Random(1)
     for at in places if dice is None or len(given) <= MOST_WHOLE else sorted(by.sample(places, PART)):
-        octet = given[at] ^ 1 << by.randrange(8) if by.random() < 0.5 else by.choice([it for it in range(256) if it != given[at]])
+        octet = (
+            given[at] ^ 1 << by.randrange(8)
+            if by.random() < 0.5
+            else by.choice([it for it in range(256) if it != given[at]])
+        )
         if octet or kind != "frame":
             yield f"octet {at} is {octet:02x} and not {given[at]:02x}", given[:at] + bytes([octet]) + given[at + 1 :]
 
@@ -399,11 +493,17 @@ def main(words):
         if is_device("/dev/full"):
             count.all([(f"{name}, written nowhere", folder, *rest) for name, *rest in streams()], full)
         line = "line", ["line", "basic"], b"\xff" * 9
-        count.all([(f"{name}, written into a pipe that nobody reads", folder, *rest) for name, *rest in [*streams(), line]], unread)
+        count.all(
+            [(f"{name}, written into a pipe that nobody reads", folder, *rest) for name, *rest in [*streams(), line]],
+            unread,
+        )
         count.all([(name, folder, *rest) for name, *rest in [*long_ones(loaded), *inputs(seed)]], fault)
         count.all([(f"a file that grows: {name}", folder, *rest) for name, *rest in growing_ones()], growing)
         if loaded is None:
-            count.skip(len(streams()) + len(list(long_runs())) + 5, "there is no C compiler here, or nothing that it makes can be loaded before a program")
+            count.skip(
+                len(streams()) + len(list(long_runs())) + 5,
+                "there is no C compiler here, or nothing that it makes can be loaded before a program",
+            )
             return count.end()
         count.all([(name, folder, loaded, *rest) for name, *rest in streams()], disturbed)
         count.all([(name, folder, loaded, *rest) for name, *rest in long_runs()], drop_by_drop)

@@ -1,6 +1,6 @@
-#!/usr/bin/env python3
-"""Two link sets that tend themselves, tied in memory, for an hour of line time and more: the runs of examples/links/hour.txt, each by the program `trials`, on all processors. What is
-printed of each run is compared word for word with the table. And by what both ends tell on the way:
+"""Two link sets that tend themselves, tied in memory, for an hour of line time and more: the runs of
+examples/links/hour.txt, each by the program `trials`, on all processors. What is printed of each run is compared word
+for word with the table. And by what both ends tell on the way:
 
 - all selections are shared out among all links at the end;
 - each end took as much of what it was offered as the table says, and told no more as unsure;
@@ -9,19 +9,19 @@ printed of each run is compared word for word with the table. And by what both e
 Prints the sums of all runs, by how many links they have.
 
 usage: tools/steps/tended [NAME ..]                  the entries whose names begin so, all where none is named
-       tools/steps/tended --by-chance FIRST COUNT    so many runs that are made by chance, with seeds from this one up; of what is taken and unsure nothing is asked
+       tools/steps/tended --by-chance FIRST COUNT
+           so many runs that are made by chance, with seeds from this one up; of what is taken and unsure nothing is
+           asked
 of crates/trials/out/trials, or of the program that TRIALS names
 
 The last line is `N passed, M failed`, and the status 1 where one failed."""
 import collections
-import pathlib
 import random
 import re
 import sys
 
-sys.path += map(str, pathlib.Path(__file__).resolve().parents[1].glob("*"))
-
-from built import TRIALS, Count, Run, differs, missing, side_by_side, tool
+from tools.steps import examples
+from tools.steps.built import TRIALS, Count, Run, differs, missing, side_by_side
 
 # The seconds without faults behind those with faults, and for how many of them messages are still offered.
 CALM, OFFERED = 40, 20
@@ -95,7 +95,11 @@ class Course:
             return f"status {self.status}"
         if self.said != lines:
             return differs(lines.encode(), self.said.encode())
-        return self.beyond(taken, unsure) if self.is_shared() else "selections aren't shared out among all links at the end"
+        return (
+            self.beyond(taken, unsure)
+            if self.is_shared()
+            else "selections aren't shared out among all links at the end"
+        )
 
 
 def ran(row, *wanted):
@@ -106,7 +110,7 @@ def ran(row, *wanted):
 
 def rows(names):
     """The runs of entries, each with its bounds and with what is to be said of it."""
-    for name, trial, lines in tool("examples").parted("links/hour.txt"):
+    for name, trial, lines in examples.parted("links/hour.txt"):
         bounds, *runs = trial.split("\n")
         taken, unsure = map(int, BOUNDS.fullmatch(bounds).groups())
         if not names or any(name.startswith(it) for it in names):
@@ -116,7 +120,14 @@ def rows(names):
 def by_chance(seed):
     """A run."""
     dice = random.Random(seed)
-    words = [dice.choice(["basic", "basic", "cyclic"]), dice.randint(1, 4), seed, 120, dice.choice([600, 1_200, 2_500, 5_000, 20_000]), dice.choice([20, 40, 80, 160])]
+    words = [
+        dice.choice(["basic", "basic", "cyclic"]),
+        dice.randint(1, 4),
+        seed,
+        120,
+        dice.choice([600, 1_200, 2_500, 5_000, 20_000]),
+        dice.choice([20, 40, 80, 160]),
+    ]
     more = [it for it in ("fifo", "untested", "orders", "staggered", "q703") if dice.random() < 0.5]
     return " ".join([*map(str, words), *more]), *NONE, RIGHT
 
@@ -127,9 +138,16 @@ def show(name, sums):
     wrong = f"twice {sums['twice']}, out of order {sums['out of order']}"
     if sums["wrong"]:
         wrong = f"twice or out of order {sums['wrong']}"
-    print(f"tended: {name}: runs {sums['runs']}, {sums['seconds']} s of line; {befell}; changeovers {sums['begun']}, {sums['beside']} of them beside another")
-    print(f"tended: {name}: sent {sums['sent']}, came {sums['came']}, {wrong}, lacking {sums['missing']}, unsure {sums['unsure']}, "
-          f"not taken {sums['refused']}, stuck {sums['stuck']}", flush=True)
+    print(
+        f"tended: {name}: runs {sums['runs']}, {sums['seconds']} s of line; {befell}; changeovers {sums['begun']}, "
+        f"{sums['beside']} of them beside another"
+    )
+    print(
+        f"tended: {name}: sent {sums['sent']}, came {sums['came']}, {wrong}, lacking {sums['missing']}, unsure "
+        f"{sums['unsure']}, "
+        f"not taken {sums['refused']}, stuck {sums['stuck']}",
+        flush=True,
+    )
 
 
 def main(words):
