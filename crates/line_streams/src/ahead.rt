@@ -72,7 +72,6 @@ impl Ahead {
                 self.watch.see(self.now, &part[..count])?;
                 Ok(count)
             }
-            Err(error) if error.kind() == ErrorKind::Interrupted => Ok(0),
             Err(error) => Err(error),
         }
     }
@@ -87,18 +86,19 @@ impl Ahead {
         Ok(())
     }
 
-    /// Reads on, as long as there is something and room for it.
+    /// Reads on, as long as there is something and room for it, up to a read that is interrupted.
     pub fn read_on(&mut self) -> io::Result<()> {
         let mut part = [0; PART];
         for _part in 0..MOST / PART {
             if self.waiting.len() >= MOST {
                 return Ok(());
             }
-            let count = self.fetch(&mut part)?;
-            if count == 0 {
-                return Ok(());
+            match self.fetch(&mut part) {
+                Ok(0) => return Ok(()),
+                Ok(count) => self.keep(&part[..count])?,
+                Err(error) if error.kind() == ErrorKind::Interrupted => return Ok(()),
+                Err(error) => return Err(error),
             }
-            self.keep(&part[..count])?;
         }
         Ok(())
     }
