@@ -73,7 +73,10 @@ state LSC
 """
 LINKS = "links 2\noffer LSC PowerOn\ntick 9\non 1\noffer LSC PowerOn\n"
 HEARD = "7EFFFFFC007E\n7E7EFFFF00FFFF7E\n"
-REPORTED = "near power_on\nfar power_on\nnear start\nfar start\nexchange\nexchange\nwait 8200\nexchange\nfar_sends 9\nexchange\nshow\n"
+REPORTED = (
+    "near power_on\nfar power_on\nnear start\nfar start\nexchange\nexchange\nwait 8200\nexchange\nfar_sends "
+    "9\nexchange\nshow\n"
+)
 # Scripts with a number in them of which a book's calls must not ask for more memory the greater it is: each prints as
 # many lines, of the same length.
 STEADY = [
