@@ -1,5 +1,5 @@
 -- What an order to a set changes.
-use Rattle.std.proofs.Common.{◌≡◌, ◌∙◌, ℕ, ◌+◌, ◌<◌, ◌≤◌, nat_lt, Bool, true, false, List, ◌++◌, codes, slice_get, slice_set, Option, None, Some, option_map, Result, Ok, Err, IfOk, IfSome, IsSome, IsNone, refl, sym, ap, subst, arith}
+use Rattle.std.proofs.Common.{◌≡◌, ◌∙◌, ℕ, ◌+◌, ◌<◌, ◌≤◌, nat_lt, Bool, true, false, List, ◌++◌, codes, slice_get, slice_set, Option, None, Some, option_map, Result, Ok, Err, IfOk, IfSome, IsSome, IsNone, true≢false, refl, sym, ap, subst, arith}
 use Rattle.std.proofs.lemmas.Bool.Decides.{nat_tests}
 use Rattle.std.proofs.lemmas.Option.{none-some, same_Some}
 use Rattle.actor_machine.specs.Ledger.{Ledger}

@@ -156,9 +156,9 @@ agreed_other r order what whom p q a b none_there may adds changes answer =
     answer
 
 -- the order by its text, and what it says by another name
-pub obeyed_as : {A E : Type 0} (r : Result A E) (order text : List ℕ) (one other : Option PlainSetOrder) (whom : Focus) (p q : Stood) (a b : Stand) → text ≡ order → one ≡ other
-    → OnOk r (TellsSuch (λ bytes. Obeys text one whom p bytes q) a b) → OnOk r (TellsSuch (λ bytes. Obeys order other whom p bytes q) a b)
-obeyed_as r order text one other whom p q a b text_is same made =
+pub obeyed_as : {A E : Type 0} (r : Result A E) (order text : List ℕ) (one next : Option PlainSetOrder) (whom : Focus) (p q : Stood) (a b : Stand) → text ≡ order → one ≡ next
+    → OnOk r (TellsSuch (λ bytes. Obeys text one whom p bytes q) a b) → OnOk r (TellsSuch (λ bytes. Obeys order next whom p bytes q) a b)
+obeyed_as r order text one next whom p q a b text_is same made =
     subst (λ (o : Option PlainSetOrder). OnOk r (TellsSuch (λ bytes. Obeys order o whom p bytes q) a b)) same
     (subst (λ (o : List ℕ). OnOk r (TellsSuch (λ bytes. Obeys o one whom p bytes q) a b)) text_is made)
 

@@ -161,8 +161,8 @@ without_number kind.EmergencyAcknowledgement = kind.EmergencyAcknowledgement
 abbrev pub spoken : Care → Kind → Kind
 spoken c k = if c.renewed then without_number k else k
 
--- It comes into service as an emergency where that was ordered, or where no other link is in service
--- and nothing was ordered.
+-- It comes into service as an emergency where that was ordered, or where no other link is in
+-- service and nothing was ordered.
 abbrev pub is_emergency_by : Bool → Urgency → Bool
 is_emergency_by another_serves Open = not another_serves
 is_emergency_by another_serves Emergency = true

@@ -120,6 +120,21 @@ impl Orders {
         Ok(())
     }
 
+    /// The same at the end that the order names.
+    fn give_at(
+        &mut self,
+        near: &mut TendedEnd,
+        far: &mut TendedEnd,
+        order: Order,
+        text: &mut String,
+    ) -> Result<(), Stopped> {
+        if order.at == 0 {
+            self.give(near, order, text)
+        } else {
+            self.give(far, order, text)
+        }
+    }
+
     /// Orders of a round: one, and now and then a stop of another link at the other end.
     pub fn strike(
         &mut self,
@@ -148,10 +163,9 @@ impl Orders {
             kind: 5,
             until: now.wrapping_add(50),
         };
-        let (one, two) = if at == 0 { (near, far) } else { (far, near) };
-        self.give(one, order, text)?;
+        self.give_at(near, far, order, text)?;
         if dice.one_in(3) && other.link != order.link {
-            self.give(two, other, text)?;
+            self.give_at(near, far, other, text)?;
         }
         Ok(())
     }
