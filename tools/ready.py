@@ -4,10 +4,11 @@ file doesn't import, a text of the program's own that isn't the one in examples/
 productions and wasn't written again (tools/productions), names in the documents and in the crates' READMEs that aren't
 there any more, an index (tools/index) that isn't theirs, pictures (tools/pictures) that aren't what `draw` makes, lines
 of specs that are too wide to be read, too many ways down crates.txt, crates whose edits in edits/ were last tried ten
-landings ago (edits/README.md), and functions and lines of the tools that are too long or too wide, or more long files
-and functions in the crates than there were (tools/looks/counts.py). A few seconds; to be run before a commit that is to
-land. Beside that it notes which crates' edits are to be tried by tools/edits, since their contracts changed, and
-whether the landing is recorded: that is nothing to mend.
+landings ago (edits/README.md), functions and lines of the tools that are too long or too wide, or more long files and
+functions in the crates than there were (tools/looks/counts.py), a README.md of more than 170 lines, links and commands
+of the pages that lead nowhere, and more of the English that is to go than there was (tools/looks/pages.py). A few
+seconds; to be run before a commit that is to land. Beside that it notes which crates' edits are to be tried by
+tools/edits, since their contracts changed, and whether the landing is recorded: that is nothing to mend.
 
 usage: tools/ready [FOLDER]
            of the repository in FOLDER, else of this one; ends with status 1 where it found something, 2 where it
@@ -15,6 +16,8 @@ usage: tools/ready [FOLDER]
        tools/ready --counts [CRATE ..]
            how many files, bodies, lists of parameters and lines are longer than they should be, by crate, and where
            those of these crates stand
+       tools/ready --english
+           where that English stands, and how often
 
 It asks the kit's own `rt`, whose functions it calls."""
 import os
@@ -27,7 +30,7 @@ import traceback
 from tools import crate_pages
 from tools.building.kit import by_hand, kit, refusals
 from tools.doc_names import lacking
-from tools.looks import counts, edit_sums
+from tools.looks import counts, edit_sums, pages
 
 ROOT = pathlib.Path(__file__).resolve().parent.parent
 
@@ -176,13 +179,16 @@ def main(words):
     if words[:1] == ["--counts"]:
         print("\n".join(counts.report(ROOT, words[1:])))
         return 0
+    if words == ["--english"]:
+        print("\n".join(pages.report(ROOT)))
+        return 0
     root = pathlib.Path(words[0] if words else ROOT).resolve()
     os.chdir(root)
     rt = kit()
     crates = rt.rtlib.crates_below(str(root))
     found = [line for crate in crates for line in stops(rt, crate, crates) + edits(rt, crate, root)]
     asked = (texts, productions, lacking, crate_pages.lacking, index, pictures, edit_sums.too_old)
-    found += [line for it in (*asked, counts.of_tools, counts.more_than_today) for line in it(root)]
+    found += [line for it in (*asked, counts.of_tools, counts.more_than_today, pages.lacking) for line in it(root)]
     found += strays(root, crates) + astray(root, crates) + ways_down(crates) + wide(crates)
     if due := edit_sums.untried(root):
         print(f"note: edits to be tried, since contracts changed (tools/edits CRATE): {' '.join(due)}")
