@@ -2,8 +2,8 @@
 
 - README.md has at most 170 lines.
 - Each link of a page leads to a file or a heading that is there.
-- Each command that a page writes is there: of bin/, tools/, bench/ and examples/ by its file, of the program by name and
-  options.
+- Each command that a page writes is there: of bin/, tools/, bench/ and examples/ by its file, of the program by name
+  with its options.
 - The patterns of ENGLISH occur no more often than TODAY, in pages and in the comments of the crates.
 
 A page is a file of Markdown in git, but docs/index.md, which is made from the others."""
