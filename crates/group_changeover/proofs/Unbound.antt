@@ -50,8 +50,6 @@ all-unbound p (m ∷ ms) = one_by p m (unbound p ms) (is_bound p m) refl (all-un
 pub unbound-twice : (p : Points) (ms : List Msu) → unbound p (unbound p ms) ≡ unbound p ms
 unbound-twice p ms = unbound-all p (unbound p ms) (all-unbound p ms)
 
-unfolding unbound
-
 -- where those behind a place are left out, what isn't bound stays
 pub unbound-behind : (p : Points) (n : ℕ) (ms : List Msu) → unbound p (take n ms ++ unbound p (drop n ms)) ≡ unbound p ms
 unbound-behind p n ms =

@@ -32,8 +32,6 @@ pub told_skip : (every : Bool) (d : Draft) (w : Core) (n : ℕ)
 unfolding told
 told_skip every d w n = refl
 
-unfolding told
-
 ended_is : (every : Bool) (d : Draft) (w : Core) (n : ℕ) (me : Option ActorName) (t : Option Turn) (name : ActorName) (turn : Turn) (o : Outcome) → me ≡ Some name
     → t ≡ Some turn → outcome_of turn ≡ Some o
     → turn_lines every d w.timers.clock name turn (report_of n name o w) o ≡ end_lines every d w n me t (outcome_by t)

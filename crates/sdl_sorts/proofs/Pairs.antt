@@ -1,9 +1,9 @@
 -- The sort of the variable with a name, and pairs of what stands at one place of two lists.
-use Rattle.std.proofs.Common.{◌≡◌, ℕ, zero, suc, ◌+◌, ◌<◌, nat_lt, List, [], ◌∷◌, ◌++◌, map, length, take, zip, Option, None, Some, slice_get, find, get_or, refl, sym, ap, ◌∙◌, arith}
+use Rattle.std.proofs.Common.{◌≡◌, ℕ, zero, suc, ◌+◌, ◌<◌, ◌≤◌, nat_lt, List, [], ◌∷◌, ◌++◌, map, length, take, zip, Option, None, Some, slice_get, find, get_or, refl, sym, ap, ◌∙◌, arith}
 use Rattle.std.specs.List.{flat_map, position_or_len}
 use Rattle.std.specs.Option.{option_map, option_map_or, option_and_then}
 use Rattle.std.proofs.lemmas.List.{append-nil, length-map, map-append, take_more}
-use Rattle.std.proofs.lemmas.Option.{slice_get-get_or, slice_get-map}
+use Rattle.std.proofs.lemmas.Option.{slice_get_past, slice_get-get_or, slice_get-map}
 use Rattle.std.proofs.lemmas.Grind.{flat_map-append}
 use Rattle.sdl_ast.specs.declared.expression.Identifier.{Identifier}
 use Rattle.sdl_tables.specs.Names.{same_name, number_of, Variable}
@@ -37,20 +37,50 @@ sort-some vs x ids n rows r e h same lt =
     ∙ (ap (λ (l : List Variable). slice_get l n) (sym same)
     ∙ (slice_get-map variable_of rows n ∙ ap (option_map variable_of) (slice_get-get_or rows n r lt))))))
 
+pub sort-past : (vs : List Variable) (x : List ℕ) (ids : List Identifier) (n : ℕ) (rows : List row.Variable)
+    → ids ≡ map (λ v. v.name) vs → Some n ≡ number_of ids x → map variable_of rows ≡ vs → length rows ≤ n
+    → None ≡ variable_sort vs x
+sort-past vs x ids n rows e h same past =
+    sym
+    (ap (option_map (λ (v : Variable). v.sort))
+    (by_number vs x ids e
+    ∙ (ap (option_and_then (slice_get vs)) (sym h)
+    ∙ (ap (λ (l : List Variable). slice_get l n) (sym same)
+    ∙ (slice_get-map variable_of rows n ∙ ap (option_map variable_of) (slice_get_past rows n past))))))
+
 -- ---- pairs
 
 pair_of : {A B : Type 0} → A → Option B → List (A × B)
 pair_of x None = []
 pair_of x (Some y) = (x, y) ∷ []
 
+zip-push : {A B : Type 0} (xs : List A) (x : A) (ys : List B) → zip (xs ++ x ∷ []) ys ≡ zip xs ys ++ pair_of x (slice_get ys (length xs))
 unfolding pair_of
+zip-push [] x [] = refl
+zip-push [] x (y ∷ ys) = refl
+zip-push (a ∷ xs) x [] = refl
+zip-push (a ∷ xs) x (b ∷ ys) = ap (λ r. (a, b) ∷ r) (zip-push xs x ys)
 
+of_pair : {A B : Type 0} (f : A × B → List ℕ) (x : A) (o : Option B) → flat_map f (pair_of x o) ≡ option_map_or (λ y. f (x, y)) o []
 unfolding pair_of
+of_pair f x None = refl
+of_pair f x (Some y) = append-nil (f (x, y))
 
 length-take : {A : Type 0} (xs : List A) (i : ℕ) → i < length xs → length (take i xs) ≡ i
 length-take [] i h = absurd (omega (arith, h))
 length-take (x ∷ xs) zero h = refl
 length-take (x ∷ xs) (suc i) h = ap suc (length-take xs i (omega (arith, h)))
+
+-- one pair more
+pub pairs_more : {A B : Type 0} (f : A × B → List ℕ) (xs : List A) (i : ℕ) (d : A) (ys : List B) → i < length xs
+    → flat_map f (zip (take (i + 1) xs) ys) ≡ flat_map f (zip (take i xs) ys) ++ option_map_or (λ y. f (get_or xs i d, y)) (slice_get ys i) []
+pairs_more f xs i d ys lt =
+    let x = get_or xs i d in
+    ap (λ zs. flat_map f (zip zs ys)) (take_more xs i d lt)
+    ∙ (ap (flat_map f) (zip-push (take i xs) x ys)
+    ∙ (flat_map-append f (zip (take i xs) ys) (pair_of x (slice_get ys (length (take i xs))))
+    ∙ ap (λ r. flat_map f (zip (take i xs) ys) ++ r)
+    (of_pair f x (slice_get ys (length (take i xs))) ∙ ap (λ n. option_map_or (λ y. f (x, y)) (slice_get ys n) []) (length-take xs i lt))))
 
 -- ---- pairs along the second list
 
