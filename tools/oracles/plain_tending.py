@@ -38,6 +38,12 @@ PATIENCE, LONGEST, REST, DRAIN, CALM = 1_400, 14_000, 1_000, 1_000, 5_000
 ANSWER, BETWEEN = 6_000, 60_000
 MOST_HELD, MOST_OCTETS = 256, 3_000
 NAMES = {COO: "COO", COA: "COA", ECO: "ECO", ECA: "ECA"}
+STATUSES = {"InServiceNow": "in service", "Down": "down", "RemoteOut": "far out", "RemoteBack": "far back"}
+
+
+def shown(message):
+    """A message of changeover, as it is told."""
+    return NAMES[message[5]] + (f" {message[6] % 128}" if message[5] in (COO, COA) else "")
 
 
 class Terminal(Link):
@@ -220,14 +226,10 @@ class Care:
 class Tender:
     """A set, and what the rules do with it."""
 
-    def __init__(self, links, own, peer, tested, tell):
-        self.set, self.tested, self.tell, self.now = (
-            Group([Terminal() for _ in range(links)], own, peer),
-            tested,
-            tell,
-            0,
-        )
-        self.cares = [Care() for _ in range(links)]
+    def __init__(self, terminals, own, peer, tested, tell):
+        links = len(terminals)
+        self.set, self.tested, self.tell, self.now = Group(terminals, own, peer), tested, tell, 0
+        self.cares, self.shared = [Care() for _ in range(links)], [None] * 16
         self.sharing, self.blocked, self.open, self.restarts, self.unsure = ("rests", 0), 0, False, False, 0
         self.heard = []
         if tested:
@@ -239,17 +241,19 @@ class Tender:
 
     # What links tell.
 
-    def heed(self):
-        for at, link in enumerate(self.set.links):
-            while link.messages or link.statuses:
-                if link.messages:
-                    self.take_message(at, link.messages.pop(0))
-                else:
-                    self.take_status(at, *link.statuses.pop(0))
+    def heed(self, at):
+        """What a link tells: messages first."""
+        link = self.set.links[at]
+        while link.messages or link.statuses:
+            if link.messages:
+                self.take_message(at, link.messages.pop(0))
+            else:
+                self.take_status(at, *link.statuses.pop(0))
 
     def take_status(self, at, signal, *values):
         care = self.cares[at]
-        self.tell(f"{at} {signal}")
+        if signal in STATUSES:
+            self.tell(" ".join([str(at), STATUSES[signal], *map(str, values)]))
         if signal == "InServiceNow":
             care.serves, care.served, care.owed, care.urgent = True, True, None, False
             care.test = ("rests", self.now)
@@ -280,11 +284,11 @@ class Tender:
         destination, origin, about = label_of(message[1:])
         indicator, rest = message[0] % 16, message[5:]
         if message[0] // 64 != 2:
-            self.heard.append(message)
+            self.hand_up(by, message)
         elif is_bound(message, self.set.own, self.set.peer) and self.cares[by].wanted:
             self.loop(by)
         elif indicator not in (0, 1) or (destination, origin) != (self.set.own, self.set.peer):
-            self.heard.append(message)
+            self.hand_up(by, message)
         elif indicator == 0 and changeover_in(message[1:]):
             self.take_changeover(by, about, message)
         elif indicator == 0 and rest[:1] == b"\x51" and len(rest) == 2 and about < len(self.cares):
@@ -293,10 +297,13 @@ class Tender:
             self.bound(about, self.message(1, about, [0x21, *rest[1:]]))
         elif indicator == 1 and rest[:1] == b"\x21":
             self.take_answer(by, about, rest[2:])
-        elif indicator == 0 and rest[:1] == b"\x17":
-            pass
         else:
-            self.heard.append(message)
+            self.hand_up(by, message)
+
+    def hand_up(self, by, message):
+        """A message for level 3."""
+        self.heard.append(message)
+        self.tell(f"{by} message {message.hex().upper()}")
 
     def loop(self, at):
         """What this end sent came back: the link goes out of service until it is ordered anew."""
@@ -308,7 +315,7 @@ class Tender:
     def take_changeover(self, by, about, message):
         if about == by or about >= len(self.cares):
             return
-        self.tell(f"{about} hears {NAMES[message[5]]} by {by}")
+        self.tell(f"{about} hears {shown(message)} by {by}")
         if not self.cares[about].served:
             if message[5] in (COO, ECO):
                 self.owe(about, self.message(0, about, [ECA]))
@@ -352,11 +359,19 @@ class Tender:
         return min(able)[2] if able else other
 
     def tend(self):
-        self.heed()
+        for at in range(len(self.cares)):
+            self.heed(at)
         for at, (link, care) in enumerate(zip(self.set.links, self.cares)):
             self.tend_link(at, link, care)
         self.restart()
         self.share()
+        self.tell_shared()
+
+    def tell_shared(self):
+        """Where the links of selections aren't those that were told last."""
+        if self.shared != self.set.table:
+            self.shared = list(self.set.table)
+            self.tell("shared " + " ".join("-" if it is None else str(it) for it in self.shared))
 
     def tend_link(self, at, link, care):
         if link.serves and link.is_held and not care.stopping:
@@ -438,7 +453,7 @@ class Tender:
                 owed["message"] = self.message(0, at, [ECO if owed["message"][5] == COO else ECA])
             if by is not None and self.bound(by, owed["message"]):
                 owed["by"] = by
-                self.tell(f"{at} says {NAMES[owed['message'][5]]} by {by}")
+                self.tell(f"{at} says {shown(owed['message'])} by {by}")
 
     def start(self, at, link, care):
         if care.due is None or care.due > self.now or not care.powered or not care.wanted or care.started:
@@ -488,7 +503,6 @@ class Tender:
         try:
             self.set.rebalance()
             self.settle()
-            self.tell("shared " + " ".join(map(str, self.set.table)))
         except Refused:
             self.drain(wanted)
 
@@ -524,11 +538,14 @@ class Tender:
 
     # Orders.
 
+    def power(self, at):
+        self.set.command(at, "LSC", "PowerOn")
+        self.cares[at].powered = True
+
     def switch_on(self):
-        for at, care in enumerate(self.cares):
-            self.set.command(at, "LSC", "PowerOn")
-            care.powered = care.wanted = True
-            care.due = self.now
+        for at in range(len(self.cares)):
+            self.power(at)
+            self.stop(at, False)
 
     def outage(self, at, way):
         self.set.command(at, "LSC", "LocalOut" if way else "LocalBack")
@@ -568,16 +585,13 @@ class End:
     """A set with what it sent and what came."""
 
     def __init__(self, links, own, peer, tested, loud):
-        self.tender = Tender(links, own, peer, tested, lambda text: loud and print(f"{self.tender.now} {own}: {text}"))
-        self.own, self.peer, self.sent, self.next, self.came, self.wrong, self.refused = (
-            own,
-            peer,
-            [0] * 16,
-            [0] * 16,
-            0,
-            0,
-            0,
-        )
+        def tell(text):
+            if loud:
+                print(f"{self.tender.now} {own}: {text}")
+
+        self.tender = Tender([Terminal() for _ in range(links)], own, peer, tested, tell)
+        self.own, self.peer, self.sent, self.next = own, peer, [0] * 16, [0] * 16
+        self.came, self.wrong, self.refused = 0, 0, 0
 
     def give(self, selection, dice):
         if self.tender.waits():
@@ -594,6 +608,8 @@ class End:
 
     def take(self):
         for message in self.tender.heard:
+            if message[0] % 16 == 0:
+                continue
             selection, number = selection_of(message), int.from_bytes(message[5:9], "little")
             self.came += 1
             if number < self.next[selection]:
