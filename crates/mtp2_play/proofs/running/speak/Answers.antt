@@ -15,3 +15,11 @@ speak_traced-requires-clause-given g c = given_to _ known_of _ _ c.traced_desk-d
 
 pub speak_traced-requires-clause-ordered : goal.speak_traced-requires-clause-ordered
 speak_traced-requires-clause-ordered g c = ordered_to left_of known_of _ _ c.traced_desk-desk.ensures.orders c.in-Ok.ensures.orders
+
+pub returns-clause-spoke : goal.returns-clause-spoke
+returns-clause-spoke g c zero =
+    of_term _ _ _ _ _ _ _ (terminal_of _ _ _ c.traced_desk-desk.ensures.terminal c.in-Ok-open_traced.ensures.terminal) (c.speak_traced.ensures.spoke zero)
+
+pub returns-clause-begun : goal.returns-clause-begun
+returns-clause-begun g c =
+    inr (begun_of _ _ _ _ _ _ _ (terminal_of _ _ _ c.traced_desk-desk.ensures.terminal c.in-Ok-open_traced.ensures.terminal) c.speak_traced.ensures.begun)
