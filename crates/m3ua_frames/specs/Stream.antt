@@ -1,4 +1,4 @@
--- The messages of a stream, by the length in their headers alone (RFC 4666, 3.1.4).
+-- The messages of a stream, by the length in their headers only (RFC 4666, 3.1.4).
 use Rattle.std.specs.Prelude.{◌≡◌, ℕ, ◌-◌, ◌<◌, ◌≤◌, ◌==◌, nat_lt, Bool, true, false}
 use Rattle.std.specs.Prelude.{if◌then◌else◌, ◌⊎◌}
 use Rattle.std.specs.Prelude.{List, [], ◌∷◌, ◌++◌, length, take, drop, Option, Some, None}
@@ -112,7 +112,7 @@ item_told heard.Message octets = Some (whole octets)
 item_told heard.TooLong octets = Some (too_long octets)
 item_told heard.Broken octets = Some broken
 
--- What stands behind a header is no more than the header tells, and that is no more than is taken.
+-- What stands after a header is no more than the header tells, and that is no more than is taken.
 abbrev pub IsWithin : List ℕ → Type 0
 IsWithin octets =
     HEADER < length octets → (length octets ≤ told octets) × (told octets ≤ MOST)

@@ -114,7 +114,7 @@ pub fn find(octets: &[u8], tag: u16) -> Option<&[u8]>
     None
 }
 
-/// Puts a parameter with its padding of zeros behind what there is.
+/// Puts a parameter with its padding of zeros after what there is.
 pub fn push_parameter<const N: usize>(octets: &mut ArrayVec<u8, N>, tag: u16, value: &[u8])
     requires fits { length value.now + 4 < 2 ^ 16 }
     requires room { array_vec_len octets.old + length value.now + 7 ≤ N }

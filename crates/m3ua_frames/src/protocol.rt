@@ -118,7 +118,7 @@ fn push_fields<const N: usize>(octets: &mut ArrayVec<u8, N>, p: &ProtocolData<'_
     octets.try_extend_from_slice(p.user_data).unwrap();
 }
 
-/// Puts protocol data as a parameter behind what there is.
+/// Puts protocol data as a parameter after what there is.
 pub fn push_protocol_data<const N: usize>(octets: &mut ArrayVec<u8, N>, p: &ProtocolData<'_>)
     requires fits { length p.now.user_data.now + 16 < 2 ^ 16 }
     requires room { array_vec_len octets.old + length p.now.user_data.now + 19 ≤ N }
