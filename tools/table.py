@@ -1,6 +1,7 @@
 """Writes what the program trials reads and has to print: crates/trials/stdin and stdout. Its trials stand with their
 lines in examples/heard.txt, ports.txt, wheels.txt, events.txt, pools.txt and rounds.txt, and in
-examples/links/runs.txt, reports.txt, pairs.txt, tended.txt, rounds.txt and calls.txt.
+examples/links/runs.txt, reports.txt, pairs.txt, tended.txt, rounds.txt and calls.txt. Likewise the streams of
+examples/m3ua/frames.txt for the program trials_m3ua.
 
 usage: tools/table [--check]     with --check it writes nothing, and ends with status 1 where the files differ
 
@@ -42,14 +43,21 @@ def trials():
             yield kind, name, written_out(trial, examples.copied) if kind == "events" else trial, lines
 
 
+def streams():
+    """A stream of M3UA with the lines of what stands on it."""
+    return [(stream, lines) for _, stream, lines in examples.parted("m3ua/frames.txt")]
+
+
 def main(words):
     table, wrong = list(trials()), 0
     made = {
-        "stdin": "".join(f"\n== {name}\n{kind}\n{trial}" for kind, name, trial, _ in table),
-        "stdout": "".join(f"{name}\n{lines}\n\n" for _, name, _, lines in table),
+        "trials/stdin": "".join(f"\n== {name}\n{kind}\n{trial}" for kind, name, trial, _ in table),
+        "trials/stdout": "".join(f"{name}\n{lines}\n\n" for _, name, _, lines in table),
+        "trials_m3ua/stdin": "".join(f"{stream}\n" for stream, _ in streams()),
+        "trials_m3ua/stdout": "".join(f"{lines}\n--\n" if lines else "--\n" for _, lines in streams()),
     }
     for name, text in made.items():
-        file = ROOT / "crates" / "trials" / name
+        file = ROOT / "crates" / name
         if words != ["--check"]:
             file.write_bytes(text.encode())
         elif not file.is_file() or file.read_bytes() != text.encode():

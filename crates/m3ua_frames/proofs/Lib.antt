@@ -1,0 +1,4 @@
+pub mod FrameLaws
+pub mod ParameterLaws
+pub mod ProtocolLaws
+pub mod StreamLaws

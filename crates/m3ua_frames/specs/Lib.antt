@@ -1,0 +1,10 @@
+pub mod Faults
+pub mod Frame
+pub mod Kinds
+pub mod Laws
+pub mod Numbers
+pub mod Parameters
+pub mod Protocol
+pub mod Reading
+pub mod Stream
+pub mod Tags

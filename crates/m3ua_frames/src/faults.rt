@@ -1,0 +1,36 @@
+//! Why octets are no message that is understood.
+ghost use Rattle.std.specs.Prelude.{◌≡◌};
+ghost use Rattle.m3ua_frames.specs.Faults.{code_of};
+
+/// Why octets are no message; of several reasons the first one counts.
+#[derive(Clone, Copy, Debug, PartialEq, Eq)]
+pub enum Fault {
+    /// The octets are fewer than a common header has, or not as many as it tells.
+    Length,
+    /// The version isn't 1.
+    Version,
+    /// The class is none that M3UA has, or one that is reserved.
+    UnknownClass,
+    /// The class has no such type.
+    UnknownType,
+    /// What follows the header isn't made of parameters, or the length of one is wrong.
+    Field,
+    /// A mandatory parameter is missing.
+    Missing,
+}
+
+impl Fault {
+    /// The error code that answers it (RFC 4666, 3.8.1).
+    pub fn code(self) -> u32
+        ensures { result ≡ code_of self }
+    {
+        match self {
+            Fault::Version => 0x01,
+            Fault::UnknownClass => 0x03,
+            Fault::UnknownType => 0x04,
+            Fault::Length => 0x07,
+            Fault::Field => 0x12,
+            Fault::Missing => 0x16,
+        }
+    }
+}

@@ -1,0 +1,109 @@
+//! Messages as octets.
+ghost use Rattle.std.specs.Prelude.{◌≡◌, ◌≤◌, ◌+◌, ◌++◌, List, Ok, IfOk, IfErr, IfSome, IsTrue, length};
+ghost use Rattle.std.specs.Option.{option_map};
+ghost use Rattle.arrayvec.specs.ArrayVec.{array_vec_len};
+ghost use Rattle.m3ua_frames.specs.Parameters.{Parameter, AreParameters, value_of};
+ghost use Rattle.m3ua_frames.specs.Frame.{IsFrame, Refuses, TellsLength, mandatory, has_all, header};
+
+use crate::faults::Fault;
+use crate::kinds::{Kind, kind_of};
+use crate::numbers::{number_4, push_4};
+use crate::parameters::{are_parameters, find};
+use crate::tag;
+use arrayvec::ArrayVec;
+
+/// A message: its kind, and the octets of its parameters.
+#[derive(Clone, Copy, Debug)]
+pub struct Frame<'a> {
+    /// The class and the type.
+    pub kind: Kind,
+    /// What follows the common header: parameters, in which [`find`] finds values.
+    pub parameters: &'a [u8],
+}
+
+impl Kind {
+    /// The tags of the parameters that a message of this kind has to have.
+    pub fn mandatory(self) -> &'static [u16]
+        ensures { result.now ≡ mandatory self }
+    {
+        match self {
+            Kind::Error => &[tag::ERROR_CODE],
+            Kind::Notify => &[tag::STATUS],
+            Kind::Data => &[tag::PROTOCOL_DATA],
+            Kind::Duna | Kind::Dava | Kind::Daud | Kind::Scon | Kind::Drst => &[tag::AFFECTED],
+            Kind::Dupu => &[tag::AFFECTED, tag::USER_CAUSE],
+            Kind::Register => &[tag::ROUTING_KEY],
+            Kind::Registered => &[tag::REGISTRATION],
+            Kind::Deregister => &[tag::ROUTING_CONTEXT],
+            Kind::Deregistered => &[tag::DEREGISTRATION],
+            Kind::Up | Kind::Down | Kind::Beat | Kind::UpAck | Kind::DownAck | Kind::BeatAck => &[],
+            Kind::Active | Kind::Inactive | Kind::ActiveAck | Kind::InactiveAck => &[],
+        }
+    }
+}
+
+/// Whether each of these tags stands before one of the parameters.
+fn has_all(tags: &[u16], parameters: &[u8]) -> bool
+    ensures { (ps : List Parameter) → AreParameters parameters.now ps → result ≡ has_all tags.now ps }
+{
+    for tag in tags {
+        if find(parameters, *tag).is_none() {
+            return false;
+        }
+    }
+    true
+}
+
+/// The message that octets are.
+///
+/// # Errors
+///
+/// Of several reasons the first of these counts.
+///
+/// - `Length` where there are fewer than 8 octets, or not as many as the header tells (RFC 4666, 3.1.4).
+/// - `Version` where the version isn't 1 (3.1.1).
+/// - `UnknownClass` and `UnknownType` where there is no such class, or no such type in it (3.1.2).
+/// - `Field` where what follows the header isn't made of parameters, or the length of one is wrong (3.2).
+/// - `Missing` where a mandatory parameter isn't there (3.3 to 3.8).
+pub fn decode(octets: &[u8]) -> Result<Frame<'_>, Fault>
+    ensures found { IfOk result (λ frame. (ps : List Parameter) × AreParameters frame.parameters.now ps
+        × IsFrame octets.now (record { kind = frame.kind; parameters = ps })) }
+    ensures refused { IfErr result (Refuses octets.now) }
+{
+    if octets.len() < 8 {
+        return Err(Fault::Length);
+    }
+    if number_4(octets, 4) as usize != octets.len() {
+        return Err(Fault::Length);
+    }
+    if octets[0] != 1 {
+        return Err(Fault::Version);
+    }
+    let kind = match kind_of(octets[2], octets[3]) {
+        Ok(kind) => kind,
+        Err(fault) => return Err(fault),
+    };
+    let parameters = &octets[8..];
+    if !are_parameters(parameters) {
+        return Err(Fault::Field);
+    }
+    if !has_all(kind.mandatory(), parameters) {
+        return Err(Fault::Missing);
+    }
+    Ok(Frame { kind, parameters })
+}
+
+/// Puts the octets of a message into `octets`, in place of what was there: the common header, and these parameters.
+pub fn encode<const N: usize>(kind: Kind, parameters: &[u8], octets: &mut ArrayVec<u8, N>)
+    requires room { length parameters.now + 8 ≤ N }
+    requires small { N ≤ 65536 }
+    ensures { octets.new.items ≡ header kind (length parameters.now) ++ parameters.now }
+{
+    octets.clear();
+    octets.push(1);
+    octets.push(0);
+    octets.push(kind.class());
+    octets.push(kind.number());
+    push_4(octets, parameters.len() as u32 + 8);
+    octets.try_extend_from_slice(parameters).unwrap();
+}

@@ -1,0 +1,21 @@
+//! M3UA (RFC 4666) as octets: messages and their parameters, the protocol data of DATA and MTP messages, and the
+//! messages of a stream, however it is cut. No call here can answer that memory is wanting.
+#![tactic(auto)]
+
+mod faults;
+mod frames;
+mod kinds;
+pub mod laws;
+mod numbers;
+mod parameters;
+mod protocol;
+mod stream;
+pub mod tag;
+
+pub use faults::Fault;
+pub use frames::{Frame, decode, encode};
+pub use kinds::Kind;
+pub use numbers::number_4;
+pub use parameters::{are_parameters, find, push_number, push_parameter};
+pub use protocol::{ProtocolData, message_of, protocol_data, protocol_data_of, push_protocol_data};
+pub use stream::{Deframer, Heard};

@@ -1,0 +1,141 @@
+//! The messages of a stream.
+ghost use Rattle.std.specs.Prelude.{◌≡◌, ◌≤◌, ◌<◌, ◌+◌, ◌++◌, [], ◌∷◌, List, length, take, is_some};
+ghost use Rattle.std.specs.Option.{option_to_list};
+ghost use Rattle.m3ua_frames.specs.Stream.{Reading, Item, start, after, item_at, item_told, judged, begun, items_in, reading_after};
+
+use crate::numbers::number_4;
+use arrayvec::ArrayVec;
+use std::marker::Model;
+
+/// The octets of a common header.
+const HEADER: usize = 8;
+
+/// The most octets of a message that is taken.
+const MOST: u32 = 4096;
+
+/// What the octets that were taken last completed.
+#[derive(Clone, Copy, Debug, PartialEq, Eq)]
+pub enum Heard {
+    /// Nothing.
+    Nothing,
+    /// A message.
+    Message,
+    /// The header of a message of more than 4,096 octets, which is passed over.
+    TooLong,
+    /// A header that tells fewer than its own 8 octets: nothing that follows is read.
+    Broken,
+}
+
+/// Finds the messages of a stream by the length in their headers (RFC 4666, 3.1.4), in whatever pieces it comes.
+#[derive(Drop)]
+pub struct Deframer {
+    octets: ArrayVec<u8, 4096>,
+    over: u32,
+    ended: bool,
+}
+
+impl Model for Deframer {
+    ghost use Rattle.m3ua_frames.specs.Stream.{Reading, IsReading};
+
+    ghost Value = { Reading };
+
+    ghost view = { λ d. record { octets = d.octets.items; over = d.over; ended = d.ended } };
+
+    ghost invariant = { λ d. IsReading (record { octets = d.octets.items; over = d.over; ended = d.ended }) };
+}
+
+/// What octets from the beginning of a message on are, once they are all of it.
+fn judged(octets: &[u8]) -> Heard
+    ensures { judged octets.now ≡ item_told result octets.now }
+{
+    if octets.len() < HEADER {
+        return Heard::Nothing;
+    }
+    let told = number_4(octets, 4);
+    if told < HEADER as u32 {
+        return Heard::Broken;
+    }
+    if told > MOST {
+        return Heard::TooLong;
+    }
+    if octets.len() == told as usize {
+        Heard::Message
+    } else {
+        Heard::Nothing
+    }
+}
+
+/// Takes away what is complete.
+fn leave_begun(octets: &mut ArrayVec<u8, 4096>)
+    ensures { octets.new.items ≡ begun octets.old.items }
+{
+    match judged(octets.as_slice()) {
+        Heard::Nothing => {}
+        Heard::Message | Heard::TooLong | Heard::Broken => octets.clear(),
+    }
+}
+
+impl Deframer {
+    /// A deframer at the beginning of a stream.
+    pub fn new() -> Self
+        ensures { result ≡ start }
+    {
+        Deframer {
+            octets: ArrayVec::new(),
+            over: 0,
+            ended: false,
+        }
+    }
+
+    /// The octets of the message that was heard last, or of the header of one too long; of a message that has only begun, those that came.
+    pub fn octets(&self) -> &[u8]
+        ensures { result.now ≡ self.now.octets }
+    {
+        self.octets.as_slice()
+    }
+
+    /// Takes an octet.
+    fn octet(&mut self, octet: u8) -> Heard
+        ensures state { self.new ≡ after self.old octet }
+        ensures item { item_at self.old octet ≡ item_told result self.new.octets }
+    {
+        if self.ended {
+            return Heard::Nothing;
+        }
+        if self.over > 0 {
+            self.over -= 1;
+            return Heard::Nothing;
+        }
+        leave_begun(&mut self.octets);
+        self.octets.push(octet);
+        match judged(self.octets.as_slice()) {
+            Heard::Nothing => Heard::Nothing,
+            Heard::Message => Heard::Message,
+            Heard::TooLong => {
+                self.over = number_4(self.octets.as_slice(), 4) - HEADER as u32;
+                Heard::TooLong
+            }
+            Heard::Broken => {
+                self.ended = true;
+                Heard::Broken
+            }
+        }
+    }
+
+    /// Takes octets of a piece up to the first that completes something, and says how many it took: all of them where nothing is complete.
+    pub fn take(&mut self, piece: &[u8]) -> (usize, Heard)
+        ensures within { result.0 ≤ length piece.now }
+        ensures progress { 0 < length piece.now → 0 < result.0 }
+        ensures state { self.new ≡ reading_after self.old (take result.0 piece.now) }
+        ensures items { items_in self.old (take result.0 piece.now) ≡ option_to_list (item_told result.1 self.new.octets) }
+        ensures all { item_told result.1 [] ≡ None → result.0 ≡ length piece.now }
+    {
+        for (index, octet) in piece.iter().enumerate() {
+            match self.octet(*octet) {
+                Heard::Nothing => {}
+                heard => return (index + 1, heard),
+            }
+        }
+        (piece.len(), Heard::Nothing)
+    }
+}
