@@ -1,13 +1,14 @@
 """What the crates' README.md say that isn't there, and what they leave out. `tools/ready` asks it.
 
 - Each crate has one.
-- Each contract that 'What a caller may rest on' cites, as (`function`: clause, clause; `Type::function`), is one of the crate's; and it is
-  one of a public call, unless its point begins with 'Inside'.
-- Each definition of the table in 'Definitions' stands in the file of specs that its row names, and each such file, but Lib, is named there.
+- Each contract that 'What a caller may rest on' cites, as (`function`: clause, clause; `Type::function`), is one of the
+  crate's; and it is one of a public call, unless its point begins with 'Inside'.
+- Each definition of the table in 'Definitions' stands in the file of specs that its row names, and each such file, but
+  Lib, is named there.
 - Each path is there, and no line is longer than 120 columns."""
 import re
 
-from doc_names import PATH, rows, sections, text_of
+from tools.doc_names import PATH, rows, sections, text_of
 
 CITED = re.compile(r"\((`[\w:]+`(?:: \w+(?:, \w+)*)?(?:; `[\w:]+`(?:: \w+(?:, \w+)*)?)*)\)")
 HANDED = re.compile(r"^pub use ([\w:]+?)(?:::\{([^}]*)\})?;", re.M)
@@ -15,7 +16,8 @@ WIDTH = 120
 
 
 def functions(folder):
-    """The functions of a crate, those of a type as `Type::function`, and the types that say what they print: (name, file, clauses, public)."""
+    """The functions of a crate, those of a type as `Type::function`, and the types that say what they print: (name,
+    file, clauses, public)."""
     lib = text_of(folder / "src" / "lib.rt") or ""
     handed, open_files = set(), {"lib.rt", *(f"{name}.rt" for name in re.findall(r"^pub mod (\w+);", lib, re.M))}
     for path, names in HANDED.findall(lib):
@@ -51,12 +53,16 @@ def contracts(folder):
 def tabled(text):
     """The definitions that a README's table names, each with the files that its row names."""
     section = dict(sections(text)).get("Definitions", "")
-    return [(re.findall(r"`(\w+)`", cells[0]), re.findall(r"\w+", cells[2])) for cells in rows(section)
-            if len(cells) == 4 and cells[0] != "Name"]
+    return [
+        (re.findall(r"`(\w+)`", cells[0]), re.findall(r"\w+", cells[2]))
+        for cells in rows(section)
+        if len(cells) == 4 and cells[0] != "Name"
+    ]
 
 
 def cited(folder, text):
-    """The contracts that a README cites and the crate lacks, or doesn't hand on though no 'Inside' says so. (A program hands nothing on.)"""
+    """The contracts that a README cites and the crate lacks, or doesn't hand on though no 'Inside' says so. (A program
+    hands nothing on.)"""
     known = contracts(folder)
     public = {it for name, _, _, open_ in list(functions(folder)) if open_ for it in (name, name.split("::")[-1])}
     for point in re.split(r"\n(?=- )", dict(sections(text)).get("What a caller may rest on", "")):
@@ -76,7 +82,8 @@ def defines(text, name):
 
 
 def defined(folder, text):
-    """The definitions and files that its table names and the crate lacks, and the files of specs of which 'Definitions' says nothing."""
+    """The definitions and files that its table names and the crate lacks, and the files of specs of which 'Definitions'
+    says nothing."""
     specs = {it.stem: it.read_text() for it in sorted((folder / "specs").glob("*.antt"))}
     for names, files in tabled(text):
         yield from (f"no file {it} in specs" for it in files if it not in specs)
@@ -84,13 +91,19 @@ def defined(folder, text):
             if not any(defines(specs.get(it, ""), name) for it in files):
                 yield f"no {name} in {', '.join(files)}"
     section = dict(sections(text)).get("Definitions", "")
-    yield from (f"says nothing of the definitions in {it}" for it in specs if it != "Lib" and not re.search(rf"(?<!\w){it}(?!\w)", section))
+    yield from (
+        f"says nothing of the definitions in {it}"
+        for it in specs
+        if it != "Lib" and not re.search(rf"(?<!\w){it}(?!\w)", section)
+    )
 
 
 def written(root, text):
     """The paths that it writes and that aren't there, and the lines that are too long."""
     yield from (f"no file {it}" for it in sorted(set(PATH.findall(text))) if not (root / it).exists())
-    yield from (f"line {number} has {len(line)} columns" for number, line in enumerate(text.split("\n"), 1) if len(line) > WIDTH)
+    yield from (
+        f"line {number} has {len(line)} columns" for number, line in enumerate(text.split("\n"), 1) if len(line) > WIDTH
+    )
 
 
 def crates(root):
@@ -106,5 +119,8 @@ def lacking(root):
         if text is None:
             found.append(f"crates/{folder.name}: no README.md")
         else:
-            found += [f"crates/{folder.name}/README.md: {what}" for what in [*cited(folder, text), *defined(folder, text), *written(root, text)]]
+            found += [
+                f"crates/{folder.name}/README.md: {what}"
+                for what in [*cited(folder, text), *defined(folder, text), *written(root, text)]
+            ]
     return found

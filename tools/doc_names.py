@@ -1,8 +1,9 @@
-"""What the documents name and the repository lacks: files, definitions, functions and clauses; and what they leave out. `tools/ready` asks it.
+"""What the documents name and the repository lacks: files, definitions, functions and clauses; and what they leave out.
+`tools/ready` asks it.
 
 - docs/architecture.md: each crate has its row in the table of the rooms, and each row its crate.
-- docs/standards.md: each definition, function, edit, quoted word of examples/ and heading of docs/ is there, and a quoted
-  name is that of one entry.
+- docs/standards.md: each definition, function, edit, quoted word of examples/ and heading of docs/ is there, and a
+  quoted name is that of one entry.
 - README.md and docs/*.md: each path that they write is there, what is built aside.
 - tools/README.md: each tool is named there."""
 import functools
@@ -18,7 +19,9 @@ def text_of(path):
 
 def rows(text):
     """The rows of tables, as their cells."""
-    return [[cell.strip() for cell in line.strip("|").split(" | ")] for line in text.split("\n") if line.startswith("| ")]
+    return [
+        [cell.strip() for cell in line.strip("|").split(" | ")] for line in text.split("\n") if line.startswith("| ")
+    ]
 
 
 def sections(text):
@@ -28,7 +31,8 @@ def sections(text):
 
 
 def names_one(words, held):
-    """Whether a text without entries has these words, or an entry has them for its name, or one alone begins so; a set in front of a name aside."""
+    """Whether a text without entries has these words, or an entry has them for its name, or one alone begins so; a set
+    in front of a name aside."""
     entries = [[it, it.partition(": ")[2]] for it in re.findall(r"^== (.*)$", held, re.M)]
     if not entries:
         return words in held
@@ -82,12 +86,15 @@ def standards(look, text):
             held = text_of(root / path) or ""
             for words in re.findall(r"\"([^\"]+)\"", quoted):
                 if not names_one(words, held):
-                    look.say("standards", f"no \"{words}\" in {path}, or several")
+                    look.say("standards", f'no "{words}" in {path}, or several')
         for name in re.findall(r"`(\w+)`", " ".join(re.findall(r"\bedits? ((?:`\w+`(?:, )?)+)", tested))):
             if not any(root.glob(f"crates/*/must-fail/{name}.edit")) and not any(root.glob(f"edits/*/{name}.edit")):
                 look.say("standards", f"no edit {name}")
         for document, heading in re.findall(r"\(([\w-]+\.md)#([\w-]+)\)", rule):
-            if heading not in [re.sub(r"[^\w -]", "", it).lower().replace(" ", "-") for it, _ in sections(text_of(root / "docs" / document) or "")]:
+            if heading not in [
+                re.sub(r"[^\w -]", "", it).lower().replace(" ", "-")
+                for it, _ in sections(text_of(root / "docs" / document) or "")
+            ]:
                 look.say("standards", f"no heading {heading} in docs/{document}")
 
 
@@ -103,8 +110,14 @@ def paths(root):
 def tools(root):
     """The tools that their README doesn't name."""
     named = set(re.findall(r"`([\w.-]+)`", (root / "tools" / "README.md").read_text()))
+    # (a command is named, or its module)
+    named |= {f"{it.replace('-', '_')}.py" for it in named} | {it.removesuffix(".py") for it in named}
     files = [it for it in sorted((root / "tools").rglob("*")) if it.is_file() and "__pycache__" not in it.parts]
-    return [f"tools/README.md: no {it.relative_to(root)}" for it in files if it.name not in named | {"README.md"}]
+    return [
+        f"tools/README.md: no {it.relative_to(root)}"
+        for it in files
+        if it.name not in named | {"README.md", "__init__.py"}
+    ]
 
 
 def lacking(root):

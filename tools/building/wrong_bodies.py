@@ -1,17 +1,21 @@
 """Tries wrong bodies, several in one check: for tools/edits.
 
-A check of a copy of the crate has one edit in each of several functions, and asks of these functions only (`rattle check --only`). The line that it prints for a function says
-whether that one is proved, or what of its own isn't; that it calls another one that isn't proved is no matter of its own. So each edit is judged by the line of its own function:
+A check of a copy of the crate has one edit in each of several functions, and asks of these functions only (`rattle
+check --only`). The line that it prints for a function says whether that one is proved, or what of its own isn't; that
+it calls another one that isn't proved is no matter of its own. So each edit is judged by the line of its own function:
 
 - something of its own isn't proved: the edit is refused;
-- all errors are in proof files that name what the edit took away: it is refused by a name only, which says little of the contract;
-- else the edit is tried alone, in a check of the whole crate: so are edits outside of the bodies of functions, and those in files that can't be compiled.
+- all errors are in proof files that name what the edit took away: it is refused by a name only, which says little of
+  the contract;
+- else the edit is tried alone, in a check of the whole crate: so are edits outside of the bodies of functions, and
+  those in files that can't be compiled.
 
-All checks of a crate keep their work in one folder, and begin with what `tools/rt check` kept. Where something was refused, the functions are proved as they stand, over that
-folder, unless `rt ci` proved this very crate on this machine: else the edits would be refused for a fault that isn't theirs.
+All checks of a crate keep their work in one folder, and begin with what `tools/rt check` kept. Where something was
+refused, the functions are proved as they stand, over that folder, unless `rt ci` proved this very crate on this
+machine: else the edits would be refused for a fault that isn't theirs.
 
-It calls functions of the kit's own `rt`, which tries each edit in a check of its own and takes the time of the whole crate's proof before the first one. Needless once
-`rt must-fail` tries several edits in one check."""
+It calls functions of the kit's own `rt`, which tries each edit in a check of its own and takes the time of the whole
+crate's proof before the first one. Needless once `rt must-fail` tries several edits in one check."""
 import collections
 import dataclasses
 import os
@@ -21,7 +25,7 @@ import shutil
 import signal
 import tempfile
 
-from functions import functions
+from tools.looks.functions import functions
 
 CLAUSE = re.compile(r"\s*(requires|ensures|ghost)\b")
 PLACE = re.compile(r"^(?:note: )?(?:\./)?(\S+?\.(?:rt|antt)):\d+:\d+:", re.M)
@@ -30,7 +34,14 @@ TAKEN_AWAY = re.compile(r"has no field|is not in scope|has no `")
 # What isn't proved of a function since it calls another one, or rests on what isn't proved.
 OF_OTHERS = re.compile(r"it calls .*|(it )?depends on .*|it rests on .*")
 # How the kit calls what an edit came to, and how that is counted here.
-REFUSED, BY_NAME, AT_LIMIT, PROVED, BAD, UNSURE = "refused", "refused by a name only", "refused at a limit", "PROVED", "BAD", "NOT TRIED"
+REFUSED, BY_NAME, AT_LIMIT, PROVED, BAD, UNSURE = (
+    "refused",
+    "refused by a name only",
+    "refused at a limit",
+    "PROVED",
+    "BAD",
+    "NOT TRIED",
+)
 
 
 @dataclasses.dataclass
@@ -44,7 +55,8 @@ class Edit:
 
     @property
     def label(self):
-        return f"{self.path.parent.name if self.path.parent.name != 'must-fail' else self.path.parent.parent.name}/{self.path.stem}"
+        folder = self.path.parent
+        return f"{(folder.parent if folder.name == 'must-fail' else folder).name}/{self.path.stem}"
 
 
 def changed(path):
@@ -70,7 +82,11 @@ def function_of(folder, path):
         first = text[: text.index(old)].count("\n")
         last = first + old.count("\n")
         line = text.split("\n")[first]
-        held = [it.name for it in functions(file, text) if it.body <= first and last <= it.last and (it.body < first or not CLAUSE.match(line))]
+        held = [
+            it.name
+            for it in functions(file, text)
+            if it.body <= first and last <= it.last and (it.body < first or not CLAUSE.match(line))
+        ]
         found.add(held[-1] if held else "")
     return found.pop() if len(found) == 1 else ""
 
@@ -82,7 +98,8 @@ def read(rt, crate, path):
 
 
 def joined(folder, edits):
-    """The files of a crate with several edits in them, each applied to what the one in front of it left; nothing where one no longer fits."""
+    """The files of a crate with several edits in them, each applied to what the one in front of it left; nothing where
+    one no longer fits."""
     texts = {}
     for edit in edits:
         pairs, old = [], None
@@ -110,7 +127,8 @@ class Said:
         self.found = [(it[1], it[0]) for it in re.finditer(PLACE.pattern + ".*", text, re.M)]
 
     def of(self, name):
-        """The lines of a function and of the closures in it, where there is one function of this name, and what was found in its proofs."""
+        """The lines of a function and of the closures in it, where there is one function of this name, and what was
+        found in its proofs."""
         own = [full for full in self.lines if f"::{full}".endswith(f"::{name}")]
         if len(own) != 1:
             return [], []
@@ -120,8 +138,8 @@ class Said:
 
 
 def judged(name, said):
-    """What a check says of an edit in a function: the kind and its first words. Nothing where it says that the function is proved, that it can't tell, or only
-    what isn't proved of others."""
+    """What a check says of an edit in a function: the kind and its first words. Nothing where it says that the function
+    is proved, that it can't tell, or only what isn't proved of others."""
     lines, found = said.of(name)
     errors = [it for it in found if ": error" in it and "was not admitted" not in it]
     for line in lines:
@@ -164,7 +182,11 @@ class Trial:
         if not said.lines:
             # (some edit can't be compiled, or a name fits no function: half of them may do)
             half = len(edits) // 2
-            return [it for part in (edits[:half], edits[half:]) for it in self.batch(part, kept)] if half and status != -signal.SIGKILL else edits
+            return (
+                [it for part in (edits[:half], edits[half:]) for it in self.batch(part, kept)]
+                if half and status != -signal.SIGKILL
+                else edits
+            )
         left = []
         for edit in edits:
             if came := judged(edit.function, said):
@@ -182,7 +204,9 @@ class Trial:
         if kind == self.rt.REFUSED and "only because a proof file names" in text:
             kind = BY_NAME
         else:
-            kind = {self.rt.REFUSED: REFUSED, self.rt.AT_LIMIT: AT_LIMIT, self.rt.MISSED: PROVED, self.rt.BAD: BAD}.get(kind, UNSURE)
+            kind = {self.rt.REFUSED: REFUSED, self.rt.AT_LIMIT: AT_LIMIT, self.rt.MISSED: PROVED, self.rt.BAD: BAD}.get(
+                kind, UNSURE
+            )
         self.tell(edit, kind, text.partition(": ")[2].removeprefix("refused, as it must be").lstrip(": "))
 
     def rounds(self):
@@ -198,7 +222,7 @@ class Trial:
     def as_it_stands(self, kept):
         """Whether the functions whose edits were refused are proved without these."""
         names = sorted({it.function for it in self.edits if self.came.get(it.path) in (REFUSED, BY_NAME)} - {""})
-        if not names or self.rt.is_proved_here(self.crate):
+        if not names or self.rt.libraries.is_proved(self.crate):
             return True
         text, status = self.check({}, names, kept)
         return status == 0 and bool(re.search(r"^only=(\d+) proved=\1$", text, re.M))
@@ -225,7 +249,10 @@ class Trial:
             left = [it for batch in self.rounds() for it in self.batch(batch, kept)]
             left += [it for it in self.edits if not it.why and (not it.function or self.is_apart)]
             if not self.as_it_stands(kept):
-                self.rt.say(f"edits {self.crate.name}: its functions aren't proved as they stand, so nothing is known of its edits")
+                self.rt.say(
+                    f"edits {self.crate.name}: its functions aren't proved as they stand, so nothing is known of "
+                    "its edits"
+                )
                 self.came = dict.fromkeys(self.came, UNSURE)
                 return self.came
             for edit in left:

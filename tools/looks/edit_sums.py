@@ -1,11 +1,14 @@
-"""edits/sums.txt: when the edits of each crate in edits/ were tried last. `tools/edits` writes it, `tools/ready` reads it.
+"""edits/sums.txt: when the edits of each crate in edits/ were tried last. `tools/edits` writes it, `tools/ready` reads
+it.
 
-Its first line is `landing NUMBER SUM`: how many landings were recorded, and the sum over all contracts and edits at the last one. Each other line is
-`CRATE SUM NUMBER`: the sum over the crate's contracts and its edits, as they were when the prover refused all of these, and the landing at which it did. The sum is `-`
-where they haven't all been refused yet; the number then says since when the crate has edits here.
+Its first line is `landing NUMBER SUM`: how many landings were recorded, and the sum over all contracts and edits at the
+last one. Each other line is `CRATE SUM NUMBER`: the sum over the crate's contracts and its edits, as they were when the
+prover refused all of these, and the landing at which it did. The sum is `-` where they haven't all been refused yet;
+the number then says since when the crate has edits here.
 
-A landing is recorded by `tools/edits --minutes N`, and counts only where a contract or an edit has changed since the last one. The number stands in the file, and not in the
-history of git, so that it is the same in a clone that has no history."""
+A landing is recorded by `tools/edits --minutes N`, and counts only where a contract or an edit has changed since the
+last one. The number stands in the file, and not in the history of git, so that it is the same in a clone that has no
+history."""
 import dataclasses
 import hashlib
 import re
@@ -61,7 +64,9 @@ def sum_of(root, name):
 
 def whole_sum(root):
     """The sum over all crates."""
-    return short(f"{it.name} {sum_of(root, it.name)}" for it in sorted((root / "crates").iterdir()) if (it / "src").is_dir())
+    return short(
+        f"{it.name} {sum_of(root, it.name)}" for it in sorted((root / "crates").iterdir()) if (it / "src").is_dir()
+    )
 
 
 def with_edits(root):
@@ -72,7 +77,11 @@ def with_edits(root):
 def kept(root):
     """What is kept."""
     path = root / "edits" / "sums.txt"
-    rows = [it.split(" ") for it in path.read_text().split("\n") if it and not it.startswith("#")] if path.is_file() else []
+    rows = (
+        [it.split(" ") for it in path.read_text().split("\n") if it and not it.startswith("#")]
+        if path.is_file()
+        else []
+    )
     landing, whole = next(((int(row[1]), row[2]) for row in rows if row[0] == "landing"), (0, "-"))
     return Sums(landing, whole, {row[0]: Entry(row[1], int(row[2])) for row in rows if row[0] != "landing"})
 
@@ -80,7 +89,11 @@ def kept(root):
 def write(root, sums):
     """Writes what is kept, with an entry for each crate that has edits."""
     entries = {it: sums.entries.get(it) or Entry("-", sums.landing) for it in with_edits(root)}
-    lines = [HEAD, f"landing {sums.landing} {sums.whole}", *(f"{name} {it.sum} {it.landing}" for name, it in entries.items())]
+    lines = [
+        HEAD,
+        f"landing {sums.landing} {sums.whole}",
+        *(f"{name} {it.sum} {it.landing}" for name, it in entries.items()),
+    ]
     (root / "edits" / "sums.txt").write_text("\n".join([*lines, ""]))
 
 
@@ -106,7 +119,8 @@ def record(root):
 
 
 def oldest_first(root):
-    """The crates with edits, those first whose entry is oldest, and of these those whose contracts or edits changed since."""
+    """The crates with edits, those first whose entry is oldest, and of these those whose contracts or edits changed
+    since."""
     sums = kept(root)
 
     def rank(name):
@@ -125,5 +139,8 @@ def untried(root):
 def too_old(root):
     """The crates whose edits were tried so many landings ago that they are to be tried again."""
     sums, now = kept(root), coming(root)
-    return [f"edits/sums.txt: the edits of {name} were last tried {now - it.landing} landings ago: tools/edits {name}"
-            for name, it in sorted(sums.entries.items()) if name in with_edits(root) and now - it.landing >= OLDEST]
+    return [
+        f"edits/sums.txt: the edits of {name} were last tried {now - it.landing} landings ago: tools/edits {name}"
+        for name, it in sorted(sums.entries.items())
+        if name in with_edits(root) and now - it.landing >= OLDEST
+    ]

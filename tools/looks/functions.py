@@ -1,5 +1,5 @@
-"""The functions of a file of code in `rt fmt`'s layout: where each begins and ends, its parameters, and its name as a check prints it, from its type on, or
-from its module where it belongs to no type."""
+"""The functions of a file of code in `rt fmt`'s layout: where each begins and ends, its parameters, and its name as a
+check prints it, from its type on, or from its module where it belongs to no type."""
 import dataclasses
 import re
 
@@ -96,12 +96,23 @@ def functions(path, text):
 
 
 def ends(line, begin, is_first):
-    """Whether a function that begins with this indent ends on the line: with its brace, on one line, or without a body."""
+    """Whether a function that begins with this indent ends on the line: with its brace, on one line, or without a
+    body."""
     if is_first:
         return line.rstrip().endswith(("}", ";")) and line.count("{") == line.count("}")
-    return line == begin + "}" or line.startswith(begin) and line[len(begin) :].startswith((") ", ")")) and line.endswith(";")
+    return (
+        line == begin + "}"
+        or line.startswith(begin)
+        and line[len(begin) :].startswith((") ", ")"))
+        and line.endswith(";")
+    )
 
 
 def opens(line, begin):
     """Whether the body of a function opens at the end of a line."""
-    return line == begin + "{" or line.startswith(begin) and not line[len(begin) :].startswith(" ") and line.endswith(("{", "}"))
+    return (
+        line == begin + "{"
+        or line.startswith(begin)
+        and not line[len(begin) :].startswith(" ")
+        and line.endswith(("{", "}"))
+    )

@@ -1,19 +1,18 @@
-#!/usr/bin/env python3
 """A capture of a line, worked out plainly and apart from the program: to hold `mtp2_play line --capture` against.
 
-usage: tools/oracles/plain_capture.py CAME WENT [--ahead N] [--bits high] [--every]      writes the capture of octets that came in and of octets that went out
-       tools/oracles/plain_capture.py --script SET SCRIPT [--every]                      writes the capture of a script of a terminal or of a link set
-       tools/oracles/plain_capture.py --read FILE                                        prints a line for each record of a capture"""
+usage: tools/oracles/plain_capture.py CAME WENT [--ahead N] [--bits high] [--every]
+           writes the capture of octets that came in and of octets that went out
+       tools/oracles/plain_capture.py --script SET SCRIPT [--every]
+           writes the capture of a script of a terminal or of a link set
+       tools/oracles/plain_capture.py --read FILE
+           prints a line for each record of a capture"""
 import argparse
 import pathlib
 import struct
 import sys
 
-sys.path += map(str, pathlib.Path(__file__).resolve().parents[1].glob("*"))
-
-import plain_group
-import plain_term
-from plain_units import FLAG, bits_of, decoded, octets_of, stuffed
+from tools.oracles import plain_group, plain_term
+from tools.oracles.plain_units import FLAG, decoded, octets_of, stuffed
 
 HEADER = struct.pack("<IHHiIII", 0xA1B2C3D4, 2, 4, 0, 0, 65535, 139)
 OCTET = 125
@@ -51,13 +50,15 @@ def unit_of(line):
 
 
 def seen(came, went):
-    """Each unit that went out or came in: the time, the way (1 went out) and its octets. Of one octet's time the one that went out is first."""
+    """Each unit that went out or came in: the time, the way (1 went out) and its octets. Of one octet's time the one
+    that went out is first."""
     both = [(place, 1, unit) for place, unit in units(went)] + [(place, 0, unit) for place, unit in units(came)]
     return [(OCTET * (place + 1), way, unit) for place, way, unit in sorted(both, key=lambda it: (it[0], -it[1]))]
 
 
 def kept(all_units):
-    """Those that aren't left out, by the rule as it is told: the last record of the way is looked for, and whether one of the other way behind it is news."""
+    """Those that aren't left out, by the rule as it is told: the last record of the way is looked for, and whether one
+    of the other way behind it is news."""
     records = []
     for at, way, unit in all_units:
         mine = [place for place, record in enumerate(records) if record[1] == way]
@@ -77,7 +78,9 @@ def is_news(records, place):
 
 def capture(came, went, every=False, link=0):
     records = seen(came, went)
-    packets = [(at, struct.pack(">BBH", way, 0, link) + unit) for at, way, unit in (records if every else kept(records))]
+    packets = [
+        (at, struct.pack(">BBH", way, 0, link) + unit) for at, way, unit in (records if every else kept(records))
+    ]
     return HEADER + b"".join(struct.pack("<IIII", *divmod(at, 1_000_000), len(it), len(it)) + it for at, it in packets)
 
 
@@ -85,7 +88,8 @@ def capture(came, went, every=False, link=0):
 
 
 class Line:
-    """What is seen of one link as a script runs: the octets that came, each with its place among all that is seen and its tick."""
+    """What is seen of one link as a script runs: the octets that came, each with its place among all that is seen and
+    its tick."""
 
     def __init__(self):
         self.came, self.stamps = bytearray(), []
@@ -112,7 +116,11 @@ class Watch:
 
     def seen(self):
         """Each unit in the order in which it was seen: the tick, the way, the link and its octets."""
-        came = [(*line.stamps[place], 0, link, unit) for link, line in self.lines.items() for place, unit in units(bytes(line.came))]
+        came = [
+            (*line.stamps[place], 0, link, unit)
+            for link, line in self.lines.items()
+            for place, unit in units(bytes(line.came))
+        ]
         return [it[1:] for it in sorted(self.went + came, key=lambda it: it[0])]
 
 
@@ -181,9 +189,19 @@ def script_capture(text, script, every=False, say=lambda line: None, usual=()):
     try:
         status = plain_group.play_text(text, script, say, usual)
     finally:
-        plain_term.Terminal.line_in, plain_term.Terminal.unit_out, plain_term.Terminal.__init__ = base_in, base_out, made
-    packets = [(1000 * clock, struct.pack(">BBH", way, 0, link) + unit) for clock, way, link, unit in of_links(watch.seen(), every)]
-    return HEADER + b"".join(struct.pack("<IIII", *divmod(at, 1_000_000), len(it), len(it)) + it for at, it in packets), status
+        plain_term.Terminal.line_in, plain_term.Terminal.unit_out, plain_term.Terminal.__init__ = (
+            base_in,
+            base_out,
+            made,
+        )
+    packets = [
+        (1000 * clock, struct.pack(">BBH", way, 0, link) + unit)
+        for clock, way, link, unit in of_links(watch.seen(), every)
+    ]
+    return (
+        HEADER + b"".join(struct.pack("<IIII", *divmod(at, 1_000_000), len(it), len(it)) + it for at, it in packets),
+        status,
+    )
 
 
 def read(octets):
@@ -207,7 +225,12 @@ def main(words):
             print(f"{at / 1_000_000:.6f} {'Sent' if way else 'Received'} {link} {unit.hex().upper()}")
         return 0
     if words[:1] == ["--script"] and len(words) in (3, 4):
-        found, status = script_capture(plain_term.text_of(words[1]).encode(), pathlib.Path(words[2]).read_bytes(), "--every" in words, usual=plain_term.USUAL.get(words[1], ()))
+        found, status = script_capture(
+            plain_term.text_of(words[1]).encode(),
+            pathlib.Path(words[2]).read_bytes(),
+            "--every" in words,
+            usual=plain_term.USUAL.get(words[1], ()),
+        )
         sys.stdout.buffer.write(found)
         return status
     given = argparse.ArgumentParser()

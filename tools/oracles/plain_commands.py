@@ -1,12 +1,11 @@
-"""What the plain programs of this folder say to command lines of mtp2_play: the lines and the status; none where they don't know. They were written apart
-from the program, on whole lists and from the standards."""
+"""What the plain programs of this folder say to command lines of mtp2_play: the lines and the status; none where they
+don't know. They were written apart from the program, on whole lists and from the standards."""
 import re
 
-import plain_group
-import plain_term
-from plain_check import Refusal, check
-from plain_play import LONGEST, BadLine, command, number
-from plain_units import bits_of, check_octets, stuffed
+from tools.oracles import plain_group, plain_term
+from tools.oracles.plain_check import Refusal, check
+from tools.oracles.plain_play import LONGEST, BadLine, command, number
+from tools.oracles.plain_units import bits_of, check_octets, stuffed
 
 NO_TEXT = ["refused F1 NotText"], 2
 

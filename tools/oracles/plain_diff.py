@@ -1,4 +1,3 @@
-#!/usr/bin/env python3
 """What two process texts differ in, written apart from the program: to hold `mtp2_play diff` against.
 
 usage: tools/oracles/plain_diff.py OLD NEW     prints the lines that diff prints
@@ -8,12 +7,10 @@ first joined, so that their names make no difference. It has no proofs, and take
 import pathlib
 import sys
 
-sys.path += map(str, pathlib.Path(__file__).resolve().parents[1].glob("*"))
-
-from plain_check import check, lo
-from plain_play import Book
-from plain_reader import P, Refusal, lex
-from plain_term import WANTED, has
+from tools.oracles.plain_check import check, lo
+from tools.oracles.plain_play import Book
+from tools.oracles.plain_reader import P, Refusal, lex
+from tools.oracles.plain_term import WANTED, has
 
 
 class Side:
@@ -109,7 +106,13 @@ class Meaning:
     def is_truth(self, x):
         if x[0] == "var":
             return self.sorts[lo(x[1])] == "BOOLEAN"
-        return x[0] == "bool" or x[0] == "un" and x[1] == "NOT" or x[0] == "bin" and x[1] not in ("+", "-", "*", "/", "MOD", "REM")
+        return (
+            x[0] == "bool"
+            or x[0] == "un"
+            and x[1] == "NOT"
+            or x[0] == "bin"
+            and x[1] not in ("+", "-", "*", "/", "MOD", "REM")
+        )
 
     def value(self, x):
         if x[0] in ("num", "bool"):
@@ -127,8 +130,11 @@ class Meaning:
             return to
         if to is not None:
             return lo(to)
-        [one] = {c if c == "ENV" else lo(c) for a, c, names in self.side.paths
-                 if a != "ENV" and lo(a) == lo(self.process[0]) and signal in map(lo, names)}
+        [one] = {
+            c if c == "ENV" else lo(c)
+            for a, c, names in self.side.paths
+            if a != "ENV" and lo(a) == lo(self.process[0]) and signal in map(lo, names)
+        }
         return one
 
     def action(self, a):
@@ -147,11 +153,20 @@ class Meaning:
         if self.is_truth(question):
             bodies = [(r[1][1], self.text(body)) for ranges, body in answers for r in ranges]
             if otherwise is not None:
-                bodies += [(left, self.text(otherwise)) for left in ("TRUE", "FALSE") if left not in [value for value, _ in bodies]]
+                bodies += [
+                    (left, self.text(otherwise))
+                    for left in ("TRUE", "FALSE")
+                    if left not in [value for value, _ in bodies]
+                ]
             return ("pick", self.value(question), bodies)
         # the program puts ELSE first, which says whose joins come first
         other = None if otherwise is None else self.text(otherwise)
-        return ("case", self.value(question), other, [([self.range(r) for r in ranges], self.text(body)) for ranges, body in answers])
+        return (
+            "case",
+            self.value(question),
+            other,
+            [([self.range(r) for r in ranges], self.text(body)) for ranges, body in answers],
+        )
 
     def range(self, r):
         if r[0] == "to":
@@ -176,7 +191,8 @@ LEVELS = [("OR", "XOR"), ("AND",), ("=", "/=", "<", "<=", ">", ">="), ("+", "-")
 
 
 class Written:
-    """The statements of a process as they are written: names as they are declared, parentheses where they are wanted."""
+    """The statements of a process as they are written: names as they are declared, parentheses where they are
+    wanted."""
 
     def __init__(self, side, process):
         self.side, self.line = side, 0
@@ -212,7 +228,9 @@ class Written:
                 for name, xs in a[1]:
                     to = self.meaning.receiver(lo(name), a[2])
                     values = f"({', '.join(map(self.value, xs))})" if xs else ""
-                    yield self.row(name[1], f"OUTPUT {self.side.signal[lo(name)]}{values} TO {self.side.process.get(to, to)}")
+                    yield self.row(
+                        name[1], f"OUTPUT {self.side.signal[lo(name)]}{values} TO {self.side.process.get(to, to)}"
+                    )
             elif a[0] == "set":
                 yield self.row(a[3], f"SET(NOW + {self.value(a[1])}, {self.timers[lo(a[2])]})")
             elif a[0] == "reset":
@@ -269,7 +287,13 @@ def blamed(old, new, process, title):
                 found.add(name)
                 left.append(old.statements[process, name])
     for key in old.statements:
-        if isinstance(key, tuple) and key[0] == process and key[1] in found and key in new.statements and is_other(old.statements[key], new.statements[key]):
+        if (
+            isinstance(key, tuple)
+            and key[0] == process
+            and key[1] in found
+            and key in new.statements
+            and is_other(old.statements[key], new.statements[key])
+        ):
             yield key
 
 

@@ -1,20 +1,21 @@
-#!/usr/bin/env python3
 """A plain player of events, written apart from the program: to hold the rows of examples/events.txt against.
 
-usage: tools/oracles/plain_events.py --table FILE     says which rows of a table have other lines, and ends with status 1 where one has
+usage: tools/oracles/plain_events.py --table FILE
+           says which rows of a table have other lines, and ends with status 1 where one has
        tools/oracles/plain_events.py FILE             prints the lines of the trial in a file
 
-A trial's first line has the limits, and then come events, each by the number of its actor; behind a line `text` stands a process text, or `standard`. What a
-process does is plain_play.py's: it goes through the statements of the text themselves."""
+A trial's first line has the limits, and then come events, each by the number of its actor; behind a line `text` stands
+a process text, or `standard`. What a process does is plain_play.py's: it goes through the statements of the text
+themselves."""
 import pathlib
 import sys
 
-sys.path += map(str, pathlib.Path(__file__).resolve().parents[1].glob("*"))
-
-from built import ROOT, tool
-from plain_check import Refusal, check
-from plain_play import Actor, Book, given
-from plain_turn import Refused, Turn
+from tools import table
+from tools.oracles.plain_check import Refusal, check
+from tools.oracles.plain_play import Actor, Book, given
+from tools.oracles.plain_turn import Refused, Turn
+from tools.steps import examples
+from tools.steps.built import ROOT
 
 
 class Events(Book):
@@ -39,7 +40,11 @@ class Events(Book):
         actor = self.numbered(int(number))
         if actor.place is None:
             raise Refused("B2 Stopped")
-        self.offer(f"{actor.process.name}.{actor.number}", self.names[int(signal)] if int(signal) < len(self.names) else "", list(map(given, values)))
+        self.offer(
+            f"{actor.process.name}.{actor.number}",
+            self.names[int(signal)] if int(signal) < len(self.names) else "",
+            list(map(given, values)),
+        )
         return "ok"
 
     def begins(self, number):
@@ -96,8 +101,14 @@ class Events(Book):
 
     def happens(self, words):
         """What is answered to an event."""
-        calls = {"offer": self.offers, "begin": self.begins, "skip": self.skips, "finish": self.finishes, "env": self.takes,
-                 "tick": lambda ticks: f"due {self.advance(int(ticks))}"}
+        calls = {
+            "offer": self.offers,
+            "begin": self.begins,
+            "skip": self.skips,
+            "finish": self.finishes,
+            "env": self.takes,
+            "tick": lambda ticks: f"due {self.advance(int(ticks))}",
+        }
         try:
             return calls[words[0]](*words[1:])
         except Refused as why:
@@ -144,7 +155,6 @@ def main(words):
         print(__doc__, file=sys.stderr)
         return 3
     rows = wrong = 0
-    examples, table = tool("examples"), tool("table")
     for name, trial, lines in examples.parted(pathlib.Path(words[1]).resolve()):
         rows += 1
         said = "\n".join(lines_of(table.written_out(trial, examples.copied)))

@@ -1,24 +1,24 @@
-#!/usr/bin/env python3
-"""A plain terminal on a line as a filter, written apart from the program: to hold `mtp2_play line` against. An octet goes out for each that comes in, and eight
-of them are a millisecond. The terminal is that of plain_term.py.
+"""A plain terminal on a line as a filter, written apart from the program: to hold `mtp2_play line` against. An octet
+goes out for each that comes in, and eight of them are a millisecond. The terminal is that of plain_term.py.
 
-usage: tools/oracles/plain_filter.py [LIFE ..]              plays the lives of examples/line/lives.txt, all or those that are named, and ends with status 1 where one differs
+usage: tools/oracles/plain_filter.py [LIFE ..]
+           plays the lives of examples/line/lives.txt, all or those that are named, and ends with status 1 where one
+           differs
        tools/oracles/plain_filter.py --octets LIFE         writes the octets that come in during a life
-       tools/oracles/plain_filter.py MODE ORDERS           reads octets from standard input, writes those that go out, and tells to standard error
+       tools/oracles/plain_filter.py MODE ORDERS
+           reads octets from standard input, writes those that go out, and tells to standard error
 
-In lives.txt `== NAME` begins an entry, and its first line has the mode. Lines `MS WHAT ..` say what comes in from that millisecond on, each up to the next one's:
-`ones`, `flags` (each shares its 0 with the next), `unit HEX` (over and over, check octets are put on), `once HEX` (and behind it flags), `bad HEX` (once, with its
-last bit the other way round), and `end`. What comes at a millisecond begins behind what has begun: a flag or a unit is never cut off, only `ones` are. Then come a
-line `--`, the orders, a line `--`, and what has to be told."""
+In lives.txt `== NAME` begins an entry, and its first line has the mode. Lines `MS WHAT ..` say what comes in from that
+millisecond on, each up to the next one's: `ones`, `flags` (each shares its 0 with the next), `unit HEX` (over and over,
+check octets are put on), `once HEX` (and behind it flags), `bad HEX` (once, with its last bit the other way round), and
+`end`. What comes at a millisecond begins behind what has begun: a flag or a unit is never cut off, only `ones` are.
+Then come a line `--`, the orders, a line `--`, and what has to be told."""
 import pathlib
 import sys
 
-sys.path += map(str, pathlib.Path(__file__).resolve().parents[1].glob("*"))
-
-from plain_play import Refused
-from plain_term import COMMANDS, MEASURES, MORE, ROOT, SETS, Terminal, command, do, shown
-from plain_play import BadLine, number
-from plain_units import FLAG, bits_of, check_octets, octets_of, stuffed
+from tools.oracles.plain_play import BadLine, Refused
+from tools.oracles.plain_term import COMMANDS, MEASURES, MORE, ROOT, SETS, Terminal, command, do, shown
+from tools.oracles.plain_units import FLAG, bits_of, check_octets, octets_of, stuffed
 
 LIVES = ROOT / "examples" / "line" / "lives.txt"
 OCTETS, MOST = 8, 600
@@ -96,7 +96,13 @@ class Voice:
 
 def told(end):
     """What the terminal has to tell: what a unit led to of the link, and then its message."""
-    names = {"InServiceNow": "in service", "Down": "down", "RemoteOut": "far out", "RemoteBack": "far back", "Cleared": "cleared"}
+    names = {
+        "InServiceNow": "in service",
+        "Down": "down",
+        "RemoteOut": "far out",
+        "RemoteBack": "far back",
+        "Cleared": "cleared",
+    }
     lines = [" ".join([names[signal], *map(str, values)]) for signal, *values in end.statuses]
     lines += [f"message {it.hex().upper()}" for it in end.messages]
     end.messages, end.statuses = [], []
@@ -114,7 +120,22 @@ def said(lines):
             if words[1:2] == ["ok"] and len(words) > 2:
                 at = max(at, int(words[0]))
                 yield at, " ".join(words[2:])
-            elif not words[1:] or words[1] not in {"in", "down", "far", "message", "state", "value", "cleared", "told", "accepted", "retrieve", "measure", "refused", "lost", "orders"}:
+            elif not words[1:] or words[1] not in {
+                "in",
+                "down",
+                "far",
+                "message",
+                "state",
+                "value",
+                "cleared",
+                "told",
+                "accepted",
+                "retrieve",
+                "measure",
+                "refused",
+                "lost",
+                "orders",
+            }:
                 yield at, " ".join(words)
         elif words[0] == "at" and len(words) == 2 and words[1].isdigit():
             at = max(at, int(words[1]))
@@ -141,7 +162,13 @@ def obeyed(end, order):
             return [f"ok {order}", f"{order} {do(end, word, *rest)[0]}"]
         elif word == "state":
             actor = end.book.actor(rest[0])
-            place = "STOPPED" if actor.place is None else actor.place if actor.place == "START" else actor.process.states[actor.place][0]
+            place = (
+                "STOPPED"
+                if actor.place is None
+                else actor.place
+                if actor.place == "START"
+                else actor.process.states[actor.place][0]
+            )
             return [f"ok {order}", f"{order} {place}"]
         elif word == "value":
             return [f"ok {order}", f"{order} {shown(end.book.actor(rest[0]).variables.get(rest[1].lower()))}"]
@@ -195,14 +222,18 @@ def lives():
         given, orders, lines = ("\n" + rest).split("\n--\n")
         mode, *schedule = [it for it in given.split("\n") if it and not it.startswith("#")]
         schedule = [(int(at), *more) for at, *more in (it.split() for it in schedule)]
-        yield name, mode, schedule, orders.split("\n"), [it for it in lines.split("\n") if it and not it.startswith("#")]
+        yield name, mode, schedule, orders.split("\n"), [
+            it for it in lines.split("\n") if it and not it.startswith("#")
+        ]
 
 
 def main(words):
     text = (ROOT / "examples" / SETS["standard"]).read_bytes()
     if words[:1] in (["basic"], ["cyclic"]) and len(words) == 2:
         orders = said(pathlib.Path(words[1]).read_text().split("\n"))
-        sys.stdout.buffer.write(run(text, words[0] == "cyclic", sys.stdin.buffer.read(), orders, lambda line: print(line, file=sys.stderr)))
+        sys.stdout.buffer.write(
+            run(text, words[0] == "cyclic", sys.stdin.buffer.read(), orders, lambda line: print(line, file=sys.stderr))
+        )
         return 0
     if words[:1] == ["--octets"]:
         sys.stdout.buffer.write(next(incoming(it[2]) for it in lives() if it[0] == words[1]))
@@ -215,7 +246,9 @@ def main(words):
         run(text, mode == "cyclic", incoming(schedule), said(orders), came.append)
         if came != lines:
             wrong += 1
-            at = next((at for at, (one, other) in enumerate(zip(came, lines)) if one != other), min(len(came), len(lines)))
+            at = next(
+                (at for at, (one, other) in enumerate(zip(came, lines)) if one != other), min(len(came), len(lines))
+            )
             print(f"{name}: line {at + 1}: {came[at : at + 1]} for {lines[at : at + 1]}")
     print(f"{number} lives, {wrong} differ")
     return 1 if wrong else 0

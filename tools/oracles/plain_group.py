@@ -1,29 +1,41 @@
-#!/usr/bin/env python3
 """A plain player of link sets' scripts, written apart from the program: to hold `mtp2_play play standard` against.
 
-usage: tools/oracles/plain_group.py SCRIPT            prints the lines that play prints for it on the set `standard`, and ends with its status
-       tools/oracles/plain_group.py --table FILE      plays each entry of a table of scripts, and ends with status 1 where one prints something else
+usage: tools/oracles/plain_group.py SCRIPT
+           prints the lines that play prints for it on the set `standard`, and ends with its status
+       tools/oracles/plain_group.py --table FILE
+           plays each entry of a table of scripts, and ends with status 1 where one prints something else
 
-The terminals are those of plain_term.py, which plays the scripts of other kinds too. Load sharing and changeover (Q.704) are on whole lists: what a link
-holds is counted anew each time that it is asked for.
+The terminals are those of plain_term.py, which plays the scripts of other kinds too. Load sharing and changeover
+(Q.704) are on whole lists: what a link holds is counted anew each time that it is asked for.
 
-A table is written as plain_term.py says. `<UP N>` as a line is the way into service of links 0 to N - 1, all at once; link 0 is spoken of behind it."""
+A table is written as plain_term.py says. `<UP N>` as a line is the way into service of links 0 to N - 1, all at once;
+link 0 is spoken of behind it."""
 import pathlib
 import sys
 
-sys.path += map(str, pathlib.Path(__file__).resolve().parents[1].glob("*"))
-
-import plain_term
-from plain_term import ROOT, BadLine, Failed, Refused, Terminal, copied, do, is_terminal, octets_in, spoken, wanted, whole
-from plain_term import command as terminal_command
-from plain_check import Refusal, check
-from plain_play import LONGEST, number
+from tools.oracles import plain_term
+from tools.oracles.plain_check import Refusal, check
+from tools.oracles.plain_play import LONGEST, number
+from tools.oracles.plain_term import ROOT, BadLine, Failed, Refused, Terminal
+from tools.oracles.plain_term import command as terminal_command
+from tools.oracles.plain_term import copied, do, octets_in, spoken, wanted, whole
 
 TEXT = ROOT / "examples" / "standard.sdl"
 OWN, OTHER = 1, 2
 COO, COA, ECO, ECA = 0x11, 0x21, 0x12, 0x22
-# What stands behind the label of a message that is bound to a link, by its service indicator and heading: how many octets, or None for a pattern.
-BOUND = {(0, COO): 1, (0, COA): 1, (0, ECO): 0, (0, ECA): 0, (0, 0x51): 1, (0, 0x61): 1, (0, 0x17): 0, (1, 0x11): None, (1, 0x21): None}
+# What stands behind the label of a message that is bound to a link, by its service indicator and heading: how many
+# octets, or None for a pattern.
+BOUND = {
+    (0, COO): 1,
+    (0, COA): 1,
+    (0, ECO): 0,
+    (0, ECA): 0,
+    (0, 0x51): 1,
+    (0, 0x61): 1,
+    (0, 0x17): 0,
+    (1, 0x11): None,
+    (1, 0x21): None,
+}
 PATIENCE, MOST_KEPT, MOST_UNSURE = 1400, 1151, 2**64 - 1
 
 
@@ -46,7 +58,8 @@ def selection_of(message):
 
 
 def is_bound(message, own, peer):
-    """Whether a message, from its service information octet on, belongs to its link alone and goes from one point to the other."""
+    """Whether a message, from its service information octet on, belongs to its link alone and goes from one point to
+    the other."""
     if len(message) < 6 or label_of(message[1:])[:2] != (peer, own):
         return False
     indicator, heading, rest = message[0] % 16, message[5], message[6:]
@@ -59,7 +72,8 @@ def is_bound(message, own, peer):
 
 
 def changeover_in(sif):
-    """The label of a message of changeover, its heading and, but for the emergency ones, the number; None for anything else."""
+    """The label of a message of changeover, its heading and, but for the emergency ones, the number; None for anything
+    else."""
     if len(sif) == 6 and sif[4] in (COO, COA):
         return label_of(sif), sif[4], sif[5] % 128
     if len(sif) == 5 and sif[4] in (ECO, ECA):
@@ -77,11 +91,13 @@ class Link(Terminal):
         super().__init__(text, cyclic, *limits)
         self.serves = self.came = self.served = self.anew = self.failed = self.far_out = False
         self.admitted, self.is_to_clear = True, False
-        # Its changeover: the place up to which messages were accepted as the other end told, whether any answer came, and ticks since it began.
+        # Its changeover: the place up to which messages were accepted as the other end told, whether any answer came,
+        # and ticks since it began.
         self.changing, self.told, self.answered, self.waited, self.out = False, None, False, 0, False
         # What it handed out in that and isn't diverted yet.
         self.hand = []
-        # Behind the beginning of its last changeover: whether there was one, and the ticks since it last came into service then.
+        # Behind the beginning of its last changeover: whether there was one, and the ticks since it last came into
+        # service then.
         self.had_one, self.since = False, None
         self.points = OWN, OTHER
 
@@ -139,17 +155,26 @@ class Link(Terminal):
         return any(selection_of(it) == selection and not self.is_own(it) for it in self.held())
 
     def hold(self):
-        """No message goes or comes until both directions begin anew, and not before the hand of a changeover that goes on was taken out."""
+        """No message goes or comes until both directions begin anew, and not before the hand of a changeover that goes
+        on was taken out."""
         self.is_held, self.stays_held = True, self.changing and not self.out
 
     def begin(self):
         if not self.changing:
-            self.changing, self.told, self.answered, self.waited, self.out, self.failed = True, None, False, 0, False, True
+            self.changing, self.told, self.answered, self.waited, self.out, self.failed = (
+                True,
+                None,
+                False,
+                0,
+                False,
+                True,
+            )
             self.had_one, self.since = True, None
             self.hold()
 
     def tell(self, fsn):
-        """An answer came, with a number or without one: the first number that can be stays, as the place in the store that it means now."""
+        """An answer came, with a number or without one: the first number that can be stays, as the place in the store
+        that it means now."""
         if self.changing and not self.out:
             self.answered = True
             count = None if fsn is None else self.acknowledged_by(fsn)
@@ -177,7 +202,8 @@ class Link(Terminal):
         return None
 
     def hand_out(self):
-        """Hands out the messages that the other end may lack; without a number those that were never sent. How many there are."""
+        """Hands out the messages that the other end may lack; without a number those that were never sent. How many
+        there are."""
         sender, count, were_out = self.sender, self.known(), self.sent() > 0
         hand = sender.all[sender.sent :] if count is None else sender.all[sender.acknowledged + count :]
         sender.acknowledged += count or 0
@@ -212,18 +238,29 @@ class Group:
         return self.links[at]
 
     def chosen(self, ways):
-        """The links of the first of these ways that has one: first of those without an outage, then of those with one."""
+        """The links of the first of these ways that has one: first of those without an outage, then of those with
+        one."""
         for outage in (False, True):
             for way in ways:
-                found = [at for at, link in enumerate(self.links) if link.admitted and link.is_able() and link.has_outage() == outage and way(at, link)]
+                found = [
+                    at
+                    for at, link in enumerate(self.links)
+                    if link.admitted and link.is_able() and link.has_outage() == outage and way(at, link)
+                ]
                 if found:
                     return found
         return []
 
     def for_hand(self, failed):
-        """The links that take the hand of one that failed: others that never failed, others out of changeover, itself."""
-        return self.chosen([lambda at, link: not link.failed and not link.changing, lambda at, link: at != failed and not link.changing,
-                            lambda at, link: at == failed])
+        """The links that take the hand of one that failed: others that never failed, others out of changeover,
+        itself."""
+        return self.chosen(
+            [
+                lambda at, link: not link.failed and not link.changing,
+                lambda at, link: at != failed and not link.changing,
+                lambda at, link: at == failed,
+            ]
+        )
 
     def pick(self, links, selection):
         return links[selection % len(links)] if links else None
@@ -399,8 +436,13 @@ class Group:
     def shown(self, at):
         """What a link is."""
         link = self.link(at)
-        words = ["in service" if link.serves else "out of service", *(["failed"] if link.failed else []), *(["held"] if link.is_held else []),
-                 *([f"changeover {link.waited}"] if link.changing else []), *([] if link.admitted else ["not admitted"])]
+        words = [
+            "in service" if link.serves else "out of service",
+            *(["failed"] if link.failed else []),
+            *(["held"] if link.is_held else []),
+            *([f"changeover {link.waited}"] if link.changing else []),
+            *([] if link.admitted else ["not admitted"]),
+        ]
         return ", ".join(words)
 
 
@@ -478,7 +520,9 @@ class Player:
             group.divert(at)
             return "ok"
         if word == "table":
-            return ", ".join(f"{selection} {'-' if link is None else link}" for selection, link in enumerate(group.table))
+            return ", ".join(
+                f"{selection} {'-' if link is None else link}" for selection, link in enumerate(group.table)
+            )
         if word == "link":
             return group.shown(at)
         if word == "held":
@@ -567,7 +611,11 @@ def all_whole(line):
     links = links_up(line)
     if links is None:
         return whole(line)
-    begin = [it for at in range(links) for it in (f"on {at}", "command power", "command start", "unit FFFF0100", "unit FFFF0101")]
+    begin = [
+        it
+        for at in range(links)
+        for it in (f"on {at}", "command power", "command start", "unit FFFF0100", "unit FFFF0101")
+    ]
     return [*begin, "tick 8200", *(it for at in range(links) for it in (f"on {at}", "unit FFFF00")), "on 0"]
 
 
@@ -582,7 +630,12 @@ def entries(table):
     for part in table.split("\n== ")[1:]:
         name, rest = part.split("\n", 1)
         script, lines = ("\n" + rest).split("\n--\n")
-        lines = [it for line in copied(lines).strip("\n").split("\n") for it in all_wanted(line) if it and not it.startswith("#")]
+        lines = [
+            it
+            for line in copied(lines).strip("\n").split("\n")
+            for it in all_wanted(line)
+            if it and not it.startswith("#")
+        ]
         status = int(lines.pop()[5:]) if lines and lines[-1].startswith("exit ") else 0
         script = "\n".join(it for line in copied(script[1:]).split("\n") for it in all_whole(line))
         yield name, name.split(":")[0], script.replace("<CR>", "\r").replace("<TAB>", "\t"), lines, status
@@ -595,8 +648,13 @@ def played(file):
         ended = play(word, script.encode(), said.append)
         if (said, ended) != (lines, status):
             wrong += 1
-            differs = next((at for at, (one, other) in enumerate(zip(said, lines)) if one != other), min(len(said), len(lines)))
-            print(f"{name}: line {differs + 1}: {said[differs : differs + 1]} for {lines[differs : differs + 1]}, status {ended} for {status}")
+            differs = next(
+                (at for at, (one, other) in enumerate(zip(said, lines)) if one != other), min(len(said), len(lines))
+            )
+            print(
+                f"{name}: line {differs + 1}: {said[differs : differs + 1]} for {lines[differs : differs + 1]}, "
+                f"status {ended} for {status}"
+            )
     print(f"{total} scripts, {wrong} differ")
     return 1 if wrong else 0
 

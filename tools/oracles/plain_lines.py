@@ -1,23 +1,25 @@
-#!/usr/bin/env python3
-"""Two plain terminals (plain_term.py) whose lines are tied together: makes the runs of examples/links/runs.txt on the same bits of noise, and prints the lines that
-the program `trials` has to print for them. Nothing of the program is read but the octets of a message.
+"""Two plain terminals (plain_term.py) whose lines are tied together: makes the runs of examples/links/runs.txt on the
+same bits of noise, and prints the lines that the program `trials` has to print for them. Nothing of the program is read
+but the octets of a message.
 
 usage: tools/oracles/plain_lines.py                                             the runs of examples/links/runs.txt
        tools/oracles/plain_lines.py MODE SEED RATE MESSAGES GIVEN UNITS         one run"""
-import pathlib
 import re
 import sys
 
-sys.path += map(str, pathlib.Path(__file__).resolve().parents[1].glob("*"))
-
-from plain_play import Refused
-from plain_term import FLAG, ROOT, Terminal, bits_of, check_octets, octets_of, stuffed
+from tools.oracles.plain_term import FLAG, ROOT, Terminal, bits_of, check_octets, octets_of, stuffed
 
 RUNS = ROOT / "examples" / "links" / "runs.txt"
 SOURCE = ROOT / "crates" / "trials" / "src"
 TEXT = (ROOT / "examples" / "standard.sdl").read_bytes()
 MOST_KEPT, MOST_ROUNDS, ALIGNING = 400, 5000, 900
-FILLER = bytes(int(it, 16) for it in re.search(r"FILLER.*?= \[(.*?)\]", (SOURCE / "end.rt").read_text(), re.S)[1].replace("0x", "").replace(",", " ").split())
+FILLER = bytes(
+    int(it, 16)
+    for it in re.search(r"FILLER.*?= \[(.*?)\]", (SOURCE / "end.rt").read_text(), re.S)[1]
+    .replace("0x", "")
+    .replace(",", " ")
+    .split()
+)
 
 
 def table():
@@ -63,7 +65,8 @@ class Far(Terminal):
 
 
 class End:
-    """One end. It keeps a list of all that went out and of all that came, with the spell; the figures are counted from the lists."""
+    """One end. It keeps a list of all that went out and of all that came, with the spell; the figures are counted from
+    the lists."""
 
     def __init__(self, mode):
         self.terminal = Far(TEXT, mode == "cyclic")
@@ -123,7 +126,8 @@ def message(number):
 
 
 def order(came, numbers):
-    """The line that says whether each spell's messages came in order, from the list of those that came; how many came for the first time, and how many not."""
+    """The line that says whether each spell's messages came in order, from the list of those that came; how many came
+    for the first time, and how many not."""
     seen, twice, before = 0, 0, {}
     wrong = None
     for down, spell, content in came:
@@ -153,7 +157,10 @@ def sendings(went, numbers):
 def way(name, one, other, numbers):
     sent, again, anew = sendings(one.went, numbers)
     line, delivered, twice = order(other.came, numbers)
-    print(f"{name}: sent {sent}, delivered {delivered}, retransmitted {again}, anew {anew}, delivered twice over spells {twice}, spells {other.spells}")
+    print(
+        f"{name}: sent {sent}, delivered {delivered}, retransmitted {again}, anew {anew}, delivered twice over "
+        f"spells {twice}, spells {other.spells}"
+    )
     print(line)
 
 
@@ -161,7 +168,10 @@ def make(mode, seed, rate, messages, given, units):
     noise, left, right = Noise(seed), End(mode), End(mode)
     numbers = {message(it): it for it in range(messages)}
     for _ in range(MOST_ROUNDS):
-        if min(len({it for _, _, it in end.came}) if len(end.came) >= messages else 0 for end in (left, right)) >= messages:
+        if (
+            min(len({it for _, _, it in end.came}) if len(end.came) >= messages else 0 for end in (left, right))
+            >= messages
+        ):
             break
         for end in (left, right):
             end.give(given, messages)
@@ -173,7 +183,10 @@ def make(mode, seed, rate, messages, given, units):
             end.terminal.tick(ticks)
         for end in (left, right):
             end.read()
-    print(f"{mode} seed {seed} rate {rate}: {messages} messages each way, {given} given and {units} units a round, {noise.damaged} bits damaged")
+    print(
+        f"{mode} seed {seed} rate {rate}: {messages} messages each way, {given} given and {units} units a round, "
+        f"{noise.damaged} bits damaged"
+    )
     way("left to right", left, right, numbers)
     way("right to left", right, left, numbers)
     sys.stdout.flush()

@@ -1,19 +1,56 @@
-"""M3UA (RFC 4666), plainly: messages of a stream, their parameters, what a message is refused for, protocol data and MTP messages, and the table of
-a signalling gateway with one ASP and one AS. It was written from the RFC, apart from the crates `m3ua_frames` and `m3ua_gateway`.
+"""M3UA (RFC 4666), plainly: messages of a stream, their parameters, what a message is refused for, protocol data and
+MTP messages, and the table of a signalling gateway with one ASP and one AS. It was written from the RFC, apart from the
+crates `m3ua_frames` and `m3ua_gateway`.
 
-usage: tools/oracles/plain_m3ua.py     reads lines as the program `trials_m3ua` does, and prints what it has to print"""
+usage: tools/oracles/plain_m3ua     reads lines as the program `trials_m3ua` does, and prints what it has to print"""
 import struct
 import sys
 
-NAMES = {(0, 0): "ERR", (0, 1): "NTFY", (1, 1): "DATA", (2, 1): "DUNA", (2, 2): "DAVA", (2, 3): "DAUD", (2, 4): "SCON", (2, 5): "DUPU", (2, 6): "DRST",
-         (3, 1): "ASPUP", (3, 2): "ASPDN", (3, 3): "BEAT", (3, 4): "ASPUP ACK", (3, 5): "ASPDN ACK", (3, 6): "BEAT ACK",
-         (4, 1): "ASPAC", (4, 2): "ASPIA", (4, 3): "ASPAC ACK", (4, 4): "ASPIA ACK",
-         (9, 1): "REG REQ", (9, 2): "REG RSP", (9, 3): "DEREG REQ", (9, 4): "DEREG RSP"}
+NAMES = {
+    (0, 0): "ERR",
+    (0, 1): "NTFY",
+    (1, 1): "DATA",
+    (2, 1): "DUNA",
+    (2, 2): "DAVA",
+    (2, 3): "DAUD",
+    (2, 4): "SCON",
+    (2, 5): "DUPU",
+    (2, 6): "DRST",
+    (3, 1): "ASPUP",
+    (3, 2): "ASPDN",
+    (3, 3): "BEAT",
+    (3, 4): "ASPUP ACK",
+    (3, 5): "ASPDN ACK",
+    (3, 6): "BEAT ACK",
+    (4, 1): "ASPAC",
+    (4, 2): "ASPIA",
+    (4, 3): "ASPAC ACK",
+    (4, 4): "ASPIA ACK",
+    (9, 1): "REG REQ",
+    (9, 2): "REG RSP",
+    (9, 3): "DEREG REQ",
+    (9, 4): "DEREG RSP",
+}
 NUMBERS = {name: pair for pair, name in NAMES.items()}
-INFO, CONTEXT, DIAGNOSTIC, HEARTBEAT, MODE, CODE, STATUS, IDENTIFIER, AFFECTED, CORRELATION = 4, 6, 7, 9, 11, 12, 13, 17, 18, 19
-NETWORK, USER, CONGESTION, CONCERNED, KEY, REGISTRATION, DEREGISTRATION, LOCAL, PROTOCOL = 0x200, 0x204, 0x205, 0x206, 0x207, 0x208, 0x209, 0x20A, 0x210
-MANDATORY = {"ERR": [CODE], "NTFY": [STATUS], "DATA": [PROTOCOL], "DUNA": [AFFECTED], "DAVA": [AFFECTED], "DAUD": [AFFECTED], "SCON": [AFFECTED], "DRST": [AFFECTED],
-             "DUPU": [AFFECTED, USER], "REG REQ": [KEY], "REG RSP": [REGISTRATION], "DEREG REQ": [CONTEXT], "DEREG RSP": [DEREGISTRATION]}
+INFO, CONTEXT, DIAGNOSTIC, HEARTBEAT, MODE, CODE = 4, 6, 7, 9, 11, 12
+STATUS, IDENTIFIER, AFFECTED, CORRELATION = 13, 17, 18, 19
+NETWORK, USER, CONGESTION, CONCERNED, KEY = 0x200, 0x204, 0x205, 0x206, 0x207
+REGISTRATION, DEREGISTRATION, LOCAL, PROTOCOL = 0x208, 0x209, 0x20A, 0x210
+MANDATORY = {
+    "ERR": [CODE],
+    "NTFY": [STATUS],
+    "DATA": [PROTOCOL],
+    "DUNA": [AFFECTED],
+    "DAVA": [AFFECTED],
+    "DAUD": [AFFECTED],
+    "SCON": [AFFECTED],
+    "DRST": [AFFECTED],
+    "DUPU": [AFFECTED, USER],
+    "REG REQ": [KEY],
+    "REG RSP": [REGISTRATION],
+    "DEREG REQ": [CONTEXT],
+    "DEREG RSP": [DEREGISTRATION],
+}
 HEADER, MOST = 8, 4096
 
 
@@ -102,7 +139,8 @@ def protocol_of(msu):
 
 
 def items(stream):
-    """What stands on a stream, by the lengths in the headers alone: messages, headers of what is too long, or one that is broken."""
+    """What stands on a stream, by the lengths in the headers only: messages, headers of what is too long, or a
+    broken one."""
     while len(stream) >= HEADER:
         told = struct.unpack(">I", stream[4:8])[0]
         if told < HEADER:
@@ -118,10 +156,12 @@ def items(stream):
 
 
 class Gateway:
-    """One ASP in one AS (4.3). What a call answers is a list of what is sent: names of messages, with a code or a state where they have one."""
+    """One ASP in one AS (4.3). What a call answers is a list of what is sent: names of messages, with a code or a state
+    where they have one."""
 
     def __init__(self, context=0):
-        self.context, self.asp, self.server, self.taken, self.refused, self.kept, self.lost = context, "DOWN", "DOWN", [], 0, [], 0
+        self.context, self.asp, self.server = context, "DOWN", "DOWN"
+        self.taken, self.refused, self.kept, self.lost = [], 0, [], 0
 
     def serves(self, state):
         """The AS comes to a state: an ASP that isn't down is told of it (4.3.4.5)."""
@@ -213,8 +253,27 @@ class Gateway:
 
 
 # ---- as the program trials_m3ua prints them
-SHOWN = [INFO, CONTEXT, DIAGNOSTIC, HEARTBEAT, MODE, CODE, STATUS, IDENTIFIER, AFFECTED, CORRELATION, NETWORK, USER, CONGESTION, CONCERNED, KEY, REGISTRATION,
-         DEREGISTRATION, LOCAL, PROTOCOL]
+SHOWN = [
+    INFO,
+    CONTEXT,
+    DIAGNOSTIC,
+    HEARTBEAT,
+    MODE,
+    CODE,
+    STATUS,
+    IDENTIFIER,
+    AFFECTED,
+    CORRELATION,
+    NETWORK,
+    USER,
+    CONGESTION,
+    CONCERNED,
+    KEY,
+    REGISTRATION,
+    DEREGISTRATION,
+    LOCAL,
+    PROTOCOL,
+]
 
 
 def told(kind, octets):
@@ -230,7 +289,8 @@ def told(kind, octets):
     if name == "DATA":
         fields = protocol(first(found, PROTOCOL))
         msu = message(fields)
-        lines.append("  opc %d dpc %d si %d ni %d mp %d sls %d octets %d" % (*fields[:6], len(fields[6])) + (" no message" if msu is None else " " + msu.hex().upper()))
+        label = "  opc %d dpc %d si %d ni %d mp %d sls %d octets %d" % (*fields[:6], len(fields[6]))
+        lines.append(label + (" no message" if msu is None else " " + msu.hex().upper()))
     return lines
 
 

@@ -1,18 +1,16 @@
-#!/usr/bin/env python3
-"""Two plain link sets (plain_group.py) back to back: makes the runs of examples/links/pairs.txt by the rules of crates/trials_groups/src/schedule.rt, and prints the
-lines that the program `trials` has to print for them. What was sent and what came stands in lists, from which all is counted at the end.
+"""Two plain link sets (plain_group.py) back to back: makes the runs of examples/links/pairs.txt by the rules of
+crates/trials_groups/src/schedule.rt, and prints the lines that the program `trials` has to print for them. What was
+sent and what came stands in lists, from which all is counted at the end.
 
-usage: tools/oracles/plain_pairs.py                                    the runs of examples/links/pairs.txt, but for the late ones
+usage: tools/oracles/plain_pairs.py
+           the runs of examples/links/pairs.txt, but for the late ones
        tools/oracles/plain_pairs.py MODE LINKS SEED MESSAGES LOST [late]      one run"""
-import pathlib
 import sys
 
-sys.path += map(str, pathlib.Path(__file__).resolve().parents[1].glob("*"))
-
-from plain_group import Group, Link, label_of, labelled
-from plain_lines import Far
-from plain_play import Refused
-from plain_term import FLAG, ROOT, bits_of, check_octets, octets_of, stuffed
+from tools.oracles.plain_group import Group, Link, label_of, labelled
+from tools.oracles.plain_lines import Far
+from tools.oracles.plain_play import Refused
+from tools.oracles.plain_term import FLAG, ROOT, bits_of, check_octets, octets_of, stuffed
 
 RUNS = ROOT / "examples" / "links" / "pairs.txt"
 TEXT = (ROOT / "examples" / "standard.sdl").read_bytes()
@@ -276,16 +274,26 @@ def show(mode, links, seed, messages, lost, late=False):
     pair = Pair(mode, links, seed, messages, lost, late)
     ended = pair.make()
     if late:
-        print(f"{mode} links {links} seed {seed} lost {lost} late: {messages} messages each way" + ("" if ended else "\n  NOT DONE"))
+        print(
+            f"{mode} links {links} seed {seed} lost {lost} late: {messages} messages each way"
+            + ("" if ended else "\n  NOT DONE")
+        )
         for name, (one, other) in zip(("near to far", "far to near"), pair.ends()):
             said = verdict(one, other)
             print(f"  {name}: {said if said.startswith('WRONG') else 'each once or unsure, in order'}", flush=True)
         return
-    print(f"{mode} links {links} seed {seed} lost {lost}: {messages} messages each way, {pair.cuts} cuts, {pair.orders} messages of changeover, {pair.losses} lost")
+    print(
+        f"{mode} links {links} seed {seed} lost {lost}: {messages} messages each way, {pair.cuts} cuts, "
+        f"{pair.orders} messages of changeover, {pair.losses} lost"
+    )
     if not ended:
         print("  NOT DONE")
     for name, (one, other) in zip(("near to far", "far to near"), pair.ends()):
-        print(f"  {name}: sent {len(one.sent)}, arrived {len(other.came)}, unsure {one.set.unsure}: {verdict(one, other)}", flush=True)
+        print(
+            f"  {name}: sent {len(one.sent)}, arrived {len(other.came)}, unsure {one.set.unsure}: "
+            f"{verdict(one, other)}",
+            flush=True,
+        )
 
 
 def table():

@@ -1,18 +1,15 @@
-#!/usr/bin/env python3
 """A plain player of book scripts, written apart from the program: to hold `mtp2_play play` against.
 
 usage: tools/oracles/plain_play.py TEXT SCRIPT     prints the lines that play prints for them, and ends with its status
 
-It goes through the statements of the text themselves, knows no instruction, and has no proofs. It reads texts by plain_check.py. A set is
-a text alone, and scripts of terminals aren't played (plain_term.py does)."""
+It goes through the statements of the text themselves, knows no instruction, and has no proofs. It reads texts by
+plain_check.py. A set is a text alone, and scripts of terminals aren't played (plain_term.py does)."""
 import pathlib
 import re
 import sys
 
-sys.path += map(str, pathlib.Path(__file__).resolve().parents[1].glob("*"))
-
-from plain_check import P, Refusal, check, lex, lo
-from plain_turn import GREATEST, LEAST, Refused, constant, Turn
+from tools.oracles.plain_check import P, Refusal, check, lex, lo
+from tools.oracles.plain_turn import GREATEST, LEAST, Refused, Turn, constant
 
 LONGEST = 262144
 RANGES = {"ports": (1, 64), "env": (1, 1024), "journal": (16, 65536)}
@@ -76,7 +73,9 @@ class Book:
         processes = [Process(it[1], self.signals) for it in entities if it[0] == "process"]
         self.actors = [Actor(it, number) for it in processes for number in range(1, it.instances + 1)]
         party = lambda it: it if it == "ENV" else lo(it)
-        self.paths = [(party(a), party(b), lo(s)) for it in entities if it[0] == "route" for a, b, ss in it[2] for s in ss]
+        self.paths = [
+            (party(a), party(b), lo(s)) for it in entities if it[0] == "route" for a, b, ss in it[2] for s in ss
+        ]
         self.ports, self.room, self.journal = ports, env, journal
         self.timers, self.clock, self.ring, self.events = {}, 0, [], 0
 
@@ -308,7 +307,13 @@ def do(book, word, *rest):
     actor = book.actor(rest[0])
     if word == "value":
         return shown(actor.variables.get(rest[1].lower()))
-    return "STOPPED" if actor.place is None else actor.place if actor.place == "START" else actor.process.states[actor.place][0]
+    return (
+        "STOPPED"
+        if actor.place is None
+        else actor.place
+        if actor.place == "START"
+        else actor.process.states[actor.place][0]
+    )
 
 
 def play(text, script, say):

@@ -1,9 +1,10 @@
-"""The lines that point at the refusal of a text, by the place that the plain checker names and the reasons of plain_reasons.py."""
+"""The lines that point at the refusal of a text, by the place that the plain checker names and the reasons of
+plain_reasons.py."""
 import re
 
-from plain_check import Refusal, check
-from plain_reader import P, lex, line_of
-from plain_reasons import off_at, reasons
+from tools.oracles.plain_check import Refusal, check
+from tools.oracles.plain_reader import P, lex, line_of
+from tools.oracles.plain_reasons import off_at, reasons
 
 LONGEST = 262144
 # A token from its first octet on.
@@ -56,7 +57,11 @@ def points(name, text):
     width = max(1, len(text[place : min(last, end)].decode(errors="ignore")))
     margin = " " * len(line)
     blanks = "".join(it if it == "\t" else " " for it in before)
-    shown = [head, f"{line} | {CONTROL.sub(' ', text[begin:end].decode())}", f"{margin} | {blanks}{'^' * width}{behind(' ', under)}"]
+    shown = [
+        head,
+        f"{line} | {CONTROL.sub(' ', text[begin:end].decode())}",
+        f"{margin} | {blanks}{'^' * width}{behind(' ', under)}",
+    ]
     return shown + ([f"{margin} = {hint}"] if hint else [])
 
 

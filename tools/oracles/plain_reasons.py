@@ -1,16 +1,56 @@
-"""What is said of a refused text beside its place: what is wrong there, what the word is, and what could be written. Written apart from the program, by the tree of
-plain_reader.py and the rules of docs/process-texts.md."""
+"""What is said of a refused text beside its place: what is wrong there, what the word is, and what could be written.
+Written apart from the program, by the tree of plain_reader.py and the rules of docs/process-texts.md."""
 import re
 
-from plain_reader import P, Refusal, lex, line_of
+from tools.oracles.plain_reader import P, Refusal, lex, line_of
 
 OPERANDS = ["NOT", "(", "-", "TRUE", "FALSE", "name", "num"]
 STATEMENTS = ["TASK", "OUTPUT", "SET", "RESET", "DECISION", "NEXTSTATE", "STOP", "JOIN"]
 OPERATORS = ["=", "/=", "<", "<=", ">", ">=", "+", "-", "*", "/", "MOD", "REM", "AND", "OR", "XOR"]
 # What may be wanted, in the order in which it is told.
-KINDS = ["NOT", "(", "-", "TRUE", "FALSE", "NOW", "name", "num", "text", *STATEMENTS, *(it for it in OPERATORS if it != "-"), ";", ",", ":", ":=", ")",
-         "BLOCK", "ENDBLOCK", "SIGNAL", "SIGNALROUTE", "FROM", "TO", "WITH", "ENV", "CONNECT", "PROCESS", "ENDPROCESS", "DCL", "TIMER", "START", "STATE",
-         "ENDSTATE", "INPUT", "SAVE", "CONNECTION", "ENDCONNECTION", "SENDER", "ELSE", "ENDDECISION", "INTEGER", "BOOLEAN"]
+KINDS = [
+    "NOT",
+    "(",
+    "-",
+    "TRUE",
+    "FALSE",
+    "NOW",
+    "name",
+    "num",
+    "text",
+    *STATEMENTS,
+    *(it for it in OPERATORS if it != "-"),
+    ";",
+    ",",
+    ":",
+    ":=",
+    ")",
+    "BLOCK",
+    "ENDBLOCK",
+    "SIGNAL",
+    "SIGNALROUTE",
+    "FROM",
+    "TO",
+    "WITH",
+    "ENV",
+    "CONNECT",
+    "PROCESS",
+    "ENDPROCESS",
+    "DCL",
+    "TIMER",
+    "START",
+    "STATE",
+    "ENDSTATE",
+    "INPUT",
+    "SAVE",
+    "CONNECTION",
+    "ENDCONNECTION",
+    "SENDER",
+    "ELSE",
+    "ENDDECISION",
+    "INTEGER",
+    "BOOLEAN",
+]
 ENTITIES = {"SIGNAL", "SIGNALROUTE", "CONNECT", "PROCESS"}
 CLOSED = {"ENDBLOCK": "BLOCK", "ENDPROCESS": "PROCESS", "ENDSTATE": "STATE", "ENDCONNECTION": "CONNECTION"}
 # Of a text with more tokens the head of its block and the last signals, route or process tell what is wanted.
@@ -31,6 +71,7 @@ def joined(names, word):
 
 # ---- P1
 
+
 def goes_on(row):
     """Whether a text begins with these tokens."""
     reader = P(b"", row)
@@ -47,8 +88,16 @@ def wanted(tokens, index):
     if len(row) > WHOLE:
         begins = max((at for at, it in enumerate(row) if it[0] in ENTITIES), default=0)
         row = row[: [it[0] for it in row].index(";") + 1] + row[begins:] if begins else row
-    kinds = [it for it in KINDS if goes_on([*row, (it, "Some_other_name_0" if it == "name" else 2147483646 if it == "num" else None, 0)])]
-    groups = [(name, members) for name, members in [("an expression", OPERANDS), ("a statement", STATEMENTS), ("an operator", OPERATORS)] if set(members) <= set(kinds)]
+    kinds = [
+        it
+        for it in KINDS
+        if goes_on([*row, (it, "Some_other_name_0" if it == "name" else 2147483646 if it == "num" else None, 0)])
+    ]
+    groups = [
+        (name, members)
+        for name, members in [("an expression", OPERANDS), ("a statement", STATEMENTS), ("an operator", OPERATORS)]
+        if set(members) <= set(kinds)
+    ]
     in_groups = {it for _, members in groups for it in members}
     number = "a number of 1 or more" if index < len(tokens) and tokens[index][0] == "num" else "a number"
     named = {"name": "a name", "num": number, "text": "a quoted text"}
@@ -103,14 +152,18 @@ def unexpected(text, at):
     if index == len(tokens):
         return "the text ends here", f"{here} is wanted behind it", ""
     kind, _, _, own = tokens[index]
-    called = {"name": f"the name {own}", "num": "a number", "text": "a quoted text"}.get(kind, f"the reserved word {own}" if kind.isalpha() else f"`{own}`")
+    called = {"name": f"the name {own}", "num": "a number", "text": "a quoted text"}.get(
+        kind, f"the reserved word {own}" if kind.isalpha() else f"`{own}`"
+    )
     return f"{called} can't stand here", f"{here} is wanted", ""
 
 
 # ---- names
 
+
 class Names:
-    """All names that a block declares, in the order of the text: what each is, its process if that has names of its own, its spelling and its place."""
+    """All names that a block declares, in the order of the text: what each is, its process if that has names of its
+    own, its spelling and its place."""
 
     def __init__(self, text, block):
         self.text, self.all, self.processes = text, [], [it[1] for it in block if it[0] == "process"]
@@ -243,8 +296,16 @@ def twice(names, at):
         return None
     kind, process, name, _ = own[0]
     clash = {"SIGNAL", "TIMER"} if kind in ("SIGNAL", "TIMER") else {kind}
-    other = next(it for it in names.all if it[3] != at and it[0] in clash and it[2].lower() == name.lower() and it[1] in (None, process))
-    return f"the {kind} {name} has a name that is there already", "", f"{other[2]} is a {other[0]}, line {names.line(other[3])}"
+    other = next(
+        it
+        for it in names.all
+        if it[3] != at and it[0] in clash and it[2].lower() == name.lower() and it[1] in (None, process)
+    )
+    return (
+        f"the {kind} {name} has a name that is there already",
+        "",
+        f"{other[2]} is a {other[0]}, line {names.line(other[3])}",
+    )
 
 
 def passes(act):
@@ -256,7 +317,8 @@ def goes_off(part):
 
 
 def off_answer(text, part):
-    """The place of the answer at which a list of statements runs off its end; none where it does so behind its last statement."""
+    """The place of the answer at which a list of statements runs off its end; none where it does so behind its last
+    statement."""
     if not part[0] or part[0][-1][0] != "decide":
         return None
     _, begin, _, answers, otherwise = part[0][-1]
@@ -291,7 +353,11 @@ def off_at(block, text, at):
 def stray(names, block, text, at):
     word = next(it for it in lex(text) if it[2] == at)[0]
     if word in ("START", "INPUT", "CONNECTION") and off_at(block, text, at) is not None:
-        return "this answer has no end, and nothing stands behind its DECISION", "", "write NEXTSTATE, STOP or JOIN in it, or behind the DECISION"
+        return (
+            "this answer has no end, and nothing stands behind its DECISION",
+            "",
+            "write NEXTSTATE, STOP or JOIN in it, or behind the DECISION",
+        )
     if word in ("START", "INPUT", "CONNECTION"):
         return "this transition has no end", "", "write NEXTSTATE, STOP or JOIN behind its last statement"
     if word == "NEXTSTATE":
@@ -303,6 +369,7 @@ def stray(names, block, text, at):
 
 # ---- sorts, receivers, answers
 
+
 class Process:
     """A process with what its block has of signals and of ways."""
 
@@ -311,7 +378,9 @@ class Process:
         self.signals = {low(name): sorts for it in block if it[0] == "signals" for name, sorts in it[1]}
         self.sorts = {low(name): it[2] for it in process[1] if it[0] == "dcl" for name in it[1]}
         self.timers = {low(name) for it in process[1] if it[0] == "timer" for name in it[1]}
-        self.ways = [(one, other, low(name)) for it in block if it[0] == "route" for one, other, names in it[2] for name in names]
+        self.ways = [
+            (one, other, low(name)) for it in block if it[0] == "route" for one, other, names in it[2] for name in names
+        ]
         self.connections = {low(it[1]): it for it in process[4]}
 
     def lists(self):
@@ -326,12 +395,14 @@ class Process:
 
     def acts(self):
         """Each statement, with what begins its list."""
+
         def within(part):
             for act in part[0]:
                 yield act
                 if act[0] == "decide":
                     for it in bodies(act):
                         yield from within(it)
+
         for begins, part in self.lists():
             for act in within(part):
                 yield begins, act
@@ -359,11 +430,18 @@ def first(tree):
 
 
 def operands(process, tree):
-    """Each operand that is otherwise than its operator wants it, the outer ones first: its place and what is said of it."""
+    """Each operand that is otherwise than its operator wants it, the outer ones first: its place and what is said of
+    it."""
     if tree[0] == "un":
         parts = [("behind", tree[2], "BOOLEAN" if tree[1] == "NOT" else "INTEGER")]
     elif tree[0] == "bin":
-        both = process.sort(tree[2]) if tree[1] in ("=", "/=") else "BOOLEAN" if tree[1] in ("AND", "OR", "XOR") else "INTEGER"
+        both = (
+            process.sort(tree[2])
+            if tree[1] in ("=", "/=")
+            else "BOOLEAN"
+            if tree[1] in ("AND", "OR", "XOR")
+            else "INTEGER"
+        )
         parts = [("left of", tree[2], both), ("right of", tree[3], both)]
     else:
         return
@@ -390,7 +468,9 @@ def wrong_sorts(process):
             yield name[1], f"{name[0]} has {parameters(len(sorts))}", f"{len(places)} given", ""
             for number, (sort, it) in enumerate(zip(sorts, places), 1):
                 if it and process.sorts.get(low(it)) != sort:
-                    yield it[1], f"parameter {number} of {name[0]} is {SORTS[sort]}", f"this is {SORTS[process.sorts.get(low(it))]}", ""
+                    yield it[1], (
+                        f"parameter {number} of {name[0]} is " f"{SORTS[sort]}"
+                    ), f"this is {SORTS[process.sorts.get(low(it))]}", ""
     for _, act in process.acts():
         yield from of_act(process, act)
 
@@ -399,7 +479,8 @@ def of_act(process, act):
     if act[0] == "task":
         for name, tree in act[1]:
             if process.sort(tree) != process.sorts.get(low(name)):
-                yield name[1], f"{name[0]} is {SORTS[process.sorts.get(low(name))]}", f"its value is {SORTS[process.sort(tree)]}", ""
+                has, gets = SORTS[process.sorts.get(low(name))], SORTS[process.sort(tree)]
+                yield name[1], f"{name[0]} is {has}", f"its value is {gets}", ""
             yield from operands(process, tree)
     elif act[0] == "output":
         for name, trees in act[1]:
@@ -408,7 +489,9 @@ def of_act(process, act):
                 yield name[1], f"{name[0]} has {parameters(len(sorts))}", f"{len(trees)} given", ""
             for number, tree in enumerate(trees, 1):
                 if number <= len(sorts) and process.sort(tree) != sorts[number - 1]:
-                    yield first(tree), f"parameter {number} of {name[0]} is {SORTS[sorts[number - 1]]}", f"this is {SORTS[process.sort(tree)]}", ""
+                    yield first(tree), (
+                        f"parameter {number} of {name[0]} is " f"{SORTS[sorts[number - 1]]}"
+                    ), f"this is {SORTS[process.sort(tree)]}", ""
                 yield from operands(process, tree)
     elif act[0] == "set":
         if process.sort(act[1]) != "INTEGER":
@@ -430,6 +513,7 @@ def of_answers(sort, ranges):
 
 def comes(process, part, name):
     """Whether a list comes to the connection with a name."""
+
     def ends(part):
         if part[1] and part[1][0] == "join":
             yield low(part[1][2])
@@ -437,6 +521,7 @@ def comes(process, part, name):
             if act[0] == "decide":
                 for it in bodies(act):
                     yield from ends(it)
+
     seen, left = set(), list(ends(part))
     while left:
         it = left.pop()
@@ -455,14 +540,26 @@ def lost(process, begins, signal):
             return f"the timer {name[0]} has no sender"
         for one, other, brought in process.ways:
             if process.same_party(other, process.name) and brought == low(name):
-                if not any(process.same_party(a, process.name) and process.same_party(b, one) and c == low(signal) for a, b, c in process.ways):
+                if not any(
+                    process.same_party(a, process.name) and process.same_party(b, one) and c == low(signal)
+                    for a, b, c in process.ways
+                ):
                     party = one if one == "ENV" else one[0]
-                    return f"no route carries {signal[0]} from {process.name[0]} back to {party}, which may have sent {name[0]}"
+                    return (
+                        f"no route carries {signal[0]} from {process.name[0]} back to {party}, which may have "
+                        f"sent {name[0]}"
+                    )
     return None
 
 
 def nobody(process, text, at):
-    begins, act, signal = next((begins, act, name) for begins, act in process.acts() if act[0] == "output" for name, _ in act[1] if name[1] == at)
+    begins, act, signal = next(
+        (begins, act, name)
+        for begins, act in process.acts()
+        if act[0] == "output"
+        for name, _ in act[1]
+        if name[1] == at
+    )
     said = f"no route carries {signal[0]} from {process.name[0]}"
     if act[2] is None:
         return said, "", ""
@@ -472,7 +569,11 @@ def nobody(process, text, at):
         return lost(process, begins, signal), "", ""
     for other, part in process.lists():
         if other[0] != "connection" and comes(process, part, low(begins[2])) and lost(process, other, signal):
-            return lost(process, other, signal), "", f"the transition of line {line_of(text, other[1])} comes to CONNECTION {begins[2][0]}"
+            return (
+                lost(process, other, signal),
+                "",
+                f"the transition of line {line_of(text, other[1])} comes to CONNECTION {begins[2][0]}",
+            )
     return None
 
 
@@ -480,10 +581,18 @@ def several(process, at):
     signal = next(name for _, act in process.acts() if act[0] == "output" for name, _ in act[1] if name[1] == at)
     parties = []
     for one, other, brought in process.ways:
-        if process.same_party(one, process.name) and brought == low(signal) and not any(process.same_party(other, it) for it in parties):
+        if (
+            process.same_party(one, process.name)
+            and brought == low(signal)
+            and not any(process.same_party(other, it) for it in parties)
+        ):
             parties.append(other)
     names = [it if it == "ENV" else it[0] for it in parties]
-    return f"routes carry {signal[0]} from {process.name[0]} to {joined(names, 'and')}", "", "write " + joined([f"TO {it[0]}" for it in parties if it != "ENV"], "or")
+    return (
+        f"routes carry {signal[0]} from {process.name[0]} to {joined(names, 'and')}",
+        "",
+        "write " + joined([f"TO {it[0]}" for it in parties if it != "ENV"], "or"),
+    )
 
 
 def unanswered(process, at):
@@ -547,4 +656,9 @@ def reasons(text, why):
     process = Process(block, names.process_at(at))
     if code == "S3":
         return next(tuple(rest) for place, *rest in wrong_sorts(process) if place == at)
-    return {"S5": lambda: nobody(process, text, at), "S6": lambda: several(process, at), "S7": lambda: cycle(process, at), "S8": lambda: unanswered(process, at)}[code]()
+    return {
+        "S5": lambda: nobody(process, text, at),
+        "S6": lambda: several(process, at),
+        "S7": lambda: cycle(process, at),
+        "S8": lambda: unanswered(process, at),
+    }[code]()

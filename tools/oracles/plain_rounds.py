@@ -1,25 +1,25 @@
-#!/usr/bin/env python3
-"""Two plain link sets that tend themselves (plain_tending.py), over plain terminals with the processes of `standard` (plain_term.py), on lines in memory octet by
-octet: plays the scripts of examples/links/rounds.txt, written apart from the program.
+"""Two plain link sets that tend themselves (plain_tending.py), over plain terminals with the processes of `standard`
+(plain_term.py), on lines in memory octet by octet: plays the scripts of examples/links/rounds.txt, written apart from
+the program.
 
-usage: tools/oracles/plain_rounds.py [NAME ..]      the entries whose names begin with one of these words, or all; status 1 where one tells something else
-       tools/oracles/plain_rounds.py --loud NAME    prints what an entry tells, each line with its round"""
+usage: tools/oracles/plain_rounds [NAME ..]
+           the entries whose names begin with one of these words, or all; status 1 where one tells something else
+       tools/oracles/plain_rounds --loud NAME
+           prints what an entry tells, each line with its round"""
 import contextlib
 import functools
-import pathlib
 import sys
 
-sys.path += map(str, pathlib.Path(__file__).resolve().parents[1].glob("*"))
-
-from plain_group import Link, labelled
-from plain_lines import TEXT
-from plain_play import Refused
-from plain_tending import Tender
-from plain_term import FLAG, ROOT, bits_of, check_octets, octets_of, stuffed
-from plain_units import Line, decoded, unstuffed
+from tools.oracles.plain_group import Link, labelled
+from tools.oracles.plain_lines import TEXT
+from tools.oracles.plain_play import Refused
+from tools.oracles.plain_tending import Tender
+from tools.oracles.plain_term import FLAG, ROOT, bits_of, check_octets, octets_of, stuffed
+from tools.oracles.plain_units import Line, decoded, unstuffed
 
 ROUNDS = ROOT / "examples" / "links" / "rounds.txt"
-ONES = b"\xff" * 8  # what goes ahead on a line, and what is heard of one that is silent
+# What goes ahead on a line, and what is heard of one that is silent.
+ONES = b"\xff" * 8
 SILENT = 1_000
 
 
@@ -53,9 +53,12 @@ class Heard(Line):
         if self.window == 0x7E:
             between, flagged, self.bits, self.flagged = self.bits[:-8], self.flagged, [], True
             return events + (self.judged(between) if flagged and between else [])
-        if not self.counting and (self.ones >= 7 or len(self.bits) > 2224 + 7 and len(unstuffed(self.bits[:-7])) > 2224):
+        if not self.counting and (self.ones >= 7 or self.is_long()):
             self.counting, self.counted = True, 0
         return events
+
+    def is_long(self):
+        return len(self.bits) > 2224 + 7 and len(unstuffed(self.bits[:-7])) > 2224
 
     def judged(self, bits):
         unit, was = unit_in(tuple(bits)), self.counting
@@ -149,8 +152,11 @@ class Side:
             for at in links:
                 self.tender.set.link(at)
                 {
-                    "power": lambda at: self.tender.power(at), "start": lambda at: self.tender.stop(at, False), "stop": lambda at: self.tender.stop(at, True),
-                    "outage": lambda at: self.tender.outage(at, True), "back": lambda at: self.tender.outage(at, False),
+                    "power": lambda at: self.tender.power(at),
+                    "start": lambda at: self.tender.stop(at, False),
+                    "stop": lambda at: self.tender.stop(at, True),
+                    "outage": lambda at: self.tender.outage(at, True),
+                    "back": lambda at: self.tender.outage(at, False),
                 }[order](at)
         except Refused as why:
             self.told.append(f"refused {why}")
@@ -160,7 +166,8 @@ class Run:
     """A script's two ends and their lines."""
 
     def __init__(self, links, loud=False):
-        self.links, self.near, self.far, self.loud, self.now = links, Side("near", links, 1, 2), Side("far", links, 2, 1), loud, 0
+        self.near, self.far = Side("near", links, 1, 2), Side("far", links, 2, 1)
+        self.links, self.loud, self.now = links, loud, 0
         self.over, self.back = [ONES] * links, [ONES] * links
         self.cut, self.looped, self.told = set(), None, []
 
@@ -241,7 +248,8 @@ def main(words):
         told, number = told_by(script), number + 1
         if told != lines:
             wrong += 1
-            at = next((at for at, (one, other) in enumerate(zip(told, lines)) if one != other), min(len(told), len(lines)))
+            other = (at for at, (one, other) in enumerate(zip(told, lines)) if one != other)
+            at = next(other, min(len(told), len(lines)))
             print(f"{name}: line {at + 1}: {told[at : at + 3]} for {lines[at : at + 3]}", flush=True)
     print(f"{number} scripts, {wrong} differ")
     return 1 if wrong else 0

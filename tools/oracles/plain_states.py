@@ -1,19 +1,18 @@
-#!/usr/bin/env python3
-"""The state diagram of a process in Graphviz's language, written apart from the program: to hold `mtp2_play draw SET PROCESS --states` against.
+"""The state diagram of a process in Graphviz's language, written apart from the program: to hold `mtp2_play draw SET
+PROCESS --states` against.
 
 usage: tools/oracles/plain_states.py FILE PROCESS     prints what draw prints
 
-A node for START, for each state and each connection; an edge for each two of them, in the order of its first way, with a line for each way; ways from a state to itself
-in its box, those without an effect last and grey, SAVEs first. A connection to which more than two nodes lead is drawn beside each of these. It knows up to 64 ways
-through one transition."""
+A node for START, for each state and each connection; an edge for each two of them, in the order of its first way, with
+a line for each way; ways from a state to itself in its box, those without an effect last and grey, SAVEs first. A
+connection to which more than two nodes lead is drawn beside each of these. It knows up to 64 ways through one
+transition."""
 import itertools
 import pathlib
 import sys
 
-sys.path += map(str, pathlib.Path(__file__).resolve().parents[1].glob("*"))
-
-from plain_check import lo
-from plain_diff import Side, Written
+from tools.oracles.plain_check import lo
+from tools.oracles.plain_diff import Side, Written
 
 HEAD = """digraph {{
   graph [labelloc=t, fontname="DejaVu Sans", fontsize=16, label=<<b>PROCESS {}</b>>];
@@ -26,8 +25,14 @@ INSIDE = '<hr/><tr><td align="left" balign="left"><font point-size="9">{}</font>
 CIRCLE = '{} [shape=circle, fillcolor="#ffffff", margin=0.02, label="{}"];'
 STOPPED = 'x_ [shape=plain, style="", label="X"];'
 END_OF_LINE, GAP = '<br align="left"/>', "&#160;&#160;"
-LOOKS = {"input": ("<b>", "</b>"), "quiet": ('<font color="#888888"><b>', "</b></font>"), "guard": ('<font color="#7a3d00">', "</font>"),
-         "task": ('<font color="#444444">', "</font>"), "output": ('<font color="#1a4fa0">', "</font>"), "save": ("<i>", "</i>")}
+LOOKS = {
+    "input": ("<b>", "</b>"),
+    "quiet": ('<font color="#888888"><b>', "</b></font>"),
+    "guard": ('<font color="#7a3d00">', "</font>"),
+    "task": ('<font color="#444444">', "</font>"),
+    "output": ('<font color="#1a4fa0">', "</font>"),
+    "save": ("<i>", "</i>"),
+}
 WIDTH, MOST_WAYS, MOST_JOINING = 34, 64, 2
 
 
@@ -64,11 +69,15 @@ class Diagram:
         self.nodes = [("start", None, list(self.ways([], self.process[2][1])))]
         for state, clauses in self.side.states(self.process):
             self.nodes.append(("state", state, [it for clause in clauses for it in self.of_clause(clause)]))
-        self.nodes += [("connection", name[0], list(self.ways([], transition))) for _, name, transition in self.process[4]]
+        self.nodes += [
+            ("connection", name[0], list(self.ways([], transition))) for _, name, transition in self.process[4]
+        ]
 
     def of_clause(self, clause):
         if clause[0] == "save":
-            yield [("save", "save"), ("save", ", ".join(self.side.trigger(self.process, it) for it in clause[1]))], ("save",)
+            yield [("save", "save"), ("save", ", ".join(self.side.trigger(self.process, it) for it in clause[1]))], (
+                "save",
+            )
             return
         names = []
         for name, places in clause[2]:
@@ -94,7 +103,9 @@ class Diagram:
             yield from self.gone(before + list(self.words(act)), transition, at + 1)
             return
         question = self.written.value(act[2])
-        bodies = [(", ".join(map(self.written.range, ranges)), body) for ranges, body in act[3]] + ([("ELSE", act[4])] if act[4] is not None else [])
+        bodies = [(", ".join(map(self.written.range, ranges)), body) for ranges, body in act[3]] + (
+            [("ELSE", act[4])] if act[4] is not None else []
+        )
         for answer, body in bodies:
             for words, ended in self.gone([*before, ("guard", f"[{question}: {answer}]")], body):
                 if ended:
@@ -104,7 +115,9 @@ class Diagram:
 
     def words(self, act):
         if act[0] == "task":
-            yield from (("task", f"{self.written.variables[lo(name)]} := {self.written.value(tree)}") for name, tree in act[1])
+            yield from (
+                ("task", f"{self.written.variables[lo(name)]} := {self.written.value(tree)}") for name, tree in act[1]
+            )
             return
         for _, text, _ in self.written.rows(([act], None)):
             yield ("output", text.removeprefix("OUTPUT ")) if act[0] == "output" else ("task", text)
@@ -114,7 +127,11 @@ class Diagram:
             return None
         if end[0] == "stop":
             return ("stop",)
-        return ("state", self.written.states[lo(end[2])]) if end[0] == "next" else ("connection", self.written.connections[lo(end[2])])
+        return (
+            ("state", self.written.states[lo(end[2])])
+            if end[0] == "next"
+            else ("connection", self.written.connections[lo(end[2])])
+        )
 
     def inside(self, name, ways):
         """What stands in the box of a state."""
@@ -128,10 +145,14 @@ class Diagram:
         yield START
         for kind, name, ways in self.nodes[1:]:
             inside = self.inside(name, ways) if kind == "state" else ""
-            yield BOX.format(name, INSIDE.format(inside) if inside else "") if kind == "state" else CIRCLE.format(f"c_{name}", name)
+            yield BOX.format(name, INSIDE.format(inside) if inside else "") if kind == "state" else CIRCLE.format(
+                f"c_{name}", name
+            )
         for kind, name, ways in self.nodes:
             own = {"start": "start", "state": f"s_{name}", "connection": f"c_{name}"}[kind]
-            for end in dict.fromkeys(end for _, end in ways if end != ("save",) and (kind, *end) != ("state", "state", name)):
+            for end in dict.fromkeys(
+                end for _, end in ways if end != ("save",) and (kind, *end) != ("state", "state", name)
+            ):
                 yield from self.edge(own, end, "".join(line(words) for words, other in ways if other == end))
 
     def edge(self, own, end, label):

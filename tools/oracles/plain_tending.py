@@ -1,27 +1,36 @@
-#!/usr/bin/env python3
-"""A plain model of two link sets that tend themselves, written apart from the program: whether the rules by which links are started, tested, changed over and
-shared out lose nothing, send nothing twice and get nothing stuck.
+"""A plain model of two link sets that tend themselves, written apart from the program: whether the rules by which links
+are started, tested, changed over and shared out lose nothing, send nothing twice and get nothing stuck.
 
 usage: tools/oracles/plain_tending.py LINKS SEED SECONDS FAULTS RATE [WORD ..]
 
-Two sets of so many links carry RATE messages a second each way, while for SECONDS faults come, one in FAULTS milliseconds on average (0 for none); 40 seconds without any
-follow. WORDs: `untested` (links carry messages as they come into service), `outages` (processors fail too), `stops` (links are stopped and started by order), `staggered` (all lines
-are cut one after another, for 17 seconds), `loud` (all that is told is printed).
-It prints what was sent and came, twice or out of order, what is lacking, what was told as unsure, and whether both ends are whole at the end; the status is 1 where
-something came twice or out of order, more is lacking than was told as unsure, or an end isn't whole.
+Two sets of so many links carry RATE messages a second each way, while for SECONDS faults come, one in FAULTS
+milliseconds on average (0 for none); 40 seconds without any follow. WORDs: `untested` (links carry messages as they
+come into service), `outages` (processors fail too), `stops` (links are stopped and started by order), `staggered` (all
+lines are cut one after another, for 17 seconds), `loud` (all that is told is printed). It prints what was sent and
+came, twice or out of order, what is lacking, what was told as unsure, and whether both ends are whole at the end; the
+status is 1 where something came twice or out of order, more is lacking than was told as unsure, or an end isn't whole.
 
-The sets are those of plain_group.py. The terminals below them are no texts here: they are as quick as units, and know alignment, units with their numbers, silence, errors
-and outages of processors, no more."""
-import pathlib
+The sets are those of plain_group.py. The terminals below them are no texts here: they are as quick as units, and know
+alignment, units with their numbers, silence, errors and outages of processors, no more."""
 import random
 import sys
 from collections import Counter
 
-sys.path += map(str, pathlib.Path(__file__).resolve().parents[1].glob("*"))
-
-from plain_group import COA, COO, ECA, ECO, Group, Link, changeover_in, is_bound, label_of, labelled, selection_of
-from plain_play import Refused
-from plain_units import Receiver, Sender
+from tools.oracles.plain_group import (
+    COA,
+    COO,
+    ECA,
+    ECO,
+    Group,
+    Link,
+    changeover_in,
+    is_bound,
+    label_of,
+    labelled,
+    selection_of,
+)
+from tools.oracles.plain_play import Refused
+from tools.oracles.plain_units import Receiver, Sender
 
 OCTETS = 8  # of a line in a millisecond
 PROVING, SHORT, ALIGNING, DEAF, ERRORS = 8_200, 500, 25_000, 130, 64
@@ -89,7 +98,11 @@ class Terminal(Link):
         if signal == "LocalOut" and self.phase in ("aligning", "ready", "in"):
             self.own_out, self.paused, self.kind = True, True, 4 if self.phase == "in" else self.kind
         if signal == "LocalBack":
-            self.own_out, self.paused, self.kind = False, self.paused and self.phase == "in", 8 if self.phase == "in" else self.kind
+            self.own_out, self.paused, self.kind = (
+                False,
+                self.paused and self.phase == "in",
+                8 if self.phase == "in" else self.kind,
+            )
         if signal == "Continue" and not self.far_out and not self.own_out:
             self.paused = False
 
@@ -199,7 +212,14 @@ class Line:
 class Care:
     def __init__(self):
         self.powered = self.wanted = self.serves = self.served = self.started = self.stopping = self.outage = False
-        self.rested, self.due, self.owed, self.test, self.tests, self.patience = 0, None, None, ("rests", 0), 0, PATIENCE
+        self.rested, self.due, self.owed, self.test, self.tests, self.patience = (
+            0,
+            None,
+            None,
+            ("rests", 0),
+            0,
+            PATIENCE,
+        )
         self.renewed, self.urgent, self.ordered = False, False, None
 
 
@@ -331,7 +351,11 @@ class Tender:
         return message in self.set.links[at].held()
 
     def least(self, about, other=None):
-        able = [(not it.admitted, len(it.held()), at) for at, it in enumerate(self.set.links) if at != about and it.is_able() and not it.has_outage()]
+        able = [
+            (not it.admitted, len(it.held()), at)
+            for at, it in enumerate(self.set.links)
+            if at != about and it.is_able() and not it.has_outage()
+        ]
         return min(able)[2] if able else other
 
     def tend(self):
@@ -384,7 +408,8 @@ class Tender:
                 pass
 
     def may_wait(self, at, link, care):
-        """Whether there is still something to wait for, before what a link sent is given up: another link that carries its order, or that is on its way."""
+        """Whether there is still something to wait for, before what a link sent is given up: another link that carries
+        its order, or that is on its way."""
         if care.patience == 0:
             return False
         if self.least(at) is not None or link.waited < PATIENCE:
@@ -396,7 +421,9 @@ class Tender:
         return care.started or care.due is not None and not (link.changing and not link.out)
 
     def pattern(self, at):
-        return bytes([self.set.own % 256, self.set.own // 256, self.cares[at].tests % 256, self.cares[at].tests // 256 % 256])
+        return bytes(
+            [self.set.own % 256, self.set.own // 256, self.cares[at].tests % 256, self.cares[at].tests // 256 % 256]
+        )
 
     def test(self, at, link, care):
         state, when = care.test
@@ -485,12 +512,17 @@ class Tender:
             self.sharing = ("rests", 0)
 
     def drain(self, wanted):
-        way = [at for at, it in enumerate(self.set.links)
-               if any(self.set.table[s] == at and wanted[s] != at and it.holds(s) for s in range(16))]
+        way = [
+            at
+            for at, it in enumerate(self.set.links)
+            if any(self.set.table[s] == at and wanted[s] != at and it.holds(s) for s in range(16))
+        ]
         out = [at for at in way if self.set.links[at].has_outage()]
         self.blocked = self.blocked + 1 if out else 0
         state, when = self.sharing
-        if self.blocked > DRAIN and any(it.carries() and it.admitted for at, it in enumerate(self.set.links) if at not in out):
+        if self.blocked > DRAIN and any(
+            it.carries() and it.admitted for at, it in enumerate(self.set.links) if at not in out
+        ):
             self.blocked, self.sharing = 0, ("rests", 0)
             for at in out:
                 if not self.set.links[at].changing:
@@ -544,21 +576,30 @@ class Tender:
         self.now += 1
 
     def is_whole(self):
-        return all(it.is_able() and it.admitted and not it.changing and not it.held() for it in self.set.links) and not any(it.owed for it in self.cares)
+        return all(
+            it.is_able() and it.admitted and not it.changing and not it.held() for it in self.set.links
+        ) and not any(it.owed for it in self.cares)
 
 
 class End:
     """A set with what it sent and what came."""
 
     def __init__(self, links, own, peer, tested, loud):
-        self.tender = Tender([Terminal() for _ in range(links)], own, peer, tested, lambda text: loud and print(f"{self.tender.now} {own}: {text}"))
-        self.own, self.peer, self.sent, self.next, self.came, self.wrong, self.refused = own, peer, [0] * 16, [0] * 16, 0, 0, 0
+        def tell(text):
+            if loud:
+                print(f"{self.tender.now} {own}: {text}")
+
+        self.tender = Tender([Terminal() for _ in range(links)], own, peer, tested, tell)
+        self.own, self.peer, self.sent, self.next = own, peer, [0] * 16, [0] * 16
+        self.came, self.wrong, self.refused = 0, 0, 0
 
     def give(self, selection, dice):
         if self.tender.waits():
             return
         number = self.sent[selection]
-        message = b"\x83" + labelled(self.peer, self.own, selection, number.to_bytes(4, "little") + bytes(dice.randrange(24)))
+        message = b"\x83" + labelled(
+            self.peer, self.own, selection, number.to_bytes(4, "little") + bytes(dice.randrange(24))
+        )
         try:
             self.tender.send(message)
             self.sent[selection] += 1
@@ -644,7 +685,13 @@ class Trial:
             kind = dice.choice(["cut", "cut", "cut", "one way", "back", "noise", "noise", "stall"])
             self.count(kind)
             noise = dice.choice([200, 1_000, 5_000, 20_000])
-            over, back = {"cut": ("cut", "cut"), "one way": ("cut", None), "back": (None, "cut"), "noise": (noise, noise), "stall": ("stall", "stall")}[kind]
+            over, back = {
+                "cut": ("cut", "cut"),
+                "one way": ("cut", None),
+                "back": (None, "cut"),
+                "noise": (noise, noise),
+                "stall": ("stall", "stall"),
+            }[kind]
             self.befall(at, over, back, now, length)
 
     def run(self, seconds, faults, rate):
@@ -677,7 +724,10 @@ class Trial:
         for way, one, other in (("near to far", *self.ends), ("far to near", *self.ends[::-1])):
             lacking, unsure, whole = sum(one.sent) - other.came + other.wrong, one.tender.unsure, one.tender.is_whole()
             right = right and other.wrong == 0 and lacking <= unsure and whole
-            print(f"  {way}: sent {sum(one.sent)} came {other.came} wrong {other.wrong} lacking {lacking} unsure {unsure} refused {one.refused}, {'whole' if whole else 'STUCK'}")
+            print(
+                f"  {way}: sent {sum(one.sent)} came {other.came} wrong {other.wrong} lacking {lacking} unsure "
+                f"{unsure} refused {one.refused}, {'whole' if whole else 'STUCK'}"
+            )
         return right
 
 

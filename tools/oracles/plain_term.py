@@ -1,28 +1,29 @@
-#!/usr/bin/env python3
 """A plain player of terminal scripts, written apart from the program: to hold `mtp2_play play` against.
 
 usage: tools/oracles/plain_term.py SET SCRIPT      prints the lines that play prints for them, and ends with its status
-       tools/oracles/plain_term.py --table FILE    plays each entry of a table of scripts, and ends with status 1 where one prints something else
+       tools/oracles/plain_term.py --table FILE
+           plays each entry of a table of scripts, and ends with status 1 where one prints something else
 
-SET is `standard`, `q703`, `monitors` or the file of a text; ` | OLD -> NEW` behind it is an edit, made everywhere in the text, and there may be several.
-Its actors are those of plain_play.py, which plays book scripts too. The line, the stores and the terminal
-are as Q.703 and the profile say them, on whole lists: no bit of the line and no message is ever forgotten.
+SET is `standard`, `q703`, `monitors` or the file of a text; ` | OLD -> NEW` behind it is an edit, made everywhere in
+the text, and there may be several. Its actors are those of plain_play.py, which plays book scripts too. The line, the
+stores and the terminal are as Q.703 and the profile say them, on whole lists: no bit of the line and no message is ever
+forgotten.
 
-A table is written as tools/table says, with these differences: `== SET: NAME` begins an entry, copies are also written out in the wanted lines, and
-comment lines among them are nothing; `%A-B{..}` are copies with the numbers A to B. `<UP>` as a line is the way into service, `<PROVING>`
-the script of that name, `<STATES>` asks for the
-states of all processes; among the wanted lines they stand for what is printed, where the states follow behind the word."""
+A table is written as tools/table says, with these differences: `== SET: NAME` begins an entry, copies are also written
+out in the wanted lines, and comment lines among them are nothing; `%A-B{..}` are copies with the numbers A to B. `<UP>`
+as a line is the way into service, `<PROVING>` the script of that name, `<STATES>` asks for the states of all processes;
+among the wanted lines they stand for what is printed, where the states follow behind the word."""
 import contextlib
 import pathlib
 import re
 import sys
 from collections import Counter
 
-sys.path += map(str, pathlib.Path(__file__).resolve().parents[1].glob("*"))
-
-from plain_check import Refusal, check
-from plain_play import LONGEST, BadLine, Book, Failed, Refused, number, play as play_book, shown
-from plain_units import FLAG, Line, Receiver, Sender, bits_of, check_octets, decoded, octets_of, stuffed
+from tools.oracles.plain_check import Refusal, check
+from tools.oracles.plain_play import LONGEST, BadLine, Book, Failed, Refused, number
+from tools.oracles.plain_play import play as play_book
+from tools.oracles.plain_play import shown
+from tools.oracles.plain_units import FLAG, Line, Receiver, Sender, bits_of, check_octets, decoded, octets_of, stuffed
 
 ROOT = pathlib.Path(__file__).resolve().parents[2]
 SETS = {"standard": "standard.sdl", "q703": "q703.sdl", "monitors": "monitors.sdl"}
@@ -33,23 +34,34 @@ COPIES = re.compile(r"%(?:(\d+)-)?(\d+)\{([^}]*)\}")
 UP = ["command power", "command start", "unit FFFF0100", "unit FFFF0101", "tick 8200", "unit FFFF00"]
 IS_UP = ["ok", "ok", "ok", "ok", "ok due 1", "ok"]
 PROCESSES = ["LSC", "IAC", "AERM", "SUERM", "TXC", "RC", "POC", "CC"]
-# What a terminal wants of a text, in its order: processes, signals to a process, and signals to the environment, with the sorts of their parameters.
+# What a terminal wants of a text, in its order: processes, signals to a process, and signals to the environment, with
+# the sorts of their parameters.
 WANTED = """LSC AERM SUERM TXC RC CC
 LSC/PowerOn LSC/StartLink LSC/StopLink LSC/Emergency LSC/Calm LSC/LocalOut LSC/LocalBack CC/Busy CC/Free
 AERM/Good SUERM/Good AERM/Errored SUERM/Errored TXC/AckSeen RC/Bad RC/Unit TXC/MsuSent
 ENV/Fresh ENV/Take ENV/Line ENV/Withhold ENV/InServiceNow ENV/Down ENV/RemoteOut ENV/RemoteBack""".split()
 SORTS = {
-    "AckSeen": "BOOLEAN", "Unit": "INTEGER", "Take": "BOOLEAN", "Line": "INTEGER", "Withhold": "BOOLEAN", "Down": "INTEGER", "Deliver": "BOOLEAN",
-    "Odd": "INTEGER", "Counting": "BOOLEAN",
+    "AckSeen": "BOOLEAN",
+    "Unit": "INTEGER",
+    "Take": "BOOLEAN",
+    "Line": "INTEGER",
+    "Withhold": "BOOLEAN",
+    "Down": "INTEGER",
+    "Deliver": "BOOLEAN",
+    "Odd": "INTEGER",
+    "Counting": "BOOLEAN",
 }
 # What is measured (Q.752), in the order in which it is printed; the times are ticks.
-MEASURES = """service_time failures stops alignment_failures error_failures far_failures t1_failures number_failures t7_failures t6_failures
-errored_units errored_octets nacks_received nacks_sent octets_sent octets_repeated octets_received messages_sent messages_received
-far_outages far_outage_time outages outage_time busy busy_time far_busy far_busy_time rounds_n1 rounds_n2 aborted_periods""".split()
+MEASURES = """service_time failures stops alignment_failures error_failures far_failures t1_failures number_failures
+t7_failures t6_failures errored_units errored_octets nacks_received nacks_sent octets_sent octets_repeated
+octets_received messages_sent messages_received far_outages far_outage_time outages outage_time busy busy_time far_busy
+far_busy_time rounds_n1 rounds_n2 aborted_periods""".split()
 # Why a link went down, by the number that is told; 0 is a stop.
 CAUSES = dict(enumerate("alignment error far t1 number t7 t6".split(), 1))
 # What a text may have besides.
-OPTIONAL = "ENV/Deliver RC/Odd ENV/Clear ENV/Cleared LSC/Flush LSC/Continue CC/Overload AERM/Counting SUERM/Counting".split()
+OPTIONAL = (
+    "ENV/Deliver RC/Odd ENV/Clear ENV/Cleared LSC/Flush LSC/Continue CC/Overload AERM/Counting SUERM/Counting".split()
+)
 
 
 def text_of(word):
@@ -168,7 +180,8 @@ class Terminal:
             self.far_busy = False
 
     def clear(self):
-        """Nothing waits and nothing is unacknowledged any more; the next new message has the number behind the last acknowledged one."""
+        """Nothing waits and nothing is unacknowledged any more; the next new message has the number behind the last
+        acknowledged one."""
         out, sender = self.sender.sent - self.sender.acknowledged, self.sender
         self.spare, self.cleared = out or self.spare, self.cleared + len(sender.all) - sender.acknowledged
         del sender.all[sender.acknowledged :]
@@ -192,7 +205,10 @@ class Terminal:
         self.rebase()
         due = self.book.advance(ticks)
         so = {
-            "service_time": self.in_service, "far_outage_time": self.far_out, "outage_time": self.kind == 4, "busy_time": self.withheld is not None,
+            "service_time": self.in_service,
+            "far_outage_time": self.far_out,
+            "outage_time": self.kind == 4,
+            "busy_time": self.withheld is not None,
             "far_busy_time": self.far_busy,
         }
         self.counts.update({name: ticks for name, holds in so.items() if holds})
@@ -264,7 +280,9 @@ class Terminal:
 
     def fault_of(self, head):
         """What is wrong with a unit."""
-        if (head["bsn"] - (self.sender.acknowledged - self.sender.origin - 1)) % 128 > max(self.sender.sent - self.sender.acknowledged, self.spare):
+        if (head["bsn"] - (self.sender.acknowledged - self.sender.origin - 1)) % 128 > max(
+            self.sender.sent - self.sender.acknowledged, self.spare
+        ):
             return "number"
         return self.odd_bit(head)
 
@@ -327,11 +345,14 @@ def has(book, wanted):
 
 
 # What a text may have besides, in the order in which it is asked for.
-ASKED = "LSC/Flush LSC/Continue CC/Overload ENV/Deliver ENV/Cleared ENV/Clear RC/Odd AERM/Counting SUERM/Counting".split()
+ASKED = (
+    "LSC/Flush LSC/Continue CC/Overload ENV/Deliver ENV/Cleared ENV/Clear RC/Odd AERM/Counting SUERM/Counting".split()
+)
 
 
 def is_otherwise(book, wanted):
-    """Whether a text has such a signal on a route from or to the environment in another form than the one that a terminal knows."""
+    """Whether a text has such a signal on a route from or to the environment in another form than the one that a
+    terminal knows."""
     party, _, name = wanted.partition("/")
     _, sorts = book.signals.get(name.lower(), (name, None))
     paths = [(a, b) for a, b, signal in book.paths if signal == name.lower() and "ENV" in (a, b)]
@@ -349,10 +370,23 @@ def lacking_in(book):
 
 # Scripts.
 
-TOLD = {"InServiceNow": "in service", "Down": "down", "RemoteOut": "far out", "RemoteBack": "far back", "Cleared": "cleared"}
+TOLD = {
+    "InServiceNow": "in service",
+    "Down": "down",
+    "RemoteOut": "far out",
+    "RemoteBack": "far back",
+    "Cleared": "cleared",
+}
 COMMANDS = {
-    "power": ("LSC", "PowerOn"), "start": ("LSC", "StartLink"), "stop": ("LSC", "StopLink"), "emergency": ("LSC", "Emergency"), "calm": ("LSC", "Calm"),
-    "outage": ("LSC", "LocalOut"), "back": ("LSC", "LocalBack"), "busy": ("CC", "Busy"), "free": ("CC", "Free"),
+    "power": ("LSC", "PowerOn"),
+    "start": ("LSC", "StartLink"),
+    "stop": ("LSC", "StopLink"),
+    "emergency": ("LSC", "Emergency"),
+    "calm": ("LSC", "Calm"),
+    "outage": ("LSC", "LocalOut"),
+    "back": ("LSC", "LocalBack"),
+    "busy": ("CC", "Busy"),
+    "free": ("CC", "Free"),
 }
 # Those that a text may have besides.
 MORE = {"flush": ("LSC", "Flush"), "continue": ("LSC", "Continue"), "overload": ("CC", "Overload")}
@@ -511,7 +545,13 @@ def do(terminal, word, *rest):
         return [shown(book.actor(rest[0]).variables.get(rest[1].lower()))]
     else:
         actor = book.actor(rest[0])
-        return ["STOPPED" if actor.place is None else actor.place if actor.place == "START" else actor.process.states[actor.place][0]]
+        return [
+            "STOPPED"
+            if actor.place is None
+            else actor.place
+            if actor.place == "START"
+            else actor.process.states[actor.place][0]
+        ]
     return ["ok"]
 
 
@@ -622,7 +662,9 @@ def entries(table):
     for part in table.split("\n== ")[1:]:
         name, rest = part.split("\n", 1)
         script, lines = ("\n" + rest).split("\n--\n")
-        lines = [it for line in copied(lines).strip("\n").split("\n") for it in wanted(line) if it and not it.startswith("#")]
+        lines = [
+            it for line in copied(lines).strip("\n").split("\n") for it in wanted(line) if it and not it.startswith("#")
+        ]
         status = int(lines.pop()[5:]) if lines and lines[-1].startswith("exit ") else 0
         script = "\n".join(it for line in copied(script[1:]).split("\n") for it in whole(line))
         yield name, name.split(":")[0], script.replace("<CR>", "\r").replace("<TAB>", "\t"), lines, status
@@ -635,8 +677,13 @@ def played(file):
         ended = play(word, script.encode(), said.append)
         if (said, ended) != (lines, status):
             wrong += 1
-            differs = next((at for at, (one, other) in enumerate(zip(said, lines)) if one != other), min(len(said), len(lines)))
-            print(f"{name}: line {differs + 1}: {said[differs : differs + 1]} for {lines[differs : differs + 1]}, status {ended} for {status}")
+            differs = next(
+                (at for at, (one, other) in enumerate(zip(said, lines)) if one != other), min(len(said), len(lines))
+            )
+            print(
+                f"{name}: line {differs + 1}: {said[differs : differs + 1]} for {lines[differs : differs + 1]}, "
+                f"status {ended} for {status}"
+            )
     print(f"{total} scripts, {wrong} differ")
     return 1 if wrong else 0
 

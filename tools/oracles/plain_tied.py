@@ -1,25 +1,26 @@
-#!/usr/bin/env python3
-"""A plain terminal on a line, written apart from the program: to hold `mtp2_play line` against. Its terminal is that of plain_term.py; the octets, the orders and
-the reports are as docs/links.md says them, on whole lists.
+"""A plain terminal on a line, written apart from the program: to hold `mtp2_play line` against. Its terminal is that of
+plain_term.py; the octets, the orders and the reports are as docs/links.md says them, on whole lists.
 
-usage: tools/oracles/plain_tied.py MODE [--text SET] [--n1 N] [--n2 N] [--orders FILE] [--reports FILE] [--bits low|high] [--ahead N]
-                                                                      a filter, as `mtp2_play line` is; it reads all before it writes
-       tools/oracles/plain_tied.py --two MODE MILLISECONDS FIRST SECOND     two of them tied crosswise, by their files of orders: what each tells, and how many octets
-                                                                      each sent, with their CRC-32
-       tools/oracles/plain_tied.py --tied [--check]                        examples/line/tied.txt with its lives worked out; with --check nothing is printed, and the
-                                                                      status is 1 where it differs"""
+usage: tools/oracles/plain_tied.py MODE [--text SET] [--n1 N] [--n2 N] [--orders FILE] [--reports FILE] [--bits
+low|high] [--ahead N]
+                                                                      a filter, as `mtp2_play line` is; it reads all
+                                                                      before it writes
+       tools/oracles/plain_tied.py --two MODE MILLISECONDS FIRST SECOND
+           two of them tied crosswise, by their files of orders: what each tells, and how many octets each sent, with
+           their CRC-32
+       tools/oracles/plain_tied.py --tied [--check]
+           examples/line/tied.txt with its lives worked out; with --check nothing is printed, and the status is 1 where
+           it differs"""
 import argparse
 import pathlib
 import re
 import sys
 import zlib
 
-sys.path += map(str, pathlib.Path(__file__).resolve().parents[1].glob("*"))
-
-from plain_lines import TEXT, Far
-from plain_play import Refused, shown
-from plain_term import COMMANDS, MORE, ROOT, SETS, USUAL, BadLine, do, number, octets_in
-from plain_units import FLAG, bits_of, check_octets, octets_of, stuffed
+from tools.oracles.plain_lines import TEXT, Far
+from tools.oracles.plain_play import Refused, shown
+from tools.oracles.plain_term import COMMANDS, MORE, ROOT, SETS, USUAL, BadLine, do, number, octets_in
+from tools.oracles.plain_units import FLAG, bits_of, check_octets, octets_of, stuffed
 
 MOST = 600
 TIED = ROOT / "examples" / "line" / "tied.txt"
@@ -90,14 +91,21 @@ class Filter:
                 bits, self.rest, self.begun = self.rest + [1] * (8 - len(self.rest)), [], False
                 return octets_of(bits)[0]
             content, _ = unit
-            bits = self.rest + ([] if self.begun else list(FLAG)) + stuffed(bits_of(content + check_octets(content))) + list(FLAG)
+            bits = (
+                self.rest
+                + ([] if self.begun else list(FLAG))
+                + stuffed(bits_of(content + check_octets(content)))
+                + list(FLAG)
+            )
             whole = len(bits) // 8 * 8
             self.ready, self.rest, self.begun = list(octets_of(bits[:whole])), bits[whole:], True
         return self.ready.pop(0)
 
     def tell_all(self, now):
         here = self.terminal
-        self.told += [f"{now} " + (f"down {rest[0]}" if name == "Down" else STATUSES[name]) for name, *rest in here.statuses]
+        self.told += [
+            f"{now} " + (f"down {rest[0]}" if name == "Down" else STATUSES[name]) for name, *rest in here.statuses
+        ]
         self.told += [f"{now} message {it.hex().upper()}" for it in here.messages]
         here.messages, here.statuses = [], []
 
@@ -126,13 +134,21 @@ class Filter:
             if words[-1] not in ORDERS:
                 raise BadLine
             do(self.terminal, "command", ORDERS[words[-1]])
-        elif words[0] in ASKED and (len(words) == 1 or words[0] == "retrieve" and len(words) == 2 and number(words[1]) < 128):
+        elif words[0] in ASKED and (
+            len(words) == 1 or words[0] == "retrieve" and len(words) == 2 and number(words[1]) < 128
+        ):
             return do(self.terminal, words[0], number(words[1]) if words[1:] else None)[0]
         elif words[0] == "msu" and len(words) == 2 and 3 <= len(octets_in(words[1])) <= 273:
             self.terminal.sender.put(octets_in(words[1]))
         elif words[0] == "state" and len(words) == 2:
             actor = book.actor(words[1])
-            return "STOPPED" if actor.place is None else actor.place if actor.place == "START" else actor.process.states[actor.place][0]
+            return (
+                "STOPPED"
+                if actor.place is None
+                else actor.place
+                if actor.place == "START"
+                else actor.process.states[actor.place][0]
+            )
         elif words[0] == "value" and len(words) == 3:
             return shown(book.actor(words[1]).variables.get(words[2].lower()))
         else:
@@ -152,9 +168,12 @@ def limits_over(word, n1=None, n2=None):
 
 
 def two(mode, milliseconds, first, second, damaged=None, sets=("standard", "standard"), chosen=()):
-    """Two ends, each of which hears what the other sent, the first of which sent a millisecond of 1s ahead; an octet of the second is damaged. Each has a set of its
-    own, and both have the N1 and N2 that are chosen."""
-    ends = [Filter(mode, orders, ahead, set_of(word), limits_over(word, *chosen)) for word, orders, ahead in zip(sets, (first, second), (8, 0))]
+    """Two ends, each of which hears what the other sent, the first of which sent a millisecond of 1s ahead; an octet of
+    the second is damaged. Each has a set of its own, and both have the N1 and N2 that are chosen."""
+    ends = [
+        Filter(mode, orders, ahead, set_of(word), limits_over(word, *chosen))
+        for word, orders, ahead in zip(sets, (first, second), (8, 0))
+    ]
     for now in range(milliseconds):
         for one in (1, 0):
             for octet in ends[1 - one].sent[8 * now : 8 * now + 8]:
@@ -168,7 +187,8 @@ def two(mode, milliseconds, first, second, damaged=None, sets=("standard", "stan
 
 
 def entries():
-    """The lives of the table: the name, what stands before its line `--`, the words for `two`, and the lines behind it."""
+    """The lives of the table: the name, what stands before its line `--`, the words for `two`, and the lines behind
+    it."""
     for entry in TIED.read_text().split("\n== ")[1:]:
         given, shown = entry.split("\n--\n")
         name, text = given.strip("\n").split("\n", 1)
@@ -177,8 +197,12 @@ def entries():
         first, second = (it.encode() for it in orders.split("..\n", 1))
         damaged = next((int(it) for it in more if it.isdigit()), None)
         sets = [it for it in more if it in SETS] or ["standard", "standard"]
-        chosen = [next((int(it.removeprefix(name)) for it in more if it.startswith(name)), None) for name in ("n1=", "n2=")]
-        yield name, text, (mode, int(milliseconds), first, second, damaged, sets, chosen), shown.rstrip("\n").split("\n")
+        chosen = [
+            next((int(it.removeprefix(name)) for it in more if it.startswith(name)), None) for name in ("n1=", "n2=")
+        ]
+        yield name, text, (mode, int(milliseconds), first, second, damaged, sets, chosen), shown.rstrip("\n").split(
+            "\n"
+        )
 
 
 def tied():
@@ -204,7 +228,13 @@ def main(words):
     read.add_argument("--bits", choices=["low", "high"], default="low")
     read.add_argument("--ahead", type=int, default=0)
     given = read.parse_args(words)
-    end = Filter(given.mode, pathlib.Path(given.orders).read_bytes() if given.orders else b"", given.ahead, set_of(given.text), limits_over(given.text, given.n1, given.n2))
+    end = Filter(
+        given.mode,
+        pathlib.Path(given.orders).read_bytes() if given.orders else b"",
+        given.ahead,
+        set_of(given.text),
+        limits_over(given.text, given.n1, given.n2),
+    )
     turn = turned if given.bits == "high" else lambda it: it
     for octet in sys.stdin.buffer.read():
         if end.over:

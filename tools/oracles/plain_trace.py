@@ -1,37 +1,36 @@
-#!/usr/bin/env python3
-"""What happens as a script runs, by the plain players of plain_play.py, plain_term.py and plain_group.py, which were written apart from the program: a line for
-each event, a chart, and what of the text was taken.
+"""What happens as a script runs, by the plain players of plain_play.py, plain_term.py and plain_group.py, which were
+written apart from the program: a line for each event, a chart, and what of the text was taken.
 
 usage: tools/oracles/plain_trace.py SET SCRIPT [--every]      prints the trace of a script
        tools/oracles/plain_trace.py SET SCRIPT --chart [--turns A..B]     prints it as a chart in mscgen's language
-       tools/oracles/plain_trace.py SET SCRIPT --coverage     prints which transitions, answers and lines of the text were taken, in lcov's format
-       tools/oracles/plain_trace.py SET SCRIPT --thrown       prints which signals were thrown away in which states, and how often, in the order of the first time
+       tools/oracles/plain_trace.py SET SCRIPT --coverage
+           prints which transitions, answers and lines of the text were taken, in lcov's format
+       tools/oracles/plain_trace.py SET SCRIPT --thrown
+           prints which signals were thrown away in which states, and how often, in the order of the first time
 
-SET and SCRIPT are as plain_term.py has them; the status is that of the script. Lines of a trace, behind the ticks gone by:
+SET and SCRIPT are as plain_term.py has them; the status is that of the script. Lines of a trace, behind the ticks gone
+by:
 
-    > COMMAND                                               a line of the script, but for state, value, measure NAME and expect
+    > COMMAND                                               a line of the script, but for state, value, measure NAME and
+                                                            expect
     T offer ACTOR SIG v ..
     T due ACTOR TIMER
     T skip ACTOR STATE/SIG v .. from SENDER                 with --every; a timer has no sender
     T turn N ACTOR STATE/SIG v .. from SENDER, STATE count C of BUDGET, EFFECT .., VAR := V ..
 
-In a script of a link set what happens on a link stands behind `on L`, link by link; in front of that stands what messages of changeover said: T heard COO link L fsn N, T said ...
-A turn has a line as it ends, with its number from 0 as it began, in the order of all turns. Without --every one that keeps its state and has no effect has none.
-EFFECT is `SIG v .. to ACTOR`, with `lost WHY` behind it where nobody got it, `set TIMER at T` or `reset TIMER`; of variables those stand there that the turn changed."""
+In a script of a link set what happens on a link stands behind `on L`, link by link; in front of that stands what
+messages of changeover said: T heard COO link L fsn N, T said ... A turn has a line as it ends, with its number from 0
+as it began, in the order of all turns. Without --every one that keeps its state and has no effect has none. EFFECT is
+`SIG v .. to ACTOR`, with `lost WHY` behind it where nobody got it, `set TIMER at T` or `reset TIMER`; of variables
+those stand there that the turn changed."""
 import collections
 import pathlib
 import sys
 
-sys.path += map(str, pathlib.Path(__file__).resolve().parents[1].glob("*"))
-
-import plain_filter
-import plain_group
-import plain_play
-import plain_term
-import plain_turn
-from plain_check import P, Refusal, check, lex, lo
-from plain_play import Actor, Book, Failed, Refused, shown
-from plain_reader import line_of
+from tools.oracles import plain_filter, plain_group, plain_play, plain_term, plain_turn
+from tools.oracles.plain_check import P, check, lex, lo
+from tools.oracles.plain_play import Actor, Book, Refused, shown
+from tools.oracles.plain_reader import line_of
 
 
 def words(*parts):
@@ -102,7 +101,9 @@ class Taken:
         out += [f"FN:{self.at(place)},{name}" for _, (name, place) in ordered]
         out += [f"FNDA:{self.turns[key]},{name}" for key, (name, _) in ordered]
         out += [f"FNF:{len(ordered)}", f"FNH:{sum(self.turns[key] > 0 for key, _ in ordered)}"]
-        branches = [(place, answer) for place, answers in sorted(self.decisions.items()) for answer in range(len(answers))]
+        branches = [
+            (place, answer) for place, answers in sorted(self.decisions.items()) for answer in range(len(answers))
+        ]
         for place, answer in branches:
             times = self.answers[place, answer] if self.asked[place] else "-"
             out.append(f"BRDA:{self.at(place)},{place},{answer},{times}")
@@ -164,7 +165,12 @@ class SeenBook(Book):
 
     def offer(self, name, signal, given):
         super().offer(name, signal, given)
-        self.seen.tell("offer", self.clock, actor=self.actor(name).shown(), what=words(self.signals[signal.lower()][0], values(given)))
+        self.seen.tell(
+            "offer",
+            self.clock,
+            actor=self.actor(name).shown(),
+            what=words(self.signals[signal.lower()][0], values(given)),
+        )
 
     def begin(self, actor):
         place = super().begin(actor)
@@ -179,7 +185,11 @@ class SeenBook(Book):
         stood, self.laid = actor.place, []
         said = super().finish(actor)
         end, _, count = said.split(" ")[:3]
-        after = {it: shown(actor.variables[it]) for it in actor.process.variables if actor.variables[it] is not before[it] and actor.variables[it] != before[it]}
+        after = {
+            it: shown(actor.variables[it])
+            for it in actor.process.variables
+            if actor.variables[it] is not before[it] and actor.variables[it] != before[it]
+        }
         source = None if trigger is None or sender is None else self.named(sender)
         dull = stood == actor.place and not self.laid
         self.seen.turn(self, number, actor, place, trigger, given, source, end, int(count), self.laid, after, dull)
@@ -188,7 +198,9 @@ class SeenBook(Book):
     def lay(self, actor, effect):
         if effect[0] == "output":
             _, signal, given, to = effect
-            receiver = to if to == "ENV" or isinstance(to, Actor) else self.instance(to, actor.number) or self.instance(to, 1)
+            receiver = (
+                to if to == "ENV" or isinstance(to, Actor) else self.instance(to, actor.number) or self.instance(to, 1)
+            )
             stopped = receiver != "ENV" and receiver.place is None
             took = super().lay(actor, effect)
             why = "" if took else "EnvFull" if receiver == "ENV" else "Stopped" if stopped else "Full"
@@ -224,7 +236,14 @@ class Seen:
         self.text, self.every, self.lines, self.turns = text, every, [], []
         self.taken = Taken(text)
         self.budgets = {line.split(" budget ")[0]: line.split()[-5] for line in check(text)[:-1]}
-        self.names = {(it[1][0][0].lower(), lo(name)): name[0] for it in P(text, lex(text)).block() if it[0] == "process" for part in it[1][1] if part[0] != "timer" for name in part[1]}
+        self.names = {
+            (it[1][0][0].lower(), lo(name)): name[0]
+            for it in P(text, lex(text)).block()
+            if it[0] == "process"
+            for part in it[1][1]
+            if part[0] != "timer"
+            for name in part[1]
+        }
 
     def thrown(self):
         """The lines of what was thrown away, in the order of the first time."""
@@ -245,7 +264,15 @@ class Seen:
         if dull and not self.every:
             return
         budget = self.budgets[f"{actor.process.name} {place}"]
-        head = words(str(book.clock), "turn", str(number), actor.shown(), place, values(given), f"from {source}" if source else "")
+        head = words(
+            str(book.clock),
+            "turn",
+            str(number),
+            actor.shown(),
+            place,
+            values(given),
+            f"from {source}" if source else "",
+        )
         parts = [head, f"{end} count {count} of {budget}", *map(told, laid)]
         process = actor.process.name.lower()
         parts += [f"{self.names[process, it]} := {value}" for it, value in after.items()]
@@ -270,10 +297,19 @@ def called(signal, given):
 def chart(seen, least=0, most=None):
     """The turns as a chart in mscgen's language."""
     turns = [it for it in seen.turns if it[0] >= least and (most is None or it[0] <= most)]
-    here = {it[2] for it in turns} | {it[6] for it in turns if it[6]} | {part[3] for it in turns for part in it[8] if part[0] == "output" and (part[4] or part[3] == "ENV")}
+    here = (
+        {it[2] for it in turns}
+        | {it[6] for it in turns if it[6]}
+        | {part[3] for it in turns for part in it[8] if part[0] == "output" and (part[4] or part[3] == "ENV")}
+    )
     ordered = [it for it in ["ENV", *(actor.shown() for actor in seen.book.actors)] if it in here] or ["ENV"]
-    out = ["msc {", f'  width="{140 * len(ordered)}", arcgradient="0";', "  " + ", ".join(f'"{it}" [label="{it}"]' for it in ordered) + ";", *([] if turns else ["  |||;"])]
-    clock, states = None, {}
+    out = [
+        "msc {",
+        f'  width="{140 * len(ordered)}", arcgradient="0";',
+        "  " + ", ".join(f'"{it}" [label="{it}"]' for it in ordered) + ";",
+        *([] if turns else ["  |||;"]),
+    ]
+    clock = None
     for number, at, actor, place, trigger, given, source, end, laid in turns:
         if at != clock:
             out.append(f'  --- [label="{at} ms"];')
@@ -363,7 +399,8 @@ QUESTIONS = ("state", "value", "expect", "on", "table", "held", "unsure", "link"
 
 
 def changeover_lines(clock, word, rest, said):
-    """What messages of changeover said by a command: one that came in, and what the line that was printed has of the order or the answer."""
+    """What messages of changeover said by a command: one that came in, and what the line that was printed has of the
+    order or the answer."""
     heard = changeover_line(clock, "heard", rest[0]) if word == "message" else []
     answers = word in ("message", "fail") and said[0].startswith("ok ")
     return heard + (changeover_line(clock, "said", bytes.fromhex(said[0][3:])) if answers else [])
@@ -444,7 +481,9 @@ def main(given):
         return 3
     word, path, *options = given
     script = sys.stdin.buffer.read() if path == "stdin" else pathlib.Path(path).read_bytes()
-    seen, status = seen_of(plain_term.text_of(word).encode(), script, "--every" in options, usual=plain_term.USUAL.get(word, ()))
+    seen, status = seen_of(
+        plain_term.text_of(word).encode(), script, "--every" in options, usual=plain_term.USUAL.get(word, ())
+    )
     if "--chart" in options:
         cut = options[options.index("--turns") + 1].split("..") if "--turns" in options else ["0", ""]
         print("\n".join(chart(seen, int(cut[0] or 0), int(cut[1]) if cut[1] else None)))

@@ -1,5 +1,5 @@
 """A turn of an actor, by the statements of its process text: what the books of plain_play.py stand on."""
-from plain_check import lo
+from tools.oracles.plain_check import lo
 
 LEAST, GREATEST = -(2**31), 2**31 - 1
 
@@ -21,7 +21,13 @@ class Turn:
     """What a turn does: its effects, the variables behind it, its end (None for a STOP), and what it counts."""
 
     def __init__(self, book, actor):
-        self.book, self.process, self.variables, self.effects, self.count = book, actor.process, dict(actor.variables), [], 0
+        self.book, self.process, self.variables, self.effects, self.count = (
+            book,
+            actor.process,
+            dict(actor.variables),
+            [],
+            0,
+        )
         trigger, values, self.sender = actor.out
         text = self.process.start
         if trigger is not None:
@@ -119,9 +125,18 @@ class Turn:
 
 
 OPERATIONS = {
-    "OR": lambda a, b: a or b, "XOR": lambda a, b: a != b, "AND": lambda a, b: a and b, "=": lambda a, b: a == b, "/=": lambda a, b: a != b,
-    "<": lambda a, b: a < b, "<=": lambda a, b: a <= b, ">": lambda a, b: a > b, ">=": lambda a, b: a >= b,
-    "+": lambda a, b: wrap(a + b), "-": lambda a, b: wrap(a - b), "*": lambda a, b: wrap(a * b),
+    "OR": lambda a, b: a or b,
+    "XOR": lambda a, b: a != b,
+    "AND": lambda a, b: a and b,
+    "=": lambda a, b: a == b,
+    "/=": lambda a, b: a != b,
+    "<": lambda a, b: a < b,
+    "<=": lambda a, b: a <= b,
+    ">": lambda a, b: a > b,
+    ">=": lambda a, b: a >= b,
+    "+": lambda a, b: wrap(a + b),
+    "-": lambda a, b: wrap(a - b),
+    "*": lambda a, b: wrap(a * b),
 }
 
 

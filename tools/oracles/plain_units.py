@@ -1,8 +1,8 @@
-"""Signal units, the line and the stores of Q.703, plainly and on whole lists: what the terminals of plain_term.py stand on. Each counts what Q.752 asks
-of it, by name."""
+"""Signal units, the line and the stores of Q.703, plainly and on whole lists: what the terminals of plain_term.py stand
+on. Each counts what Q.752 asks of it, by name."""
 from collections import Counter
 
-from plain_turn import Refused
+from tools.oracles.plain_turn import Refused
 
 GENERATOR = 1 << 16 | 1 << 12 | 1 << 5 | 1
 FLAG = [0, 1, 1, 1, 1, 1, 1, 0]
@@ -29,7 +29,8 @@ def remainder(dividend):
 
 
 def check_octets(content):
-    """The two check octets of a content: the ones' complement of the sum of two remainders, sent highest power first."""
+    """The two check octets of a content: the ones' complement of the sum of two remainders, sent highest power
+    first."""
     bits = bits_of(content)
     both = remainder(0xFFFF << len(bits)) ^ remainder(polynomial(bits) << 16) ^ 0xFFFF
     return octets_of([both >> 15 - at & 1 for at in range(16)])
@@ -115,8 +116,8 @@ class Line:
 
 
 class Sender:
-    """All messages put, and places among them: where the numbers begin, the first that isn't acknowledged, the first that isn't sent, the one to repeat
-    next in a retransmission, and the one that is next in the ordinary cycle."""
+    """All messages put, and places among them: where the numbers begin, the first that isn't acknowledged, the first
+    that isn't sent, the one to repeat next in a retransmission, and the one that is next in the ordinary cycle."""
 
     def __init__(self, cyclic, messages=127, octets=8192):
         self.cyclic, self.all, self.fib, self.forced = cyclic, [], 1, False

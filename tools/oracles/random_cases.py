@@ -1,16 +1,18 @@
-"""What random_texts, random_scripts, random_terminals, random_groups and random_lines share: cases made by number and seed, side by side on all processors, held against what the plain
-programs of this folder say. A case that differs is left in out/NAME/, with both answers."""
+"""What random_texts, random_scripts, random_terminals, random_groups and random_lines share: cases made by number and
+seed, side by side on all processors, held against what the plain programs of this folder say. A case that differs is
+left in out/NAME/, with both answers."""
 import collections
 import os
 import random
 import sys
 import time
 
-from built import PLAY, ROOT, Run, missing, side_by_side
+from tools.steps.built import PLAY, ROOT, Run, missing, side_by_side
 
 
 class Asked:
-    """What the words of such a tool say: how many cases, the seed, how many side by side, and the one case that is looked at alone, if one is."""
+    """What the words of such a tool say: how many cases, the seed, how many side by side, and the one case that is
+    looked at alone, if one is."""
 
     def __init__(self, words, count):
         numbers, given = [], iter(words)
@@ -53,7 +55,8 @@ def differs(name, make, seed, number):
 
 
 def several(name, make, seed, numbers):
-    """The same of several cases, so that few of them are handed to and fro: how many came to what, and the differences."""
+    """The same of several cases, so that few of them are handed to and fro: how many came to what, and the
+    differences."""
     sums, found = collections.Counter(), []
     for number in numbers:
         kind, difference = differs(name, make, seed, number)
@@ -63,9 +66,10 @@ def several(name, make, seed, numbers):
 
 
 def hold(name, make, words, count):
-    """Makes so many cases, and tells which differ and what the others came to. `make` gives for dice the words of a command line, what stands in standard
-    input, the lines or the octets and the status that are wanted (and what has to be told on standard error, where that is compared, or what says what is wrong there), or none where they aren't known,
-    and what is shown of the case. Gives the exit status."""
+    """Makes so many cases, and tells which differ and what the others came to. `make` gives for dice the words of a
+    command line, what stands in standard input, the lines or the octets and the status that are wanted (and what has to
+    be told on standard error, where that is compared, or what says what is wrong there), or none where they aren't
+    known, and what is shown of the case. Gives the exit status."""
     asked = Asked(words, count)
     if missing(PLAY):
         return 2

@@ -1,7 +1,6 @@
-"""What the tools share that try a built program: how a run ends, cases side by side, a library of C to load before it, and the last line."""
+"""What the tools share that try a built program: how a run ends, cases side by side, a library of C to load before it,
+and the last line."""
 import concurrent.futures
-import importlib.machinery
-import importlib.util
 import multiprocessing
 import os
 import pathlib
@@ -20,8 +19,8 @@ LIMIT = 600
 
 
 class Run:
-    """How a run of a program ended: its status, what it wrote, and what it said on standard error. A run that was stopped has the word
-    `signal N` or `too slow` for its status."""
+    """How a run of a program ended: its status, what it wrote, and what it said on standard error. A run that was
+    stopped has the word `signal N` or `too slow` for its status."""
 
     def __init__(self, words, given=b"", program=PLAY, folder=ROOT, limit=LIMIT, out=None, **variables):
         how = {"executable": str(program), "cwd": folder, "env": {**os.environ, **variables}, "stderr": subprocess.PIPE}
@@ -60,7 +59,10 @@ class Count:
 
     def end(self):
         """Prints the last line. Gives the exit status."""
-        print(f"{self.passed} passed, {self.failed} failed" + (f", {self.skipped} skipped" if self.skipped else ""), flush=True)
+        print(
+            f"{self.passed} passed, {self.failed} failed" + (f", {self.skipped} skipped" if self.skipped else ""),
+            flush=True,
+        )
         return 1 if self.failed else 0
 
 
@@ -70,7 +72,8 @@ def called(given):
 
 
 def side_by_side(call, given, jobs=None):
-    """What `call` gives for each of these, in their order and as each is there, asked on all processors, or in so many processes."""
+    """What `call` gives for each of these, in their order and as each is there, asked on all processors, or in so many
+    processes."""
     how = {"max_workers": jobs or len(os.sched_getaffinity(0)), "mp_context": multiprocessing.get_context("fork")}
     try:
         processes = concurrent.futures.ProcessPoolExecutor(**how)
@@ -80,15 +83,6 @@ def side_by_side(call, given, jobs=None):
         return
     with processes as pool:
         yield from pool.map(called, [(call, it) for it in given], chunksize=max(1, min(16, len(given) // 40)))
-
-
-def tool(name):
-    """A tool as a module, in whichever folder it stands."""
-    found = next(it for it in (ROOT / "tools").rglob(name) if it.is_file())
-    loader = importlib.machinery.SourceFileLoader(name, str(found))
-    module = importlib.util.module_from_spec(importlib.util.spec_from_loader(name, loader))
-    loader.exec_module(module)
-    return module
 
 
 def missing(*programs):
@@ -116,19 +110,31 @@ def loads(compiler, folder):
     (folder / "before.c").write_text(BEFORE)
     silent = {"stdin": subprocess.DEVNULL, "stderr": subprocess.DEVNULL}
     try:
-        for words in [["-shared", "-fPIC", "-o", library, folder / "least.c", "-ldl"], ["-o", program, folder / "before.c"]]:
+        for words in [
+            ["-shared", "-fPIC", "-o", library, folder / "least.c", "-ldl"],
+            ["-o", program, folder / "before.c"],
+        ]:
             subprocess.run([compiler, *words], stdout=subprocess.DEVNULL, check=True, **silent)
-        return subprocess.run([program], stdout=subprocess.PIPE, env={**os.environ, "LD_PRELOAD": str(library)}, **silent).stdout == b"loaded"
+        return (
+            subprocess.run(
+                [program], stdout=subprocess.PIPE, env={**os.environ, "LD_PRELOAD": str(library)}, **silent
+            ).stdout
+            == b"loaded"
+        )
     except (OSError, subprocess.CalledProcessError):
         return False
 
 
 def library(folder, name):
-    """Compiles a library of tools/c/ into a folder; None where there is no C compiler, or nothing that it makes can be loaded before a program."""
+    """Compiles a library of tools/c/ into a folder; None where there is no C compiler, or nothing that it makes can be
+    loaded before a program."""
     made = pathlib.Path(folder) / f"{name}.so"
     for compiler in filter(None, map(shutil.which, ["cc", "clang", "gcc"])):
         if loads(compiler, pathlib.Path(folder)):
-            subprocess.run([compiler, "-O1", "-shared", "-fPIC", "-o", made, ROOT / "tools" / "c" / f"{name}.c", "-ldl"], check=True)
+            subprocess.run(
+                [compiler, "-O1", "-shared", "-fPIC", "-o", made, ROOT / "tools" / "c" / f"{name}.c", "-ldl"],
+                check=True,
+            )
             return str(made)
     return None
 
@@ -138,6 +144,8 @@ def differs(wanted, found):
     if wanted == found:
         return None
     ones, others = wanted.split(b"\n"), found.split(b"\n")
-    at = next((number for number, (one, other) in enumerate(zip(ones, others)) if one != other), min(len(ones), len(others)))
+    at = next(
+        (number for number, (one, other) in enumerate(zip(ones, others)) if one != other), min(len(ones), len(others))
+    )
     shown = lambda lines: lines[at][:200].decode(errors="replace") if at < len(lines) else "(the end)"
     return f"line {at + 1} is {shown(others)!r} and not {shown(ones)!r}"
