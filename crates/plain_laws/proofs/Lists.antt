@@ -1,4 +1,4 @@
--- Lists: empty ones, heads and tails, fronts, and what each element has.
+-- Lists: empty lists, equal lists, parts of lists, and properties of each element.
 use Rattle.std.proofs.Common.{◌≡◌, ℕ, zero, suc, ◌+◌, ◌-◌, ◌<◌, Bool, true, false, List, [], ◌∷◌, ◌++◌, length, take, drop, map, get_or, refl, ap, sym, ◌∙◌, subst, arith, take_all, if◌then◌else◌}
 use Rattle.std.specs.Prelude.{Contains}
 use Rattle.std.specs.List.{AllByRecursion}
@@ -20,7 +20,7 @@ append-nil_right (x ∷ xs) ys h = absurd (cons-nil x (xs ++ ys) h)
 pub not_empty : {A : Type 0} (xs : List A) (x : A) → Contains xs x → xs ≡ [] → ⊥
 not_empty {A = A} xs x among e = let bad : Contains [] x = subst (λ (l : List A). Contains l x) e among in omega (arith, bad.1)
 
--- a list that a test empties, or fills
+-- a list that a test decides: if the list is empty, the result of the test is known
 pub test_known : {A : Type 0} (b : Bool) (x : A) → (if b then [] else x ∷ []) ≡ [] → b ≡ true
 test_known true x h = refl
 test_known false x h = absurd (cons-nil x [] h)
@@ -60,7 +60,7 @@ pub mapped_more : {A B : Type 0} (g : A → B) (xs : List A) (i : ℕ) (x : A) �
 mapped_more g xs i x within is =
     ap (map g) (take_more xs i x within) ∙ map-append g (take i xs) (get_or xs i x ∷ []) ∙ ap (λ y. map g (take i xs) ++ g y ∷ []) (sym is)
 
--- ---- what each element has
+-- ---- properties of each element
 
 pub each_push : {A : Type 0} (P : A → Type 0) (xs : List A) (x : A) → AllByRecursion P xs → P x → AllByRecursion P (xs ++ x ∷ [])
 each_push P [] x all one = (one, tt)

@@ -1,4 +1,4 @@
--- Small numbers, and what a number below a power of two leaves.
+-- Small numbers: 0 and 1, and the quotient of a number below a power of two.
 use Rattle.std.proofs.Common.{◌≡◌, ℕ, zero, suc, ◌+◌, ◌*◌, ◌/◌, ◌^◌, ◌<◌, min, max, true, false, ◌&&◌, ◌||◌, ◌⊎◌, inl, inr, eqb, refl, ap, sym, ◌∙◌, arith}
 use Rattle.std.specs.Prelude.{◌==◌}
 use Rattle.std.proofs.lemmas.Nat.{shr_high}
@@ -34,7 +34,7 @@ least_is_one (suc zero) (suc zero) p q = refl
 least_is_one (suc zero) (suc (suc n)) p q = absurd (omega arith)
 least_is_one (suc (suc m)) n p q = absurd (omega arith)
 
--- of 0, 1 and 4 none is 2
+-- none of 0, 1 and 4 is 2
 pub not_refused : (status : ℕ) → (status ≡ 0) ⊎ (status ≡ 1) ⊎ (status ≡ 4) → status ≡ 2 → ⊥
 not_refused status (inl none) two = omega (arith, none, two)
 not_refused status (inr (inl one)) two = omega (arith, one, two)

@@ -1,4 +1,4 @@
--- Values that may be missing, and which of three orders a test found.
+-- Values that may be missing, and the result of a comparison.
 use Rattle.std.proofs.Common.{◌≡◌, Bool, true, false, Option, Some, None, refl, if◌then◌else◌, Ordering}
 use Rattle.std.specs.declared.cmp.Ordering.TheVariants.{Equal}
 use Rattle.std.specs.Ordering.{is_eq}
@@ -15,7 +15,7 @@ pub some_of : {A B : Type 0} (f : A → Option B) (o : Option A) (y : B) → opt
 some_of f None y e = absurd (none_some e)
 some_of f (Some x) y e = (x, refl, e)
 
--- the first of two refusals is missing, and the second
+-- If a test and what follows it refuse nothing, the test is false and what follows refuses nothing.
 pub row_passes : {A : Type 0} (b : Bool) (x : A) (o : Option A) → (if b then Some x else o) ≡ None → (b ≡ false) × (o ≡ None)
 row_passes true x o h = absurd (some_none h)
 row_passes false x o h = (refl, h)

@@ -1,4 +1,4 @@
--- Two lists side by side, whose elements stand in a relation place by place.
+-- Two lists whose elements are related index by index.
 use Rattle.std.proofs.Common.{◌≡◌, ℕ, zero, suc, ◌+◌, ◌<◌, List, [], ◌∷◌, ◌++◌, map, length, take, get_or, Some, refl, ap, sym, ◌∙◌, subst, arith}
 use Rattle.std.specs.Prelude.{slice_get}
 use Rattle.std.specs.List.{AllZip}
@@ -18,7 +18,7 @@ zip_push R [] (b ∷ ys) x y h r = absurd h
 zip_push R (a ∷ xs) [] x y h r = absurd h
 zip_push R (a ∷ xs) (b ∷ ys) x y h r = (h.0, zip_push R xs ys x y h.1 r)
 
--- what stands in the second list beside an element of the first
+-- the element of the second list at the index of an element of the first
 pub zip_beside : {A B : Type 0} (R : A → B → Type 0) (xs : List A) (ys : List B) (n : ℕ) (x : A) → AllZip R xs ys → slice_get xs n ≡ Some x
     → (y : B) × (slice_get ys n ≡ Some y) × R x y
 zip_beside R [] ys n x h e = absurd (none-some x e)
@@ -32,7 +32,7 @@ zip_at R xs ys i x y h e f =
     let found = zip_beside R xs ys i x h e in
     subst (R x) (same_Some found.0 y (sym found.1 ∙ f)) found.2
 
--- lists as long as each other that stand in it at every place
+-- lists of equal length whose elements are related at every index
 pub zip_by : {A B : Type 0} (R : A → B → Type 0) (xs : List A) (ys : List B) → length xs ≡ length ys
     → ((i : ℕ) (x : A) (y : B) → slice_get xs i ≡ Some x → slice_get ys i ≡ Some y → R x y) → AllZip R xs ys
 zip_by R [] [] n h = tt
@@ -40,7 +40,7 @@ zip_by R [] (y ∷ ys) n h = absurd (omega (arith, n))
 zip_by R (x ∷ xs) [] n h = absurd (omega (arith, n))
 zip_by R (x ∷ xs) (y ∷ ys) n h = (h 0 x y refl refl, zip_by R xs ys (omega (arith, n)) (λ i. h (suc i)))
 
--- one more of a list that is mapped behind another
+-- A mapped list follows another list: the relation also holds with one more element.
 pub zip_behind : {X A B : Type 0} (R : A → B → Type 0) (g : X → A) (before : List A) (xs : List X) (i : ℕ) (x : X) (ys : List B) (y : B) → i < length xs → x ≡ get_or xs i x
     → AllZip R (before ++ map g (take i xs)) ys → R (g x) y → AllZip R (before ++ map g (take (i + 1) xs)) (ys ++ y ∷ [])
 zip_behind R g before xs i x ys y lt is h r =

@@ -1,4 +1,4 @@
--- Lists by places: what stands at one, what a write changes, and what a push puts there.
+-- Lists by index: the element at an index, and lists after a write or a push.
 use Rattle.std.proofs.Common.{◌≡◌, ◌≢◌, ℕ, zero, suc, ◌<◌, List, [], ◌∷◌, ◌++◌, length, Some, None, refl, ap, sym, ◌∙◌, subst, arith}
 use Rattle.std.specs.Prelude.{slice_get, slice_set, Contains, All}
 use Rattle.std.proofs.lemmas.Option.{none-some, slice_get_within, get_or_from_slice_get, slice_get-get_or}
@@ -13,7 +13,7 @@ there_is (x ∷ xs) (suc i) within = there_is xs i (omega (arith, within))
 pub no_place : {A : Type 0} (xs : List A) (i : ℕ) → i < length xs → slice_get xs i ≡ None → ⊥
 no_place xs i within e = let found = there_is xs i within in none-some found.0 (sym e ∙ found.1)
 
--- ---- what stands at a place is among the list, and what is among it stands at one
+-- ---- an element at an index is in the list, and an element of the list has an index
 
 pub among_at : {A : Type 0} (xs : List A) (i : ℕ) (x : A) → slice_get xs i ≡ Some x → Contains xs x
 among_at xs i x e = (i, slice_get_within xs i x e, get_or_from_slice_get xs i x x e)

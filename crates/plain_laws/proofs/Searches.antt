@@ -7,7 +7,7 @@ use Rattle.std.proofs.lemmas.List.{length-map}
 use Rattle.std.proofs.lemmas.List.Folds.{find_at}
 use Rattle.std.proofs.lemmas.Option.{none-some, same_Some, slice_get_past}
 
--- ---- of a list that is mapped
+-- ---- searches in a mapped list
 
 pub prefix_len-map : {A B : Type 0} (t : B → Bool) (f : A → B) (xs : List A) → prefix_len t (map f xs) ≡ prefix_len (λ x. t (f x)) xs
 prefix_len-map t f [] = refl
@@ -31,7 +31,7 @@ first_within p [] k x e h = absurd (none-some x e)
 first_within p (y ∷ xs) zero x e h = first_here (p y) (position_or_len p xs) (length xs) (ap p (same_Some y x e) ∙ h)
 first_within p (y ∷ xs) (suc k) x e h = first_later (p y) (position_or_len p xs) (length xs) (first_within p xs k x e h)
 
--- what is found stands at the place of the first
+-- `find` returns the element at the index of the first one that passes
 pub find-at : {A : Type 0} (p : A → Bool) (xs : List A) (b : Bool) → nat_lt (position_or_len p xs) (length xs) ≡ b
     → find p xs ≡ option_and_then (slice_get xs) (cond b (Some (position_or_len p xs)) None)
 find-at p xs true e = find_at p xs

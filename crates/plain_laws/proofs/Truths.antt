@@ -2,7 +2,7 @@
 use Rattle.std.proofs.Common.{◌≡◌, Bool, true, false, not, ◌&&◌, ◌||◌, refl}
 use Rattle.std.specs.Prelude.{if◌then◌else◌}
 
--- ---- one part of a pair
+-- ---- one operand of a conjunction or a disjunction
 
 pub and_first : (a b : Bool) → (a && b) ≡ true → a ≡ true
 and_first true b h = refl
@@ -20,7 +20,7 @@ pub neither_second : (a b : Bool) → (a || b) ≡ false → b ≡ false
 neither_second false b h = h
 neither_second true b h = absurd (cc)
 
--- ---- what is not either, and what is either now or after a first that is not
+-- ---- the negation of a disjunction
 
 pub not_or : (a b : Bool) → not (a || b) ≡ (not a && not b)
 not_or true b = refl
@@ -30,7 +30,7 @@ pub set_now : (s r t q u : Bool) → u ≡ (r || (not t && q)) → (not s && u) 
 set_now true r t q u h = refl
 set_now false r t q u h = h
 
--- ---- either of two things by a test
+-- ---- one of two values, chosen by a test
 
 pub by_test : {A : Type 0} (P : A → Type 0) (b : Bool) (x y : A) → (b ≡ true → P x) → (b ≡ false → P y) → P (if b then x else y)
 by_test P true x y h k = h refl

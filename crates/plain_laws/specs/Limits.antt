@@ -1,5 +1,4 @@
--- Limits of sets, of links and of pools; each is this profile's choice: Z.100 and Q.703 bound none
--- of them.
+-- Limits of sets, links and pools. Each is a choice of this profile: Z.100 and Q.703 set none.
 use Rattle.std.specs.Prelude.{ℕ, ◌^◌}
 
 -- ---- a set (S10, V8)
@@ -66,7 +65,7 @@ LEAST_PORT = 1
 abbrev pub MOST_PORT : ℕ
 MOST_PORT = 64
 
--- how many signals a port holds where nobody says it
+-- how many signals a port holds by default
 abbrev pub USUAL_PORT : ℕ
 USUAL_PORT = 16
 
@@ -78,7 +77,7 @@ LEAST_ENVIRONMENT = 1
 abbrev pub MOST_ENVIRONMENT : ℕ
 MOST_ENVIRONMENT = 1024
 
--- how many signals wait for the environment where nobody says it
+-- how many signals may wait for the environment by default
 abbrev pub USUAL_ENVIRONMENT : ℕ
 USUAL_ENVIRONMENT = 64
 
@@ -90,7 +89,7 @@ LEAST_JOURNAL = 16
 abbrev pub MOST_JOURNAL : ℕ
 MOST_JOURNAL = 65536
 
--- how many events a journal holds where nobody says it
+-- how many events a journal holds by default
 abbrev pub USUAL_JOURNAL : ℕ
 USUAL_JOURNAL = 4096
 
@@ -106,12 +105,12 @@ LAST_TICK = 2 ^ 62
 abbrev pub MOST_TURNS_BEGUN : ℕ
 MOST_TURNS_BEGUN = 2 ^ 40
 
--- the place from which on a journal takes no event
+-- a journal takes no event at this place or later
 abbrev pub LAST_PLACE : ℕ
 LAST_PLACE = 2 ^ 56
 
--- a number that no place in a journal reaches: events that were promised a place before the last
--- one still get theirs
+-- No place in a journal reaches this number: events that were promised a place before the last one
+-- still get theirs.
 abbrev pub PAST_PLACES : ℕ
 PAST_PLACES = 2 ^ 57
 
@@ -121,10 +120,10 @@ PAST_PLACES = 2 ^ 57
 abbrev pub MOST_LINKS : ℕ
 MOST_LINKS = 16
 
--- the fewest workers by which a pool may serve them
+-- the fewest workers that a pool may have
 abbrev pub LEAST_WORKERS : ℕ
 LEAST_WORKERS = 1
 
--- the most workers by which a pool may serve them
+-- the most workers that a pool may have
 abbrev pub MOST_WORKERS : ℕ
 MOST_WORKERS = 16

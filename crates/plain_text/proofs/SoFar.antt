@@ -1,4 +1,4 @@
--- What a reader has given so far, and what is kept of it.
+-- The bytes read so far, and what is kept of them.
 use Rattle.std.proofs.Common.{◌≡◌, ℕ, zero, suc, ◌+◌, ◌-◌, ◌≤◌, List, [], ◌∷◌, ◌++◌, length, take, Option, refl, sym, ap, ◌∙◌, arith, length-take}
 use Rattle.std.specs.Prelude.{◌↔◌, IsTrue, IsUtf8}
 use Rattle.std.proofs.lemmas.List.{append-nil}
@@ -20,7 +20,7 @@ take_parts (suc n) [] ys = ap (λ k. take k ys) (let e : suc n ≡ suc n - 0 = o
 take_parts (suc n) (x ∷ xs) ys =
     ap (λ l. x ∷ l) (take_parts n xs ys ∙ ap (λ k. take n xs ++ take k ys) (let e : n - length (take n xs) ≡ suc n - suc (length (take n xs)) = omega arith in e))
 
--- a part more
+-- a further part was read
 pub so_far-more : (first now next : Option (List ℕ)) (kept more part : List ℕ) (check after : TextCheck) → SoFar first now kept check
     → Consumes now next part → more ≡ kept ++ take (LONGEST + 1 - length kept) part
     → ((bytes : List ℕ) → HasTaken check bytes → HasTaken after (bytes ++ part)) → SoFar first next more after
@@ -35,12 +35,12 @@ so_far-more first now next kept more part check after s given grows takes = reco
 pub so_far-short : (first now : Option (List ℕ)) (kept : List ℕ) (check : TextCheck) → SoFar first now kept check → length kept ≤ LONGEST + 1
 so_far-short first now kept check s = omega (arith, ap length s.keeps, length-take (LONGEST + 1) s.bytes)
 
--- a read that gave nothing
+-- a read that returned no bytes
 pub so_far-kept : (first now next : Option (List ℕ)) (kept : List ℕ) (check : TextCheck) → SoFar first now kept check → Keeps now next → SoFar first next kept check
 so_far-kept first now next kept check s same =
     record { bytes = s.bytes; consumed = Consumes-kept first now next s.bytes s.consumed same; keeps = s.keeps; taken = s.taken }
 
--- the end
+-- the end of the text
 pub so_far-all : (first now next : Option (List ℕ)) (kept : List ℕ) (check : TextCheck) (read : TextRead) → SoFar first now kept check → Consumes now next [] → IsAtEnd next
     → read.kept.items ≡ kept → ((bytes : List ℕ) → HasTaken check bytes → IsTrue read.is_text ↔ IsUtf8 bytes) → IsReading first read
 so_far-all first now next kept check read s none end same text = record {

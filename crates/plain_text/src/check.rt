@@ -1,4 +1,4 @@
-//! Whether bytes that come part by part are UTF-8.
+//! Checks whether bytes that arrive in parts are UTF-8.
 ghost use Rattle.std.specs.Prelude.{◌≡◌, ◌↔◌, ◌<◌, ◌≤◌, ◌-◌, [], ◌∷◌, ◌++◌, List, ℕ, length, replicate, IsTrue, IsUtf8};
 
 use arrayvec::ArrayVec;
@@ -8,7 +8,7 @@ use std::simd::prelude::*;
 /// How many bytes are checked at once.
 const BLOCK: usize = 64;
 
-/// The bytes, and zeros behind them.
+/// At most 64 bytes, filled up with zeros to a block.
 fn block_of(bytes: &[u8]) -> u8x64
     requires { length bytes.now ≤ 64 }
     ensures { result ≡ bytes.now ++ replicate (64 - length bytes.now) 0 }
@@ -18,11 +18,11 @@ fn block_of(bytes: &[u8]) -> u8x64
     u8x64::from_array(block)
 }
 
-/// Whether the bytes so far are UTF-8.
+/// A check of the bytes so far for UTF-8.
 #[derive(Drop)]
 pub struct TextCheck {
     checker: Checker,
-    /// Bytes that wait for the block to fill.
+    /// Bytes that wait until the block is full.
     waiting: ArrayVec<u8, 64>,
     ghost short: { length waiting.items < 64 },
 }
@@ -30,7 +30,7 @@ pub struct TextCheck {
 impl TextCheck {
     ghost use Rattle.plain_text.specs.Reading.{HasTaken};
 
-    /// Of no bytes.
+    /// A check without bytes.
     pub fn new() -> TextCheck
         ensures { HasTaken result [] }
     {
@@ -40,7 +40,7 @@ impl TextCheck {
         }
     }
 
-    /// One byte more.
+    /// Adds one byte.
     fn push(&mut self, byte: u8)
         ensures { (bytes : List ℕ) → HasTaken self.old bytes → HasTaken self.new (bytes ++ byte ∷ []) }
     {
@@ -51,7 +51,7 @@ impl TextCheck {
         }
     }
 
-    /// Further bytes.
+    /// Adds the bytes of a part.
     pub fn push_all(&mut self, part: &[u8])
         ensures { (bytes : List ℕ) → HasTaken self.old bytes → HasTaken self.new (bytes ++ part.now) }
     {

@@ -1,4 +1,4 @@
-//! Texts in and lines out: a text is read whole from a stream, in any pieces; lines are written to one.
+//! Texts in and lines out: reads whole texts from a stream, in parts of any size, and writes lines to one.
 #![tactic(auto)]
 
 mod check;

@@ -1,4 +1,4 @@
-//! Texts, read whole.
+//! Reading of whole texts.
 ghost use Rattle.std.specs.Prelude.{◌≡◌, ◌≤◌, ◌+◌, ◌-◌, ◌++◌, ◌==◌, OnOk, IfOk, take, length, count_by, nat_lt};
 ghost use Rattle.plain_text.specs.Reading.{LONGEST, IsReading};
 
@@ -6,21 +6,21 @@ use crate::check::TextCheck;
 use std::alloc::{AllocError, Global};
 use std::io::{self, ErrorKind, Read};
 
-/// The greatest number of times that a reader is asked.
+/// The greatest number of reads for one text.
 pub const MOST_READS: u32 = 1_000_000;
 
 /// The most bytes that a text or a script has.
 pub const MOST_BYTES: usize = 262_144;
 
-/// How many bytes a reader is asked for at once.
+/// The greatest number of bytes of one read.
 const PART: usize = 1024;
 
-/// What is kept of a text that was read whole.
+/// What is kept of a text after it was read whole.
 #[derive(Drop)]
 pub struct TextRead {
     /// Its first bytes, up to one more than a text may have.
     pub kept: Vec<u8>,
-    /// Whether all of its bytes are UTF-8, those that aren't kept too.
+    /// Whether all of its bytes are UTF-8, including those that aren't kept.
     pub is_text: bool,
 }
 
@@ -33,7 +33,7 @@ impl TextRead {
     }
 }
 
-/// How many line feeds stand before the first byte too many.
+/// The number of line feeds before the first byte too many.
 fn feeds_before_limit(bytes: &[u8]) -> usize
     ensures count { result ≡ count_by (λ b. b == 10) (take LONGEST bytes.now) }
     ensures within { result ≤ LONGEST }
@@ -45,14 +45,14 @@ fn feeds_before_limit(bytes: &[u8]) -> usize
         .count()
 }
 
-/// The line of the first byte too many, from 1, in a text that begins with these bytes.
+/// The line of the first byte too many, counted from 1, in a text that begins with these bytes.
 pub fn line_at_limit(bytes: &[u8]) -> usize
     ensures { result ≡ count_by (λ b. b == 10) (take LONGEST bytes.now) + 1 }
 {
     feeds_before_limit(bytes) + 1
 }
 
-/// Keeps what there is still room for.
+/// Appends as much of the part as there is room for.
 fn keep(kept: &mut Vec<u8>, part: &[u8]) -> Result<(), AllocError>
     requires { length kept.old.items ≤ LONGEST + 1 }
     ensures { OnOk result (kept.new.items ≡ kept.old.items ++ take (LONGEST + 1 - length kept.old.items) part.now) }
@@ -61,12 +61,11 @@ fn keep(kept: &mut Vec<u8>, part: &[u8]) -> Result<(), AllocError>
     kept.extend_from_slice(&part[..room.min(part.len())])
 }
 
-/// Reads all that a reader gives, to its end. It is asked at most 1,000,000 times, and counts as failed where that
-/// is not enough. A call that was interrupted is made again.
+/// Reads a text to its end, with at most 1,000,000 reads. It repeats an interrupted read; that counts too.
 ///
 /// # Errors
 ///
-/// Where a read fails, an interrupted one aside, where 1,000,000 reads don't come to the end, or where there is no memory.
+/// When a read fails other than by an interrupt, 1,000,000 reads don't reach the end, or memory runs out.
 pub fn read_text<R: Read>(alloc: Global, reader: &mut R) -> io::Result<TextRead>
     ensures { IfOk result (IsReading (R.remaining reader.old)) }
 {

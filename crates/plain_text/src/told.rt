@@ -1,4 +1,4 @@
-//! Why something failed, as it is told on standard error.
+//! Reports of failures on standard error.
 ghost use Rattle.std.specs.Prelude.{◌≡◌};
 
 use crate::lines::FAILED;
@@ -6,10 +6,10 @@ use std::cell::Cell;
 use std::io::{self, ErrorKind, Read, Write};
 use std::str;
 
-/// Standard error.
+/// A writer to standard error.
 #[derive(Drop)]
 pub struct Errors<'a, R: Eprint> {
-    /// What prints there.
+    /// The access to standard error.
     pub rt: &'a R,
 }
 
@@ -29,7 +29,7 @@ impl<R: Eprint> Write for Errors<'_, R> {
     }
 }
 
-/// Tells on standard error what failed by its name, and keeps whether it has. What it tells is in no clause.
+/// Reports on standard error the name of what failed, and remembers that it did. No clause states the text of a report.
 #[derive(Drop)]
 pub struct Teller<'a, H: Eprint> {
     host: &'a H,
@@ -37,7 +37,7 @@ pub struct Teller<'a, H: Eprint> {
 }
 
 impl<'a, H: Eprint> Teller<'a, H> {
-    /// Nothing was told.
+    /// A teller that has reported nothing.
     pub fn new(host: &'a H) -> Self {
         Teller {
             host,
@@ -45,7 +45,7 @@ impl<'a, H: Eprint> Teller<'a, H> {
         }
     }
 
-    /// Tells why what has this name failed. Of want of memory there is nothing to tell by a name.
+    /// Reports why the thing of this name failed. If memory ran out it reports nothing.
     pub fn tell(&self, name: &str, error: &io::Error) {
         if error.kind() == ErrorKind::OutOfMemory {
             return;
@@ -56,7 +56,7 @@ impl<'a, H: Eprint> Teller<'a, H> {
             .eprintln(format_args!("mtp2_play: {name}: {error}"));
     }
 
-    /// Tells why what has this name failed. Gives the exit status.
+    /// As `tell`. Returns the exit status 4.
     pub fn fail(&self, name: &str, error: &io::Error) -> u8
         ensures { result ≡ 4 }
     {
@@ -64,18 +64,18 @@ impl<'a, H: Eprint> Teller<'a, H> {
         FAILED
     }
 
-    /// Standard error, for whatever else is told there.
+    /// Standard error, for other reports.
     pub fn errors(&self) -> Errors<'a, H> {
         Errors { rt: self.host }
     }
 
-    /// Whether something was told by its name.
+    /// Whether a failure was reported with a name.
     pub fn has_named(&self) -> bool {
         self.named.get()
     }
 }
 
-/// A reader with a name, of which a read that fails is told. Nothing is known of what it gives.
+/// A reader with a name, whose failed reads are reported. No clause states what it returns.
 #[derive(Drop)]
 pub struct NamedReader<'a, H: Eprint, R> {
     teller: &'a Teller<'a, H>,
@@ -84,7 +84,7 @@ pub struct NamedReader<'a, H: Eprint, R> {
 }
 
 impl<'a, H: Eprint, R: Read> NamedReader<'a, H, R> {
-    /// A reader by this name.
+    /// A reader with this name.
     pub fn new(teller: &'a Teller<'a, H>, name: &'a str, reader: R) -> Self {
         NamedReader {
             teller,

@@ -66,7 +66,7 @@ low_bits-not (suc k) n small =
     ∙ ap (λ m. not (n % 2 == 1) ∷ low_bits k m) half
     ∙ ap (λ bs. not (n % 2 == 1) ∷ bs) (low_bits-not k (n / 2) less)
 
--- a number of k bits is known by them
+-- numbers of at most k bits are equal if their k low bits are
 pub low_bits-same : (k a b : ℕ) → a < 2 ^ k → b < 2 ^ k → low_bits k a ≡ low_bits k b → a ≡ b
 unfolding low_bits
 low_bits-same zero a b a_small b_small same = omega arith
@@ -89,7 +89,7 @@ unfolding bits_of
 length-bits_of [] = refl
 length-bits_of (x ∷ xs) = length-append (low_bits 8 x) (bits_of xs) ∙ rw (length-low_bits 8 x, length-bits_of xs) (omega arith)
 
--- octets are known by their bits
+-- octets are equal if their bits are
 pub bits_of-same : (xs ys : List ℕ) → AreOctets xs → AreOctets ys → length xs ≡ length ys → bits_of xs ≡ bits_of ys → xs ≡ ys
 unfolding bits_of
 bits_of-same [] [] x_fit y_fit long same = refl

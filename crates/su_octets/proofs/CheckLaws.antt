@@ -1,4 +1,4 @@
--- Check octets: what the register gives are check octets, and no others are.
+-- Check octets: the complement of the register is the pair of check octets, and no other pair is.
 use Rattle.std.proofs.Common.{◌≡◌, ℕ, ◌-◌, ◌/◌, ◌%◌, ◌^◌, ◌<◌, Bool, true, false, not, List, [], ◌∷◌, ◌++◌, map, length, reverse, refl, sym, ap, ◌∙◌, subst, arith}
 use Rattle.std.proofs.lemmas.List.{reverse-reverse, length-reverse, append-nil}
 use Rattle.su_octets.specs.Polynomial.{plus, IsRemainder}
@@ -40,7 +40,7 @@ check_of_register register content small holds =
       octets = (omega arith, (omega arith, tt));
     }
 
--- check octets are those of one content
+-- a content has one pair of check octets
 pub one_check : (content a b : List ℕ) → Check content a → Check content b → a ≡ b
 one_check content a b of_a of_b =
     let first : of_a.first ≡ of_b.first =

@@ -1,4 +1,4 @@
--- Octets are those of one unit at most, and then they aren't refused.
+-- Octets are those of at most one unit, and octets of a unit aren't refused.
 use Rattle.std.proofs.Common.{◌≡◌, ℕ, ◌+◌, ◌-◌, ◌*◌, ◌/◌, ◌%◌, ◌<◌, ◌≤◌, suc, Bool, true, false, not, Some, None, Result, Ok, Err, List, [], ◌∷◌, ◌++◌, length, take, drop, get_or, refl, sym, ap, ◌∙◌, subst, arith, add-zero, append_assoc, lit<, lit≤}
 use Rattle.std.specs.Prelude.{slice_index, slice_index_or, ◌↔◌, Option, IfSome, IfNone, IsTrue, is_some}
 use Rattle.std.proofs.lemmas.List.{length-append, length-take, take-append-drop}
@@ -17,7 +17,7 @@ use Rattle.arrayvec.specs.ArrayVec.{ArrayVec}
 use Rattle.su_octets.proofs.CheckLaws.{one_check}
 use Rattle.plain_laws.proofs.Lists.{head_same as head_item, tail_same as tail_items}
 
--- of several reasons one is given
+-- octets are refused for one fault only
 pub one_fault : (octets : List ℕ) (f g : UnitFault) → Refuses octets f → Refuses octets g → f ≡ g
 one_fault octets TooShort TooShort x y = refl
 one_fault octets TooShort TooLong x y = absurd (omega arith)
@@ -36,7 +36,7 @@ one_fault octets BadLength TooLong x y = absurd (omega (arith, x.0.1))
 one_fault octets BadLength BadCheck x y = absurd (y.1 x.1)
 one_fault octets BadLength BadLength x y = refl
 
--- a body has 273 octets at most
+-- a body has at most 273 octets
 pub body_fits : (unit : Unit) → IsWhole unit → length (body_of unit) ≤ 273
 body_fits (Fisu head) whole = lit≤ tt
 body_fits (Lssu head status None) whole = lit≤ tt
@@ -95,7 +95,7 @@ not_refused octets unit TooLong frame refused = let p = parts_of octets unit fra
 not_refused octets unit BadCheck frame refused = refused.1 (checked_of octets unit frame)
 not_refused octets unit BadLength frame refused = refused.2 (tells_of octets unit frame)
 
--- ---- a unit is known by its octets
+-- ---- octets determine the unit
 same_head : (u v : Head) → IsWholeHead u → IsWholeHead v → u.bsn + 128 * u.bib ≡ v.bsn + 128 * v.bib → u.fsn + 128 * u.fib ≡ v.fsn + 128 * v.fib → u ≡ v
 same_head u v u_whole v_whole first second =
     let bsn : u.bsn ≡ v.bsn = omega arith in
@@ -128,7 +128,7 @@ same_unit (Msu h i f) (Msu k j g) uw vw head body =
     let fields : f ≡ g = same_items f g items in
     cc
 
--- octets are those of one unit at most
+-- octets are those of at most one unit
 pub one_unit : (octets : List ℕ) (u v : Unit) → Frame octets u → Frame octets v → u ≡ v
 one_unit octets u v of_u of_v =
     let content : content_of u of_u.spare ≡ content_of v of_v.spare = sym (parts_of octets u of_u).front ∙ (parts_of octets v of_v).front in
@@ -148,7 +148,7 @@ one_spelling a b unit of_a a_zero of_b b_zero =
     let check : of_a.check ≡ of_b.check = one_check (content_of unit of_b.spare) of_a.check of_b.check (subst P same of_a.checked) of_b.checked in
     of_a.all ∙ ap (λ s. content_of unit s ++ of_a.check) same ∙ ap (λ c. content_of unit of_b.spare ++ c) check ∙ sym of_b.all
 
--- ---- what decode answers
+-- ---- the result of decode
 pub found_by : (octets : List ℕ) (u : Unit) → Frame octets u → (unit : Unit) → (◌≡◌ {A = Result Unit UnitFault} (Ok u) (Ok unit)) ↔ Frame octets unit
 found_by octets u frame unit = (λ same. let P : Unit → Type 0 = λ v. Frame octets v in let e : u ≡ unit = cc in subst P e frame, λ of_unit. ap Ok (one_unit octets u unit frame of_unit))
 
@@ -159,7 +159,7 @@ pub refused_by : (octets : List ℕ) (fault : UnitFault) → Refuses octets faul
 refused_by octets fault refused f =
     (λ same. let P : UnitFault → Type 0 = λ g. Refuses octets g in let e : fault ≡ f = cc in subst P e refused, λ of_f. ap Err (one_fault octets fault f refused of_f))
 
--- ---- what encode and decode put together
+-- ---- encode and decode build units and octets from their parts
 content_is : (unit : Unit) (h : Head) (n : ℕ) (l0 l1 l2 l3 l4 : List ℕ) → l0 ≡ [] → l1 ≡ l0 ++ (h.bsn + 128 * h.bib) ∷ [] → l2 ≡ l1 ++ (h.fsn + 128 * h.fib) ∷ []
     → l3 ≡ l2 ++ n ∷ [] → l4 ≡ l3 ++ body_of unit → h ≡ head_of unit → n ≡ length_indicator (length (body_of unit)) → l4 ≡ content_of unit 0
 content_is unit h n l0 l1 l2 l3 l4 e0 e1 e2 e3 e4 head indicator =
@@ -272,7 +272,7 @@ unit_at octets h unit size checked tells first second fits body whole head =
     unit_of_parts octets front (drop (length octets - 2) octets) h unit (sym (take-append-drop (length octets - 2) octets)) checked (omega (arith, size.0)) first second
     (tells ∙ ap length_indicator m) fits (body ∙ ap (λ k. take k (drop 3 octets)) m) whole head
 
--- the unit of a head and what stands behind the length indicator
+-- the unit with a head and the octets after the length indicator
 abbrev unit_by : Head → List ℕ → Unit
 unit_by h [] = Fisu h
 unit_by h (a ∷ []) = Lssu h a None

@@ -1,4 +1,4 @@
--- An octet at once does to the register what its eight bits do one after the other.
+-- One step by an octet changes the register as eight steps by its bits do.
 use Rattle.std.proofs.Common.{◌≡◌, ℕ, ◌+◌, ◌*◌, ◌/◌, ◌%◌, ◌^◌, ◌<◌, zero, suc, Bool, false, List, [], ◌∷◌, ◌++◌, length, reverse, replicate, refl, sym, ap, ◌∙◌, arith}
 use Rattle.std.specs.Prelude.{bit_xor, ◌==◌}
 use Rattle.std.proofs.lemmas.Nat.{xor_lt}
@@ -30,7 +30,7 @@ low_bits-up (suc j) k n =
     ∙ ap (λ m. false ∷ low_bits (j + k) m) half
     ∙ ap (λ bs. false ∷ bs) (low_bits-up j k n)
 
--- a number of j bits has zeros behind them
+-- the bits of a number below 2^j are followed by zeros
 low_bits-small : (j k n : ℕ) → n < 2 ^ j → low_bits (j + k) n ≡ low_bits j n ++ replicate k false
 low_bits-small j k n small =
     low_bits-split j k n ∙ ap (λ m. low_bits j n ++ low_bits k m) (div_small n j small) ∙ ap (λ bs. low_bits j n ++ bs) (low_bits-none k)
@@ -45,14 +45,14 @@ halves n us vs long same = front_same (low_bits 8 n) us (low_bits 8 (n / 256)) v
 quarters : (n : ℕ) (us vs : List Bool) → length us ≡ 4 → low_bits 8 n ≡ us ++ vs → (low_bits 4 n ≡ us) × (low_bits 4 (n / 16) ≡ vs)
 quarters n us vs long same = front_same (low_bits 4 n) us (low_bits 4 (n / 16)) vs (length-low_bits 4 n ∙ sym long) (sym (low_bits-split 4 4 n) ∙ same)
 
--- ---- the bits that come back
+-- ---- the bits that are fed back
 abbrev pub mixed_of : ℕ → ℕ → ℕ
 mixed_of register octet = bit_xor (register % 256) octet
 
 abbrev pub fed_of : ℕ → ℕ
 fed_of mixed = bit_xor (mixed * 16 % 256) mixed
 
--- by the low bits of the register and those of the octet
+-- computed from the low bits of the register and the bits of the octet
 abbrev early : Bool → Bool → Bool
 early r o = odd_sum r o
 
@@ -93,7 +93,7 @@ fed_bits register octet r0 r1 r2 r3 r4 r5 r6 r7 o0 o1 o2 o3 o4 o5 o6 o7 of_regis
 abbrev pub next_of : ℕ → ℕ → ℕ
 next_of fed register = bit_xor (bit_xor (bit_xor (fed / 16) (fed * 8 % 65536)) (fed * 256 % 65536)) (register / 256)
 
--- by the bits that come back and the high bits of the register
+-- computed from the bits that are fed back and the high bits of the register
 abbrev after : Bool → Bool → Bool → Bool → Bool → Bool → Bool → Bool → Bool → Bool → Bool → Bool → Bool → Bool → Bool → Bool → List Bool
 after f0 f1 f2 f3 f4 f5 f6 f7 s0 s1 s2 s3 s4 s5 s6 s7 =
     odd_sum f4 s0 ∷ odd_sum f5 s1 ∷ odd_sum f6 s2 ∷ odd_sum f7 (odd_sum f0 s3) ∷ odd_sum f1 s4 ∷ odd_sum f2 s5 ∷ odd_sum f3 s6 ∷ odd_sum f4 s7

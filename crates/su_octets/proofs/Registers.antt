@@ -12,7 +12,7 @@ use Rattle.su_octets.proofs.BitLists.{bits_of-append}
 abbrev pub dividend : List Bool → List Bool
 dividend sent = plus (raised sent) (raised_ones (length sent))
 
--- the word after one more bit
+-- the register word after one more bit
 abbrev pub step : Bool → Word → Word
 step b w = record { c0 = odd_sum w.c15 b; c1 = w.c0; c2 = w.c1; c3 = w.c2; c4 = w.c3; c5 = odd_sum (odd_sum w.c15 b) w.c4; c6 = w.c5; c7 = w.c6; c8 = w.c7; c9 = w.c8; c10 = w.c9; c11 = w.c10; c12 = odd_sum (odd_sum w.c15 b) w.c11; c13 = w.c12; c14 = w.c13; c15 = w.c14 }
 
@@ -59,7 +59,7 @@ length-raised sent = length-append (replicate 16 false) sent ∙ omega arith
 length-dividend : (sent : List Bool) → length (dividend sent) ≡ length sent + 16
 length-dividend sent = length-plus (raised sent) (raised_ones (length sent)) (length sent + 16) (length-raised sent) (length-ones (length sent))
 
--- the bits of the register in order of sending
+-- the bits of the register in order of transmission
 pub register_bits : (register : ℕ) (sent : List Bool) → Register register sent → low_bits 16 register ≡ reverse (bits (remainder (dividend sent)))
 unfolding Register
 register_bits register sent holds =

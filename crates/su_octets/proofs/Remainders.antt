@@ -23,7 +23,7 @@ xor_assoc false b c = refl
 xor_assoc true true c = sym (xor_twice c)
 xor_assoc true false c = refl
 
--- the middle two of four change places
+-- the middle two of four operands are exchanged
 pub xor_cross : (a b c d : Bool) → odd_sum (odd_sum a b) (odd_sum c d) ≡ odd_sum (odd_sum a c) (odd_sum b d)
 xor_cross a b c d =
     xor_assoc a b (odd_sum c d) ∙ ap (λ x. odd_sum a x) (sym (xor_assoc b c d) ∙ ap (λ x. odd_sum x d) (xor_comm b c) ∙ xor_assoc c b d)
@@ -89,7 +89,7 @@ remainders_add r s p q of_p of_q = record {
       ∙ ap (λ x. plus x (plus r s)) (sym (times-plus of_p.quotient of_q.quotient generator));
 }
 
--- ---- sixteen bits, by the power that each stands for
+-- ---- sixteen bits, each named by its power
 pub record Word : Type 0 where
   pub c0 : Bool
   pub c1 : Bool
@@ -117,7 +117,7 @@ none = record { c0 = false; c1 = false; c2 = false; c3 = false; c4 = false; c5 =
 abbrev pub sum_of : Word → Word → Word
 sum_of v w = record { c0 = odd_sum v.c0 w.c0; c1 = odd_sum v.c1 w.c1; c2 = odd_sum v.c2 w.c2; c3 = odd_sum v.c3 w.c3; c4 = odd_sum v.c4 w.c4; c5 = odd_sum v.c5 w.c5; c6 = odd_sum v.c6 w.c6; c7 = odd_sum v.c7 w.c7; c8 = odd_sum v.c8 w.c8; c9 = odd_sum v.c9 w.c9; c10 = odd_sum v.c10 w.c10; c11 = odd_sum v.c11 w.c11; c12 = odd_sum v.c12 w.c12; c13 = odd_sum v.c13 w.c13; c14 = odd_sum v.c14 w.c14; c15 = odd_sum v.c15 w.c15 }
 
--- the remainder of x times the word, with another lowest bit
+-- the remainder of x times the word plus a lowest bit
 abbrev pub push_low : Bool → Word → Word
 push_low b w = record { c0 = odd_sum w.c15 b; c1 = w.c0; c2 = w.c1; c3 = w.c2; c4 = w.c3; c5 = odd_sum w.c15 w.c4; c6 = w.c5; c7 = w.c6; c8 = w.c7; c9 = w.c8; c10 = w.c9; c11 = w.c10; c12 = odd_sum w.c15 w.c11; c13 = w.c12; c14 = w.c13; c15 = w.c14 }
 
@@ -153,12 +153,12 @@ pub remainder-bits : (w : Word) → remainder (bits w) ≡ w
 unfolding remainder
 remainder-bits w = refl
 
--- sixteen bits are those of a word
+-- any sixteen bits are the bits of a word
 pub word_of : (r : List Bool) → length r ≡ 16 → (w : Word) × (bits w ≡ r)
 word_of (x0 ∷ x1 ∷ x2 ∷ x3 ∷ x4 ∷ x5 ∷ x6 ∷ x7 ∷ x8 ∷ x9 ∷ x10 ∷ x11 ∷ x12 ∷ x13 ∷ x14 ∷ x15 ∷ []) short = (record { c0 = x0; c1 = x1; c2 = x2; c3 = x3; c4 = x4; c5 = x5; c6 = x6; c7 = x7; c8 = x8; c9 = x9; c10 = x10; c11 = x11; c12 = x12; c13 = x13; c14 = x14; c15 = x15 }, refl)
 word_of _ short = absurd (omega arith)
 
--- a polynomial has one remainder, which is `remainder`
+-- a polynomial has one remainder, which `remainder` computes
 pub only_remainder : (r p : List Bool) → IsRemainder r p → r ≡ bits (remainder p)
 only_remainder r p of_p =
     let sixteen : (w : Word) × (bits w ≡ r) = word_of r of_p.short in
@@ -168,7 +168,7 @@ only_remainder r p of_p =
     ∙ sym (ap remainder sixteen.1) ∙ remainder-bits sixteen.0 in
     sym sixteen.1 ∙ ap bits (sym same)
 
--- the generator, where the highest power calls for it, and the remainder are one bit more
+-- The generator (if the highest bit is set) plus the remainder is the word shifted by one bit.
 cancels : (b c w0 w1 w2 w3 w4 w5 w6 w7 w8 w9 w10 w11 w12 w13 w14 : Bool) →
     plus (scale c generator) (odd_sum c b ∷ w0 ∷ w1 ∷ w2 ∷ w3 ∷ odd_sum c w4 ∷ w5 ∷ w6 ∷ w7 ∷ w8 ∷ w9 ∷ w10 ∷ odd_sum c w11 ∷ w12 ∷ w13 ∷ w14 ∷ []) ≡ b ∷ w0 ∷ w1 ∷ w2 ∷ w3 ∷ w4 ∷ w5 ∷ w6 ∷ w7 ∷ w8 ∷ w9 ∷ w10 ∷ w11 ∷ w12 ∷ w13 ∷ w14 ∷ c ∷ []
 unfolding plus scale generator

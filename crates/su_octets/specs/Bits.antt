@@ -1,4 +1,4 @@
--- Octets as the bits that go on the line.
+-- Octets as bits on the line.
 use Rattle.std.specs.Prelude.{ℕ, ◌/◌, ◌%◌, zero, suc, ◌==◌, ◌<◌, Bool, List, [], ◌∷◌, ◌++◌}
 
 -- the low k bits of a number, the lowest first

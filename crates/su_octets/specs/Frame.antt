@@ -21,14 +21,14 @@ status_code_of (Fisu head) = None
 status_code_of (Lssu head status second) = Some (status % 8)
 status_code_of (Msu head sio sif) = None
 
--- what stands between the length indicator and the check octets
+-- the octets between the length indicator and the check octets
 abbrev pub body_of : Unit → List ℕ
 body_of (Fisu head) = []
 body_of (Lssu head status None) = status ∷ []
 body_of (Lssu head status (Some second)) = status ∷ second ∷ []
 body_of (Msu head sio sif) = sio ∷ sif.items
 
--- the length indicator before n octets: n below 63, and 63 for 63 and more
+-- the length indicator for n octets: n itself below 63, otherwise 63
 abbrev pub length_indicator : ℕ → ℕ
 length_indicator n = min n 63
 
@@ -41,7 +41,7 @@ content_of unit spare =
     ∷ (length_indicator (length (body_of unit)) + 64 * spare)
     ∷ body_of unit
 
--- The octets are the unit's: its fields, and their check octets. The two spare bits may be any.
+-- The octets are those of the unit: its fields and check octets. The two spare bits are free.
 pub record Frame (octets : List ℕ) (unit : Unit) : Type 0 where
   pub whole : IsWhole unit
   pub spare : ℕ
@@ -54,19 +54,19 @@ pub record Frame (octets : List ℕ) (unit : Unit) : Type 0 where
 abbrev pub SpareBitsAreZero : List ℕ → Type 0
 SpareBitsAreZero octets = slice_index octets 2 < 64
 
--- a signal unit of the least and the greatest length, between the flags
+-- the least and the greatest length of a signal unit, without flags
 abbrev pub InSize : List ℕ → Type 0
 InSize octets = (5 ≤ length octets) × (length octets ≤ 278)
 
--- the last two octets are the check octets of what stands before them
+-- the last two octets are the check octets of the octets before them
 abbrev pub IsChecked : List ℕ → Type 0
 IsChecked octets = Check (take (length octets - 2) octets) (drop (length octets - 2) octets)
 
--- the length indicator is the one for the number of octets behind it
+-- the length indicator is right for the number of octets between it and the check octets
 abbrev pub TellsLength : List ℕ → Type 0
 TellsLength octets = slice_index octets 2 % 64 ≡ length_indicator (length octets - 5)
 
--- why octets are refused; of several reasons the first one counts
+-- why octets are refused: the first fault that applies
 abbrev pub Refuses : List ℕ → UnitFault → Type 0
 Refuses octets TooShort = length octets < 5
 Refuses octets TooLong = 278 < length octets

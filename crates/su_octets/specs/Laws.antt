@@ -21,7 +21,7 @@ CheckIsOneRemainder = (content check : List ℕ) → Check content check
 abbrev pub OneCheck : Type 0
 OneCheck = (content a b : List ℕ) → Check content a → Check content b → a ≡ b
 
--- octets are those of one unit at most
+-- octets are those of at most one unit
 abbrev pub OneUnit : Type 0
 OneUnit = (octets : List ℕ) (u v : Unit) → Frame octets u → Frame octets v → u ≡ v
 

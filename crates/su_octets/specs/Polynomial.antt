@@ -1,5 +1,4 @@
--- Polynomials modulo 2. A list of bits is a polynomial, its first bit the coefficient of the
--- lowest power.
+-- Polynomials modulo 2 as lists of bits. The first bit is the coefficient of the lowest power.
 use Rattle.std.specs.Prelude.{◌≡◌, Bool, true, false, not, ◌&&◌, List, [], ◌∷◌, map, length}
 
 -- the sum of two bits modulo 2
@@ -28,7 +27,7 @@ generator =
     true ∷ false ∷ false ∷ false ∷ false ∷ true ∷ false ∷ false ∷ false ∷ false ∷ false ∷ false
     ∷ true ∷ false ∷ false ∷ false ∷ true ∷ []
 
--- r is the remainder of p: it has sixteen bits, and differs from p by a product with the generator
+-- r is the remainder of p: it has sixteen bits, and p is a multiple of the generator plus r
 pub record IsRemainder (r p : List Bool) : Type 0 where
   pub short : length r ≡ 16
   pub quotient : List Bool

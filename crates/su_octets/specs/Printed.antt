@@ -1,5 +1,4 @@
--- How signal units are printed, and why octets are none: bytes without an end of line, numbers in
--- decimal.
+-- The printed text of signal units and of faults: bytes without an end of line, numbers in decimal.
 use Rattle.std.specs.Prelude.{ℕ, ◌/◌, ◌%◌, true, List, [], ◌∷◌, ◌++◌, codes, slice_get, unwrap_or}
 use Rattle.std.specs.Fmt.{decimal, digit_glyph}
 use Rattle.arrayvec.specs.ArrayVec.{array_vec_len}
@@ -11,7 +10,7 @@ use Rattle.su_octets.specs.declared.units.UnitFault.{UnitFault}
 use Rattle.su_octets.specs.declared.units.UnitFault.TheVariants.{TooShort, TooLong, BadCheck}
 use Rattle.su_octets.specs.declared.units.UnitFault.TheVariants.{BadLength}
 
--- the numbers and indicator bits, backward before forward
+-- the sequence numbers and indicator bits, backward before forward
 abbrev pub head_text : Head → List ℕ
 head_text head =
     codes "bsn " ++ decimal head.bsn ++ codes " bib " ++ decimal head.bib ++ codes " fsn "

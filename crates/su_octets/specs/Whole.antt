@@ -4,7 +4,7 @@ use Rattle.su_octets.specs.declared.units.Head.{Head}
 use Rattle.su_octets.specs.declared.units.Unit.{Unit}
 use Rattle.su_octets.specs.declared.units.Unit.TheVariants.{Fisu, Lssu, Msu}
 
--- sequence numbers of seven bits, and indicator bits
+-- sequence numbers of seven bits, and indicator bits of one
 pub record IsWholeHead (head : Head) : Type 0 where
   pub bsn : head.bsn < 128
   pub bib : head.bib < 2

@@ -7,8 +7,8 @@ ghost use Rattle.su_octets.specs.Register.{Register};
 /// The register before the first bit.
 const START: u16 = 0xffff;
 
-/// The register after one more octet. Its eight bits go in at once: `fed` has the ones that each of the eight
-/// shifts brings back, and these stand in the register at x^0, x^5 and x^12 (Q.703, 4.2).
+/// The register after one more octet. Its eight bits enter at once: `fed` holds the ones that each of the eight
+/// shifts feeds back. They enter the register at x^0, x^5 and x^12 (Q.703, 4.2).
 fn shift_octet(register: u16, octet: u8) -> u16
     ensures { (sent : List Bool) → Register register sent → Register result (reverse (low_bits 8 octet) ++ sent) }
 {
@@ -28,7 +28,7 @@ fn register_of(content: &[u8]) -> u16
     register
 }
 
-/// The two check octets of the content, which are sent behind it (Q.703, 4.2).
+/// The two check octets of the content, which are sent after it (Q.703, 4.2).
 pub fn check_bits(content: &[u8]) -> [u8; 2]
     ensures { Check content.now result }
 {

@@ -1,4 +1,4 @@
-//! Signal units to octets and back.
+//! Encoding and decoding of signal units.
 ghost use Rattle.std.specs.Prelude.{◌≡◌, ◌↔◌, ◌+◌, ◌*◌, ◌≤◌, ◌<◌, ◌++◌, IsTrue, IfSome, IfNone, length, Ok, Err};
 ghost use Rattle.arrayvec.specs.ArrayVec.{array_vec_len};
 ghost use Rattle.su_octets.specs.Frame.{Frame, Refuses, SpareBitsAreZero, InSize, IsChecked, TellsLength, head_of, body_of, length_indicator};
@@ -10,23 +10,23 @@ use crate::check::check_bits;
 use crate::units::{Head, Unit, UnitFault};
 use arrayvec::ArrayVec;
 
-/// The least number of octets of a unit: a head, the length indicator, two check octets.
+/// The least number of octets of a unit: two of the head, the length indicator, two check octets.
 const SHORTEST: usize = 5;
 
 /// The greatest number of octets of a unit.
 const LONGEST: usize = 278;
 
-/// The length indicator that stands for all greater numbers too.
+/// The length indicator for 63 octets or more.
 const LONG: u8 = 63;
 
-/// The length indicator before `n` octets.
+/// The length indicator for `n` octets.
 fn indicator(n: usize) -> u8
     ensures { result ≡ length_indicator n }
 {
     if n < 63 { n as u8 } else { LONG }
 }
 
-/// Puts the octets between the length indicator and the check octets at the end.
+/// Appends the octets between the length indicator and the check octets.
 fn push_body(unit: &Unit, octets: &mut ArrayVec<u8, 278>)
     requires { array_vec_len octets.old + length (body_of unit.now) ≤ 278 }
     ensures { octets.new.items ≡ octets.old.items ++ body_of unit.now }
@@ -45,8 +45,8 @@ fn push_body(unit: &Unit, octets: &mut ArrayVec<u8, 278>)
     }
 }
 
-/// Puts the octets of the unit, without flags, into `octets`, in place of what was there. The spare
-/// bits behind the length indicator are 0 (Q.703, 2.3.3).
+/// Replaces `octets` by the octets of the unit, without flags. The spare bits above the length indicator
+/// are 0 (Q.703, 2.3.3).
 pub fn encode(unit: &Unit, octets: &mut ArrayVec<u8, 278>)
     requires { IsWhole unit.now }
     ensures frame { Frame octets.new.items unit.now }
@@ -63,7 +63,7 @@ pub fn encode(unit: &Unit, octets: &mut ArrayVec<u8, 278>)
     octets.push(high);
 }
 
-/// The head in the first two octets.
+/// The head that the first two octets encode.
 fn head_at(first: u8, second: u8) -> Head
     ensures whole { IsWholeHead result }
     ensures first { first ≡ result.bsn + 128 * result.bib }
@@ -77,7 +77,7 @@ fn head_at(first: u8, second: u8) -> Head
     }
 }
 
-/// The unit of this head and these octets behind the length indicator.
+/// The unit with this head and these octets after the length indicator.
 fn unit_of(head: Head, body: &[u8]) -> Unit
     requires whole { IsWholeHead head }
     requires fits { length body.now ≤ 273 }
@@ -97,7 +97,7 @@ fn unit_of(head: Head, body: &[u8]) -> Unit
     }
 }
 
-/// Why the octets, without flags, are those of no signal unit. Of several reasons the first one counts.
+/// Why the octets, without flags, are no signal unit: the first fault that applies.
 fn fault_of(octets: &[u8]) -> Option<UnitFault>
     ensures fault { IfSome result (λ fault. Refuses octets.now fault) }
     ensures none { IfNone result (InSize octets.now × IsChecked octets.now × TellsLength octets.now) }
@@ -118,23 +118,23 @@ fn fault_of(octets: &[u8]) -> Option<UnitFault>
     None
 }
 
-/// Whether the octets, without flags, are those of a signal unit: whether `decode` gives one.
+/// Whether the octets, without flags, are those of a signal unit: whether `decode` returns one.
 pub fn is_unit(octets: &[u8]) -> bool
     ensures { IsTrue result ↔ ((unit : Unit) × Frame octets.now unit) }
 {
     fault_of(octets).is_none()
 }
 
-/// The unit that the octets, without flags, are.
+/// Decodes the octets of a signal unit, without flags.
 ///
 /// # Errors
 ///
-/// Of several reasons the first of these counts.
+/// The first of these that applies.
 ///
-/// - `TooShort` where there are fewer than 5 octets.
-/// - `TooLong` where there are more than 278.
-/// - `BadCheck` where the last two octets aren't the check octets of the others (Q.703, 4.2).
-/// - `BadLength` where the length indicator is wrong (Q.703, 2.3.3).
+/// - `TooShort` if there are fewer than 5 octets.
+/// - `TooLong` if there are more than 278.
+/// - `BadCheck` if the last two octets aren't the check octets of the others (Q.703, 4.2).
+/// - `BadLength` if the length indicator is wrong (Q.703, 2.3.3).
 pub fn decode(octets: &[u8]) -> Result<Unit, UnitFault>
     ensures found { (unit : Unit) → (result ≡ Ok unit) ↔ Frame octets.now unit }
     ensures refused { (fault : UnitFault) → (result ≡ Err fault) ↔ Refuses octets.now fault }

@@ -1,5 +1,5 @@
 //! Laws over the definitions that the contracts of this crate cite. Each is the contract of a function
-//! that does nothing, but for the last, which encodes and decodes.
+//! without code, except the last, which encodes and decodes.
 ghost use Rattle.std.specs.Prelude.{◌≡◌, Ok};
 ghost use Rattle.su_octets.specs.Laws.{RemaindersAdd, CheckIsOneRemainder, OneCheck, OneUnit, OneSpelling};
 ghost use Rattle.su_octets.specs.Whole.{IsWhole};
@@ -13,7 +13,7 @@ pub fn remainders_add()
     ensures { RemaindersAdd }
 {}
 
-/// The two remainders of which the check bits are made are one, of the sum of the two polynomials.
+/// The sum of the two remainders in the check bits is one remainder: that of the sum of the two polynomials.
 pub fn check_is_one_remainder()
     ensures { CheckIsOneRemainder }
 {}
@@ -23,7 +23,7 @@ pub fn one_check()
     ensures { OneCheck }
 {}
 
-/// Octets are those of one unit at most.
+/// Octets are those of at most one unit.
 pub fn one_unit()
     ensures { OneUnit }
 {}
@@ -33,7 +33,7 @@ pub fn one_spelling()
     ensures { OneSpelling }
 {}
 
-/// The unit by way of its octets: what is encoded decodes to the same unit.
+/// Encodes the unit and decodes its octets: the result is the same unit.
 pub fn through_octets(unit: &Unit) -> Result<Unit, UnitFault>
     requires { IsWhole unit.now }
     ensures { result ≡ Ok unit.now }

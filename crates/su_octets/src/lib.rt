@@ -1,7 +1,7 @@
 //! Signal units of MTP level 2 (ITU-T Q.703) as octets, and their check bits.
 //!
-//! `encode` gives the octets of a unit between the flags, `decode` the unit of such octets, and
-//! `check_bits` the two check octets of a content. No call here can answer that memory is wanting.
+//! `encode` writes the octets of a unit between the flags, `decode` returns the unit of such octets, and
+//! `check_bits` returns the two check octets of a content. No call can fail because memory runs out.
 #![tactic(auto)]
 
 mod check;

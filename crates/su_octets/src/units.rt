@@ -9,7 +9,7 @@ use arrayvec::ArrayVec;
 use std::fmt;
 use thiserror::Error;
 
-/// The numbers and indicator bits that every signal unit begins with (Q.703, 2.3).
+/// The sequence numbers and indicator bits at the start of every signal unit (Q.703, 2.3).
 #[derive(Clone, Copy, Debug, PartialEq, Eq)]
 pub struct Head {
     /// The backward sequence number, 0 to 127.
@@ -28,7 +28,7 @@ pub enum Unit {
     /// A fill-in signal unit.
     Fisu(Head),
     /// A link status signal unit: the first octet of the status field, whose low three bits are the
-    /// status code, and the second one where there is one.
+    /// status code, and the second octet if the field has two.
     Lssu(Head, u8, Option<u8>),
     /// A message signal unit: the service information octet and the signalling information field,
     /// of 2 to 272 octets.
@@ -44,13 +44,13 @@ pub enum UnitFault {
     TooLong,
     /// The check octets aren't those of the content.
     BadCheck,
-    /// The length indicator isn't the number of octets between it and the check octets, or 63
-    /// where there are 63 or more.
+    /// The length indicator isn't the number of octets between it and the check octets, or 63 if
+    /// there are 63 or more.
     BadLength,
 }
 
 impl Head {
-    /// Whether the numbers have seven bits and the indicators one.
+    /// Whether the sequence numbers have seven bits and the indicator bits one.
     pub fn whole(&self) -> bool
         ensures { IsTrue result ↔ IsWholeHead self.now }
     {
@@ -71,7 +71,7 @@ impl Unit {
         }
     }
 
-    /// The numbers and indicator bits.
+    /// The sequence numbers and indicator bits.
     pub fn head(&self) -> Head
         ensures { result ≡ head_of self.now }
     {
@@ -93,7 +93,7 @@ impl Unit {
         }
     }
 
-    /// How many octets stand between the length indicator and the check octets.
+    /// The number of octets between the length indicator and the check octets.
     pub fn body_len(&self) -> usize
         ensures { result ≡ length (body_of self.now) }
     {
@@ -106,8 +106,8 @@ impl Unit {
     }
 }
 
-/// The name of a status indication by its code, the low three bits of `status` (Q.703, 11.1.3). The
-/// codes without a name give their digit.
+/// The name of a status indication by its code, the low three bits of `status` (Q.703, 11.1.3). Codes 6
+/// and 7 have no name: for them it is the digit.
 pub fn status_name(status: u8) -> &'static str
     ensures { slice_get STATUS_NAMES (status % 8) ≡ Some result.now }
 {

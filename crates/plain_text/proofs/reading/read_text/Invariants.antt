@@ -1,4 +1,4 @@
--- What was read so far.
+-- The bytes read so far were kept and checked.
 use Rattle.plain_text.proofs.SoFar.{SoFar}
 use Rattle.plain_text.proofs.reading.read_text.Given as goal
 
