@@ -1,4 +1,4 @@
--- The greatest of some numbers, and the one list that holds too many of them.
+-- The greatest of some numbers, and the least length of a list that holds each number from 1 to n.
 use Rattle.std.proofs.Common.{◌≡◌, ◌≢◌, ℕ, zero, suc, ◌<◌, ◌≤◌, ◌⊎◌, inl, inr, eqb, true, false, if◌then◌else◌, List, [], ◌∷◌, length, map, Some, refl, sym, ap, ◌∙◌, subst, ⊎_elim, arith, le_trans}
 use Rattle.std.specs.Prelude.{slice_get, slice_index_or, Contains, All}
 use Rattle.std.proofs.Math.Nat.{le-max_left, le-max_right, max-eq_left, max-eq_right}

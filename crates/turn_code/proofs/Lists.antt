@@ -1,4 +1,4 @@
--- Lists, place by place.
+-- Lemmas on lists, element by element.
 use Rattle.std.proofs.Common.{◌≡◌, ℕ, zero, suc, ◌+◌, ◌-◌, ◌<◌, ◌≤◌, List, [], ◌∷◌, ◌++◌, length, map, take, drop, reverse, Some, refl, sym, ap, ◌∙◌, subst, arith, take_all, length-set}
 use Rattle.std.specs.Prelude.{slice_get, slice_set, Contains, All}
 use Rattle.std.specs.List.{AllZip, refill}
@@ -42,7 +42,7 @@ map_drop f (suc n) (x ∷ xs) = map_drop f n xs
 pub one_more : {A : Type 0} (xs : List A) (x : A) → length (xs ++ x ∷ []) ≡ length xs + 1
 one_more xs x = length-append xs (x ∷ [])
 
--- an element of two lists one behind the other
+-- an element of one of two lists is an element of the two lists joined
 pub in_first : {A : Type 0} (xs ys : List A) (x : A) → Contains xs x → Contains (xs ++ ys) x
 in_first [] ys x c = absurd (omega (arith, c.1))
 in_first (y ∷ xs) ys x (zero, h, e) = (0, omega arith, e)
@@ -56,21 +56,21 @@ in_second (y ∷ xs) ys x c =
     let r = in_second xs ys x c in
     (suc r.0, omega (arith, r.1), r.2)
 
--- the one element of a list
+-- a list of one element: what holds of the element holds of all elements
 pub only : {A : Type 0} (P : A → Type 0) (a : A) → All P (a ∷ []) → P a
 only P a h = h 0 a (omega arith)
 
 pub first_of : {A : Type 0} (a : A) (rest : List A) → Contains (a ∷ rest) a
 first_of a rest = (0, omega arith, refl)
 
--- a list filled up to its own length, after a write
+-- a list filled up to its own length after a write has that write and nothing else changed
 pub refill_set : {A : Type 0} (xs ws : List A) (k : ℕ) (a : A) → ws ≡ xs → refill (length xs) xs (slice_set ws k a) ≡ slice_set xs k a
 refill_set xs ws k a e =
     let long : length (slice_set ws k a) ≡ length xs = length-set ws k a ∙ ap length e in
     let front = take-append-le {A = _} (length xs) (slice_set ws k a) (drop (length (slice_set ws k a)) xs) (omega arith) in
     front ∙ take_all (length xs) (slice_set ws k a) (omega arith) ∙ ap (λ u. slice_set u k a) e
 
--- ---- the last of a list, seen from its end
+-- ---- the last element of a list
 front : {A : Type 0} (p q : List A) (m : ℕ) → length p ≡ m → take m (p ++ q) ≡ p
 front [] q zero e = refl
 front [] q (suc m) e = absurd (omega arith)

@@ -1,4 +1,4 @@
--- The effects of a run.
+-- The effects of a run of a valid transition are right.
 use Rattle.std.proofs.Common.{◌≡◌, ℕ, zero, suc, ◌+◌, ◌<◌, ◌≤◌, ℤ, pos, Bool as Truth, true, false, if◌then◌else◌, List, [], ◌∷◌, ◌++◌, length, map, take, drop, reverse, Option, Some, None, refl, sym, ap, ◌∙◌, subst, arith}
 use Rattle.std.specs.Prelude.{slice_get, int_lt, nat_le, Any, All}
 use Rattle.std.proofs.lemmas.List.{length-reverse, reverse-reverse, reverse-append, map-append}
@@ -35,13 +35,14 @@ use Rattle.turn_code.specs.declared.draft.DraftRoute.{DraftRoute}
 use Rattle.turn_code.specs.declared.draft.Trigger.{Trigger}
 use Rattle.turn_code.specs.declared.draft.Trigger.TheVariants.{Signal, Timer}
 
--- ---- one instruction: what holds of the effects before it and with its own holds of the effects behind it
+-- ---- one instruction: what holds of the effects before it, and of those with its own added, holds of the effects
+-- after it
 abbrev pub EffectsAre : (List Effect → Type 0) → After → Type 0
 EffectsAre P (goes k os s) = P s.effects
 EffectsAre P (ends e s) = P s.effects
 EffectsAre P (stuck z) = Unit {0}
 
--- what is asked of the effect that an instruction adds
+-- what must hold of the effects once an instruction has added its own
 abbrev pub Adds : (List Effect → Type 0) → Instruction → Input → List Value → List Effect → Type 0
 Adds P (Output n r c) x os es = (p : Address) → address_of r x.sender ≡ Some p → P (es ++ sending n p (reverse (take c os)) ∷ [])
 Adds P (Set t) x os es = (z : ℤ) → P (es ++ effect.Set t z ∷ [])
@@ -154,7 +155,7 @@ sorts_sent ps os c count agree under =
     map_turned sort_of (take c os) ∙ ap reverse (map_take sort_of c os) ∙ ap (λ n. reverse (take n (map sort_of os))) (sym long)
     ∙ ap reverse (agreed (reverse ps) (map sort_of os) agree under) ∙ reverse-reverse ps
 
--- ---- who gets an output
+-- ---- the receiver of an output
 abbrev pub IsReached : Draft → ℕ → SignalNumber → Party → Type 0
 IsReached d p n receiver = IsPartyOf d.processes receiver × Reaches d.routes p receiver n
 
@@ -182,7 +183,7 @@ right_more : (d : Draft) (t : Transition) (es : List Effect) (e : Effect) → Ar
 right_more d t [] e h one = (one, tt)
 right_more d t (y ∷ es) e h one = (h.0, right_more d t es e h.1 one)
 
--- what a run that ended gave is right
+-- the effects of a run that ended are right
 abbrev pub GaveRight : Draft → Transition → Ran → Type 0
 GaveRight d t (ended e s) = AreRightEffects d t s.effects
 GaveRight d t (got_stuck z) = Unit {0}

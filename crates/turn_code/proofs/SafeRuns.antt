@@ -32,13 +32,14 @@ use Rattle.turn_code.specs.declared.draft.Trigger.{Trigger}
 use Rattle.turn_code.specs.declared.draft.Trigger.TheVariants.{Signal, Timer}
 use Rattle.plain_laws.proofs.Places.{there_is as there, among_at as at_place}
 
--- what is claimed of place k holds of these operands and of what was done so far, its count is at most n, and its effects are not too many
+-- the facts of place k hold of these operands and of this progress, its count is at most n, and its effects are within
+-- the certificate
 pub record Stands (t : Transition) (k : ℕ) (os : List Value) (s : Progress) (n : ℕ) : Type 0 where
   pub at : IsAt t k os s.variables
   pub count : at.facts.count ≤ n
   pub effects : length s.effects + at.facts.effects ≤ t.piece.certificate.effects
 
--- the output of a transition on an input that fits it has somebody who gets it
+-- an output of a transition has a receiver, on an input that fits the transition
 receiver_there : (d : Draft) (t : Transition) (x : Input) (n : SignalNumber) (r : Receiver) → IsBrought d t.number t.trigger x.sender
     → ReachesReceiver d t.number n t.trigger r → (p : Address) × (address_of r x.sender ≡ Some p)
 receiver_there d t x n (ToParty p) brought reaches = (of_party p, refl)
@@ -76,7 +77,7 @@ module _ (d : Draft) (t : Transition) (valid : IsValidTransition d t) where
       let some' : g.count ≤ greatest (counts_at t.piece (successors i k)) = rw ge at some in
       omega arith
 
-  -- the effects of a place are those of its instruction and those of each place where the code goes on, at least
+  -- the effects of a place are at least those of its instruction and those of each place where the code goes on, added
   pub effects_above : (k : ℕ) (f : PlaceFacts) (i : Instruction) → slice_get t.piece.facts k ≡ Some f → slice_get t.piece.code k ≡ Some i
       → (j : ℕ) (g : PlaceFacts) → Contains (successors i k) j → slice_get t.piece.facts j ≡ Some g → effects_of i + g.effects ≤ f.effects
   effects_above k f i fe ie j g c ge =
@@ -112,14 +113,14 @@ module _ (d : Draft) (t : Transition) (valid : IsValidTransition d t) where
           omega arith
       by _ h = omega arith
 
-  -- an output has somebody who gets it, where the signal of the transition was brought
+  -- an output has a receiver, if a route brought the signal of the transition
   pub sent_at : (x : Input) → IsBrought d t.number t.trigger x.sender → (i : Instruction) → KeepsOutput d t i → IsSent d.signals x i
   sent_at x brought (Output n r c) h =
       let to = receiver_there d t x n r brought h.receiver in
       (h.parameters, to.0, to.1)
   sent_at x brought _ h = tt
 
-  -- what is known as the instruction at a place begins, where what is claimed of the place holds
+  -- what is known as the instruction at a place begins, if the facts of the place hold
   pub before_at : (x : Input) → map sort_of x.parameters.items ≡ t.parameters → IsBrought d t.number t.trigger x.sender
       → (k : ℕ) (os : List Value) (vs : List (Option Value)) (h : IsAt t k os vs) (i : Instruction) → slice_get t.piece.code k ≡ Some i
       → Before d.signals t.process.variables t.parameters h.facts.set i x os vs
@@ -145,7 +146,7 @@ module _ (d : Draft) (t : Transition) (valid : IsValidTransition d t) where
   on_way k i f ie fe j left (inr (next, e)) =
       (in_first (jumps i) (behind i k) j next, λ g ge. e ∙ sym ((valid.shape k).jumped i f ie fe j g next ge))
 
-  -- where the instruction at a place goes on, what is claimed of the place there holds too
+  -- if the instruction at a place goes on, the facts of the place where it goes on hold too
   pub way_to : (k : ℕ) (os : List Value) (vs : List (Option Value)) (h : IsAt t k os vs) (i : Instruction) → slice_get t.piece.code k ≡ Some i
       → (j : ℕ) (os' : List Value) (s s' : Progress) → Goes d.signals t.process.variables t.parameters h.facts.set i k os j os' s s'
       → Contains (successors i k) j × IsAt t j os' s'.variables

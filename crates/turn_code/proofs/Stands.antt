@@ -1,4 +1,4 @@
--- One instruction of a valid transition, at a place where what is claimed of it holds.
+-- One instruction of a valid transition, at a place whose facts hold.
 use Rattle.std.proofs.Common.{◌≡◌, ◌≢◌, ℕ, zero, suc, ◌+◌, ◌^◌, ◌<◌, ◌≤◌, ◌⊎◌, inl, inr, Bool as Truth, true, false, not, ◌&&◌, ◌||◌, if◌then◌else◌, eqb, ℤ, pos, negsuc, ◌+ℤ◌, ◌-ℤ◌, ◌*ℤ◌, neg_ℤ, max, List, [], ◌∷◌, ◌++◌, length, map, take, drop, reverse, Option, Some, refl, sym, ap, ◌∙◌, subst, ⊎_elim, arith}
 use Rattle.std.proofs.lemmas.Bool.{le-leb, lt-ltb}
 use Rattle.std.proofs.lemmas.List.{length-reverse}
@@ -37,12 +37,13 @@ use Rattle.turn_code.specs.declared.draft.DraftVariable.{DraftVariable}
 use Rattle.plain_laws.proofs.Places.{there_is as there, written_same as get_set_same, get_set_other}
 use Rattle.plain_laws.proofs.Pairwise.{zip_at}
 
--- an output takes as many parameters as its signal has, and somebody gets it
+-- an output takes as many parameters as its signal has, and it has a receiver
 abbrev pub IsSent : List DraftSignal → Input → Instruction → Type 0
 IsSent ss x (Output n r c) = (c ≡ length (parameters_of (slice_get ss n.0))) × (p : Address) × (address_of r x.sender ≡ Some p)
 IsSent ss x _ = Unit {0}
 
--- what is known as the instruction i begins, where ss are the signals, xs the variables, ps the sorts of the parameters and m the variables that are set
+-- what is known as the instruction i begins: ss are the signals, xs the variables, ps the sorts of the parameters and m
+-- the variables that are set
 pub record Before (ss : List DraftSignal) (xs : List DraftVariable) (ps : List Sort) (m : VariableSet) (i : Instruction) (x : Input) (os : List Value) (vs : List (Option Value)) : Type 0 where
   pub sorts : map sort_of x.parameters.items ≡ ps
   pub variables : HaveSorts xs vs
@@ -56,12 +57,12 @@ pub record Before (ss : List DraftSignal) (xs : List DraftVariable) (ps : List S
   pub divisors : All (λ z. pos 1 ≤ℤ z) (divisors_in i)
   pub sent : IsSent ss x i
 
--- the place j, with what is left as its shape, follows the instruction at k with this shape
+-- the instruction at k, with this shape, goes on at place j, where the shape is `left`
 abbrev pub IsWay : List DraftSignal → List DraftVariable → List Sort → Instruction → ℕ → List Sort → ℕ → List Sort → Type 0
 IsWay ss xs ps i k shape j left =
     (Contains (behind i k) j × (left ≡ shape_after ss xs ps i shape)) ⊎ (Contains (jumps i) j × (left ≡ shape_left ss xs i shape))
 
--- what holds where it goes on at place j
+-- what holds if the code goes on at place j
 pub record Goes (ss : List DraftSignal) (xs : List DraftVariable) (ps : List Sort) (m : VariableSet) (i : Instruction) (k : ℕ) (os : List Value) (j : ℕ) (os' : List Value) (s s' : Progress) : Type 0 where
   pub way : IsWay ss xs ps i k (map sort_of os) j (map sort_of os')
   pub variables : HaveSorts xs s'.variables
@@ -72,7 +73,7 @@ abbrev pub IsIn : Instruction → End → Type 0
 IsIn i (end.State q) = Contains (states_in i) q.0
 IsIn i end.Stop = Unit {0}
 
--- what holds where the transition ends
+-- what holds if the transition ends
 pub record Over (xs : List DraftVariable) (m : VariableSet) (i : Instruction) (e : End) (s s' : Progress) : Type 0 where
   pub named : IsIn i e
   pub variables : HaveSorts xs s'.variables
@@ -127,7 +128,7 @@ above_0 (pos zero) h = absurd (omega (arith, ints))
 above_0 (pos (suc n)) h = lt-ltb 0 (suc n) (omega arith)
 above_0 (negsuc n) h = absurd (omega (arith, ints))
 
--- a variable of a set after one more is put in
+-- a variable of a set with one more variable is that one, or was in the set before
 has_more : (m : VariableSet) (v u : ℕ) → Has (with_variable m v) u → u ≢ v → Has m u
 has_more m v u h ne =
     let either = bit_at_or m.0 (2 ^ v) u in
@@ -193,7 +194,7 @@ module _ (ss : List DraftSignal) (xs : List DraftVariable) (ps : List Sort) (m :
         effects = omega arith;
       })
 
-  -- ---- a way on for an instruction that sets nothing
+  -- ---- the facts after an instruction that sets no variable
   straight : (i : Instruction) (os os' : List Value) (s s' : Progress) → Before ss xs ps m i x os s.variables
       → behind i k ≡ (k + 1) ∷ [] → set_after i m ≡ m → s'.variables ≡ s.variables → length s'.effects ≡ length s.effects + effects_of i
       → map sort_of os' ≡ shape_after ss xs ps i (map sort_of os) → Goes ss xs ps m i k os (k + 1) os' s s'
@@ -250,7 +251,7 @@ module _ (ss : List DraftSignal) (xs : List DraftVariable) (ps : List Sort) (m :
       let agree : Agree (Boolean ∷ Boolean ∷ []) (map sort_of os) = rw two at b.agree in
       booleans_on_top (IsFine ss xs ps m i k os s) os go under agree (λ y z rest e. f y z rest (rw two e))
 
-  -- an instruction that puts one value where its operands were
+  -- an instruction that puts one value in the place of its operands
   puts : (i : Instruction) (y : Value) (os rest : List Value) (s : Progress) → Before ss xs ps m i x os s.variables
       → behind i k ≡ (k + 1) ∷ [] → set_after i m ≡ m → effects_of i ≡ 0 → gives xs ps i ≡ sort_of y ∷ []
       → map sort_of rest ≡ shape_left ss xs i (map sort_of os) → Goes ss xs ps m i k os (k + 1) (y ∷ rest) s s

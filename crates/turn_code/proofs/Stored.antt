@@ -1,4 +1,4 @@
--- A store, in the machine and in the definition.
+-- A store to a variable: the machine does what the definition says.
 use Rattle.std.proofs.Common.{◌≡◌, ℕ, ◌<◌, ◌≤◌, List, ◌∷◌, length, Option, Some, refl, ap, ◌∙◌, subst}
 use Rattle.std.specs.Prelude.{slice_get, slice_set}
 use Rattle.std.specs.List.{refill}

@@ -1,4 +1,4 @@
--- What arithmetic leaves of a number.
+-- Arithmetic wraps a number to 32 bits: the wrapped number differs by a multiple of 2^32, and is the only one.
 use Rattle.std.proofs.Common.{◌≡◌, ℕ, ◌+◌, ◌-◌, ◌*◌, ◌/◌, ◌%◌, ◌<◌, ℤ, pos, negsuc, ◌+ℤ◌, ◌-ℤ◌, ◌*ℤ◌, refl, sym, ap, ◌∙◌, arith}
 use Rattle.std.specs.Prelude.{FitsSigned, Bool, true, false, nat_lt}
 use Rattle.std.specs.Int.{int_wrap, cast_signed, w32}
@@ -6,7 +6,7 @@ use Rattle.std.proofs.lemmas.Int.{ints, SFits-int_wrap}
 use borrow.Author.Differences.{same_in, same_out, sum_is_lem, neg_is, product_is}
 use Rattle.turn_code.specs.Values.{wrap, IsWrapped}
 
--- the signed value of the bits n, and how many times 2^32 it lies below n
+-- the signed value of the 32-bit number n, and the number of times that 2^32 must be added to it to give n
 read : (n : ℕ) → n < 4294967296 → (j : ℕ) × (cast_signed w32 n +ℤ pos (j * 4294967296) ≡ pos n)
 read n h = by (nat_lt n 2147483648) refl
   where

@@ -1,4 +1,4 @@
--- What each instruction needs, leaves and names.
+-- The operands that each instruction takes, the values that it leaves, and what it names.
 use Rattle.std.specs.Prelude.{ℕ, ◌+◌, ℤ, List, [], ◌∷◌, ◌++◌, length, drop, reverse, slice_get}
 use Rattle.std.specs.Prelude.{option_map, option_to_list}
 use Rattle.turn_code.specs.Sets.{with_variable}
@@ -17,7 +17,7 @@ use Rattle.turn_code.specs.declared.variable_set.VariableSet.{VariableSet}
 use Rattle.turn_code.specs.declared.draft.DraftSignal.{DraftSignal}
 use Rattle.turn_code.specs.declared.draft.DraftVariable.{DraftVariable}
 
--- the sort of a variable, nothing where there is no such variable
+-- the sort of a variable; an empty list if there is no such variable
 abbrev pub sort_at : List DraftVariable → ℕ → List Sort
 sort_at xs v = option_to_list (option_map (λ (x : DraftVariable). x.sort) (slice_get xs v))
 
@@ -53,7 +53,7 @@ takes ss xs (Reset t) = []
 takes ss xs (Next q) = []
 takes ss xs Stop = []
 
--- the sorts of the values that it puts there where the code goes on behind it
+-- the sorts of the values that it puts there, if the code goes on at the next place
 abbrev pub gives : List DraftVariable → List Sort → Instruction → List Sort
 gives xs ps (Int z) = Integer ∷ []
 gives xs ps (Bool b) = Boolean ∷ []
@@ -84,11 +84,11 @@ gives xs ps (Reset t) = []
 gives xs ps (Next q) = []
 gives xs ps Stop = []
 
--- the shape without the operands that it takes: the one where the code jumps to
+-- the shape without the operands that it takes: the shape at a place where the code jumps to
 abbrev pub shape_left : List DraftSignal → List DraftVariable → Instruction → List Sort → List Sort
 shape_left ss xs i shape = drop (length (takes ss xs i)) shape
 
--- the shape where the code goes on behind it
+-- the shape at the next place
 abbrev pub shape_after :
     List DraftSignal → List DraftVariable → List Sort → Instruction → List Sort → List Sort
 shape_after ss xs ps i shape = gives xs ps i ++ shape_left ss xs i shape
@@ -103,7 +103,7 @@ abbrev pub sets : Instruction → List ℕ
 sets (Store v) = v.0 ∷ []
 sets _ = []
 
--- the set of variables that it leaves
+-- the set of variables that are set after it, if those of the given set were set before
 abbrev pub set_after : Instruction → VariableSet → VariableSet
 set_after (Store v) s = with_variable s v.0
 set_after _ s = s
@@ -139,7 +139,7 @@ jumps (Pick p q) = p.0 ∷ q.0 ∷ []
 jumps (Jump p) = p.0 ∷ []
 jumps _ = []
 
--- the place behind an instruction at k, where the code may go on there
+-- the place after an instruction at k, if the code may go on there
 abbrev pub behind : Instruction → ℕ → List ℕ
 behind (Pick p q) k = []
 behind (Jump p) k = []
@@ -151,14 +151,14 @@ behind _ k = (k + 1) ∷ []
 abbrev pub successors : Instruction → ℕ → List ℕ
 successors i k = jumps i ++ behind i k
 
--- how many effects it gives
+-- the number of effects that it adds
 abbrev pub effects_of : Instruction → ℕ
 effects_of (Output n r c) = 1
 effects_of (Set t) = 1
 effects_of (Reset t) = 1
 effects_of _ = 0
 
--- how many parameters it sends
+-- the number of parameters that it sends
 abbrev pub sends : Instruction → ℕ
 sends (Output n r c) = c
 sends _ = 0

@@ -1,4 +1,4 @@
--- What holds of each effect that a run gives.
+-- What holds of each effect of a run.
 use Rattle.std.specs.Prelude.{◌≡◌, ◌<◌, List, [], ◌∷◌, length, map, slice_get}
 use Rattle.turn_code.specs.Values.{sort_of}
 use Rattle.turn_code.specs.Run.{Progress, run, ended}
@@ -13,8 +13,8 @@ use Rattle.turn_code.specs.declared.effect.Sending.{Sending}
 use Rattle.turn_code.specs.declared.machine.End.{End}
 use Rattle.turn_code.specs.declared.draft.Draft.{Draft}
 
--- the signal is there, the parameters have its sorts, and a route of the process carries it to its
--- receiver, which is there
+-- the signal is declared, the parameters have its sorts, and a route of the process carries it to
+-- its receiver, which is declared
 pub record IsRightSending (d : Draft) (t : Transition) (s : Sending) : Type 0 where
   pub signal : s.signal.0 < length d.signals
   pub parameters : map sort_of s.parameters.items ≡ parameters_of (slice_get d.signals s.signal.0)
@@ -27,12 +27,12 @@ IsRightEffect d t (Output s) = IsRightSending d t s
 IsRightEffect d t (Set n z) = n.0 < length t.process.timers
 IsRightEffect d t (Reset n) = n.0 < length t.process.timers
 
--- so each of them
+-- each of these effects is right
 abbrev pub AreRightEffects : Draft → Transition → List Effect → Type 0
 AreRightEffects d t [] = Unit {0}
 AreRightEffects d t (e ∷ es) = IsRightEffect d t e × AreRightEffects d t es
 
--- the run of a valid transition on an input that fits it gives right effects alone
+-- the run of a valid transition on an input that fits it has only right effects
 abbrev pub EffectsLaw : Type 0
 EffectsLaw =
     (d : Draft) (t : Transition) (x : Input) (e : End) (s : Progress) → IsValidTransition d t

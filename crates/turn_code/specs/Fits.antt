@@ -15,11 +15,11 @@ use Rattle.turn_code.specs.declared.draft.DraftVariable.{DraftVariable}
 use Rattle.turn_code.specs.declared.draft.Trigger.{Trigger}
 use Rattle.turn_code.specs.declared.draft.Trigger.TheVariants.{Signal, Timer}
 
--- where the variable is set, its value has its sort
+-- if the variable is set, its value has its sort
 abbrev pub HasSort : DraftVariable → Option Value → Type 0
 HasSort x v = IfSome v (λ y. sort_of y ≡ x.sort)
 
--- one value, or none, for each variable
+-- there is one value, or none, for each variable, and it has the variable's sort
 abbrev pub HaveSorts : List DraftVariable → List (Option Value) → Type 0
 HaveSorts xs vs = AllZip HasSort xs vs
 
@@ -27,7 +27,7 @@ HaveSorts xs vs = AllZip HasSort xs vs
 abbrev pub AreSet : VariableSet → List (Option Value) → Type 0
 AreSet s vs = (v : ℕ) → Has s v → (x : Value) × (slice_get vs v ≡ Some (Some x))
 
--- a signal comes from its sender by a route; nothing is asked of START and of a timer
+-- a route carries the signal from its sender; nothing is required of START and of a timer
 abbrev pub IsBrought : Draft → ℕ → Option Trigger → Option Address → Type 0
 IsBrought d p None sender = Unit {0}
 IsBrought d p (Some (Timer n)) sender = Unit {0}

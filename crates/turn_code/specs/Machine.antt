@@ -1,4 +1,4 @@
--- What a machine stands for, and what its next instruction makes of it.
+-- What the state of a machine means, and what its next instruction makes of it.
 use Rattle.std.specs.Prelude.{◌≡◌, ℕ, ◌<◌, ◌≤◌, List, length, Bool, true, false, IsTrue, Some}
 use Rattle.std.specs.Prelude.{slice_get}
 use Rattle.plain_laws.specs.Limits.{MOST_EFFECTS, MOST_OPERANDS, MOST_PARAMETERS}
@@ -17,13 +17,13 @@ use Rattle.turn_code.specs.declared.machine.After.TheVariants.{Goes, Ends, Stuck
 abbrev pub progress_of : Machine → Progress
 progress_of m = record { variables = m.variables.items; effects = m.effects.items; count = m.count }
 
--- what an answer says, with the machine as it is then
+-- what the machine's answer means, with the machine as it is then
 abbrev pub after_of : Next → Machine → After
 after_of (Goes k) m = goes k m.operands (progress_of m)
 after_of (Ends e) m = ends e (progress_of m)
 after_of (Stuck x) m = stuck x
 
--- a machine that is stuck is as it was
+-- a machine that is stuck is unchanged
 abbrev pub StaysIfStuck : Next → Machine → Machine → Type 0
 StaysIfStuck (Goes k) old new = Unit {0}
 StaysIfStuck (Ends e) old new = Unit {0}

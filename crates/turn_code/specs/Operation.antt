@@ -6,7 +6,7 @@ use Rattle.turn_code.specs.declared.operation.Operation.TheVariants.{Add, Subtra
 use Rattle.turn_code.specs.declared.operation.Connective.{Connective}
 use Rattle.turn_code.specs.declared.operation.Connective.TheVariants.{And, Or, Xor, Same}
 
--- before it wraps round
+-- the result before it wraps to 32 bits
 abbrev pub meaning_of : Operation → ℤ → ℤ → ℤ
 meaning_of Add x y = x +ℤ y
 meaning_of Subtract x y = x -ℤ y

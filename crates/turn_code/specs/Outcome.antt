@@ -20,19 +20,19 @@ outcome_in (ended e s) = Some (record { end = e; progress = s })
 outcome_in (got_stuck x) = None
 outcome_in unfinished = None
 
--- an outcome, or why it can't go on; one that isn't over within the instructions that a turn may
--- run has left its code
+-- the outcome of a run, or the trouble that stops it; a run that isn't over within the number of
+-- instructions that a turn may run is `Outside`
 abbrev pub result_in : Ran → Result Outcome Trouble
 result_in (ended e s) = Ok (record { end = e; progress = s })
 result_in (got_stuck x) = Err x
 result_in unfinished = Err Outside
 
--- what input i at place s of process p gives on an input: an outcome, or the kind of trouble in
--- which it gets stuck
+-- the result of input i at place s of process p on an input: an outcome, or the kind of trouble
+-- that stops it
 abbrev pub Meaning : Type 0
 Meaning = (p : ℕ) (s : Place) (i : ℕ) (x : Input) → Result Outcome Trouble
 
--- the code of each transition gives what is meant, on each input that fits it
+-- the code of each transition has the result that is meant, on each input that fits it
 abbrev pub Means : Meaning → Draft → Type 0
 Means act d =
     (p : ℕ) (s : Place) (i : ℕ) (t : Transition) (x : Input) → transition_at d p s i ≡ Some t

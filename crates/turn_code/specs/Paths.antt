@@ -1,4 +1,4 @@
--- The paths of a piece, where each branch is taken freely.
+-- The paths of a piece: a path may take either way at each branch.
 use Rattle.std.specs.Prelude.{◌≡◌, ℕ, suc, ◌+◌, ◌≤◌, List, [], Contains, Some, slice_get}
 use Rattle.turn_code.specs.Code.{successors, effects_of}
 use Rattle.turn_code.specs.Transitions.{Transition}
@@ -6,7 +6,7 @@ use Rattle.turn_code.specs.Valid.{IsValidTransition}
 use Rattle.turn_code.specs.declared.instruction.Instruction.{Instruction}
 use Rattle.turn_code.specs.declared.draft.Draft.{Draft}
 
--- from place k to an end there is a path of n instructions, which gives e effects
+-- there is a path of n instructions with e effects from place k to an end
 pub data Path (code : List Instruction) : ℕ → ℕ → ℕ → Type 0 where
   last : {k : ℕ} (i : Instruction) → slice_get code k ≡ Some i → successors i k ≡ []
       → Path code k 1 (effects_of i)
@@ -26,8 +26,8 @@ pub record IsMostEffects (code : List Instruction) (e : ℕ) : Type 0 where
   pub reached : Path code 0 length e
   pub greatest : (m f : ℕ) → Path code 0 m f → f ≤ e
 
--- the certificate of a valid transition says the longest path and the most effects: not more, and
--- not less
+-- the certificate of a valid transition states the length of the longest path and the most effects
+-- of any path, exactly
 pub record PathLaw : Type 0 where
   pub budget :
       (d : Draft) (t : Transition) → IsValidTransition d t

@@ -10,7 +10,7 @@ abbrev pub IsProcess : ℕ → Party → Type 0
 IsProcess p Environment = ⊥
 IsProcess p (Process q) = q.0 ≡ p
 
--- the environment, or a process that is there
+-- the environment, or a declared process
 abbrev pub IsPartyOf : List DraftProcess → Party → Type 0
 IsPartyOf ps Environment = Unit {0}
 IsPartyOf ps (Process q) = q.0 < length ps
@@ -25,11 +25,11 @@ pub record Carries (sender receiver : Party) (n : SignalNumber) (r : DraftRoute)
   pub to : r.to ≡ receiver
   pub signal : Contains r.signals n
 
--- so to process p
+-- the route carries signal n from the sender to process p
 abbrev pub Brings : Party → ℕ → SignalNumber → DraftRoute → Type 0
 Brings sender p n r = Carries sender (the_process p) n r
 
--- so from process p
+-- the route carries signal n from process p to the receiver
 abbrev pub Takes : ℕ → Party → SignalNumber → DraftRoute → Type 0
 Takes p receiver n r = Carries (the_process p) receiver n r
 
@@ -37,8 +37,8 @@ Takes p receiver n r = Carries (the_process p) receiver n r
 abbrev pub Reaches : List DraftRoute → ℕ → Party → SignalNumber → Type 0
 Reaches routes p receiver n = Any (Takes p receiver n) routes
 
--- where the route brings signal m to process p, who sent it is there, and some route carries signal
--- n to it
+-- if the route brings signal m to process p, its sender is declared, and some route carries signal
+-- n back to that sender
 abbrev pub Answers :
     List DraftProcess → List DraftRoute → ℕ → SignalNumber → SignalNumber → DraftRoute → Type 0
 Answers ps routes p m n r =

@@ -28,29 +28,29 @@ use Rattle.turn_code.specs.declared.draft.PlaceFacts.{PlaceFacts}
 use Rattle.turn_code.specs.declared.draft.Trigger.{Trigger}
 use Rattle.turn_code.specs.declared.draft.Trigger.TheVariants.{Signal, Timer}
 
--- what holds of the instruction at a place and of the facts there
+-- P holds of the instruction at a place and of the facts there
 abbrev pub AtPlace : DraftPiece → ℕ → (Instruction → PlaceFacts → Type 0) → Type 0
 AtPlace piece k P =
     (i : Instruction) (f : PlaceFacts) → slice_get piece.code k ≡ Some i
     → slice_get piece.facts k ≡ Some f → P i f
 
--- what holds of the instruction at a place, with facts there or without
+-- P holds of the instruction at a place, whether or not the place has facts
 abbrev pub AtCode : DraftPiece → ℕ → (Instruction → Type 0) → Type 0
 AtCode piece k P = (i : Instruction) → slice_get piece.code k ≡ Some i → P i
 
--- what holds of the facts at each of some places that has any
+-- P holds of the facts at each of some places that has facts
 abbrev pub AtEach : DraftPiece → List ℕ → (PlaceFacts → Type 0) → Type 0
 AtEach piece js P =
     (j : ℕ) (f : PlaceFacts) → Contains js j → slice_get piece.facts j ≡ Some f → P f
 
--- ---- V1: each place where the code goes on, its first too, is inside it
+-- ---- V1: the first place, and each place where the code goes on, is inside the code
 pub record JumpsInside (t : Transition) (k : ℕ) : Type 0 where
   pub entry : k ≡ 0 → 0 < length t.piece.code
   pub each : AtCode t.piece k (λ i. All (λ j. j < length t.piece.code) (successors i k))
 
--- ---- V2: each place has facts; no operand is there as the code begins; the place behind an
--- instruction has the shape that is left there, and each place where it jumps to has the shape
--- without its operands
+-- ---- V2: each place has facts; there is no operand as the code begins; the next place has the
+-- shape that the instruction leaves, and each place where it jumps to has the shape without its
+-- operands
 pub record KeepsShapes (ss : List DraftSignal) (t : Transition) (k : ℕ) : Type 0 where
   pub facts : k ≡ 0 → length t.piece.facts ≡ length t.piece.code
   pub entry : k ≡ 0 → AtEach t.piece (0 ∷ []) (λ f. f.shape ≡ [])
@@ -75,15 +75,15 @@ Agree (x ∷ xs) (y ∷ ys) = (y ≡ x) × Agree xs ys
 abbrev pub StartsRight : DraftVariable → Type 0
 StartsRight x = IfSome x.initial (λ v. sort_of v ≡ x.sort)
 
--- ---- V4: those operands have the sorts that it wants; at START each initial value has its
--- variable's sort
+-- ---- V4: those operands have the sorts that the instruction takes; at START each initial value
+-- has its variable's sort
 pub record KeepsSorts (ss : List DraftSignal) (t : Transition) (k : ℕ) : Type 0 where
   pub initial : k ≡ 0 → t.trigger ≡ None → All StartsRight t.process.variables
   pub each : AtPlace t.piece k (λ i f. Agree (takes ss t.process.variables i) f.shape)
 
--- ---- V5: what is said to be set is set on every way: as the code begins that is what its entry
--- sets, at each place where it goes on and in the state where it ends not more than is left; a
--- variable that is read is set
+-- ---- V5: the variables that the facts call set are set on every way: at the first place exactly
+-- those of the entry, at each place where the code goes on and in the state where it ends only
+-- those that the instruction leaves set; a variable that is read is set
 pub record KeepsSets (t : Transition) (k : ℕ) : Type 0 where
   pub entry : k ≡ 0 → AtEach t.piece (0 ∷ []) (λ f. f.set ≡ t.entry)
   pub reads_set : AtPlace t.piece k (λ i f. All (Has f.set) (reads i))
@@ -93,27 +93,27 @@ pub record KeepsSets (t : Transition) (k : ℕ) : Type 0 where
       (λ i f. (q : ℕ) (s : DraftState) → Contains (states_in i) q
       → slice_get t.process.states q ≡ Some s → IsWithin s.set (set_after i f.set))
 
--- ---- V6: a state where the code ends is there
+-- ---- V6: a state where the code ends is declared
 abbrev pub HasStates : Transition → ℕ → Type 0
 HasStates t k = AtCode t.piece k (λ i. All (λ q. q < length t.process.states) (states_in i))
 
--- the signal, or the timer of the process, is there
+-- the signal, or the timer of the process, is declared
 abbrev pub IsThere : List DraftSignal → DraftProcess → Trigger → Type 0
 IsThere ss p (Signal n) = n.0 < length ss
 IsThere ss p (Timer n) = n.0 < length p.timers
 
--- what a transition waits for is there
+-- the signal or timer that a transition waits for is declared
 abbrev pub HasTrigger : List DraftSignal → DraftProcess → Option Trigger → Type 0
 HasTrigger ss p None = Unit {0}
 HasTrigger ss p (Some x) = IsThere ss p x
 
--- what a state saves is there
+-- each signal or timer that a state saves is declared
 abbrev pub HasSaves : List DraftSignal → DraftProcess → DraftState → Type 0
 HasSaves ss p q = All (IsThere ss p) q.saves
 
--- Signal n of process p reaches its receiver. A party is there, and a route goes to it. A sender is
--- known where the transition waits for a signal: then for each route that brings that one, who sent
--- it is there, and a route goes back to it.
+-- Signal n of process p reaches its receiver. A named party is declared, and a route goes to it.
+-- SENDER is known if the transition waits for a signal: for each route that brings that signal, its
+-- sender is declared, and a route goes back to it.
 abbrev pub AnswersSender : Draft → ℕ → SignalNumber → Option Trigger → Type 0
 AnswersSender d p n None = ⊥
 AnswersSender d p n (Some (Timer m)) = ⊥
@@ -123,7 +123,7 @@ abbrev pub ReachesReceiver : Draft → ℕ → SignalNumber → Option Trigger �
 ReachesReceiver d p n trigger (ToParty x) = IsPartyOf d.processes x × Reaches d.routes p x n
 ReachesReceiver d p n trigger ToSender = AnswersSender d p n trigger
 
--- the signal of an output is there and has as many parameters, and it reaches its receiver
+-- the signal of an output is declared and has as many parameters, and it reaches its receiver
 pub record KeepsSending (d : Draft) (t : Transition) (n : SignalNumber) (r : Receiver) (c : ℕ) :
     Type 0 where
   pub signal : n.0 < length d.signals
@@ -134,9 +134,9 @@ abbrev pub KeepsOutput : Draft → Transition → Instruction → Type 0
 KeepsOutput d t (Output n r c) = KeepsSending d t n r c
 KeepsOutput d t _ = Unit {0}
 
--- ---- V7: what an instruction names is there, its variables, its parameters, its timers, its
--- signal and who gets it; it divides by 1 or more; the signal or timer that the transition waits
--- for is there, and at START what each state of the process saves
+-- ---- V7: what an instruction names is declared: variables, parameters, timers, signal and
+-- receiver; it divides by 1 or more; the signal or timer that the transition waits for is declared,
+-- and at START each signal or timer that a state of the process saves
 pub record HasNumbers (d : Draft) (t : Transition) (k : ℕ) : Type 0 where
   pub trigger : k ≡ 0 → HasTrigger d.signals t.process t.trigger
   pub saves : k ≡ 0 → t.trigger ≡ None → All (HasSaves d.signals t.process) t.process.states
@@ -175,12 +175,12 @@ pub record KeepsPieceLimits (piece : DraftPiece) : Type 0 where
   pub effects : piece.certificate.effects ≤ MOST_EFFECTS
   pub size : length piece.code ≤ MOST_INSTRUCTIONS
 
--- ---- V8: what is broken of a process, of a set too, is broken at START, place 0
+-- ---- V8: a limit of a process, or of the whole set, is checked at START, place 0
 pub record KeepsLimits (d : Draft) (t : Transition) (k : ℕ) : Type 0 where
   pub process : k ≡ 0 → t.trigger ≡ None → KeepsProcessLimits t.process
   pub piece : k ≡ 0 → KeepsPieceLimits t.piece
 
--- the greatest of some numbers, 0 where there is none
+-- the greatest of some numbers, 0 if there is none
 abbrev pub greatest : List ℕ → ℕ
 greatest [] = 0
 greatest (n ∷ ns) = max n (greatest ns)
@@ -202,14 +202,14 @@ effects_at piece js = map (λ j. effects_in (slice_get piece.facts j)) js
 abbrev pub depths : List PlaceFacts → List ℕ
 depths fs = map (λ (f : PlaceFacts). length f.shape) fs
 
--- the certificate: the count and the effects of the first place, and the greatest shape
+-- the certificate: the count and effects of the first place, and the length of the longest shape
 pub record KeepsCertificate (piece : DraftPiece) : Type 0 where
   pub budget : piece.certificate.budget ≡ count_in (slice_get piece.facts 0)
   pub depth : piece.certificate.depth ≡ greatest (depths piece.facts)
   pub effects : piece.certificate.effects ≡ effects_in (slice_get piece.facts 0)
 
--- ---- V9: the count of a place is 1 more than the greatest where the code goes on, and the effects
--- likewise are its own and the greatest there
+-- ---- V9: the count of a place is 1 more than the greatest count where the code goes on; its
+-- effects are those of its instruction and the greatest number there, added
 pub record KeepsCounts (t : Transition) (k : ℕ) : Type 0 where
   pub certificate : k ≡ 0 → KeepsCertificate t.piece
   pub counts :

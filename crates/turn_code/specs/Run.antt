@@ -1,5 +1,5 @@
--- What code does: one instruction on a list of values with their sorts, and a run of as many of
--- them as a turn may take.
+-- What code does: one instruction on a list of values with their sorts, and a run of as many
+-- instructions as a turn may take.
 use Rattle.std.specs.Prelude.{◌≡◌, ℕ, zero, suc, ◌+◌, ℤ, pos, ◌+ℤ◌, ◌-ℤ◌, ◌*ℤ◌, neg_ℤ, int_lt}
 use Rattle.std.specs.Prelude.{int_div, int_rem, Bool as Truth, not, ◌&&◌, ◌||◌, if◌then◌else◌}
 use Rattle.std.specs.Prelude.{nat_le, List, [], ◌∷◌, ◌++◌, length, take, drop, reverse, Option}
@@ -33,15 +33,15 @@ use Rattle.turn_code.specs.declared.trouble.Trouble.{Trouble}
 use Rattle.turn_code.specs.declared.trouble.Trouble.TheVariants.{Unset, WrongSort, Underflow}
 use Rattle.turn_code.specs.declared.trouble.Trouble.TheVariants.{NoReceiver, Outside}
 
--- what a run has done so far: its variables, none where one isn't set, its effects in order, and
--- how many instructions it took
+-- the progress of a run so far: its variables, none for one that isn't set, its effects in order,
+-- and the number of instructions that it took
 pub record Progress : Type 0 where
   pub variables : List (Option Value)
   pub effects : List Effect
   pub count : ℕ
 
--- what follows an instruction: a place with operands, the topmost first; an end; or nothing that
--- the code tells
+-- the outcome of one instruction: the next place with the operands, the topmost first; an end; or
+-- trouble, if the code doesn't say how to go on
 pub data After : Type 0 where
   goes : ℕ → List Value → Progress → After
   ends : End → Progress → After
@@ -56,7 +56,7 @@ with_variables s vs = record { variables = vs; effects = s.effects; count = s.co
 abbrev pub with_effect : Progress → Effect → Progress
 with_effect s e = record { variables = s.variables; effects = s.effects ++ e ∷ []; count = s.count }
 
--- a variable that isn't there is never set
+-- a variable that isn't declared is never set
 abbrev pub loaded : ℕ → List Value → Progress → Option (Option Value) → After
 loaded k os s None = stuck Unset
 loaded k os s (Some None) = stuck Unset
@@ -70,7 +70,7 @@ abbrev pub given : ℕ → List Value → Progress → Option Value → After
 given k os s None = stuck Underflow
 given k os s (Some x) = goes k (x ∷ os) s
 
--- ---- operands that are taken: what goes on with them and with those below
+-- ---- taking operands: `go` continues with those taken and with those below them
 
 abbrev pub on_top : List Value → (Value → List Value → After) → After
 on_top [] go = stuck Underflow
@@ -86,7 +86,7 @@ on_boolean [] go = stuck Underflow
 on_boolean (Bool x ∷ os) go = go x os
 on_boolean (Int x ∷ os) go = stuck WrongSort
 
--- the topmost is the right one
+-- the topmost is the right operand
 abbrev pub on_integers : List Value → (ℤ → ℤ → List Value → After) → After
 on_integers [] go = stuck Underflow
 on_integers (y ∷ []) go = stuck Underflow
@@ -106,9 +106,9 @@ abbrev pub on_operands : ℕ → List Value → (List Value → List Value → A
 on_operands n os go =
     if nat_le n (length os) then go (reverse (take n os)) (drop n os) else stuck Underflow
 
--- ---- the kinds of instructions, where what stands behind one is at k
+-- ---- the kinds of instructions; k is the place after the instruction
 
--- an operation on two Integers, which wraps round
+-- an operation on two Integers; the result wraps to 32 bits
 abbrev pub on_two : (ℤ → ℤ → ℤ) → ℕ → List Value → Progress → After
 on_two f k os s = on_integers os (λ x y rest. goes k (Int (wrap (f x y)) ∷ rest) s)
 
@@ -122,16 +122,16 @@ divided f z k os s =
 abbrev pub joined : (Truth → Truth → Truth) → ℕ → List Value → Progress → After
 joined f k os s = on_booleans os (λ x y rest. goes k (Bool (f x y) ∷ rest) s)
 
--- an Integer that passes the test goes and the code goes on at j, another one stays
+-- an Integer that passes the test is taken and the code goes on at j; any other stays
 abbrev pub tested : (ℤ → Truth) → ℕ → ℕ → List Value → Progress → After
 tested f j k os s = on_integer os (λ x rest. if f x then goes j rest s else goes k (Int x ∷ rest) s)
 
--- a party, where no instance is named
+-- the address of a party, without an instance
 abbrev pub of_party : Party → Address
 of_party p = record { party = p; instance = None }
 
--- who gets a signal: a party, or the one who sent; nobody where it is for a sender and there is
--- none
+-- the receiver of a signal: a party, or the sender; none if it goes to the sender and there is no
+-- sender
 abbrev pub address_of : Receiver → Option Address → Option Address
 address_of (ToParty p) sender = Some (of_party p)
 address_of ToSender sender = sender
@@ -144,7 +144,7 @@ abbrev pub sent : SignalNumber → Option Address → List Value → ℕ → Lis
 sent n None vs k os s = stuck NoReceiver
 sent n (Some p) vs k os s = goes k os (with_effect s (sending n p vs))
 
--- one instruction, on an input, where what stands behind it is at k; s counts it already
+-- one instruction on an input; k is the place after it, and s counts the instruction already
 abbrev pub act : Instruction → Input → ℕ → List Value → Progress → After
 act (PutInt z) x k os s = goes k (Int z ∷ os) s
 act (PutBool b) x k os s = goes k (Bool b ∷ os) s
@@ -184,13 +184,13 @@ act_if (Some i) x k os s = act i x k os s
 abbrev pub step : List Instruction → Input → ℕ → List Value → Progress → After
 step code x k os s = act_if (slice_get code k) x (k + 1) os (tick s)
 
--- the count that an answer leaves
+-- the count after an instruction, unless it is stuck
 abbrev pub CountIs : ℕ → After → Type 0
 CountIs c (goes k os s) = s.count ≡ c
 CountIs c (ends e s) = s.count ≡ c
 CountIs c (stuck x) = Unit {0}
 
--- how a run of so many instructions ends
+-- how a run of at most some number of instructions ends
 pub data Ran : Type 0 where
   ended : End → Progress → Ran
   got_stuck : Trouble → Ran
@@ -209,7 +209,7 @@ exec code x (suc n) k os s = go_on (exec code x n) (step code x k os s)
 abbrev pub begun : Input → Progress
 begun x = record { variables = x.variables.items; effects = []; count = 0 }
 
--- the run of a piece's code on an input: as many instructions as a turn may run, from the first on,
--- with no operand
+-- the run of a piece's code on an input: from the first place, with no operand, for at most as many
+-- instructions as a turn may run
 unfoldable pub run : List Instruction → Input → Ran
 run code x = exec code x MOST_INSTRUCTIONS 0 [] (begun x)

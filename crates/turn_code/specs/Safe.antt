@@ -15,19 +15,19 @@ use Rattle.turn_code.specs.declared.machine.End.TheVariants.{State, Stop}
 use Rattle.turn_code.specs.declared.draft.Draft.{Draft}
 use Rattle.turn_code.specs.declared.draft.DraftState.{DraftState}
 
--- the state is there, and its variables are set
+-- the state is declared, and the variables that it calls set are set
 pub record IsReady (t : Transition) (q : ℕ) (vs : List (Option Value)) : Type 0 where
   pub state : DraftState
   pub there : slice_get t.process.states q ≡ Some state
   pub set : AreSet state.set vs
 
--- a stop asks for nothing
+-- a stop requires nothing
 abbrev pub EndIsReady : Transition → End → List (Option Value) → Type 0
 EndIsReady t (State q) vs = IsReady t q.0 vs
 EndIsReady t Stop vs = Unit {0}
 
--- what holds as a transition ends: each set variable has its sort, what is said of the state where
--- it ends is so, and there are not more effects than its certificate says
+-- what holds as a transition ends: each variable that is set has its sort, the state where it ends
+-- is ready, and there are at most as many effects as its certificate states
 pub record EndsWell (t : Transition) (e : End) (s : Progress) : Type 0 where
   pub variables : HaveSorts t.process.variables s.variables
   pub ready : EndIsReady t e s.variables
@@ -50,8 +50,8 @@ IsSafe t x (suc n) k os s =
 abbrev pub SendsFew : List Instruction → Type 0
 SendsFew code = (k : ℕ) (i : Instruction) → slice_get code k ≡ Some i → sends i ≤ MOST_PARAMETERS
 
--- on each input that fits it, a valid transition is safe within its budget, which is within the
--- limit
+-- on each input that fits it, a valid transition is safe within its budget, and the budget is
+-- within the limit
 pub record SafeLaw : Type 0 where
   pub limits : (d : Draft) (t : Transition) → IsValidTransition d t → KeepsPieceLimits t.piece
   pub budget :

@@ -14,9 +14,8 @@ use Rattle.turn_code.specs.declared.draft.DraftPiece.{DraftPiece}
 use Rattle.turn_code.specs.declared.draft.Trigger.{Trigger}
 use Rattle.turn_code.specs.declared.draft.Trigger.TheVariants.{Signal, Timer}
 
--- a transition: the number of the process that it belongs to, that process, what it waits for
--- (nothing at START), the sorts of its parameters, the variables that are set as it begins, and its
--- piece
+-- a transition: the number of its process, the process, the signal or timer that it waits for (none
+-- at START), the sorts of its parameters, the variables that are set as it begins, and its piece
 pub record Transition : Type 0 where
   pub number : ℕ
   pub process : DraftProcess
@@ -25,7 +24,7 @@ pub record Transition : Type 0 where
   pub entry : VariableSet
   pub piece : DraftPiece
 
--- the sorts of a signal's parameters, none where there is no such signal
+-- the sorts of a signal's parameters, none if there is no such signal
 abbrev pub parameters_of : Option DraftSignal → List Sort
 parameters_of None = []
 parameters_of (Some s) = s.parameters
@@ -61,7 +60,7 @@ abbrev pub input_at :
 input_at signals n p i None = None
 input_at signals n p i (Some q) = option_map (input_of signals n p q) (slice_get q.inputs i)
 
--- START has the one input 0
+-- START has one input, with the number 0
 abbrev pub start_at : ℕ → DraftProcess → ℕ → Option Transition
 start_at n p zero = Some (start_of n p)
 start_at n p (suc i) = None

@@ -1,4 +1,4 @@
--- A valid draft, and where one is broken.
+-- A valid draft, and the places where a draft breaks a rule.
 use Rattle.std.specs.Prelude.{◌≡◌, ℕ, Some}
 use Rattle.turn_code.specs.Transitions.{Transition, transition_at}
 use Rattle.turn_code.specs.Rules.{JumpsInside, KeepsShapes, HasOperands, KeepsSorts, KeepsSets}
@@ -40,8 +40,8 @@ pub record IsValid (d : Draft) : Type 0 where
   pub each : (p : ℕ) (s : Place) (i : ℕ) (t : Transition) → transition_at d p s i ≡ Some t
       → IsValidTransition d t
 
--- what a rule wants of place k of input i at place s of process p; a limit of the whole set is V8
--- at place 0 of the START of process 0
+-- what a rule requires of place k of input i at place s of process p; a limit of the whole set is
+-- V8 at place 0 of the START of process 0
 pub record KeepsAt (d : Draft) (rule : Rule) (p : ℕ) (s : Place) (i k : ℕ) : Type 0 where
   pub whole : rule ≡ Limit → p ≡ 0 → s ≡ Start → i ≡ 0 → k ≡ 0 → KeepsSetLimits d
   pub each : (t : Transition) → transition_at d p s i ≡ Some t → Keeps rule d t k

@@ -16,24 +16,24 @@ abbrev pub sort_of : Value → Sort
 sort_of (Int z) = Integer
 sort_of (Bool b) = Boolean
 
--- what is left of a number in an Integer: the number from -2^31 to 2^31 - 1 that differs from it by
--- a multiple of 2^32
+-- a number wrapped to an Integer: the number from -2^31 to 2^31 - 1 that differs from it by a
+-- multiple of 2^32
 abbrev pub wrap : ℤ → ℤ
 wrap z = int_wrap w32 z
 
--- w is from -2^31 to 2^31 - 1, and z is w and so many times 2^32
+-- w is from -2^31 to 2^31 - 1, and z is w plus `turns` times 2^32
 pub record IsWrapped (z w : ℤ) : Type 0 where
   pub least : neg_ℤ (pos 2147483648) ≤ℤ w
   pub most : w ≤ℤ pos 2147483647
   pub turns : ℤ
   pub apart : z ≡ w +ℤ turns *ℤ pos 4294967296
 
--- of each number there is such a one, and it is the only one
+-- wrap returns such a number for every z, and there is only one
 pub record WrapLaw : Type 0 where
   pub gives : (z : ℤ) → IsWrapped z (wrap z)
   pub one : (z w : ℤ) → IsWrapped z w → w ≡ wrap z
 
--- whether x stands so to y
+-- whether x and y are in this relation
 abbrev pub holds : Relation → ℤ → ℤ → Truth
 holds Equal x y = int_eq x y
 holds NotEqual x y = not (int_eq x y)

@@ -1,4 +1,4 @@
-//! Copies of drafts, in memory of their own.
+//! Copies of drafts, in newly allocated memory.
 
 ghost use Rattle.std.specs.Prelude.{◌≡◌, IfOk};
 
@@ -11,7 +11,7 @@ use crate::sequence::Sequence;
 use std::alloc::AllocError;
 
 impl Draft {
-    /// An equal draft, where there is memory for it.
+    /// An equal draft, or `AllocError` if memory runs out.
     pub fn copy(&self) -> Result<Draft, AllocError>
         ensures { IfOk result (λ draft. draft ≡ self.now) }
     {
@@ -23,7 +23,7 @@ impl Draft {
     }
 }
 
-/// Equal signals, where there is memory for them.
+/// Equal signals, or `AllocError` if memory runs out.
 fn copied_signals(signals: &Sequence<DraftSignal>) -> Result<Sequence<DraftSignal>, AllocError>
     ensures { IfOk result (λ copy. copy ≡ signals.now) }
 {
@@ -34,7 +34,7 @@ fn copied_signals(signals: &Sequence<DraftSignal>) -> Result<Sequence<DraftSigna
     Ok(Sequence::from(copy))
 }
 
-/// Equal routes, where there is memory for them.
+/// Equal routes, or `AllocError` if memory runs out.
 fn copied_routes(routes: &Sequence<DraftRoute>) -> Result<Sequence<DraftRoute>, AllocError>
     ensures { IfOk result (λ copy. copy ≡ routes.now) }
 {
@@ -45,7 +45,7 @@ fn copied_routes(routes: &Sequence<DraftRoute>) -> Result<Sequence<DraftRoute>, 
     Ok(Sequence::from(copy))
 }
 
-/// Equal processes, where there is memory for them.
+/// Equal processes, or `AllocError` if memory runs out.
 fn copied_processes(
     processes: &Sequence<DraftProcess>,
 ) -> Result<Sequence<DraftProcess>, AllocError>
@@ -59,7 +59,7 @@ fn copied_processes(
 }
 
 impl DraftSignal {
-    /// An equal signal, where there is memory for it.
+    /// An equal signal, or `AllocError` if memory runs out.
     fn copy(&self) -> Result<DraftSignal, AllocError>
         ensures { IfOk result (λ signal. signal ≡ self.now) }
     {
@@ -71,7 +71,7 @@ impl DraftSignal {
 }
 
 impl DraftRoute {
-    /// An equal route, where there is memory for it.
+    /// An equal route, or `AllocError` if memory runs out.
     fn copy(&self) -> Result<DraftRoute, AllocError>
         ensures { IfOk result (λ route. route ≡ self.now) }
     {
@@ -84,7 +84,7 @@ impl DraftRoute {
 }
 
 impl DraftProcess {
-    /// An equal process, where there is memory for it.
+    /// An equal process, or `AllocError` if memory runs out.
     fn copy(&self) -> Result<DraftProcess, AllocError>
         ensures { IfOk result (λ process. process ≡ self.now) }
     {
@@ -99,7 +99,7 @@ impl DraftProcess {
     }
 }
 
-/// Equal variables, where there is memory for them.
+/// Equal variables, or `AllocError` if memory runs out.
 fn copied_variables(
     variables: &Sequence<DraftVariable>,
 ) -> Result<Sequence<DraftVariable>, AllocError>
@@ -112,7 +112,7 @@ fn copied_variables(
     Ok(Sequence::from(copy))
 }
 
-/// Equal names, where there is memory for them.
+/// Equal names, or `AllocError` if memory runs out.
 fn copied_names(names: &Sequence<Name>) -> Result<Sequence<Name>, AllocError>
     ensures { IfOk result (λ copy. copy ≡ names.now) }
 {
@@ -123,7 +123,7 @@ fn copied_names(names: &Sequence<Name>) -> Result<Sequence<Name>, AllocError>
     Ok(Sequence::from(copy))
 }
 
-/// Equal states, where there is memory for them.
+/// Equal states, or `AllocError` if memory runs out.
 fn copied_states(states: &Sequence<DraftState>) -> Result<Sequence<DraftState>, AllocError>
     ensures { IfOk result (λ copy. copy ≡ states.now) }
 {
@@ -135,7 +135,7 @@ fn copied_states(states: &Sequence<DraftState>) -> Result<Sequence<DraftState>, 
 }
 
 impl DraftVariable {
-    /// The same variable once more. It takes no memory.
+    /// A copy of the variable. It allocates no memory.
     fn copy(&self) -> DraftVariable
         ensures { result ≡ self.now }
     {
@@ -148,7 +148,7 @@ impl DraftVariable {
 }
 
 impl DraftState {
-    /// An equal state, where there is memory for it.
+    /// An equal state, or `AllocError` if memory runs out.
     fn copy(&self) -> Result<DraftState, AllocError>
         ensures { IfOk result (λ state. state ≡ self.now) }
     {
@@ -161,7 +161,7 @@ impl DraftState {
     }
 }
 
-/// Equal inputs, where there is memory for them.
+/// Equal inputs, or `AllocError` if memory runs out.
 fn copied_inputs(inputs: &Sequence<DraftInput>) -> Result<Sequence<DraftInput>, AllocError>
     ensures { IfOk result (λ copy. copy ≡ inputs.now) }
 {
@@ -173,7 +173,7 @@ fn copied_inputs(inputs: &Sequence<DraftInput>) -> Result<Sequence<DraftInput>, 
 }
 
 impl DraftInput {
-    /// An equal input, where there is memory for it.
+    /// An equal input, or `AllocError` if memory runs out.
     fn copy(&self) -> Result<DraftInput, AllocError>
         ensures { IfOk result (λ input. input ≡ self.now) }
     {
@@ -185,7 +185,7 @@ impl DraftInput {
 }
 
 impl DraftPiece {
-    /// An equal piece, where there is memory for it.
+    /// An equal piece, or `AllocError` if memory runs out.
     fn copy(&self) -> Result<DraftPiece, AllocError>
         ensures { IfOk result (λ piece. piece ≡ self.now) }
     {
@@ -197,7 +197,7 @@ impl DraftPiece {
     }
 }
 
-/// Equal facts, where there is memory for them.
+/// Equal facts, or `AllocError` if memory runs out.
 fn copied_facts(facts: &Sequence<PlaceFacts>) -> Result<Sequence<PlaceFacts>, AllocError>
     ensures { IfOk result (λ copy. copy ≡ facts.now) }
 {
@@ -209,7 +209,7 @@ fn copied_facts(facts: &Sequence<PlaceFacts>) -> Result<Sequence<PlaceFacts>, Al
 }
 
 impl PlaceFacts {
-    /// The equal facts of a place, where there is memory for them.
+    /// The equal facts of a place, or `AllocError` if memory runs out.
     fn copy(&self) -> Result<PlaceFacts, AllocError>
         ensures { IfOk result (λ facts. facts ≡ self.now) }
     {

@@ -1,21 +1,21 @@
-//! What a division makes of an Integer.
+//! Divisions of an Integer by a divisor of 1 or more.
 
 ghost use Rattle.std.specs.Prelude.{◌≡◌, ◌≤ℤ◌, pos};
 ghost use Rattle.turn_code.specs.Division.{division_of};
 
-/// What is made of an Integer and a divisor.
+/// Which result of a division is meant.
 #[derive(Clone, Copy)]
 pub enum Division {
-    /// The number divided, cut towards zero.
+    /// The quotient, cut towards zero.
     Quotient,
-    /// What is left, from 0 to below the divisor.
+    /// The remainder from 0 to one less than the divisor.
     Modulo,
-    /// What is left, with the dividend's sign.
+    /// The remainder with the dividend's sign.
     Remainder,
 }
 
 impl Division {
-    /// Its value, where the divisor is 1 or more.
+    /// The result of the division, for a divisor of 1 or more.
     pub fn apply(self, dividend: i32, divisor: i32) -> i32
         requires { pos 1 ≤ℤ divisor }
         ensures { result ≡ division_of self dividend divisor }

@@ -1,4 +1,4 @@
-//! A set of processes in code, as it stands before anything about it is proved.
+//! A set of processes in code that is not checked yet.
 
 use crate::input::Party;
 use crate::instruction::Instruction;
@@ -8,7 +8,7 @@ use crate::sequence::Sequence;
 use crate::value::{Sort, Value};
 use crate::variable_set::VariableSet;
 
-/// A set of processes with their code, and what is claimed of it.
+/// A set of processes with their code, and the facts and counts claimed of that code.
 #[derive(Drop)]
 pub struct Draft {
     /// The signals in text order.
@@ -31,9 +31,9 @@ pub struct DraftSignal {
 /// One path of a route.
 #[derive(Drop)]
 pub struct DraftRoute {
-    /// Who sends.
+    /// The sender.
     pub from: Party,
-    /// Who receives.
+    /// The receiver.
     pub to: Party,
     /// The signals that it carries.
     pub signals: Sequence<SignalNumber>,
@@ -44,7 +44,7 @@ pub struct DraftRoute {
 pub struct DraftProcess {
     /// Its name.
     pub name: Name,
-    /// How many instances of it run, 1 to 8.
+    /// The number of instances that run, 1 to 8.
     pub instances: u32,
     /// Its variables in text order.
     pub variables: Sequence<DraftVariable>,
@@ -52,7 +52,7 @@ pub struct DraftProcess {
     pub timers: Sequence<Name>,
     /// The code of its START transition.
     pub start: DraftPiece,
-    /// Its states in the order of first STATE.
+    /// Its states, in the order of their first STATE.
     pub states: Sequence<DraftState>,
 }
 
@@ -63,7 +63,7 @@ pub struct DraftVariable {
     pub name: Name,
     /// Its sort.
     pub sort: Sort,
-    /// Its value as the process begins, if it has one.
+    /// Its value as the process begins, if the declaration has one.
     pub initial: Option<Value>,
 }
 
@@ -74,13 +74,13 @@ pub struct DraftState {
     pub name: Name,
     /// Variables that are set whenever the process is in this state.
     pub set: VariableSet,
-    /// What it saves, in text order.
+    /// The signals and timers that the state saves, in text order.
     pub saves: Sequence<Trigger>,
     /// Its inputs in text order.
     pub inputs: Sequence<DraftInput>,
 }
 
-/// What an input of a state waits for.
+/// The signal or timer that an input of a state waits for.
 #[derive(Clone, Copy, PartialEq, Eq, Debug)]
 pub enum Trigger {
     /// A signal.
@@ -92,29 +92,29 @@ pub enum Trigger {
 /// An input of a state, with its transition.
 #[derive(Drop)]
 pub struct DraftInput {
-    /// What it waits for.
+    /// The signal or timer that it waits for.
     pub trigger: Trigger,
     /// The code of its transition.
     pub piece: DraftPiece,
 }
 
-/// The code of a transition, with what is claimed of it.
+/// The code of a transition, with the facts and counts claimed of it.
 #[derive(Drop)]
 pub struct DraftPiece {
     /// The instructions.
     pub code: Sequence<Instruction>,
-    /// What is claimed of each instruction's place, as many as there are instructions.
+    /// The facts claimed of each place of the code, one for each instruction.
     pub facts: Sequence<PlaceFacts>,
-    /// The counts of the whole.
+    /// The counts claimed of the whole piece.
     pub certificate: Cert,
 }
 
-/// What is claimed of a place of a piece, as the instruction there begins.
+/// The facts claimed of a place of a piece, as the instruction there begins.
 #[derive(Drop)]
 pub struct PlaceFacts {
     /// The sorts of the operands, the topmost first.
     pub shape: Sequence<Sort>,
-    /// Variables that are set.
+    /// The variables that are set.
     pub set: VariableSet,
     /// The greatest number of instructions from here to an end.
     pub count: u32,
@@ -129,6 +129,6 @@ pub struct Cert {
     pub budget: u32,
     /// The greatest number of operands at a place.
     pub depth: u32,
-    /// The greatest number of effects that a run gives.
+    /// The greatest number of effects of a run.
     pub effects: u32,
 }

@@ -1,4 +1,4 @@
-//! What a transition does beside its variables.
+//! The effects of a transition besides those on its variables.
 
 ghost use Rattle.std.specs.Prelude.{◌≡◌};
 
@@ -10,27 +10,27 @@ use arrayvec::ArrayVec;
 /// One effect of a transition.
 #[derive(Drop)]
 pub enum Effect {
-    /// A signal goes out.
+    /// A signal is sent.
     Output(Sending),
-    /// A timer is set to this much after the clock.
+    /// A timer is set to the clock plus this many ticks.
     Set(TimerNumber, i32),
     /// A timer is stopped.
     Reset(TimerNumber),
 }
 
-/// A signal on its way.
+/// A signal that is sent.
 #[derive(Drop)]
 pub struct Sending {
     /// The signal.
     pub signal: SignalNumber,
-    /// Who gets it; a process without an instance where the transition names none.
+    /// The receiver; a process has no instance here if the transition names none.
     pub receiver: Address,
     /// Its parameters.
     pub parameters: ArrayVec<Value, 4>,
 }
 
 impl Effect {
-    /// The same effect once more. It takes no memory.
+    /// A copy of the effect. It allocates no memory.
     pub fn copy(&self) -> Effect
         ensures { result ≡ self.now }
     {
@@ -43,7 +43,7 @@ impl Effect {
 }
 
 impl Sending {
-    /// The same sending once more. It takes no memory.
+    /// A copy of the sending. It allocates no memory.
     fn copy(&self) -> Sending
         ensures { result ≡ self.now }
     {

@@ -1,4 +1,4 @@
-//! Where a transition begins, and what it is given.
+//! The place where a transition begins, and the input that it runs on.
 
 ghost use Rattle.std.specs.Prelude.{◌≡◌, ⊤};
 
@@ -19,34 +19,34 @@ pub enum Place {
 /// An end of a route.
 #[derive(Clone, Copy, PartialEq, Eq, Debug)]
 pub enum Party {
-    /// ENV.
+    /// The environment, ENV.
     Environment,
     /// A process of the set.
     Process(ProcessNumber),
 }
 
-/// Who sent a signal, or is to get one.
+/// The sender or the receiver of a signal.
 #[derive(Clone, Copy, PartialEq, Eq, Debug)]
 pub struct Address {
     /// ENV, or the process.
     pub party: Party,
-    /// Which instance of the process; none for ENV, and where no instance is named.
+    /// The instance of the process; none for ENV, and if no instance is named.
     pub instance: Option<InstanceNumber>,
 }
 
-/// What a transition runs on.
+/// The input of a transition: variables, parameters and sender.
 #[derive(Drop)]
 pub struct Input {
-    /// The value of each variable of the process, none where it isn't set.
+    /// The value of each variable of the process; none for a variable that isn't set.
     pub variables: ArrayVec<Option<Value>, 32>,
     /// The parameters of the signal.
     pub parameters: ArrayVec<Value, 4>,
-    /// Who sent the signal; not looked at for START and for a timer.
+    /// The sender of the signal; START and timers ignore it.
     pub sender: Option<Address>,
 }
 
 impl Input {
-    /// The same input once more. It takes no memory.
+    /// A copy of the input. It allocates no memory.
     pub fn copy(&self) -> Input
         ensures { result ≡ self.now }
     {
@@ -68,7 +68,7 @@ impl Clone for Input {
     }
 }
 
-/// The variables once more. It takes no memory.
+/// A copy of the variables. It allocates no memory.
 pub fn copied_variables(variables: &ArrayVec<Option<Value>, 32>) -> ArrayVec<Option<Value>, 32>
     ensures { result ≡ variables.now }
 {
@@ -78,7 +78,7 @@ pub fn copied_variables(variables: &ArrayVec<Option<Value>, 32>) -> ArrayVec<Opt
     }
 }
 
-/// The values once more. It takes no memory.
+/// A copy of the values. It allocates no memory.
 pub fn copied_values(values: &ArrayVec<Value, 4>) -> ArrayVec<Value, 4>
     ensures { result ≡ values.now }
 {

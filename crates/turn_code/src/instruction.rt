@@ -14,73 +14,73 @@ pub enum Relation {
     GreaterEqual,
 }
 
-/// Who gets a signal.
+/// The receiver of a signal.
 #[derive(Clone, Copy, PartialEq, Eq, Debug)]
 pub enum Receiver {
     /// This party.
     Party(Party),
-    /// Who sent the signal of the transition.
+    /// The sender of the signal that began the transition.
     Sender,
 }
 
 /// One instruction of a piece. It takes its operands from the top of a list, and puts its value back there.
 #[derive(Clone, Copy, PartialEq, Eq)]
 pub enum Instruction {
-    /// The number itself.
+    /// Puts this Integer.
     Int(i32),
-    /// The Boolean itself.
+    /// Puts this Boolean.
     Bool(bool),
-    /// The value of a variable.
+    /// Puts the value of a variable.
     Load(VariableNumber),
-    /// Takes a value, which is the variable's from then on.
+    /// Takes a value and stores it in the variable.
     Store(VariableNumber),
-    /// The value of a parameter of the input, from 0.
+    /// Puts the value of a parameter of the input, counted from 0.
     Param(u8),
     /// The sum of two Integers.
     Add,
-    /// The difference of two Integers, the topmost taken from the other.
+    /// The difference of two Integers: the topmost is subtracted from the other.
     Sub,
     /// The product of two Integers.
     Mul,
-    /// An Integer divided by this number of 1 or more, cut towards zero.
+    /// The quotient of an Integer by this number of 1 or more, cut towards zero.
     Div(i32),
-    /// What is left of an Integer by this number k of 1 or more: from 0 to k - 1.
+    /// The remainder of an Integer by this number k of 1 or more, from 0 to k - 1.
     Mod(i32),
-    /// What the division by this number of 1 or more leaves, with the dividend's sign.
+    /// The remainder of an Integer by this number of 1 or more, with the dividend's sign.
     Rem(i32),
-    /// An Integer with the other sign.
+    /// The negation of an Integer.
     Neg,
-    /// The other Boolean.
+    /// The negation of a Boolean.
     Not,
     /// Whether both of two Booleans are TRUE.
     And,
-    /// Whether one of two Booleans is TRUE.
+    /// Whether at least one of two Booleans is TRUE.
     Or,
     /// Whether two Booleans differ.
     Xor,
-    /// Whether two Booleans are the same.
+    /// Whether two Booleans are equal.
     Same,
-    /// Whether two Integers stand so to each other, the topmost on the right.
+    /// Whether two Integers are in this relation, the topmost on the right.
     Compare(Relation),
-    /// Whether the topmost Integer stands so to this number: if so, takes it away and goes on at the place, else leaves it
-    /// and goes on behind.
+    /// If the topmost Integer is in this relation to the number, takes it and goes on at the place. Otherwise leaves it
+    /// and goes on with the next instruction.
     Case(Relation, i32, CodePlace),
-    /// The same where the Integer is from the first number to the second one, both included. The place stands first so that an
-    /// instruction has 12 octets.
+    /// As `Case`, if the Integer is from the first number to the second, both included. The place comes first so that
+    /// an instruction has 12 octets.
     CaseWithin(CodePlace, i32, i32),
-    /// Takes a Boolean, and goes on at the first place where it is FALSE, at the second one where it is TRUE.
+    /// Takes a Boolean, and goes on at the first place if it is FALSE, at the second if it is TRUE.
     Pick(CodePlace, CodePlace),
-    /// Takes an Integer and throws it away.
+    /// Takes an Integer and discards it.
     Drop,
     /// Goes on at the place.
     Jump(CodePlace),
-    /// Takes this many parameters, the last one topmost, and sends the signal with them.
+    /// Takes this many parameters, the last one topmost, and sends the signal with them to the receiver.
     Output(SignalNumber, Receiver, u8),
-    /// Takes an Integer, and sets the timer to so long after the clock.
+    /// Takes an Integer, and sets the timer to the clock plus this many ticks.
     Set(TimerNumber),
     /// Stops the timer.
     Reset(TimerNumber),
-    /// Ends the transition in a state.
+    /// Ends the transition in this state.
     Next(StateNumber),
     /// Ends the transition and the process.
     Stop,
@@ -90,7 +90,7 @@ impl Receiver {
     ghost use Rattle.std.specs.Prelude.{◌≡◌};
     ghost use Rattle.turn_code.specs.Run.{address_of};
 
-    /// The party, without an instance, or the sender, where it is this one or nobody.
+    /// The address of the party, without an instance, or that of the sender, which may be none.
     pub fn address(self, sender: Option<Address>) -> Option<Address>
         ensures { result ≡ address_of self sender }
     {
@@ -115,5 +115,5 @@ impl Default for Instruction {
     }
 }
 
-// A piece is copied with each job, so an instruction is to stay small.
+// A piece is copied with each job, so an instruction must stay small.
 const _: () = prove!(size_of::<Instruction>() <= 12);

@@ -1,4 +1,4 @@
-//! What follows from the definitions alone. Each call costs nothing.
+//! Laws that follow from the definitions. A call does nothing at run time.
 
 ghost use Rattle.turn_code.specs.Safe.{SafeLaw, RunLaw};
 ghost use Rattle.turn_code.specs.Effects.{EffectsLaw};
@@ -12,8 +12,8 @@ pub fn safe_law()
     ensures { SafeLaw }
 {}
 
-/// The run of a valid transition on an input that fits it is an end within its budget, in a state that is there,
-/// with the variables set that are said to be set there, or a stop.
+/// The run of a valid transition on an input that fits it ends within its budget. It ends with a stop, or in a declared
+/// state with all variables set that the state calls set.
 pub fn run_law()
     ensures { RunLaw }
 {}
@@ -23,8 +23,7 @@ pub fn path_law()
     ensures { PathLaw }
 {}
 
-/// What arithmetic leaves of a number is the one number from -2^31 to 2^31 - 1 that differs from it by a multiple of
-/// 2^32.
+/// A wrapped number is the only number from -2^31 to 2^31 - 1 that differs from the original by a multiple of 2^32.
 pub fn wrap_law()
     ensures { WrapLaw }
 {}

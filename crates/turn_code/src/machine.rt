@@ -1,4 +1,4 @@
-//! One instruction at a time, on values with their sorts.
+//! A machine that runs one instruction at a time, on values with their sorts.
 
 ghost use Rattle.std.specs.Prelude.{◌≡◌, ◌+◌, ◌<◌, ◌≤◌, ◌∷◌, length, slice_get, neg_ℤ, not, if◌then◌else◌};
 ghost use Rattle.turn_code.specs.Values.{wrap, holds, is_between};
@@ -30,31 +30,31 @@ pub enum End {
     Stop,
 }
 
-/// What follows an instruction.
+/// The outcome of one instruction.
 #[derive(Clone, Copy, PartialEq, Eq, Debug)]
 pub enum After {
-    /// The instruction at this place.
+    /// The transition goes on with the instruction at this place.
     Goes(usize),
-    /// Nothing: the transition is over.
+    /// The transition is over.
     Ends(End),
-    /// Nothing that the code tells.
+    /// The code doesn't say how to go on.
     Stuck(Trouble),
 }
 
-/// What a run has at one moment.
+/// The state of a run.
 #[derive(Drop)]
 pub struct Machine {
     /// Its operands.
     pub operands: Operands,
-    /// The value of each variable, none where it isn't set.
+    /// The value of each variable; none for a variable that isn't set.
     pub variables: ArrayVec<Option<Value>, 32>,
     /// Its effects so far.
     pub effects: ArrayVec<Effect, 32>,
-    /// How many instructions it took.
+    /// The number of instructions that it has taken.
     pub count: u32,
 }
 
-/// What the instruction at `place` of the code does, on an input. Where it is stuck it leaves the machine as it is.
+/// Runs the instruction at `place` of the code on an input. If it is stuck, the machine is unchanged.
 #[tactic(auto, using(crate::proofs::Ran::step_count))]
 pub fn step_plain(code: &[Instruction], input: &Input, place: usize, machine: &mut Machine) -> After
     requires room { HasRoom code.now place machine.old.operands machine.old.effects.items }
@@ -70,7 +70,7 @@ pub fn step_plain(code: &[Instruction], input: &Input, place: usize, machine: &m
 }
 
 impl Machine {
-    /// What an instruction does, where `next` is the place behind it.
+    /// Runs an instruction; `next` is the place after it.
     fn act(&mut self, instruction: Instruction, input: &Input, next: usize) -> After
         requires room { HasRoomFor instruction self.old.operands self.old.effects.items }
         requires count { self.old.count < MOST_INSTRUCTIONS }
@@ -109,7 +109,7 @@ impl Machine {
         }
     }
 
-    /// One instruction more: the one at this place is next.
+    /// Counts one instruction; the one at this place is next.
     fn go(&mut self, place: usize) -> After
         requires count { self.old.count < MOST_INSTRUCTIONS }
         ensures exact { after_of result self.new ≡ goes place self.old.operands (tick (progress_of self.old)) }
@@ -119,7 +119,7 @@ impl Machine {
         After::Goes(place)
     }
 
-    /// One instruction more: the transition ends so.
+    /// Counts one instruction; the transition ends here.
     fn end(&mut self, end: End) -> After
         requires count { self.old.count < MOST_INSTRUCTIONS }
         ensures exact { after_of result self.new ≡ ends end (tick (progress_of self.old)) }
@@ -129,7 +129,7 @@ impl Machine {
         After::Ends(end)
     }
 
-    /// Puts a value on top.
+    /// Puts a value on top and goes on at `next`.
     fn put(&mut self, value: Value, next: usize) -> After
         requires room { length self.old.operands < MOST_OPERANDS }
         requires count { self.old.count < MOST_INSTRUCTIONS }
@@ -141,7 +141,7 @@ impl Machine {
         After::Goes(next)
     }
 
-    /// Gives an effect.
+    /// Adds an effect and goes on at `next`.
     fn give(&mut self, effect: Effect, next: usize) -> After
         requires room { length self.old.effects.items < MOST_EFFECTS }
         requires count { self.old.count < MOST_INSTRUCTIONS }
@@ -153,7 +153,7 @@ impl Machine {
         After::Goes(next)
     }
 
-    /// Puts the value of a variable on top; stuck where it isn't set.
+    /// Puts the value of a variable on top; stuck if the variable isn't set.
     fn load(&mut self, variable: VariableNumber, next: usize) -> After
         requires room { length self.old.operands < MOST_OPERANDS }
         requires count { self.old.count < MOST_INSTRUCTIONS }
@@ -169,7 +169,7 @@ impl Machine {
         }
     }
 
-    /// Takes a value, which is the variable's from then on; stuck where there is no value or no such variable.
+    /// Takes a value and stores it in the variable; stuck if there is no value or no such variable.
     fn store(&mut self, variable: VariableNumber, next: usize) -> After
         requires count { self.old.count < MOST_INSTRUCTIONS }
         ensures exact { after_of result self.new ≡ on_top self.old.operands (λ x rest. stored next rest (tick (progress_of self.old)) variable.0 x (slice_get self.old.variables.items variable.0)) }
@@ -189,7 +189,7 @@ impl Machine {
         }
     }
 
-    /// Puts the value of a parameter of the input on top, by its place from 0; stuck where there is none.
+    /// Puts a parameter of the input on top, by its place from 0; stuck if there is none.
     fn parameter(&mut self, input: &Input, place: u8, next: usize) -> After
         requires room { length self.old.operands < MOST_OPERANDS }
         requires count { self.old.count < MOST_INSTRUCTIONS }
@@ -202,7 +202,7 @@ impl Machine {
         }
     }
 
-    /// What an operation makes of two Integers, wrapped round to -2^31 to 2^31 - 1.
+    /// Replaces two Integers by the result of an operation, wrapped to -2^31 to 2^31 - 1.
     fn combine(&mut self, operation: Operation, next: usize) -> After
         requires count { self.old.count < MOST_INSTRUCTIONS }
         ensures exact { after_of result self.new ≡ on_two (meaning_of operation) next self.old.operands (tick (progress_of self.old)) }
@@ -214,7 +214,7 @@ impl Machine {
         }
     }
 
-    /// What a division makes of an Integer; stuck where the divisor is below 1.
+    /// Replaces an Integer by the result of a division; stuck if the divisor is below 1.
     fn divide(&mut self, division: Division, divisor: i32, next: usize) -> After
         requires count { self.old.count < MOST_INSTRUCTIONS }
         ensures exact { after_of result self.new ≡ divided (division_of division) divisor next self.old.operands (tick (progress_of self.old)) }
@@ -233,7 +233,7 @@ impl Machine {
         }
     }
 
-    /// An Integer with the other sign: -2^31 stays.
+    /// Negates an Integer; -2^31 stays.
     fn negate(&mut self, next: usize) -> After
         requires count { self.old.count < MOST_INSTRUCTIONS }
         ensures exact { after_of result self.new ≡ on_integer self.old.operands (λ x rest. goes next (IntValue (wrap (neg_ℤ x)) ∷ rest) (tick (progress_of self.old))) }
@@ -245,7 +245,7 @@ impl Machine {
         }
     }
 
-    /// The other Boolean.
+    /// Negates a Boolean.
     fn invert(&mut self, next: usize) -> After
         requires count { self.old.count < MOST_INSTRUCTIONS }
         ensures exact { after_of result self.new ≡ on_boolean self.old.operands (λ b rest. goes next (BoolValue (not b) ∷ rest) (tick (progress_of self.old))) }
@@ -257,7 +257,7 @@ impl Machine {
         }
     }
 
-    /// What a connective makes of two Booleans.
+    /// Replaces two Booleans by the result of a connective.
     fn connect(&mut self, connective: Connective, next: usize) -> After
         requires count { self.old.count < MOST_INSTRUCTIONS }
         ensures exact { after_of result self.new ≡ joined (truth_of connective) next self.old.operands (tick (progress_of self.old)) }
@@ -269,7 +269,7 @@ impl Machine {
         }
     }
 
-    /// Whether two Integers stand so to each other, the topmost on the right.
+    /// Replaces two Integers by whether they are in the relation, the topmost on the right.
     fn compare(&mut self, relation: Relation, next: usize) -> After
         requires count { self.old.count < MOST_INSTRUCTIONS }
         ensures exact { after_of result self.new ≡ on_integers self.old.operands (λ a b rest. goes next (BoolValue (holds relation a b) ∷ rest) (tick (progress_of self.old))) }
@@ -281,7 +281,7 @@ impl Machine {
         }
     }
 
-    /// Takes an Integer away and goes on at a place where it stands so to this number; else it stays.
+    /// If the topmost Integer is in this relation to `to`, takes it and goes on at `place`; otherwise leaves it.
     fn case(&mut self, relation: Relation, to: i32, place: CodePlace, next: usize) -> After
         requires count { self.old.count < MOST_INSTRUCTIONS }
         ensures exact { after_of result self.new ≡ tested (λ x. holds relation x to) place.0 next self.old.operands (tick (progress_of self.old)) }
@@ -294,7 +294,8 @@ impl Machine {
         }
     }
 
-    /// Takes an Integer away and goes on at a place where it is from the least number to the greatest, both included; else it stays.
+    /// If the topmost Integer is from `least` to `most`, both included, takes it and goes on at `place`; otherwise
+    /// leaves it.
     fn within(&mut self, least: i32, most: i32, place: CodePlace, next: usize) -> After
         requires count { self.old.count < MOST_INSTRUCTIONS }
         ensures exact { after_of result self.new ≡ tested (is_between least most) place.0 next self.old.operands (tick (progress_of self.old)) }
@@ -307,7 +308,7 @@ impl Machine {
         }
     }
 
-    /// Takes a Boolean, and goes on at the first place where it is FALSE, at the second one where it is TRUE.
+    /// Takes a Boolean, and goes on at the first place if it is FALSE, at the second if it is TRUE.
     fn pick(&mut self, no: CodePlace, yes: CodePlace) -> After
         requires count { self.old.count < MOST_INSTRUCTIONS }
         ensures exact { after_of result self.new ≡ on_boolean self.old.operands (λ b rest. goes (if b then yes.0 else no.0) rest (tick (progress_of self.old))) }
@@ -320,7 +321,7 @@ impl Machine {
         }
     }
 
-    /// Takes an Integer and throws it away.
+    /// Takes an Integer and discards it.
     fn throw_away(&mut self, next: usize) -> After
         requires count { self.old.count < MOST_INSTRUCTIONS }
         ensures exact { after_of result self.new ≡ on_integer self.old.operands (λ x rest. goes next rest (tick (progress_of self.old))) }
@@ -332,8 +333,8 @@ impl Machine {
         }
     }
 
-    /// Takes so many parameters, the last one topmost, and sends a signal with them; stuck where they aren't all there, or where it
-    /// goes back to a sender and there is none.
+    /// Takes `count` parameters, the last one topmost, and sends a signal with them. Stuck if there are too few, or if
+    /// the receiver is the sender and there is none.
     fn output(
         &mut self,
         signal: SignalNumber,
@@ -363,7 +364,7 @@ impl Machine {
         self.give(Effect::Output(sending), next)
     }
 
-    /// Takes an Integer, and sets a timer to so long after the clock.
+    /// Takes an Integer, and sets a timer to the clock plus this many ticks.
     fn set(&mut self, timer: TimerNumber, next: usize) -> After
         requires room { length self.old.effects.items < MOST_EFFECTS }
         requires count { self.old.count < MOST_INSTRUCTIONS }

@@ -1,4 +1,4 @@
-//! Names as the text spells them.
+//! Names as the text writes them.
 
 ghost use Rattle.std.specs.Prelude.{◌≡◌, ◌≤◌, ◌↔◌, length, IsSome, IfSome};
 ghost use Rattle.plain_laws.specs.Limits.{LONGEST_NAME};
@@ -6,7 +6,7 @@ ghost use Rattle.plain_laws.specs.Limits.{LONGEST_NAME};
 use arrayvec::ArrayVec;
 use std::marker::Model;
 
-/// The bytes of a name as it was first written, 32 at most.
+/// The octets of a name as the text first writes it, at most 32.
 #[derive(Drop)]
 pub struct Name {
     bytes: ArrayVec<u8, 32>,
@@ -21,7 +21,7 @@ impl Model for Name {
 }
 
 impl Name {
-    /// The name with these bytes, where they are 32 at most.
+    /// The name with these octets, or none if there are more than 32.
     pub fn from_bytes(bytes: &[u8]) -> Option<Name>
         ensures fits { IsSome result ↔ (length bytes.now ≤ LONGEST_NAME) }
         ensures value { IfSome result (λ n. n ≡ bytes.now) }
@@ -32,14 +32,14 @@ impl Name {
         }
     }
 
-    /// The bytes.
+    /// The octets of the name.
     pub fn as_bytes(&self) -> &[u8]
         ensures { result.now ≡ self.now }
     {
         self.bytes.as_slice()
     }
 
-    /// The same name once more. It takes no memory.
+    /// A copy of the name. It allocates no memory.
     pub fn copy(&self) -> Name
         ensures { result ≡ self.now }
     {

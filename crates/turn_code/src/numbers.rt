@@ -1,4 +1,4 @@
-//! Numbers that stand for what a set declares.
+//! Numbers of the processes, signals, states, variables and timers that a set declares.
 
 /// A process of a set, from 0 in text order.
 #[derive(Clone, Copy, PartialEq, Eq, Debug, Default)]
@@ -12,7 +12,7 @@ pub struct InstanceNumber(pub u8);
 #[derive(Clone, Copy, PartialEq, Eq, Debug, Default)]
 pub struct SignalNumber(pub u8);
 
-/// A state of a process, from 0 in the order of first STATE.
+/// A state of a process, from 0 in the order of its first STATE.
 #[derive(Clone, Copy, PartialEq, Eq, Debug, Default)]
 pub struct StateNumber(pub u8);
 

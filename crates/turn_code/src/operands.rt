@@ -10,7 +10,7 @@ use crate::value::Value;
 use arrayvec::ArrayVec;
 use std::marker::Model;
 
-/// At most 16 values, seen as a list with the topmost first.
+/// At most 16 values; contracts see them as a list with the topmost first.
 #[derive(Drop)]
 pub struct Operands {
     values: ArrayVec<Value, 16>,
@@ -29,7 +29,7 @@ impl Model for Operands {
 }
 
 impl Operands {
-    /// No operand.
+    /// An empty list of operands.
     pub fn new() -> Self
         ensures { result ≡ [] }
     {
@@ -46,14 +46,14 @@ impl Operands {
         self.values.len()
     }
 
-    /// Whether there is none.
+    /// Whether there is no operand.
     pub fn is_empty(&self) -> bool
         ensures { result ≡ (length self.now == 0) }
     {
         self.values.is_empty()
     }
 
-    /// Puts a value on top, where there is room.
+    /// Puts a value on top; there must be room for it.
     pub fn push(&mut self, value: Value)
         requires { length self.old < MOST_OPERANDS }
         ensures { self.new ≡ value ∷ self.old }
@@ -71,7 +71,7 @@ impl Operands {
         self.values.pop()
     }
 
-    /// Takes the topmost value where it is an Integer, and else leaves all.
+    /// Takes the topmost value if it is an Integer; otherwise leaves all.
     pub fn pop_integer(&mut self) -> Result<i32, Trouble>
         ensures ok { IfOk result (λ x. self.old ≡ IntValue x ∷ self.new) }
         ensures room { IfOk result (λ x. length self.new < MOST_OPERANDS) }
@@ -88,7 +88,7 @@ impl Operands {
         }
     }
 
-    /// Takes the two topmost values where both are Integers, the topmost as the second, and else leaves all.
+    /// Takes the two topmost values, the topmost as the second, if both are Integers; otherwise leaves all.
     pub fn pop_integers(&mut self) -> Result<(i32, i32), Trouble>
         ensures ok { IfOk result (λ p. self.old ≡ IntValue p.1 ∷ IntValue p.0 ∷ self.new) }
         ensures room { IfOk result (λ p. length self.new < MOST_OPERANDS) }
@@ -112,7 +112,7 @@ impl Operands {
         }
     }
 
-    /// Takes the topmost value where it is a Boolean, and else leaves all.
+    /// Takes the topmost value if it is a Boolean; otherwise leaves all.
     pub fn pop_boolean(&mut self) -> Result<bool, Trouble>
         ensures ok { IfOk result (λ x. self.old ≡ BoolValue x ∷ self.new) }
         ensures room { IfOk result (λ x. length self.new < MOST_OPERANDS) }
@@ -129,7 +129,7 @@ impl Operands {
         }
     }
 
-    /// Takes the two topmost values where both are Booleans, the topmost as the second, and else leaves all.
+    /// Takes the two topmost values, the topmost as the second, if both are Booleans; otherwise leaves all.
     pub fn pop_booleans(&mut self) -> Result<(bool, bool), Trouble>
         ensures ok { IfOk result (λ p. self.old ≡ BoolValue p.1 ∷ BoolValue p.0 ∷ self.new) }
         ensures room { IfOk result (λ p. length self.new < MOST_OPERANDS) }
@@ -153,7 +153,7 @@ impl Operands {
         }
     }
 
-    /// Takes this many values, at most 4 and all there, as a list with the topmost last.
+    /// Takes `count` values, at most 4, which must be there, as a list with the topmost last.
     pub fn pop_parameters(&mut self, count: usize) -> ArrayVec<Value, 4>
         requires few { count ≤ MOST_PARAMETERS }
         requires there { count ≤ length self.old }

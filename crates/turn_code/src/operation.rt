@@ -6,12 +6,12 @@ ghost use Rattle.turn_code.specs.Operation.{meaning_of, truth_of};
 
 use crate::instruction::Relation;
 
-/// An operation on two Integers, which wraps round.
+/// An operation on two Integers; the result wraps to 32 bits.
 #[derive(Clone, Copy)]
 pub enum Operation {
     /// The sum.
     Add,
-    /// The difference, the right one taken from the left one.
+    /// The difference: the right number is subtracted from the left.
     Subtract,
     /// The product.
     Multiply,
@@ -22,16 +22,16 @@ pub enum Operation {
 pub enum Connective {
     /// Whether both are TRUE.
     And,
-    /// Whether one is TRUE.
+    /// Whether at least one is TRUE.
     Or,
     /// Whether they differ.
     Xor,
-    /// Whether they are the same.
+    /// Whether they are equal.
     Same,
 }
 
 impl Operation {
-    /// Its value.
+    /// The result of the operation.
     pub fn apply(self, left: i32, right: i32) -> i32
         ensures { result ≡ wrap (meaning_of self left right) }
     {
@@ -44,7 +44,7 @@ impl Operation {
 }
 
 impl Connective {
-    /// Its value.
+    /// The result of the connective.
     pub fn apply(self, left: bool, right: bool) -> bool
         ensures { result ≡ truth_of self left right }
     {
@@ -58,7 +58,7 @@ impl Connective {
 }
 
 impl Relation {
-    /// Whether the left one stands so to the right one.
+    /// Whether the left number is in this relation to the right one.
     pub fn holds(self, left: i32, right: i32) -> bool
         ensures { result ≡ holds self left right }
     {
@@ -73,7 +73,7 @@ impl Relation {
     }
 }
 
-/// The number with the other sign, which wraps round.
+/// The negated number, wrapped to 32 bits.
 pub fn negated(number: i32) -> i32
     ensures { result ≡ wrap (neg_ℤ number) }
 {

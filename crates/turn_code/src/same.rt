@@ -1,4 +1,4 @@
-//! Exact comparison of values, of what an input brings, and of effects.
+//! Exact comparison of values, inputs and effects.
 
 ghost use Rattle.std.specs.Prelude.{◌≡◌, ◌↔◌, IsTrue};
 
@@ -7,7 +7,7 @@ use crate::input::Input;
 use crate::value::Value;
 
 impl Value {
-    /// Whether it is the same value.
+    /// Whether the two values are equal.
     pub fn same(self, other: Value) -> bool
         ensures { IsTrue result ↔ (self ≡ other) }
     {
@@ -24,7 +24,7 @@ impl Value {
     }
 }
 
-/// Whether these are the same values.
+/// Whether the two lists hold equal values.
 pub fn same_values(left: &[Value], right: &[Value]) -> bool
     ensures { IsTrue result ↔ (left.now ≡ right.now) }
 {
@@ -37,7 +37,7 @@ pub fn same_values(left: &[Value], right: &[Value]) -> bool
     }
 }
 
-/// Whether the same variables are set, to the same values.
+/// Whether the same variables are set, to equal values.
 pub fn same_variables(left: &[Option<Value>], right: &[Option<Value>]) -> bool
     ensures { IsTrue result ↔ (left.now ≡ right.now) }
 {
@@ -50,7 +50,7 @@ pub fn same_variables(left: &[Option<Value>], right: &[Option<Value>]) -> bool
     }
 }
 
-/// Whether it is the same value, or none in both cases.
+/// Whether both are none, or both are equal values.
 fn same_if_any(left: Option<Value>, right: Option<Value>) -> bool
     ensures { IsTrue result ↔ (left ≡ right) }
 {
@@ -64,7 +64,7 @@ fn same_if_any(left: Option<Value>, right: Option<Value>) -> bool
 }
 
 impl Input {
-    /// Whether it is the same input.
+    /// Whether the two inputs are equal.
     pub fn same(&self, other: &Input) -> bool
         ensures { IsTrue result ↔ (self.now ≡ other.now) }
     {
@@ -86,7 +86,7 @@ impl Sending {
 }
 
 impl Effect {
-    /// Whether it is the same effect.
+    /// Whether the two effects are equal.
     pub fn same(&self, other: &Effect) -> bool
         ensures { IsTrue result ↔ (self.now ≡ other.now) }
     {

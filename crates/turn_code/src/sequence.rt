@@ -5,7 +5,7 @@ ghost use Rattle.std.specs.Prelude.{◌≡◌, ◌==◌, [], length, IfOk};
 use std::alloc::AllocError;
 use std::marker::Model;
 
-/// A list of values in memory, which contracts see as the list alone.
+/// A list of values in memory; contracts see only the list.
 #[derive(Drop)]
 pub struct Sequence<T> {
     items: Vec<T>,
@@ -41,7 +41,7 @@ impl<T> Sequence<T> {
         self.items.is_empty()
     }
 
-    /// The values in the memory that they lie in.
+    /// The values, in the memory that they lie in.
     pub fn into_vec(self) -> Vec<T>
         ensures { result.items ≡ self }
     {
@@ -51,7 +51,7 @@ impl<T> Sequence<T> {
 }
 
 impl<T> Sequence<T> {
-    /// Room for as many values, where these lie, with none in it.
+    /// An empty list with room for as many values, from the allocator of this one.
     pub(crate) fn room(&self) -> Result<Vec<T>, AllocError>
         ensures { IfOk result (λ room. room.items ≡ []) }
     {
@@ -60,7 +60,7 @@ impl<T> Sequence<T> {
 }
 
 impl<T: Copy> Sequence<T> {
-    /// An equal list, where there is memory for it.
+    /// An equal list, or `AllocError` if memory runs out.
     pub fn copy(&self) -> Result<Self, AllocError>
         ensures { IfOk result (λ copy. copy ≡ self.now) }
     {

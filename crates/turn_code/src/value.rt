@@ -23,7 +23,7 @@ pub enum Value {
 impl Value {
     ghost use Rattle.turn_code.specs.Values.{sort_of};
 
-    /// Its sort.
+    /// The sort of the value.
     pub fn sort(self) -> Sort
         ensures { result ≡ sort_of self }
     {

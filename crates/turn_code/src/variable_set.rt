@@ -37,7 +37,7 @@ impl VariableSet {
     }
 }
 
-/// The variables that have an initial value: those that are set as START begins. At most 32 variables.
+/// The variables that have an initial value: those that are set as START begins. At most 32 variables are allowed.
 pub fn set_at_start(variables: &[DraftVariable]) -> VariableSet
     requires { length variables.now ≤ MOST_VARIABLES }
     ensures value { result ≡ initial_set variables.now }
