@@ -1,4 +1,4 @@
--- Heights, and the first action that is too high.
+-- Heights, and the first statement that exceeds the height limit.
 use Rattle.std.proofs.Common.{◌≡◌, ℕ, ◌<◌, ◌≤◌, max, Bool, true, false, List, [], ◌∷◌, Option, Some, None, refl, subst, arith}
 use Rattle.std.specs.Prelude.{nat_lt, if◌then◌else◌}
 use borrow.Author.Tests.{ltb-true, ltb-false}
@@ -6,7 +6,7 @@ use Rattle.sdl_ast.specs.Limits.{GREATEST_HEIGHT}
 use Rattle.sdl_ast.specs.Plain.{Tree, number, truth, variable, unary, binary, PlainAction, Text, falls, ends, does, decides, Choice, nothing_else, otherwise, answer, PlainClause, input, save, PlainProcess, PlainEntity, signals, route, connect, process, PlainBlock}
 use Rattle.sdl_ast.specs.Heights.{tree_height, highest, action_height, text_height, choice_height, decision_height, high_in_decision, high_in_choice, clause_height, state_height, connection_height, process_height, entity_height, Height, or_first, first_of, lesser, place_of_action, high_in_action, high_in_text, high_in_clause, high_in_state, high_in_connection, high_in_process, high_in_entity, first_too_high}
 
--- a height beside the first place that is too high
+-- A height and the first place that is too high agree: there is a place exactly if the height exceeds the limit.
 pub Judged : ℕ → Option ℕ → Type 0
 Judged h None = h ≤ GREATEST_HEIGHT
 Judged h (Some at) = GREATEST_HEIGHT < h
@@ -34,7 +34,7 @@ judged_action a = judged_test (action_height a) (place_of_action a) (nat_lt GREA
 judged_decision : (at : ℕ) (question : Tree) (choice : Choice) → Judged (decision_height question choice) (high_in_decision at question choice)
 judged_decision at question choice = judged_test (decision_height question choice) at (nat_lt GREATEST_HEIGHT (decision_height question choice)) refl
 
--- what stands in a DECISION is lower than it
+-- What a DECISION contains is lower than the DECISION, so the DECISION decides first.
 judged_inside : (d c h : ℕ) (p i q : Option ℕ) → c < d → Judged d p → Judged c i → Judged h q → Judged (max d h) (or_first p (or_first i q))
 unfolding Judged
 judged_inside d c h (Some at) i q l a b e = omega arith
@@ -59,7 +59,7 @@ mutual
   judged_choice (answer at ranges text others) =
       judged-max (text_height text) (choice_height others) (high_in_text text) (high_in_choice others) (judged_text text) (judged_choice others)
 
--- so nothing in it is named
+-- A DECISION within the limit contains nothing that is too high.
 low_inside : (d c : ℕ) (i q : Option ℕ) → c < d → d ≤ GREATEST_HEIGHT → Judged c i → or_first i q ≡ q
 unfolding Judged
 low_inside d c None q l a b = refl
@@ -114,7 +114,7 @@ pub high_where_some : (b : PlainBlock) (at : ℕ) → first_too_high b ≡ Some 
 unfolding Judged
 high_where_some b at e = subst (Judged (Height b)) e (judged_block b)
 
--- no tree is of height 0
+-- Every expression has a height of at least 1.
 pub above_zero : (x : Tree) → nat_lt 0 (tree_height x) ≡ true
 above_zero x = by_test (nat_lt 0 (tree_height x)) refl
   where

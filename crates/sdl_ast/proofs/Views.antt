@@ -1,4 +1,4 @@
--- What the views of the tree are, one layer at a time.
+-- The views of the tree, unfolded one layer at a time.
 use Rattle.std.proofs.Common.{ℕ, Vec, ◌≡◌, ◌∙◌, ap, refl, List, [], ◌∷◌, ◌++◌, Option, None, Some}
 use Rattle.sdl_ast.specs.Plain.{Text, does, decides, Choice, answer, PlainStatement, act, decide, PlainAnswer, before, all_before, all_answers}
 use Rattle.sdl_ast.specs.Views.{plain_statement, plain_decision, plain_answer, tree_of, action_of, text_of, statement_of, answer_of, decision_of, statements_before, answers_before, end_text, else_choice, choice_of, statement_step, answer_step, decision_step, transition_step}
@@ -15,7 +15,7 @@ use Rattle.std.specs.declared.alloc.Global.{Global}
 pub text_of-is : (t : Transition) → text_of t ≡ statements_before t.statements.items (end_text t.end)
 text_of-is t = fold_out-Transition PlainStatement PlainAnswer PlainStatement Text statement_step answer_step decision_step transition_step t
 
--- a statement, a DECISION and an answer alone
+-- The views of single statements, DECISIONs and answers.
 
 pub plain_act : (a : Action) → plain_statement (Act a) ≡ act (action_of a)
 unfolding out-Statement denote.Hole.Carrier.out
@@ -38,7 +38,7 @@ plain_decides d = fold_out-Statement PlainStatement PlainAnswer PlainStatement T
 pub plain_answer-is : (a : Answer) → plain_answer a ≡ record { at = a.at; ranges = a.ranges.items; text = text_of a.body }
 plain_answer-is a = fold_out-Answer PlainStatement PlainAnswer PlainStatement Text statement_step answer_step decision_step transition_step a
 
--- the same in front of what follows them
+-- The views of statements, DECISIONs and answers, with the statements or answers that follow them.
 
 pub statement_of-act : (a : Action) (rest : Text) → statement_of (Act a) rest ≡ does (action_of a) rest
 statement_of-act a rest = ap (λ s. before s rest) (plain_act a)
@@ -52,7 +52,7 @@ statement_of-decide d rest = ap (λ s. before s rest) (plain_decides d ∙ plain
 pub answer_of-is : (a : Answer) (others : Choice) → answer_of a others ≡ answer a.at a.ranges.items (text_of a.body) others
 answer_of-is a others = ap (λ x. all_answers (x ∷ []) others) (plain_answer-is a)
 
--- one statement more, and one answer more
+-- Lists with one more statement or one more answer at the end.
 
 pub all_before-more : (ss : List PlainStatement) (s : PlainStatement) (text : Text) → all_before (ss ++ s ∷ []) text ≡ all_before ss (before s text)
 all_before-more [] s text = refl

@@ -1,4 +1,4 @@
--- How high a tree is, and what in it is too high.
+-- The height of a tree, and the first part of it that exceeds the limit.
 use Rattle.std.specs.Prelude.{ℕ, ◌+◌, max, nat_lt, List, [], ◌∷◌, Option, Some, None, if◌then◌else◌}
 use Rattle.std.specs.Prelude.{min}
 use Rattle.sdl_ast.specs.Limits.{GREATEST_HEIGHT}
@@ -9,7 +9,7 @@ use Rattle.sdl_ast.specs.Plain.{answer, PlainStatement, act, decide, PlainAnswer
 use Rattle.sdl_ast.specs.Plain.{input, save, PlainState, PlainConnection, PlainProcess, PlainEntity}
 use Rattle.sdl_ast.specs.Plain.{signals, route, connect, process, PlainBlock}
 
--- 1 for an operand, one more than its highest operand for an operator
+-- 1 for an operand; for an operator, one more than its highest operand
 abbrev pub tree_height : Tree → ℕ
 tree_height (number at k) = 1
 tree_height (truth at b) = 1
@@ -17,7 +17,7 @@ tree_height (variable at n) = 1
 tree_height (unary at o x) = tree_height x + 1
 tree_height (binary at o x y) = max (tree_height x) (tree_height y) + 1
 
--- the height of the highest of several things, 0 for none
+-- the greatest height in a list, 0 for an empty list
 abbrev pub highest : {A : Type 0} → (A → ℕ) → List A → ℕ
 highest f [] = 0
 highest f (x ∷ xs) = max (f x) (highest f xs)
@@ -28,14 +28,14 @@ assignments_height assignments = highest (λ a. tree_height a.value) assignments
 abbrev pub sending_height : PlainSending → ℕ
 sending_height s = highest tree_height s.parameters
 
--- an action adds nothing to its highest expression
+-- the height of an action is that of its highest expression, 0 for none
 abbrev pub action_height : PlainAction → ℕ
 action_height (task at assignments) = assignments_height assignments
 action_height (output at sendings to) = highest sending_height sendings
 action_height (set_timer at delay timer) = tree_height delay
 action_height (reset_timer at timer) = 0
 
--- a DECISION is one higher than its question and than all that stands in its answers
+-- a DECISION is one higher than the highest of its question and its answers
 abbrev mutual
   pub text_height : Text → ℕ
   text_height falls = 0
@@ -44,7 +44,7 @@ abbrev mutual
   text_height (decides at question choice rest) =
       max (max (tree_height question) (choice_height choice) + 1) (text_height rest)
 
-  -- an answer adds nothing to its body
+  -- an answer is as high as its body
   pub choice_height : Choice → ℕ
   choice_height nothing_else = 0
   choice_height (otherwise text) = text_height text
@@ -78,7 +78,7 @@ entity_height (process p) = process_height p
 abbrev pub Height : PlainBlock → ℕ
 Height b = highest entity_height b.entities
 
--- the first of several things that has an answer
+-- the first place if there is one, else the other
 abbrev pub or_first : Option ℕ → Option ℕ → Option ℕ
 or_first (Some p) other = Some p
 or_first None other = other
@@ -93,18 +93,18 @@ place_of_action (output at sendings to) = at
 place_of_action (set_timer at delay timer) = at
 place_of_action (reset_timer at timer) = at
 
--- the place of an action with an expression that is too high
+-- the place of an action that contains an expression above the height limit
 abbrev pub high_in_action : PlainAction → Option ℕ
 high_in_action a =
     if nat_lt GREATEST_HEIGHT (action_height a) then Some (place_of_action a) else None
 
--- the place of a DECISION that is too high
+-- the place of a DECISION that exceeds the height limit
 abbrev pub high_in_decision : ℕ → Tree → Choice → Option ℕ
 high_in_decision at question choice =
     if nat_lt GREATEST_HEIGHT (decision_height question choice) then Some at else None
 
--- the place of the first TASK, OUTPUT, SET or DECISION that is too high: a DECISION stands before
--- all that is in it
+-- The place of the first TASK, OUTPUT, SET or DECISION that is too high. A DECISION comes before
+-- the statements in it.
 abbrev mutual
   pub high_in_text : Text → Option ℕ
   high_in_text falls = None
@@ -120,7 +120,7 @@ abbrev mutual
   high_in_choice (answer at ranges text others) =
       or_first (high_in_text text) (high_in_choice others)
 
--- the same of one statement and of one answer alone
+-- the place that is too high in one statement without its successors, and in one answer
 abbrev pub high_in_statement : PlainStatement → Option ℕ
 high_in_statement (act action) = high_in_action action
 high_in_statement (decide at question choice) = high_in_decision at question choice
@@ -138,13 +138,13 @@ high_in_state s = first_of high_in_clause s.clauses
 abbrev pub high_in_connection : PlainConnection → Option ℕ
 high_in_connection c = high_in_text c.text
 
--- the lesser of two places, as far as there are any
+-- the lesser of two places, or the only one
 abbrev pub lesser : Option ℕ → Option ℕ → Option ℕ
 lesser None q = q
 lesser (Some p) None = Some p
 lesser (Some p) (Some q) = Some (min p q)
 
--- STATE parts and CONNECTIONs stand mixed in the text
+-- STATE parts and CONNECTIONs are mixed in the text, so the lesser place is the first
 abbrev pub high_in_process : PlainProcess → Option ℕ
 high_in_process p =
     or_first (high_in_text p.start.text)

@@ -1,6 +1,6 @@
--- The limit of a syntax tree; it is this profile's own.
+-- The height limit of a syntax tree. It is this profile's own.
 use Rattle.std.specs.Prelude.{ℕ}
 
--- the greatest height of a tree: of its expressions, its statements and what they are nested in
+-- The greatest height of a tree. Expressions, statements and the DECISIONs that contain them count.
 abbrev pub GREATEST_HEIGHT : ℕ
 GREATEST_HEIGHT = 32

@@ -1,4 +1,4 @@
--- The place of an expression, and the expression at another place.
+-- The place of an expression, and the same expression moved to another place.
 use Rattle.std.specs.Prelude.{ℕ}
 use Rattle.sdl_ast.specs.Plain.{Tree, number, truth, variable, unary, binary}
 

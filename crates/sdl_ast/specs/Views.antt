@@ -1,4 +1,4 @@
--- From the tree that the code holds to the plain tree.
+-- The mapping from the tree in the code to the plain tree.
 use Rattle.std.specs.Prelude.{List, [], ◌∷◌, map, Option, None, Some}
 use Rattle.sdl_ast.specs.Plain.{Tree, number, truth, variable, unary, binary, PlainAssignment}
 use Rattle.sdl_ast.specs.Plain.{PlainSending, PlainAction, task, output, set_timer, reset_timer}
@@ -70,7 +70,7 @@ abbrev pub else_text : Option Text → Choice
 else_text None = nothing_else
 else_text (Some body) = otherwise body
 
--- one layer of the tree, with what is inside seen already
+-- one layer of the tree, given the views of its parts
 abbrev pub answer_step : Answer-F PlainStatement PlainAnswer PlainStatement Text → PlainAnswer
 answer_step a = record { at = a.at; ranges = a.ranges.items; text = a.body }
 
@@ -91,7 +91,7 @@ abbrev pub text_of : Transition → Text
 text_of = fold-Transition PlainStatement PlainAnswer PlainStatement Text statement_step answer_step
     decision_step transition_step
 
--- a statement, a DECISION and an answer alone
+-- the views of one statement, one DECISION and one answer, without those that follow
 abbrev pub plain_statement : Statement → PlainStatement
 plain_statement =
     fold-Statement PlainStatement PlainAnswer PlainStatement Text statement_step answer_step
@@ -107,7 +107,7 @@ plain_answer =
     fold-Answer PlainStatement PlainAnswer PlainStatement Text statement_step answer_step
     decision_step transition_step
 
--- the same in front of what follows them
+-- the views of statements, DECISIONs and answers, with those that follow
 abbrev pub statement_of : Statement → Text → Text
 statement_of s rest = before (plain_statement s) rest
 
@@ -127,7 +127,7 @@ abbrev pub else_choice : Option Transition → Choice
 else_choice None = nothing_else
 else_choice (Some body) = otherwise (text_of body)
 
--- the answers of a DECISION, ELSE included
+-- the answers of a DECISION, including ELSE
 abbrev pub choice_of : Decision → Choice
 choice_of d = answers_before (out-Decision d).answers.items (else_choice (out-Decision d).otherwise)
 

@@ -10,7 +10,7 @@ pub struct Identifier {
     pub at: u32,
 }
 
-/// An operator in front of its operand.
+/// A unary operator, which is written before its operand.
 #[derive(Clone, Copy, Debug, PartialEq, Eq)]
 pub enum UnaryOperator {
     /// `-`
@@ -19,7 +19,7 @@ pub enum UnaryOperator {
     Not,
 }
 
-/// An operator between its operands.
+/// A binary operator, which is written between its operands.
 #[derive(Clone, Copy, Debug, PartialEq, Eq)]
 pub enum BinaryOperator {
     /// OR
@@ -54,8 +54,8 @@ pub enum BinaryOperator {
     Remainder,
 }
 
-/// An expression. Parentheses leave nothing but their place: `at` is the place in the text, in
-/// bytes, of the expression's first token, which may be an opening parenthesis.
+/// An expression. Of parentheses only the place is kept: `at` is the place in the text, in bytes,
+/// of the expression's first token, which may be an opening parenthesis.
 #[derive(Debug, Drop)]
 pub enum Expression {
     /// A number.
@@ -79,7 +79,7 @@ pub enum Expression {
         operator: UnaryOperator,
         operand: Box<Expression>,
     },
-    /// An operator between two operands. Operators of one level group to the left.
+    /// An operator with two operands. Operators of one precedence level group to the left.
     Binary {
         at: u32,
         operator: BinaryOperator,

@@ -1,4 +1,4 @@
-//! How high the expressions and DECISIONs of a tree are.
+//! Computes whether expressions and DECISIONs of a tree exceed the height limit.
 ghost use Rattle.std.specs.Prelude.{◌≡◌, nat_lt, ◌||◌, map};
 ghost use Rattle.sdl_ast.specs.Heights.{tree_height, highest, action_height, text_height, choice_height, decision_height, assignments_height, sending_height, high_in_action, high_in_decision};
 ghost use Rattle.sdl_ast.specs.Plain.{Text};
@@ -55,7 +55,7 @@ fn exceed(expressions: &[Expression], limit: u32) -> bool
     false
 }
 
-/// Whether one of the signals that go out has a parameter that is higher than a limit.
+/// Whether a parameter of one of the signals sent is higher than a limit.
 fn exceed_in_sendings(sendings: &[Sending], limit: u32) -> bool
     ensures { result ≡ nat_lt limit (highest sending_height (map sending_of sendings.now)) }
 {
@@ -119,7 +119,7 @@ fn exceeds_in_bodies(decision: &Decision, limit: u32) -> bool
     }
 }
 
-/// Whether a DECISION is higher than a limit: it is one higher than its question and what stands in it.
+/// Whether a DECISION is higher than a limit. It is one higher than the highest of its question and answers.
 #[cycle(exceeding)]
 fn exceeds_in_decision(decision: &Decision, limit: u32) -> bool
     ensures { result ≡ nat_lt limit (decision_height (tree_of (out-Decision decision.now).question) (choice_of decision.now)) }
@@ -133,7 +133,7 @@ fn exceeds_in_decision(decision: &Decision, limit: u32) -> bool
     exceeds_in_bodies(decision, limit - 1)
 }
 
-/// The place of an action that is too high.
+/// The place of the action, if an expression in it is more than 32 high.
 pub fn high_in_action(action: &Action) -> Option<u32>
     ensures { result ≡ high_in_action (action_of action.now) }
 {
@@ -146,7 +146,7 @@ pub fn high_in_action(action: &Action) -> Option<u32>
     }
 }
 
-/// The place of a DECISION that is too high.
+/// The place of the DECISION, if it is more than 32 high.
 pub fn high_in_decision(decision: &Decision) -> Option<u32>
     ensures { result ≡ high_in_decision (out-Decision decision.now).at (tree_of (out-Decision decision.now).question) (choice_of decision.now) }
 {

@@ -1,4 +1,4 @@
-//! The syntax tree of a text: its types, what they are as plain records and lists, and how high it is.
+//! The syntax tree of a text: its types, their views as plain records and lists, and its height.
 #![tactic(auto)]
 
 mod expression;
@@ -15,5 +15,5 @@ pub use tree::{
     StateClause, StatePart, Statement, Stimulus, Task, Transition,
 };
 
-/// The greatest height of a tree.
+/// The greatest height of a tree that is accepted.
 pub const MAX_HEIGHT: u32 = 32;

@@ -1,5 +1,5 @@
-//! The syntax tree of a text, in the order of the text. Every `at` is the place in the text, in
-//! bytes from 0, of the first token of what it belongs to.
+//! The syntax tree of a text, in the order of the text. Every `at` is a place in the text: the byte
+//! offset, from 0, of the first token of the part it belongs to.
 use crate::expression::{Expression, Identifier};
 
 /// A text: one block with its entities.
@@ -9,7 +9,7 @@ pub struct Block {
     pub entities: Vec<Entity>,
 }
 
-/// What stands in a block.
+/// An entity of a block.
 #[derive(Debug, Drop)]
 pub enum Entity {
     /// The signals of one SIGNAL.
@@ -29,7 +29,7 @@ pub struct SignalDeclaration {
     pub parameters: Vec<Sort>,
 }
 
-/// What values a variable or a parameter has.
+/// The sort (data type) of a variable or a parameter.
 #[derive(Clone, Copy, Debug, PartialEq, Eq)]
 pub enum Sort {
     /// Whole numbers of 32 bits.
@@ -45,14 +45,14 @@ pub struct Route {
     pub paths: Vec<Path>,
 }
 
-/// A CONNECT: what channels, and what routes it names. It has no effect.
+/// A CONNECT: the channels and the routes that it names. It has no effect.
 #[derive(Debug, Drop)]
 pub struct Connect {
     pub channels: Vec<Identifier>,
     pub routes: Vec<Identifier>,
 }
 
-/// One direction of a route, and the signals that it brings.
+/// One direction of a route, and the signals that it carries.
 #[derive(Debug, Drop)]
 pub struct Path {
     pub from: Party,
@@ -63,7 +63,7 @@ pub struct Path {
 /// An end of a path.
 #[derive(Clone, Copy, Debug, PartialEq, Eq)]
 pub enum Party {
-    /// What is outside of the block: ENV.
+    /// The outside of the block: ENV.
     Environment,
     /// The process with this name.
     Process(Identifier),
@@ -73,7 +73,7 @@ pub enum Party {
 #[derive(Debug, Drop)]
 pub struct Process {
     pub name: Identifier,
-    /// How many instances of it run: in a text 1 or more.
+    /// The number of instances that run, 1 or more in a text.
     pub instances: u32,
     pub declarations: Vec<Declaration>,
     pub start: Start,
@@ -81,7 +81,7 @@ pub struct Process {
     pub connections: Vec<Connection>,
 }
 
-/// What a process declares.
+/// A declaration of a process.
 #[derive(Debug, Drop)]
 pub enum Declaration {
     /// The groups of one DCL.
@@ -90,7 +90,7 @@ pub enum Declaration {
     Timers(Vec<Identifier>),
 }
 
-/// Variables of one sort. An initial value holds for each of them.
+/// Variables of one sort. Each of them has the initial value, if there is one.
 #[derive(Debug, Drop)]
 pub struct Group {
     pub names: Vec<Identifier>,
@@ -121,14 +121,14 @@ pub struct Start {
     pub transition: Transition,
 }
 
-/// A STATE part: what the states that it names do.
+/// A STATE part: the reactions of the states that it names.
 #[derive(Debug, Drop)]
 pub struct StatePart {
     pub names: Vec<Identifier>,
     pub clauses: Vec<StateClause>,
 }
 
-/// What stands in a STATE part.
+/// A clause of a STATE part.
 #[derive(Debug, Drop)]
 pub enum StateClause {
     /// An INPUT with its transition.
@@ -145,16 +145,16 @@ pub struct InputPart {
     pub transition: Transition,
 }
 
-/// A signal that an INPUT takes, and for each of its parameters the variable that gets it, or
-/// nothing where the parameter is thrown away. Without parentheses there are no places; `A()` has
-/// one empty place.
+/// A signal that an INPUT consumes, and for each parameter the variable that receives it, or `None`
+/// if the parameter is discarded. Without parentheses there are no places. `A()` has one empty
+/// place.
 #[derive(Debug, Drop)]
 pub struct Stimulus {
     pub name: Identifier,
     pub places: Vec<Option<Identifier>>,
 }
 
-/// A transition. Without an end it runs off its text.
+/// A transition. Without an end it runs off the end of its text.
 #[cycle(tree)]
 #[derive(Debug, Drop)]
 pub struct Transition {
@@ -162,7 +162,7 @@ pub struct Transition {
     pub end: Option<End>,
 }
 
-/// What stands in a transition: an action, or a choice between ways to go on.
+/// A statement of a transition: an action, or a choice between continuations.
 #[cycle(tree)]
 #[derive(Debug, Drop)]
 pub enum Statement {
@@ -172,7 +172,7 @@ pub enum Statement {
     Decide(Decision),
 }
 
-/// A DECISION: the question, the answers in order, and what ELSE does. The place is that of the word DECISION.
+/// A DECISION: the question, the answers in order, and the body of ELSE. The place is that of the word DECISION.
 #[cycle(tree)]
 #[derive(Debug, Drop)]
 pub struct Decision {
@@ -182,7 +182,7 @@ pub struct Decision {
     pub otherwise: Option<Transition>,
 }
 
-/// An answer of a DECISION: the values that it is for, and what it does. The place is that of its opening parenthesis.
+/// An answer of a DECISION: the values that it matches, and its body. The place is that of its opening parenthesis.
 #[cycle(tree)]
 #[derive(Debug, Drop)]
 pub struct Answer {
@@ -191,12 +191,12 @@ pub struct Answer {
     pub body: Transition,
 }
 
-/// Values that an answer is for.
+/// Values that an answer matches.
 #[derive(Clone, Copy, Debug, PartialEq, Eq)]
 pub enum Range {
     /// One value.
     Value(Constant),
-    /// The values that stand so to a constant. The place is that of the relation.
+    /// The values in this relation to a constant. The place is that of the relation.
     Compared {
         at: u32,
         relation: Relation,
@@ -206,7 +206,7 @@ pub enum Range {
     Between(Constant, Constant),
 }
 
-/// How a value stands to a constant.
+/// The relation of a value to a constant.
 #[derive(Clone, Copy, Debug, PartialEq, Eq)]
 pub enum Relation {
     /// `=`
@@ -223,7 +223,7 @@ pub enum Relation {
     GreaterEqual,
 }
 
-/// A CONNECTION: a name, and what a JOIN to it goes on with. The place is that of the word CONNECTION.
+/// A CONNECTION: a name, and the transition that a JOIN to it continues with. The place is that of the word CONNECTION.
 #[derive(Debug, Drop)]
 pub struct Connection {
     pub at: u32,
@@ -231,14 +231,14 @@ pub struct Connection {
     pub transition: Transition,
 }
 
-/// A JOIN to a connection. The place is that of the word.
+/// A JOIN to a connection. The place is that of the word JOIN.
 #[derive(Clone, Copy, Debug, PartialEq, Eq)]
 pub struct Join {
     pub at: u32,
     pub connector: Identifier,
 }
 
-/// One step of a transition.
+/// One action of a transition.
 #[derive(Debug, Drop)]
 pub enum Action {
     /// A TASK.
@@ -251,7 +251,7 @@ pub enum Action {
     Reset(ResetTimer),
 }
 
-/// An OUTPUT: what goes out, in order, and to whom if it says so. The place is that of the word OUTPUT.
+/// An OUTPUT: the signals in order, and the destination if one is written. The place is that of the word OUTPUT.
 #[derive(Debug, Drop)]
 pub struct Output {
     pub at: u32,
@@ -259,23 +259,23 @@ pub struct Output {
     pub to: Option<Destination>,
 }
 
-/// A signal that goes out, with its parameters.
+/// A signal that an OUTPUT sends, with its parameters.
 #[derive(Debug, Drop)]
 pub struct Sending {
     pub signal: Identifier,
     pub parameters: Vec<Expression>,
 }
 
-/// To whom a signal goes.
+/// The destination of a signal.
 #[derive(Clone, Copy, Debug, PartialEq, Eq)]
 pub enum Destination {
-    /// To who sent the signal of the transition: SENDER, at its place.
+    /// SENDER, at its place: the process that sent the signal of the transition.
     Sender(u32),
-    /// To the process with this name.
+    /// The process with this name.
     Process(Identifier),
 }
 
-/// A SET: the timer runs out so long after now. The place is that of the word SET.
+/// A SET: the timer expires this delay after now. The place is that of the word SET.
 #[derive(Debug, Drop)]
 pub struct SetTimer {
     pub at: u32,
@@ -290,7 +290,7 @@ pub struct ResetTimer {
     pub timer: Identifier,
 }
 
-/// A TASK: its assignments; what is quoted in it has no effect and isn't kept. The place is that of the word TASK.
+/// A TASK: its assignments. Quoted texts in it have no effect and aren't kept. The place is that of the word TASK.
 #[derive(Debug, Drop)]
 pub struct Task {
     pub at: u32,
@@ -315,7 +315,7 @@ pub enum End {
     Join(Join),
 }
 
-/// A NEXTSTATE. The place is that of the word.
+/// A NEXTSTATE. The place is that of the word NEXTSTATE.
 #[derive(Clone, Copy, Debug, PartialEq, Eq)]
 pub struct NextState {
     pub at: u32,

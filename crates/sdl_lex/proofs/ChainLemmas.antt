@@ -1,4 +1,4 @@
--- One more item at the end of what was read.
+-- Appends one more item to the chain of items read so far.
 use Rattle.std.proofs.Common.{◌≡◌, ℕ, List, [], ◌∷◌, ◌++◌, refl, Option, Some, None}
 use Rattle.sdl_lex.specs.declared.lexemes.Token.{Token}
 use Rattle.sdl_lex.specs.declared.lexemes.Lexeme.{Lexeme}
@@ -17,7 +17,7 @@ Lexes-take token ended start here = taken token start here ended
 Lexes-take token (skipped n b rest) start here = skipped n b (Lexes-take token rest start here)
 Lexes-take token (taken t s i rest) start here = taken t s i (Lexes-take token rest start here)
 
--- the same of what the lexer finds
+-- `Lexes-take` and `Lexes-skip` for the item that the lexer found: a token, or white space or a comment.
 pub Lexes-found : (text : List ℕ) (mid end : ℕ) (found : Option Lexeme) (lexeme : Lexeme) (tokens more : List Token)
     → Lexes text mid 0 tokens → Stands text mid found end → found ≡ Some lexeme
     → more ≡ tokens ++ record { lexeme = lexeme; start = mid; end = end } ∷ [] → Lexes text end 0 more

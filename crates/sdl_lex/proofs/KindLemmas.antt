@@ -1,4 +1,4 @@
--- What may begin at a place, by the two bytes there.
+-- Which kind of item may begin at a place, given the byte there and the next byte.
 use Rattle.std.proofs.Common.{◌≡◌, ℕ, ◌+◌, ◌-◌, ◌<◌, ◌≤◌, ◌⊎◌, inl, inr, Bool, true, false, ◌&&◌, List, [], ◌∷◌, length, refl, ap, sym, ◌∙◌, get_or, arith, zero, suc, Option, Some, None, cond}
 use Rattle.std.specs.Prelude.{◌==◌, slice_range}
 use Rattle.std.specs.Char.{is_ascii_alphabetic, is_ascii_digit}
@@ -29,7 +29,7 @@ kind_of false false false false false = a_mark
 abbrev pub kind : ℕ → ℕ → Kind
 kind b c = kind_of (is_ascii_alphabetic b) (is_ascii_digit b) (is_white b) (b == 39) ((b == 47) && (c == 42))
 
--- the kind of a place
+-- The kind of the item that may begin at a place of a text.
 abbrev pub kind_at : List ℕ → ℕ → Kind
 kind_at text at = kind (get_or text at 0) (get_or text (at + 1) 0)
 
@@ -74,7 +74,7 @@ get_or-past (b ∷ bs) (suc at) h = get_or-past bs at (omega arith)
 pub kind-end : (text : List ℕ) (at : ℕ) → length text ≤ at → kind_at text at ≡ a_mark
 kind-end text at h = let none : get_or text at 0 ≡ 0 = get_or-past text at h in rw none refl
 
--- the symbol stands where these two bytes do, and is the longest
+-- The two bytes begin with this symbol, and no longer symbol begins with them.
 pub record SymbolHere (s : Symbol) (b c : ℕ) : Type 0 where
   pub first : b ≡ get_or (symbol_text s) 0 0
   pub second : length (symbol_text s) ≡ 2 → c ≡ get_or (symbol_text s) 1 0
@@ -99,7 +99,7 @@ kind-symbol LessEqual b c here = rw here.first refl
 kind-symbol Greater b c here = rw here.first refl
 kind-symbol GreaterEqual b c here = rw here.first refl
 
--- the longest symbol where two bytes stand
+-- The longest symbol that two bytes begin with, if there is one.
 abbrev pub symbol_at : ℕ → ℕ → Option Symbol
 symbol_at b c =
     cond (b == 59) (Some Semicolon)
@@ -143,7 +143,7 @@ one_symbol s r b c here there =
     let some : Some s ≡ Some r = sym (symbol_at-here s b c here) ∙ symbol_at-here r b c there in
     cc
 
--- a symbol has one byte or two
+-- A symbol has one byte or two.
 pub symbol_sizes : (s : Symbol) → (length (symbol_text s) ≡ 1) ⊎ (length (symbol_text s) ≡ 2)
 symbol_sizes Semicolon = inl refl
 symbol_sizes Comma = inl refl
@@ -162,7 +162,7 @@ symbol_sizes LessEqual = inr refl
 symbol_sizes Greater = inl refl
 symbol_sizes GreaterEqual = inr refl
 
--- the first byte of a symbol is one itself
+-- The first byte of a symbol is a symbol by itself.
 pub symbol_begins : (s : Symbol) → (r : Symbol) × (symbol_text r ≡ get_or (symbol_text s) 0 0 ∷ [])
 symbol_begins Semicolon = (Semicolon, refl)
 symbol_begins Comma = (Comma, refl)
@@ -181,7 +181,7 @@ symbol_begins LessEqual = (Less, refl)
 symbol_begins Greater = (Greater, refl)
 symbol_begins GreaterEqual = (Greater, refl)
 
--- and isn't 0
+-- The first byte of a symbol isn't 0.
 pub symbol_nonzero : (s : Symbol) → 0 < get_or (symbol_text s) 0 0
 symbol_nonzero Semicolon = omega arith
 symbol_nonzero Comma = omega arith
@@ -200,7 +200,7 @@ symbol_nonzero LessEqual = omega arith
 symbol_nonzero Greater = omega arith
 symbol_nonzero GreaterEqual = omega arith
 
--- a token that is a symbol has these bytes
+-- The two bytes at the place of a symbol token begin with that symbol, and its end is fixed.
 pub here_from : (text : List ℕ) (start end : ℕ) (s : Symbol) → start ≤ end → end ≤ length text
     → slice_range text start end ≡ symbol_text s → continues_symbol s (get_or text end 0) ≡ false
     → SymbolHere s (get_or text start 0) (get_or text (start + 1) 0) × (end ≡ start + length (symbol_text s))

@@ -22,7 +22,7 @@ all_ascii [] h i = omega arith
 all_ascii (b ∷ bs) h zero = name_byte_ascii b (and_parts _ _ h).0
 all_ascii (b ∷ bs) h (suc i) = all_ascii bs (and_parts _ _ h).1 i
 
--- the case of a byte doesn't matter to where it may stand
+-- Lowering the case of a byte keeps it a letter or a byte of a name.
 pub lower-letter : (b : ℕ) → is_ascii_alphabetic b ≡ true → is_ascii_alphabetic (to_ascii_lowercase b) ≡ true
 lower-letter b h = grind (arith, common_steps)
 
@@ -37,7 +37,7 @@ name_ascii : (b : ℕ) (bs : List ℕ) → is_ascii_alphabetic b ≡ true → li
 name_ascii b bs l h zero = letter_ascii b l
 name_ascii b bs l h (suc i) = all_ascii bs h i
 
--- a name's bytes are text
+-- The bytes of a name are UTF-8.
 pub name_utf8 : (bs : List ℕ) → IsName bs → IsUtf8 bs
 name_utf8 [] h = absurd (cc)
 name_utf8 (b ∷ bs) h =
@@ -58,7 +58,7 @@ IsName-folded (b ∷ bs) h =
     let parts = and_parts (is_ascii_alphabetic b) (list_all is_name_byte bs) outer.0 in
     and_from _ _ (and_from _ _ (lower-letter b parts.0) (all_lower bs parts.1)) (rw length-map outer.1)
 
--- a room as `IsName` wants it
+-- The invariant of `Name`: a buffer of 32 bytes holds the spelling of a name, and zeros after it.
 abbrev pub IsRoom : ℕ → List ℕ → Type 0
 IsRoom used bytes = (used ≤ 32) × (length bytes ≡ 32) × (bytes ≡ take used bytes ++ replicate (32 - used) 0) × IsName (take used bytes)
 
@@ -75,7 +75,7 @@ IsRoom-folded used bytes low room e =
       rw taken (IsName-folded (take used bytes) room.3),
     )
 
--- a spelling before zeros is a room
+-- A spelling followed by zeros satisfies the invariant of `Name`.
 pub IsRoom-new : (s front zeros : List ℕ) → front ≡ s → zeros ≡ replicate 32 0 → length s ≤ 32 → is_spelled_as_name s ≡ true
     → IsRoom (length s) (front ++ drop (length s) zeros)
 IsRoom-new s front zeros e z l h =

@@ -1,4 +1,4 @@
--- A text has one answer.
+-- A text has one answer at most.
 use Rattle.std.proofs.Common.{Vec, ◌≡◌, ℕ, ◌+◌, ◌≤◌, ◌⊎◌, inl, inr, List, [], ◌∷◌, length, refl, ap, sym, subst, ◌∙◌, get_or, arith, Result, Ok, Err, IfOk, IfErr}
 use Rattle.std.proofs.lemmas.Bool.{cases_order}
 use Rattle.sdl_lex.specs.Limits.{LONGEST_TEXT}
@@ -52,7 +52,7 @@ blank_no_token text at next t blank here token =
     let a : kind_at text at ≡ lexeme_kind t.lexeme = rw (← here) (token_kind text t.start t.end t.lexeme token) in
     blank_no_lexeme (kind_at text at) t.lexeme (blank_kind text at next blank) a
 
--- Where a text cannot go on.
+-- Places at which no further item can be read.
 
 pub data Stuck (text : List ℕ) (at : ℕ) : Type 0 where
   at_end : length text ≤ at → Stuck text at
@@ -167,7 +167,7 @@ stuck_token text at t stuck here token =
     let there : Stuck text t.start = let P : ℕ → Type 0 = λ n. Stuck text n in subst P (sym here) stuck in
     stuck_lexeme text t.start t.end t.lexeme there token
 
--- What was read up to a place where the text cannot go on is all that can be read.
+-- Two chains of items that both end where no further item can be read are equal.
 pub one_chain : (text : List ℕ) (p q at : ℕ) (ts us : List Token) → Lexes text p at ts → Lexes text q at us
     → Stuck text p → Stuck text q → (p ≡ q) × (ts ≡ us)
 one_chain text p q _ _ _ ended ended sp sq = (refl, refl)
@@ -196,7 +196,7 @@ fault_stuck text (OpenComment at) here = elim here [ inl open_here ↦ at_open o
 fault_stuck text (TooLong at) here = elim here [ inl long ↦ at_long long | inr large ↦ at_large large ]
 fault_stuck text NoMemory here = absurd here
 
--- a fault stands within the text
+-- A fault is within the text.
 fault_inside : (text : List ℕ) (fault : LexFault) → IsFaultAt text fault → length text ≤ place_of fault → ⊥
 fault_inside text (BadCharacter at) here past = omega (arith, here.0)
 fault_inside text (OpenComment at) here past =
@@ -213,7 +213,7 @@ fault_inside text (TooLong at) here past =
     ]
 fault_inside text NoMemory here past = here
 
--- the kinds of place where a fault may be
+-- The kinds of item that may begin at the place of a fault.
 abbrev IsFaultKind : LexFault → Kind → Type 0
 IsFaultKind (BadCharacter at) k = k ≡ a_mark
 IsFaultKind (OpenComment at) k = (k ≡ a_comment) ⊎ (k ≡ a_quote)
@@ -239,7 +239,7 @@ same_fault k (TooLong a) (OpenComment b) m n e = elim m [ inl y ↦ elim n [ inl
 same_fault k NoMemory g m n e = absurd m
 same_fault k f NoMemory m n e = absurd n
 
--- one fault at most stands at a place
+-- A place has one fault at most.
 one_fault : (text : List ℕ) (f g : LexFault) → IsFaultAt text f → IsFaultAt text g → place_of f ≡ place_of g → f ≡ g
 one_fault text f g here there e =
     let k : IsFaultKind g (kind_at text (place_of f)) = rw e (fault_kind text g there) in
@@ -270,7 +270,7 @@ one_answer_lem text _ b (over_long h) (in_room room k) = absurd (omega arith)
 one_answer_lem text a _ (in_room room h) (over_long k) = absurd (omega arith)
 one_answer_lem text a b (in_room room h) (in_room more k) = one_given text a b h k
 
--- what the call gives is the one answer
+-- The result of the call is the text's one answer.
 pub agreed : {A : Type 0} (text : List ℕ) (result : Result (Vec Token A) LexFault) → IfOk result (λ v. Answers text (Ok v.items))
     → IfErr result (λ e. IsAnswer text e) → (answer : Result (List Token) LexFault) → Answers text answer → Agrees result answer
 agreed text (Ok v) found fault answer is = one_answer_lem text answer (Ok v.items) is found
@@ -279,7 +279,7 @@ agreed text (Err (OpenComment at)) found fault answer is = one_answer_lem text a
 agreed text (Err (TooLong at)) found fault answer is = one_answer_lem text answer (Err (TooLong at)) is fault
 agreed text (Err NoMemory) found fault answer is = tt
 
--- an answer of a text that isn't over-long
+-- The result for a text within the length limit is an answer.
 pub found_in_room : {A : Type 0} (text : List ℕ) (result : Result (Vec Token A) LexFault) → length text ≤ LONGEST_TEXT
     → IfOk result (λ v. Lexed text v.items) → IfOk result (λ v. Answers text (Ok v.items))
 found_in_room text (Ok v) room found = in_room room found

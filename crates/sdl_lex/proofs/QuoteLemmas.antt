@@ -1,4 +1,4 @@
--- Quoted texts by places.
+-- Quoted texts, described by the places of their bytes.
 use Rattle.std.proofs.Common.{◌≡◌, ℕ, ◌+◌, ◌-◌, ◌<◌, ◌≤◌, inl, inr, false, List, [], ◌∷◌, ◌++◌, length, refl, sym, ◌∙◌, get_or, arith, suc}
 use Rattle.std.specs.Prelude.{◌==◌, slice_range}
 use Rattle.std.proofs.lemmas.Bool.{both_ways, cases_Bool, cases_lt}
@@ -8,18 +8,18 @@ use Rattle.sdl_lex.specs.Lexed.{doubled, IsToken, IsOpenQuoted}
 use Rattle.sdl_lex.proofs.KindLemmas.{get_or-past}
 use Rattle.sdl_lex.proofs.SliceLemmas.{slice_length}
 
--- from a place up to another stand whole characters: other bytes, and quotes in twos
+-- Between two places there are whole characters: bytes other than quotes, and quotes in pairs.
 pub data Inside (text : List ℕ) (to : ℕ) : ℕ → Type 0 where
   ended : Inside text to to
   other : {from : ℕ} → (get_or text from 0 == 39) ≡ false → Inside text to (from + 1) → Inside text to from
   twice : {from : ℕ} → get_or text from 0 ≡ 39 → get_or text (from + 1) 0 ≡ 39 → Inside text to (from + 2) → Inside text to from
 
--- a quote stands at a place, and none behind it
+-- There is a quote at a place, and no quote directly after it.
 pub record Closes (text : List ℕ) (at : ℕ) : Type 0 where
   pub quote : get_or text at 0 ≡ 39
   pub last : (get_or text (at + 1) 0 == 39) ≡ false
 
--- one more character at the end
+-- Appends one more character at the end.
 pub Inside-other : {text : List ℕ} {mid from : ℕ} → Inside text mid from → (get_or text mid 0 == 39) ≡ false → Inside text (mid + 1) from
 Inside-other ended n = other n ended
 Inside-other (other m rest) n = other m (Inside-other rest n)
@@ -39,7 +39,7 @@ Inside-le text to from (twice a b rest) = let l = Inside-le text to (from + 2) r
 no_quote : (b : ℕ) → b ≡ 39 → (b == 39) ≡ false → ⊥
 no_quote b e n = both_ways (b == 39) n (rw e refl)
 
--- whole characters from one place on don't pass a closing quote
+-- Whole characters from one place on don't extend past a closing quote.
 not_past : (text : List ℕ) (p q from : ℕ) → Inside text p from → Closes text p → Inside text q from → q ≤ p
 not_past text p q from one closes ended = Inside-le text p from one
 not_past text p q _ ended closes (other n rest) = absurd (no_quote (get_or text p 0) closes.quote n)
@@ -49,7 +49,7 @@ not_past text p q from (twice a b one) closes (twice c d rest) = not_past text p
 not_past text p q from (other m one) closes (twice c d rest) = absurd (no_quote (get_or text from 0) c m)
 not_past text p q from (twice a b one) closes (other n rest) = absurd (no_quote (get_or text from 0) a n)
 
--- a slice by its first byte
+-- A slice is its first byte followed by the rest.
 slice_cons : (text : List ℕ) (from to : ℕ) → from < to → to ≤ length text
     → slice_range text from to ≡ get_or text from 0 ∷ slice_range text (from + 1) to
 slice_cons text from to less inside =
@@ -57,7 +57,7 @@ slice_cons text from to less inside =
     let count : to - from ≡ suc (to - (from + 1)) = omega arith in
     rw (count, drop_more text from 0 below) refl
 
--- what stands between the quotes, from the places
+-- The text held between the quotes, from the whole characters between their places.
 held_of : (text : List ℕ) (p from : ℕ) → p < length text → get_or text p 0 ≡ 39 → Inside text p from
     → (held : List ℕ) × (slice_range text from (p + 1) ≡ doubled held ++ 39 ∷ [])
 held_of text p _ inside quote ended =
@@ -77,7 +77,7 @@ held_of text p from inside quote (twice a b rest) =
     let next : (from + 1) + 1 ≡ from + 2 = omega arith in
     (39 ∷ more.0, first ∙ rw (second, next, a, b, more.1) refl)
 
--- and the places from what stands between the quotes
+-- The place of the closing quote, from the text held between the quotes.
 pub record Closed (text : List ℕ) (from to : ℕ) : Type 0 where
   pub quote : ℕ
   pub ends : to ≡ quote + 1
@@ -117,7 +117,7 @@ closed_of (b ∷ bs) text from to ordered inside e =
           record { quote = rest.quote; ends = rest.ends; inner = other (rw first.1 isnt) rest.inner; here = rest.here }
     ]
 
--- a token that is a quoted text
+-- A token that is a quoted text, described by places.
 pub record QuotedHere (text : List ℕ) (start end : ℕ) : Type 0 where
   pub opens : get_or text start 0 ≡ 39
   pub quote : ℕ
@@ -160,7 +160,7 @@ quoted_token text start quote opens inside inner here last =
     let spelled : slice_range text start (quote + 1) ≡ 39 ∷ (doubled more.0 ++ 39 ∷ []) = first ∙ rw (opens, more.1) refl in
     (record { ordered = omega arith; inside = omega arith; spelled = (more.0, spelled); longest = last }, omega arith, omega arith)
 
--- whole characters up to the end of the text: the quoted text has no end
+-- If whole characters extend to the end of the text, the quoted text has no end.
 pub quoted_endless : (text : List ℕ) (start : ℕ) → get_or text start 0 ≡ 39 → Inside text (length text) (start + 1) → IsOpenQuoted text start
 quoted_endless text start opens inner = record {
   opens = opens;
@@ -170,7 +170,7 @@ quoted_endless text start opens inner = record {
       omega (arith, here.inside, past);
 }
 
--- a quote stands within the text
+-- The place of a quote is within the text.
 pub quote_within : (text : List ℕ) (at : ℕ) → get_or text at 0 ≡ 39 → at < length text
 quote_within text at here =
     elim (cases_lt at (length text)) [

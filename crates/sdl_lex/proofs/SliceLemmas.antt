@@ -1,4 +1,4 @@
--- The bytes from a place on, as a slice has them.
+-- The bytes of a slice of the text.
 use Rattle.std.proofs.Common.{◌≡◌, ℕ, ◌+◌, ◌-◌, ◌*◌, ◌<◌, ◌≤◌, Bool, true, false, List, [], ◌∷◌, length, take, drop, refl, ap, ◌∙◌, get_or, inl, inr, arith, zero, suc, length-take, length-drop}
 use Rattle.std.specs.Prelude.{slice_range, fold}
 use Rattle.std.specs.List.{list_all}
@@ -10,7 +10,7 @@ use Rattle.sdl_lex.specs.Spelling.{is_name_byte, is_spelled_as_name}
 use Rattle.sdl_lex.specs.Lexed.{decimal}
 use Rattle.sdl_lex.specs.Scan.{IsRun}
 
--- a byte of a slice is the text's
+-- A byte of a slice is the text's byte at the same place.
 pub slice_byte : (text : List ℕ) (at end k : ℕ) → at ≤ k → k < end → get_or (slice_range text at end) (k - at) 0 ≡ get_or text k 0
 slice_byte text at end k l h =
     let inside : k - at < end - at = omega arith in
@@ -22,11 +22,11 @@ slice_length text at end h =
     let inside : end - at ≤ length (drop at text) = omega (arith, length-drop at text) in
     length-take-le (end - at) (drop at text) inside
 
--- a slice holds no more than its bounds say
+-- A slice is no longer than the distance between its bounds.
 pub slice_length-le : (text : List ℕ) (at end : ℕ) → length (slice_range text at end) ≤ end - at
 slice_length-le text at end = omega (arith, length-take (end - at) (drop at text))
 
--- a test of each byte
+-- A test that each byte passes holds of the list, and the reverse.
 pub list_all-from : (p : ℕ → Bool) (bytes : List ℕ) → ((k : ℕ) → k < length bytes → p (get_or bytes k 0) ≡ true) → list_all p bytes ≡ true
 list_all-from p [] each = refl
 list_all-from p (b ∷ bs) each =
@@ -40,7 +40,7 @@ list_all-each p (b ∷ bs) all (suc k) h = list_all-each p bs (and_parts (p b) (
 pub letter-name_byte : (b : ℕ) → is_ascii_alphabetic b ≡ true → is_name_byte b ≡ true
 letter-name_byte b h = grind (arith, common_steps)
 
--- a letter and then bytes of names are spelled as a name, and the other way round
+-- Bytes are spelled as a name exactly if they are a letter and then bytes of names.
 pub spelled-from : (bytes : List ℕ) → 0 < length bytes → is_ascii_alphabetic (get_or bytes 0 0) ≡ true
     → ((k : ℕ) → k < length bytes → is_name_byte (get_or bytes k 0) ≡ true) → is_spelled_as_name bytes ≡ true
 spelled-from [] l first each = absurd (omega arith)
@@ -57,7 +57,7 @@ spelled-each (b ∷ bs) h zero l = letter-name_byte b (and_parts (is_ascii_alpha
 spelled-each (b ∷ bs) h (suc k) l =
     list_all-each is_name_byte bs (and_parts (is_ascii_alphabetic b) (list_all is_name_byte bs) h).1 k (omega arith)
 
--- a slice of bytes that are a name's
+-- A slice that begins with a letter and has only bytes of names is spelled as a name.
 pub spelled-slice : (text : List ℕ) (at end : ℕ) → at < end → end ≤ length text → is_ascii_alphabetic (get_or text at 0) ≡ true
     → ((k : ℕ) → at ≤ k → k < end → is_name_byte (get_or text k 0) ≡ true) → is_spelled_as_name (slice_range text at end) ≡ true
 spelled-slice text at end l inside first each =
@@ -77,7 +77,7 @@ spelled-slice text at end l inside first each =
         let here : at + 0 ≡ at = omega arith in
         rw (same, here) first
 
--- a run of bytes of names that begins with a letter
+-- A run of bytes of names that begins with a letter.
 run_begins : (text : List ℕ) (at end : ℕ) → IsRun is_name_byte text at end → is_ascii_alphabetic (get_or text at 0) ≡ true → at < end
 run_begins text at end run first =
     elim (cases_lt at end) [
@@ -93,7 +93,7 @@ pub run_spelled : (text : List ℕ) (at end : ℕ) → IsRun is_name_byte text a
 run_spelled text at end run first =
     spelled-slice text at end (run_begins text at end run first) run.inside first run.each
 
--- more digits stand for no less
+-- Appending digits doesn't make the number smaller.
 fold-grows : (n : ℕ) (digits : List ℕ) → n ≤ fold (λ (n digit : ℕ). 10 * n + (digit - 48)) n digits
 fold-grows n [] = omega arith
 fold-grows n (d ∷ ds) = let h = fold-grows (10 * n + (d - 48)) ds in omega arith

@@ -18,7 +18,7 @@ use Rattle.sdl_lex.proofs.UniqueLemmas.{Wordlike, Numberlike, word_name, wordlik
 
 -- Tokens.
 
--- a token of these parts
+-- A text has a token of this lexeme from the start to the end.
 abbrev pub TokenOf : List ℕ → ℕ → Lexeme → ℕ → Type 0
 TokenOf text start lexeme end = IsToken text (record { lexeme = lexeme; start = start; end = end })
 
@@ -58,7 +58,7 @@ token_kind text start end (a_symbol s) token = kind-symbol s (get_or text start 
 token_kind text start end a_quoted token =
     kind-quote (get_or text start 0) (get_or text (start + 1) 0) (quoted_here text start end token).opens
 
--- two tokens that begin at one place are one
+-- Two tokens that begin at one place are equal.
 one_lexeme : (text : List ℕ) (start e f : ℕ) (l m : Lexeme) → TokenOf text start l e → TokenOf text start m f → (l ≡ m) × (e ≡ f)
 one_lexeme text start e f (a_name n) (a_name m) one other =
     let same : e ≡ f = wordlike_end text start e f (name_like text start e n one) (name_like text start f m other) in

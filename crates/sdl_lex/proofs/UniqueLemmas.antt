@@ -1,4 +1,4 @@
--- At each place of a text stands one thing at most.
+-- At most one item begins at each place of a text.
 use Rattle.std.proofs.Common.{◌≡◌, ℕ, ◌+◌, ◌-◌, ◌<◌, ◌≤◌, inl, inr, true, false, List, [], ◌∷◌, length, take, drop, map, refl, ap, sym, ◌∙◌, get_or, arith, zero, suc}
 use Rattle.std.specs.Prelude.{slice_range, nat_le}
 use Rattle.std.specs.List.{list_all}
@@ -42,7 +42,7 @@ spelled_back (b ∷ bs) h =
     let parts = and_parts (is_ascii_alphabetic (to_ascii_lowercase b)) (list_all is_name_byte (map to_ascii_lowercase bs)) h in
     and_from _ _ (lower-letter_back b parts.0) (all_lower_back bs parts.1)
 
--- a reserved word's text is a name's spelling
+-- Bytes that spell a reserved word are spelled as a name, and have 32 bytes at most.
 pub word_name : (bytes : List ℕ) (w : Word) → SameName bytes (word_text w) → (is_spelled_as_name bytes ≡ true) × (length bytes ≤ 32)
 word_name bytes w same =
     let parts = and_parts (is_spelled_as_name (folded (word_text w))) (nat_le (length (word_text w)) 32) (word_is_name w) in
@@ -52,7 +52,7 @@ word_name bytes w same =
     sym (length-map bytes to_ascii_lowercase) ∙ (ap (λ (xs : List ℕ). length xs) same ∙ length-map (word_text w) to_ascii_lowercase) in
     (spelled_back bytes spelled, omega arith)
 
--- a slice that is spelled as a name
+-- A byte of a slice that is spelled as a name is a byte of names.
 slice_name_byte : (text : List ℕ) (start end k : ℕ) → is_spelled_as_name (slice_range text start end) ≡ true
     → k < length (slice_range text start end) → is_name_byte (get_or text (start + k) 0) ≡ true
 slice_name_byte text start end k spelled below =

@@ -9,7 +9,7 @@ use Rattle.sdl_lex.specs.Texts.{word_text}
 abbrev pub all_words : List Word
 all_words = Block ∷ EndBlock ∷ Signal ∷ SignalRoute ∷ From ∷ To ∷ With ∷ Env ∷ Connect ∷ Process ∷ EndProcess ∷ Dcl ∷ Timer ∷ Start ∷ State ∷ EndState ∷ Input ∷ Save ∷ Connection ∷ EndConnection ∷ Task ∷ Output ∷ Sender ∷ Set ∷ Reset ∷ Now ∷ Decision ∷ Else ∷ EndDecision ∷ NextState ∷ Stop ∷ Join ∷ Comment ∷ Not ∷ And ∷ Or ∷ Xor ∷ Mod ∷ Rem ∷ Integer ∷ Boolean ∷ True ∷ False ∷ Procedure ∷ EndProcedure ∷ Call ∷ Fpar ∷ In ∷ Return ∷ []
 
--- where a word stands among them
+-- The index of a word in the table of reserved words.
 abbrev pub place : Word → ℕ
 place Block = 0
 place EndBlock = 1
@@ -270,14 +270,14 @@ word_is_name Fpar = refl
 word_is_name In = refl
 word_is_name Return = refl
 
--- no two words are spelled alike
+-- No two reserved words have the same spelling.
 pub one_word : (bytes : List ℕ) (v w : Word) → SameName bytes (word_text v) → SameName bytes (word_text w) → v ≡ w
 one_word bytes v w e f =
     let same : word_read (folded (word_text v)) ≡ word_read (folded (word_text w)) = ap word_read (sym e ∙ f) in
     let some : Some v ≡ Some w = sym (word_read_again v) ∙ (same ∙ word_read_again w) in
     cc
 
--- a word that stands nowhere in the table is none
+-- Bytes that spell no word of the table spell no reserved word.
 pub every_word : (bytes : List ℕ) → ((k : ℕ) → k < length all_words → SameName bytes (word_text (get_or all_words k Block)) → ⊥)
     → (w : Word) → SameName bytes (word_text w) → ⊥
 every_word bytes none w h = none (place w) (place_below w) (rw (word_there w) h)

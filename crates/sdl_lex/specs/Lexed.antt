@@ -1,4 +1,4 @@
--- What the tokens of a text are, and what keeps a text from having them.
+-- What the tokens of a text are, and which faults a text can have.
 use Rattle.std.specs.Prelude.{Vec, ◌≡◌, ℕ, ◌+◌, ◌-◌, ◌*◌, ◌<◌, ◌≤◌, ◌==◌, ◌⊎◌, Bool, true, false}
 use Rattle.std.specs.Prelude.{IsTrue, ◌||◌, if◌then◌else◌, List, [], ◌∷◌, ◌++◌, length, fold}
 use Rattle.std.specs.Prelude.{slice_index, slice_range, EachIndex, Result, Ok, Err}
@@ -18,22 +18,22 @@ use Rattle.sdl_lex.specs.declared.lexemes.LexFault.TheVariants.{NoMemory}
 use Rattle.sdl_lex.specs.Spelling.{IsName, SameName, is_name_byte, is_spelled_as_name}
 use Rattle.sdl_lex.specs.Texts.{word_text, symbol_text}
 
--- A text is the list of its bytes, and a place is an index into it. Past the end `slice_index`
--- gives 0, which is no white space and continues no token.
+-- A text is the list of its bytes, and a place is an index into it. Past the end `slice_index` is
+-- 0, which is not white space and continues no token.
 
 -- space, tab, carriage return and line feed
 abbrev pub is_white : ℕ → Bool
 is_white b = (b == 32) || (b == 9) || (b == 13) || (b == 10)
 
--- `/*` stands at a place
+-- `/*` is at a place
 abbrev pub OpensComment : List ℕ → ℕ → Type 0
 OpensComment text at = (slice_index text at ≡ 47) × (slice_index text (at + 1) ≡ 42)
 
--- `*/` stands at a place
+-- `*/` is at a place
 abbrev pub ClosesComment : List ℕ → ℕ → Type 0
 ClosesComment text at = (slice_index text at ≡ 42) × (slice_index text (at + 1) ≡ 47)
 
--- a comment stands between two places: it ends with the first `*/` after its `/*`
+-- A comment begins at the first place and ends before the second, with the first `*/` after `/*`.
 pub record IsComment (text : List ℕ) (at next : ℕ) : Type 0 where
   pub opens : OpensComment text at
   pub last : ℕ
@@ -47,12 +47,12 @@ pub record IsOpenComment (text : List ℕ) (at : ℕ) : Type 0 where
   pub opens : OpensComment text at
   pub endless : (k : ℕ) → at + 2 ≤ k → ClosesComment text k → ⊥
 
--- what a quoted text holds, as it is written between its quotes: with each quote twice
+-- the bytes that represent a quoted text between its quotes: each quote in it is doubled
 abbrev pub doubled : List ℕ → List ℕ
 doubled [] = []
 doubled (b ∷ bs) = if b == 39 then 39 ∷ 39 ∷ doubled bs else b ∷ doubled bs
 
--- a quoted text, with its quotes
+-- a quoted text, including its outer quotes
 abbrev pub IsQuoted : List ℕ → Type 0
 IsQuoted bytes = (held : List ℕ) × (bytes ≡ 39 ∷ (doubled held ++ 39 ∷ []))
 
@@ -65,7 +65,7 @@ IsNumber bytes =
 abbrev pub decimal : List ℕ → ℕ
 decimal digits = fold (λ n digit. 10 * n + (digit - 48)) 0 digits
 
--- a token's text: a name is no reserved word, in whatever case
+-- The bytes spell a lexeme. A name is not a reserved word, in either case.
 abbrev pub Spells : List ℕ → Lexeme → Type 0
 Spells bytes (a_name n) =
     (n ≡ bytes) × IsName bytes × ((w : Word) → SameName bytes (word_text w) → ⊥)
@@ -74,7 +74,7 @@ Spells bytes (a_word w) = SameName bytes (word_text w)
 Spells bytes (a_symbol s) = bytes ≡ symbol_text s
 Spells bytes a_quoted = IsQuoted bytes
 
--- a byte that makes a longer symbol of the one before it, or of `/` the beginning of a comment
+-- The byte and the symbol before it make a longer symbol, or `/*`, which begins a comment.
 abbrev pub continues_symbol : Symbol → ℕ → Bool
 continues_symbol Colon b = b == 61
 continues_symbol Slash b = (b == 61) || (b == 42)
@@ -82,7 +82,7 @@ continues_symbol Less b = b == 61
 continues_symbol Greater b = b == 61
 continues_symbol _ b = false
 
--- a byte that belongs to the token that it follows
+-- the byte would make the token before it longer
 abbrev pub continues : Lexeme → ℕ → Bool
 continues (a_name _) b = is_name_byte b
 continues (a_number _) b = is_ascii_digit b
@@ -90,25 +90,25 @@ continues (a_word _) b = is_name_byte b
 continues (a_symbol s) b = continues_symbol s b
 continues a_quoted b = b == 39
 
--- a token stands in a text: its slice spells it, and it is the longest
+-- A token is in a text: its slice spells it, and it can't be longer.
 pub record IsToken (text : List ℕ) (token : Token) : Type 0 where
   pub ordered : token.start ≤ token.end
   pub inside : token.end ≤ length text
   pub spelled : Spells (slice_range text token.start token.end) token.lexeme
   pub longest : continues token.lexeme (slice_index text token.end) ≡ false
 
--- a quoted text without end begins at a place: a quote from which on there is no quoted text
+-- A quoted text without end begins at a place: there is a quote, but no quoted text begins there.
 pub record IsOpenQuoted (text : List ℕ) (at : ℕ) : Type 0 where
   pub opens : slice_index text at ≡ 39
   pub endless : (end : ℕ) → IsToken text (record { lexeme = a_quoted; start = at; end = end }) → ⊥
 
--- white space or a comment stands between two places
+-- one white-space byte or one comment is between two places
 pub data IsBlank (text : List ℕ) (at : ℕ) : ℕ → Type 0 where
   white : is_white (slice_index text at) ≡ true → IsBlank text at (at + 1)
   comment : {next : ℕ} → IsComment text at next → IsBlank text at next
 
--- From a place to another a text is white space, comments and these tokens, by what stands at the
--- place.
+-- Between two places the text consists of white space, comments and exactly these tokens, in this
+-- order.
 pub data Lexes (text : List ℕ) (to : ℕ) : ℕ → List Token → Type 0 where
   ended : Lexes text to to []
   skipped : {at : ℕ} {tokens : List Token} (next : ℕ) → IsBlank text at next
@@ -116,11 +116,11 @@ pub data Lexes (text : List ℕ) (to : ℕ) : ℕ → List Token → Type 0 wher
   taken : {at : ℕ} {tokens : List Token} (token : Token) → token.start ≡ at → IsToken text token
       → Lexes text to token.end tokens → Lexes text to at (token ∷ tokens)
 
--- these are the tokens of the text
+-- the whole text has these tokens
 abbrev pub Lexed : List ℕ → List Token → Type 0
 Lexed text tokens = Lexes text (length text) 0 tokens
 
--- a byte with which no token, white space or comment begins
+-- a byte that begins no token, white space or comment
 pub record IsBad (b : ℕ) : Type 0 where
   pub no_letter : is_ascii_alphabetic b ≡ false
   pub no_digit : is_ascii_digit b ≡ false
@@ -139,61 +139,61 @@ IsLargeNumber text at =
     (end : ℕ) × IsNumber (slice_range text at end)
     × (GREATEST_NUMBER < decimal (slice_range text at end))
 
--- this fault stands at its place
+-- the text has this fault at the fault's place
 abbrev pub IsFaultAt : List ℕ → LexFault → Type 0
 IsFaultAt text (BadCharacter at) = (at < length text) × IsBad (slice_index text at)
 IsFaultAt text (OpenComment at) = IsOpenComment text at ⊎ IsOpenQuoted text at
 IsFaultAt text (TooLong at) = IsLongName text at ⊎ IsLargeNumber text at
 IsFaultAt text NoMemory = ⊥
 
--- where a fault is
+-- the place of a fault
 abbrev pub place_of : LexFault → ℕ
 place_of (BadCharacter at) = at
 place_of (OpenComment at) = at
 place_of (TooLong at) = at
 place_of NoMemory = 0
 
--- a text that isn't over-long has these tokens, or this is its first fault: up to its place it has
--- tokens
+-- For a text within the length limit: it has these tokens, or this is its first fault, and up to
+-- the fault it consists of items.
 abbrev pub Gives : List ℕ → Result (List Token) LexFault → Type 0
 Gives text (Ok tokens) = Lexed text tokens
 Gives text (Err fault) =
     IsFaultAt text fault × (tokens : List Token) × Lexes text (place_of fault) 0 tokens
 
--- the answer that a text has, want of memory aside: of an over-long one it is the first byte too
--- many
+-- The answer for any text, except running out of memory. A text over the length limit is faulty at
+-- the first byte past the limit.
 pub data Answers (text : List ℕ) : Result (List Token) LexFault → Type 0 where
   over_long : LONGEST_TEXT < length text → Answers text (Err (TooLong LONGEST_TEXT))
   in_room : {answer : Result (List Token) LexFault} → length text ≤ LONGEST_TEXT → Gives text answer
       → Answers text answer
 
--- the first fault of a text that isn't over-long; of want of memory nothing is said
+-- The first fault of a text within the length limit. `NoMemory` states nothing.
 abbrev pub IsFirstFault : List ℕ → LexFault → Type 0
 IsFirstFault text NoMemory = Unit {0}
 IsFirstFault text fault = Gives text (Err fault)
 
--- the same of any text
+-- The fault is the answer for a text of any length. `NoMemory` states nothing.
 abbrev pub IsAnswer : List ℕ → LexFault → Type 0
 IsAnswer text NoMemory = Unit {0}
 IsAnswer text fault = Answers text (Err fault)
 
--- the call's result is the answer, or memory ran out
+-- the result of the call is the answer, or memory ran out
 abbrev pub Agrees :
     {A : Type 0} → Result (Vec Token A) LexFault → Result (List Token) LexFault → Type 0
 Agrees (Err NoMemory) answer = Unit {0}
 Agrees (Err fault) answer = answer ≡ Err fault
 Agrees (Ok v) answer = answer ≡ Ok v.items
 
--- whatever answer the text has is the one that the call gave, or memory ran out
+-- every answer for the text equals the result of the call, or memory ran out
 abbrev pub IsOnlyAnswer : {A : Type 0} → List ℕ → Result (Vec Token A) LexFault → Type 0
 IsOnlyAnswer text result =
     (answer : Result (List Token) LexFault) → Answers text answer → Agrees result answer
 
--- a text has one list of tokens at most
+-- a text has at most one list of tokens
 abbrev pub OneReading : Type 0
 OneReading = (text : List ℕ) (ts us : List Token) → Lexed text ts → Lexed text us → ts ≡ us
 
--- a text has one answer at most
+-- a text has at most one answer
 abbrev pub OneAnswer : Type 0
 OneAnswer =
     (text : List ℕ) (a b : Result (List Token) LexFault) → Answers text a → Answers text b → a ≡ b

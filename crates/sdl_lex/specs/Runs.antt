@@ -1,13 +1,13 @@
--- The bytes that a name may go on with, and runs of bytes.
+-- The bytes that may follow the first byte of a name, and runs of bytes.
 use Rattle.std.specs.Prelude.{◌≡◌, ℕ, ◌<◌, ◌≤◌, ◌==◌, Bool, true, false, ◌||◌, List, length}
 use Rattle.std.specs.Prelude.{slice_index}
 use Rattle.std.specs.Char.{is_ascii_alphanumeric}
 
--- a byte that a name may go on with: an ASCII letter, a digit or `_`
+-- a byte that may follow the first byte of a name: an ASCII letter, a digit or `_`
 abbrev pub is_name_byte : ℕ → Bool
 is_name_byte b = is_ascii_alphanumeric b || (b == 95)
 
--- the bytes from a place to another pass a test, and the byte after them doesn't
+-- Each byte from one place up to another passes a test, and the byte after them doesn't.
 pub record IsRun (p : ℕ → Bool) (text : List ℕ) (at end : ℕ) : Type 0 where
   pub ordered : at ≤ end
   pub inside : end ≤ length text

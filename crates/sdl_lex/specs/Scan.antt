@@ -5,11 +5,11 @@ use Rattle.sdl_lex.specs.declared.lexemes.LexFault.{LexFault}
 use Rattle.sdl_lex.specs.Lexed.{IsBlank, IsToken, IsFaultAt, place_of}
 pub use Rattle.sdl_lex.specs.Runs.{IsRun}
 
--- what stands between two places: a token, or no lexeme, and so white space or a comment
+-- the item between two places: a token, or if there is no lexeme, white space or a comment
 abbrev pub Stands : List ℕ → ℕ → Option Lexeme → ℕ → Type 0
 Stands text at (Some lexeme) end = IsToken text (record { lexeme = lexeme; start = at; end = end })
 Stands text at None end = IsBlank text at end
 
--- a fault begins at the place
+-- the text has a fault that begins at the place
 abbrev pub IsFaultThere : List ℕ → ℕ → LexFault → Type 0
 IsFaultThere text at fault = IsFaultAt text fault × (place_of fault ≡ at)

@@ -5,7 +5,7 @@ use Rattle.std.specs.Char.{is_ascii_alphabetic, to_ascii_lowercase}
 use Rattle.sdl_lex.specs.Limits.{LONGEST_NAME}
 pub use Rattle.sdl_lex.specs.Runs.{is_name_byte}
 
--- an ASCII letter, and then letters, digits and `_`, however many
+-- an ASCII letter, followed by any number of letters, digits and `_`
 abbrev pub is_spelled_as_name : List ℕ → Bool
 is_spelled_as_name [] = false
 is_spelled_as_name (b ∷ bs) = is_ascii_alphabetic b && list_all is_name_byte bs
@@ -14,10 +14,10 @@ is_spelled_as_name (b ∷ bs) = is_ascii_alphabetic b && list_all is_name_byte b
 abbrev pub IsName : List ℕ → Type 0
 IsName bs = IsTrue (is_spelled_as_name bs && nat_le (length bs) LONGEST_NAME)
 
--- a spelling in lower case, by which names are told apart
+-- a spelling in lower case; names are compared in this form
 abbrev pub folded : List ℕ → List ℕ
 folded bs = map to_ascii_lowercase bs
 
--- two spellings of one name: they differ in case alone
+-- two spellings of one name: they differ only in case
 abbrev pub SameName : List ℕ → List ℕ → Type 0
 SameName a b = folded a ≡ folded b

@@ -12,14 +12,14 @@ use crate::scan::{
 };
 use crate::{LexFault, Lexeme, MAX_TEXT};
 
-/// A token's lexeme, or nothing for white space and comments, and the place after it.
+/// The lexeme of a token, or `None` for white space and comments, and the place after the item.
 #[derive(Clone, Copy)]
 pub(crate) struct Item {
     pub(crate) lexeme: Option<Lexeme>,
     pub(crate) end: usize,
 }
 
-/// The reserved word or name that begins at a place; a name of more than 32 bytes is too long.
+/// Reads the reserved word or name that begins at a place. A name of more than 32 bytes is `TooLong`.
 fn word_item(bytes: &[u8], at: usize) -> Result<Item, LexFault>
     requires room { length bytes.now ≤ LONGEST_TEXT }
     requires inside { at < length bytes.now }
@@ -37,7 +37,7 @@ fn word_item(bytes: &[u8], at: usize) -> Result<Item, LexFault>
     }
 }
 
-/// The number that begins at a place; one above 2147483647 is too long.
+/// Reads the number that begins at a place. A number above 2147483647 is `TooLong`.
 fn number_item(bytes: &[u8], at: usize) -> Result<Item, LexFault>
     requires room { length bytes.now ≤ LONGEST_TEXT }
     requires inside { at < length bytes.now }
@@ -55,7 +55,7 @@ fn number_item(bytes: &[u8], at: usize) -> Result<Item, LexFault>
     }
 }
 
-/// The comment that begins at a place, and that has an end.
+/// Reads the comment that begins at a place. A comment without an end is `OpenComment`.
 fn comment_item(bytes: &[u8], at: usize) -> Result<Item, LexFault>
     requires room { length bytes.now ≤ LONGEST_TEXT }
     requires inside { at + 2 ≤ length bytes.now }
@@ -69,7 +69,7 @@ fn comment_item(bytes: &[u8], at: usize) -> Result<Item, LexFault>
     }
 }
 
-/// The quoted text that begins at a place, and that has an end.
+/// Reads the quoted text that begins at a place. A quoted text without an end is `OpenComment`.
 fn quoted_item(bytes: &[u8], at: usize) -> Result<Item, LexFault>
     requires room { length bytes.now ≤ LONGEST_TEXT }
     requires inside { at < length bytes.now }
@@ -86,7 +86,7 @@ fn quoted_item(bytes: &[u8], at: usize) -> Result<Item, LexFault>
     }
 }
 
-/// The symbol that begins at a place, the longer one where two do.
+/// Reads the symbol that begins at a place, the longer if two match. A byte that begins none is `BadCharacter`.
 fn symbol_item(bytes: &[u8], at: usize) -> Result<Item, LexFault>
     requires room { length bytes.now ≤ LONGEST_TEXT }
     requires inside { at < length bytes.now }
@@ -115,7 +115,7 @@ fn symbol_item(bytes: &[u8], at: usize) -> Result<Item, LexFault>
     })
 }
 
-/// What stands at a place, or the fault that does.
+/// Reads the item that begins at a place, or returns the fault there.
 pub(crate) fn item_at(bytes: &[u8], at: usize) -> Result<Item, LexFault>
     requires room { length bytes.now ≤ LONGEST_TEXT }
     requires inside { at < length bytes.now }

@@ -1,4 +1,4 @@
-//! Tokens, and what keeps a text from having them.
+//! Tokens, and the faults for which a text has none.
 ghost use Rattle.std.specs.Prelude.{◌≡◌};
 ghost use Rattle.sdl_lex.specs.declared.lexemes.LexFault.TheVariants.{NoMemory};
 
@@ -7,7 +7,7 @@ use std::alloc::AllocFailed;
 use std::fmt;
 use thiserror::Error;
 
-/// A reserved word. It may be written in any case.
+/// A reserved word. A text may write it in upper or lower case.
 #[derive(Clone, Copy, Debug, PartialEq, Eq)]
 pub enum Word {
     Block,
@@ -101,7 +101,7 @@ pub enum Symbol {
 /// What a token is.
 #[derive(Clone, Copy, Debug, PartialEq, Eq)]
 pub enum Lexeme {
-    /// A name that is no reserved word.
+    /// A name that isn't a reserved word.
     Name(Name),
     /// A number from 0 to 2147483647.
     Number(u32),
@@ -109,11 +109,11 @@ pub enum Lexeme {
     Word(Word),
     /// A symbol.
     Symbol(Symbol),
-    /// A quoted text, with its quotes. It has no effect, so what it holds isn't kept.
+    /// A quoted text, with its quotes. It has no effect, so its contents aren't kept.
     Quoted,
 }
 
-/// A token and its place: it is the text's bytes from `start` up to, but without, `end`.
+/// A token and its place: the text's bytes from `start` up to, but not including, `end`.
 #[derive(Clone, Copy, Debug, PartialEq, Eq)]
 pub struct Token {
     pub lexeme: Lexeme,
@@ -121,17 +121,17 @@ pub struct Token {
     pub end: u32,
 }
 
-/// Why a text has no tokens, with the place of the byte where the fault begins, from 0.
+/// Why a text has no tokens, with the byte offset, from 0, at which the fault begins.
 #[derive(Clone, Copy, Debug, PartialEq, Eq, Drop, Error)]
 pub enum LexFault {
     /// A byte that begins no token, white space or comment.
     BadCharacter(u32),
     /// A comment or a quoted text without end.
     OpenComment(u32),
-    /// A name of more than 32 bytes, a number above 2147483647, or the first byte past the
-    /// 262,144 that a text may have.
+    /// A name of more than 32 bytes, a number above 2147483647, or the first byte past the limit of
+    /// 262,144 bytes per text.
     TooLong(u32),
-    /// There was not enough memory.
+    /// Memory ran out.
     NoMemory,
 }
 

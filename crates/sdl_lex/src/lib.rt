@@ -1,4 +1,4 @@
-//! The lexis of SDL texts: from the bytes of a text to its tokens.
+//! The lexer for SDL texts: it turns the bytes of a text into tokens.
 #![tactic(auto)]
 
 ghost use Rattle.std.specs.Prelude.{◌≡◌, ◌+◌, ◌==◌, ◌≤◌, length, take, count_by, Ok, IfOk, IfErr};
@@ -20,17 +20,17 @@ use std::alloc::Global;
 /// The greatest number of bytes in a name.
 pub const MAX_NAME: usize = 32;
 
-/// The greatest number that a text may have.
+/// The greatest number that a text may contain.
 pub const MAX_NUMBER: u32 = 2_147_483_647;
 
 /// The greatest number of bytes in a text.
 pub const MAX_TEXT: usize = 262_144;
 
-/// The tokens of a text: each is the longest that stands at its place, and between them there is
-/// only white space and comments.
+/// Splits a text into tokens. Each is the longest that begins at its place, and between them there
+/// is only white space and comments.
 ///
-/// A fault is the first in the text, but a text of more than 262,144 bytes is L3 at the first byte
-/// too many, whatever it holds. Any call may answer `LexFault::NoMemory` instead.
+/// A fault is the first in the text. A text of more than 262,144 bytes is L3 at the first byte
+/// past the limit, whatever it holds. Any call may return `LexFault::NoMemory` instead.
 pub fn tokens(alloc: Global, text: &str) -> Result<Vec<Token>, LexFault>
     ensures lexed { IfOk result (λ v. Answers text.now (Ok v.items)) }
     ensures fault { IfErr result (λ e. IsAnswer text.now e) }
@@ -43,7 +43,7 @@ pub fn tokens(alloc: Global, text: &str) -> Result<Vec<Token>, LexFault>
     all_tokens(alloc, bytes)
 }
 
-/// The tokens of a text that isn't over-long.
+/// Splits a text within the length limit into tokens.
 fn all_tokens(alloc: Global, bytes: &[u8]) -> Result<Vec<Token>, LexFault>
     requires { length bytes.now ≤ LONGEST_TEXT }
     ensures lexed { IfOk result (λ v. Lexed bytes.now v.items) }
@@ -65,7 +65,7 @@ fn all_tokens(alloc: Global, bytes: &[u8]) -> Result<Vec<Token>, LexFault>
     Ok(tokens)
 }
 
-/// The number of the line in which a place of a text stands, from 1. A line ends with its line feed.
+/// The number, from 1, of the line that contains a byte offset of a text. A line feed ends its own line.
 pub fn line_of(text: &str, place: u32) -> usize
     ensures { result ≡ count_by (λ b. b == 10) (take place text.now) + 1 }
 {
@@ -78,12 +78,12 @@ pub fn line_of(text: &str, place: u32) -> usize
     before.iter().filter(|b| **b == b'\n').count() + 1
 }
 
-/// A text has one list of tokens at most.
+/// Law: a text has at most one list of tokens.
 pub fn one_reading()
     ensures { OneReading }
 {}
 
-/// A text has one answer at most: its tokens or its first fault.
+/// Law: a text has at most one answer, either its tokens or its first fault.
 pub fn one_answer()
     ensures { OneAnswer }
 {}

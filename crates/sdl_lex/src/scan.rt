@@ -1,4 +1,4 @@
-//! What stands at a place of a text.
+//! Scans single items at a place of a text.
 ghost use Rattle.std.specs.Prelude.{◌≡◌, ℕ, ◌+◌, ◌<◌, ◌≤◌, true, false, IsTrue, EachIndex, [], ◌∷◌, ◌++◌, length, slice_index, IfSome, IfNone, IfOk, IfErr};
 ghost use Rattle.std.specs.Char.{is_ascii_digit, is_ascii_alphabetic};
 ghost use Rattle.sdl_lex.specs.Spelling.{is_name_byte, is_spelled_as_name};
@@ -17,14 +17,14 @@ pub(crate) fn is_white(b: u8) -> bool
     b == b' ' || b == b'\t' || b == b'\r' || b == b'\n'
 }
 
-/// The byte at a place, and 0 past the end.
+/// The byte at a place, or 0 past the end.
 pub(crate) fn byte_at(bytes: &[u8], at: usize) -> u8
     ensures { result ≡ slice_index bytes.now at }
 {
     if at < bytes.len() { bytes[at] } else { 0 }
 }
 
-/// The place after the digits that stand from a place on.
+/// The place after the run of digits that begins at a place.
 pub(crate) fn number_end(bytes: &[u8], at: usize) -> usize
     requires { at ≤ length bytes.now }
     ensures { IsRun is_ascii_digit bytes.now at result }
@@ -36,7 +36,7 @@ pub(crate) fn number_end(bytes: &[u8], at: usize) -> usize
     end
 }
 
-/// The place after the comment that begins at a place, if it has an end.
+/// The place after the comment that begins at a place, or `None` if the comment has no end.
 pub(crate) fn comment_end(bytes: &[u8], at: usize) -> Option<usize>
     requires inside { at + 2 ≤ length bytes.now }
     requires opens { OpensComment bytes.now at }
@@ -51,7 +51,7 @@ pub(crate) fn comment_end(bytes: &[u8], at: usize) -> Option<usize>
     None
 }
 
-/// The place after the quoted text that begins at a place, if it has an end.
+/// The place after the quoted text that begins at a place, or `None` if it has no end.
 pub(crate) fn quoted_end(bytes: &[u8], at: usize) -> Option<usize>
     requires inside { at < length bytes.now }
     requires opens { slice_index bytes.now at ≡ 39 }
@@ -69,7 +69,7 @@ pub(crate) fn quoted_end(bytes: &[u8], at: usize) -> Option<usize>
     None
 }
 
-/// The number that digits stand for, if it isn't too large.
+/// The number that decimal digits stand for, or `None` if it is above 2147483647.
 pub(crate) fn number_of(digits: &[u8]) -> Option<u32>
     requires { EachIndex digits.now (λ k. is_ascii_digit (slice_index digits.now k) ≡ true) }
     ensures found { IfSome result (λ n. (n ≡ decimal digits.now) × (n ≤ GREATEST_NUMBER)) }
@@ -86,7 +86,7 @@ pub(crate) fn number_of(digits: &[u8]) -> Option<u32>
     Some(n)
 }
 
-/// The reserved word or the name with this spelling, if it isn't too long.
+/// The reserved word or the name with this spelling, or `None` if a name is longer than 32 bytes.
 pub(crate) fn word_or_name(spelling: &[u8]) -> Option<Lexeme>
     requires { IsTrue (is_spelled_as_name spelling.now) }
     ensures found { IfSome result (λ lexeme. Spells spelling.now lexeme
@@ -100,7 +100,7 @@ pub(crate) fn word_or_name(spelling: &[u8]) -> Option<Lexeme>
     Some(Lexeme::Name(name))
 }
 
-/// The symbol of one byte.
+/// The symbol that consists of this one byte, if there is one.
 pub(crate) fn symbol_of(b: u8) -> Option<Symbol>
     ensures found { IfSome result (λ s. symbol_text s ≡ b ∷ []) }
     ensures none { IfNone result ((s : TheSymbol) → symbol_text s ≡ b ∷ [] → ⊥) }
@@ -122,7 +122,7 @@ pub(crate) fn symbol_of(b: u8) -> Option<Symbol>
     }
 }
 
-/// The longer symbol that `=` makes of a symbol of one byte.
+/// The symbol that a one-byte symbol and a following `=` make, if there is one.
 pub(crate) fn with_equal(symbol: Symbol) -> Option<Symbol>
     ensures found { IfSome result (λ s. (symbol_text s ≡ symbol_text symbol ++ 61 ∷ [])
         × ((b : ℕ) → continues_symbol s b ≡ false)) }

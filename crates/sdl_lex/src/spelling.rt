@@ -1,4 +1,4 @@
-//! Names as they are written, and as they are compared.
+//! Names as they are written, and how they are compared.
 ghost use Rattle.std.specs.Prelude.{◌≡◌, ◌↔◌, Some, IsSome, IfSome, bytes_eq, IsTrue};
 ghost use Rattle.std.specs.Hash as fed;
 ghost use Rattle.std.specs.Cmp.{on_equiv, on_per, partial_equiv_from_equiv};
@@ -17,11 +17,11 @@ use std::{fmt, str};
 
 /// A name as it is written: 1 to 32 ASCII letters, digits and `_`, the first of them a letter.
 ///
-/// Contracts see a name as the list of its bytes. `==` compares spellings; names that differ in
-/// case alone are one name, so compare and look up what [`Name::folded`] gives.
+/// Contracts see a name as the list of its bytes. `==` compares spellings. Names that differ only
+/// in case are one name, so compare and look up the result of [`Name::folded`].
 #[derive(Clone, Copy)]
 pub struct Name {
-    // the spelling, and then zeros
+    // the spelling, followed by zeros
     bytes: [u8; MAX_NAME],
     used: usize,
 }
@@ -47,14 +47,14 @@ impl Model for Name {
     } };
 }
 
-/// Whether a name may go on with each of these bytes.
+/// Whether each byte may follow the first byte of a name.
 fn are_name_bytes(bytes: &[u8]) -> bool
     ensures { result ≡ list_all is_name_byte bytes.now }
 {
     bytes.iter().all(|b| is_name_byte(*b))
 }
 
-/// Whether bytes are a letter, and then letters, digits and `_`, however many.
+/// Whether the bytes are a letter, followed by any number of letters, digits and `_`.
 fn is_spelled_as_name(bytes: &[u8]) -> bool
     ensures { result ≡ is_spelled_as_name bytes.now }
 {
@@ -65,7 +65,7 @@ fn is_spelled_as_name(bytes: &[u8]) -> bool
 }
 
 impl Name {
-    /// The name with this spelling, if it is one.
+    /// The name with this spelling, or `None` if the bytes aren't 1 to 32 bytes spelled as a name.
     pub fn new(spelling: &[u8]) -> Option<Name>
         ensures name { IsSome result ↔ IsName spelling.now }
         ensures spelled { IfSome result (λ n. n ≡ spelling.now) }
@@ -100,7 +100,7 @@ impl Name {
         }
     }
 
-    /// The name in lower case: two names are the same exactly where these are equal.
+    /// The name in lower case. Two spellings are the same name exactly if their results are equal.
     pub fn folded(self) -> Name
         ensures { result ≡ folded self }
     {

@@ -1,4 +1,4 @@
-//! The reserved words and how they are written.
+//! The reserved words and their spellings.
 ghost use Rattle.std.specs.Prelude.{◌≡◌, IfSome, IfNone, EachIndex, slice_index_or};
 ghost use Rattle.sdl_lex.specs.declared.lexemes.Word.{Word as TheWord};
 ghost use Rattle.sdl_lex.specs.Spelling.{SameName};
@@ -59,7 +59,7 @@ const WORDS: [Word; 49] = [
 ];
 
 impl Word {
-    /// The word in upper case.
+    /// The spelling of the word in upper case.
     pub fn text(self) -> &'static str
         ensures { result.now ≡ word_text self }
     {
@@ -116,7 +116,7 @@ impl Word {
         }
     }
 
-    /// The reserved word that these bytes spell, in whatever case.
+    /// The reserved word that these bytes spell, in upper or lower case.
     pub fn reserved(spelling: &[u8]) -> Option<Word>
         ensures found { IfSome result (λ w. SameName spelling.now (word_text w)) }
         ensures none { IfNone result ((w : TheWord) → SameName spelling.now (word_text w) → ⊥) }

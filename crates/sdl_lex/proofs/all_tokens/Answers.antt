@@ -1,4 +1,4 @@
--- Each item makes what was read longer.
+-- Each item extends the chain of items read so far.
 use Rattle.std.proofs.Common.{arith}
 use Rattle.sdl_lex.specs.Lexed.{ended}
 use Rattle.sdl_lex.proofs.ChainLemmas.{Lexes-found, Lexes-none}

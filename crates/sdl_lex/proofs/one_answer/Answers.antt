@@ -1,4 +1,4 @@
--- What was read up to a place where a text cannot go on is all that can be read.
+-- Two chains of items that both end where no further item can be read are equal.
 use Rattle.sdl_lex.proofs.OneLemmas.{one_answer_lem}
 use Rattle.sdl_lex.proofs.one_answer.Goals as goal
 

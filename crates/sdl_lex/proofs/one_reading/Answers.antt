@@ -1,4 +1,4 @@
--- One item at most stands at each place.
+-- At most one item begins at each place.
 use Rattle.sdl_lex.proofs.OneLemmas.{one_reading_lem}
 use Rattle.sdl_lex.proofs.one_reading.Goals as goal
 

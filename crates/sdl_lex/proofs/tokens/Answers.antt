@@ -1,4 +1,4 @@
--- A text's one answer.
+-- The result is the text's one answer.
 use Rattle.std.proofs.Common.{◌<◌, length}
 use Rattle.sdl_lex.specs.Limits.{LONGEST_TEXT}
 use Rattle.sdl_lex.specs.Lexed.{over_long}

@@ -1,4 +1,4 @@
--- The bytes of a name from a place on are spelled as a name.
+-- The run of name bytes that begins at a letter is spelled as a name.
 use Rattle.std.proofs.Common.{inl, refl}
 use Rattle.sdl_lex.proofs.SliceLemmas.{run_spelled}
 use Rattle.sdl_lex.proofs.items.word_item.Goals as goal

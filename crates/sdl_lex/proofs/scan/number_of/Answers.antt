@@ -1,4 +1,4 @@
--- The digits read so far stand for no more than all of them.
+-- The number that the digits read so far stand for is no greater than the whole number.
 use Rattle.std.proofs.Common.{ℕ, ◌+◌, ◌-◌, ◌*◌, arith}
 use Rattle.std.proofs.lemmas.List.Sums.{fold_more}
 use Rattle.sdl_lex.proofs.SliceLemmas.{decimal-take}

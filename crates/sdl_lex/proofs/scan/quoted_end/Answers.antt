@@ -1,4 +1,4 @@
--- Each turn of the loop takes one character.
+-- Each turn of the loop takes one character, which may be two quotes.
 use Rattle.std.proofs.Common.{◌≡◌, ◌+◌, length, arith, sym, ◌∙◌}
 use Rattle.std.proofs.lemmas.Bool.{ne_eqb}
 use Rattle.sdl_lex.proofs.QuoteLemmas.{ended, Inside-other, Inside-twice, quoted_token, quoted_endless, quote_within}

@@ -1,4 +1,4 @@
--- Every word stands in the table.
+-- Every reserved word is in the table.
 use Rattle.sdl_lex.proofs.WordLemmas.{IfNone-every}
 use Rattle.sdl_lex.proofs.lexemes.Word.reserved.Goals as goal
 

@@ -1,4 +1,4 @@
--- A name is ASCII, so its bytes are text.
+-- A name is ASCII, so its bytes are UTF-8.
 use Rattle.sdl_lex.proofs.NameLemmas.{name_utf8}
 use Rattle.sdl_lex.proofs.spelling.Name.as_str.Goals as goal
 

@@ -1,4 +1,4 @@
--- The lower case of the room is a room.
+-- Lowering the case keeps the invariant of `Name`.
 use Rattle.sdl_lex.proofs.NameLemmas.{IsRoom-folded}
 use Rattle.sdl_lex.proofs.spelling.Name.folded.Goals as goal
 

@@ -1,4 +1,4 @@
--- A spelling before zeros is a room.
+-- A spelling followed by zeros satisfies the invariant of `Name`.
 use Rattle.std.proofs.Common.{refl, sym, ◌∙◌}
 use Rattle.sdl_lex.proofs.NameLemmas.{IsRoom-new}
 use Rattle.sdl_lex.proofs.spelling.Name.new.Goals as goal
