@@ -1,4 +1,4 @@
--- No walk costs more instructions than the code has: each is met once at most, where no JOIN comes back.
+-- No walk costs more instructions than the code has: if no JOIN leads back, a walk meets each at most once.
 use Rattle.std.proofs.Common.{◌≡◌, ℕ, zero, suc, ◌+◌, ◌-◌, ◌≤◌, ◌<◌, Bool, true, false, List, [], ◌∷◌, ◌++◌, length, Option, None, Some, cond, if◌then◌else◌, find, refl, sym, ap, ◌∙◌, subst, arith, true≢false}
 use Rattle.std.specs.Prelude.{sum_by, filter, slice_get, is_some}
 use Rattle.std.specs.List.{flat_map, list_any}
@@ -25,9 +25,9 @@ use Rattle.sdl_joins.proofs.Ways.{goes_any}
 use Rattle.plain_laws.proofs.Places.{among_at}
 use Rattle.std.proofs.lemmas.Bool.{and_from as both_true, or_left as left_true, or_right as right_true}
 
--- ---- a text by itself: its own instructions, and what it goes on with
+-- ---- a text by itself: its own instructions, and those it goes on with
 
--- each JOIN goes on with so much at most
+-- The walk after each JOIN costs at most n instructions.
 abbrev pub AreWithin : (List ℕ → ℕ) → ℕ → List the_join.Join → Type 0
 AreWithin join n joins = Each (λ (j : the_join.Join). join j.connector.name ≤ n) joins
 
@@ -118,7 +118,7 @@ mutual
       let tests = tests_within ranges (budget vs join body (1 + k)) (case_budget vs join others k) m (omega (arith, inside)) (omega (arith, beyond)) in
       omega (arith, tests)
 
--- ---- connections: a JOIN goes on with the code of those to which it comes
+-- ---- connections: a JOIN goes on with the code of the connections that it leads to
 
 abbrev weight : PlainProcess → PlainConnection → ℕ
 weight p c = size (variables_of p) c.text
@@ -133,7 +133,7 @@ one_more s x fs gs w true false h le = absurd (true≢false (sym (h refl)))
 one_more s x fs gs w false true h le = omega (arith, le, sum_by-cons s x gs)
 one_more s x fs gs w false false h le = le
 
--- what passes one test passes the other too
+-- If all that passes one test passes the other too, the second sum is at least the first one.
 filter_within : {X : Type 0} (s : X → ℕ) (f g : X → Bool) (xs : List X) → ((i : ℕ) (x : X) → slice_get xs i ≡ Some x → f x ≡ true → g x ≡ true)
     → sum_by s (filter f xs) + 0 ≤ sum_by s (filter g xs)
 filter_within s f g [] h = omega arith
@@ -146,7 +146,7 @@ here_too s c fs gs true b misses passes le = absurd (true≢false misses)
 here_too s c fs gs false true misses passes le = omega (arith, le, sum_by-cons s c gs)
 here_too s c fs gs false false misses passes le = absurd (true≢false (sym passes))
 
--- and one more passes the other alone
+-- If one more element passes only the second test, the sums differ at least by its amount.
 filter_less : {X : Type 0} (s : X → ℕ) (f g : X → Bool) (xs : List X) (k : ℕ) (c : X) → slice_get xs k ≡ Some c → f c ≡ false → g c ≡ true
     → ((i : ℕ) (x : X) → slice_get xs i ≡ Some x → f x ≡ true → g x ≡ true) → sum_by s (filter f xs) + s c ≤ sum_by s (filter g xs)
 filter_less s f g [] k c e misses passes h = let bad : None ≡ Some c = e in absurd (cc)
@@ -179,7 +179,7 @@ not_placed : (at : ℕ) (b : Bool) → (if b then at ∷ [] else []) ≡ [] → 
 not_placed at true e = absurd (let k : ⊥ = cc in k)
 not_placed at false e = refl
 
--- no JOIN of a connection comes back to it
+-- No JOIN of a connection leads back to it.
 comes_not : (p : PlainProcess) (k i : ℕ) (c : PlainConnection) (j : the_join.Join) → process_cycles p ≡ [] → slice_get p.connections k ≡ Some c
     → slice_get (joins_of c.text) i ≡ Some j → comes p j.connector.name c.name.name ≡ false
 comes_not p k i c j none there here =
@@ -200,7 +200,7 @@ comes_by_numbers p x d k (Some n) (Some m) at_x at_d named there way =
     comes_is p d.name.name x n m at_x at_d
     ∙ goes_any (links_of p) (suc (length p.connections)) n m within (sym (comes_by_number p (suc (length p.connections)) d.name.name x n m at_x at_d) ∙ way)
 
--- where a JOIN of a connection comes, the connection does
+-- A connection leads wherever one of its JOINs leads.
 comes_from : (p : PlainProcess) (x : List ℕ) (c : PlainConnection) (i k : ℕ) (j : the_join.Join) (d : PlainConnection) → connection_named p x ≡ Some c
     → slice_get (joins_of c.text) i ≡ Some j → slice_get p.connections k ≡ Some d → comes p j.connector.name d.name.name ≡ true → comes p x d.name.name ≡ true
 comes_from p x c i k j d named here there way =
@@ -213,7 +213,7 @@ comes_from p x c i k j d named here there way =
 abbrev one_budget : List Variable → (List ℕ → ℕ) → Text → ℕ
 one_budget vs join text = budget vs join text 0
 
--- a JOIN of a connection goes on with less code than a JOIN to it
+-- A JOIN of a connection goes on with less code than a JOIN to that connection.
 code_less : (p : PlainProcess) (x : List ℕ) (c : PlainConnection) (i : ℕ) (j : the_join.Join) → process_cycles p ≡ [] → connection_named p x ≡ Some c
     → slice_get (joins_of c.text) i ≡ Some j → code_from p j.connector.name + weight p c ≤ code_from p x
 code_less p x c i j none named here =
@@ -222,7 +222,7 @@ code_less p x c i j none named here =
     filter_less (weight p) (λ d. comes p j.connector.name d.name.name) (λ d. comes p x d.name.name) p.connections at.0 c at.1
     (comes_not p at.0 i c j none at.1 here) (comes_same p (length p.connections) x c.name.name own) (λ k d there way. comes_from p x c i k j d named here there way)
 
--- the code of a connection is among that of what a JOIN to it comes to
+-- The code of a connection is part of the code that a JOIN to it goes on with.
 own_code : (p : PlainProcess) (x : List ℕ) (c : PlainConnection) → connection_named p x ≡ Some c → weight p c ≤ code_from p x
 own_code p x c named =
     let at = find_there (λ c. same_name x c.name.name) p.connections c named in

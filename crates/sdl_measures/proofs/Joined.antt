@@ -1,4 +1,4 @@
--- What connections count, whichever way JOINs are followed, and that what is measured in order is that.
+-- How far JOINs are followed doesn't change the counts of connections, and measuring in order returns these counts.
 use Rattle.std.proofs.Common.{◌≡◌, ℕ, zero, suc, ◌+◌, ◌-◌, ◌<◌, ◌≤◌, Bool, true, false, List, [], ◌∷◌, ◌++◌, length, get_or, refl, ap, sym, ◌∙◌, subst, arith, if◌then◌else◌, inl, inr, Option, Some, None}
 use Rattle.std.specs.Prelude.{slice_get, slice_set, Contains}
 use Rattle.std.specs.Option.{option_map_or}
@@ -26,12 +26,12 @@ use Rattle.sdl_sound.proofs.Numbered.{unnumbered}
 use Rattle.plain_laws.proofs.Places.{get_set_same, get_set_other}
 use Rattle.plain_laws.proofs.Pairwise.{zip_by, zip_at, zip_length}
 
--- ---- counts that are told alike
+-- ---- counts that are alike up to the greatest
 
 abbrev Alike : ℕ → ℕ → Type 0
 Alike a b = capped a ≡ capped b
 
--- two ways to tell what connections count, alike for these JOINs
+-- Two functions count the connections of these JOINs alike.
 abbrev pub AreAlike : List Join → (List ℕ → ℕ) → (List ℕ → ℕ) → Type 0
 AreAlike joins f g = (j : Join) → Contains joins j → capped (f j.connector.name) ≡ capped (g j.connector.name)
 
@@ -117,7 +117,7 @@ mutual
 abbrev pub Counted : Type 0
 Counted = List Variable → (List ℕ → ℕ) → Text → ℕ
 
--- what counts a text by what its JOINs count
+-- A count of a text that depends only on the counts of its JOINs.
 abbrev pub IsLocal : Counted → Type 0
 IsLocal count = (vs : List Variable) (f g : List ℕ → ℕ) (t : Text) → AreAlike (text_joins t) f g → capped (count vs f t) ≡ capped (count vs g t)
 
@@ -147,7 +147,7 @@ pub joined_some : (count : Counted) (p : PlainProcess) (a : ℕ) (x : List ℕ) 
     → joined_by count p (suc a) x ≡ count (variables_of p) (joined_by count p a) c.text
 joined_some count p a x c named = ap (λ o. option_map_or (λ (c : PlainConnection). count (variables_of p) (joined_by count p a) c.text) o 0) named
 
--- what is alike for the connections at places before the one with so many more JOINs
+-- The counts are alike for all connections before place k of the order, if more JOINs are followed than their place.
 abbrev AlikeBelow : Counted → PlainProcess → List ℕ → ℕ → Type 0
 AlikeBelow count p order k = (i n a b : ℕ) (x y : List ℕ) → i < k → slice_get order i ≡ Some n → number_of (connector_names p) x ≡ Some n
     → number_of (connector_names p) y ≡ Some n → i < a → i < b → capped (joined_by count p a x) ≡ capped (joined_by count p b y)
@@ -161,7 +161,7 @@ joins_alike count p order is k i n a b c j (Some m) below number less at there a
     let before = is.behind i n m c j at there (subst (λ (l : List Join). Contains l j) (joins_are c.text) among) number in
     below before.0 m a b j.connector.name j.connector.name (omega (arith, before.1, less)) before.2 number number (omega (arith, before.1, la)) (omega (arith, before.1, lb))
 
--- what a connection counts, once more JOINs are followed than its place in the order
+-- The count of a connection is settled once more JOINs are followed than its place in the order.
 joined_same : (count : Counted) (p : PlainProcess) (order : List ℕ) → IsLocal count → IsOrder p order → (k : ℕ) → AlikeBelow count p order k
 joined_same count p order local is zero i n a b x y less at nx ny la lb = absurd (omega (arith, less))
 joined_same count p order local is (suc k) i n zero b x y less at nx ny la lb = absurd (omega (arith, la))
@@ -178,11 +178,11 @@ joined_same count p order local is (suc k) i n (suc a) (suc b) x y less at nx ny
 
 -- ---- what is measured in order
 
--- the connections at the first places of the order are measured
+-- The connections at the first i places of the order are measured.
 abbrev pub MeasuredTo : PlainProcess → List ℕ → List Measure → ℕ → Type 0
 MeasuredTo p order ms i = (k n : ℕ) (c : PlainConnection) → k < i → slice_get order k ≡ Some n → slice_get p.connections n ≡ Some c → IsMeasureOf p c (measure_at ms n)
 
--- a field of what is known of a JOIN's connection
+-- A field of the measure of a JOIN's connection.
 named_none : (field : Measure → ℕ) (p : PlainProcess) (ms : List Measure) (x : List ℕ) → number_of (connector_names p) x ≡ None → field (measure_named p ms x) ≡ field no_measure
 named_none field p ms x none = ap (λ o. field (option_map_or (measure_at ms) o no_measure)) none
 
@@ -210,7 +210,7 @@ field_alike count field p order ms i n c j (Some m) local is distinct zero_is to
     ∙ joined_same count p order local is (suc before.0) before.0 m (length p.connections) (length p.connections - 1) d.connection.name.name j.connector.name (omega arith) before.2 own number
     (omega (arith, before.1, last)) (omega (arith, before.1, last))
 
--- what the connection at a place counts
+-- The count of the connection at a place of the order.
 counted_is : (count : Counted) (field : Measure → ℕ) (p : PlainProcess) (order : List ℕ) (ms : List Measure) (i n : ℕ) (c : PlainConnection)
     → IsLocal count → IsOrder p order → repeats [] (connector_names p) ≡ [] → field no_measure ≡ 0
     → ((n : ℕ) (d : PlainConnection) → IsMeasureOf p d (measure_at ms n) → field (measure_at ms n) ≡ capped (joined count p d.name.name))
@@ -244,7 +244,7 @@ measure_set_same ms n m within = ap (λ (o : Option Measure). option_map_or (λ 
 measure_set_other : (ms : List Measure) (n k : ℕ) (m : Measure) → (k ≡ n → ⊥) → measure_at (slice_set ms n m) k ≡ measure_at ms k
 measure_set_other ms n k m other = ap (λ (o : Option Measure). option_map_or (λ m. m) o no_measure) (get_set_other ms n k m other)
 
--- one more is measured
+-- One more connection is measured.
 pub measured_more : (p : PlainProcess) (order : List ℕ) (ms : List Measure) (i n : ℕ) (c : PlainConnection) (m : Measure) → IsOrder p order → repeats [] (connector_names p) ≡ []
     → slice_get order i ≡ Some n → slice_get p.connections n ≡ Some c → n < length ms → MeasuredTo p order ms i → IsMeasured p ms c.text 0 0 m
     → MeasuredTo p order (slice_set ms n m) (i + 1)
@@ -268,7 +268,7 @@ all_measured p order ms i is past long done = zip_by (IsMeasureOf p) p.connectio
     let m_is : measure_at ms n ≡ m = ap (λ (o : Option Measure). option_map_or (λ m. m) o no_measure) at in
     subst (λ (x : Measure). IsMeasureOf p c x) m_is told)
 
--- ---- what a transition counts
+-- ---- the counts of a transition
 
 joined_renamed : (count : Counted) (p : PlainProcess) (a : ℕ) (x y : List ℕ) → connection_named p x ≡ connection_named p y → joined_by count p a x ≡ joined_by count p a y
 joined_renamed count p zero x y e = refl

@@ -1,4 +1,4 @@
--- Counts of a text, one construct at a time, up to the greatest that is told.
+-- Counts of a text, one construct at a time, up to 4,294,967,295.
 use Rattle.std.proofs.Common.{◌≡◌, ℕ, zero, suc, ◌+◌, ◌<◌, ◌≤◌, max, Bool, true, false, not, ◌&&◌, ◌||◌, List, [], ◌∷◌, ◌++◌, length, take, drop, get_or, refl, ap, sym, ◌∙◌, arith, if◌then◌else◌}
 use Rattle.std.proofs.lemmas.List.{take_more}
 use Rattle.sdl_ast.specs.declared.tree.Range.{Range}
@@ -25,7 +25,7 @@ tests_more ranges i d b o within = ap (λ l. tests_budget l b o) (take_more rang
 
 -- ---- constructs
 
--- a DECISION: `choice` is 1 for a Boolean question, whose choice is an instruction of its own
+-- The counts of a DECISION. `choice` is 1 for a Boolean question, which needs an instruction to choose, else 0.
 pub decision_measured : (p : PlainProcess) (ms : List Measure) (at : ℕ) (q : Tree) (c : Choice) (t : Text) (k e : ℕ) (truth : Bool) (rest bodies : Measure) (cost deep choice : ℕ) (r : Measure)
     → truth ≡ is_truth (variables_of p) q → choice ≡ (if truth then 1 else 0)
     → cost ≡ capped (cost_of q) → deep ≡ capped (depth_of q)
@@ -110,7 +110,7 @@ answer_measured p ms at ranges body c k e false inside others jump tests r j t r
 
 -- ---- lists
 
--- one statement more, from the end on
+-- The list from one place earlier: the statement at that place, followed by the rest.
 drop_at : {A : Type 0} (xs : List A) (i : ℕ) (d : A) → i < length xs → drop i xs ≡ get_or xs i d ∷ drop (suc i) xs
 drop_at [] i d h = absurd (omega (arith, h))
 drop_at (x ∷ xs) zero d h = refl

@@ -1,4 +1,4 @@
--- What transitions pass, and the sizes of the connections to which one comes.
+-- The limits that transitions pass, and the sizes of the connections that they lead to.
 use Rattle.std.proofs.Common.{◌≡◌, ℕ, suc, ◌+◌, ◌<◌, Bool, true, false, ◌||◌, List, [], ◌∷◌, ◌++◌, length, take, map, get_or, refl, ap, sym, ◌∙◌, arith, if◌then◌else◌, inl, inr, Some, cond, true≢false}
 use Rattle.std.specs.Prelude.{slice_get, sum_by, filter, nat_lt}
 use Rattle.std.specs.List.{list_any}
@@ -54,7 +54,7 @@ marked_sum test weight (c ∷ cs) n ms h =
           omega (arith, left, right, rest)
     ]
 
--- the sizes of the connections to which a text comes
+-- The total size of the connections that a text leads to.
 pub marked_is : (p : PlainProcess) (t : Text) (marks : List Bool) (ms : List Measure) → AreMeasures p ms → marks ≡ map (λ c. reaches p t c.name.name) p.connections
     → capped (marked_size marks ms) ≡ capped (sum_by (λ c. size (variables_of p) c.text) (reached p t))
 marked_is p t marks ms are is =
@@ -62,7 +62,7 @@ marked_is p t marks ms are is =
     ∙ marked_sum (λ c. reaches p t c.name.name) (λ c. size (variables_of p) c.text) p.connections 0 ms
     (λ i c there. ap (λ k. (measure_at ms k).size) (omega arith) ∙ size_at p ms i c are there)
 
--- ---- one piece more
+-- ---- one more piece
 
 any_push : {A : Type 0} (test : A → Bool) (xs : List A) (x : A) (a b c : Bool) → a ≡ list_any test xs → b ≡ test x → c ≡ (a || b) → c ≡ list_any test (xs ++ x ∷ [])
 any_push test xs x a b c ha hb hc =
@@ -71,7 +71,7 @@ any_push test xs x a b c ha hb hc =
 any_both : {A : Type 0} (test : A → Bool) (xs ys : List A) (a b c : Bool) → a ≡ list_any test xs → b ≡ list_any test ys → c ≡ (a || b) → c ≡ list_any test (xs ++ ys)
 any_both test xs ys a b c ha hb hc = hc ∙ ap (λ y. y || b) ha ∙ ap (λ y. list_any test xs || y) hb ∙ sym (list_any-append test xs ys)
 
--- neither of two is too long where no one of them is
+-- If no piece of two groups is too long, none of the first group is, and none of the second.
 first_short : (a b c : Bool) → c ≡ (a || b) → c ≡ false → a ≡ false
 first_short true b c e short = absurd (true≢false (sym e ∙ short))
 first_short false b c e short = refl
@@ -87,7 +87,7 @@ passed_push p qs q a b c h k e = record {
   effects = λ short. any_push (is_busy p) qs q a.effects b.effects c.effects (h.effects (first_short a.size b.size c.size e.size short)) k.effects e.effects;
 }
 
--- where one is too long, more change nothing
+-- If a piece is too long, more pieces change nothing.
 pub passed_long : (p : PlainProcess) (qs rs : List Piece) (a : Passed) → a.size ≡ true → ArePassed p qs a → ArePassed p (qs ++ rs) a
 passed_long p qs rs a long h = record {
   size = any_both (is_long p) qs rs a.size (list_any (is_long p) rs) a.size h.size refl (long ∙ ap (λ y. y || list_any (is_long p) rs) (sym long));
@@ -115,7 +115,7 @@ over_by most b small = elim (cases_lt most b) [
   | inr less ↦ le-ltb most (capped b) (omega (arith, less)) ∙ sym (le-ltb most b less)
 ]
 
--- a count up to the greatest is beyond a limit where the count is
+-- A capped count is beyond a limit exactly if the count is.
 pub over : (most a b : ℕ) → most < 4294967295 → a ≡ capped b → nat_lt most a ≡ nat_lt most b
 over most a b small e = ap (nat_lt most) e ∙ over_by most b small
 

@@ -1,11 +1,11 @@
--- Depths of lists with one element more, and the first of two lists.
+-- Depths of lists with one more element.
 use Rattle.std.proofs.Common.{◌≡◌, ℕ, ◌+◌, ◌≤◌, Bool, true, false, List, [], ◌∷◌, ◌++◌, max, length, Option, None, Some, cond, find, arith}
 use Rattle.sdl_ast.specs.declared.expression.Identifier.{Identifier}
 use Rattle.sdl_ast.specs.Plain.{Tree, PlainAssignment, PlainSending}
 use Rattle.sdl_sound.specs.Longest.{depth_of, assignments_depth, parameters_depth, sendings_depth, place_depth, places_depth}
 use Rattle.plain_laws.proofs.Options.{none_some, some_none}
 
--- one parameter more waits for all before it
+-- One more parameter waits for all before it.
 pub parameters_depth-push : (n : ℕ) (xs : List Tree) (y : Tree)
     → parameters_depth n (xs ++ y ∷ []) ≡ max (parameters_depth n xs) ((n + length xs) + depth_of y)
 parameters_depth-push n [] y = omega arith

@@ -1,4 +1,4 @@
--- What is known of connections when something that joins them is counted.
+-- The measures of connections, as read when a text that joins them is counted.
 use Rattle.std.specs.Prelude.{◌≡◌, ℕ, ◌+◌, Bool, true, false, List, slice_get}
 use Rattle.std.specs.Option.{option_map_or}
 use Rattle.sdl_ast.specs.Plain.{Text, Choice, PlainProcess}
@@ -12,8 +12,8 @@ use Rattle.sdl_measures.specs.declared.measures.Measure.{Measure}
 abbrev pub no_measure : Measure
 no_measure = record { budget = 0; depth = 0; effects = 0; size = 0; goes_on = false }
 
--- that of the connection with a number, and that of the one with a name; nothing where there is
--- none
+-- The measure of the connection with this number, or with this name; `no_measure` if there is
+-- none.
 abbrev pub measure_at : List Measure → ℕ → Measure
 measure_at ms n = option_map_or (λ m. m) (slice_get ms n) no_measure
 
@@ -29,14 +29,14 @@ depth_named p ms x = (measure_named p ms x).depth
 abbrev pub effects_named : PlainProcess → List Measure → List ℕ → ℕ
 effects_named p ms x = (measure_named p ms x).effects
 
--- ---- what is counted of a text that something follows
+-- ---- the counts of a text that something follows
 
--- what follows costs k and has e effects
+-- What follows costs k instructions and has e effects.
 pub record IsBehind (k e : ℕ) (m : Measure) : Type 0 where
   pub budget : m.budget ≡ capped k
   pub effects : m.effects ≡ capped e
 
--- the counts of a text that it follows, where these are the measures of connections
+-- The counts of a text before it, where `ms` are the measures of the connections.
 pub record IsMeasured (p : PlainProcess) (ms : List Measure) (t : Text) (k e : ℕ) (m : Measure) :
     Type 0 where
   pub budget : m.budget ≡ capped (budget (variables_of p) (budget_named p ms) t k)
@@ -45,17 +45,17 @@ pub record IsMeasured (p : PlainProcess) (ms : List Measure) (t : Text) (k e : �
   pub size : m.size ≡ capped (size (variables_of p) t)
   pub goes_on : m.goes_on ≡ goes_on t
 
--- the budget of the answers to a question, a Boolean or an Integer one
+-- The budget of the answers to a Boolean or an Integer question.
 abbrev pub answers_budget : Bool → List Variable → (List ℕ → ℕ) → Choice → ℕ → ℕ
 answers_budget true vs join c k = pick_budget vs join c k
 answers_budget false vs join c k = case_budget vs join c k
 
--- the tests of the answers, with the drop before ELSE
+-- How many tests the answers have, with the drop before ELSE.
 abbrev pub answers_tests : Bool → Choice → ℕ
 answers_tests true c = 0
 answers_tests false c = tests_size c
 
--- the counts of the answers
+-- The counts of the answers.
 pub record AreMeasured (p : PlainProcess) (ms : List Measure) (truth : Bool) (c : Choice) (k e : ℕ)
     (m : Measure) : Type 0 where
   pub budget : m.budget ≡ capped (answers_budget truth (variables_of p) (budget_named p ms) c k)

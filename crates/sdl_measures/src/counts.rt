@@ -1,4 +1,4 @@
-//! What expressions and actions cost, how deep they are, and what effects they have, up to 4,294,967,295 each.
+//! How many instructions, operands and effects expressions and actions have, each up to 4,294,967,295.
 ghost use Rattle.std.specs.Prelude.{◌≡◌, ℕ, map, length, sum_by};
 ghost use Rattle.sdl_ast.specs.Views.{tree_of, assignment_of, sending_of, action_of};
 ghost use Rattle.sdl_sound.specs.Longest.{is_division, cost_of, depth_of, assignments_cost, assignments_depth, parameters_depth, sendings_cost, sendings_depth, action_cost, action_depth, action_effects, place_cost, place_depth, places_cost, places_depth};
@@ -32,7 +32,7 @@ pub(crate) fn cost(expression: &Expression) -> u32
     }
 }
 
-/// The most operands that an expression has at once: the left one waits for the right one, a divisor is none.
+/// The most operands that an expression needs at once. The left operand waits for the right one; a divisor counts 0.
 pub(crate) fn depth(expression: &Expression) -> u32
     ensures { result ≡ capped (depth_of (tree_of expression.now)) }
 {
@@ -57,7 +57,7 @@ pub(crate) fn depth(expression: &Expression) -> u32
     }
 }
 
-/// How many instructions assignments have: each its value's, and 1 that stores it.
+/// How many instructions assignments have: those of each value, and 1 to store it.
 fn assignments_cost(assignments: &[Assignment]) -> u32
     ensures { result ≡ capped (assignments_cost (map assignment_of assignments.now)) }
 {
@@ -90,7 +90,7 @@ fn parameters_cost(parameters: &[Expression]) -> u32
     total
 }
 
-/// Each parameter with those before it, which wait.
+/// The most operands that a list of parameters needs at once. While one is computed, those before it wait.
 fn parameters_depth(parameters: &[Expression]) -> u32
     ensures { result ≡ capped (parameters_depth 0 (map tree_of parameters.now)) }
 {
@@ -103,7 +103,7 @@ fn parameters_depth(parameters: &[Expression]) -> u32
     most
 }
 
-/// How many instructions sendings have: each its parameters', and 1 that sends.
+/// How many instructions sendings have: those of the parameters, and 1 to send each signal.
 fn sendings_cost(sendings: &[Sending]) -> u32
     ensures { result ≡ capped (sendings_cost (map sending_of sendings.now)) }
 {
@@ -125,7 +125,7 @@ fn sendings_depth(sendings: &[Sending]) -> u32
     most
 }
 
-/// How many instructions an action has: SET its delay's and 1, RESET 1.
+/// How many instructions an action has: for SET those of the delay and 1 more, for RESET 1.
 pub(crate) fn action_cost(action: &Action) -> u32
     ensures { result ≡ capped (action_cost (action_of action.now)) }
 {
@@ -172,7 +172,7 @@ pub(crate) fn action_effects(action: &Action) -> u32
     }
 }
 
-/// How many instructions a place of an INPUT has: 2 where it names a variable, which gets the parameter.
+/// How many instructions a place of an INPUT has: 2 if it names a variable to store the parameter in, else 0.
 fn place_cost(place: Option<Identifier>) -> u32
     ensures { result ≡ place_cost place }
 {
@@ -182,7 +182,7 @@ fn place_cost(place: Option<Identifier>) -> u32
     }
 }
 
-/// How many operands a place of an INPUT has at once: 1 where it names a variable.
+/// How many operands a place of an INPUT needs at once: 1 if it names a variable, else 0.
 fn place_depth(place: Option<Identifier>) -> u32
     ensures { result ≡ place_depth place }
 {
@@ -203,7 +203,7 @@ pub(crate) fn places_cost(places: &[Option<Identifier>]) -> u32
     total
 }
 
-/// The most operands that the places of an INPUT have at once: 1 where one names a variable.
+/// The most operands that the places of an INPUT need at once: 1 if one of them names a variable, else 0.
 pub(crate) fn places_depth(places: &[Option<Identifier>]) -> u32
     ensures { result ≡ capped (places_depth places.now) }
 {

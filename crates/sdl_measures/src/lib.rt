@@ -1,4 +1,4 @@
-//! What transitions cost: the longest path, the most operands at once, the most effects and the size of each; and the limits (S10).
+//! What transitions cost: the longest path, operands at once, effects and size; and the limits of a block (S10).
 #![tactic(auto)]
 
 mod counts;

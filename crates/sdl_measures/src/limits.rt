@@ -1,4 +1,4 @@
-//! The limits: how long and how deep transitions are, and how many of everything there are.
+//! The limits of a block: how long and how deep its transitions are, and how many things of each kind it has.
 ghost use Rattle.std.specs.Prelude.{◌≡◌, ◌++◌, ◌∷◌, [], ℕ, List, map, min, nat_lt, length, sum_by, find, IfOk};
 ghost use Rattle.std.specs.List.{flat_map, list_any};
 ghost use Rattle.plain_laws.specs.Limits.{MOST_PARAMETERS, MOST_STATES, MOST_TIMERS_EACH, MOST_VARIABLES};
@@ -25,7 +25,7 @@ use sdl_sound::{Limit, standing_inputs};
 use sdl_tables::{BlockTable, InputRow, ProcessTable};
 use std::alloc::{AllocError, Global};
 
-/// Whether a transition is too long or too deep, or has too many effects.
+/// Whether a transition passes the limit on its size, on its depth, or on its effects.
 #[derive(Clone, Copy, Debug)]
 struct Passed {
     size: bool,
@@ -39,7 +39,7 @@ const NONE_PASSED: Passed = Passed {
     effects: false,
 };
 
-/// What one transition passes, or another.
+/// The limits that at least one of two transitions passes.
 fn either(one: Passed, other: Passed) -> Passed
     ensures { IsEither one other result }
 {
@@ -50,7 +50,7 @@ fn either(one: Passed, other: Passed) -> Passed
     }
 }
 
-/// The sizes of the marked connections.
+/// The total size of the marked connections.
 fn marked_size(marks: &[bool], measures: &[Measure]) -> u32
     ensures { result ≡ capped (marked_size marks.now measures.now) }
 {
@@ -63,7 +63,7 @@ fn marked_size(marks: &[bool], measures: &[Measure]) -> u32
     total
 }
 
-/// The size of the connection with a number; 0 where nothing is measured of it.
+/// The size of the connection with this number, or 0 if it has no measure.
 fn size_at(measures: &[Measure], number: usize) -> u32
     ensures { result ≡ (measure_at measures.now number).size }
 {
@@ -73,8 +73,8 @@ fn size_at(measures: &[Measure], number: usize) -> u32
     }
 }
 
-/// How many instructions a transition has with its connections, how deep it is, and how many effects it has, up to 4,294,967,295
-/// each: the same for each signal that its INPUT names, and the places of a signal come before it.
+/// What a transition has with its connections, each up to 4,294,967,295: instructions, operands at once, effects.
+/// It leaves out the places of the signals of its INPUT, and so is the same for each of these signals.
 #[derive(Clone, Copy, Debug)]
 struct Extent {
     size: u32,
@@ -82,7 +82,7 @@ struct Extent {
     effects: u32,
 }
 
-/// The extent of a transition, where these are the links and the measures of the connections.
+/// The extent of a transition, given the links and the measures of the connections.
 fn measure_extent(
     alloc: Global,
     process: &ProcessTable,
@@ -105,7 +105,7 @@ fn measure_extent(
     })
 }
 
-/// A transition of this extent, with the places that come before it.
+/// The limits that a transition of this extent passes, together with the places that come before it.
 fn pass_places(extent: Extent, places: &[Option<Identifier>]) -> Passed
     ensures { (p : PlainProcess) (t : Text) → IsExtent p t extent → IsPassed p (record { places = places.now; text = t }) result }
 {
@@ -116,7 +116,7 @@ fn pass_places(extent: Extent, places: &[Option<Identifier>]) -> Passed
     }
 }
 
-/// A transition of this extent, with the places of each of these signals.
+/// The limits that a transition of this extent passes, together with the places of any of these signals.
 fn pass_stimuli(extent: Extent, stimuli: &[Stimulus]) -> Passed
     ensures { (p : PlainProcess) (t : Text) → IsExtent p t extent → ArePassed p (map (stimulus_piece t) (map stimulus_of stimuli.now)) result }
 {
@@ -127,7 +127,7 @@ fn pass_stimuli(extent: Extent, stimuli: &[Stimulus]) -> Passed
     passed
 }
 
-/// One INPUT more, unless a transition was too long: that is named first, whatever the others are.
+/// Adds the limits that one more INPUT passes, unless a transition is already too long: that limit comes first.
 fn pass_input(
     alloc: Global,
     process: &ProcessTable,
@@ -150,7 +150,7 @@ fn pass_input(
     Ok(either(passed, pass_stimuli(extent, &input.stimuli)))
 }
 
-/// The INPUTs of a state.
+/// The limits that the INPUTs of a state pass.
 fn pass_inputs(
     alloc: Global,
     process: &ProcessTable,
@@ -171,7 +171,7 @@ fn pass_inputs(
     Ok(passed)
 }
 
-/// The INPUTs of all states.
+/// The limits that the INPUTs of all states pass.
 fn pass_states(
     alloc: Global,
     process: &ProcessTable,
@@ -195,7 +195,7 @@ fn pass_states(
     Ok(passed)
 }
 
-/// START's transition.
+/// The limits that the transition of START passes.
 fn pass_start(
     alloc: Global,
     process: &ProcessTable,
@@ -213,7 +213,7 @@ fn pass_start(
     Ok(pass_places(extent, &[]))
 }
 
-/// The transitions of a process, where these are the measures of its connections.
+/// The limits that the transitions of a process pass, given the measures of its connections.
 fn pass_process(
     alloc: Global,
     process: &ProcessTable,
@@ -229,7 +229,7 @@ fn pass_process(
     Ok(either(first, others))
 }
 
-/// The transitions of all processes, where these are the measures of their connections.
+/// The limits that the transitions of all processes pass, given the measures of their connections.
 fn pass_processes(
     alloc: Global,
     processes: &[ProcessTable],
@@ -289,7 +289,7 @@ fn has_wrong_instances(tables: &[ProcessTable]) -> bool
     any
 }
 
-/// Whether a process can't have so many instances.
+/// Whether a process can't have this number of instances.
 fn is_wrong_count(instances: u32) -> bool
     ensures { result ≡ wrong_instances instances }
 {
@@ -307,7 +307,7 @@ fn has_many_parameters(rows: &[&SignalDeclaration]) -> bool
     any
 }
 
-/// How many inputs states have, one for each signal that an INPUT names: 2^64 - 1 at most are told.
+/// How many inputs states have, one for each signal that an INPUT names; the count stops at 2^64 - 1.
 fn count_inputs(states: &[Vec<InputRow>]) -> usize
     ensures { result ≡ min (length (flat_map (map input_piece) (map rows_inputs states.now))) 18446744073709551615 }
 {
@@ -318,7 +318,7 @@ fn count_inputs(states: &[Vec<InputRow>]) -> usize
     count
 }
 
-/// How many pieces processes have, one for START and for each input: 2^64 - 1 at most are told.
+/// How many pieces processes have, one for START and one for each input; the count stops at 2^64 - 1.
 fn count_pieces(alloc: Global, tables: &[ProcessTable]) -> Result<usize, AllocError>
     ensures { IfOk result (λ n. n ≡ min (sum_by (λ p. length (pieces_of p)) (map process_of tables.now)) 18446744073709551615) }
 {
@@ -330,7 +330,7 @@ fn count_pieces(alloc: Global, tables: &[ProcessTable]) -> Result<usize, AllocEr
     Ok(count)
 }
 
-/// The first limit on how many there are. The pieces come last: a state then takes few signals, and there are few states.
+/// The first limit on a number of things. Pieces come last, when states and signals are known to be few.
 fn first_count(alloc: Global, block: &BlockTable) -> Result<Option<Limit>, AllocError>
     ensures { IfOk result (λ o. o ≡ find (exceeds (block_of block.now)) number_limits) }
 {
@@ -359,7 +359,7 @@ fn first_count(alloc: Global, block: &BlockTable) -> Result<Option<Limit>, Alloc
     Ok(None)
 }
 
-/// The first limit on a transition, or last that on instances, where it is passed.
+/// The first limit that a transition passes, in the order size, depth, effects; after these the limit on instances.
 fn first_passed(passed: Passed, instances: bool) -> Option<Limit>
     ensures { (b : PlainBlock) → AllPassed (processes_of b) passed → instances ≡ exceeds b Instances → result ≡ find (exceeds b) later_limits }
 {
@@ -378,7 +378,7 @@ fn first_passed(passed: Passed, instances: bool) -> Option<Limit>
     None
 }
 
-/// The first limit that a block passes, where these are the measures of its connections. (S10, of this profile.)
+/// The first limit that a block passes, or `None`, given the measures of its connections. (S10, of this profile.)
 pub fn first_limit(
     alloc: Global,
     block: &BlockTable,

@@ -1,4 +1,4 @@
-//! What is measured of connections, and of transitions: how many instructions, operands and effects there are on a walk, and in all.
+//! The measures of connections and transitions: operands at once, instructions and effects on a walk, and the size.
 ghost use Rattle.std.specs.Prelude.{◌≡◌, ◌+◌, ◌&&◌, ◌||◌, ℕ, max, if◌then◌else◌, length, IfOk};
 ghost use Rattle.sdl_ast.specs.Plain.{Text, Choice, does, otherwise};
 ghost use Rattle.sdl_ast.specs.Views.{action_of, end_text, text_of, statement_of, decision_of, choice_of, answer_of, process_of, block_of};
@@ -15,8 +15,8 @@ use sdl_sound::{both, one_of};
 use sdl_tables::{BlockTable, ProcessTable};
 use std::alloc::{AllocError, Global};
 
-/// What is measured of a connection, up to 4,294,967,295 each. What a JOIN to it goes on with counts what the
-/// connections count that it joins; the size is that of its own text alone.
+/// The measures of a connection, each up to 4,294,967,295. `budget`, `depth` and `effects` also count the
+/// connections that its JOINs lead to; `size` counts only the connection's own text.
 #[derive(Clone, Copy, Debug)]
 pub struct Measure {
     /// The greatest cost of a walk.
@@ -27,11 +27,11 @@ pub struct Measure {
     pub effects: u32,
     /// How many instructions the text has.
     pub size: u32,
-    /// Whether the text may run off its end. No connection's does where the rules hold.
+    /// Whether the text may run off its end. No connection's text does if the rules hold.
     pub goes_on: bool,
 }
 
-/// Where nothing is.
+/// The measure of nothing.
 pub(crate) const NOTHING: Measure = Measure {
     budget: 0,
     depth: 0,
@@ -40,7 +40,7 @@ pub(crate) const NOTHING: Measure = Measure {
     goes_on: false,
 };
 
-/// What ends a transition, but for a JOIN.
+/// The measure of an end of a transition other than a JOIN.
 const LAST: Measure = Measure {
     budget: 1,
     depth: 0,
@@ -49,7 +49,7 @@ const LAST: Measure = Measure {
     goes_on: false,
 };
 
-/// That of the connection with a name.
+/// The measure of the connection with this name.
 fn measure_named(process: &ProcessTable, measures: &[Measure], connector: Identifier) -> Measure
     ensures { result ≡ measure_named (process_of process.now) measures.now connector.name }
 {
@@ -62,7 +62,7 @@ fn measure_named(process: &ProcessTable, measures: &[Measure], connector: Identi
     }
 }
 
-/// An end, with what is behind the transition.
+/// The measure of an end of a transition, if `behind` follows a transition without an end.
 fn measure_end(
     process: &ProcessTable,
     measures: &[Measure],
@@ -94,7 +94,7 @@ fn measure_end(
     }
 }
 
-/// An action in front of the rest.
+/// The measure of an action and of the rest that follows it.
 fn measure_action(
     process: &ProcessTable,
     measures: &[Measure],
@@ -114,21 +114,21 @@ fn measure_action(
     }
 }
 
-/// 1 where the test holds, else 0.
+/// 1 if the test holds, else 0.
 fn one_if(test: bool) -> u32
     ensures { result ≡ (if test then 1 else 0) }
 {
     if test { 1 } else { 0 }
 }
 
-/// The jump at the end of a body, if it goes on.
+/// The size of the jump at the end of a body: 1 if the body goes on, else 0.
 fn jump_size(goes_on: bool) -> u32
     ensures { result ≡ (if goes_on then 1 else 0) }
 {
     one_if(goes_on)
 }
 
-/// Each range is tested in turn; where it holds, the body is next.
+/// The cost of the tests of an answer. The ranges are tested in turn; when one holds, the body is next.
 fn tests_budget(ranges: &[Range], body: u32, others: u32) -> u32
     ensures { (b o : ℕ) → body ≡ capped b → others ≡ capped o → result ≡ capped (tests_budget ranges.now b o) }
 {
@@ -150,7 +150,7 @@ fn count_ranges(ranges: &[Range]) -> u32
     count
 }
 
-/// What an answer costs beside the others: of a Boolean question nothing but its body.
+/// What an answer and the others cost together. An answer to a Boolean question costs only its body.
 fn answer_budget(truth: bool, ranges: &[Range], body: u32, others: u32) -> u32
     ensures { (b o : ℕ) → body ≡ capped b → others ≡ capped o → result ≡ capped (if truth then max b o else tests_budget ranges.now b o) }
 {
@@ -161,15 +161,15 @@ fn answer_budget(truth: bool, ranges: &[Range], body: u32, others: u32) -> u32
     }
 }
 
-/// How many tests an answer has: one for each range, none where the question is a Boolean one.
+/// How many tests an answer has: one for each range, or none if the question is a Boolean one.
 fn answer_tests(truth: bool, ranges: &[Range]) -> u32
     ensures { result ≡ capped (if truth then 0 else length ranges.now) }
 {
     if truth { 0 } else { count_ranges(ranges) }
 }
 
-/// A transition that something follows where it runs off its end: of that, the budget and the effects count. A JOIN
-/// counts what is known of its connection.
+/// The measure of a transition. If it runs off its end, it goes on with the budget and the effects of `behind`.
+/// A JOIN counts the measure of its connection.
 #[cycle(measuring)]
 pub(crate) fn measure_transition(
     process: &ProcessTable,
@@ -188,7 +188,7 @@ pub(crate) fn measure_transition(
     total
 }
 
-/// A statement in front of the rest.
+/// The measure of a statement and of the rest that follows it.
 #[cycle(measuring)]
 fn measure_statement(
     process: &ProcessTable,
@@ -205,7 +205,7 @@ fn measure_statement(
     }
 }
 
-/// A DECISION in front of the rest, which follows each body that goes on, behind its jump.
+/// The measure of a DECISION and of the rest, which follows the jump of each body that goes on.
 #[cycle(measuring)]
 fn measure_decision(
     process: &ProcessTable,
@@ -237,7 +237,7 @@ fn measure_decision(
     }
 }
 
-/// The answers to a question, a Boolean or an Integer one.
+/// The measure of the answers to a Boolean or an Integer question.
 #[cycle(measuring)]
 fn measure_answers(
     process: &ProcessTable,
@@ -267,7 +267,7 @@ fn measure_answers(
     total
 }
 
-/// The body of ELSE, behind the drop where the question is an Integer one.
+/// The measure of the body of ELSE. An Integer question is dropped before it.
 #[cycle(measuring)]
 fn measure_else(
     process: &ProcessTable,
@@ -292,7 +292,7 @@ fn measure_else(
     }
 }
 
-/// An answer beside the others.
+/// The measure of an answer and of the answers that follow it.
 #[cycle(measuring)]
 fn measure_answer(
     process: &ProcessTable,
@@ -317,14 +317,14 @@ fn measure_answer(
     }
 }
 
-/// How many instructions a transition has, without those of connections, up to 4,294,967,295.
+/// Returns how many instructions a transition has without those of its connections, up to 4,294,967,295.
 pub fn code_size(process: &ProcessTable, transition: &Transition) -> u32
     ensures { result ≡ capped (size (variables_of (process_of process.now)) (text_of transition.now)) }
 {
     measure_transition(process, &[], transition, NOTHING).size
 }
 
-/// What is measured of the connections of a process, which are measured in this order.
+/// The measures of the connections of a process, which are measured in this order.
 fn measure_process(
     alloc: Global,
     process: &ProcessTable,
@@ -342,7 +342,7 @@ fn measure_process(
     Ok(measures)
 }
 
-/// What is measured of the connections of each process, which are measured in this order.
+/// Returns the measures of the connections of each process, measured in these orders. Fails only if memory runs out.
 pub fn measure_all(
     alloc: Global,
     block: &BlockTable,
