@@ -1,4 +1,4 @@
--- The numbers of names.
+-- The numbers of names that a look-up finds.
 use Rattle.std.proofs.Common.{◌≡◌, ℕ, zero, suc, true, false, List, [], ◌∷◌, map, Option, None, Some, refl, sym, arith}
 use Rattle.std.specs.Prelude.{option_map, IfSome, IfNone}
 use Rattle.std.specs.Char.{to_ascii_lowercase}
@@ -26,7 +26,7 @@ unfolding number_of
 nowhere [] name h = refl
 nowhere (x ∷ xs) name h = rw (other x name (h 0), nowhere xs name (λ k is. h (suc k) is)) refl
 
--- what a look-up finds
+-- The result of a look-up is that of `number_of`.
 pub looked : {A : Type 0} (number : A → ℕ) (o : Option A) (names : List (List ℕ)) (name : List ℕ) → IfSome o (λ x. IsFirst names (number x) name) → IfNone o (IsNowhere names name)
     → option_map number o ≡ number_of names name
 looked number None names name some none = sym (nowhere names name none)

@@ -1,4 +1,4 @@
--- What a loop over words or lines has read, and what it has still to read.
+-- What a loop over words or lines has read, and what it has yet to read.
 use Rattle.std.proofs.Common.{◌≡◌, ℕ, ◌+◌, List, ◌∷◌, map, Option, None, Some, option_map, refl, sym, ap, ◌∙◌, ◌<◌, ◌≤◌, length, drop, get_or, Ok, Err}
 use Rattle.std.specs.Prelude.{find}
 use Rattle.std.specs.List.{filter_map}

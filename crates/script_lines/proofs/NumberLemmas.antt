@@ -27,11 +27,11 @@ all_same : (ds : List ℕ) → all_ascii_digits ds ≡ list_all is_ascii_digit d
 all_same [] = refl
 all_same (d ∷ ds) = ap (λ b. is_ascii_digit d && b) (all_same ds)
 
--- the test, taken apart
+-- The two parts of the test.
 digits_parts : (word : List ℕ) → is_digits word ≡ true → (0 < length word) × (all_ascii_digits word ≡ true)
 digits_parts word h = let parts = and_parts _ _ h in (ltb-true _ _ parts.0, all_same word ∙ parts.1)
 
--- digits that are read, digits that stand for too much, and digits that aren't read
+-- Digits that fit, digits whose number is too large, and digits that don't parse.
 pub fits : (most : ℕ) (word : List ℕ) (n : ℕ) → is_digits word ≡ true → ParsesUnsigned {E = ℕ} 32 10 word (Ok n) → n ≤ most
     → Some n ≡ number_up_to most word
 unfolding number_up_to

@@ -1,4 +1,4 @@
--- A word's parts round its first dot, and the actors that they name.
+-- The parts of a word before and after its first dot, and the actors that they name.
 use Rattle.std.proofs.Common.{◌≡◌, ℕ, ◌<◌, Bool, true, false, if◌then◌else◌, List, length, Option, None, Some, sym, ap, ◌∙◌, subst, arith}
 use Rattle.std.specs.Prelude.{option_map}
 use Rattle.std.specs.Borrow.{Bor}

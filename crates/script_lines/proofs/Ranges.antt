@@ -1,4 +1,4 @@
--- The numbers that first lines set are in their ranges.
+-- The numbers that the first lines set are in their ranges.
 use Rattle.std.proofs.Common.{◌≡◌, ℕ, ◌≤◌, Bool, true, false, nat_lt, length, List, [], ◌∷◌, Option, None, Some, Result, Ok, Err, refl, ap, subst, arith}
 use Rattle.std.specs.Prelude.{if◌then◌else◌, ◌&&◌, codes, find}
 use Rattle.std.specs.Int.{is_in_range}
@@ -19,7 +19,7 @@ in_range b lo hi n is =
     let parts = and_parts _ _ both in
     (leb-true lo n parts.0, leb-true n hi parts.1)
 
--- one number set
+-- Setting one number keeps the ranges.
 with_one : (p e j : Bool) (n : ℕ) (s : Settings) (x : Setting) → AreInRange s
     → (p ≡ true → (1 ≤ n) × (n ≤ 64)) → (e ≡ true → (1 ≤ n) × (n ≤ 1024)) → (j ≡ true → (16 ≤ n) × (n ≤ 65536))
     → (if p then Some (Ports n) else (if e then Some (Env n) else (if j then Some (Journal n) else None))) ≡ Some x → AreInRange (set x s)
@@ -63,7 +63,7 @@ by_word word n s x fits is =
     with_one _ _ _ n s x fits (in_range (bytes_eq word (codes "ports")) 1 64 n) (in_range (bytes_eq word (codes "env")) 1 1024 n)
     (in_range (bytes_eq word (codes "journal")) 16 65536 n) is
 
--- a line that sets a number
+-- A line that sets a number keeps the ranges.
 by_line : (words : List (List ℕ)) (s : Settings) (x : Setting) → AreInRange s → setting_of words ≡ Some x → AreInRange (set x s)
 by_line [] s x fits is = absurd (cc)
 by_line (word ∷ []) s x fits is = absurd (cc)
@@ -102,7 +102,7 @@ by_length : (long : Bool) (line : ℕ) (r : Result PlainScript ℕ) (p : PlainSc
 by_length true line r p is = absurd (cc)
 by_length false line r p is = is
 
--- those of a script
+-- The settings of a script are in their ranges.
 pub script_fits : (text : List ℕ) (p : PlainScript) → script_of text ≡ Ok p → AreInRange p.settings
 unfolding script_of
 script_fits text p is =

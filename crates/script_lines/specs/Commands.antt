@@ -1,4 +1,4 @@
--- What a line of a book script reads as.
+-- The command that a line of a book script means.
 use Rattle.std.specs.Prelude.{ℕ, if◌then◌else◌, List, [], ◌∷◌, ◌++◌, Option, None, Some, option_map}
 use Rattle.std.specs.Prelude.{option_and_then, is_some, codes}
 use Rattle.std.specs.List.{list_all, filter_map, flat_map}
@@ -43,7 +43,7 @@ plain_command code.Rest = rest
 plain_command (code.Value process variable) = value process.now variable.now
 plain_command (code.Expect text) = expect text.items
 
--- ---- the word that a command begins with, in this case alone
+-- ---- the word that begins a command; the case of letters matters
 
 abbrev pub verb_text : Verb → List ℕ
 verb_text verbs.Offer = codes "offer"
@@ -69,27 +69,27 @@ verb_of word = verb_among word
     (verbs.Offer ∷ verbs.Call Begin ∷ verbs.Call Finish ∷ verbs.Call Skip ∷ verbs.Call State
     ∷ verbs.Tick ∷ verbs.Env ∷ verbs.Rest ∷ verbs.Flood ∷ verbs.Value ∷ verbs.Expect ∷ [])
 
--- ---- what follows it
+-- ---- the words after it
 
--- one word
+-- The word, if it is the only one.
 abbrev pub only_of : List (List ℕ) → Option (List ℕ)
 only_of (word ∷ []) = Some word
 only_of _ = None
 
--- words that all are values
+-- The values that the words spell, if each spells one.
 abbrev pub values_of : List (List ℕ) → Option (List Value)
 values_of words =
     if list_all (λ word. is_some (value_of word)) words then Some (filter_map value_of words)
     else None
 
--- a process, a signal, and values
+-- An offer: a process, a signal, and values.
 abbrev pub offer_of : List (List ℕ) → Option PlainOffer
 offer_of (process ∷ signal ∷ words) =
     option_map (λ values. record { process = process; signal = signal; values = values })
     (values_of words)
 offer_of _ = None
 
--- a count before that
+-- A flood: a count, then an offer.
 abbrev pub flood_by : Option ℕ → Option PlainOffer → Option PlainCommand
 flood_by (Some n) (Some o) = Some (flood n o)
 flood_by _ _ = None
@@ -103,12 +103,12 @@ abbrev pub value_command_of : List (List ℕ) → Option PlainCommand
 value_command_of (process ∷ variable ∷ []) = Some (value process variable)
 value_command_of _ = None
 
--- words, one at least, joined by one space
+-- At least one word; the text joins the words by single spaces.
 abbrev pub expect_of : List (List ℕ) → Option PlainCommand
 expect_of (word ∷ words) = Some (expect (word ++ flat_map (λ w. 32 ∷ w) words))
 expect_of [] = None
 
--- nothing
+-- A command without further words.
 abbrev pub alone : PlainCommand → List (List ℕ) → Option PlainCommand
 alone command [] = Some command
 alone command (word ∷ words) = None
@@ -123,7 +123,7 @@ by_verb verbs.Rest words = alone rest words
 by_verb verbs.Value words = value_command_of words
 by_verb verbs.Expect words = expect_of words
 
--- what the words of a line read as
+-- The command that the words of a line mean, if they mean one.
 abbrev pub command_of : List (List ℕ) → Option PlainCommand
 command_of [] = None
 command_of (word ∷ words) = option_and_then (λ verb. by_verb verb words) (verb_of word)

@@ -1,4 +1,4 @@
--- What is told of a line that is none of a script.
+-- What a fault states about a line that doesn't belong to a script.
 use Rattle.std.specs.Prelude.{
   ◌≡◌,
   ◌⊎◌,
@@ -20,17 +20,17 @@ use Rattle.script_lines.specs.declared.line_faults.LineFault.{LineFault}
 use Rattle.script_lines.specs.declared.line_faults.LineFault.TheVariants.{NoCommand, Late, Words}
 use Rattle.script_lines.specs.declared.line_faults.LineFault.TheVariants.{NoNumber, NoValue}
 
--- a word that begins no command of a book script
+-- A word that begins no command of a book script.
 abbrev pub is_no_verb : List ℕ → Bool
 is_no_verb word = is_none (verb_of word)
 
--- a number of a word that isn't there, or isn't between two others
+-- A word isn't a number (`None`), or its number lies outside `least` to `most`.
 abbrev pub IsOutside : ℕ → ℕ → Option ℕ → Type 0
 IsOutside least most None = Unit {0}
 IsOutside least most (Some n) = (n < least) ⊎ (most < n)
 
--- Such a fault of the words of a line is so; p is what it is to begin no command. Of `Late` nothing
--- is said.
+-- The fault is true of the words of the line; `p` tells whether a word begins no command. `Late`
+-- states nothing.
 abbrev pub IsSo : (List ℕ → Bool) → List (List ℕ) → LineFault → Type 0
 IsSo p words (NoCommand word script) = IsTrue (p word.now)
 IsSo p words (Late word) = Unit {0}

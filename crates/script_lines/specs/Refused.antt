@@ -1,4 +1,4 @@
--- The lines of a link's refusals.
+-- The lines for a link's refusals.
 use Rattle.std.specs.Prelude.{ℕ, List, ◌++◌, codes}
 use Rattle.actor_machine.specs.declared.reply.Refusal.{Refusal}
 use Rattle.actor_machine.specs.Printed.{refusal_text}

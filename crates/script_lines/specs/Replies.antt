@@ -1,5 +1,5 @@
--- The lines that are printed for what a link answers, as bytes without their ends: names as they
--- are declared, numbers in decimal.
+-- The lines printed for the answers of a link, as bytes without line ends: names as they are
+-- declared, numbers in decimal.
 use Rattle.std.specs.Prelude.{ℕ, List, [], ◌∷◌, ◌++◌, ◌==◌, nat_lt, if◌then◌else◌, Option, None}
 use Rattle.std.specs.Prelude.{Some, codes, slice_get, unwrap_or, length}
 use Rattle.std.specs.List.{flat_map}
@@ -21,7 +21,7 @@ use Rattle.actor_machine.specs.declared.actor.Standing.TheVariants.{At, Stopped}
 use Rattle.actor_machine.specs.declared.reply.Report.{Report}
 use Rattle.actor_machine.specs.declared.reply.Emitted.{Emitted}
 
--- ---- names by number; nothing where there is none
+-- ---- names by number; empty if there is none
 
 abbrev pub process_text : Draft → ℕ → List ℕ
 process_text d p = unwrap_or (slice_get (process_names d) p) []
@@ -73,9 +73,9 @@ finished_text d p r = codes "ok " ++ end_text d p r.end ++ counts_text r.count (
 abbrev pub skipped_text : Draft → ℕ → Trigger → List ℕ
 skipped_text d p x = codes "ok " ++ trigger_text d p x
 
--- ---- what waited for the environment
+-- ---- signals for the environment
 
--- `P`, or `P.k` where process P has more than one instance
+-- `.k` after the process if it has more than one instance, else nothing.
 abbrev pub instance_text : ℕ → ℕ → List ℕ
 instance_text n k = if nat_lt 1 n then codes "." ++ decimal k else []
 

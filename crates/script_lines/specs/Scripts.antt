@@ -1,4 +1,4 @@
--- What a book script reads as: its first lines set numbers, the others are commands.
+-- The script that a text means: its first lines set numbers, the others are commands.
 use Rattle.std.specs.Prelude.{ℕ, ◌≡◌, ◌≤◌, Bool, nat_lt, ◌&&◌, if◌then◌else◌, List, [], ◌∷◌, length}
 use Rattle.std.specs.Prelude.{map, Option, None, Some, option_map, option_and_then, is_none, find}
 use Rattle.std.specs.Prelude.{Result, Ok, Err, codes}
@@ -30,7 +30,7 @@ setting_at word n =
     else (if bytes_eq word (codes "journal") && is_in_range LEAST_JOURNAL MOST_JOURNAL n
     then Some (Journal n) else None))
 
--- a line that sets a number
+-- The setting of a line that sets a number.
 abbrev pub setting_of : List (List ℕ) → Option Setting
 setting_of (word ∷ number ∷ []) = option_and_then (setting_at word) (count_of number)
 setting_of _ = None
@@ -40,11 +40,11 @@ set (Ports n) s = record s { ports = n }
 set (Env n) s = record s { env = n }
 set (Journal n) s = record s { journal = n }
 
--- where no line sets them
+-- The settings if no line sets them.
 abbrev pub defaults : Settings
 defaults = record { ports = USUAL_PORT; env = USUAL_ENVIRONMENT; journal = USUAL_JOURNAL }
 
--- each number is in its range
+-- Each number is in its range.
 pub record AreInRange (s : Settings) : Type 0 where
   pub least_ports : LEAST_PORT ≤ s.ports
   pub most_ports : s.ports ≤ MOST_PORT
@@ -53,16 +53,16 @@ pub record AreInRange (s : Settings) : Type 0 where
   pub least_journal : LEAST_JOURNAL ≤ s.journal
   pub most_journal : s.journal ≤ MOST_JOURNAL
 
--- what is left of the lines from one on: where it sets a number the head goes on behind it, and
--- else the head is over and the line stays
+-- The head from one line on: if the line sets a number the head goes on after it, else the head
+-- ends before it.
 abbrev pub head_by :
     Settings → List PlainLine → (Settings → Settings × List PlainLine) → Option Setting
     → Settings × List PlainLine
 head_by s lines go None = (s, lines)
 head_by s lines go (Some setting) = go (set setting s)
 
--- what the first lines set, the last one of a kind for good, and the lines from the first on that
--- sets nothing
+-- The settings of the first lines, of each kind the last one, and the lines from the first one that
+-- sets nothing.
 abbrev pub after_head : Settings → List PlainLine → Settings × List PlainLine
 after_head s [] = (s, [])
 after_head s (line ∷ more) =
@@ -70,7 +70,7 @@ after_head s (line ∷ more) =
 
 -- ---- commands
 
--- a command and the number of its line
+-- A command and the number of its line.
 pub record PlainSaid : Type 0 where
   pub line : ℕ
   pub command : PlainCommand
@@ -94,7 +94,7 @@ pub record PlainScript : Type 0 where
 abbrev pub plain_script : Script → PlainScript
 plain_script s = record { settings = s.settings; commands = map plain_said s.commands.items }
 
--- commands, or the number of the first line that is none
+-- The commands, or the number of the first line that isn't one.
 abbrev pub commands_by : Settings → List PlainLine → Option PlainLine → Result PlainScript ℕ
 commands_by s lines None = Ok (record { settings = s; commands = filter_map said_of lines })
 commands_by s lines (Some line) = Err line.number
@@ -102,19 +102,19 @@ commands_by s lines (Some line) = Err line.number
 abbrev pub script_by : Settings × List PlainLine → Result PlainScript ℕ
 script_by head = commands_by head.0 head.1 (find is_bad head.1)
 
--- what a text reads as, or the number of its first bad line; of a text that is too long that of the
--- first byte too many
+-- The script that a text means, or the number of its first bad line; for a text that is too long
+-- the line of the first byte beyond the limit.
 unfoldable pub script_of : List ℕ → Result PlainScript ℕ
 script_of text =
     if nat_lt LONGEST (length text) then Err (line_at text LONGEST)
     else script_by (after_head defaults (lines_of text))
 
--- what a refusal says of a text; want of memory says nothing
+-- What a refusal states about a text; `NoMemory` states nothing.
 abbrev pub IsFaultOf : List ℕ → ScriptFault → Type 0
 IsFaultOf text (BadLine line) = script_of text ≡ Err line
 IsFaultOf text NoMemory = Unit {0}
 
--- the first line that is no command has this number
+-- The first line that isn't a command has this number.
 abbrev pub IsBadLine : List PlainLine → ScriptFault → Type 0
 IsBadLine lines (BadLine number) =
     option_map (λ (line : PlainLine). line.number) (find is_bad lines) ≡ Some number

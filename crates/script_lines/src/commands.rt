@@ -10,39 +10,39 @@ use crate::verbs::{Call, Verb, verb_in};
 use std::alloc::{AllocError, Global};
 use turn_code::Value;
 
-/// A signal for a process, by their names.
+/// An offer of a signal to a process, both by name.
 #[derive(Drop)]
 pub struct Offer<'a> {
-    /// The word for the process.
+    /// The word that names the process.
     pub process: &'a str,
-    /// The word for the signal.
+    /// The word that names the signal.
     pub signal: &'a str,
     /// The parameters.
     pub values: Vec<Value>,
 }
 
-/// A command. Processes, signals and variables are words: what they name is for the run to say.
+/// A command. Processes, signals and variables are words, which the player of the script looks up.
 #[derive(Drop)]
 pub enum Command<'a> {
     /// `offer P SIG v..`: the environment offers P a signal.
     Offer(Offer<'a>),
-    /// `flood N P SIG v..`: N offers, and a rest after each.
+    /// `flood N P SIG v..`: N offers, with a rest after each.
     Flood(u32, Offer<'a>),
-    /// `begin P`, `finish P`, `skip P`, `state P`.
+    /// `begin P`, `finish P`, `skip P` or `state P`.
     Call(Call, &'a str),
-    /// `tick N`: the clock goes on by N.
+    /// `tick N`: the clock advances by N.
     Tick(u32),
-    /// `env`: the next signal for the environment is taken.
+    /// `env`: takes the next signal for the environment.
     Env,
-    /// `rest`: turns and skips, as long as there are any.
+    /// `rest`: turns and skips, as long as any are possible.
     Rest,
-    /// `value P x`: the value of variable x of P is printed.
+    /// `value P x`: prints the value of variable x of P.
     Value(&'a str, &'a str),
-    /// `expect TEXT`: the line printed last is this one.
+    /// `expect TEXT`: the line printed last is TEXT.
     Expect(Vec<u8>),
 }
 
-/// The word, where it is the only one.
+/// The word, if it is the only one.
 fn only<'a>(words: &[&'a str]) -> Option<&'a str>
     ensures { option_map (λ w. w.now) result ≡ only_of (texts words.now) }
 {
@@ -52,7 +52,7 @@ fn only<'a>(words: &[&'a str]) -> Option<&'a str>
     }
 }
 
-/// The values that the words say, where each says one.
+/// The values that the words spell, if each spells one.
 fn values_in(alloc: Global, words: &[&str]) -> Result<Option<Vec<Value>>, AllocError>
     ensures { IfOk result (λ r. option_map (λ v. v.items) r ≡ values_of (texts words.now)) }
 {
@@ -66,7 +66,7 @@ fn values_in(alloc: Global, words: &[&str]) -> Result<Option<Vec<Value>>, AllocE
     Ok(Some(values))
 }
 
-/// A process, a signal, and values.
+/// An offer read from a process, a signal and values.
 fn offer_in<'a>(alloc: Global, words: &[&'a str]) -> Result<Option<Offer<'a>>, AllocError>
     ensures { IfOk result (λ r. option_map plain_offer r ≡ offer_of (texts words.now)) }
 {
@@ -83,7 +83,7 @@ fn offer_in<'a>(alloc: Global, words: &[&'a str]) -> Result<Option<Offer<'a>>, A
     }
 }
 
-/// A count, and then a process, a signal, and values.
+/// A flood read from a count, a process, a signal and values.
 fn flood_in<'a>(alloc: Global, words: &[&'a str]) -> Result<Option<Command<'a>>, AllocError>
     ensures { IfOk result (λ r. option_map plain_command r ≡ flood_of (texts words.now)) }
 {
@@ -99,7 +99,7 @@ fn flood_in<'a>(alloc: Global, words: &[&'a str]) -> Result<Option<Command<'a>>,
     }
 }
 
-/// A count alone.
+/// A tick read from a count and nothing else.
 fn tick_in<'a>(words: &[&str]) -> Option<Command<'a>>
     ensures { option_map plain_command result ≡ by_verb Verb.Tick (texts words.now) }
 {
@@ -109,7 +109,7 @@ fn tick_in<'a>(words: &[&str]) -> Option<Command<'a>>
     }
 }
 
-/// A process and a variable.
+/// A `value` command read from a process and a variable.
 fn value_command_in<'a>(words: &[&'a str]) -> Option<Command<'a>>
     ensures { option_map plain_command result ≡ value_command_of (texts words.now) }
 {
@@ -119,7 +119,7 @@ fn value_command_in<'a>(words: &[&'a str]) -> Option<Command<'a>>
     }
 }
 
-/// The words joined by one space.
+/// The words joined by single spaces.
 fn joined(alloc: Global, first: &str, words: &[&str]) -> Result<Vec<u8>, AllocError>
     ensures { IfOk result (λ v. v.items ≡ first.now ++ flat_map (λ w. 32 ∷ w) (texts words.now)) }
 {
@@ -132,7 +132,7 @@ fn joined(alloc: Global, first: &str, words: &[&str]) -> Result<Vec<u8>, AllocEr
     Ok(text)
 }
 
-/// Words, one at least, joined by one space.
+/// An expectation read from at least one word; its text is the words joined by single spaces.
 fn expect_in<'a>(alloc: Global, words: &[&'a str]) -> Result<Option<Command<'a>>, AllocError>
     ensures { IfOk result (λ r. option_map plain_command r ≡ expect_of (texts words.now)) }
 {
@@ -142,7 +142,7 @@ fn expect_in<'a>(alloc: Global, words: &[&'a str]) -> Result<Option<Command<'a>>
     Ok(Some(Command::Expect(joined(alloc, first, words)?)))
 }
 
-/// What follows the word that a command begins with.
+/// The command read from its verb and the words after it.
 fn command_by<'a>(
     alloc: Global,
     verb: Verb,
@@ -176,7 +176,7 @@ fn command_by<'a>(
     }
 }
 
-/// The command that the words of a line read as, if they read as one.
+/// The command that the words of a line mean, if they mean one.
 pub fn command_in<'a>(alloc: Global, words: &[&'a str]) -> Result<Option<Command<'a>>, AllocError>
     ensures { IfOk result (λ r. option_map plain_command r ≡ command_of (texts words.now)) }
 {

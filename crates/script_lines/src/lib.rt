@@ -1,4 +1,4 @@
-//! Scripts of a book: lines and words, the commands that they stand for, the actor that a word calls, and the lines that are printed.
+//! Book scripts: lines, words, commands, the actor that a word names, and the lines that are printed.
 #![tactic(auto)]
 
 mod commands;

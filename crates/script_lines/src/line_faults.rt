@@ -1,4 +1,4 @@
-//! Why a line is none of a script, for a person to read.
+//! Why a line doesn't belong to a script, for a person to read.
 ghost use Rattle.std.specs.Prelude.{◌≤◌, ◌∷◌, ℕ, Bool, List, IfSome, IsNone, length};
 ghost use Rattle.script_lines.specs.Lines.{texts};
 ghost use Rattle.script_lines.specs.LineFaults.{IsSo, is_no_verb};
@@ -8,38 +8,38 @@ use crate::settings::setting_in;
 use crate::verbs::{Verb, verb_in};
 use std::fmt;
 
-/// How many words are as many as there may be.
+/// The value of `most` in `LineFault::Words` if any number of words may follow.
 pub const MANY: usize = 1_000_000;
 
 /// The greatest count.
 const MOST: u32 = 2_147_483_647;
 
-/// Why the words of a line are none of a script's.
+/// Why the words of a line don't belong to a script.
 #[derive(Clone, Copy, PartialEq, Eq, Debug)]
 pub enum LineFault<'a> {
-    /// The first word begins no line of such a script.
+    /// The first word begins no line of this kind of script.
     NoCommand {
         word: &'a str,
         script: &'static str,
     },
-    /// It is a first line, and stands behind another one.
+    /// It is a first line, but comes after another line.
     Late {
         word: &'a str,
     },
-    /// Behind the first word stand fewer words than `least`, or more than `most`.
+    /// Fewer than `least` or more than `most` words follow the first one; `there` words do.
     Words {
         word: &'a str,
         least: usize,
         most: usize,
         there: usize,
     },
-    /// The word is no count from `least` to `most`.
+    /// The word isn't a count from `least` to `most`.
     NoNumber {
         word: &'a str,
         least: u32,
         most: u32,
     },
-    /// The word is no value.
+    /// The word isn't a value.
     NoValue {
         word: &'a str,
     },
@@ -74,7 +74,7 @@ impl fmt::Display for LineFault<'_> {
     }
 }
 
-/// Why there is another number of words than this behind the first one.
+/// The fault of a line in which fewer than `least` or more than `most` words follow the first; none otherwise.
 pub fn words_fault<'a>(
     word: &'a str,
     more: &[&'a str],
@@ -97,7 +97,7 @@ pub fn words_fault<'a>(
     None
 }
 
-/// Why a word is no count from one number to another.
+/// The fault of a word that isn't a count from `least` to `most`; none otherwise.
 pub fn number_fault<'a>(word: &'a str, least: u32, most: u32) -> Option<LineFault<'a>>
     ensures { (p : List ℕ → Bool) → (words : List (List ℕ)) → IfSome result (IsSo p words) }
 {
@@ -107,7 +107,7 @@ pub fn number_fault<'a>(word: &'a str, least: u32, most: u32) -> Option<LineFaul
     }
 }
 
-/// Why one of the words is no value: of several the first.
+/// The fault of the first word that isn't a value; none if all are.
 fn value_fault<'a>(words: &[&'a str]) -> Option<LineFault<'a>>
     ensures { (p : List ℕ → Bool) → (line : List (List ℕ)) → IfSome result (IsSo p line) }
 {
@@ -119,7 +119,7 @@ fn value_fault<'a>(words: &[&'a str]) -> Option<LineFault<'a>>
     None
 }
 
-/// Why the words behind a verb are none of its, where it is told.
+/// The fault of the words after a verb, if one is found.
 pub fn verb_fault<'a>(verb: Verb, word: &'a str, more: &[&'a str]) -> Option<LineFault<'a>>
     ensures { (p : List ℕ → Bool) → IfSome result (IsSo p (word.now ∷ texts more.now)) }
 {
@@ -145,7 +145,7 @@ pub fn verb_fault<'a>(verb: Verb, word: &'a str, more: &[&'a str]) -> Option<Lin
     }
 }
 
-/// The least and the greatest number that a first line with this word sets.
+/// The least and the greatest number that a first line with this word may set.
 fn range_of(word: &str) -> Option<(u32, u32)> {
     match word {
         "ports" => Some((1, 64)),
@@ -155,7 +155,7 @@ fn range_of(word: &str) -> Option<(u32, u32)> {
     }
 }
 
-/// Why a line that begins with this word sets no number.
+/// The fault of a line that begins with this word but sets no number.
 fn setting_fault<'a>(word: &'a str, more: &[&'a str]) -> Option<LineFault<'a>>
     ensures { (p : List ℕ → Bool) → IfSome result (IsSo p (word.now ∷ texts more.now)) }
 {
@@ -166,7 +166,7 @@ fn setting_fault<'a>(word: &'a str, more: &[&'a str]) -> Option<LineFault<'a>>
     }
 }
 
-/// Why the words of a line are no line of a book script, where it is told: of two reasons the first.
+/// The fault of a line that doesn't belong to a book script, if one is found; of two faults the first.
 pub fn book_line_fault<'a>(words: &[&'a str]) -> Option<LineFault<'a>>
     ensures { IfSome result (IsSo is_no_verb (texts words.now)) }
 {

@@ -1,4 +1,4 @@
-//! The lines of a script that say something.
+//! The lines of a script that are neither blank nor comments.
 ghost use Rattle.std.specs.Prelude.{◌≡◌, ◌++◌, OnOk, IfOk, map};
 ghost use Rattle.std.specs.Str.Lines.{lines};
 ghost use Rattle.script_lines.specs.Words.{words_of};
@@ -7,16 +7,16 @@ ghost use Rattle.script_lines.specs.Lines.{texts, plain_line, is_silent, said, s
 use crate::words::words_in;
 use std::alloc::{AllocError, Global};
 
-/// A line that says something: neither blank nor a comment.
+/// A line that is neither blank nor a comment.
 #[derive(Drop)]
 pub struct Line<'a> {
-    /// Its number among all lines, from 1.
+    /// Its number among all lines of the text, from 1.
     pub number: usize,
-    /// Its words, one at least.
+    /// Its words, at least one.
     pub words: Vec<&'a str>,
 }
 
-/// Whether words say nothing: none, or a comment.
+/// Whether the words are those of a blank line or of a comment.
 fn is_silent(words: &[&str]) -> bool
     ensures { result ≡ is_silent (texts words.now) }
 {
@@ -26,7 +26,7 @@ fn is_silent(words: &[&str]) -> bool
     }
 }
 
-/// One line more, where it says something.
+/// Appends a line, unless it is blank or a comment.
 fn push_line<'a>(
     alloc: Global,
     lines: &mut Vec<Line<'a>>,
@@ -42,14 +42,14 @@ fn push_line<'a>(
     Ok(())
 }
 
-/// All lines of a text.
+/// All lines of a text, in order.
 fn all_lines<'a>(alloc: Global, text: &'a str) -> Result<Vec<&'a str>, AllocError>
     ensures { IfOk result (λ v. map (λ l. l.now) v.items ≡ lines text.now) }
 {
     text.lines().collect(alloc)
 }
 
-/// Those of the lines that say something, with their numbers.
+/// The lines that are neither blank nor comments, with their numbers.
 fn spoken<'a>(alloc: Global, all: &[&'a str]) -> Result<Vec<Line<'a>>, AllocError>
     ensures { IfOk result (λ v. map plain_line v.items ≡ spoken 1 (texts all.now)) }
 {
@@ -60,9 +60,9 @@ fn spoken<'a>(alloc: Global, all: &[&'a str]) -> Result<Vec<Line<'a>>, AllocErro
     Ok(lines)
 }
 
-/// The lines of a text that say something, with their numbers. A line ends with a line feed, and a carriage return before
-/// that belongs to its end; the last line needs none. A line whose first sign but for spaces is `#` is a comment; behind a command
-/// `#` is part of a word.
+/// The lines of a text that are neither blank nor comments, with their numbers. A line ends with a line feed or with
+/// carriage return and line feed; the last line needs no end. A line whose first character after spaces is `#` is a
+/// comment. After a command, `#` is part of a word.
 pub fn lines_in<'a>(alloc: Global, text: &'a str) -> Result<Vec<Line<'a>>, AllocError>
     ensures { IfOk result (λ v. map plain_line v.items ≡ lines_of text.now) }
 {

@@ -10,21 +10,21 @@ use turn_code::Value;
 /// The greatest count.
 const MOST: u32 = 2_147_483_647;
 
-/// Whether there are digits alone.
+/// Whether all bytes are digits.
 fn are_digits(bytes: &[u8]) -> bool
     ensures { result ≡ list_all is_ascii_digit bytes.now }
 {
     bytes.iter().all(|byte| byte.is_ascii_digit())
 }
 
-/// Whether a word is of digits, one at least.
+/// Whether a word consists of digits, at least one.
 fn is_digits(word: &[u8]) -> bool
     ensures { result ≡ is_digits word.now }
 {
     !word.is_empty() && are_digits(word)
 }
 
-/// The number that a word's digits stand for, where it is digits alone and the number is no greater than `most`.
+/// The number that a word of digits spells, if it is at most `most`.
 fn number_up_to(word: &str, most: u32) -> Option<u32>
     ensures value { result ≡ number_up_to most word.now }
     ensures most { IfSome result (λ n. n ≤ most) }
@@ -38,7 +38,7 @@ fn number_up_to(word: &str, most: u32) -> Option<u32>
     }
 }
 
-/// The count that a word says: digits without a sign, 2147483647 at most. Leading zeros are free.
+/// The count that a word spells: digits without a sign, at most 2147483647. Leading zeros are allowed.
 pub fn count(word: &str) -> Option<u32>
     ensures value { result ≡ count_of word.now }
     ensures most { IfSome result (λ n. n ≤ 2147483647) }
@@ -46,7 +46,7 @@ pub fn count(word: &str) -> Option<u32>
     number_up_to(word, MOST)
 }
 
-/// The number below zero that stands so far from it.
+/// The negative of a number from 0 to 2147483648.
 fn negated(number: u32) -> i32
     requires { number ≤ 2147483648 }
     ensures { result ≡ neg_ℤ (pos number) }
@@ -54,7 +54,7 @@ fn negated(number: u32) -> i32
     (0 - i64::from(number)) as i32
 }
 
-/// The Integer of digits behind a `-`.
+/// The Integer that digits after a `-` spell.
 fn negative(digits: &str) -> Option<i32>
     ensures { result ≡ negative digits.now }
 {
@@ -64,7 +64,7 @@ fn negative(digits: &str) -> Option<i32>
     }
 }
 
-/// The Integer of digits without a sign.
+/// The Integer that digits without a sign spell.
 fn positive(digits: &str) -> Option<i32>
     ensures { result ≡ positive digits.now }
 {
@@ -74,7 +74,7 @@ fn positive(digits: &str) -> Option<i32>
     }
 }
 
-/// The Integer that a word says, from -2147483648 to 2147483647; `-0` is 0, and a `+` is none.
+/// The Integer that a word spells, from -2147483648 to 2147483647. `-0` is 0; a `+` is refused.
 fn integer(word: &str) -> Option<i32>
     ensures { result ≡ integer_of word.now }
 {
@@ -84,7 +84,7 @@ fn integer(word: &str) -> Option<i32>
     }
 }
 
-/// The same, as a value.
+/// The Integer that a word spells, as a `Value`.
 fn integer_value(word: &str) -> Option<Value>
     ensures { result ≡ option_map Int (integer_of word.now) }
 {
@@ -94,8 +94,8 @@ fn integer_value(word: &str) -> Option<Value>
     }
 }
 
-/// The value that a word says: `true`, `false`, or an Integer from -2147483648 to 2147483647. `-0` is 0, leading zeros
-/// are free, a `+` is none.
+/// The value that a word spells: `true`, `false`, or an Integer from -2147483648 to 2147483647. `-0` is 0, leading
+/// zeros are allowed, a `+` is refused.
 pub fn value(word: &str) -> Option<Value>
     ensures { result ≡ value_of word.now }
 {

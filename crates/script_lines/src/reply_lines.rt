@@ -1,4 +1,4 @@
-//! Lines with names.
+//! Printed lines that contain names.
 ghost use Rattle.std.specs.Prelude.{◌≡◌, ◌++◌, ◌∷◌, OnOk, IfOk};
 ghost use Rattle.std.specs.List.{flat_map};
 ghost use Rattle.script_lines.specs.Replies.{place_text, begun_text, end_text, finished_text, skipped_text, sender_text, taken_text, standing_text, value_text};
@@ -10,7 +10,7 @@ use std::alloc::{AllocError, Global};
 use turn_check::Verified;
 use turn_code::{End, Place, ProcessNumber, StateNumber, Trigger, Value};
 
-/// `ok START`, or `ok STATE/INPUT`: a turn began.
+/// `ok START` or `ok STATE/INPUT`: the line for a turn that began.
 pub fn begun_line(
     alloc: Global,
     set: &Verified,
@@ -26,7 +26,7 @@ pub fn begun_line(
     }
 }
 
-/// `ok STATE/INPUT`.
+/// `ok STATE/INPUT`: the line for a turn that an input began.
 fn input_line(
     alloc: Global,
     set: &Verified,
@@ -53,7 +53,7 @@ fn end_text<'a>(set: &'a Verified, process: ProcessNumber, end: End) -> &'a [u8]
     }
 }
 
-/// `ok NEXT count N`, with ` lost K` where K outputs reached nobody: a turn ended.
+/// `ok NEXT count N`: the line for a turn that ended, with ` lost K` if K outputs reached nobody.
 pub fn finished_line(
     alloc: Global,
     set: &Verified,
@@ -73,7 +73,7 @@ pub fn finished_line(
     Ok(line)
 }
 
-/// `ok SIG`: a signal, or the signal of a timer, was thrown away.
+/// `ok SIG`: the line for a signal, or a timer's signal, that was discarded.
 pub fn skipped_line(
     alloc: Global,
     set: &Verified,
@@ -87,7 +87,7 @@ pub fn skipped_line(
     Ok(line)
 }
 
-/// A value behind what is there, with a space before it.
+/// Appends a space and a value to a line.
 fn push_value(alloc: Global, line: &mut Vec<u8>, value: Value) -> Result<(), AllocError>
     ensures { OnOk result (line.new.items ≡ line.old.items ++ 32 ∷ value_text value) }
 {
@@ -96,7 +96,7 @@ fn push_value(alloc: Global, line: &mut Vec<u8>, value: Value) -> Result<(), All
     Ok(line.extend_from_slice(text.as_bytes())?)
 }
 
-/// The values behind what is there, a space before each.
+/// Appends the values to a line, with a space before each.
 fn push_values(alloc: Global, line: &mut Vec<u8>, values: &[Value]) -> Result<(), AllocError>
     ensures { OnOk result (line.new.items ≡ line.old.items ++ flat_map (λ v. 32 ∷ value_text v) values.now) }
 {
@@ -106,7 +106,7 @@ fn push_values(alloc: Global, line: &mut Vec<u8>, values: &[Value]) -> Result<()
     Ok(())
 }
 
-/// Who sent a signal, behind what is there: the process, and the instance where there is more than one.
+/// Appends the sender of a signal: the process, and its instance if the process has more than one.
 fn push_sender(
     alloc: Global,
     line: &mut Vec<u8>,
@@ -124,7 +124,7 @@ fn push_sender(
     Ok(())
 }
 
-/// `SENDER SIG v..`: what waited for the environment.
+/// `SENDER SIG v..`: the line for a signal taken from those for the environment.
 pub fn taken_line(alloc: Global, set: &Verified, emitted: &Emitted) -> Result<Vec<u8>, AllocError>
     ensures { IfOk result (λ v. v.items ≡ taken_text set.now emitted.now) }
 {
@@ -136,7 +136,7 @@ pub fn taken_line(alloc: Global, set: &Verified, emitted: &Emitted) -> Result<Ve
     Ok(line)
 }
 
-/// The state of a process, `START`, or `STOPPED`.
+/// The state of a process, `START` or `STOPPED`.
 pub fn standing_line(
     alloc: Global,
     set: &Verified,

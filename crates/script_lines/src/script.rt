@@ -13,7 +13,7 @@ use std::alloc::{AllocError, Global};
 use std::fmt;
 use thiserror::Error;
 
-/// A command and where it stands.
+/// A command and the number of its line.
 #[derive(Drop)]
 pub struct Said<'a> {
     /// The number of its line, from 1.
@@ -25,17 +25,17 @@ pub struct Said<'a> {
 /// A book script.
 #[derive(Drop)]
 pub struct Script<'a> {
-    /// What its first lines set.
+    /// The numbers that its first lines set.
     pub settings: Settings,
     /// Its commands, in order.
     pub commands: Vec<Said<'a>>,
 }
 
-/// Why a text is no script.
+/// Why a text isn't a script.
 #[derive(Clone, Copy, Debug, Drop, Error, PartialEq, Eq)]
 pub enum ScriptFault {
-    /// A line is neither blank, a comment, a first line nor a command; of several the first. Of a text that is too long the
-    /// line of the first byte too many.
+    /// The first line that is neither blank, a comment, a first line nor a command. For a text that is too long it is
+    /// the line of the first byte beyond the limit.
     BadLine(usize),
     /// There was not enough memory.
     NoMemory,
@@ -65,7 +65,7 @@ impl From<AllocError> for ScriptFault {
     }
 }
 
-/// The commands that the lines read as.
+/// The commands that the lines mean.
 fn commands_in<'a>(alloc: Global, lines: &[Line<'a>]) -> Result<Vec<Said<'a>>, ScriptFault>
     ensures good { IfOk result (λ v. find is_bad (map plain_line lines.now) ≡ None) }
     ensures commands { IfOk result (λ v. map plain_said v.items ≡ filter_map said_of (map plain_line lines.now)) }
@@ -100,14 +100,14 @@ fn script_in<'a>(alloc: Global, text: &'a str) -> Result<Script<'a>, ScriptFault
     }
 }
 
-/// Reads a book script: first lines `ports N`, `env N`, `journal N` in any order, and then commands. Blank lines and comments
-/// may stand anywhere.
+/// Reads a book script: first lines `ports N`, `env N`, `journal N` in any order, then commands. Blank lines and
+/// comments may stand anywhere.
 ///
 /// # Errors
 ///
-/// [`ScriptFault::BadLine`] (X1) with the number of the first line that is none of these; of a text of more than 262,144
-/// bytes with that of the first byte too many, before any line is looked at. Any call may answer
-/// [`ScriptFault::NoMemory`] instead.
+/// [`ScriptFault::BadLine`] (X1) with the number of the first line that is none of these. For a text of more than
+/// 262,144 bytes it has the line of the first byte beyond that limit, before any line is read.
+/// [`ScriptFault::NoMemory`] if memory runs out.
 pub fn book_script<'a>(alloc: Global, text: &'a str) -> Result<Script<'a>, ScriptFault>
     ensures script { IfOk result (λ s. script_of text.now ≡ Ok (plain_script s)) }
     ensures within { IfOk result (λ s. AreInRange s.settings) }

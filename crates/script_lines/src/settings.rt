@@ -17,26 +17,26 @@ pub enum Setting {
     Journal(u32),
 }
 
-/// What the first lines of a script set.
+/// The numbers that the first lines of a script set.
 #[derive(Clone, Copy, PartialEq, Eq, Debug)]
 pub struct Settings {
-    /// How many signals a port holds, 1 to 64; 16 where nothing is said.
+    /// How many signals a port holds, 1 to 64; 16 by default.
     pub ports: u32,
-    /// How many signals for the environment are kept, 1 to 1,024; 64 where nothing is said.
+    /// How many signals for the environment are kept, 1 to 1,024; 64 by default.
     pub env: u32,
-    /// How many events the journal holds, 16 to 65,536; 4,096 where nothing is said.
+    /// How many events the journal holds, 16 to 65,536; 4,096 by default.
     pub journal: u32,
 }
 
 impl Settings {
-    /// What holds where no line sets it.
+    /// The numbers that hold if no line sets them.
     pub const DEFAULT: Settings = Settings {
         ports: 16,
         env: 64,
         journal: 4096,
     };
 
-    /// With one number set.
+    /// These settings with one number set.
     fn with(self, setting: Setting) -> Settings
         ensures { result ≡ set setting self }
     {
@@ -48,7 +48,7 @@ impl Settings {
     }
 }
 
-/// The setting of a word and a number, where that is in its range.
+/// The setting of a word and a number, if the number is in its range.
 fn setting_at(word: &str, number: u32) -> Option<Setting>
     ensures { result ≡ setting_at word.now number }
 {
@@ -60,7 +60,7 @@ fn setting_at(word: &str, number: u32) -> Option<Setting>
     }
 }
 
-/// What the words of a line set, if they set something.
+/// The setting that the words of a line make, if they make one.
 pub fn setting_in(words: &[&str]) -> Option<Setting>
     ensures { result ≡ setting_of (texts words.now) }
 {
@@ -73,7 +73,7 @@ pub fn setting_in(words: &[&str]) -> Option<Setting>
     }
 }
 
-/// What the first lines set, and how many they are.
+/// The numbers that the first lines set, and how many first lines there are.
 pub fn head_of(lines: &[Line<'_>]) -> (Settings, usize)
     ensures head { after_head defaults (map plain_line lines.now) ≡ (result.0, drop result.1 (map plain_line lines.now)) }
     ensures within { result.1 ≤ length lines.now }

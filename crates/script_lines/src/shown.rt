@@ -1,4 +1,4 @@
-//! Values and numbers as they are printed.
+//! Values and counts as they are printed.
 ghost use Rattle.std.specs.Prelude.{◌≡◌, IfOk};
 ghost use Rattle.script_lines.specs.Replies.{value_text};
 
@@ -6,7 +6,7 @@ use std::alloc::{AllocError, Global};
 use std::fmt;
 use turn_code::Value;
 
-/// A value as it is printed: an Integer in decimal, or `true`, `false`.
+/// A value as it is printed: an Integer in decimal, `true` or `false`.
 #[derive(Clone, Copy)]
 pub struct Shown(pub Value);
 
@@ -25,7 +25,7 @@ impl fmt::Display for Shown {
     }
 }
 
-/// How a turn counted: its instructions, and how many of its outputs were lost, where some were.
+/// The counts of a turn: its instructions, and its lost outputs, which are printed if there are any.
 #[derive(Clone, Copy)]
 pub(crate) struct Counts {
     pub(crate) count: u32,
@@ -49,7 +49,7 @@ impl fmt::Display for Counts {
     }
 }
 
-/// The line of a value.
+/// The line that shows a value.
 pub fn shown_line(alloc: Global, value: Value) -> Result<Vec<u8>, AllocError>
     ensures { IfOk result (λ v. v.items ≡ value_text value) }
 {

@@ -2,20 +2,20 @@
 ghost use Rattle.std.specs.Prelude.{◌≡◌};
 ghost use Rattle.script_lines.specs.Commands.{verb_of};
 
-/// A call that needs nothing but a process.
+/// A call that takes only a process.
 #[derive(Clone, Copy, PartialEq, Eq, Debug)]
 pub enum Call {
     /// `begin P`: the next turn of P begins.
     Begin,
-    /// `finish P`: the turn that P has out is finished.
+    /// `finish P`: the current turn of P is finished.
     Finish,
-    /// `skip P`: P's next signal is dropped, where the state has no INPUT for it.
+    /// `skip P`: P's next signal is dropped, if the state has no INPUT for it.
     Skip,
     /// `state P`: the state of P is printed.
     State,
 }
 
-/// Which command it is.
+/// The kind of a command.
 #[derive(Clone, Copy, PartialEq, Eq, Debug)]
 pub enum Verb {
     /// `offer`.
@@ -36,7 +36,7 @@ pub enum Verb {
     Expect,
 }
 
-/// The command that a word begins, in this case alone.
+/// The command that a word begins; the case of letters matters.
 pub fn verb_in(word: &str) -> Option<Verb>
     ensures { result ≡ verb_of word.now }
 {

@@ -16,7 +16,7 @@ pub struct Called {
     pub number: u16,
 }
 
-/// The name of a process in a word: what stands before its first `.`, or the word.
+/// The name of a process in a word: the part before its first `.`, or the whole word.
 fn process_part(word: &str) -> &str
     ensures { result.now ≡ process_part word.now }
 {
@@ -26,7 +26,7 @@ fn process_part(word: &str) -> &str
     }
 }
 
-/// The instance that a word names: the number behind its first `.`, if one stands there; 1 where there is no `.`.
+/// The instance that a word names: the number after its first `.`, if one follows; 1 if there is no `.`.
 fn instance_part(word: &str) -> Option<u32>
     ensures { result ≡ instance_part word.now }
 {
@@ -36,14 +36,14 @@ fn instance_part(word: &str) -> Option<u32>
     }
 }
 
-/// The first process of a name, in any case.
+/// The first process with this name, without regard to case.
 fn process_named(set: &Verified, name: &str) -> Option<ProcessNumber>
     ensures { option_map (λ p. p.0) result ≡ number_of (process_names set.now) name.now }
 {
     set.process_of(name)
 }
 
-/// The actor of an instance of a process, if there is one.
+/// The actor that is an instance of a process, if it exists.
 fn actor_at(set: &Verified, process: ProcessNumber, instance: u32) -> Option<Called>
     ensures { result ≡ actor_at set.now process.0 instance }
 {
@@ -61,7 +61,7 @@ fn actor_at(set: &Verified, process: ProcessNumber, instance: u32) -> Option<Cal
     }
 }
 
-/// The same where both are there.
+/// The actor of a process and an instance, if both are given and it exists.
 fn called_by(
     set: &Verified,
     process: Option<ProcessNumber>,
@@ -78,8 +78,8 @@ fn called_by(
     }
 }
 
-/// The actor of a set that a word names: `P.k` is instance k of the first process P, in any case and with zeros before k or without, and
-/// `P` is `P.1`.
+/// The actor of a set that a word names. `P.k` is instance k of the first process named P, in upper or lower case; k
+/// may have leading zeros. `P` is `P.1`.
 pub fn actor_called(set: &Verified, word: &str) -> Option<Called>
     ensures { result ≡ actor_called set.now word.now }
 {

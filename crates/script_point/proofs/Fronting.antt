@@ -1,4 +1,4 @@
--- One byte more of lines with a name in front.
+-- One more byte of the lines with a name before each.
 use Rattle.std.proofs.Common.{◌≡◌, ◌∙◌, ℕ, ◌+◌, ◌<◌, ◌==◌, Bool, List, ◌∷◌, ◌++◌, length, drop, get_or, sym, ap, append_assoc}
 use Rattle.std.proofs.lemmas.List.{at_drop_more}
 use Rattle.script_point.specs.Fronts.{fronted, in_front}

@@ -1,4 +1,4 @@
--- The token that begins at a place, found from the front.
+-- The token that begins at a place, searched from the first token on.
 use Rattle.std.proofs.Common.{◌≡◌, ◌∙◌, ℕ, ◌+◌, ◌<◌, ◌==◌, Bool, true, false, if◌then◌else◌, List, ◌∷◌, length, drop, get_or, sym, ap, eq-eqb, ne_eqb}
 use Rattle.std.proofs.lemmas.List.{at_drop_more}
 use Rattle.sdl_lex.specs.declared.lexemes.Token.{Token}

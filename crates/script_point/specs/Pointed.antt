@@ -1,4 +1,4 @@
--- A place of a text: its line and its column, and how it is pointed at.
+-- A place of a text: its line and column, and the lines that point at it.
 use Rattle.std.specs.Prelude.{◌≡◌, ℕ, ◌+◌, ◌-◌, ◌<◌, ◌≤◌, ◌==◌, ◌||◌, Bool, if◌then◌else◌, nat_lt}
 use Rattle.std.specs.Prelude.{nat_le, List, [], ◌∷◌, ◌++◌, length, map, take, min, max, count_by}
 use Rattle.std.specs.Prelude.{slice_index, slice_range, string_bytes, codes}
@@ -9,24 +9,24 @@ use Rattle.script_point.specs.declared.shown.Word.{Word}
 
 -- ---- lines and columns
 
--- a byte begins a character (UTF-8: the bytes 128 to 191 go on with one)
+-- A byte begins a character (UTF-8: the bytes 128 to 191 continue one).
 abbrev pub begins : ℕ → Bool
 begins b = nat_lt b 128 || nat_le 192 b
 
 abbrev pub characters : List ℕ → ℕ
 characters bytes = count_by begins bytes
 
--- the line in which a place stands, from 1: one more than the line feeds before it
+-- The line in which a place lies, from 1: one more than the line feeds before the place.
 abbrev pub line_at : List ℕ → ℕ → ℕ
 line_at text place = count_by (λ b. b == 10) (take place text) + 1
 
--- the line of a place begins here: behind the last line feed before it
+-- The line of a place begins here: after the last line feed before the place.
 pub record IsBegin (text : List ℕ) (place begin : ℕ) : Type 0 where
   pub before : begin ≤ place
   pub whole : (k : ℕ) → begin ≤ k → k < place → slice_index text k ≡ 10 → ⊥
   pub first : 0 < begin → slice_index text (begin - 1) ≡ 10
 
--- the line of a place ends here: before the first line feed that doesn't stand before it
+-- The line of a place ends here: at the next line feed from the place on, or at the text's end.
 pub record IsEnd (text : List ℕ) (place end : ℕ) : Type 0 where
   pub behind : place ≤ end
   pub inside : end ≤ length text
@@ -35,19 +35,19 @@ pub record IsEnd (text : List ℕ) (place end : ℕ) : Type 0 where
 
 -- ---- what is printed
 
--- a byte as it is shown: a control character but a tab as a space
+-- A byte as it is shown: a control character other than a tab becomes a space.
 abbrev pub shown_byte : ℕ → ℕ
 shown_byte b = if b == 9 then b else (if nat_lt b 32 || (b == 127) then 32 else b)
 
--- what stands under a character: a tab under a tab, else a space
+-- The character under another one: a tab under a tab, else a space.
 abbrev pub blank : ℕ → ℕ
 blank b = if b == 9 then b else 32
 
--- at least one caret
+-- These carets, or one caret if there are none.
 abbrev pub one_or_more : List ℕ → List ℕ
 one_or_more carets = if length carets == 0 then 94 ∷ [] else carets
 
--- a caret under each character
+-- A caret under each character, and at least one.
 abbrev pub carets_under : List ℕ → List ℕ
 carets_under word = one_or_more (map (λ b. 94) (filter begins word))
 
@@ -55,7 +55,7 @@ carets_under word = one_or_more (map (λ b. 94) (filter begins word))
 abbrev pub margin : ℕ → List ℕ
 margin line = map (λ b. 32) (decimal line)
 
--- a text behind a sign, and nothing where the text is empty
+-- A sign and the text, or nothing if the text is empty.
 abbrev pub after : List ℕ → List ℕ → List ℕ
 after sign text = if length text == 0 then [] else sign ++ text
 
@@ -65,7 +65,7 @@ head_text line column fault said =
     codes ":" ++ decimal line ++ codes ":" ++ decimal column ++ codes ": " ++ fault
     ++ after (codes ": ") said ++ 10 ∷ []
 
--- `: FAULT: SAID`, where there is no place
+-- `: FAULT: SAID`, for a fault without a place.
 abbrev pub bare_text : List ℕ → List ℕ → List ℕ
 bare_text fault said = codes ": " ++ fault ++ after (codes ": ") said ++ 10 ∷ []
 
@@ -73,7 +73,7 @@ bare_text fault said = codes ": " ++ fault ++ after (codes ": ") said ++ 10 ∷ 
 abbrev pub source_text : ℕ → List ℕ → List ℕ
 source_text line source = decimal line ++ codes " | " ++ map shown_byte source ++ 10 ∷ []
 
--- `     |    ^^^ UNDER`: under what stands before the word a space for each character, or its tab
+-- `     |    ^^^ UNDER`: a space (or tab) for each character before the word, then the carets.
 abbrev pub caret_text : ℕ → List ℕ → List ℕ → List ℕ → List ℕ
 caret_text line before word under =
     margin line ++ codes " | " ++ map blank (filter begins before) ++ carets_under word
@@ -84,8 +84,8 @@ abbrev pub hint_text : ℕ → List ℕ → List ℕ
 hint_text line hint =
     if length hint == 0 then [] else margin line ++ codes " = " ++ hint ++ 10 ∷ []
 
--- All lines: of a word at a place, in a line from `begin` to `end`; what of the word stands behind
--- that line has no carets.
+-- All lines for a word at a place, in a line from `begin` to `end`. The part of the word after that
+-- line has no carets.
 abbrev pub pointed_text :
     List ℕ → ℕ → ℕ → ℕ → ℕ → List ℕ → List ℕ → List ℕ → List ℕ → List ℕ
 pointed_text text place begin end last fault said under hint =
@@ -95,12 +95,12 @@ pointed_text text place begin end last fault said under hint =
     under
     ++ hint_text (line_at text place) hint
 
--- where a word of a text begins; a word past the text's end begins there
+-- Where a word of a text begins; a word past the end of the text begins at that end.
 abbrev pub place_in : List ℕ → Word → ℕ
 place_in text word = min word.start (length text)
 
--- These lines point at the word: the line and the column are those of its first character, and the
--- carets stand under it in the line that is shown.
+-- These lines point at the word: line and column are those of its first character, and the carets
+-- are under it in the shown line.
 pub record IsPointed (text : List ℕ) (word : Word) (fault : List ℕ) (notes : Notes)
     (lines : List ℕ) : Type 0 where
   pub begin : ℕ
@@ -112,7 +112,7 @@ pub record IsPointed (text : List ℕ) (word : Word) (fault : List ℕ) (notes :
       (max (min word.end end) (place_in text word)) fault (string_bytes notes.said)
       (string_bytes notes.under) (string_bytes notes.hint)
 
--- this line says where a place is, and what is wrong there
+-- This line states where a place is, and what is wrong there.
 pub record IsHead (text : List ℕ) (place : ℕ) (fault said lines : List ℕ) : Type 0 where
   pub begin : ℕ
   pub from : IsBegin text place begin

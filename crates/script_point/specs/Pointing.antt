@@ -23,7 +23,7 @@ use Rattle.mtp2_text.specs.turn_verify_types.loading.LoadFault.{LoadFault}
 use Rattle.mtp2_text.specs.turn_verify_types.loading.LoadFault.TheVariants.{Lex, Parse, Rule}
 use Rattle.mtp2_text.specs.turn_verify_types.loading.LoadFault.TheVariants.{NoMemory}
 
--- where the token ends that begins at a place; one byte further where none does
+-- The end of the token that begins at a place, or `place + 1` if none does.
 abbrev pub token_end : List Token → ℕ → ℕ
 token_end [] place = place + 1
 token_end (t ∷ ts) place = if t.start == place then t.end else token_end ts place
@@ -39,7 +39,7 @@ lex_word (OpenComment place) = Some (record { start = place; end = place + 1 })
 lex_word (TooLong place) = Some (record { start = place; end = place + 1 })
 lex_word no_tokens = None
 
--- the token at which no reading goes on, or the first one of a statement that is too high
+-- The token that the parser can't accept, or the first one of a statement nested too deep.
 abbrev pub parse_word : List Token → ParseFault → Option Word
 parse_word tokens (parsing.Unexpected index) = Some (token_word tokens (token_place tokens index))
 parse_word tokens (parsing.TooDeep place) = Some (token_word tokens place)
@@ -53,14 +53,14 @@ word_of tokens (Parse fault line) = parse_word tokens fault
 word_of tokens (Rule fault line) = option_map (token_word tokens) (rule_place fault)
 word_of tokens NoMemory = None
 
--- what is wrong, without its line
+-- The fault without its line number.
 abbrev pub name_text : LoadFault → List ℕ
 name_text (Lex fault line) = lexis.fault_text fault
 name_text (Parse fault line) = parser.fault_text fault
 name_text (Rule fault line) = rules.fault_text fault
 name_text NoMemory = codes "out of memory"
 
--- S4 names where a transition begins that runs off its end. It may be found where it does.
+-- S4 names where a transition begins that runs off its end. It may be found where it runs off.
 abbrev pub runs_off : RuleFault → Bool
 runs_off (broken.DoubleName place) = false
 runs_off (broken.UnknownName place) = false
@@ -85,22 +85,21 @@ abbrev pub named_word : List Token → LoadFault → Option ℕ → Option Word
 named_word tokens fault found =
     if is_found_elsewhere fault && is_some found then None else word_of tokens fault
 
--- The word at the place that a refusal names, and the token at the place where it is found, where
--- the refusal itself names none; of S4 the place where it is found counts first.
+-- The word at the place that a refusal names; if it names none, the token at `found`. For S4
+-- `found` comes first.
 abbrev pub word_in : List Token → LoadFault → Option ℕ → Option Word
 word_in tokens fault found =
     option_map_or (λ word. Some word) (named_word tokens fault found)
     (option_map (token_word tokens) found)
 
--- the lines that point at a refusal of a text with these tokens; without a place there is one line
+-- The lines point at a refusal of a text with these tokens; without a place there is one line.
 abbrev pub IsShown : List ℕ → List Token → LoadFault → Told → List ℕ → Type 0
 IsShown text tokens fault told lines =
     MatchOption (word_in tokens fault told.found)
     (lines ≡ bare_text (name_text fault) (string_bytes told.notes.said))
     (λ word. IsPointed text word (name_text fault) told.notes lines)
 
--- The lines point at the word at which the refusal of the text does, or where it is found, and say
--- what is told of it.
+-- The lines point at the word that the refusal names, or at the place found, and contain the notes.
 pub record IsPointedOut (text : List ℕ) (fault : LoadFault) (told : Told) (lines : List ℕ) :
     Type 0 where
   pub tokens : List Token

@@ -1,4 +1,4 @@
-//! What is said of each refusal that its tokens tell.
+//! Notes for each refusal that the tokens of the text explain.
 use crate::declared::declarations;
 use crate::ends::stray_end;
 use crate::expected::unexpected;
@@ -12,7 +12,7 @@ use sdl_sound::RuleFault;
 use sdl_tree::ParseFault;
 use std::alloc::{AllocError, Global};
 
-/// The byte at a place of a text.
+/// The byte at a place of a text, or 0 past its end.
 fn byte_at(text: &str, place: u32) -> u8 {
     match text.as_bytes().get(place as usize) {
         Some(byte) => *byte,
@@ -20,7 +20,7 @@ fn byte_at(text: &str, place: u32) -> u8 {
     }
 }
 
-/// What is said of a fault of the lexis.
+/// The note for a fault of the lexis (L1 to L3).
 fn of_lexis(text: &str, fault: LexFault) -> &'static str {
     match fault {
         LexFault::BadCharacter(_) => "nothing begins with this",
@@ -42,7 +42,7 @@ fn of_lexis(text: &str, fault: LexFault) -> &'static str {
     }
 }
 
-/// What is said of a text that reads as no tree.
+/// The note for a text that doesn't parse (P1, P2).
 fn of_tree(
     alloc: Global,
     notes: &mut Notes,
@@ -58,7 +58,7 @@ fn of_tree(
     }
 }
 
-/// What is said of a JOIN that comes back to the connection in which it stands.
+/// The note for a JOIN that leads back to its own CONNECTION (S7).
 fn of_cycle(notes: &mut Notes, read: &Reading<'_>, index: usize) -> Result<(), AllocError> {
     match read.last_word(index, Word::Connection) {
         Some(begins) => {
@@ -72,7 +72,7 @@ fn of_cycle(notes: &mut Notes, read: &Reading<'_>, index: usize) -> Result<(), A
     }
 }
 
-/// What is said of a divisor: the operator is the token before it.
+/// The note for a bad divisor (S9): the operator is the token before it.
 fn of_divisor(notes: &mut Notes, read: &Reading<'_>, index: usize) -> Result<(), AllocError> {
     let sign = read.spelled(index.saturating_sub(1));
     push_all(
@@ -81,7 +81,7 @@ fn of_divisor(notes: &mut Notes, read: &Reading<'_>, index: usize) -> Result<(),
     )
 }
 
-/// What is said of a name or an end at the token with an index.
+/// The note for a double name (S1), an unknown name (S2) or a missing end (S4) at the token with this index.
 fn of_names(
     alloc: Global,
     notes: &mut Notes,
@@ -97,7 +97,7 @@ fn of_names(
     }
 }
 
-/// What is said of a rule that is broken, so far as tokens tell it.
+/// The note for a broken rule, if the tokens explain it.
 fn of_rule(
     alloc: Global,
     notes: &mut Notes,
@@ -114,7 +114,7 @@ fn of_rule(
     }
 }
 
-/// Adds what is said of a refusal of a text, so far as its tokens tell it: of L, P, S1, S2, S4, S7 and S9; of others nothing.
+/// Adds the notes of a refusal that its tokens explain: of L, P, S1, S2, S4, S7 and S9; it adds none for others.
 pub fn add_notes(
     alloc: Global,
     notes: &mut Notes,

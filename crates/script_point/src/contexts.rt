@@ -1,8 +1,8 @@
-//! What the name at a place stands for, by the words around it.
+//! What kind of thing the name at a place denotes, judged by the words around it.
 use crate::reading::Reading;
 use sdl_lex::{Symbol, Word};
 
-/// What a name stands for.
+/// What kind of thing a name denotes.
 #[derive(Clone, Copy, PartialEq, Eq)]
 pub enum Class {
     Signal,
@@ -17,7 +17,7 @@ pub enum Class {
 }
 
 impl Class {
-    /// Its name.
+    /// The name of the kind.
     pub fn text(self) -> &'static str {
         match self {
             Class::Signal => "SIGNAL",
@@ -31,34 +31,34 @@ impl Class {
         }
     }
 
-    /// Whether each process has its own.
+    /// Whether each process has its own names of this kind.
     pub fn is_local(self) -> bool {
         !matches!(self, Class::Signal | Class::Process | Class::Route)
     }
 
-    /// Whether a name that stands for this may be one that is declared as the other.
+    /// Whether a name used as this kind may be declared as the other kind.
     pub fn takes(self, other: Class) -> bool {
         self == other || (self == Class::Stimulus && other.is_stimulus())
     }
 
-    /// Whether an INPUT takes it.
+    /// Whether an INPUT takes this kind.
     fn is_stimulus(self) -> bool {
         matches!(self, Class::Signal | Class::Timer)
     }
 
-    /// Whether no two of these may have one name.
+    /// Whether no two names of these kinds may be equal.
     pub fn clashes(self, other: Class) -> bool {
         self == other || (self.is_stimulus() && other.is_stimulus())
     }
 }
 
-/// The word that governs a token, and whether the token stands in parentheses behind it.
+/// The word that governs a token, and whether the token is in parentheses after it.
 struct Governing {
     word: Word,
     inside: bool,
 }
 
-/// Whether a word governs the names behind it.
+/// Whether a word governs the names after it.
 fn governs(word: Word) -> bool {
     matches!(
         word,
@@ -77,7 +77,7 @@ fn governs(word: Word) -> bool {
     )
 }
 
-/// The word that governs a token.
+/// The word that governs a token, if any does.
 fn governing_word(read: &Reading<'_>, index: usize) -> Option<Governing> {
     let mut closed: usize = 0;
     let mut inside = false;
@@ -97,13 +97,13 @@ fn governing_word(read: &Reading<'_>, index: usize) -> Option<Governing> {
     None
 }
 
-/// Whether a token is the last thing in parentheses, behind a comma.
+/// Whether a token is the last item in parentheses, after a comma.
 fn is_last(read: &Reading<'_>, index: usize) -> bool {
     read.symbol(index.saturating_add(1)) == Some(Symbol::Close)
         && read.symbol(index.saturating_sub(1)) == Some(Symbol::Comma)
 }
 
-/// What the name with an index stands for.
+/// The kind of thing that the name with this index denotes.
 pub fn class_of(read: &Reading<'_>, index: usize) -> Class {
     let Some(Governing { word, inside }) = governing_word(read, index) else {
         return Class::Variable;

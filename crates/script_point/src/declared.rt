@@ -1,21 +1,21 @@
-//! Where names are declared.
+//! The places where names are declared.
 use crate::contexts::Class;
 use crate::reading::Reading;
 use sdl_lex::{Symbol, Word};
 use std::alloc::{AllocError, Global};
 
-/// A name where it is declared.
+/// A declared name and where it is declared.
 #[derive(Clone, Copy)]
 pub struct Declared {
-    /// What it is there.
+    /// The kind of thing that it declares.
     pub class: Class,
     /// The index of its token.
     pub index: usize,
-    /// The index of the name of the process in which it stands, as `Reading::process` has it.
+    /// The index of the name of the process that contains it, as `Reading::process` returns it.
     pub process: usize,
 }
 
-/// What the names behind a word are declared to be.
+/// The kind of thing that the names after a reserved word declare.
 fn declares(word: Word) -> Option<Class> {
     match word {
         Word::Signal => Some(Class::Signal),
@@ -29,14 +29,14 @@ fn declares(word: Word) -> Option<Class> {
     }
 }
 
-/// How a scan of declarations stands at a token.
+/// The state of a scan of declarations at a token.
 #[derive(Clone, Copy)]
 struct Scan {
     class: Option<Class>,
     depth: usize,
 }
 
-/// The scan behind a reserved word: behind FROM no route is declared.
+/// The scan after a reserved word: no route is declared after FROM.
 fn after_word(scan: Scan, word: Word) -> Scan {
     if word == Word::From {
         return Scan {
@@ -53,7 +53,7 @@ fn after_word(scan: Scan, word: Word) -> Scan {
     }
 }
 
-/// The scan behind one token more.
+/// The scan after one more token.
 fn scanned(scan: Scan, word: Option<Word>, symbol: Option<Symbol>) -> Scan {
     if let Some(word) = word {
         return after_word(scan, word);
@@ -75,7 +75,7 @@ fn scanned(scan: Scan, word: Option<Word>, symbol: Option<Symbol>) -> Scan {
     }
 }
 
-/// The index of the name of the process behind a token, if it is this one before it.
+/// The index of the process name that holds after a token, if `process` holds before it.
 fn process_behind(read: &Reading<'_>, process: usize, index: usize) -> usize {
     match read.word(index) {
         Some(Word::Process) => index.saturating_add(1),
@@ -83,7 +83,7 @@ fn process_behind(read: &Reading<'_>, process: usize, index: usize) -> usize {
     }
 }
 
-/// All names that are declared, in the order of the text.
+/// All declared names, in the order of the text.
 pub fn declarations(alloc: Global, read: &Reading<'_>) -> Result<Vec<Declared>, AllocError> {
     let mut all = Vec::new(alloc);
     let mut scan = Scan {
@@ -107,12 +107,12 @@ pub fn declarations(alloc: Global, read: &Reading<'_>) -> Result<Vec<Declared>, 
     Ok(all)
 }
 
-/// Whether a name that is declared can be named in a process.
+/// Whether a declared name is visible in a process.
 fn is_seen(declared: &Declared, process: usize) -> bool {
     !declared.class.is_local() || declared.process == process
 }
 
-/// Where the name of a token is declared, as whatever.
+/// Where the name of a token is declared, as any kind.
 pub fn find_any(read: &Reading<'_>, all: &[Declared], index: usize) -> Option<Declared> {
     let process = read.process(index);
     for declared in all {
@@ -123,7 +123,7 @@ pub fn find_any(read: &Reading<'_>, all: &[Declared], index: usize) -> Option<De
     None
 }
 
-/// Where the name of a token is declared as what it stands for.
+/// Where the name of a token is declared as a kind that `class` takes.
 pub fn find_as(
     read: &Reading<'_>,
     all: &[Declared],
@@ -142,7 +142,7 @@ pub fn find_as(
     None
 }
 
-/// Where the name of a token that is declared itself is declared before it, so that the two clash.
+/// The first other declaration that clashes with the one at a token, and the kind declared at the token.
 pub fn find_before(
     read: &Reading<'_>,
     all: &[Declared],
@@ -162,7 +162,7 @@ pub fn find_before(
     None
 }
 
-/// What the name of a token is declared to be there.
+/// The kind that the token with this index declares.
 fn declared_at(all: &[Declared], index: usize) -> Option<Class> {
     match all.iter().find(|declared| declared.index == index) {
         Some(declared) => Some(declared.class),
@@ -170,7 +170,7 @@ fn declared_at(all: &[Declared], index: usize) -> Option<Class> {
     }
 }
 
-/// How many bytes two texts have alike at their beginning, in whatever case.
+/// The length of the common prefix of two texts in bytes, without regard to case.
 fn alike(one: &[u8], other: &[u8]) -> usize {
     let mut count: usize = 0;
     for (a, b) in one.iter().zip(other) {
@@ -182,7 +182,7 @@ fn alike(one: &[u8], other: &[u8]) -> usize {
     count
 }
 
-/// Whether two names of three letters or more differ in one letter: another one, one more or one less.
+/// Whether two names of three letters or more differ in one letter: replaced, added or missing.
 fn is_near(one: &str, other: &str) -> bool {
     let (longer, shorter) = if one.len() < other.len() {
         (other.as_bytes(), one.as_bytes())
@@ -200,7 +200,7 @@ fn is_near(one: &str, other: &str) -> bool {
     rest.eq_ignore_ascii_case(tail)
 }
 
-/// A name that could be meant: declared as what the token stands for, and spelled nearly so.
+/// A name that could be meant: declared as a kind that `class` takes, and spelled with at most one letter changed.
 pub fn find_near(
     read: &Reading<'_>,
     all: &[Declared],

@@ -1,4 +1,4 @@
-//! Transitions without an end, and statements that nothing comes to (S4).
+//! Notes for transitions without an end and statements that can't be reached (S4).
 use crate::contexts::Class;
 use crate::declared::{Declared, find_as};
 use crate::names::push_hint;
@@ -8,7 +8,7 @@ use crate::saying::push_all;
 use sdl_lex::Word;
 use std::alloc::{AllocError, Global};
 
-/// A NEXTSTATE whose state no STATE has.
+/// The note for a NEXTSTATE whose state has no STATE.
 fn no_state(
     alloc: Global,
     notes: &mut Notes,
@@ -22,7 +22,7 @@ fn no_state(
     push_hint(alloc, notes, read, all, name_at, Class::State)
 }
 
-/// A transition that runs off its end.
+/// The note for a transition without an end.
 fn no_end(notes: &mut Notes) -> Result<(), AllocError> {
     notes.said.push_str("this transition has no end")?;
     notes
@@ -30,13 +30,13 @@ fn no_end(notes: &mut Notes) -> Result<(), AllocError> {
         .push_str("write NEXTSTATE, STOP or JOIN behind its last statement")
 }
 
-/// A statement behind a DECISION none of whose bodies goes on.
+/// The note for a statement after a DECISION none of whose answers goes on.
 fn never_reached(notes: &mut Notes) -> Result<(), AllocError> {
     notes.said.push_str("nothing comes to this statement")?;
     notes.hint.push_str("each answer of the DECISION before it has an end of its own")
 }
 
-/// A NEXTSTATE, the word of a transition, or a statement.
+/// The notes for S4 at a NEXTSTATE, at the word that begins a transition, or at a statement.
 pub fn stray_end(
     alloc: Global,
     notes: &mut Notes,

@@ -1,4 +1,4 @@
-//! What is wanted where no reading goes on (P1): the tokens with which one would.
+//! The tokens with which the text could go on at a syntax fault (P1).
 use crate::notes::Notes;
 use crate::reading::{Reading, text_of};
 use crate::saying::{Item, push_all, push_items};
@@ -6,23 +6,23 @@ use sdl_lex::{LexFault, Lexeme, Symbol, Token, Word, tokens};
 use sdl_tree::{ParseFault, parse};
 use std::alloc::{AllocError, Global};
 
-/// Each symbol and each reserved word with which something may go on, a name, a number and a quoted text.
+/// Every symbol and reserved word that may continue a text, and a sample name, number and quoted text.
 const CANDIDATES: &str =
     "NOT ( - TRUE FALSE NOW Some_other_name_0 2147483646 '' TASK OUTPUT SET RESET DECISION NEXTSTATE STOP JOIN
     = /= < <= > >= + * / MOD REM AND OR XOR ; , : := )
     BLOCK ENDBLOCK SIGNAL SIGNALROUTE FROM TO WITH ENV CONNECT PROCESS ENDPROCESS DCL TIMER START STATE ENDSTATE INPUT SAVE
     CONNECTION ENDCONNECTION SENDER ELSE ENDDECISION INTEGER BOOLEAN";
 
-/// The candidate that stands for any name.
+/// The candidate that represents any name.
 const NAME: &str = "Some_other_name_0";
 
-/// The candidate that stands for any number.
+/// The candidate that represents any number.
 const NUMBER: &str = "2147483646";
 
-/// With which an expression may begin.
+/// The tokens with which an expression may begin.
 const OPERANDS: [&str; 7] = ["NOT", "(", "-", "TRUE", "FALSE", NAME, NUMBER];
 
-/// With which a statement may begin, or a transition end.
+/// The tokens with which a statement may begin, or a transition end.
 const STATEMENTS: [&str; 8] = [
     "TASK",
     "OUTPUT",
@@ -34,12 +34,12 @@ const STATEMENTS: [&str; 8] = [
     "JOIN",
 ];
 
-/// Which operators stand between two operands.
+/// The operators between two operands.
 const OPERATORS: [&str; 15] = [
     "=", "/=", "<", "<=", ">", ">=", "+", "-", "*", "/", "MOD", "REM", "AND", "OR", "XOR",
 ];
 
-/// Of which groups all are wanted.
+/// The groups of which every token would be accepted.
 #[derive(Clone, Copy)]
 struct Groups {
     operands: bool,
@@ -48,7 +48,7 @@ struct Groups {
 }
 
 impl Groups {
-    /// The groups all of which are wanted.
+    /// The groups of which every token is in `wanted`.
     fn of(wanted: &[&str]) -> Groups {
         Groups {
             operands: has_all(wanted, &OPERANDS),
@@ -57,7 +57,7 @@ impl Groups {
         }
     }
 
-    /// Whether one that is wanted is named by its group.
+    /// Whether the name of a group covers this accepted token.
     fn name(self, one: &str) -> bool {
         (self.operands && has(&OPERANDS, one))
             || (self.statements && has(&STATEMENTS, one))
@@ -65,17 +65,17 @@ impl Groups {
     }
 }
 
-/// Whether a list has this one.
+/// Whether a list contains this text.
 fn has(all: &[&str], one: &str) -> bool {
     all.iter().any(|it| *it == one)
 }
 
-/// Whether all of a group are wanted.
+/// Whether every token of a group is accepted.
 fn has_all(wanted: &[&str], group: &[&str]) -> bool {
     group.iter().all(|one| has(wanted, *one))
 }
 
-/// The tokens of the candidates.
+/// The tokens of the candidates, in order.
 fn candidates(alloc: Global) -> Result<Vec<Token>, AllocError> {
     match tokens(alloc, CANDIDATES) {
         Ok(tokens) => Ok(tokens),
@@ -84,7 +84,7 @@ fn candidates(alloc: Global) -> Result<Vec<Token>, AllocError> {
     }
 }
 
-/// Whether a text begins with these tokens.
+/// Whether some text begins with these tokens.
 fn begins_text(alloc: Global, row: &[Token]) -> Result<bool, AllocError> {
     match parse(alloc, row) {
         Ok(_) => Ok(true),
@@ -94,7 +94,7 @@ fn begins_text(alloc: Global, row: &[Token]) -> Result<bool, AllocError> {
     }
 }
 
-/// Whether a signal, a route or a process begins with a word.
+/// Whether a signal, a route, a CONNECT or a process begins with a word.
 fn begins_entity(word: Option<Word>) -> bool {
     matches!(
         word,
@@ -102,8 +102,8 @@ fn begins_entity(word: Option<Word>) -> bool {
     )
 }
 
-/// The index of the word with which the signal, the route or the process begins that the tokens before an index end with; the index where there
-/// is none.
+/// The index of the word that begins the last signal, route, CONNECT or process before `index`; `index` if there is
+/// none.
 fn entity(read: &Reading<'_>, index: usize) -> usize {
     for at in (0..index).rev() {
         if begins_entity(read.word(at)) {
@@ -113,7 +113,7 @@ fn entity(read: &Reading<'_>, index: usize) -> usize {
     index
 }
 
-/// The tokens before an index that tell what may stand there: the head of the block, and the signal, the route or the process that they end with.
+/// The tokens before an index that decide what may follow: the head of the block, and the last entity before it.
 fn row_before(alloc: Global, read: &Reading<'_>, index: usize) -> Result<Vec<Token>, AllocError> {
     let begins = entity(read, index);
     let head = if begins < index {
@@ -127,7 +127,7 @@ fn row_before(alloc: Global, read: &Reading<'_>, index: usize) -> Result<Vec<Tok
     Ok(row)
 }
 
-/// How many tokens the head of the block has: up to the first semicolon.
+/// The number of tokens in the head of the block: up to the first semicolon.
 fn block_head(read: &Reading<'_>, before: usize) -> usize {
     for at in 0..before {
         if read.symbol(at) == Some(Symbol::Semicolon) {
@@ -137,7 +137,7 @@ fn block_head(read: &Reading<'_>, before: usize) -> usize {
     before
 }
 
-/// Which of the candidates may stand behind these tokens, as they are written.
+/// The candidates that may follow these tokens, as they are spelled.
 fn accepted(alloc: Global, row: &mut Vec<Token>) -> Result<Vec<&'static str>, AllocError> {
     let candidates = candidates(alloc)?;
     let mut wanted = Vec::new(alloc);
@@ -151,7 +151,7 @@ fn accepted(alloc: Global, row: &mut Vec<Token>) -> Result<Vec<&'static str>, Al
     Ok(wanted)
 }
 
-/// The word that is closed by another one.
+/// The reserved word that this word closes.
 fn opened_by(word: Word) -> Option<Word> {
     match word {
         Word::EndBlock => Some(Word::Block),
@@ -162,7 +162,7 @@ fn opened_by(word: Word) -> Option<Word> {
     }
 }
 
-/// The index of a token of the text itself that may be wanted: a closing name, or the number of instances once more.
+/// The index of a token of the text that may be required again: a closing name, or the number of instances.
 fn repeated(read: &Reading<'_>, index: usize) -> Option<usize> {
     let before = index.checked_sub(1)?;
     if read.symbol(before) == Some(Symbol::Comma) {
@@ -174,7 +174,7 @@ fn repeated(read: &Reading<'_>, index: usize) -> Option<usize> {
     Some(at.saturating_add(1))
 }
 
-/// The token of the text itself that may stand there, where it may.
+/// The token of the text itself that may stand there, if there is one.
 fn repeated_text<'a>(
     alloc: Global,
     read: &Reading<'a>,
@@ -195,7 +195,7 @@ fn repeated_text<'a>(
     }
 }
 
-/// One that is wanted, as it is told.
+/// An accepted token as the note names it.
 fn item_of<'a>(one: &'a str, is_number: bool) -> Item<'a> {
     let text = if one == NAME {
         "a name"
@@ -217,7 +217,7 @@ fn item_of<'a>(one: &'a str, is_number: bool) -> Item<'a> {
     }
 }
 
-/// Adds a word where it is wanted.
+/// Adds a word to the items if it is wanted.
 fn push_group(
     items: &mut Vec<Item<'_>>,
     is_wanted: bool,
@@ -232,7 +232,7 @@ fn push_group(
     Ok(())
 }
 
-/// What is wanted, each by its name, and groups by one name, behind what there is.
+/// Adds the accepted tokens to the items: a whole group by one name, other tokens singly.
 fn push_wanted(
     items: &mut Vec<Item<'_>>,
     wanted: &[&'static str],
@@ -250,7 +250,7 @@ fn push_wanted(
     Ok(())
 }
 
-/// What a token is, as it is called, behind what is there.
+/// Adds the description of a token to the text.
 fn push_called(text: &mut String, read: &Reading<'_>, index: usize) -> Result<(), AllocError> {
     let own = read.spelled(index);
     match read.lexeme(index) {
@@ -263,7 +263,7 @@ fn push_called(text: &mut String, read: &Reading<'_>, index: usize) -> Result<()
     }
 }
 
-/// The token of the text itself that may stand there, behind what there is; the end of the text where there is nothing else.
+/// Adds the token of the text itself that may stand there; the end of the text if there is no other item.
 fn push_repeated<'a>(
     alloc: Global,
     items: &mut Vec<Item<'a>>,
@@ -286,7 +286,7 @@ fn push_repeated<'a>(
     }
 }
 
-/// What may stand behind these tokens, where there is the token with an index or the end.
+/// What may follow these tokens; the text has the token with this index next, or its end.
 fn items_behind<'a>(
     alloc: Global,
     read: &Reading<'a>,
@@ -303,7 +303,7 @@ fn items_behind<'a>(
     Ok(items)
 }
 
-/// What may stand at the token with an index, or behind the last one, behind what is there.
+/// Adds what may stand at the token with this index, or after the last token.
 fn push_items_at(
     alloc: Global,
     text: &mut String,
@@ -315,7 +315,7 @@ fn push_items_at(
     push_items(text, &items, "", " or ")
 }
 
-/// What stands at the token with an index, and what is wanted there, or behind the last one.
+/// Notes for P1: the token with this index, and the tokens accepted there or after the last token.
 pub fn unexpected(
     alloc: Global,
     notes: &mut Notes,

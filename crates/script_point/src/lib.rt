@@ -1,4 +1,4 @@
-//! Why a text is refused, as lines that point at the word in the text: its line and column, the line itself, and carets under the word.
+//! Shows why a text is refused: line and column, the line itself, and carets under the word.
 #![tactic(auto)]
 
 mod causes;

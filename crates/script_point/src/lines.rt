@@ -1,8 +1,8 @@
-//! The line in which a place of a text stands.
+//! The line of a text in which a place lies.
 ghost use Rattle.std.specs.Prelude.{◌≡◌, ◌+◌, ◌≤◌, ◌==◌, length, take, count_by};
 ghost use Rattle.script_point.specs.Pointed.{begins, characters, line_at, IsBegin, IsEnd};
 
-/// Whether a byte begins a character.
+/// Whether a byte begins a character in UTF-8.
 pub fn begins(byte: u8) -> bool
     ensures { result ≡ begins byte }
 {
@@ -17,7 +17,7 @@ pub fn characters(bytes: &[u8]) -> usize
     bytes.iter().filter(|byte| begins(**byte)).count()
 }
 
-/// The number of the line in which a place stands, from 1.
+/// The number of the line in which a place lies, from 1.
 pub fn line_at(text: &[u8], place: usize) -> usize
     requires { place ≤ length text.now }
     ensures { result ≡ line_at text.now place }
@@ -25,7 +25,7 @@ pub fn line_at(text: &[u8], place: usize) -> usize
     text[..place].iter().filter(|byte| **byte == b'\n').count() + 1
 }
 
-/// Where the line begins in which a place stands.
+/// Where the line of a place begins.
 pub fn line_begin(text: &[u8], place: usize) -> usize
     requires { place ≤ length text.now }
     ensures { IsBegin text.now place result }
@@ -37,7 +37,7 @@ pub fn line_begin(text: &[u8], place: usize) -> usize
     begin
 }
 
-/// Where the line ends in which a place stands.
+/// Where the line of a place ends.
 pub fn line_end(text: &[u8], place: usize) -> usize
     requires { place ≤ length text.now }
     ensures { IsEnd text.now place result }

@@ -1,4 +1,4 @@
-//! Names that are there twice, or not at all (S1, S2).
+//! Notes for names that are declared twice, or not at all (S1, S2).
 use crate::contexts::{Class, class_of};
 use crate::declared::{Declared, find_any, find_before, find_near};
 use crate::notes::Notes;
@@ -6,7 +6,7 @@ use crate::reading::Reading;
 use crate::saying::{push_all, push_number};
 use std::alloc::{AllocError, Global};
 
-/// With which word a name is used that is declared otherwise than it is wanted; none where there is no such word.
+/// The hint which statement uses a name of kind `found` if a name of kind `wanted` was required; none for other kinds.
 fn instead(wanted: Class, found: Class) -> Option<&'static str> {
     match (wanted, found) {
         (Class::Connection, Class::State) => Some(": write NEXTSTATE "),
@@ -15,7 +15,7 @@ fn instead(wanted: Class, found: Class) -> Option<&'static str> {
     }
 }
 
-/// What a name is declared to be, and in which line.
+/// Adds the kind that a name is declared as, and the line of its declaration, to the hint.
 fn push_declared(
     alloc: Global,
     notes: &mut Notes,
@@ -29,7 +29,7 @@ fn push_declared(
     push_number(alloc, &mut notes.hint, read.line(found.index))
 }
 
-/// What a name is that is declared otherwise than it is wanted.
+/// Adds the hint for a name that is declared as another kind than the required one.
 fn push_other(
     alloc: Global,
     notes: &mut Notes,
@@ -47,7 +47,7 @@ fn push_other(
     }
 }
 
-/// Where a name is declared that is spelled nearly so.
+/// Adds the hint where a name with nearly this spelling is declared.
 fn push_near(
     alloc: Global,
     notes: &mut Notes,
@@ -59,7 +59,7 @@ fn push_near(
     push_number(alloc, &mut notes.hint, read.line(near.index))
 }
 
-/// What could be meant by a name that isn't declared as what it stands for.
+/// Adds what could be meant by a name that isn't declared as the required kind.
 pub fn push_hint(
     alloc: Global,
     notes: &mut Notes,
@@ -77,7 +77,7 @@ pub fn push_hint(
     }
 }
 
-/// A name that its class lacks.
+/// Notes for a name that isn't declared as the required kind (S2).
 pub fn unknown_name(
     alloc: Global,
     notes: &mut Notes,
@@ -97,7 +97,7 @@ pub fn unknown_name(
     push_hint(alloc, notes, read, all, index, class)
 }
 
-/// A name that its class has already, or a signal or timer that a state takes or saves already.
+/// Notes for a name declared twice in its kind, or a signal or timer that a state takes or saves twice (S1).
 pub fn double_name(
     alloc: Global,
     notes: &mut Notes,

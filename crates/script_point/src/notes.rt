@@ -1,20 +1,20 @@
-//! What is said beside a word that is pointed at.
+//! Notes beside a word that the lines point at.
 
 use std::alloc::Global;
 
-/// What is said beside a word that is pointed at. Each part is one line at most, and empty where there is nothing to say.
+/// Notes beside a word that the lines point at. Each is one line at most, and empty if there is no note.
 #[derive(Debug, Drop)]
 pub struct Notes {
-    /// What is wrong: behind the name of the fault.
+    /// What is wrong, after the name of the fault.
     pub said: String,
-    /// What the word is: behind its carets.
+    /// What the word is, after its carets.
     pub under: String,
-    /// What may be written in its place: in a line of its own.
+    /// What may be written in its place, in a separate line.
     pub hint: String,
 }
 
 impl Notes {
-    /// Nothing to say.
+    /// No notes.
     pub fn new(alloc: Global) -> Notes {
         Notes {
             said: String::new(alloc),
@@ -24,11 +24,11 @@ impl Notes {
     }
 }
 
-/// What is said of a refusal, and where it is found where it names no place itself.
+/// The notes of a refusal, and the place where it was found if it names none.
 #[derive(Debug, Drop)]
 pub struct Told {
-    /// What is said.
+    /// The notes.
     pub notes: Notes,
-    /// The place of the token where a limit is passed (S10), or a variable is read unset (S11).
+    /// The place of the token that exceeds a limit (S10), reads a variable unset (S11) or runs off (S4).
     pub found: Option<u32>,
 }

@@ -1,4 +1,4 @@
-//! A refusal, pointed at in the text.
+//! Points at a refusal in its text.
 ghost use Rattle.std.specs.Prelude.{◌≡◌, List, Ok, IfOk};
 ghost use Rattle.sdl_lex.specs.Lexed.{Answers};
 ghost use Rattle.sdl_lex.specs.declared.lexemes.Token as lexeme;
@@ -11,11 +11,11 @@ use mtp2_text::LoadFault;
 use sdl_lex::{LexFault, Token, tokens};
 use std::alloc::{AllocError, Global};
 
-/// The tokens of a text, or none where it has none.
+/// The tokens of a text, or none if the lexis refuses it.
 ///
 /// # Errors
 ///
-/// Want of memory.
+/// `AllocError`: out of memory.
 pub fn tokens_of(alloc: Global, text: &str) -> Result<Vec<Token>, AllocError>
     ensures { IfOk result (λ v. (ts : List lexeme.Token) → Answers text.now (Ok ts) → ts ≡ v.items) }
 {
@@ -26,7 +26,7 @@ pub fn tokens_of(alloc: Global, text: &str) -> Result<Vec<Token>, AllocError>
     }
 }
 
-/// The lines of a refusal of a text with these tokens.
+/// The lines for a refusal of a text with these tokens.
 fn show(
     alloc: Global,
     text: &str,
@@ -43,9 +43,9 @@ fn show(
     }
 }
 
-/// Points at a refusal in its text: where it is, what it is, the line of the text and carets under the word, as `point` says; the name of the
-/// text's file is to stand in front. Where a refusal names no place (S10, S11) it points at the one where it is found; without one there is one
-/// line alone, without line and column.
+/// Points at a refusal in its text: its place, the fault, the line of the text and carets under the word, as `point`
+/// describes. The caller puts the file name before the result. If a refusal names no place (S10, S11), `point_out`
+/// points at `told.found`; without that it returns one line without line and column.
 pub fn point_out(
     alloc: Global,
     text: &str,

@@ -1,8 +1,8 @@
-//! A text with its tokens, by their index.
+//! A text with its tokens, accessed by index.
 use sdl_lex::{Lexeme, Symbol, Token, Word, line_of};
 use std::str;
 
-/// A token of a text as it is written; nothing where it isn't there.
+/// A token of a text as it is written, or "" if the text doesn't contain it.
 pub fn text_of<'a>(text: &'a str, token: &Token) -> &'a str {
     match text
         .as_bytes()
@@ -24,7 +24,7 @@ pub struct Reading<'a> {
 }
 
 impl<'a> Reading<'a> {
-    /// A token as it is written; nothing where there is none.
+    /// A token as it is written, or "" if there is no token with this index.
     pub fn spelled(&self, index: usize) -> &'a str {
         match self.tokens.get(index) {
             Some(token) => text_of(self.text, token),
@@ -32,7 +32,7 @@ impl<'a> Reading<'a> {
         }
     }
 
-    /// What a token is.
+    /// The lexeme of a token.
     pub fn lexeme(&self, index: usize) -> Option<Lexeme> {
         match self.tokens.get(index) {
             Some(token) => Some(token.lexeme),
@@ -40,7 +40,7 @@ impl<'a> Reading<'a> {
         }
     }
 
-    /// The reserved word that a token is.
+    /// The reserved word that a token is, if it is one.
     pub fn word(&self, index: usize) -> Option<Word> {
         match self.lexeme(index) {
             Some(Lexeme::Word(word)) => Some(word),
@@ -48,7 +48,7 @@ impl<'a> Reading<'a> {
         }
     }
 
-    /// The symbol that a token is.
+    /// The symbol that a token is, if it is one.
     pub fn symbol(&self, index: usize) -> Option<Symbol> {
         match self.lexeme(index) {
             Some(Lexeme::Symbol(symbol)) => Some(symbol),
@@ -61,12 +61,12 @@ impl<'a> Reading<'a> {
         matches!(self.lexeme(index), Some(Lexeme::Name(_)))
     }
 
-    /// Whether two tokens are one name, in whatever case.
+    /// Whether two tokens are spelled alike, without regard to case.
     pub fn same(&self, one: usize, other: usize) -> bool {
         self.spelled(one).eq_ignore_ascii_case(self.spelled(other))
     }
 
-    /// The index of the token that begins at a place; how many there are, where none does.
+    /// The index of the token that begins at a place, or the number of tokens if none does.
     pub fn index_at(&self, place: u32) -> usize {
         match self.tokens.iter().position(|token| token.start == place) {
             Some(index) => index,
@@ -82,7 +82,7 @@ impl<'a> Reading<'a> {
         }
     }
 
-    /// The index of the last of the tokens before one that is this word.
+    /// The index of the last token before `before` that is this word.
     pub fn last_word(&self, before: usize, wanted: Word) -> Option<usize> {
         for at in (0..before).rev() {
             if self.word(at) == Some(wanted) {
@@ -92,7 +92,7 @@ impl<'a> Reading<'a> {
         None
     }
 
-    /// The index of the name of the process in which a token stands.
+    /// The index of the name of the process that contains a token, or 0 outside processes.
     pub fn process(&self, index: usize) -> usize {
         match self.last_word(index, Word::Process) {
             Some(at) => at.saturating_add(1),

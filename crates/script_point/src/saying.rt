@@ -1,7 +1,7 @@
-//! Words behind what is there.
+//! Appending words to a text.
 use std::alloc::{AllocError, Global};
 
-/// One of several things: a word or a sign.
+/// An item of an enumeration: a word or a sign.
 #[derive(Clone, Copy)]
 pub struct Item<'a> {
     pub text: &'a str,
@@ -9,7 +9,7 @@ pub struct Item<'a> {
     pub is_sign: bool,
 }
 
-/// Texts behind what is there, one behind the other.
+/// Appends the pieces to a text, in order.
 pub fn push_all(text: &mut String, pieces: &[&str]) -> Result<(), AllocError> {
     for piece in pieces {
         text.push_str(*piece)?;
@@ -17,13 +17,13 @@ pub fn push_all(text: &mut String, pieces: &[&str]) -> Result<(), AllocError> {
     Ok(())
 }
 
-/// A number behind what is there.
+/// Appends a number in decimal to a text.
 pub fn push_number(alloc: Global, text: &mut String, number: usize) -> Result<(), AllocError> {
     let digits = format!(in alloc; "{number}")?;
     text.push_str(&digits)
 }
 
-/// A thing behind what is there.
+/// Appends an item to a text.
 fn push_item(text: &mut String, item: Item<'_>) -> Result<(), AllocError> {
     if item.is_sign {
         push_all(text, &["`", item.text, "`"])
@@ -32,7 +32,7 @@ fn push_item(text: &mut String, item: Item<'_>) -> Result<(), AllocError> {
     }
 }
 
-/// What stands before a thing with a number of so many: a comma, or a word before the last.
+/// The separator before the item with this index, of `count` items: a comma, or a word before the last.
 fn between<'a>(index: usize, count: usize, word: &'a str) -> &'a str {
     if index == 0 {
         return "";
@@ -44,7 +44,7 @@ fn between<'a>(index: usize, count: usize, word: &'a str) -> &'a str {
     }
 }
 
-/// Things behind what is there, each behind what stands before it, with a word before the last: `A, B or C`.
+/// Appends the items, each with `before` in front, separated by commas and by a word before the last: `A, B or C`.
 pub fn push_items(
     text: &mut String,
     items: &[Item<'_>],

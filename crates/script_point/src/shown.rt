@@ -1,4 +1,4 @@
-//! A word of a text with its line, and carets under it.
+//! Shows a word of a text with its line, and carets under it.
 ghost use Rattle.std.specs.Prelude.{◌≡◌, ◌+◌, ◌++◌, ◌∷◌, [], ◌≤◌, length, map, min, string_bytes, IfOk, OnOk};
 ghost use Rattle.std.specs.List.{filter};
 ghost use Rattle.std.specs.Fmt.{decimal};
@@ -8,14 +8,14 @@ use crate::lines::{begins, characters, line_at, line_begin, line_end};
 use crate::notes::Notes;
 use std::alloc::{AllocError, Global};
 
-/// A word of a text: its bytes from `start` up to, but without, `end`.
+/// A word of a text: its bytes from `start` up to `end`, exclusive.
 #[derive(Clone, Copy, Debug, PartialEq, Eq)]
 pub struct Word {
     pub start: usize,
     pub end: usize,
 }
 
-/// A byte as it is shown: a control character but a tab as a space.
+/// A byte as it is shown: a control character other than a tab becomes a space.
 fn shown_byte(byte: u8) -> u8
     ensures { result ≡ shown_byte byte }
 {
@@ -25,14 +25,14 @@ fn shown_byte(byte: u8) -> u8
     if byte < 32 || byte == 127 { b' ' } else { byte }
 }
 
-/// What stands in the line of the carets under the first byte of a character: a tab under a tab.
+/// The character under the first byte of a character, in the line of the carets: a tab under a tab, else a space.
 fn blank(byte: u8) -> u8
     ensures { result ≡ blank byte }
 {
     if byte == b'\t' { byte } else { b' ' }
 }
 
-/// What stands under these bytes before the carets.
+/// The blanks under these bytes, left of the carets.
 fn blanks(alloc: Global, before: &[u8]) -> Result<Vec<u8>, AllocError>
     ensures { IfOk result (λ v. v.items ≡ map blank (filter begins before.now)) }
 {
@@ -43,7 +43,7 @@ fn blanks(alloc: Global, before: &[u8]) -> Result<Vec<u8>, AllocError>
         .collect(alloc)
 }
 
-/// These carets, and one where there is none.
+/// These carets, or one caret if there are none.
 fn one_or_more(alloc: Global, carets: Vec<u8>) -> Result<Vec<u8>, AllocError>
     ensures { IfOk result (λ v. v.items ≡ one_or_more carets.items) }
 {
@@ -65,7 +65,7 @@ fn marks(alloc: Global, word: &[u8]) -> Result<Vec<u8>, AllocError>
         .collect(alloc)
 }
 
-/// A caret for each of these characters, and one where there is none.
+/// A caret for each of these characters, and at least one.
 fn carets(alloc: Global, word: &[u8]) -> Result<Vec<u8>, AllocError>
     ensures { IfOk result (λ v. v.items ≡ carets_under word.now) }
 {
@@ -81,7 +81,7 @@ fn margin(alloc: Global, line: usize) -> Result<Vec<u8>, AllocError>
     number.as_bytes().iter().map(|_digit| b' ').collect(alloc)
 }
 
-/// A text behind a sign, and nothing where the text is empty.
+/// Appends a sign and the text, or nothing if the text is empty.
 fn push_after(lines: &mut Vec<u8>, sign: &str, text: &str) -> Result<(), AllocError>
     ensures { OnOk result (lines.new.items ≡ lines.old.items ++ after sign.now text.now) }
 {
@@ -92,7 +92,7 @@ fn push_after(lines: &mut Vec<u8>, sign: &str, text: &str) -> Result<(), AllocEr
     lines.extend_from_slice(text.as_bytes())
 }
 
-/// Where a fault is and what it is: `:LINE:COLUMN: FAULT: SAID`.
+/// The place of a fault and its name: `:LINE:COLUMN: FAULT: SAID`.
 fn head(
     alloc: Global,
     line: usize,
@@ -111,7 +111,7 @@ fn head(
     Ok(head)
 }
 
-/// The line itself: `LINE | text`.
+/// Appends the line itself: `LINE | text`.
 fn push_source(
     alloc: Global,
     lines: &mut Vec<u8>,
@@ -128,7 +128,7 @@ fn push_source(
     Ok(())
 }
 
-/// The line of the carets, and what the word is.
+/// Appends the line of the carets, with the note under the word.
 fn push_carets(
     alloc: Global,
     lines: &mut Vec<u8>,
@@ -151,7 +151,7 @@ fn push_carets(
     Ok(())
 }
 
-/// What may be written instead, where there is something to say.
+/// Appends the hint as a line, if there is one.
 fn push_hint(alloc: Global, lines: &mut Vec<u8>, line: usize, hint: &str) -> Result<(), AllocError>
     ensures { OnOk result (lines.new.items ≡ lines.old.items ++ hint_text line hint.now) }
 {
@@ -166,9 +166,9 @@ fn push_hint(alloc: Global, lines: &mut Vec<u8>, line: usize, hint: &str) -> Res
     Ok(())
 }
 
-/// A word of a text as it is pointed at, for a fault with a name; the name of the text's file is to stand in front. First
-/// `:LINE:COLUMN: FAULT`, with what is said of it; then the line of the text in which the word begins; under it carets under the word, to the
-/// end of the line at most; then a hint, if there is one. Lines and columns count from 1, columns in characters, and a tab is one.
+/// Points at a word of a text, for a fault with a name; the caller puts the file name before the result. First
+/// `:LINE:COLUMN: FAULT` with its note, then the line in which the word begins, then carets under the word up to the
+/// end of the line, then a hint if there is one. Lines and columns count from 1; a tab is one column.
 pub fn point(
     alloc: Global,
     text: &[u8],
@@ -199,7 +199,7 @@ pub fn point(
     Ok(lines)
 }
 
-/// A fault that has no place, with what is said of it: `: FAULT`, behind the name of a text's file.
+/// The line of a fault that has no place, with its note: `: FAULT: SAID`, to follow the name of the text's file.
 pub fn point_nowhere(alloc: Global, fault: &str, said: &str) -> Result<Vec<u8>, AllocError>
     ensures { IfOk result (λ v. v.items ≡ bare_text fault.now said.now) }
 {
@@ -211,7 +211,7 @@ pub fn point_nowhere(alloc: Global, fault: &str, said: &str) -> Result<Vec<u8>, 
     Ok(head)
 }
 
-/// A fault at a place of a text whose line isn't shown: `:LINE:COLUMN: FAULT`, behind the name of a text's file.
+/// The line of a fault at a place, without the source line: `:LINE:COLUMN: FAULT: SAID`, to follow the file's name.
 pub fn point_head(
     alloc: Global,
     text: &[u8],

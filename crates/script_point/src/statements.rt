@@ -1,8 +1,8 @@
-//! The statement in which a place stands.
+//! The statement of a process that contains a place.
 use sdl_tables::{BlockTable, ProcessTable};
 use sdl_tree::{Action, Answer, Decision, Process, StateClause, Statement, Transition};
 
-/// What stands at a place: an action, a question, or an answer of a DECISION.
+/// What contains a place: an action, a question, or an answer of a DECISION.
 #[derive(Clone, Copy)]
 pub enum Standing<'a> {
     Action(&'a Action),
@@ -10,14 +10,14 @@ pub enum Standing<'a> {
     Answer(&'a Decision, &'a Answer),
 }
 
-/// Where something begins, and what it is.
+/// A part of a process and where it begins.
 #[derive(Clone, Copy)]
 pub struct Found<'a> {
     pub at: u32,
     pub standing: Standing<'a>,
 }
 
-/// Of two things the one that begins later, of those that begin before a place.
+/// The later of two parts, if the second begins no later than the place; else the first.
 fn later<'a>(one: Option<Found<'a>>, other: Option<Found<'a>>, place: u32) -> Option<Found<'a>> {
     let Some(second) = other else {
         return one;
@@ -41,7 +41,7 @@ fn action_at(action: &Action) -> u32 {
     }
 }
 
-/// What stands at a place of a statement.
+/// The part of a statement at a place, given that the statement begins no later than the place.
 #[cycle(standing)]
 fn in_statement<'a>(statement: &'a Statement, place: u32) -> Option<Found<'a>> {
     match statement {
@@ -53,7 +53,7 @@ fn in_statement<'a>(statement: &'a Statement, place: u32) -> Option<Found<'a>> {
     }
 }
 
-/// What stands at a place of a DECISION.
+/// The part of a DECISION at a place, given that the DECISION begins no later than the place.
 #[cycle(standing)]
 fn in_decision<'a>(decision: &'a Decision, place: u32) -> Option<Found<'a>> {
     let mut found = Some(Found {
@@ -74,7 +74,7 @@ fn in_decision<'a>(decision: &'a Decision, place: u32) -> Option<Found<'a>> {
     }
 }
 
-/// What stands at a place of a transition.
+/// The last part of a transition that begins no later than a place.
 #[cycle(standing)]
 fn in_transition<'a>(transition: &'a Transition, place: u32) -> Option<Found<'a>> {
     let mut found = None;
@@ -84,7 +84,7 @@ fn in_transition<'a>(transition: &'a Transition, place: u32) -> Option<Found<'a>
     found
 }
 
-/// What stands at a place of a state's clauses.
+/// The last part of a state's clauses that begins no later than a place.
 fn in_clauses<'a>(clauses: &'a [StateClause], place: u32) -> Option<Found<'a>> {
     let mut found = None;
     for clause in clauses {
@@ -95,7 +95,7 @@ fn in_clauses<'a>(clauses: &'a [StateClause], place: u32) -> Option<Found<'a>> {
     found
 }
 
-/// What stands at a place of a process: of all that begins before it the last.
+/// The part of a process that contains a place: the last one that begins no later than the place.
 pub fn standing_at<'a>(process: &'a Process, place: u32) -> Option<Found<'a>> {
     let mut found = in_transition(&process.start.transition, place);
     for part in &process.states {
@@ -107,7 +107,7 @@ pub fn standing_at<'a>(process: &'a Process, place: u32) -> Option<Found<'a>> {
     found
 }
 
-/// The process in which a place stands: of those that begin before it the last.
+/// The process that contains a place: the last one whose name begins no later than the place.
 pub fn process_at<'t, 'a>(table: &'t BlockTable<'a>, place: u32) -> Option<&'t ProcessTable<'a>> {
     let mut found = None;
     for process in table.tables() {

@@ -7,7 +7,7 @@ use sdl_tree::{
 };
 use std::alloc::{AllocError, Global};
 
-/// Whether two names are the same, in whatever case.
+/// Whether two names are equal, without regard to case.
 fn same(one: Name, other: Name) -> bool {
     one.folded() == other.folded()
 }
@@ -25,16 +25,16 @@ fn read_in(expression: &Expression, variable: Name) -> Option<u32> {
     }
 }
 
-/// What an action does with a variable that isn't set before it.
+/// The effect of an action on a variable that is unset before it.
 #[derive(Clone, Copy)]
 struct Doing {
-    /// Where it reads it first.
+    /// The first place where the action reads it, if any.
     read: Option<u32>,
-    /// Whether it sets it.
+    /// Whether the action sets it.
     sets: bool,
 }
 
-/// What assignments do with a variable, one after another.
+/// The effect of assignments, one after another, on an unset variable.
 fn assignments_doing(assignments: &[Assignment], variable: Name) -> Doing {
     let mut read = None;
     for assignment in assignments {
@@ -55,7 +55,7 @@ fn read_in_parameters(parameters: &[Expression], variable: Name) -> Option<u32> 
     read
 }
 
-/// The first place where the signals that go out read a variable.
+/// The first place where the signals of an OUTPUT read a variable.
 fn read_in_sendings(sendings: &[Sending], variable: Name) -> Option<u32> {
     let mut read = None;
     for sending in sendings {
@@ -64,7 +64,7 @@ fn read_in_sendings(sendings: &[Sending], variable: Name) -> Option<u32> {
     read
 }
 
-/// What an action does with a variable.
+/// The effect of an action on an unset variable.
 fn action_doing(action: &Action, variable: Name) -> Doing {
     match action {
         Action::Task(task) => assignments_doing(&task.assignments, variable),
@@ -83,18 +83,18 @@ fn action_doing(action: &Action, variable: Name) -> Doing {
     }
 }
 
-/// What ways through a transition come to with a variable that isn't set.
+/// What paths through a transition reach with the variable still unset.
 #[derive(Drop)]
 struct Reach {
     /// The least place where they read it.
     read: Option<u32>,
-    /// Whether a JOIN leads to each connection so, by number.
+    /// For each connection by number: whether a JOIN reaches it with the variable unset.
     joined: Vec<bool>,
-    /// Whether they end in each state so, by number.
+    /// For each state by number: whether a path enters it with the variable unset.
     entered: Vec<bool>,
 }
 
-/// As many marks, none of them set.
+/// `count` marks, none of them set.
 fn no_marks(alloc: Global, count: usize) -> Result<Vec<bool>, AllocError> {
     let mut marks = Vec::new(alloc);
     for _ in 0..count {
@@ -103,7 +103,7 @@ fn no_marks(alloc: Global, count: usize) -> Result<Vec<bool>, AllocError> {
     Ok(marks)
 }
 
-/// Sets the mark with a number, if there is one.
+/// Sets the mark with a number, if it exists.
 fn mark(marks: &mut Vec<bool>, number: Option<usize>) {
     if let Some(number) = number {
         if let Some(mark) = marks.get_mut(number) {
@@ -120,7 +120,7 @@ fn is_marked(marks: &[bool], number: usize) -> bool {
     }
 }
 
-/// The end of a transition.
+/// Records where the end of a transition leads.
 fn reach_end(reach: &mut Reach, process: &ProcessTable, end: End) {
     match end {
         End::NextState(next) => mark(&mut reach.entered, process.states().number(next.state.name)),
@@ -132,7 +132,7 @@ fn reach_end(reach: &mut Reach, process: &ProcessTable, end: End) {
     }
 }
 
-/// A transition; tells whether a way goes on behind it with the variable unset.
+/// Walks a transition; returns whether a path goes on after it with the variable unset.
 #[cycle(reaching)]
 fn reach_transition(
     reach: &mut Reach,
@@ -154,7 +154,7 @@ fn reach_transition(
     }
 }
 
-/// A statement.
+/// Walks a statement; returns whether a path goes on after it with the variable unset.
 #[cycle(reaching)]
 fn reach_statement(
     reach: &mut Reach,
@@ -175,7 +175,7 @@ fn reach_statement(
     }
 }
 
-/// The bodies of a DECISION.
+/// Walks the bodies of a DECISION; returns whether a path goes on after it with the variable unset.
 #[cycle(reaching)]
 fn reach_bodies(
     reach: &mut Reach,
@@ -193,7 +193,7 @@ fn reach_bodies(
     }
 }
 
-/// The connections that are joined and weren't walked; tells whether there were some.
+/// Walks the connections that are joined but not yet walked; returns whether there were any.
 fn reach_connections(
     reach: &mut Reach,
     walked: &mut Vec<bool>,
@@ -211,7 +211,7 @@ fn reach_connections(
     any
 }
 
-/// All that ways through a transition come to with a variable that isn't set, its connections included.
+/// All that paths through a transition and its connections reach with the variable unset.
 fn reach_of(
     alloc: Global,
     process: &ProcessTable,
@@ -236,7 +236,7 @@ fn reach_of(
     Ok(reach)
 }
 
-/// Whether an INPUT puts a parameter into a variable.
+/// Whether an INPUT stores a parameter in a variable.
 fn is_given(places: &[Option<Identifier>], variable: Name) -> bool {
     for place in places {
         if let Some(id) = place {
@@ -259,7 +259,7 @@ fn begins_unset(process: &ProcessTable, variable: Name) -> bool {
     }
 }
 
-/// The transition of a step, where a variable may be unset behind what its INPUT takes.
+/// The transition of a step, unless the variable is set when it begins.
 fn step_transition<'a>(
     process: &ProcessTable<'a>,
     inputs: &[Vec<InputRow<'a>>],
@@ -278,7 +278,7 @@ fn step_transition<'a>(
     }
 }
 
-/// The transition of the input that takes a signal, where it doesn't set a variable.
+/// The transition of the input that takes a signal, unless the input sets the variable.
 fn input_transition<'a>(
     rows: &[InputRow<'a>],
     signal: Name,
@@ -292,7 +292,7 @@ fn input_transition<'a>(
     None
 }
 
-/// Whether a step leads on from what the one before it comes to; the first one does.
+/// Whether a step follows from what the step before it reaches; the first step does if it is START.
 fn leads_on(process: &ProcessTable, before: &Option<Reach>, step: &Step) -> bool {
     match (before, step) {
         (None, Step::Start) => true,
@@ -304,7 +304,7 @@ fn leads_on(process: &ProcessTable, before: &Option<Reach>, step: &Step) -> bool
     }
 }
 
-/// Where the last step of a control path of a process reads a variable that nothing on the path has set; none where it isn't such a path.
+/// Where the last step of a control path reads a variable that nothing on it has set; none if it isn't such a path.
 fn read_on(
     alloc: Global,
     process: &ProcessTable,
@@ -328,7 +328,7 @@ fn read_on(
     }
 }
 
-/// The process that reads a variable unset on this path, and where: the first of a block that does.
+/// The first process of a block that reads the variable unset on this path, and where it reads it.
 pub fn unset_read(
     alloc: Global,
     block: &BlockTable<'_>,

@@ -10,7 +10,7 @@ use sdl_sound::RuleFault;
 use sdl_tree::ParseFault;
 use std::fmt;
 
-/// Where the token ends that begins at a place; one byte further where none does.
+/// The end of the token that begins at a place, or `place + 1` if none does.
 #[tactic(auto, using(crate::proofs::TokenEnds::skipped, crate::proofs::TokenEnds::found))]
 fn token_end(tokens: &[Token], place: u32) -> usize
     ensures { result ≡ token_end tokens.now place }
@@ -33,7 +33,7 @@ fn token_word(tokens: &[Token], place: u32) -> Word
     }
 }
 
-/// The place of the token with an index, of the last one where they end before it, 0 where there is none.
+/// The place of the token with this index; of the last token if the index is too high; 0 if there are none.
 fn token_place(tokens: &[Token], index: usize) -> u32
     ensures { result ≡ token_place tokens.now index }
 {
@@ -58,7 +58,7 @@ fn lex_word(fault: LexFault) -> Option<Word>
     }
 }
 
-/// The token at which no reading goes on, or the first one of a statement that is too high.
+/// The token that the parser can't accept, or the first one of a statement that is nested too deep.
 fn parse_word(tokens: &[Token], fault: ParseFault) -> Option<Word>
     ensures { result ≡ parse_word tokens.now fault }
 {
@@ -69,7 +69,7 @@ fn parse_word(tokens: &[Token], fault: ParseFault) -> Option<Word>
     }
 }
 
-/// The token where a rule is broken, if it is broken at a place.
+/// The token where a rule is broken, if the fault has a place.
 fn rule_word(tokens: &[Token], fault: &RuleFault) -> Option<Word>
     ensures { result ≡ option_map (token_word tokens.now) (rule_place fault.now) }
 {
@@ -87,7 +87,7 @@ fn rule_word(tokens: &[Token], fault: &RuleFault) -> Option<Word>
     }
 }
 
-/// The word at which a refusal of a text with these tokens points, if it has a place.
+/// The word at which a refusal of a text with these tokens points, if the refusal has a place.
 fn word_of(tokens: &[Token], fault: &LoadFault) -> Option<Word>
     ensures { result ≡ word_of tokens.now fault.now }
 {
@@ -99,7 +99,7 @@ fn word_of(tokens: &[Token], fault: &LoadFault) -> Option<Word>
     }
 }
 
-/// Whether a rule names where a transition begins, and is found where it runs off its end.
+/// Whether the fault is S4: it names where a transition begins, but may be found where the transition runs off.
 fn runs_off(fault: &RuleFault) -> bool
     ensures { result ≡ runs_off fault.now }
 {
@@ -119,7 +119,7 @@ fn runs_off(fault: &RuleFault) -> bool
     }
 }
 
-/// Whether a refusal is found at another place than the one that it names.
+/// Whether a refusal may be found at another place than the one that it names.
 fn is_found_elsewhere(fault: &LoadFault) -> bool
     ensures { result ≡ is_found_elsewhere fault.now }
 {
@@ -129,7 +129,7 @@ fn is_found_elsewhere(fault: &LoadFault) -> bool
     }
 }
 
-/// The word at the place that a refusal names, unless it is found elsewhere.
+/// The word at the place that a refusal names; none if the refusal is found elsewhere.
 fn named_word(tokens: &[Token], fault: &LoadFault, found: Option<u32>) -> Option<Word>
     ensures { result ≡ named_word tokens.now fault.now found }
 {
@@ -139,7 +139,7 @@ fn named_word(tokens: &[Token], fault: &LoadFault, found: Option<u32>) -> Option
     word_of(tokens, fault)
 }
 
-/// The word at which a refusal points: the one at the place that it names, else at the one where it is found. Of S4 the one where it is found counts first.
+/// The word at which a refusal points: at the place that it names, else at `found`. For S4 `found` comes first.
 pub fn word_in(tokens: &[Token], fault: &LoadFault, found: Option<u32>) -> Option<Word>
     ensures { result ≡ word_in tokens.now fault.now found }
 {
@@ -150,7 +150,7 @@ pub fn word_in(tokens: &[Token], fault: &LoadFault, found: Option<u32>) -> Optio
     }
 }
 
-/// A refusal without its line.
+/// A refusal printed without its line number.
 #[derive(Clone, Copy)]
 pub struct Bare<'a>(pub &'a LoadFault);
 

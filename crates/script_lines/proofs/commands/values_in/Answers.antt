@@ -13,7 +13,7 @@ all_good ws = list_all (λ w. is_some (value_of w)) (texts ws)
 abbrev values : List (Bor (List ℕ)) → List Value
 values ws = filter_map value_of (texts ws)
 
--- the words from one on, by what that word says
+-- The words from index i on are all values, split at word i.
 good_here : (ws : List (Bor (List ℕ))) (i : ℕ) (w : Bor (List ℕ)) (o : Option Value) → i < length ws → o ≡ value_of (get_or ws i w).now
     → all_good (drop i ws) ≡ (is_some o && all_good (drop (i + 1) ws))
 good_here ws i w o within is = at_drop_more all_good ws i w within ∙ ap (λ (p : Option Value). is_some p && all_good (drop (i + 1) ws)) (sym is)

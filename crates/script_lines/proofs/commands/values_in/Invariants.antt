@@ -1,4 +1,4 @@
--- The values so far, and the words to come.
+-- The values so far, and the words not yet read.
 use Rattle.std.proofs.Common.{◌≡◌, ◌++◌, drop, is_some}
 use Rattle.std.specs.List.{list_all, filter_map}
 use Rattle.script_lines.specs.Lines.{texts}

@@ -1,4 +1,4 @@
--- The lines so far, and those to come.
+-- The lines so far, and those not yet read.
 use Rattle.std.proofs.Common.{◌≡◌, ◌+◌, ◌++◌, drop, map}
 use Rattle.script_lines.specs.Lines.{texts, plain_line, spoken}
 use Rattle.script_lines.proofs.lines.spoken.Given as goal

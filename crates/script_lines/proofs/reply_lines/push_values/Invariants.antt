@@ -1,4 +1,4 @@
--- The values so far, and those to come.
+-- The values so far, and those not yet printed.
 use Rattle.std.proofs.Common.{◌≡◌, ◌++◌, ◌∷◌, drop}
 use Rattle.std.specs.List.{flat_map}
 use Rattle.script_lines.specs.Replies.{value_text}

@@ -11,7 +11,7 @@ use Rattle.script_lines.specs.Commands.{PlainCommand, plain_command, command_of}
 use Rattle.script_lines.specs.Scripts.{PlainSaid, plain_said, is_bad, said_of}
 use Rattle.script_lines.proofs.script.commands_in.Goals as goal
 
--- what was well behind a change of its error was well before it
+-- A result that is Ok after a change of its error was Ok before it.
 was_ok : {T U E F : Type 0} (r : Result T E) (m : Result U F) (y : U) (P : T → Type 0) (Q : E → F → Type 0) → MatchResult r P (λ e. IsErrAnd m (Q e)) → m ≡ Ok y → is_ok r ≡ true
 was_ok (Ok x) m y P Q cases is = refl
 was_ok (Err e) m y P Q cases is = let w = err_from_is_err_and m cases in let other = w.1 in absurd (cc)
@@ -19,7 +19,7 @@ was_ok (Err e) m y P Q cases is = let w = err_from_is_err_and m cases in let oth
 abbrev find_by : Bool → PlainLine → Option PlainLine → Option PlainLine
 find_by b line more = if b then Some line else more
 
--- the lines from one on, by what that line reads as
+-- The first bad line from index i on, split at line i.
 bad_here : (ls : List Line) (i : ℕ) (l : Line) (o : Option PlainCommand) → i < length ls → l ≡ get_or ls i l → o ≡ command_of (texts l.words.items)
     → find is_bad (map plain_line (drop i ls)) ≡ find_by (is_none o) (plain_line l) (find is_bad (map plain_line (drop (i + 1) ls)))
 bad_here ls i l o within is reads =
@@ -37,7 +37,7 @@ said_here ls i l o within is reads =
     ∙ (ap (λ (m : Line). filter_map said_of (map plain_line (m ∷ drop (i + 1) ls))) (sym is)
     ∙ ap (λ (p : Option PlainCommand). cons_option (said_by l.number p) (filter_map said_of (map plain_line (drop (i + 1) ls)))) (sym reads))
 
--- one command more
+-- Appending one command.
 one_said : (ls : List Line) (i : ℕ) (before after : List Said) (s : Said) (all : List PlainSaid) → after ≡ before ++ s ∷ []
     → filter_map said_of (map plain_line (drop i ls)) ≡ plain_said s ∷ filter_map said_of (map plain_line (drop (i + 1) ls))
     → map plain_said before ++ filter_map said_of (map plain_line (drop i ls)) ≡ all → map plain_said after ++ filter_map said_of (map plain_line (drop (i + 1) ls)) ≡ all

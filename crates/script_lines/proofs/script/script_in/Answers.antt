@@ -9,7 +9,7 @@ use Rattle.script_lines.specs.Scripts.{PlainScript, PlainSaid, defaults, after_h
 use Rattle.script_lines.proofs.Loops.{good, fault}
 use Rattle.script_lines.proofs.script.script_in.Goals as goal
 
--- the lines behind the first ones, from the vector itself
+-- The lines after the first ones, as lines of the whole vector.
 behind : (all at : List Line) (s : Settings) (first : ℕ) → at ≡ all → after_head defaults (map plain_line at) ≡ (s, drop first (map plain_line at))
     → after_head defaults (map plain_line all) ≡ (s, map plain_line (drop first all))
 behind all at s first same head =
@@ -17,7 +17,7 @@ behind all at s first same head =
     ∙ (head
     ∙ (ap (λ ls. (s, drop first (map plain_line ls))) same ∙ ap (λ ls. (s, ls)) (drop-map plain_line first all)))
 
--- the part of a slice that begins there
+-- The part of a slice from index `first` on is the rest of the list.
 part : (lines : List Line) (first : ℕ) → take (length lines - first) (drop first lines) ≡ drop first lines
 part lines first = take_all (length lines - first) (drop first lines) (omega (arith, length-drop first lines))
 

@@ -1,4 +1,4 @@
--- What all lines set, and which are left, is what those from here on say.
+-- The settings and the rest that all lines yield are those that the lines from here on yield.
 use Rattle.std.proofs.Common.{◌≡◌, drop, map}
 use Rattle.script_lines.specs.Lines.{plain_line}
 use Rattle.script_lines.specs.Scripts.{defaults, after_head}

@@ -48,7 +48,7 @@ pub returns-in-expect : goal.returns-in-expect
 unfolding verb_of
 returns-in-expect c = rw c.in-expect.is refl
 
--- a word that is none of these
+-- A word that is none of the verbs.
 no_verb : (word : List ℕ)
     → word ≢ codes "offer"
     → word ≢ codes "begin"
