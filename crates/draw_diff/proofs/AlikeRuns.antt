@@ -1,4 +1,4 @@
--- Renamed code does the same, instruction by instruction.
+-- Renamed code has the same effects as the original, instruction by instruction.
 use Rattle.std.proofs.Common.{◌≡◌, ◌≢◌, ℕ, zero, suc, ◌+◌, ◌⊎◌, Bool as Truth, true, false, not, ◌&&◌, ◌||◌, if◌then◌else◌, eqb, ℤ, pos, ◌+ℤ◌, ◌-ℤ◌, ◌*ℤ◌, neg_ℤ, List, [], ◌∷◌, ◌++◌, length, map, take, drop, reverse, Option, Some, None, refl, sym, ap, ◌∙◌, subst, ⊎_elim, arith, true≢false}
 use Rattle.std.specs.Prelude.{slice_get, slice_set, option_map, nat_le, int_lt, int_div, int_rem}
 use Rattle.std.specs.Int.{int_rem_euclid}
@@ -40,7 +40,7 @@ given_mapped : {A B : Type 0} (P : B → Type 0) (f : A → B) (o : Option A) (y
 given_mapped P f None y e h = absurd (none-some y e)
 given_mapped P f (Some a) y e h = given_some P (f a) y e (h a refl)
 
--- ---- a variable of one name stands for one
+-- ---- variables of the same name have the same number
 
 leads_back : (olds news : List DraftVariable) (n : ℕ) (o : Option ℕ) (w : ℕ) → back_to olds news n o ≡ Some w
     → is_number (moved variable_name news olds w) n ≡ true
@@ -200,7 +200,7 @@ sent_after s n m vs k os a b (Some p) (Some q) d e h =
           ∙ ap (λ o. sent_as (record { signal = n; receiver = p; parameters = record { items = vs } }) (Some m.0) o) to),
     )
 
--- who gets it is the same by its name
+-- the receivers have the same name
 addressed : (s : Sides) (r q : Receiver) (o p : Option Address) → renamed_receiver s r ≡ Some q
     → option_map (renamed_address s) o ≡ option_map (λ (a : Address). Some a) p
     → option_map (renamed_address s) (address_of r o) ≡ option_map (λ (a : Address). Some a) (address_of q p)
@@ -224,7 +224,7 @@ output_after s x y n r c j k os a b same d (Some m) (Some q) em eq e =
 -- ---- one instruction
 
 module _ (s : Sides) (x y : Input) (same : AreInputs s x y) (k : ℕ) (os : List Value) (a b : Progress) (d : AreDone s a b) where
-  -- an instruction that is the same on both sides
+  -- an instruction that is equal on both sides
   itself : (i j : Instruction) → Some i ≡ Some j → AreAfter s (act i x k os a) (act i y k os b) → AreAfter s (act i x k os a) (act j y k os b)
   itself i j e h = given_some (λ j. AreAfter s (act i x k os a) (act j y k os b)) i j e h
 
@@ -288,7 +288,7 @@ module _ (s : Sides) (x y : Input) (same : AreInputs s x y) (k : ℕ) (os : List
 
 -- ---- runs
 
--- each instruction of the one, renamed, is that of the other
+-- each instruction of the old code, renamed, equals that of the new code
 abbrev AreRenamed : Sides → List Instruction → List Instruction → Type 0
 AreRenamed s [] [] = Unit {0}
 AreRenamed s [] (j ∷ js) = ⊥
@@ -307,7 +307,7 @@ all_renamed s (i ∷ is) (j ∷ js) h =
     let both = and_parts (is_there (renamed s i) j) (are_renamed s is js) h in
     (one_renamed (renamed s i) j both.0, all_renamed s is js both.1)
 
--- what stands at a place on both sides
+-- the instructions at a place on both sides: equal after renaming, or missing on both
 abbrev Both : Sides → Option Instruction → Option Instruction → Type 0
 Both s None None = Unit {0}
 Both s None (Some j) = ⊥

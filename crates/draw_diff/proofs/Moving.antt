@@ -1,4 +1,4 @@
--- What has a number on one side has it on the other by its name.
+-- An item that has a number on one side has the number of its namesake on the other side.
 use Rattle.std.proofs.Common.{◌≡◌, ◌∙◌, ℕ, List, Option, Some, None, position, sym, ap}
 use Rattle.std.specs.Prelude.{slice_get}
 use Rattle.draw_diff.specs.Names.{same_name, octet, numbered, moved}

@@ -1,4 +1,4 @@
--- Instructions that `==` tells to be the same.
+-- Instructions that `==` reports as equal are equal.
 use Rattle.std.proofs.Common.{◌≡◌, ℕ, ℤ, Bool as Truth, true, false, ◌&&◌, eqb, refl, sym, ap, true≢false}
 use Rattle.std.specs.Ordering.{int_eq}
 use Rattle.std.proofs.lemmas.Bool.{and_parts, eqb-true}

@@ -1,5 +1,5 @@
--- What a set declares, each thing by a head that names it and a tail that says what it is; and the
--- lines that two sets differ in.
+-- The declarations of a set, each with a head that names it and a tail that describes it, and the
+-- lines for the declarations in which two sets differ.
 use Rattle.std.specs.Prelude.{ℕ, ◌==◌, List, [], ◌∷◌, ◌++◌, map, codes, slice_get, Option, Some}
 use Rattle.std.specs.Prelude.{None, Bool, true, false, if◌then◌else◌}
 use Rattle.std.specs.List.{flat_map}
@@ -24,7 +24,7 @@ use Rattle.draw_diff.specs.declared.items.Item.{Item}
 use Rattle.draw_diff.specs.declared.side.Side.{Side}
 use Rattle.draw_diff.specs.declared.side.Side.TheVariants.{Old, New}
 
--- A thing that is declared: the head names it, and the tail says what it is.
+-- A declared item: the head names it, and the tail describes it.
 pub record PlainItem : Type 0 where
   pub head : List ℕ
   pub tail : List ℕ
@@ -37,7 +37,7 @@ item head tail = record { head = head; tail = tail }
 
 -- ---- names and sorts
 
--- the name of what is there, nothing where there is none
+-- the name of an item; nothing if there is none
 abbrev pub name_or_none : {A : Type 0} → (A → List ℕ) → Option A → List ℕ
 name_or_none name None = []
 name_or_none name (Some x) = name x
@@ -56,7 +56,7 @@ sort_text Boolean = codes "Boolean"
 abbrev pub more_sorts : Sort → List ℕ
 more_sorts sort = codes ", " ++ sort_text sort
 
--- the sorts of parameters in parentheses, nothing where there are none
+-- the sorts of parameters in parentheses; nothing if there are none
 abbrev pub parameters_text : List Sort → List ℕ
 parameters_text [] = []
 parameters_text (sort ∷ sorts) =
@@ -74,7 +74,7 @@ abbrev pub initial_text : Option Value → List ℕ
 initial_text None = []
 initial_text (Some v) = codes " := " ++ value_text v
 
--- one instance is not said
+-- the number of instances; nothing for one instance
 abbrev pub instances_text : ℕ → List ℕ
 instances_text n =
     if n == 1 then [] else (codes " (" ++ decimal n ++ codes ", " ++ decimal n ++ codes ")")
@@ -83,12 +83,12 @@ abbrev pub trigger_text : Draft → DraftProcess → Trigger → List ℕ
 trigger_text d p (Signal n) = signal_text d n
 trigger_text d p (Timer n) = name_or_none own_name (slice_get p.timers n.0)
 
--- ---- what a set declares, in the order of the text
+-- ---- the declarations of a set, in the order of the text
 
 abbrev pub signal_item : DraftSignal → PlainItem
 signal_item s = item (codes "SIGNAL " ++ s.name) (parameters_text s.parameters)
 
--- a signal that a route brings from one party to another
+-- a signal that a route carries from one party to another
 abbrev pub route_item : Draft → DraftRoute → SignalNumber → PlainItem
 route_item d r n =
     item
@@ -102,7 +102,7 @@ route_items d r = map (route_item d r) r.signals
 abbrev pub process_item : DraftProcess → PlainItem
 process_item p = item (codes "PROCESS " ++ p.name) (instances_text p.instances)
 
--- a word, the name of a process, and a name of its own
+-- a keyword, the name of a process, and a name declared in that process
 abbrev pub own_head : List ℕ → DraftProcess → List ℕ → List ℕ
 own_head word p name = word ++ p.name ++ codes " " ++ name
 
@@ -118,7 +118,7 @@ abbrev pub save_item : Draft → DraftProcess → DraftState → Trigger → Pla
 save_item d p q t =
     item (own_head (codes "SAVE ") p q.name ++ codes " " ++ trigger_text d p t) []
 
--- a state with what it saves
+-- a state and the signals and timers that it saves
 abbrev pub state_items : Draft → DraftProcess → DraftState → List PlainItem
 state_items d p q = item (own_head (codes "STATE ") p q.name) [] ∷ map (save_item d p q) q.saves
 
@@ -132,7 +132,7 @@ items_of d =
     map signal_item d.signals ++ flat_map (route_items d) d.routes
     ++ flat_map (process_items d) d.processes
 
--- ---- the lines of what is gone, changed and added
+-- ---- the lines for items removed, changed and added
 
 abbrev pub sign_line : List ℕ → PlainItem → List ℕ
 sign_line sign i = sign ++ i.head ++ i.tail ++ codes "\n"
@@ -142,18 +142,18 @@ change_line i j =
     if same_name i.tail j.tail then [] else
     (codes "~ " ++ i.head ++ i.tail ++ codes " -> " ++ j.head ++ j.tail ++ codes "\n")
 
--- the first of some things that has the same head
+-- the first item of a list that has the same head
 abbrev pub like : PlainItem → List PlainItem → Option PlainItem
 like i [] = None
 like i (j ∷ js) = if same_name i.head j.head then Some j else like i js
 
--- the sign of what one side alone has
+-- the sign before an item that only this side has
 abbrev pub sign_of : Side → List ℕ
 sign_of Old = codes "- "
 sign_of New = codes "+ "
 
--- beside the first of the other side that has the same head: gone or added where there is none,
--- changed where it has another tail, of which NEW has nothing more to say
+-- an item next to its namesake on the other side: removed or added if there is none; changed if
+-- the tails differ, reported on the old side only
 abbrev pub beside : Side → PlainItem → Option PlainItem → List ℕ
 beside side i None = sign_line (sign_of side) i
 beside Old i (Some j) = change_line i j

@@ -1,5 +1,5 @@
--- What the numbers of one set are in another, by their names. Two names that differ in case alone
--- are one.
+-- How names map the numbers of one set to those of another. Two names that differ only in the case
+-- of letters are the same name.
 use Rattle.std.specs.Prelude.{ℕ, Bool, false, List, Option, Some, None, slice_get, position}
 use Rattle.std.specs.Prelude.{bytes_eq, map, nat_lt, ◌==◌, if◌then◌else◌}
 use Rattle.std.specs.Char.{to_ascii_lowercase}
@@ -9,25 +9,25 @@ use Rattle.turn_code.specs.declared.draft.DraftSignal.{DraftSignal}
 use Rattle.turn_code.specs.declared.draft.DraftState.{DraftState}
 use Rattle.turn_code.specs.declared.draft.DraftVariable.{DraftVariable}
 
--- two spellings of one name
+-- whether two spellings are the same name
 abbrev pub same_name : List ℕ → List ℕ → Bool
 same_name x y = bytes_eq (map to_ascii_lowercase x) (map to_ascii_lowercase y)
 
--- numbers in code have an octet
+-- the number as an octet: numbers in code are below 256
 abbrev pub octet : Option ℕ → Option ℕ
 octet None = None
 octet (Some n) = if nat_lt n 256 then Some n else None
 
--- the number of what has this name, by the function that gives the name of each
+-- the number of the item with this name; `name` returns the name of an item
 abbrev pub numbered : {A : Type 0} → (A → List ℕ) → List A → Option A → Option ℕ
 numbered name news None = None
 numbered name news (Some x) = octet (position (λ y. same_name (name x) (name y)) news)
 
--- what has number n among some is this number among others
+-- the number that item n of the old list has in the new list
 abbrev pub moved : {A : Type 0} → (A → List ℕ) → List A → List A → ℕ → Option ℕ
 moved name olds news n = numbered name news (slice_get olds n)
 
--- the number, where it is there and leads back
+-- whether the number is present and equals this one
 abbrev pub is_number : Option ℕ → ℕ → Bool
 is_number None n = false
 is_number (Some m) n = m == n
@@ -68,7 +68,7 @@ moved_state s n = moved state_name s.old_process.states s.new_process.states n
 abbrev pub moved_timer : Sides → ℕ → Option ℕ
 moved_timer s n = moved own_name s.old_process.timers s.new_process.timers n
 
--- a variable of this name has to be the first that has it, on both sides, so no two become one
+-- the variable must be the first of its name on both sides, so no two variables become one
 abbrev pub back_to :
     List DraftVariable → List DraftVariable → ℕ → Option ℕ → Option ℕ
 back_to olds news n None = None

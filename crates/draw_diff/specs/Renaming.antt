@@ -1,4 +1,4 @@
--- Code, effects, ends and inputs of one set in the numbers of another, by their names.
+-- Code, effects, ends and inputs of one set, renamed to the numbers of another.
 use Rattle.std.specs.Prelude.{
   ◌≡◌,
   ℕ,
@@ -36,7 +36,7 @@ use Rattle.turn_code.specs.contracts.instruction.InstructionPartialEq.TheImpl as
 use Rattle.draw_diff.specs.Names.{Sides, moved_signal, moved_process, moved_state, moved_timer}
 use Rattle.draw_diff.specs.Names.{moved_variable}
 
--- ---- who sends and who gets a signal
+-- ---- senders and receivers of signals
 
 abbrev pub renamed_party : Sides → Party → Option Party
 renamed_party s Environment = Some Environment
@@ -54,7 +54,7 @@ sent_to count None r = None
 sent_to count (Some n) None = None
 sent_to count (Some n) (Some r) = Some (Output (record { 0 = n }) r count)
 
--- an instruction with the numbers that its names have on the other side, where they are there
+-- an instruction with the other side's numbers; none if a name is missing there
 abbrev pub renamed : Sides → Instruction → Option Instruction
 renamed s (PutInt z) = Some (PutInt z)
 renamed s (PutBool b) = Some (PutBool b)
@@ -85,12 +85,12 @@ renamed s (Reset t) = option_map (λ u. Reset (record { 0 = u })) (moved_timer s
 renamed s (Next q) = option_map (λ r. Next (record { 0 = r })) (moved_state s q.0)
 renamed s Stop = Some Stop
 
--- ---- code that is the same, once it is renamed
+-- ---- code that is the same after renaming
 
 abbrev pub same_instruction : Instruction → Instruction → Bool
 same_instruction i j = (instruction_eq.ghosts).eq i j
 
--- whether it is there, and this one
+-- whether the renamed instruction exists and equals this one
 abbrev pub is_there : Option Instruction → Instruction → Bool
 is_there None j = false
 is_there (Some i) j = same_instruction i j
@@ -98,7 +98,7 @@ is_there (Some i) j = same_instruction i j
 abbrev pub is_renamed : Sides → Instruction → Instruction → Bool
 is_renamed s i j = is_there (renamed s i) j
 
--- whether each instruction of the one, renamed, is that of the other
+-- whether each instruction of the old code, renamed, equals that of the new code
 abbrev pub are_renamed : Sides → List Instruction → List Instruction → Bool
 are_renamed s [] [] = true
 are_renamed s [] (j ∷ js) = false

@@ -1,4 +1,4 @@
--- What it is for two transitions to mean the same on all inputs, by names: the law of renamed code.
+-- When two transitions behave the same on all inputs, up to numbers: the law of renamed code.
 use Rattle.std.specs.Prelude.{◌≡◌, ℕ, true, List, map, Option, Some, None, option_map, slice_get}
 use Rattle.turn_code.specs.declared.value.Value.{Value}
 use Rattle.turn_code.specs.declared.instruction.Instruction.{Instruction}
@@ -21,20 +21,20 @@ at_party a (Some p) = Some (record { party = p; instance = a.instance })
 abbrev pub renamed_address : Sides → Address → Option Address
 renamed_address s a = at_party a (renamed_party s a.party)
 
--- variables of one name have one value, or neither has one
+-- variables of the same name have the same value, or neither has one
 abbrev pub Agree : Sides → List (Option Value) → List (Option Value) → Type 0
 Agree s olds news =
     (v w : ℕ) → moved_variable s v ≡ Some w → slice_get olds v ≡ slice_get news w
 
--- two inputs that differ in numbers alone: the same parameters, the same sender by its name, and
--- the same values of variables by their names
+-- two inputs that differ only in numbers: equal parameters, and after renaming the same sender and
+-- the same values of variables
 pub record AreInputs (s : Sides) (x y : Input) : Type 0 where
   pub parameters : x.parameters ≡ y.parameters
   pub sender :
       option_map (renamed_address s) x.sender ≡ option_map (λ (a : Address). Some a) y.sender
   pub variables : Agree s x.variables.items y.variables.items
 
--- ---- what two runs do
+-- ---- the results of two runs
 
 abbrev pub sent_as : Sending → Option ℕ → Option Address → Option Effect
 sent_as e None a = None
@@ -56,14 +56,14 @@ renamed_end s (code_ends.State q) =
     option_map (λ r. code_ends.State (record { 0 = r })) (moved_state s q.0)
 renamed_end s code_ends.Stop = Some code_ends.Stop
 
--- what two runs have done so far: the same effects by their names, in the same order, the same
--- values, and the same count
+-- the state of two runs so far: after renaming the same effects in the same order, the same
+-- values of variables, and the same count
 pub record AreDone (s : Sides) (a b : Progress) : Type 0 where
   pub variables : Agree s a.variables b.variables
   pub effects : map (renamed_effect s) a.effects ≡ map (λ (e : Effect). Some e) b.effects
   pub count : a.count ≡ b.count
 
--- how two runs end: the same end by its name, or the same trouble
+-- the ends of two runs: after renaming the same end, or the same trouble
 abbrev pub AreRuns : Sides → Ran → Ran → Type 0
 AreRuns s (ended e a) (ended f b) = (renamed_end s e ≡ Some f) × AreDone s a b
 AreRuns s (ended e a) (got_stuck t) = ⊥
@@ -75,7 +75,7 @@ AreRuns s unfinished (ended f b) = ⊥
 AreRuns s unfinished (got_stuck u) = ⊥
 AreRuns s unfinished unfinished = Unit {0}
 
--- Renamed code does the same on all inputs that differ in numbers alone.
+-- Renamed code does the same on all inputs that differ only in numbers.
 abbrev pub RunsLaw : Type 0
 RunsLaw =
     (s : Sides) (olds news : List Instruction) (x y : Input) → are_renamed s olds news ≡ true

@@ -1,4 +1,4 @@
-//! The lines of what one set alone has.
+//! The lines of what only one set has.
 ghost use Rattle.std.specs.Prelude.{◌≡◌, ◌++◌, OnOk};
 ghost use Rattle.std.specs.List.{flat_map};
 ghost use Rattle.draw_diff.specs.Ways.{alone_input, alone_process, alone_state};
@@ -7,7 +7,7 @@ use crate::ways::{input_title, push_alone, start_title};
 use std::alloc::{AllocError, Global};
 use turn_code::{Draft, DraftInput, DraftProcess, DraftState};
 
-/// The line of an input that one set alone has.
+/// Appends the line of an input that only one set has to `text`.
 pub(crate) fn push_alone_input(
     alloc: Global,
     text: &mut Vec<u8>,
@@ -23,7 +23,7 @@ pub(crate) fn push_alone_input(
     push_alone(alloc, text, sign, &title, &input.piece)
 }
 
-/// The lines of inputs that one set alone has.
+/// Appends the lines of inputs that only one set has to `text`.
 fn push_alone_inputs(
     alloc: Global,
     text: &mut Vec<u8>,
@@ -41,7 +41,7 @@ fn push_alone_inputs(
     Ok(())
 }
 
-/// The lines of a state that one set alone has.
+/// Appends the lines of a state that only one set has to `text`.
 pub(crate) fn push_alone_state(
     alloc: Global,
     text: &mut Vec<u8>,
@@ -56,7 +56,7 @@ pub(crate) fn push_alone_state(
     push_alone_inputs(alloc, text, sign, draft, process, state, inputs)
 }
 
-/// The lines of the states of a process that one set alone has.
+/// Appends the lines of the states of a process that only one set has to `text`.
 fn push_alone_states(
     alloc: Global,
     text: &mut Vec<u8>,
@@ -73,7 +73,7 @@ fn push_alone_states(
     Ok(())
 }
 
-/// The lines of a process that one set alone has.
+/// Appends the lines of a process that only one set has to `text`.
 pub(crate) fn push_alone_process(
     alloc: Global,
     text: &mut Vec<u8>,

@@ -1,4 +1,4 @@
-//! What two sets differ in.
+//! The difference between two sets.
 ghost use Rattle.std.specs.Prelude.{◌≡◌, ◌++◌, IfOk};
 ghost use Rattle.draw_diff.specs.Items.{item_lines, items_of};
 ghost use Rattle.draw_diff.specs.Ways.{new_way_lines, old_way_lines, way_lines};
@@ -10,18 +10,18 @@ use crate::walk::push_ways;
 use std::alloc::{AllocError, Global};
 use turn_code::Draft;
 
-/// What two sets differ in, as lines: none where they are alike.
+/// The difference between two sets, as lines; there are none if the sets are alike.
 #[derive(Drop)]
 pub struct Difference {
-    /// Of what they declare: `- ` before what is gone, `~ ` before what is something else, then `+ ` before what is added.
+    /// Differences in declarations: `- ` before removed items, `~ ` before changed ones, then `+ ` before added ones.
     pub items: Vec<u8>,
-    /// Of the old set's transitions: `- ` before those that are gone, `~ ` before those that mean something else.
+    /// Transitions of the old set: `- ` before removed ones, `~ ` before those whose code differs.
     pub olds: Vec<u8>,
-    /// Of the new set's transitions: `+ ` before those that are added.
+    /// Transitions of the new set: `+ ` before added ones.
     pub news: Vec<u8>,
 }
 
-/// The lines of what two sets declare.
+/// The lines for the declarations in which two sets differ.
 fn item_difference(alloc: Global, old: &Draft, new: &Draft) -> Result<Vec<u8>, AllocError>
     ensures { IfOk result (λ v. v.items ≡ item_lines (items_of old.now) (items_of new.now)) }
 {
@@ -32,7 +32,7 @@ fn item_difference(alloc: Global, old: &Draft, new: &Draft) -> Result<Vec<u8>, A
     Ok(text)
 }
 
-/// The lines of the transitions of the set of a side.
+/// The lines for the transitions of one side.
 fn way_difference(
     alloc: Global,
     side: Side,
@@ -46,13 +46,13 @@ fn way_difference(
     Ok(text)
 }
 
-/// What two sets differ in, by names: numbers, and the order in which things stand, make no difference. A transition of both has
-/// no line exactly where its code in the new set is that in the old one, renamed; then it means the same on all inputs
-/// ([`crate::runs_law`]).
+/// Compares two sets by names; numbers, and the order of declarations, make no difference. A transition of both sets
+/// has no line exactly if its code in the new set is its code in the old set, renamed. It then means the same on all
+/// inputs ([`crate::runs_law`]).
 ///
 /// # Errors
 ///
-/// Want of memory.
+/// Out of memory.
 pub fn compare(alloc: Global, old: &Draft, new: &Draft) -> Result<Difference, AllocError>
     ensures items { IfOk result (λ d. d.items.items ≡ item_lines (items_of old.now) (items_of new.now)) }
     ensures old { IfOk result (λ d. d.olds.items ≡ old_way_lines old.now new.now) }

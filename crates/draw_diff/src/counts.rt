@@ -1,4 +1,4 @@
-//! How many transitions a set has, and how many lines a text.
+//! Counts the transitions of a set, and the lines of a text.
 ghost use Rattle.std.specs.Prelude.{◌≡◌, ◌==◌, ◌++◌, IfOk, OnOk, codes, count_by};
 ghost use Rattle.std.specs.List.{flat_map};
 ghost use Rattle.draw_diff.specs.Ways.{alone_process, lines_in, ways_in};
@@ -7,14 +7,14 @@ use crate::alone::push_alone_process;
 use std::alloc::{AllocError, Global};
 use turn_code::{Draft, DraftProcess};
 
-/// How many line feeds there are.
+/// Returns the number of line feeds in a text.
 pub fn lines_in(text: &[u8]) -> usize
     ensures { result ≡ lines_in text.now }
 {
     text.iter().filter(|byte| **byte == b'\n').count()
 }
 
-/// The lines of all transitions of some processes.
+/// Appends the lines of all transitions of some processes to `text`.
 fn push_all(
     alloc: Global,
     text: &mut Vec<u8>,
@@ -29,11 +29,11 @@ fn push_all(
     Ok(())
 }
 
-/// How many transitions a set has: each has a line.
+/// Returns the number of transitions of a set: each has a line.
 ///
 /// # Errors
 ///
-/// Want of memory.
+/// Out of memory.
 pub fn ways_in(alloc: Global, draft: &Draft) -> Result<usize, AllocError>
     ensures { IfOk result (λ n. n ≡ ways_in draft.now) }
 {

@@ -1,4 +1,4 @@
-//! What a set declares.
+//! The declarations of a set.
 ghost use Rattle.std.specs.Prelude.{◌≡◌, ◌++◌, ◌∷◌, [], map, OnOk, IfOk, codes};
 ghost use Rattle.std.specs.List.{flat_map};
 ghost use Rattle.draw_diff.specs.Items.{item, item_of, items_of, own_head, process_item, process_items, route_item, route_items, save_item, signal_item, state_items, timer_item, variable_item};
@@ -13,16 +13,16 @@ use turn_code::{
     Trigger,
 };
 
-/// A thing that a set declares.
+/// An item that a set declares.
 #[derive(Drop)]
 pub(crate) struct Item {
-    /// What names it: the word for what it is, and its names.
+    /// The head: the keyword of the declaration, and its names.
     pub(crate) head: Vec<u8>,
-    /// What it is: sorts, initial values, instances.
+    /// The tail: sorts, initial values, instances.
     pub(crate) tail: Vec<u8>,
 }
 
-/// One item more.
+/// Appends an item to `items`.
 fn push_item(items: &mut Vec<Item>, head: Vec<u8>, tail: Vec<u8>) -> Result<(), AllocError>
     ensures { OnOk result (map item_of items.new.items ≡ map item_of items.old.items ++ item head.items tail.items ∷ []) }
 {
@@ -30,7 +30,7 @@ fn push_item(items: &mut Vec<Item>, head: Vec<u8>, tail: Vec<u8>) -> Result<(), 
     Ok(())
 }
 
-/// A signal.
+/// Appends a signal.
 fn push_signal(alloc: Global, items: &mut Vec<Item>, signal: &DraftSignal) -> Result<(), AllocError>
     ensures { OnOk result (map item_of items.new.items ≡ map item_of items.old.items ++ signal_item signal.now ∷ []) }
 {
@@ -42,7 +42,7 @@ fn push_signal(alloc: Global, items: &mut Vec<Item>, signal: &DraftSignal) -> Re
     push_item(items, head, tail)
 }
 
-/// Signals.
+/// Appends signals.
 fn push_signals(
     alloc: Global,
     items: &mut Vec<Item>,
@@ -56,7 +56,7 @@ fn push_signals(
     Ok(())
 }
 
-/// A signal that a route brings.
+/// Appends a signal that a route carries.
 fn push_carried(
     alloc: Global,
     items: &mut Vec<Item>,
@@ -76,7 +76,7 @@ fn push_carried(
     push_item(items, head, Vec::new(alloc))
 }
 
-/// Signals that a route brings.
+/// Appends signals that a route carries.
 fn push_all_carried(
     alloc: Global,
     items: &mut Vec<Item>,
@@ -92,7 +92,7 @@ fn push_all_carried(
     Ok(())
 }
 
-/// What a route brings.
+/// Appends all signals of a route.
 fn push_route(
     alloc: Global,
     items: &mut Vec<Item>,
@@ -104,7 +104,7 @@ fn push_route(
     push_all_carried(alloc, items, draft, route, route.signals.as_slice())
 }
 
-/// What routes bring.
+/// Appends all signals of routes.
 fn push_routes(
     alloc: Global,
     items: &mut Vec<Item>,
@@ -119,7 +119,7 @@ fn push_routes(
     Ok(())
 }
 
-/// A word, the name of a process, and a name of its own.
+/// Returns a keyword, the name of a process, and a name declared in that process.
 fn own_head(
     alloc: Global,
     word: &[u8],
@@ -136,7 +136,7 @@ fn own_head(
     Ok(head)
 }
 
-/// A variable.
+/// Appends a variable.
 fn push_variable(
     alloc: Global,
     items: &mut Vec<Item>,
@@ -153,7 +153,7 @@ fn push_variable(
     push_item(items, head, tail)
 }
 
-/// Variables.
+/// Appends variables.
 fn push_variables(
     alloc: Global,
     items: &mut Vec<Item>,
@@ -168,7 +168,7 @@ fn push_variables(
     Ok(())
 }
 
-/// A timer.
+/// Appends a timer.
 fn push_timer(
     alloc: Global,
     items: &mut Vec<Item>,
@@ -181,7 +181,7 @@ fn push_timer(
     push_item(items, head, Vec::new(alloc))
 }
 
-/// Timers.
+/// Appends timers.
 fn push_timers(
     alloc: Global,
     items: &mut Vec<Item>,
@@ -196,7 +196,7 @@ fn push_timers(
     Ok(())
 }
 
-/// A signal or timer that a state saves.
+/// Appends a signal or timer that a state saves.
 fn push_save(
     alloc: Global,
     items: &mut Vec<Item>,
@@ -213,7 +213,7 @@ fn push_save(
     push_item(items, head, Vec::new(alloc))
 }
 
-/// What a state saves.
+/// Appends the signals and timers that a state saves.
 fn push_saves(
     alloc: Global,
     items: &mut Vec<Item>,
@@ -230,7 +230,7 @@ fn push_saves(
     Ok(())
 }
 
-/// A state with what it saves.
+/// Appends a state and the signals and timers that it saves.
 fn push_state(
     alloc: Global,
     items: &mut Vec<Item>,
@@ -245,7 +245,7 @@ fn push_state(
     push_saves(alloc, items, draft, process, state, state.saves.as_slice())
 }
 
-/// States with what they save.
+/// Appends states, each with the signals and timers that it saves.
 fn push_states(
     alloc: Global,
     items: &mut Vec<Item>,
@@ -261,7 +261,7 @@ fn push_states(
     Ok(())
 }
 
-/// The process itself.
+/// Appends the process itself.
 fn push_own(alloc: Global, items: &mut Vec<Item>, process: &DraftProcess) -> Result<(), AllocError>
     ensures { OnOk result (map item_of items.new.items ≡ map item_of items.old.items ++ process_item process.now ∷ []) }
 {
@@ -273,7 +273,7 @@ fn push_own(alloc: Global, items: &mut Vec<Item>, process: &DraftProcess) -> Res
     push_item(items, head, tail)
 }
 
-/// A process with what it declares.
+/// Appends a process with its declarations.
 fn push_process(
     alloc: Global,
     items: &mut Vec<Item>,
@@ -288,7 +288,7 @@ fn push_process(
     push_states(alloc, items, draft, process, process.states.as_slice())
 }
 
-/// Processes with what they declare.
+/// Appends processes with their declarations.
 fn push_processes(
     alloc: Global,
     items: &mut Vec<Item>,
@@ -303,7 +303,7 @@ fn push_processes(
     Ok(())
 }
 
-/// All that a set declares.
+/// Returns all declarations of a set.
 pub(crate) fn items_of(alloc: Global, draft: &Draft) -> Result<Vec<Item>, AllocError>
     ensures { IfOk result (λ v. map item_of v.items ≡ items_of draft.now) }
 {

@@ -1,4 +1,4 @@
-//! What two sets of processes differ in, by their names: what they declare, and which of their transitions mean something else.
+//! Compares two sets of processes by names: their declarations, and the transitions whose code differs.
 #![tactic(auto)]
 
 mod alone;

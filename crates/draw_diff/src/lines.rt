@@ -1,4 +1,4 @@
-//! The lines of what two sets declare and differ in.
+//! The lines for the declarations in which two sets differ.
 ghost use Rattle.std.specs.Prelude.{◌≡◌, ◌++◌, OnOk, Some, map, option_map};
 ghost use Rattle.std.specs.List.{flat_map};
 ghost use Rattle.draw_diff.specs.Items.{beside, change_line, item_lines, item_of, like, side_line, side_lines, sign_line};
@@ -9,7 +9,7 @@ use crate::pieces::push_bytes;
 use crate::side::Side;
 use std::alloc::AllocError;
 
-/// The line of a thing that one set alone declares.
+/// Appends the line of an item that only one set declares to `text`.
 fn push_signed(text: &mut Vec<u8>, sign: &[u8], item: &Item) -> Result<(), AllocError>
     ensures { OnOk result (text.new.items ≡ text.old.items ++ sign_line sign.now (item_of item.now)) }
 {
@@ -19,7 +19,7 @@ fn push_signed(text: &mut Vec<u8>, sign: &[u8], item: &Item) -> Result<(), Alloc
     push_bytes(text, b"\n")
 }
 
-/// The line of a thing that both declare, where it is something else.
+/// Appends the line of an item that both sets declare to `text`, if its tail differs.
 fn push_change(text: &mut Vec<u8>, old: &Item, new: &Item) -> Result<(), AllocError>
     ensures { OnOk result (text.new.items ≡ text.old.items ++ change_line (item_of old.now) (item_of new.now)) }
 {
@@ -35,7 +35,7 @@ fn push_change(text: &mut Vec<u8>, old: &Item, new: &Item) -> Result<(), AllocEr
     push_bytes(text, b"\n")
 }
 
-/// The first of some things that is named as this one.
+/// Returns the first item of a list that has the same head as this one.
 fn like<'a>(item: &Item, others: &'a [Item]) -> Option<&'a Item>
     ensures { option_map (λ i. item_of i.now) result ≡ like (item_of item.now) (map item_of others.now) }
 {
@@ -47,7 +47,7 @@ fn like<'a>(item: &Item, others: &'a [Item]) -> Option<&'a Item>
     None
 }
 
-/// A thing that both declare.
+/// Appends the line of an item that both sets declare to `text`; only the old side writes it.
 fn push_both(text: &mut Vec<u8>, side: Side, item: &Item, other: &Item) -> Result<(), AllocError>
     ensures { OnOk result (text.new.items ≡ text.old.items ++ beside side (item_of item.now) (Some (item_of other.now))) }
 {
@@ -57,7 +57,7 @@ fn push_both(text: &mut Vec<u8>, side: Side, item: &Item, other: &Item) -> Resul
     }
 }
 
-/// A thing that a side declares beside those of the other.
+/// Appends the line of an item of one side to `text`, compared with the items of the other side.
 fn push_line(text: &mut Vec<u8>, side: Side, item: &Item, others: &[Item]) -> Result<(), AllocError>
     ensures { OnOk result (text.new.items ≡ text.old.items ++ side_line side (item_of item.now) (map item_of others.now)) }
 {
@@ -67,7 +67,7 @@ fn push_line(text: &mut Vec<u8>, side: Side, item: &Item, others: &[Item]) -> Re
     }
 }
 
-/// The lines of what a side declares: what is gone or changed, or what is added.
+/// Appends the lines of one side's items to `text`: removed or changed items, or added ones.
 fn push_side(
     text: &mut Vec<u8>,
     side: Side,
@@ -82,7 +82,7 @@ fn push_side(
     Ok(())
 }
 
-/// The lines of what is gone, changed and added.
+/// Appends the lines of removed, changed and added items to `text`.
 pub(crate) fn push_items(text: &mut Vec<u8>, olds: &[Item], news: &[Item]) -> Result<(), AllocError>
     ensures { OnOk result (text.new.items ≡ text.old.items ++ item_lines (map item_of olds.now) (map item_of news.now)) }
 {

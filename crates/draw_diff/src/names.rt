@@ -1,4 +1,4 @@
-//! What the numbers of one set are in another, by their names.
+//! How names map the numbers of one set to those of another.
 ghost use Rattle.std.specs.Prelude.{◌≡◌, List, ℕ, position};
 ghost use Rattle.draw_diff.specs.Names.{same_name, octet, moved, own_name, process_name, signal_name, state_name, variable_name, back_to, moved_signal, moved_process, moved_state, moved_timer, moved_variable};
 
@@ -8,7 +8,7 @@ use turn_code::{
     StateNumber, TimerNumber, VariableNumber,
 };
 
-/// A thing that has a name.
+/// An item that has a name.
 trait Called {
     ghost name: { Self → List ℕ };
 
@@ -57,16 +57,16 @@ impl Called for Name {
     }
 }
 
-/// A process of one set, and a process of another.
+/// A process of the old set, and a process of the new set.
 #[derive(Drop)]
 pub(crate) struct Pair<'a> {
-    /// The one set.
+    /// The old set.
     pub(crate) old: &'a Draft,
-    /// Its process.
+    /// The process of the old set.
     pub(crate) old_process: &'a DraftProcess,
-    /// The other set.
+    /// The new set.
     pub(crate) new: &'a Draft,
-    /// Its process.
+    /// The process of the new set.
     pub(crate) new_process: &'a DraftProcess,
 }
 
@@ -83,14 +83,14 @@ impl<'a> Model for Pair<'a> {
     } };
 }
 
-/// Whether two spellings are of one name: they differ in the case of letters alone.
+/// Whether two spellings are the same name: they differ at most in the case of letters.
 pub(crate) fn same_name(name: &[u8], other: &[u8]) -> bool
     ensures { result ≡ same_name name.now other.now }
 {
     name.eq_ignore_ascii_case(other)
 }
 
-/// A number as numbers in code are, where it is one.
+/// A number as an octet, as code holds numbers; none if it doesn't fit.
 fn octet(number: Option<usize>) -> Option<u8>
     ensures { result ≡ octet number }
 {
@@ -106,14 +106,14 @@ fn octet(number: Option<usize>) -> Option<u8>
     }
 }
 
-/// The place of the first of some things with a name.
+/// The place of the first item with a name.
 fn place_of<T: Called>(name: &[u8], news: &[T]) -> Option<usize>
     ensures { result ≡ position (λ y. same_name name.now (T.name y)) news.now }
 {
     news.iter().position(|new| same_name(name, new.name()))
 }
 
-/// The number among other things of the thing with a number, by its name.
+/// The number that an item of the old list has in the new list, by its name.
 fn among<T: Called>(olds: &[T], news: &[T], number: usize) -> Option<u8>
     ensures { result ≡ moved T.name olds.now news.now number }
 {
@@ -123,7 +123,7 @@ fn among<T: Called>(olds: &[T], news: &[T], number: usize) -> Option<u8>
     }
 }
 
-/// The number in the other set of a signal of the one.
+/// The number in the new set of a signal of the old set.
 pub(crate) fn moved_signal(pair: &Pair<'_>, number: SignalNumber) -> Option<u8>
     ensures { result ≡ moved_signal pair.now number.0 }
 {
@@ -134,7 +134,7 @@ pub(crate) fn moved_signal(pair: &Pair<'_>, number: SignalNumber) -> Option<u8>
     )
 }
 
-/// The number in the other set of a process of the one.
+/// The number in the new set of a process of the old set.
 pub(crate) fn moved_process(pair: &Pair<'_>, number: ProcessNumber) -> Option<u8>
     ensures { result ≡ moved_process pair.now number.0 }
 {
@@ -145,7 +145,7 @@ pub(crate) fn moved_process(pair: &Pair<'_>, number: ProcessNumber) -> Option<u8
     )
 }
 
-/// The number in the other process of a state of the one.
+/// The number in the new process of a state of the old process.
 pub(crate) fn moved_state(pair: &Pair<'_>, number: StateNumber) -> Option<u8>
     ensures { result ≡ moved_state pair.now number.0 }
 {
@@ -156,7 +156,7 @@ pub(crate) fn moved_state(pair: &Pair<'_>, number: StateNumber) -> Option<u8>
     )
 }
 
-/// The number in the other process of a timer of the one.
+/// The number in the new process of a timer of the old process.
 pub(crate) fn moved_timer(pair: &Pair<'_>, number: TimerNumber) -> Option<u8>
     ensures { result ≡ moved_timer pair.now number.0 }
 {
@@ -167,7 +167,7 @@ pub(crate) fn moved_timer(pair: &Pair<'_>, number: TimerNumber) -> Option<u8>
     )
 }
 
-/// A number that leads from the other variables back to the one that it came from, else none.
+/// The found number, if the variable there leads back by its name to the number that it came from; else none.
 fn back_to(
     olds: &[DraftVariable],
     news: &[DraftVariable],
@@ -191,7 +191,7 @@ fn back_to(
     }
 }
 
-/// The number in the other process of a variable of the one.
+/// The number in the new process of a variable of the old process.
 pub(crate) fn moved_variable(pair: &Pair<'_>, number: VariableNumber) -> Option<u8>
     ensures { result ≡ moved_variable pair.now number.0 }
 {

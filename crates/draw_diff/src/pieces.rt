@@ -1,4 +1,4 @@
-//! What lines are made of, each piece behind what is there.
+//! Functions that append the pieces of lines to a text.
 ghost use Rattle.std.specs.Prelude.{◌≡◌, ◌++◌, OnOk, slice_get};
 ghost use Rattle.std.specs.List.{flat_map};
 ghost use Rattle.draw_diff.specs.Names.{own_name};
@@ -7,14 +7,14 @@ ghost use Rattle.draw_diff.specs.Items.{initial_text, instances_text, more_sorts
 use std::alloc::{AllocError, Global};
 use turn_code::{Draft, DraftProcess, Party, SignalNumber, Sort, TimerNumber, Trigger, Value};
 
-/// Octets.
+/// Appends octets to `text`.
 pub(crate) fn push_bytes(text: &mut Vec<u8>, bytes: &[u8]) -> Result<(), AllocError>
     ensures { OnOk result (text.new.items ≡ text.old.items ++ bytes.now) }
 {
     text.extend_from_slice(bytes)
 }
 
-/// The name of a signal, nothing where there is none.
+/// The name of a signal; empty if the number has none.
 pub(crate) fn signal_word<'a>(draft: &'a Draft, number: SignalNumber) -> &'a [u8]
     ensures { result.now ≡ signal_text draft.now number }
 {
@@ -24,7 +24,7 @@ pub(crate) fn signal_word<'a>(draft: &'a Draft, number: SignalNumber) -> &'a [u8
     }
 }
 
-/// The name of a timer, nothing where there is none.
+/// The name of a timer; empty if the number has none.
 fn timer_word(process: &DraftProcess, number: TimerNumber) -> &[u8]
     ensures { result.now ≡ name_or_none own_name (slice_get process.now.timers number.0) }
 {
@@ -34,7 +34,7 @@ fn timer_word(process: &DraftProcess, number: TimerNumber) -> &[u8]
     }
 }
 
-/// The name of a signal, or of a timer of the process.
+/// Appends the name of a signal, or of a timer of the process, to `text`.
 pub(crate) fn push_trigger(
     text: &mut Vec<u8>,
     draft: &Draft,
@@ -49,7 +49,7 @@ pub(crate) fn push_trigger(
     }
 }
 
-/// ENV, or the name of a process.
+/// Appends ENV, or the name of a process, to `text`.
 pub(crate) fn push_party(text: &mut Vec<u8>, draft: &Draft, party: Party) -> Result<(), AllocError>
     ensures { OnOk result (text.new.items ≡ text.old.items ++ party_text draft.now party) }
 {
@@ -72,7 +72,7 @@ pub(crate) fn sort_word(sort: Sort) -> &'static [u8]
     }
 }
 
-/// Sorts, a comma before each.
+/// Appends sorts to `text`, a comma before each.
 fn push_sorts(text: &mut Vec<u8>, sorts: &[Sort]) -> Result<(), AllocError>
     ensures { OnOk result (text.new.items ≡ text.old.items ++ flat_map more_sorts sorts.now) }
 {
@@ -83,7 +83,7 @@ fn push_sorts(text: &mut Vec<u8>, sorts: &[Sort]) -> Result<(), AllocError>
     Ok(())
 }
 
-/// The sorts of parameters in parentheses, nothing where there are none.
+/// Appends the sorts of parameters to `text`, in parentheses; nothing if there are none.
 pub(crate) fn push_parameters(text: &mut Vec<u8>, sorts: &[Sort]) -> Result<(), AllocError>
     ensures { OnOk result (text.new.items ≡ text.old.items ++ parameters_text sorts.now) }
 {
@@ -105,7 +105,7 @@ fn truth_word(value: bool) -> &'static [u8]
     if value { b"TRUE" } else { b"FALSE" }
 }
 
-/// An Integer in decimal digits with its sign, TRUE or FALSE.
+/// Appends an Integer in decimal digits with its sign, TRUE or FALSE to `text`.
 fn push_value(alloc: Global, text: &mut Vec<u8>, value: Value) -> Result<(), AllocError>
     ensures { OnOk result (text.new.items ≡ text.old.items ++ value_text value) }
 {
@@ -118,7 +118,7 @@ fn push_value(alloc: Global, text: &mut Vec<u8>, value: Value) -> Result<(), All
     }
 }
 
-/// An initial value, if there is one.
+/// Appends an initial value to `text`, if there is one.
 pub(crate) fn push_initial(
     alloc: Global,
     text: &mut Vec<u8>,
@@ -135,7 +135,7 @@ pub(crate) fn push_initial(
     }
 }
 
-/// How many instances of a process run, nothing for one.
+/// Appends the number of instances of a process to `text`; nothing for one.
 pub(crate) fn push_instances(
     alloc: Global,
     text: &mut Vec<u8>,

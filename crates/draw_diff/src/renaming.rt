@@ -1,4 +1,4 @@
-//! Code of one set in the numbers of another, by its names.
+//! Code of one set, renamed to the numbers of another.
 ghost use Rattle.std.specs.Prelude.{◌≡◌};
 ghost use Rattle.draw_diff.specs.Names.{moved_signal, moved_state, moved_timer, moved_variable};
 ghost use Rattle.draw_diff.specs.Renaming.{renamed_party, renamed_receiver, sent_to, renamed, is_renamed, are_renamed};
@@ -9,7 +9,7 @@ use turn_code::{
     VariableNumber,
 };
 
-/// A party in the other set's numbers.
+/// A party in the other set's numbers; none if its name is missing there.
 fn renamed_party(pair: &Pair<'_>, party: Party) -> Option<Party>
     ensures { result ≡ renamed_party pair.now party }
 {
@@ -22,7 +22,7 @@ fn renamed_party(pair: &Pair<'_>, party: Party) -> Option<Party>
     }
 }
 
-/// Who gets a signal, in the other set's numbers.
+/// The receiver of a signal, in the other set's numbers; none if its name is missing there.
 fn renamed_receiver(pair: &Pair<'_>, receiver: Receiver) -> Option<Receiver>
     ensures { result ≡ renamed_receiver pair.now receiver }
 {
@@ -35,7 +35,7 @@ fn renamed_receiver(pair: &Pair<'_>, receiver: Receiver) -> Option<Receiver>
     }
 }
 
-/// A signal that goes out, in the other set's numbers.
+/// The instruction that sends a signal, in the other set's numbers; none if a name is missing there.
 fn renamed_output(
     pair: &Pair<'_>,
     signal: SignalNumber,
@@ -53,7 +53,7 @@ fn renamed_output(
     }
 }
 
-/// An instruction in the other set's numbers, where all that it names is there.
+/// An instruction in the other set's numbers; none if a name is missing there.
 fn renamed(pair: &Pair<'_>, instruction: &Instruction) -> Option<Instruction>
     ensures { result ≡ renamed pair.now instruction.now }
 {
@@ -106,7 +106,7 @@ fn renamed(pair: &Pair<'_>, instruction: &Instruction) -> Option<Instruction>
     }
 }
 
-/// Whether an instruction, renamed, is another.
+/// Whether an instruction, renamed, equals another.
 fn is_renamed(pair: &Pair<'_>, old: &Instruction, new: &Instruction) -> bool
     ensures { result ≡ is_renamed pair.now old.now new.now }
 {
@@ -116,7 +116,7 @@ fn is_renamed(pair: &Pair<'_>, old: &Instruction, new: &Instruction) -> bool
     }
 }
 
-/// Whether the instructions of the one, renamed, are those of the other.
+/// Whether each instruction of the old code, renamed, equals that of the new code.
 pub(crate) fn are_renamed(pair: &Pair<'_>, olds: &[Instruction], news: &[Instruction]) -> bool
     ensures { result ≡ are_renamed pair.now olds.now news.now }
 {

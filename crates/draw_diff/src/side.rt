@@ -2,17 +2,17 @@
 ghost use Rattle.std.specs.Prelude.{◌≡◌};
 ghost use Rattle.draw_diff.specs.Items.{sign_of};
 
-/// Whose transitions, or things declared, are gone over, each beside those of the other set.
+/// The side whose transitions or items are walked, each next to those of the other side.
 #[derive(Clone, Copy)]
 pub(crate) enum Side {
-    /// Those of the old set: gone, or something else in the new one.
+    /// The old set: its items are removed or changed.
     Old,
-    /// Those of the new set: added.
+    /// The new set: its items are added.
     New,
 }
 
 impl Side {
-    /// What stands before the line of a thing that this side alone has.
+    /// The sign before the line of an item that only this side has.
     pub(crate) fn sign(self) -> &'static [u8]
         ensures { result.now ≡ sign_of self }
     {

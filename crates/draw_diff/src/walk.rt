@@ -1,4 +1,4 @@
-//! The lines of the transitions that two sets differ in.
+//! The lines for the transitions in which two sets differ.
 ghost use Rattle.std.specs.Prelude.{◌≡◌, ◌++◌, OnOk};
 ghost use Rattle.std.specs.List.{flat_map};
 ghost use Rattle.draw_diff.specs.Ways.{both_line, input_lines, other_process, pair_line, pair_lines, process_lines, process_of, set_of, sides_of, start_line, state_lines, takes_as, takes_same, way_lines};
@@ -11,7 +11,7 @@ use crate::ways::{input_title, push_differs, start_title};
 use std::alloc::{AllocError, Global};
 use turn_code::{Draft, DraftInput, DraftPiece, DraftProcess, DraftState, Trigger};
 
-/// A process of the set of a side, and a process of the other set.
+/// A process of one side and a process of the other side, as a pair of old and new.
 fn pair_of<'a>(
     side: Side,
     set: &'a Draft,
@@ -67,7 +67,7 @@ fn other_process<'a>(side: Side, pair: &Pair<'a>) -> &'a DraftProcess
     }
 }
 
-/// A transition that both sets have: its line where it means something else.
+/// Appends the line of a transition that both sets have to `text`, if its code differs.
 fn push_pair(
     alloc: Global,
     text: &mut Vec<u8>,
@@ -84,7 +84,7 @@ fn push_pair(
     push_differs(alloc, text, title, old, new)
 }
 
-/// Whether two inputs wait for the same, by its name.
+/// Whether two inputs wait for the same signal or timer, compared by name.
 fn takes_same(pair: &Pair<'_>, old: Trigger, new: Trigger) -> bool
     ensures { result ≡ takes_same pair.now old new }
 {
@@ -106,7 +106,7 @@ fn takes_same(pair: &Pair<'_>, old: Trigger, new: Trigger) -> bool
     }
 }
 
-/// Whether an input of a side waits for the same as one of the other.
+/// Whether an input of one side waits for the same signal or timer as one of the other side.
 fn takes_as(side: Side, pair: &Pair<'_>, trigger: Trigger, other: Trigger) -> bool
     ensures { result ≡ takes_as side pair.now trigger other }
 {
@@ -116,7 +116,7 @@ fn takes_as(side: Side, pair: &Pair<'_>, trigger: Trigger, other: Trigger) -> bo
     }
 }
 
-/// An input that both sets have.
+/// Appends the line of an input that both sets have to `text`; only the old side writes it.
 fn push_both(
     alloc: Global,
     text: &mut Vec<u8>,
@@ -137,7 +137,7 @@ fn push_both(
     }
 }
 
-/// An input of a side beside those of the same state of the other.
+/// Appends the line of an input of one side to `text`, compared with those of the same state on the other side.
 fn push_input(
     alloc: Global,
     text: &mut Vec<u8>,
@@ -165,7 +165,7 @@ fn push_input(
     }
 }
 
-/// The inputs of a state of a side beside those of the same state of the other.
+/// Appends the lines of a state's inputs to `text`, compared with those of the same state on the other side.
 fn push_inputs(
     alloc: Global,
     text: &mut Vec<u8>,
@@ -183,7 +183,7 @@ fn push_inputs(
     Ok(())
 }
 
-/// A state of a side beside those of the other.
+/// Appends the lines of a state of one side to `text`, compared with the states of the other side.
 fn push_state(
     alloc: Global,
     text: &mut Vec<u8>,
@@ -219,7 +219,7 @@ fn push_state(
     }
 }
 
-/// The states of a process of a side that the other has too.
+/// Appends the lines of the states of a process to `text`; both sides have the process.
 fn push_states(
     alloc: Global,
     text: &mut Vec<u8>,
@@ -236,7 +236,7 @@ fn push_states(
     Ok(())
 }
 
-/// The STARTs of a process that both have.
+/// Appends the line of the START of a process that both sides have to `text`; only the old side writes it.
 fn push_start(
     alloc: Global,
     text: &mut Vec<u8>,
@@ -255,7 +255,7 @@ fn push_start(
     }
 }
 
-/// A process of a side that the other has too.
+/// Appends the lines of a process that both sides have to `text`.
 fn push_both_processes(
     alloc: Global,
     text: &mut Vec<u8>,
@@ -270,7 +270,7 @@ fn push_both_processes(
     push_states(alloc, text, side, pair, states, others)
 }
 
-/// A process of the set of a side beside those of the other set.
+/// Appends the lines of a process of one side to `text`, compared with the processes of the other set.
 fn push_process(
     alloc: Global,
     text: &mut Vec<u8>,
@@ -295,7 +295,7 @@ fn push_process(
     }
 }
 
-/// The transitions of the set of a side that the other set hasn't; of the old set's also those that mean something else in the new one.
+/// Appends the lines of transitions that the other set lacks; for the old side also of those whose code differs.
 pub(crate) fn push_ways(
     alloc: Global,
     text: &mut Vec<u8>,

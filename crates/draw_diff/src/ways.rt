@@ -1,4 +1,4 @@
-//! The transitions of two sets.
+//! The lines for the transitions of two sets.
 ghost use Rattle.std.specs.Prelude.{◌≡◌, ◌++◌, OnOk, IfOk};
 ghost use Rattle.draw_diff.specs.Ways.{alone_line, cert_text, certs_text, count_text, counts_text, differs_line, input_title, start_title};
 
@@ -6,7 +6,7 @@ use crate::pieces::{push_bytes, push_trigger};
 use std::alloc::{AllocError, Global};
 use turn_code::{Cert, Draft, DraftInput, DraftPiece, DraftProcess, DraftState};
 
-/// A count with its word.
+/// Appends a word and a count to `text`.
 fn push_count(alloc: Global, text: &mut Vec<u8>, word: &[u8], count: u32) -> Result<(), AllocError>
     ensures { OnOk result (text.new.items ≡ text.old.items ++ count_text word.now count) }
 {
@@ -15,7 +15,7 @@ fn push_count(alloc: Global, text: &mut Vec<u8>, word: &[u8], count: u32) -> Res
     push_bytes(text, digits.as_bytes())
 }
 
-/// A count with its word, and what it becomes where that is another.
+/// Appends a word and a count to `text`, followed by the new count if it differs.
 fn push_counts(
     alloc: Global,
     text: &mut Vec<u8>,
@@ -32,7 +32,7 @@ fn push_counts(
     push_count(alloc, text, b" -> ", new)
 }
 
-/// A certificate.
+/// Appends a certificate to `text`.
 fn push_cert(alloc: Global, text: &mut Vec<u8>, cert: Cert) -> Result<(), AllocError>
     ensures { OnOk result (text.new.items ≡ text.old.items ++ cert_text cert) }
 {
@@ -41,7 +41,7 @@ fn push_cert(alloc: Global, text: &mut Vec<u8>, cert: Cert) -> Result<(), AllocE
     push_count(alloc, text, b" effects ", cert.effects)
 }
 
-/// Both certificates of a transition.
+/// Appends both certificates of a transition to `text`.
 fn push_certs(alloc: Global, text: &mut Vec<u8>, old: Cert, new: Cert) -> Result<(), AllocError>
     ensures { OnOk result (text.new.items ≡ text.old.items ++ certs_text old new) }
 {
@@ -50,7 +50,7 @@ fn push_certs(alloc: Global, text: &mut Vec<u8>, old: Cert, new: Cert) -> Result
     push_counts(alloc, text, b" effects ", old.effects, new.effects)
 }
 
-/// The line of a transition that one set alone has.
+/// Appends the line of a transition that only one set has to `text`.
 pub(crate) fn push_alone(
     alloc: Global,
     text: &mut Vec<u8>,
@@ -66,7 +66,7 @@ pub(crate) fn push_alone(
     push_bytes(text, b"\n")
 }
 
-/// The line of a transition that means something else.
+/// Appends the line of a transition whose code differs to `text`.
 pub(crate) fn push_differs(
     alloc: Global,
     text: &mut Vec<u8>,
@@ -82,7 +82,7 @@ pub(crate) fn push_differs(
     push_bytes(text, b"\n")
 }
 
-/// What a START is called.
+/// Returns the title of a START.
 pub(crate) fn start_title(alloc: Global, process: &DraftProcess) -> Result<Vec<u8>, AllocError>
     ensures { IfOk result (λ v. v.items ≡ start_title process.now) }
 {
@@ -92,7 +92,7 @@ pub(crate) fn start_title(alloc: Global, process: &DraftProcess) -> Result<Vec<u
     Ok(title)
 }
 
-/// What an input of a state is called.
+/// Returns the title of an input of a state.
 pub(crate) fn input_title(
     alloc: Global,
     draft: &Draft,

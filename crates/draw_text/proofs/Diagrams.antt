@@ -1,4 +1,4 @@
--- A diagram, put together.
+-- The text of a block diagram, joined from its pieces.
 use Rattle.std.proofs.Common.{◌≡◌, ◌∙◌, ℕ, List, [], ◌++◌, ap, codes}
 use Rattle.std.specs.List.{flat_map}
 use Rattle.sdl_tables.specs.Names.{processes_of}
@@ -12,7 +12,7 @@ joined : (t0 t1 t2 t3 t4 head nodes edges tail : List ℕ) → t0 ≡ [] → t1 
 joined t0 t1 t2 t3 t4 head nodes edges tail e0 e1 e2 e3 e4 =
     e4 ∙ ap (λ t. t ++ tail) (e3 ∙ ap (λ t. t ++ edges) (e2 ∙ ap (λ t. t ++ nodes) (e1 ∙ ap (λ t. t ++ head) e0)))
 
--- the nodes of the processes, and the edges between the parties, one behind the other
+-- the nodes of the processes, followed by the edges between the parties
 pub drawn : (b : PlainBlock) (parties : List Party) (processes : List PlainProcess) (t0 t1 t2 t3 t4 : List ℕ) → t0 ≡ [] → t1 ≡ t0 ++ head_text b
     → t2 ≡ t1 ++ flat_map (λ p. node_text b p.name.name) processes → t3 ≡ t2 ++ flat_map (λ from. flat_map (edge_text b from) parties) parties
     → t4 ≡ t3 ++ codes "}\n" → processes ≡ processes_of b → parties ≡ parties_of b → t4 ≡ block_text b

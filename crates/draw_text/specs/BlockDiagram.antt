@@ -22,7 +22,7 @@ abbrev pub head_text : PlainBlock → List ℕ
 head_text b =
     title_text b ++ node_style ++ edge_style ++ codes " fontname=\"DejaVu Sans\"];\n"
 
--- the nodes of the processes, and then the edge of each pair of parties
+-- the nodes of the processes, followed by the edge of each pair of parties
 abbrev pub block_text : PlainBlock → List ℕ
 block_text b =
     head_text b ++ flat_map (λ p. node_text b p.name.name) (processes_of b)

@@ -1,4 +1,4 @@
--- Which signals routes bring from one party to another, and the lines that show it.
+-- The signals that routes carry from one party to another, and the diagram lines that show them.
 use Rattle.std.specs.Prelude.{ℕ, Bool, true, false, ◌&&◌, List, [], ◌∷◌, ◌++◌, map, codes}
 use Rattle.std.specs.Prelude.{Option, None, Some, if◌then◌else◌}
 use Rattle.std.specs.List.{flat_map}
@@ -16,16 +16,16 @@ use Rattle.draw_text.specs.Statements.{sort_text, arguments_text, party_text}
 abbrev pub parties_of : PlainBlock → List Party
 parties_of b = Environment ∷ map (λ p. Process p.name) (processes_of b)
 
--- the signals of a path, if it goes from the one to the other
+-- the signals of a path, if it leads from the first party to the second
 abbrev pub path_signals : Party → Party → PlainPath → List Identifier
 path_signals from to path =
     if same_party from path.from && same_party to path.to then path.signals else []
 
--- the same of the paths of a route
+-- the signals that the paths of a route carry from the first party to the second
 abbrev pub route_signals : Party → Party → PlainRoute → List Identifier
 route_signals from to route = flat_map (path_signals from to) route.paths
 
--- the signals that routes bring from the one to the other, each once and in the order of the text
+-- the signals that routes carry from one party to another, each once, in the order of the text
 abbrev pub signals_between : PlainBlock → Party → Party → List Identifier
 signals_between b from to = names_once (flat_map (route_signals from to) (routes_of b))
 
@@ -50,12 +50,12 @@ label_text b ids = codes "label=\"" ++ signal_lines b ids ++ codes "\"];\n"
 
 -- ---- edges
 
--- the node from which an edge comes: that of a process, or of what the environment sends to it
+-- the node where an edge starts: the process, or the environment's list of what it sends there
 abbrev pub source_text : PlainBlock → Party → Party → List ℕ
 source_text b Environment to = codes "i_" ++ party_text b to
 source_text b (Process id) to = codes "p_" ++ party_text b (Process id)
 
--- the node to which it goes
+-- the node where an edge ends
 abbrev pub target_text : PlainBlock → Party → Party → List ℕ
 target_text b from Environment = codes "e_" ++ party_text b from
 target_text b from (Process id) = codes "p_" ++ party_text b (Process id)
@@ -63,7 +63,7 @@ target_text b from (Process id) = codes "p_" ++ party_text b (Process id)
 abbrev pub ends_text : PlainBlock → Party → Party → List ℕ
 ends_text b from to = source_text b from to ++ codes " -> " ++ target_text b from to
 
--- the node of the environment's list: above all processes, or below them
+-- the node of the environment's list: ranked above all processes, or below them
 abbrev pub outer_text : PlainBlock → Party → Party → List ℕ
 outer_text b Environment to = codes "{rank=source; " ++ source_text b Environment to
 outer_text b (Process id) to = codes "{rank=sink; " ++ target_text b (Process id) to
@@ -73,7 +73,7 @@ is_outer Environment to = true
 is_outer (Process id) Environment = true
 is_outer (Process id) (Process other) = false
 
--- an edge with its signals; those of the environment stand in a node of their own
+-- an edge with its signals; signals from or to the environment are listed in their own node
 abbrev pub joined_text : PlainBlock → Party → Party → List Identifier → List ℕ
 joined_text b from to ids =
     codes "  " ++ (if is_outer from to
@@ -81,12 +81,12 @@ joined_text b from to ids =
     ++ label_text b ids ++ codes "  }\n  " ++ ends_text b from to ++ codes ";\n"
     else ends_text b from to ++ codes " [" ++ label_text b ids)
 
--- the same where there are signals
+-- an edge with its signals; nothing if there are none
 abbrev pub joined_if_any : PlainBlock → Party → Party → List Identifier → List ℕ
 joined_if_any b from to [] = []
 joined_if_any b from to (id ∷ ids) = joined_text b from to (id ∷ ids)
 
--- the edge from one party to another, if a route brings something
+-- the edge from one party to another; nothing if no route carries a signal between them
 abbrev pub edge_text : PlainBlock → Party → Party → List ℕ
 edge_text b from to = joined_if_any b from to (signals_between b from to)
 

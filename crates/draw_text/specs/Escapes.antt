@@ -1,8 +1,8 @@
--- Marks that the languages of pictures read otherwise, as entities (XML 1.0, 2.4 and 4.6).
+-- Characters with a special meaning in Graphviz or XML, as entities (XML 1.0, 2.4 and 4.6).
 use Rattle.std.specs.Prelude.{ℕ, List, [], ◌∷◌, codes, ◌==◌, if◌then◌else◌}
 use Rattle.std.specs.List.{flat_map}
 
--- a byte as it is written: `&`, `<`, `>` and `"` as entities, each other one as it is
+-- a byte as it is written: `&`, `<`, `>` and `"` as entities, every other byte unchanged
 abbrev pub entity : ℕ → List ℕ
 entity b =
     if b == 38 then codes "&amp;" else

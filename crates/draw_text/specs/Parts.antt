@@ -18,7 +18,7 @@ use Rattle.draw_text.specs.declared.parts.Kind.{Kind}
 use Rattle.draw_text.specs.declared.parts.Kind.TheVariants as kinds
 use Rattle.draw_text.specs.declared.parts.Part.{Part}
 
--- A part: what it is, the place of its first byte in the text, and what is written in it.
+-- A part: its kind, the place of its first byte in the text, and the words written in it.
 pub record PlainPart : Type 0 where
   pub kind : Kind
   pub at : ℕ
@@ -53,7 +53,7 @@ is_symbol kinds.Meet = false
 
 -- ---- actions
 
--- a signal that goes out, and to whom
+-- the symbol of one signal of an OUTPUT: the signal and its receiver
 abbrev pub sending_part : PlainBlock → PlainProcess → Option Destination → PlainSending → PlainPart
 sending_part b p to s = record {
   kind = kinds.Output;
@@ -61,7 +61,7 @@ sending_part b p to s = record {
   text = sending_text b p s ++ codes "\nTO " ++ receiver_text b p to s.signal;
 }
 
--- the assignments of a TASK, each in a line of its own
+-- the assignments of a TASK, each on its own line
 abbrev pub task_text : PlainProcess → List PlainAssignment → List ℕ
 task_text p assignments = row_text (assignment_text p) (codes "\n") assignments
 
@@ -72,7 +72,7 @@ set_text p delay timer =
 abbrev pub reset_text : PlainProcess → Identifier → List ℕ
 reset_text p timer = codes "RESET(" ++ timer_text p timer ++ codes ")"
 
--- the symbol of a TASK, SET or RESET; one for each signal of an OUTPUT
+-- the symbol of a TASK, SET or RESET; for an OUTPUT one symbol for each signal
 abbrev pub action_parts : PlainBlock → PlainProcess → PlainAction → List PlainPart
 action_parts b p (task at assignments) = symbol kinds.Task at (task_text p assignments) ∷ []
 action_parts b p (output at sendings to) = map (sending_part b p to) sendings
@@ -92,7 +92,7 @@ end_part p (the_ends.Join j) =
 abbrev pub question_part : PlainProcess → ℕ → Tree → PlainPart
 question_part p at question = symbol kinds.Question at (value_text p question)
 
--- the values that an answer is for
+-- the values that select an answer, in parentheses
 abbrev pub answer_text : List Range → List ℕ
 answer_text ranges = codes "(" ++ ranges_text ranges ++ codes ")"
 
@@ -100,7 +100,7 @@ abbrev pub else_part : PlainPart
 else_part = record { kind = kinds.Answer; at = 0; text = codes "ELSE" }
 
 abbrev mutual
-  -- each statement in order; a DECISION is its question, and then its answers as branches that meet
+  -- each statement in order; a DECISION is its question, then its answers as branches that meet
   pub text_parts : PlainBlock → PlainProcess → Text → List PlainPart
   text_parts b p falls = []
   text_parts b p (ends e) = end_part p e ∷ []
@@ -109,7 +109,7 @@ abbrev mutual
       question_part p at question ∷ mark kinds.Fork ∷ choice_parts b p choice
       ++ (mark kinds.Meet ∷ text_parts b p rest)
 
-  -- a branch for each answer, with the values that it is for; ELSE last
+  -- a branch for each answer, headed by the values that select it; ELSE last
   pub choice_parts : PlainBlock → PlainProcess → Choice → List PlainPart
   choice_parts b p nothing_else = []
   choice_parts b p (otherwise t) = mark kinds.Branch ∷ else_part ∷ text_parts b p t

@@ -10,7 +10,7 @@ use Rattle.draw_text.specs.Statements.{stimuli_text, triggers_text}
 use Rattle.draw_text.specs.Parts.{PlainPart, mark, symbol, text_parts}
 use Rattle.draw_text.specs.declared.parts.Kind.TheVariants as kinds
 
--- the place of the first of these names
+-- the place of the first of these names; 0 if there are none
 abbrev pub first_place : List Identifier → ℕ
 first_place [] = 0
 first_place (id ∷ ids) = id.at
@@ -48,7 +48,7 @@ abbrev pub connection_parts : PlainBlock → PlainProcess → PlainConnection �
 connection_parts b p c =
     record { kind = kinds.Connector; at = c.at; text = c.name.name } ∷ text_parts b p c.text
 
--- all parts of a process, in the order of the text within each of these
+-- all parts of a process: START, STATE parts, CONNECTIONs, each group in the order of the text
 abbrev pub process_parts : PlainBlock → PlainProcess → List PlainPart
 process_parts b p =
     start_parts b p p.start ++ flat_map (state_parts b p) p.states

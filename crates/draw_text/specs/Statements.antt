@@ -1,4 +1,4 @@
--- Statements, and what an INPUT takes, as they are written in pictures.
+-- Statements and the stimuli of an INPUT, as they are written in pictures.
 use Rattle.std.specs.Prelude.{ℕ, Bool, List, [], ◌∷◌, ◌++◌, Option, None, Some, codes}
 use Rattle.std.specs.List.{flat_map}
 use Rattle.std.specs.Fmt.{signed_decimal}
@@ -53,7 +53,7 @@ ranges_text ranges = row_text range_text (codes ", ") ranges
 
 -- ---- statements
 
--- an expression of a process, as loose as may be
+-- an expression of a process, without parentheses around the whole
 abbrev pub value_text : PlainProcess → Tree → List ℕ
 value_text p tree = tree_text (variable_names p) 0 tree
 
@@ -61,19 +61,19 @@ abbrev pub assignment_text : PlainProcess → PlainAssignment → List ℕ
 assignment_text p a =
     spelled (variable_names p) a.variable.name ++ codes " := " ++ value_text p a.value
 
--- how long after now
+-- the delay of a SET, counted from now
 abbrev pub delay_text : PlainProcess → Tree → List ℕ
 delay_text p tree = value_text p tree
 
 abbrev pub timer_text : PlainProcess → Identifier → List ℕ
 timer_text p timer = spelled (timers_of p) timer.name
 
--- what stands in parentheses, which are left out where nothing does
+-- arguments in parentheses; nothing if there are none
 abbrev pub arguments_text : {A : Type 0} → (A → List ℕ) → List A → List ℕ
 arguments_text f [] = []
 arguments_text f (x ∷ xs) = codes "(" ++ row_text f (codes ", ") (x ∷ xs) ++ codes ")"
 
--- a signal that goes out, with its parameters
+-- the signal of an OUTPUT, with its parameters
 abbrev pub sending_text : PlainBlock → PlainProcess → PlainSending → List ℕ
 sending_text b p s =
     spelled (signal_names b) s.signal.name ++ arguments_text (value_text p) s.parameters
@@ -87,15 +87,15 @@ abbrev pub first_party_text : PlainBlock → List Party → List ℕ
 first_party_text b [] = []
 first_party_text b (q ∷ qs) = party_text b q
 
--- who gets a signal that a process sends: whom the OUTPUT names, else to whom a route brings it
+-- the receiver of a signal of a process: the OUTPUT's destination, else the route's first receiver
 abbrev pub receiver_text : PlainBlock → PlainProcess → Option Destination → Identifier → List ℕ
 receiver_text b p (Some (destinations.Sender at)) signal = codes "SENDER"
 receiver_text b p (Some (destinations.Process id)) signal = spelled (process_names b) id.name
 receiver_text b p None signal = first_party_text b (receivers b (Process p.name) signal.name)
 
--- ---- what an INPUT takes
+-- ---- the stimuli of an INPUT
 
--- the variable for a parameter; nothing where it is thrown away
+-- the variable that takes a parameter; nothing if the parameter is discarded
 abbrev pub place_text : PlainProcess → Option Identifier → List ℕ
 place_text p None = []
 place_text p (Some id) = spelled (variable_names p) id.name
@@ -107,10 +107,10 @@ trigger_text b p name = spelled (timers_of p) (spelled (signal_names b) name)
 abbrev pub stimulus_text : PlainBlock → PlainProcess → PlainStimulus → List ℕ
 stimulus_text b p s = trigger_text b p s.name.name ++ arguments_text (place_text p) s.places
 
--- signals and timers that an INPUT takes, each in a line of its own
+-- the signals and timers that an INPUT consumes, each on its own line
 abbrev pub stimuli_text : PlainBlock → PlainProcess → List PlainStimulus → List ℕ
 stimuli_text b p stimuli = row_text (stimulus_text b p) (codes ",\n") stimuli
 
--- those of a SAVE
+-- the signals and timers of a SAVE, each on its own line
 abbrev pub triggers_text : PlainBlock → PlainProcess → List Identifier → List ℕ
 triggers_text b p ids = row_text (λ id. trigger_text b p id.name) (codes ",\n") ids

@@ -20,21 +20,21 @@ use Rattle.sdl_tables.specs.sdl_ast_types.expression.BinaryOperator.TheVariants.
 
 -- ---- names
 
--- the name of an identifier, if there is one
+-- the name of an identifier; the default name if there is none
 abbrev pub name_or : List ℕ → Option Identifier → List ℕ
 name_or name None = name
 name_or name (Some declared) = declared.name
 
--- the name with a number
+-- the name with a number; the default name if the number is not in the list
 abbrev pub name_at : List Identifier → List ℕ → Option ℕ → List ℕ
 name_at names name None = name
 name_at names name (Some n) = name_or name (slice_get names n)
 
--- a name as it is declared, by the names of its class
+-- a name spelled as it is declared, looked up among the declared names of its class
 unfoldable pub spelled : List Identifier → List ℕ → List ℕ
 spelled names name = name_at names name (number_of names name)
 
--- things in a row, with a mark between them
+-- items in a row, with a mark between them
 abbrev pub row_text : {A : Type 0} → (A → List ℕ) → List ℕ → List A → List ℕ
 row_text f mark [] = []
 row_text f mark (x ∷ xs) = f x ++ flat_map (λ y. mark ++ f y) xs
@@ -48,7 +48,7 @@ abbrev pub truth_text : Bool → List ℕ
 truth_text true = codes "TRUE"
 truth_text false = codes "FALSE"
 
--- how tightly an operand binds that a sign stands before
+-- how tightly the operand of a sign binds
 abbrev pub SIGNED : ℕ
 SIGNED = 5
 
@@ -74,7 +74,7 @@ level_of Divide = 4
 level_of Modulo = 4
 level_of Remainder = 4
 
--- how tightly its left operand has to: as it does itself, but a relation is no operand of one
+-- the level that its left operand needs: its own, but a relation is no operand of a relation
 abbrev pub left_level : ℕ → ℕ
 left_level level = if level == 2 then 3 else level
 
@@ -103,7 +103,7 @@ abbrev pub closing : Bool → List ℕ
 closing true = codes ")"
 closing false = []
 
--- an expression whose operator binds as tightly as the level, in parentheses where it doesn't
+-- an expression, in parentheses if its operator binds less tightly than `level`
 abbrev pub tree_text : List Identifier → ℕ → Tree → List ℕ
 tree_text names level (number at n) = decimal n
 tree_text names level (truth at b) = truth_text b

@@ -8,7 +8,7 @@ use crate::parties::parties_of;
 use crate::{BlockTable, push_bytes};
 use std::alloc::{AllocError, Global};
 
-/// What a diagram begins with before its title, behind what is there.
+/// Appends the text that a diagram begins with, up to its title, to `text`.
 #[tactic(auto, unfolding(crate::specs::BlockDiagram::graph_style))]
 fn push_graph_style(text: &mut Vec<u8>) -> Result<(), AllocError>
     ensures { OnOk result (text.new.items ≡ text.old.items ++ graph_style) }
@@ -19,7 +19,7 @@ fn push_graph_style(text: &mut Vec<u8>) -> Result<(), AllocError>
     )
 }
 
-/// The title of a diagram behind what is there.
+/// Appends the title of a diagram to `text`.
 fn push_title(text: &mut Vec<u8>, block: &BlockTable<'_>) -> Result<(), AllocError>
     ensures { OnOk result (text.new.items ≡ text.old.items ++ title_text (block_of block.now)) }
 {
@@ -30,7 +30,7 @@ fn push_title(text: &mut Vec<u8>, block: &BlockTable<'_>) -> Result<(), AllocErr
     push_bytes(text, b"</b>>];\n")
 }
 
-/// How nodes look, behind what is there.
+/// Appends the attributes of nodes to `text`.
 #[tactic(auto, unfolding(crate::specs::BlockDiagram::node_style))]
 fn push_node_style(text: &mut Vec<u8>) -> Result<(), AllocError>
     ensures { OnOk result (text.new.items ≡ text.old.items ++ node_style) }
@@ -41,7 +41,7 @@ fn push_node_style(text: &mut Vec<u8>) -> Result<(), AllocError>
     )
 }
 
-/// How edges look, behind what is there.
+/// Appends the attributes of edges to `text`.
 #[tactic(auto, unfolding(crate::specs::BlockDiagram::edge_style))]
 fn push_edge_style(text: &mut Vec<u8>) -> Result<(), AllocError>
     ensures { OnOk result (text.new.items ≡ text.old.items ++ edge_style) }
@@ -52,7 +52,7 @@ fn push_edge_style(text: &mut Vec<u8>) -> Result<(), AllocError>
     )
 }
 
-/// What a diagram begins with, behind what is there.
+/// Appends the head of a diagram to `text`: its attributes and its title.
 fn push_head(text: &mut Vec<u8>, block: &BlockTable<'_>) -> Result<(), AllocError>
     ensures { OnOk result (text.new.items ≡ text.old.items ++ head_text (block_of block.now)) }
 {
@@ -62,9 +62,10 @@ fn push_head(text: &mut Vec<u8>, block: &BlockTable<'_>) -> Result<(), AllocErro
     push_bytes(text, b" fontname=\"DejaVu Sans\"];\n")
 }
 
-/// The block diagram of a block in Graphviz's language: an octagon for each process, an edge for each pair of which a route
-/// brings something from one to the other, with its signals, and for each process a list of the signals that come from the
-/// environment, and of those that go there. Processes and signals stand in the order of the text.
+/// Returns the block diagram of a block in Graphviz's language: an octagon for each process, and an edge with its
+/// signals for each pair of which a route carries a signal from one to the other. Each process also has a list of the
+/// signals that come from the environment, and one of those that go there. Processes and signals are in the order of
+/// the text.
 pub fn draw_block(alloc: Global, block: &BlockTable<'_>) -> Result<Vec<u8>, AllocError>
     ensures { IfOk result (λ v. v.items ≡ block_text (block_of block.now)) }
 {

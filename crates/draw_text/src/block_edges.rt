@@ -11,7 +11,7 @@ use crate::{
 };
 use std::alloc::{AllocError, Global};
 
-/// The name of a party behind what is there.
+/// Appends the name of a party to `text`.
 fn push_party(text: &mut Vec<u8>, block: &BlockTable<'_>, party: &Party) -> Result<(), AllocError>
     ensures { OnOk result (text.new.items ≡ text.old.items ++ party_text (block_of block.now) party.now) }
 {
@@ -21,7 +21,7 @@ fn push_party(text: &mut Vec<u8>, block: &BlockTable<'_>, party: &Party) -> Resu
     }
 }
 
-/// Further sorts behind what is there, a comma before each.
+/// Appends further sorts to `text`, a comma before each.
 fn push_more_sorts(text: &mut Vec<u8>, sorts: &[Sort]) -> Result<(), AllocError>
     ensures { OnOk result (text.new.items ≡ text.old.items ++ flat_map (λ s. codes ", " ++ sort_text s) sorts.now) }
 {
@@ -32,7 +32,7 @@ fn push_more_sorts(text: &mut Vec<u8>, sorts: &[Sort]) -> Result<(), AllocError>
     Ok(())
 }
 
-/// Sorts in parentheses behind what is there; nothing where there are none.
+/// Appends sorts in parentheses to `text`; nothing if there are none.
 fn push_sorts(text: &mut Vec<u8>, sorts: &[Sort]) -> Result<(), AllocError>
     ensures { OnOk result (text.new.items ≡ text.old.items ++ arguments_text sort_text sorts.now) }
 {
@@ -47,7 +47,7 @@ fn push_sorts(text: &mut Vec<u8>, sorts: &[Sort]) -> Result<(), AllocError>
     }
 }
 
-/// The sorts of a signal's parameters, in parentheses, behind what is there.
+/// Appends the sorts of a signal's parameters, in parentheses, to `text`.
 fn push_signal_sorts(
     text: &mut Vec<u8>,
     block: &BlockTable<'_>,
@@ -61,7 +61,7 @@ fn push_signal_sorts(
     }
 }
 
-/// A signal with its sorts in a line of its own, behind what is there.
+/// Appends a signal with its sorts, on its own line, to `text`.
 fn push_signal(text: &mut Vec<u8>, block: &BlockTable<'_>, signal: Name) -> Result<(), AllocError>
     ensures { OnOk result (text.new.items ≡ text.old.items ++ signal_text (block_of block.now) signal) }
 {
@@ -70,7 +70,7 @@ fn push_signal(text: &mut Vec<u8>, block: &BlockTable<'_>, signal: Name) -> Resu
     push_bytes(text, b"\\l")
 }
 
-/// The signals of a list, each in a line of its own, behind what is there.
+/// Appends the signals of a list to `text`, each on its own line.
 fn push_signals(
     text: &mut Vec<u8>,
     block: &BlockTable<'_>,
@@ -84,7 +84,7 @@ fn push_signals(
     Ok(())
 }
 
-/// The node from which an edge comes, behind what is there.
+/// Appends the node where an edge starts to `text`.
 fn push_source(
     text: &mut Vec<u8>,
     block: &BlockTable<'_>,
@@ -105,7 +105,7 @@ fn push_source(
     }
 }
 
-/// The node to which an edge goes, behind what is there.
+/// Appends the node where an edge ends to `text`.
 fn push_target(
     text: &mut Vec<u8>,
     block: &BlockTable<'_>,
@@ -126,7 +126,7 @@ fn push_target(
     }
 }
 
-/// From where to where an edge goes, behind what is there.
+/// Appends both ends of an edge to `text`.
 fn push_ends(
     text: &mut Vec<u8>,
     block: &BlockTable<'_>,
@@ -140,7 +140,7 @@ fn push_ends(
     push_target(text, block, from, to)
 }
 
-/// Signals as a label, and the end of the line, behind what is there.
+/// Appends a label with the signals, and the end of the line, to `text`.
 fn push_label(
     text: &mut Vec<u8>,
     block: &BlockTable<'_>,
@@ -153,7 +153,7 @@ fn push_label(
     push_bytes(text, b"\"];\n")
 }
 
-/// The node of a list of signals that come from the environment or go there, behind what is there.
+/// Appends the node that lists the signals from or to the environment to `text`.
 fn push_outer(
     text: &mut Vec<u8>,
     block: &BlockTable<'_>,
@@ -174,7 +174,7 @@ fn push_outer(
     }
 }
 
-/// Whether one of the two is the environment.
+/// Returns whether one of the two parties is the environment.
 fn is_outer(from: &Party, to: &Party) -> bool
     ensures { result ≡ is_outer from.now to.now }
 {
@@ -184,7 +184,7 @@ fn is_outer(from: &Party, to: &Party) -> bool
     }
 }
 
-/// An edge with its signals behind what is there; signals of the environment stand in a node of their own.
+/// Appends an edge with its signals to `text`; signals from or to the environment are listed in a node of their own.
 fn push_joined(
     text: &mut Vec<u8>,
     block: &BlockTable<'_>,
@@ -209,7 +209,7 @@ fn push_joined(
     }
 }
 
-/// The edge from one party to another, if a route brings something, behind what is there.
+/// Appends the edge from one party to another to `text`; nothing if no route carries a signal between them.
 fn push_edge(
     alloc: Global,
     text: &mut Vec<u8>,
@@ -226,7 +226,7 @@ fn push_edge(
     push_joined(text, block, from, to, &signals)
 }
 
-/// The edges from a party to these, behind what is there.
+/// Appends the edges from one party to each of `parties` to `text`.
 fn push_edges_from(
     alloc: Global,
     text: &mut Vec<u8>,
@@ -242,7 +242,7 @@ fn push_edges_from(
     Ok(())
 }
 
-/// The edges from each of these parties to each of them, behind what is there.
+/// Appends the edges from each of these parties to each of them to `text`.
 pub(crate) fn push_edges(
     alloc: Global,
     text: &mut Vec<u8>,
@@ -257,7 +257,7 @@ pub(crate) fn push_edges(
     Ok(())
 }
 
-/// The node of a process behind what is there.
+/// Appends the node of a process to `text`.
 fn push_node(text: &mut Vec<u8>, block: &BlockTable<'_>, process: Name) -> Result<(), AllocError>
     ensures { OnOk result (text.new.items ≡ text.old.items ++ node_text (block_of block.now) process) }
 {
@@ -268,7 +268,7 @@ fn push_node(text: &mut Vec<u8>, block: &BlockTable<'_>, process: Name) -> Resul
     push_bytes(text, b"</b>>];\n")
 }
 
-/// The nodes of processes behind what is there.
+/// Appends the nodes of processes to `text`.
 pub(crate) fn push_nodes(
     text: &mut Vec<u8>,
     block: &BlockTable<'_>,

@@ -1,18 +1,18 @@
-//! Bytes behind what is there.
+//! Functions that append bytes to a text.
 ghost use Rattle.std.specs.Prelude.{◌≡◌, ◌++◌, OnOk};
 ghost use Rattle.std.specs.Fmt.{decimal};
 ghost use Rattle.draw_text.specs.Escapes.{entity, escaped};
 
 use std::alloc::{AllocError, Global};
 
-/// Bytes behind what is there.
+/// Appends bytes to `text`.
 pub fn push_bytes(text: &mut Vec<u8>, bytes: &[u8]) -> Result<(), AllocError>
     ensures { OnOk result (text.new.items ≡ text.old.items ++ bytes.now) }
 {
     text.extend_from_slice(bytes)
 }
 
-/// A number in decimal digits behind what is there.
+/// Appends a number in decimal digits to `text`.
 pub fn push_number(alloc: Global, text: &mut Vec<u8>, number: u32) -> Result<(), AllocError>
     ensures { OnOk result (text.new.items ≡ text.old.items ++ decimal number) }
 {
@@ -20,7 +20,7 @@ pub fn push_number(alloc: Global, text: &mut Vec<u8>, number: u32) -> Result<(),
     push_bytes(text, digits.as_bytes())
 }
 
-/// A byte behind what is there, as an entity where it is `&`, `<`, `>` or `"`.
+/// Appends a byte to `text`; `&`, `<`, `>` and `"` as entities.
 pub fn push_entity(text: &mut Vec<u8>, byte: u8) -> Result<(), AllocError>
     ensures { OnOk result (text.new.items ≡ text.old.items ++ entity byte) }
 {
@@ -33,7 +33,7 @@ pub fn push_entity(text: &mut Vec<u8>, byte: u8) -> Result<(), AllocError>
     }
 }
 
-/// Bytes behind what is there, each of the four marks as an entity.
+/// Appends bytes to `text`; `&`, `<`, `>` and `"` as entities.
 pub fn push_escaped(text: &mut Vec<u8>, bytes: &[u8]) -> Result<(), AllocError>
     ensures { OnOk result (text.new.items ≡ text.old.items ++ escaped bytes.now) }
 {

@@ -1,4 +1,4 @@
-//! Constants, the values that an answer is for, and sorts.
+//! Constants, the values that select an answer, and sorts.
 ghost use Rattle.std.specs.Prelude.{◌≡◌, ◌++◌, OnOk, codes};
 ghost use Rattle.std.specs.List.{flat_map};
 ghost use Rattle.std.specs.Fmt.{signed_decimal};
@@ -19,7 +19,7 @@ pub fn sort_word(sort: Sort) -> &'static [u8]
     }
 }
 
-/// How a value stands to a constant, with the space behind it.
+/// The relation of a value to a constant, with the space that follows it.
 fn relation_word(relation: Relation) -> &'static [u8]
     ensures { result.now ≡ relation_text relation }
 {
@@ -33,7 +33,7 @@ fn relation_word(relation: Relation) -> &'static [u8]
     }
 }
 
-/// A number in decimal digits with its sign, behind what is there.
+/// Appends a number in decimal digits, with its sign, to `text`.
 fn push_integer(alloc: Global, text: &mut Vec<u8>, number: i32) -> Result<(), AllocError>
     ensures { OnOk result (text.new.items ≡ text.old.items ++ signed_decimal number) }
 {
@@ -41,7 +41,7 @@ fn push_integer(alloc: Global, text: &mut Vec<u8>, number: i32) -> Result<(), Al
     push_bytes(text, digits.as_bytes())
 }
 
-/// A constant behind what is there.
+/// Appends a constant to `text`.
 fn push_constant(alloc: Global, text: &mut Vec<u8>, constant: Constant) -> Result<(), AllocError>
     ensures { OnOk result (text.new.items ≡ text.old.items ++ constant_text constant) }
 {
@@ -51,7 +51,7 @@ fn push_constant(alloc: Global, text: &mut Vec<u8>, constant: Constant) -> Resul
     }
 }
 
-/// Values that an answer is for, behind what is there.
+/// Appends one range of values that select an answer to `text`.
 fn push_range(alloc: Global, text: &mut Vec<u8>, range: &Range) -> Result<(), AllocError>
     ensures { OnOk result (text.new.items ≡ text.old.items ++ range_text range.now) }
 {
@@ -73,7 +73,7 @@ fn push_range(alloc: Global, text: &mut Vec<u8>, range: &Range) -> Result<(), Al
     }
 }
 
-/// More values behind what is there, a comma before each.
+/// Appends further ranges to `text`, a comma before each.
 fn push_more_ranges(alloc: Global, text: &mut Vec<u8>, ranges: &[Range]) -> Result<(), AllocError>
     ensures { OnOk result (text.new.items ≡ text.old.items ++ flat_map (λ r. codes ", " ++ range_text r) ranges.now) }
 {
@@ -84,7 +84,7 @@ fn push_more_ranges(alloc: Global, text: &mut Vec<u8>, ranges: &[Range]) -> Resu
     Ok(())
 }
 
-/// All values that an answer is for, with commas between them, behind what is there.
+/// Appends all ranges of values that select an answer to `text`, with commas between them.
 pub fn push_ranges(alloc: Global, text: &mut Vec<u8>, ranges: &[Range]) -> Result<(), AllocError>
     ensures { OnOk result (text.new.items ≡ text.old.items ++ ranges_text ranges.now) }
 {

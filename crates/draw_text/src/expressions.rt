@@ -9,7 +9,7 @@ use sdl_ast::{BinaryOperator, Expression, UnaryOperator};
 use sdl_tables::NameTable;
 use std::alloc::{AllocError, Global};
 
-/// How tightly an operand binds that a sign stands before.
+/// How tightly the operand of a sign binds.
 const SIGNED: u32 = 5;
 
 /// TRUE or FALSE.
@@ -51,7 +51,7 @@ fn level_of(operator: BinaryOperator) -> u32
     }
 }
 
-/// How tightly its left operand has to: as it does itself, but a relation is no operand of one.
+/// The level that its left operand needs: its own, but a relation is no operand of a relation.
 fn left_level(level: u32) -> u32
     ensures { result ≡ left_level level }
 {
@@ -81,21 +81,21 @@ fn operator_word(operator: BinaryOperator) -> &'static [u8]
     }
 }
 
-/// An opening parenthesis where one is wanted.
+/// An opening parenthesis if one is needed.
 fn opening(is_wanted: bool) -> &'static [u8]
     ensures { result.now ≡ opening is_wanted }
 {
     if is_wanted { b"(" } else { b"" }
 }
 
-/// A closing parenthesis where one is wanted.
+/// A closing parenthesis if one is needed.
 fn closing(is_wanted: bool) -> &'static [u8]
     ensures { result.now ≡ closing is_wanted }
 {
     if is_wanted { b")" } else { b"" }
 }
 
-/// An expression behind what is there, in parentheses where its operator doesn't bind as tightly as the level.
+/// Appends an expression to `text`, in parentheses if its operator binds less tightly than `level` (0 is the loosest).
 /// Variables are spelled as they are declared.
 pub fn push_expression(
     alloc: Global,

@@ -1,5 +1,5 @@
-//! What pictures of a process text are made of: names as they are declared, expressions and statements as they are written, the
-//! parts of a process in the order of the text, and the ways through them. And the block diagram of a set.
+//! Building blocks for pictures of a process text: names as declared, expressions and statements as written, the parts
+//! of a process in the order of the text, and the ways through them. It also draws the block diagram of a set.
 #![tactic(auto)]
 
 mod block_diagram;

@@ -8,7 +8,7 @@ use sdl_ast::{Identifier, Name};
 use sdl_tables::{BlockTable, NameTable, ProcessTable};
 use std::alloc::AllocError;
 
-/// What the names in a process stand for: its tables, and those of its block.
+/// The tables that resolve the names in a process: those of the process and those of its block.
 #[derive(Clone, Copy)]
 pub struct Names<'a, 'b> {
     /// The block.
@@ -17,7 +17,7 @@ pub struct Names<'a, 'b> {
     pub process: &'a ProcessTable<'b>,
 }
 
-/// A name as it is declared, by the names of its class; as it is written where none of these is it.
+/// Returns a name as it is declared among `names`; if none of them is this name, as it is written.
 #[tactic(auto, unfolding(crate::specs::Written::spelled))]
 pub fn spelled(names: &NameTable, name: Name) -> Name
     ensures { result ≡ spelled names.now name }
@@ -31,14 +31,14 @@ pub fn spelled(names: &NameTable, name: Name) -> Name
     }
 }
 
-/// A name behind what is there, as it is declared.
+/// Appends a name to `text`, spelled as it is declared.
 pub fn push_name(text: &mut Vec<u8>, names: &NameTable, name: Name) -> Result<(), AllocError>
     ensures { OnOk result (text.new.items ≡ text.old.items ++ spelled names.now name) }
 {
     push_bytes(text, spelled(names, name).as_bytes())
 }
 
-/// Names with a mark between them, behind what is there.
+/// Appends names to `text`, with a mark between them.
 pub fn push_names(
     text: &mut Vec<u8>,
     names: &NameTable,
@@ -56,7 +56,7 @@ pub fn push_names(
     }
 }
 
-/// Names behind what is there, the mark before each.
+/// Appends names to `text`, with the mark before each.
 fn push_marked_names(
     text: &mut Vec<u8>,
     names: &NameTable,

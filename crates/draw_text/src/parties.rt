@@ -1,4 +1,4 @@
-//! Who sends and gets signals, and which signals go from one to another.
+//! The parties that send and receive signals, and the signals that go from one to another.
 ghost use Rattle.std.specs.Prelude.{◌≡◌, [], ◌++◌, ◌∷◌, map, fold, IfOk, OnOk, if◌then◌else◌};
 ghost use Rattle.std.specs.List.{flat_map};
 ghost use Rattle.sdl_tables.specs.Names.{same_name, is_in, add_name, names_once, processes_of};
@@ -10,14 +10,14 @@ ghost use Rattle.draw_text.specs.BlockEdges.{path_signals, route_signals, partie
 use crate::{BlockTable, Identifier, Name, Party, Path, ProcessTable, Route};
 use std::alloc::{AllocError, Global};
 
-/// Whether two spellings are one name.
+/// Whether two spellings are the same name.
 fn same_name(one: Name, other: Name) -> bool
     ensures { result ≡ same_name one other }
 {
     one.folded() == other.folded()
 }
 
-/// Whether two parties are one.
+/// Whether two parties are the same.
 fn same_party(one: &Party, other: &Party) -> bool
     ensures { result ≡ same_party one.now other.now }
 {
@@ -40,7 +40,7 @@ fn is_in(ids: &[Identifier], name: Name) -> bool
     false
 }
 
-/// Adds a name unless it is there.
+/// Adds a name unless it is already there.
 fn add_name(names: &mut Vec<Identifier>, id: Identifier) -> Result<(), AllocError>
     ensures { OnOk result (names.new.items ≡ add_name names.old.items id) }
 {
@@ -51,7 +51,7 @@ fn add_name(names: &mut Vec<Identifier>, id: Identifier) -> Result<(), AllocErro
     Ok(())
 }
 
-/// Adds names, each unless it is there.
+/// Adds names, each unless it is already there.
 fn add_names(names: &mut Vec<Identifier>, ids: &[Identifier]) -> Result<(), AllocError>
     ensures { OnOk result (names.new.items ≡ fold add_name names.old.items ids.now) }
 {
@@ -61,7 +61,7 @@ fn add_names(names: &mut Vec<Identifier>, ids: &[Identifier]) -> Result<(), Allo
     Ok(())
 }
 
-/// Adds the signals of a path from one party to another.
+/// Adds the signals of a path that leads from one party to another.
 fn add_path(
     names: &mut Vec<Identifier>,
     from: &Party,
@@ -77,7 +77,7 @@ fn add_path(
     }
 }
 
-/// Adds the signals of a route's paths from one party to another.
+/// Adds the signals that a route's paths carry from one party to another.
 fn add_route(
     names: &mut Vec<Identifier>,
     from: &Party,
@@ -92,7 +92,7 @@ fn add_route(
     Ok(())
 }
 
-/// The signals that routes bring from one party to another, each once and in the order of the text.
+/// Returns the signals that routes carry from one party to another, each once, in the order of the text.
 pub(crate) fn signals_between(
     alloc: Global,
     block: &BlockTable<'_>,
@@ -108,7 +108,7 @@ pub(crate) fn signals_between(
     Ok(names)
 }
 
-/// The processes behind the parties that there are.
+/// Appends the processes to `parties`.
 fn push_processes(
     parties: &mut Vec<Party>,
     processes: &[ProcessTable<'_>],
@@ -121,7 +121,7 @@ fn push_processes(
     Ok(())
 }
 
-/// The environment, and the processes in the order of the text.
+/// Returns the environment, followed by the processes in the order of the text.
 pub(crate) fn parties_of(alloc: Global, block: &BlockTable<'_>) -> Result<Vec<Party>, AllocError>
     ensures { IfOk result (λ v. v.items ≡ parties_of (block_of block.now)) }
 {

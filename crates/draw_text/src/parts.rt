@@ -4,7 +4,7 @@ ghost use Rattle.draw_text.specs.Parts.{part_of, mark, symbol, is_symbol};
 
 use std::alloc::{AllocError, Global};
 
-/// What a part is.
+/// The kind of a part.
 #[derive(Clone, Copy, Debug, PartialEq, Eq)]
 pub enum Kind {
     /// The symbol that START begins with.
@@ -13,17 +13,17 @@ pub enum Kind {
     State,
     /// The name of a CONNECTION.
     Connector,
-    /// What an INPUT takes.
+    /// The stimuli of an INPUT.
     Input,
     /// The names of a SAVE.
     Save,
     /// A TASK, a SET or a RESET.
     Task,
-    /// A signal that an OUTPUT sends, and to whom.
+    /// A signal of an OUTPUT, and its receiver.
     Output,
     /// The question of a DECISION.
     Question,
-    /// The values that an answer is for, or ELSE.
+    /// The values that select an answer, or ELSE.
     Answer,
     /// A NEXTSTATE.
     NextState,
@@ -31,16 +31,16 @@ pub enum Kind {
     Join,
     /// A STOP.
     Stop,
-    /// No symbol: from here on branches stand side by side.
+    /// No symbol: from here on, branches stand side by side.
     Fork,
     /// No symbol: a branch begins.
     Branch,
-    /// No symbol: the last branch ends, and those that go on meet.
+    /// No symbol: the last branch ends, and the branches that go on meet.
     Meet,
 }
 
-/// A part of a drawing: for a symbol the place of its first byte in the text of the set, and what is written in it, with line feeds
-/// between its lines.
+/// A part of a drawing. For a symbol: the place of its first byte in the text of the set, and the words written in it,
+/// with line feeds between its lines.
 #[derive(Drop)]
 pub struct Part {
     pub kind: Kind,
@@ -48,7 +48,7 @@ pub struct Part {
     pub text: Vec<u8>,
 }
 
-/// A symbol behind the parts that there are.
+/// Appends a symbol to `parts`.
 pub fn push_symbol(
     parts: &mut Vec<Part>,
     kind: Kind,
@@ -61,7 +61,7 @@ pub fn push_symbol(
     Ok(())
 }
 
-/// A part that is no symbol, behind those that there are.
+/// Appends a part that is no symbol to `parts`.
 pub fn push_mark(alloc: Global, parts: &mut Vec<Part>, kind: Kind) -> Result<(), AllocError>
     ensures { OnOk result (map part_of parts.new.items ≡ map part_of parts.old.items ++ mark kind ∷ []) }
 {

@@ -15,7 +15,7 @@ use crate::{
 use sdl_ast::Start;
 use std::alloc::{AllocError, Global};
 
-/// The place of the first of these names; 0 where there is none.
+/// The place of the first of these names; 0 if there are none.
 fn first_place(ids: &[Identifier]) -> u32
     ensures { result ≡ first_place ids.now }
 {
@@ -25,7 +25,7 @@ fn first_place(ids: &[Identifier]) -> u32
     }
 }
 
-/// An INPUT behind the parts that there are.
+/// Appends an INPUT to `parts`.
 fn push_input(
     alloc: Global,
     parts: &mut Vec<Part>,
@@ -41,7 +41,7 @@ fn push_input(
     push_transition(alloc, parts, names, &input.transition)
 }
 
-/// A SAVE behind the parts that there are.
+/// Appends a SAVE to `parts`.
 fn push_save(
     alloc: Global,
     parts: &mut Vec<Part>,
@@ -56,7 +56,7 @@ fn push_save(
     push_symbol(parts, Kind::Save, first_place(ids), text)
 }
 
-/// An INPUT or a SAVE behind the parts that there are.
+/// Appends an INPUT or a SAVE to `parts`.
 fn push_clause(
     alloc: Global,
     parts: &mut Vec<Part>,
@@ -71,7 +71,7 @@ fn push_clause(
     }
 }
 
-/// What the states of a STATE part do, behind the parts that there are.
+/// Appends the INPUTs and SAVEs of a STATE part to `parts`.
 fn push_clauses(
     alloc: Global,
     parts: &mut Vec<Part>,
@@ -86,7 +86,7 @@ fn push_clauses(
     Ok(())
 }
 
-/// The names of a STATE part, and where it forks, behind the parts that there are.
+/// Appends the names of a STATE part, and the fork after them, to `parts`.
 fn push_state_head(
     alloc: Global,
     parts: &mut Vec<Part>,
@@ -101,7 +101,7 @@ fn push_state_head(
     push_mark(alloc, parts, Kind::Fork)
 }
 
-/// A STATE part behind the parts that there are.
+/// Appends a STATE part to `parts`.
 pub fn push_state(
     alloc: Global,
     parts: &mut Vec<Part>,
@@ -115,7 +115,7 @@ pub fn push_state(
     push_mark(alloc, parts, Kind::Meet)
 }
 
-/// START behind the parts that there are.
+/// Appends START to `parts`.
 pub fn push_start(
     alloc: Global,
     parts: &mut Vec<Part>,
@@ -128,7 +128,7 @@ pub fn push_start(
     push_transition(alloc, parts, names, &start.transition)
 }
 
-/// A CONNECTION behind the parts that there are.
+/// Appends a CONNECTION to `parts`.
 pub fn push_connection(
     alloc: Global,
     parts: &mut Vec<Part>,
@@ -142,7 +142,7 @@ pub fn push_connection(
     push_transition(alloc, parts, names, &connection.transition)
 }
 
-/// The STATE parts of a process behind the parts that there are.
+/// Appends the STATE parts of a process to `parts`.
 fn push_states(
     alloc: Global,
     parts: &mut Vec<Part>,
@@ -157,7 +157,7 @@ fn push_states(
     Ok(())
 }
 
-/// The CONNECTIONs of a process behind the parts that there are.
+/// Appends the CONNECTIONs of a process to `parts`.
 fn push_connections(
     alloc: Global,
     parts: &mut Vec<Part>,
@@ -172,7 +172,7 @@ fn push_connections(
     Ok(())
 }
 
-/// The parts of a process: START, the STATE parts and the CONNECTIONs, each in the order of the text.
+/// Returns the parts of a process: START, the STATE parts and the CONNECTIONs, each group in the order of the text.
 pub fn process_parts(alloc: Global, names: &Names<'_, '_>) -> Result<Vec<Part>, AllocError>
     ensures { IfOk result (λ v. map part_of v.items ≡ process_parts (block_of names.now.block.now) (process_of names.now.process.now)) }
 {

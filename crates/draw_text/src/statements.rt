@@ -1,4 +1,4 @@
-//! Parts of statements, and what an INPUT takes.
+//! Parts of statements, and the stimuli of an INPUT.
 ghost use Rattle.std.specs.Prelude.{◌≡◌, ◌++◌, OnOk, map, codes};
 ghost use Rattle.std.specs.List.{flat_map};
 ghost use Rattle.sdl_tables.specs.Names.{variable_names};
@@ -13,7 +13,7 @@ use sdl_ast::{Assignment, Destination, Expression, Identifier, Name, Party, Send
 use sdl_tables::ProcessTable;
 use std::alloc::{AllocError, Global};
 
-/// An expression of a process, behind what is there.
+/// Appends an expression of a process to `text`.
 fn push_value(
     alloc: Global,
     text: &mut Vec<u8>,
@@ -25,7 +25,7 @@ fn push_value(
     push_expression(alloc, text, process.variables(), tree, 0)
 }
 
-/// `VARIABLE := VALUE`, behind what is there.
+/// Appends `VARIABLE := VALUE` to `text`.
 pub fn push_assignment(
     alloc: Global,
     text: &mut Vec<u8>,
@@ -39,7 +39,7 @@ pub fn push_assignment(
     push_value(alloc, text, process, &assignment.value)
 }
 
-/// How long after now a timer runs out, or a question, behind what is there.
+/// Appends a delay or the expression of a question to `text`. A delay counts from now.
 pub fn push_delay(
     alloc: Global,
     text: &mut Vec<u8>,
@@ -51,7 +51,7 @@ pub fn push_delay(
     push_value(alloc, text, process, delay)
 }
 
-/// The name of a timer behind what is there.
+/// Appends the name of a timer to `text`.
 pub fn push_timer(
     text: &mut Vec<u8>,
     process: &ProcessTable,
@@ -62,7 +62,7 @@ pub fn push_timer(
     push_name(text, process.timers(), timer.name)
 }
 
-/// Further parameters behind what is there, a comma before each.
+/// Appends further parameters to `text`, a comma before each.
 fn push_more_values(
     alloc: Global,
     text: &mut Vec<u8>,
@@ -78,7 +78,7 @@ fn push_more_values(
     Ok(())
 }
 
-/// Parameters in parentheses behind what is there; nothing where there are none.
+/// Appends parameters in parentheses to `text`; nothing if there are none.
 fn push_values(
     alloc: Global,
     text: &mut Vec<u8>,
@@ -98,7 +98,7 @@ fn push_values(
     }
 }
 
-/// A signal that goes out, with its parameters, behind what is there.
+/// Appends a signal that is sent to `text`, with its parameters.
 pub fn push_sending(
     alloc: Global,
     text: &mut Vec<u8>,
@@ -111,7 +111,7 @@ pub fn push_sending(
     push_values(alloc, text, names.process, &sending.parameters)
 }
 
-/// The name of a party behind what is there.
+/// Appends the name of a party to `text`.
 fn push_party(text: &mut Vec<u8>, names: &Names<'_, '_>, party: &Party) -> Result<(), AllocError>
     ensures { OnOk result (text.new.items ≡ text.old.items ++ party_text (block_of names.now.block.now) party.now) }
 {
@@ -121,7 +121,7 @@ fn push_party(text: &mut Vec<u8>, names: &Names<'_, '_>, party: &Party) -> Resul
     }
 }
 
-/// The first of these parties behind what is there.
+/// Appends the first of these parties to `text`.
 fn push_first_party(
     text: &mut Vec<u8>,
     names: &Names<'_, '_>,
@@ -135,7 +135,7 @@ fn push_first_party(
     }
 }
 
-/// Who gets a signal that the process sends, behind what is there: whom the OUTPUT names, else to whom a route brings it.
+/// Appends the receiver of a signal to `text`: the process that the OUTPUT names, else the one to which a route leads.
 pub fn push_receiver(
     text: &mut Vec<u8>,
     names: &Names<'_, '_>,
@@ -155,7 +155,7 @@ pub fn push_receiver(
     }
 }
 
-/// The variable for a parameter behind what is there; nothing where it is thrown away.
+/// Appends the variable that takes a parameter to `text`; nothing if the parameter is discarded.
 fn push_place(
     text: &mut Vec<u8>,
     process: &ProcessTable,
@@ -169,7 +169,7 @@ fn push_place(
     }
 }
 
-/// Variables for further parameters behind what is there, a comma before each.
+/// Appends variables for further parameters to `text`, a comma before each.
 fn push_more_places(
     text: &mut Vec<u8>,
     process: &ProcessTable,
@@ -184,7 +184,7 @@ fn push_more_places(
     Ok(())
 }
 
-/// Variables for parameters in parentheses behind what is there; nothing where there are none.
+/// Appends the variables that take parameters to `text`, in parentheses; nothing if there are no parameters.
 fn push_places(
     text: &mut Vec<u8>,
     process: &ProcessTable,
@@ -203,7 +203,7 @@ fn push_places(
     }
 }
 
-/// The name of a signal, or of a timer of the process, behind what is there.
+/// Appends the name of a signal, or of a timer of the process, to `text`.
 fn push_trigger(text: &mut Vec<u8>, names: &Names<'_, '_>, name: Name) -> Result<(), AllocError>
     ensures { OnOk result (text.new.items ≡ text.old.items ++ trigger_text (block_of names.now.block.now) (process_of names.now.process.now) name) }
 {
@@ -211,7 +211,7 @@ fn push_trigger(text: &mut Vec<u8>, names: &Names<'_, '_>, name: Name) -> Result
     push_name(text, names.process.timers(), name)
 }
 
-/// A signal or a timer that an INPUT takes, behind what is there.
+/// Appends a signal or a timer that an INPUT consumes to `text`.
 fn push_stimulus(
     text: &mut Vec<u8>,
     names: &Names<'_, '_>,
@@ -223,7 +223,7 @@ fn push_stimulus(
     push_places(text, names.process, &stimulus.places)
 }
 
-/// What else an INPUT takes, behind what is there, each in a line of its own.
+/// Appends the further stimuli of an INPUT to `text`, each on its own line.
 fn push_more_stimuli(
     text: &mut Vec<u8>,
     names: &Names<'_, '_>,
@@ -238,7 +238,7 @@ fn push_more_stimuli(
     Ok(())
 }
 
-/// What an INPUT takes, behind what is there, each in a line of its own.
+/// Appends the stimuli of an INPUT to `text`, each on its own line.
 pub fn push_stimuli(
     text: &mut Vec<u8>,
     names: &Names<'_, '_>,
@@ -255,7 +255,7 @@ pub fn push_stimuli(
     }
 }
 
-/// What else a SAVE names, behind what is there, each in a line of its own.
+/// Appends the further names of a SAVE to `text`, each on its own line.
 fn push_more_triggers(
     text: &mut Vec<u8>,
     names: &Names<'_, '_>,
@@ -270,7 +270,7 @@ fn push_more_triggers(
     Ok(())
 }
 
-/// The signals and timers of a SAVE, behind what is there, each in a line of its own.
+/// Appends the signals and timers of a SAVE to `text`, each on its own line.
 pub fn push_triggers(
     text: &mut Vec<u8>,
     names: &Names<'_, '_>,

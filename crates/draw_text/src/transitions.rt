@@ -15,7 +15,7 @@ use crate::{
 use sdl_ast::{Assignment, Destination, Range};
 use std::alloc::{AllocError, Global};
 
-/// Further assignments behind what is there, each in a line of its own.
+/// Appends further assignments to `text`, each on its own line.
 fn push_more_assignments(
     alloc: Global,
     text: &mut Vec<u8>,
@@ -31,7 +31,7 @@ fn push_more_assignments(
     Ok(())
 }
 
-/// What is written in the symbol of a TASK.
+/// The text in the symbol of a TASK.
 fn task_text(
     alloc: Global,
     process: &ProcessTable<'_>,
@@ -47,7 +47,7 @@ fn task_text(
     Ok(text)
 }
 
-/// What is written in the symbol of a SET.
+/// The text in the symbol of a SET.
 fn set_text(
     alloc: Global,
     process: &ProcessTable<'_>,
@@ -65,7 +65,7 @@ fn set_text(
     Ok(text)
 }
 
-/// What is written in the symbol of a RESET.
+/// The text in the symbol of a RESET.
 fn reset_text(
     alloc: Global,
     process: &ProcessTable<'_>,
@@ -80,7 +80,7 @@ fn reset_text(
     Ok(text)
 }
 
-/// A signal that goes out, behind the parts that there are.
+/// Appends a signal that is sent to `parts`.
 fn push_one_sending(
     alloc: Global,
     parts: &mut Vec<Part>,
@@ -97,7 +97,7 @@ fn push_one_sending(
     push_symbol(parts, Kind::Output, sending.signal.at, text)
 }
 
-/// The signals of an OUTPUT behind the parts that there are.
+/// Appends the signals of an OUTPUT to `parts`.
 fn push_output(
     alloc: Global,
     parts: &mut Vec<Part>,
@@ -112,7 +112,7 @@ fn push_output(
     Ok(())
 }
 
-/// An action behind the parts that there are.
+/// Appends an action to `parts`.
 fn push_action(
     alloc: Global,
     parts: &mut Vec<Part>,
@@ -138,7 +138,7 @@ fn push_action(
     }
 }
 
-/// The end of a transition behind the parts that there are.
+/// Appends the end of a transition to `parts`.
 fn push_end(
     alloc: Global,
     parts: &mut Vec<Part>,
@@ -161,7 +161,7 @@ fn push_end(
     }
 }
 
-/// The question of a DECISION, and where it forks, behind the parts that there are.
+/// Appends the question of a DECISION, and the fork after it, to `parts`.
 fn push_question(
     alloc: Global,
     parts: &mut Vec<Part>,
@@ -177,7 +177,7 @@ fn push_question(
     push_mark(alloc, parts, Kind::Fork)
 }
 
-/// The beginning of an answer's branch behind the parts that there are.
+/// Appends the beginning of an answer's branch to `parts`.
 fn push_answer_head(
     alloc: Global,
     parts: &mut Vec<Part>,
@@ -194,7 +194,7 @@ fn push_answer_head(
     push_symbol(parts, Kind::Answer, at, text)
 }
 
-/// The beginning of ELSE's branch behind the parts that there are.
+/// Appends the beginning of ELSE's branch to `parts`.
 fn push_else_head(alloc: Global, parts: &mut Vec<Part>) -> Result<(), AllocError>
     ensures { OnOk result (map part_of parts.new.items ≡ map part_of parts.old.items ++ mark Kind.Branch ∷ else_part ∷ []) }
 {
@@ -203,7 +203,7 @@ fn push_else_head(alloc: Global, parts: &mut Vec<Part>) -> Result<(), AllocError
     push_symbol(parts, Kind::Answer, 0, text)
 }
 
-/// A statement behind the parts that there are.
+/// Appends a statement to `parts`.
 #[cycle(flow)]
 fn push_statement(
     alloc: Global,
@@ -220,7 +220,7 @@ fn push_statement(
     }
 }
 
-/// A DECISION behind the parts that there are.
+/// Appends a DECISION to `parts`.
 #[cycle(flow)]
 fn push_decision(
     alloc: Global,
@@ -236,7 +236,7 @@ fn push_decision(
     push_mark(alloc, parts, Kind::Meet)
 }
 
-/// The branches of a DECISION behind the parts that there are.
+/// Appends the branches of a DECISION to `parts`.
 #[cycle(flow)]
 fn push_bodies(
     alloc: Global,
@@ -259,7 +259,7 @@ fn push_bodies(
     }
 }
 
-/// A transition behind the parts that there are.
+/// Appends a transition to `parts`.
 #[cycle(flow)]
 pub(crate) fn push_transition(
     alloc: Global,

@@ -2,21 +2,21 @@
 use crate::{Kind, Part};
 use std::alloc::{AllocError, Global};
 
-/// How many ways through one transition are told apart.
+/// The largest number of ways through one transition that are listed in full.
 pub(crate) const MOST_WAYS: usize = 64;
 
-/// How many steps are gone at most to find them.
+/// The largest number of steps that the search for them takes.
 const MOST_STEPS: u32 = 100_000;
 
-/// A way through a transition: the numbers of the symbols that it passes, the last one included. Of a transition with more ways than are
-/// told apart a way passes the questions and answers that lead to its end alone, and is short.
+/// A way through a transition: the indices of the symbols that it passes, including the last one. If a transition has
+/// more than `MOST_WAYS` ways, each way is short: only the questions and answers that lead to its end, and the end.
 #[derive(Drop)]
 pub struct Way {
     pub symbols: Vec<usize>,
     pub is_short: bool,
 }
 
-/// Where a branch begins that is gone later, and how many symbols stand before it on its way.
+/// A branch to walk later: where it begins, and how many symbols of the path stand before it.
 #[derive(Clone, Copy)]
 struct Turn {
     at: usize,
@@ -31,7 +31,7 @@ pub(crate) fn is_end(kind: Kind) -> bool {
     }
 }
 
-/// What stands behind the fork in a branch of which a place is.
+/// The place after the end of the innermost fork that encloses a place.
 fn behind_fork(parts: &[Part], from: usize) -> usize {
     let mut depth: usize = 0;
     for (index, part) in parts.iter().enumerate().skip(from) {
@@ -49,7 +49,7 @@ fn behind_fork(parts: &[Part], from: usize) -> usize {
     parts.len()
 }
 
-/// Where the next branch begins behind the one of which a place is.
+/// Returns where the next branch begins after the one that contains a place; none if that one is the last.
 pub fn next_branch(parts: &[Part], from: usize) -> Option<usize> {
     let mut depth: usize = 0;
     for (index, part) in parts.iter().enumerate().skip(from) {
@@ -68,7 +68,7 @@ pub fn next_branch(parts: &[Part], from: usize) -> Option<usize> {
     None
 }
 
-/// A walk over all ways.
+/// A walk along all ways.
 #[derive(Drop)]
 struct Walk {
     at: usize,
@@ -78,7 +78,7 @@ struct Walk {
 }
 
 impl Walk {
-    /// Goes back to the last branch that wasn't gone yet, if there is one.
+    /// Goes back to the last branch that is still to be walked. Returns whether there was one.
     fn turn_back(&mut self, parts: &[Part]) -> Result<bool, AllocError> {
         match self.turns.pop() {
             Some(turn) => {
@@ -90,7 +90,7 @@ impl Walk {
         }
     }
 
-    /// Enters the branch that begins at a place; those behind it are gone later.
+    /// Enters the branch that begins at a place; the branches after it are walked later.
     fn enter(&mut self, parts: &[Part], branch: usize) -> Result<(), AllocError> {
         let inside = branch.saturating_add(1);
         if let Some(next) = next_branch(parts, inside) {
@@ -101,7 +101,7 @@ impl Walk {
         Ok(())
     }
 
-    /// Keeps the way that was gone.
+    /// Keeps the path just walked as a way.
     fn keep(&mut self, alloc: Global) -> Result<(), AllocError> {
         let symbols = Vec::from_slice(alloc, &self.path)?;
         self.ways.push(Way {
@@ -111,7 +111,7 @@ impl Walk {
         Ok(())
     }
 
-    /// One step further. Gives whether there is something left to go.
+    /// Takes one step. Returns whether anything is left to walk.
     fn step(&mut self, alloc: Global, parts: &[Part]) -> Result<bool, AllocError> {
         let Some(part) = parts.get(self.at) else {
             return self.turn_back(parts);
@@ -137,7 +137,7 @@ impl Walk {
         }
     }
 
-    /// Goes all ways. Gives whether it came to the end of each, and they aren't too many.
+    /// Walks all ways. Returns whether it reached the end of each and they are not more than `MOST_WAYS`.
     fn go(&mut self, alloc: Global, parts: &[Part]) -> Result<bool, AllocError> {
         for _ in 0..MOST_STEPS {
             if self.ways.len() > MOST_WAYS {
@@ -151,7 +151,7 @@ impl Walk {
     }
 }
 
-/// All ways from a place on; none where there are too many to be told apart.
+/// Returns all ways from a place on; none if there are too many.
 fn all_ways(alloc: Global, parts: &[Part], from: usize) -> Result<Option<Vec<Way>>, AllocError> {
     let mut walk = Walk {
         at: from,
@@ -169,7 +169,7 @@ fn all_ways(alloc: Global, parts: &[Part], from: usize) -> Result<Option<Vec<Way
     Ok(if is_done { Some(ways) } else { None })
 }
 
-/// For each end from one place to another the questions and answers that lead to it.
+/// Returns, for each end from one place to another, the questions and answers that lead to it.
 fn short_ways(
     alloc: Global,
     parts: &[Part],
@@ -223,7 +223,7 @@ fn ends_with(path: &[usize], parts: &[Part], kind: Kind) -> bool {
     }
 }
 
-/// The ways from one place to another.
+/// Returns the ways from one place to another: all of them, or short ways if there are too many.
 pub fn ways_from(
     alloc: Global,
     parts: &[Part],
