@@ -10,7 +10,7 @@ use Rattle.plain_laws.proofs.Numbers.{div_small}
 pub reverse-cons : (b : Bool) (h : List Bool) → reverse (b ∷ h) ≡ reverse h ++ b ∷ []
 reverse-cons b h = reverse-append (b ∷ []) h
 
--- a bit behind the low ones
+-- the low bits of a number and one more bit
 low_bits-more : (k n : ℕ) (b : Bool) → (n / 2 ^ k % 2 == 1) ≡ b → low_bits (k + 1) n ≡ low_bits k n ++ b ∷ []
 unfolding low_bits
 low_bits-more k n b is = low_bits-split k 1 n ∙ ap (λ c. low_bits k n ++ c ∷ []) is

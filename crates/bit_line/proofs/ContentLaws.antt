@@ -1,4 +1,4 @@
--- The bits of a content: what the fields say of them, and how they are judged.
+-- The bits of a content: its fields, and how it is judged.
 use Rattle.std.proofs.Common.{◌≡◌, ℕ, ◌+◌, ◌*◌, ◌<◌, ◌≤◌, zero, suc, min, Bool, true, false, Some, None, List, [], ◌∷◌, ◌++◌, length, get_or, reverse, refl, sym, ap, ◌∙◌, arith, inl, inr, subst, append_assoc, lit≤}
 use Rattle.std.proofs.lemmas.Bool.Decides.{nat_tests, eqb_tells}
 use Rattle.std.specs.Bool.{MatchBool}
@@ -181,7 +181,7 @@ body_fits (kinds.Lssu head status None) whole = lit≤ tt
 body_fits (kinds.Lssu head status (Some second)) whole = lit≤ tt
 body_fits (kinds.Msu head sio sif) whole = omega (arith, whole.2)
 
--- a unit has 5 octets at least and 278 at most
+-- a unit has at least 5 octets and at most 278
 pub unit_fits : (octets : List ℕ) → AreUnit octets → (5 ≤ length octets) × (length octets ≤ 278)
 unit_fits octets is =
     let frame : Frame octets is.0 = is.1 in
@@ -190,7 +190,7 @@ unit_fits octets is =
     let body : length (body_of is.0) ≤ 273 = body_fits is.0 frame.whole in
     (omega (arith, long, frame.checked.two), omega (arith, long, frame.checked.two, body))
 
--- a correct content's bits
+-- the bits of a correct content
 pub correct_shape : (h : List Bool) (octets : List ℕ) → IsCorrect h octets → IsStuffing h (reverse (bits_of octets))
 correct_shape h octets correct =
     let P : List Bool → Type 0 = λ l. IsStuffing l (reverse (bits_of octets)) in
@@ -250,7 +250,7 @@ is_correct h c holds six other over none fit is_unit =
       stuffing = sym (ap stuffed back ∙ stuffed-taken_out h (sym holds.six ∙ six) ∙ with_zero-other h no_five);
     }
 
--- numbers that an octet holds
+-- numbers below 256 are octets
 pub octets_fit : (octets : List ℕ) → ((i : ℕ) → get_or octets i 0 < 256) → AreOctets octets
 octets_fit [] fit = tt
 octets_fit (o ∷ os) fit = (fit 0, octets_fit os (λ i. fit (suc i)))

@@ -73,7 +73,7 @@ tick-full (Some n) count some counts =
     let is : n % 128 ≡ 127 = same_some (n % 128) 127 (sym counts ∙ some) in
     sym (sixteens-full (n + 1) (omega arith))
 
--- ---- what a flag closes
+-- ---- the reports when a flag closes a content
 pub close-correct : (content : Content) (mode : Option ℕ) (s : Bool) → sixteen_of s ≡ reports Nothing mode
     → reports_of (record { sixteen = s; closed = closed.Correct }) content ≡ reports (verdict_of closed.Correct content) mode
 unfolding reports
@@ -92,13 +92,13 @@ unfolding reports
 close-counting content None count s some counts same = absurd (some counts)
 close-counting content (Some n) count s some counts same = append-nil (sixteen_of s) ∙ same
 
--- a wrong content moves the mode on as none does
+-- the mode after a wrong content is that after no content
 pub wrong-moves : (mode : Option ℕ) (b : Bool) → mode_after Wrong b mode ≡ mode_after Nothing b mode
 unfolding mode_after
 wrong-moves None b = refl
 wrong-moves (Some n) b = refl
 
--- ---- the same, where the judgement is known by an equation
+-- ---- the reports and the mode after a judgement that an equation states
 none_when : (count : Option ℕ) → true ≡ is_none count → count ≡ None
 none_when None is = refl
 none_when (Some n) is = absurd (let e : true ≡ false = is in cc)

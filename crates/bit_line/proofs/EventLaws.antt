@@ -1,4 +1,4 @@
--- A line has one list of events, and what stands for its bits gives them.
+-- A line has one list of events, and a deframer after its bits has reported them.
 use Rattle.std.proofs.Common.{◌≡◌, ℕ, ◌+◌, ◌/◌, ◌^◌, ◌<◌, ◌≤◌, Bool, true, false, Option, List, [], ◌∷◌, ◌++◌, length, reverse, take, get_or, refl, sym, ap, ◌∙◌, arith, subst, append_assoc}
 use Rattle.std.specs.Prelude.{◌==◌, bit_and}
 use Rattle.std.specs.Bool.{MatchBool}
@@ -143,7 +143,7 @@ pub at_whole : (i : ℕ) (octets : List ℕ) (h : List Bool) (events : List Line
     → StandsAt (reverse (bits_of (take i octets)) ++ h) events d → StandsAt (reverse (bits_of octets) ++ h) events d
 at_whole i octets h events d whole stands = let P : List ℕ → Type 0 = λ l. StandsAt (reverse (bits_of l) ++ h) events d in subst P (take_all i octets whole) stands
 
--- ---- a copy stands for the same
+-- ---- a copy has the state of the original
 pub copy_stands : (h : List Bool) (events : List LineEvent) (old new : Deframer) → new.recent ≡ old.recent → (LetsIn h old.gate → LetsIn h new.gate) → new.counter.count ≡ old.counter.count
     → StandsAt h events old → StandsAt h events new
 unfolding StandsAt

@@ -1,4 +1,4 @@
--- A few bits at once: behind those of a part, and among the bits of a unit.
+-- A few bits at once: after the bits of a part, and among the bits of a unit.
 use Rattle.std.proofs.Common.{◌≡◌, ℕ, ◌+◌, ◌-◌, ◌*◌, ◌/◌, ◌%◌, ◌^◌, ◌<◌, ◌≤◌, Bool, true, false, List, [], ◌∷◌, ◌++◌, length, reverse, refl, sym, ap, ◌∙◌, arith, subst, append_assoc}
 use Rattle.std.proofs.Math.Nat.{mul-le-mul_left, mul_comm}
 use Rattle.std.proofs.lemmas.Nat.{shr_high, mod_low, shl_whole, pow-add, pow_pos}
@@ -14,7 +14,7 @@ use Rattle.su_octets.specs.Bits.{low_bits, bits_of}
 use Rattle.bit_line.specs.Parts.{Packed}
 use Rattle.su_octets.proofs.BitLists.{length-low_bits, low_bits-split, low_bits-mod, bits_of-append, octet_bits}
 
--- ---- behind the bits of a part
+-- ---- after the bits of a part
 pub joined : (bits len x k : ℕ) → bits < 2 ^ len → low_bits (len + k) (bits + x * 2 ^ len) ≡ low_bits len bits ++ low_bits k x
 joined bits len x k fits =
     let n : ℕ = bits + x * 2 ^ len in
@@ -45,7 +45,7 @@ pow_small m n le =
     let most : 2 ^ m * 1 ≤ 2 ^ m * 2 ^ (n - m) = mul-le-mul_left (2 ^ m) (let e : 0 < 2 ^ (n - m) = pow_pos (n - m) in omega (arith, e)) in
     omega (arith, sum, most)
 
--- as the code has it, in sixteen bits
+-- as the code computes it, in sixteen bits
 whole : (x len k : ℕ) → len < 8 → k ≤ 8 → x < 2 ^ k → x * 2 ^ len % 65536 ≡ x * 2 ^ len
 whole x len k short few small = shl_whole x k len 16 small (omega arith)
 

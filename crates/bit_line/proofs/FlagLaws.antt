@@ -42,7 +42,7 @@ pub since_flag-other : (b : Bool) (h : List Bool) → ends_flag (b ∷ h) ≡ fa
 unfolding since_flag
 since_flag-other b h none = ap (λ e. cond e (Some []) (option_map (λ c. b ∷ c) (since_flag h))) none
 
--- what came since the last flag is a part of the history
+-- the bits since the last flag are a part of the history
 grows : (b : Bool) (h c : List Bool) (s : Option (List Bool)) → ((d : List Bool) → s ≡ Some d → (rest : List Bool) × (h ≡ d ++ rest))
     → option_map (λ d. b ∷ d) s ≡ Some c → (rest : List Bool) × (b ∷ h ≡ c ++ rest)
 grows b h c None parts is = absurd (let e : None ≡ Some c = is in cc)
@@ -63,7 +63,7 @@ unfolding since_flag
 part_of [] c is = absurd (let e : None ≡ Some c = is in cc)
 part_of (b ∷ h) c is = part_by b h c (ends_flag (b ∷ h)) refl (λ d e. part_of h d e) is
 
--- where there are seven bits since the last flag, the seventh is the next one to be content
+-- if seven bits follow the last flag, the seventh is the next bit of the content
 pub seventh-is : (c rest : List Bool) → 7 ≤ length c → drop 6 c ≡ seventh (c ++ rest) ∷ drop 7 c
 unfolding seventh
 seventh-is (c0 ∷ c1 ∷ c2 ∷ c3 ∷ c4 ∷ c5 ∷ c6 ∷ c) rest long = refl

@@ -1,4 +1,4 @@
--- The first octets behind a flag: their bits as one number, and as a content.
+-- The first octets after a flag: their bits as one number, and as a content.
 use Rattle.std.proofs.Common.{◌≡◌, ℕ, ◌+◌, ◌-◌, ◌*◌, ◌/◌, ◌%◌, ◌^◌, ◌<◌, ◌≤◌, Bool, false, List, [], ◌∷◌, ◌++◌, length, reverse, take, refl, sym, ap, ◌∙◌, arith, subst, append_assoc}
 use Rattle.std.specs.Prelude.{get_or}
 use Rattle.std.proofs.lemmas.Bool.{le-ltb}
@@ -31,7 +31,7 @@ word_bits a b c d e small_a small_b small_c small_d =
     (more_bits b (c + (d + e * 256) * 256) 24 (c ∷ d ∷ e ∷ []) small_b
     (more_bits c (d + e * 256) 16 (d ∷ e ∷ []) small_c (more_bits d e 8 (e ∷ []) small_d (sym (one_bits e)))))
 
--- ---- a number's octets as a unit's bits
+-- ---- the octets of a number as bits of a unit
 pub refill_start : (os : List ℕ) (len bits : ℕ) → os ≡ [] → bits_of os ++ low_bits len bits ≡ low_bits len bits
 unfolding bits_of
 refill_start os len bits none = ap (λ l. bits_of l ++ low_bits len bits) none
@@ -59,7 +59,7 @@ refilled d len bits left rest few over is_left is_rest short fits all =
           ∙ sym (reverse-reverse (low_bits len bits));
     }
 
--- ---- a content of these line bits alone
+-- ---- a content of only these line bits
 pub restarted : (c : Content) (len bits n y : ℕ) → c.ones ≤ 5 → c.ones ≡ trailing (reverse (low_bits len bits) ++ []) → c.six ≡ false
     → has_six (reverse (low_bits len bits) ++ []) ≡ has_six [] → taken_out (reverse (low_bits len bits) ++ []) ≡ reverse (low_bits n y) ++ taken_out []
     → Gathers (reverse (low_bits n y)) c.data_bits → Holds (reverse (low_bits len bits) ++ []) c

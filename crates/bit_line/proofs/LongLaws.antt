@@ -1,4 +1,4 @@
--- Up to forty-eight line bits behind a 0: where inserted zeros stand among them, and what is left.
+-- Up to forty-eight line bits after a 0: the inserted zeros among them, and the bits left without these.
 use Rattle.std.proofs.Common.{◌≡◌, ℕ, ◌+◌, ◌-◌, ◌*◌, ◌/◌, ◌%◌, ◌^◌, ◌<◌, ◌≤◌, zero, suc, min, Bool, true, false, List, [], ◌∷◌, ◌++◌, reverse, refl, sym, ap, ◌∙◌, arith, subst, append_assoc, inl, inr}
 use Rattle.std.specs.Prelude.{◌==◌, ◌⊎◌, bit_and}
 use Rattle.std.specs.Int.{bit_at}
@@ -14,11 +14,11 @@ use Rattle.bit_line.proofs.FewLaws.{joined, joined_fits, pow_small}
 use Rattle.su_octets.proofs.BitLists.{low_bits-split, low_bits-mod}
 use Rattle.plain_laws.proofs.Numbers.{zero_or_one, div_small}
 
--- ---- five 1s in a row, as the code looks for them
+-- ---- five 1s in a row, as the code finds them
 abbrev pub fives : ℕ → ℕ
 fives w = bit_and (bit_and (bit_and w (w / 2)) (bit_and w (w / 2) / 4)) (w / 16)
 
--- five 1s from this place on
+-- five 1s begin at this place
 abbrev pub FiveAt : ℕ → ℕ → Type 0
 FiveAt w j = (s : ℕ) → s < 5 → bit_at w (s + j) ≡ 1
 
@@ -33,7 +33,7 @@ five_set w j all =
     ∙ ap (λ n. min n (bit_at (w / 16) j)) (bit_at_and pairs (pairs / 4) j ∙ ap (λ n. min n (bit_at (pairs / 4) j)) first ∙ ap (λ n. min 1 n) third)
     ∙ ap (λ n. min 1 n) fifth
 
--- ---- bits without five 1s in a row, behind a few 1s
+-- ---- bits without five 1s in a row, after a few 1s
 pub record Walks (r : ℕ) (bs : List Bool) : Type 0 where
   pub data_bits : (cs : List Bool) → data_of r (bs ++ cs) ≡ bs ++ data_of (ones_of r bs) cs
   pub ones : (cs : List Bool) → ones_of r (bs ++ cs) ≡ ones_of (ones_of r bs) cs
@@ -55,7 +55,7 @@ walks_zero (suc (suc (suc zero))) bs few w = record { data_bits = λ cs. ap (λ 
 walks_zero (suc (suc (suc (suc zero)))) bs few w = record { data_bits = λ cs. ap (λ l. false ∷ l) (w.data_bits cs); ones = w.ones; six = w.six; few = w.few }
 walks_zero (suc (suc (suc (suc (suc r))))) bs few w = absurd (omega arith)
 
--- so many 1s stand before this place
+-- r 1s are before place i
 abbrev Before : ℕ → ℕ → ℕ → Type 0
 Before w i r = (s : ℕ) → s < r → bit_at w (i - 1 - s) ≡ 1
 
@@ -115,7 +115,7 @@ walk_all w n none =
     let whole : w / 2 ^ 0 ≡ w = omega arith in
     subst P whole (walk w 0 n 0 (omega arith) (omega arith) (λ s less. absurd (omega arith)) (λ j last. none j (omega arith)))
 
--- ---- where there are none, all bits are left
+-- ---- if there are no five 1s, all bits are left
 pub none_at : (found w j : ℕ) → found ≡ 0 → (FiveAt w j → bit_at found j ≡ 1) → FiveAt w j → ⊥
 none_at found w j none set five =
     let one : bit_at found j ≡ 1 = set five in
@@ -128,7 +128,7 @@ none_below found w first j none less set five =
     let clear : bit_at found j ≡ 0 = low_none found j first less none in
     omega (arith, one, clear)
 
--- ---- what the code has gone through, and what is still to come
+-- ---- the bits that the code has processed, and the bits still left
 pub record Gone (len bits count taken left rest : ℕ) : Type 0 where
   pub data_bits : data_of 0 (low_bits len bits) ≡ low_bits count taken ++ data_of 0 (low_bits left rest)
   pub ones : ones_of 0 (low_bits len bits) ≡ ones_of 0 (low_bits left rest)
@@ -204,7 +204,7 @@ gone_more len bits count taken left rest first taken_more rest_more within none 
       six = gone.six ∙ ap (λ l. six_of 0 l) parts ∙ w.six (ones_and_zero ++ q) ∙ ap (λ r. six_of r (ones_and_zero ++ q)) start;
     }
 
--- ---- what is left
+-- ---- the bits left without inserted zeros
 pub record All (len bits n y : ℕ) : Type 0 where
   pub data_bits : data_of 0 (low_bits len bits) ≡ low_bits n y
   pub six : six_of 0 (low_bits len bits) ≡ false
@@ -259,7 +259,7 @@ no_bits n bits none = ap (λ k. trailing (reverse (low_bits k bits))) none ∙ t
 pub last_all : (len bits i : ℕ) → i ≡ len → trailing (reverse (low_bits len bits)) ≡ i + trailing (reverse (low_bits (len - i) bits)) → len ≡ trailing (reverse (low_bits len bits))
 last_all len bits i whole all = let none : trailing (reverse (low_bits (len - i) bits)) ≡ 0 = no_bits (len - i) bits (omega (arith, whole)) in omega (arith, all, none, whole)
 
--- ---- what is left, as the code has it in 64 bits
+-- ---- the bits left, as the code computes them in 64 bits
 pub record Joins (count taken len x all : ℕ) : Type 0 where
   pub bits : low_bits (count + len) all ≡ low_bits count taken ++ low_bits len x
   pub fits : all < 2 ^ (count + len)

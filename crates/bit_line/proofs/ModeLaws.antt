@@ -1,4 +1,4 @@
--- Whether octets are counted, by the deframer's count.
+-- Whether octets are counted, from the deframer's counter.
 use Rattle.std.proofs.Common.{◌≡◌, ℕ, Bool, not, Option, Some, None, List, is_some, is_none, sym, ap, ◌∙◌}
 use Rattle.bit_line.specs.Counting.{Counts}
 use Rattle.bit_line.specs.Deframing.{StandsAt, Stands}

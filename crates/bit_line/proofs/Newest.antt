@@ -10,7 +10,7 @@ use Rattle.su_octets.proofs.BitLists.{length-low_bits, low_bits-split, low_bits-
 use Rattle.std.proofs.lemmas.Bool.{false_from_ne_true as isnt_true}
 use Rattle.plain_laws.proofs.Lists.{head_same, front_same}
 
--- ---- the newest bits behind more bits
+-- ---- the newest bits after more bits
 take-newest : (n m : ℕ) (h : List Bool) → n ≤ m → take n (newest m h) ≡ newest n h
 unfolding newest
 take-newest zero m h few = refl
@@ -35,7 +35,7 @@ take_drop zero l = refl
 take_drop (suc n) [] = refl
 take_drop (suc n) (b ∷ l) = ap (λ r. b ∷ r) (take_drop n l)
 
--- ---- a window: seven bits and those behind them
+-- ---- a window: seven bits and the bits after them
 pub record Window (recent bits m : ℕ) (h : List Bool) : Type 0 where
   pub late : low_bits m (recent + bits * 128) ≡ reverse (drop 7 (reverse (low_bits m bits) ++ newest 7 h))
   pub next : low_bits 7 ((recent + bits * 128) / 2 ^ m) ≡ reverse (newest 7 (reverse (low_bits m bits) ++ h))
@@ -90,7 +90,7 @@ oldest recent (b0 ∷ b1 ∷ b2 ∷ b3 ∷ b4 ∷ []) is = head_same _ _ _ _ is
 oldest recent (b0 ∷ b1 ∷ b2 ∷ b3 ∷ b4 ∷ b5 ∷ []) is = head_same _ _ _ _ is
 oldest recent (b0 ∷ b1 ∷ b2 ∷ b3 ∷ b4 ∷ b5 ∷ b6 ∷ h) is = head_same _ _ _ _ is
 
--- ---- six 1s behind a 0 are the number 126
+-- ---- a 0 and then six 1s are the number 126
 abbrev six : List Bool
 six = true ∷ true ∷ true ∷ true ∷ true ∷ true ∷ false ∷ []
 
@@ -133,7 +133,7 @@ pub newest-none : low_bits 7 127 ≡ reverse (newest 7 [])
 unfolding low_bits newest
 newest-none = refl
 
--- after the flag's last 0, and after a seventh 1
+-- the newest seven bits after the last 0 of a flag, and after a seventh 1
 pub newest-flag : (recent : ℕ) (h : List Bool) → low_bits 7 recent ≡ reverse (newest 7 h) → recent ≡ 126 → low_bits 7 63 ≡ reverse (newest 7 (false ∷ h))
 newest-flag recent h is all =
     ap (λ n. low_bits 7 n) (let e : 63 ≡ recent / 2 + 64 * 0 = omega (arith, all) in e) ∙ newest-next recent false h (omega (arith, all)) is

@@ -1,4 +1,4 @@
--- Octets that go on the line whole: eight bits behind those of a part, and octets without five 1s in a row.
+-- Octets that are sent whole: eight bits after those of a part, and octets without five 1s in a row.
 use Rattle.std.proofs.Common.{◌≡◌, ℕ, ◌+◌, ◌-◌, ◌*◌, ◌/◌, ◌%◌, ◌^◌, ◌<◌, zero, suc, Bool, true, false, cond, List, [], ◌∷◌, ◌++◌, reverse, refl, sym, ap, ◌∙◌, arith, subst, append_assoc, inl, inr}
 use Rattle.std.specs.Prelude.{◌==◌, ◌&&◌, ◌⊎◌, nat_lt, nat_le, min, bit_and}
 use Rattle.std.specs.Int.{leading_ones, trailing_zeros, w8, w16}
@@ -15,7 +15,7 @@ use Rattle.bit_line.proofs.BitLists.{reverse-cons}
 use Rattle.bit_line.proofs.SendLaws.{stuffed-when_zero, trailing-when_zero, stuffed-when_five, trailing-when_five, stuffed-when_other, trailing-when_other}
 use Rattle.su_octets.proofs.BitLists.{low_bits-split, low_bits-mod, bits_of-append, octet_bits}
 
--- ---- eight bits behind those of a part
+-- ---- eight bits after those of a part
 joined : (bits len octet : ℕ) → bits < 2 ^ len → low_bits 8 ((bits + octet * 2 ^ len) % 256) ++ low_bits len ((bits + octet * 2 ^ len) / 256) ≡ low_bits len bits ++ low_bits 8 octet
 joined bits len octet fits =
     let n : ℕ = bits + octet * 2 ^ len in
@@ -38,7 +38,7 @@ packed_eight octets bits len octet h fits packed =
     ∙ ap (λ l. l ++ low_bits 8 octet) packed
     ∙ sym (reverse-append (reverse (low_bits 8 octet)) h ∙ ap (λ l. reverse h ++ l) (reverse-reverse (low_bits 8 octet)))
 
--- as the code has it, in sixteen bits
+-- as the code computes it, in sixteen bits
 pub packed_shifted : (octets : List ℕ) (bits len octet : ℕ) (h : List Bool) → len < 8 → octet < 256 → bits < 2 ^ len → Packed octets bits len h
     → Packed (octets ++ (bits + octet * 2 ^ len % 65536) % 256 ∷ []) ((bits + octet * 2 ^ len % 65536) / 256) len (reverse (low_bits 8 octet) ++ h)
 packed_shifted octets bits len octet h short small fits packed =
@@ -46,7 +46,7 @@ packed_shifted octets bits len octet h short small fits packed =
     subst P (sym (shl_whole octet 8 len 16 small (omega arith))) (packed_eight octets bits len octet h fits packed)
 
 -- ---- the bits of an octet and the 0s among them
--- what goes on the line behind so many 1s in a row, in order, and how many 1s it ends with
+-- the line bits after r 1s in a row, in order, and the number of 1s that they end with
 abbrev pub line_bits : ℕ → List Bool → List Bool
 line_bits r [] = []
 line_bits r (false ∷ bs) = false ∷ line_bits 0 bs
@@ -98,14 +98,14 @@ goes (false ∷ bs) sent r count =
 goes (true ∷ bs) sent r count =
     goes_one r bs sent count (eqb_tells r 4) (λ new. goes bs (true ∷ sent) 0 new) (λ new. goes bs (true ∷ sent) (suc r) new)
 
--- ---- all octets behind all runs, by trying each
+-- ---- all octets after all numbers of 1s, by trying each
 abbrev pub window_of : ℕ → ℕ → ℕ
 window_of octet r = (octet + 1) * 2 ^ r % 65536 - 1
 
 abbrev pub fives_of : ℕ → ℕ
 fives_of window = bit_and (bit_and (bit_and window (window / 2)) (bit_and window (window / 2) / 4)) (window / 16)
 
--- where the first five 1s begin, and behind how many bits of the octet they end
+-- where the first five 1s begin, and after how many bits of the octet they end
 abbrev pub first_of : ℕ → ℕ → ℕ
 first_of octet r = trailing_zeros w16 (fives_of (window_of octet r))
 
@@ -232,7 +232,7 @@ pub plain_ones : (r octet : ℕ) (sent : List Bool) → Plain r octet → r ≡ 
     → leading_ones w8 octet ≡ trailing (stuffed (reverse (low_bits 8 octet) ++ sent))
 plain_ones r octet sent is count = sym is.ones ∙ (goes (low_bits 8 octet) sent r count).ones
 
--- ---- an octet in which they come once
+-- ---- an octet with five 1s in a row once
 some_five : (r octet : ℕ) → r < 5 → octet < 256 → (fives_of (window_of octet r) ≡ 0 → ⊥) → rest_told r octet ≡ true
 some_five r octet few small some =
     if_not_by (fives_of (window_of octet r)) (plain_told r octet) (rest_told r octet) some (eqb_tells (fives_of (window_of octet r)) 0) (told_at r octet few small)

@@ -1,4 +1,4 @@
--- What is reported decodes, and how fast contents can close: one in eight bits at most.
+-- Reported units decode, and eight bits close at most one content.
 use Rattle.std.proofs.Common.{◌≡◌, ℕ, ◌+◌, ◌-◌, ◌*◌, ◌%◌, ◌≤◌, Bool, true, false, cond, Option, Some, None, List, [], ◌∷◌, ◌++◌, length, drop, reverse, refl, sym, ap, ◌∙◌, arith, subst, append_assoc}
 use Rattle.std.specs.Prelude.{◌==◌, ◌≢◌, unwrap_or}
 use Rattle.std.specs.Bool.{MatchBool}
@@ -15,7 +15,7 @@ use Rattle.bit_line.specs.declared.events.LineEvent.TheVariants as events
 use Rattle.bit_line.proofs.FlagLaws.{since_flag-flag, since_flag-other}
 use Rattle.bit_line.proofs.EventLaws.{one_run, correct_some, stands_events, events_by}
 
--- ---- what is reported decodes
+-- ---- reported units decode
 correct_of : (e : Bool) (c : List Bool) (octets : List ℕ) → MatchBool e (IsJudged c (Correct octets)) (Correct octets ≡ Nothing) → IsCorrect c octets
 correct_of true c octets closes = closes
 correct_of false c octets closes = absurd (let e : Correct octets ≡ Nothing = closes in cc)
@@ -83,7 +83,7 @@ reports_close Wrong None = omega arith
 reports_close Nothing (Some n) = omega (arith, sixteens_close (n + 1))
 reports_close Nothing None = omega arith
 
--- ---- how many bits are missing before a flag can close a content
+-- ---- the number of bits missing before a flag can close a content
 abbrev missing : List Bool → ℕ
 missing h = 7 - length (latest h)
 
@@ -122,7 +122,7 @@ close_pace b h (Correct octets) true ends closes = omega (arith, flag_missing b 
 close_pace b h Wrong true ends closes = omega (arith, flag_missing b h ends, inside_long h closes.0)
 close_pace b h Nothing true ends closes = omega (arith, flag_missing b h ends)
 
--- ---- more bits behind a history
+-- ---- more bits after a history
 record Paced (more h : List Bool) (all : List LineEvent) : Type 0 where
   mode : Option ℕ
   before : List LineEvent
@@ -161,7 +161,7 @@ closings_paced bits more before given are after =
     let same : given ≡ p.given = append_cancel_left before given p.given (p.is ∙ ap (λ l. l ++ p.given) (sym first)) in
     omega (arith, ap closings same, p.pace, length-reverse more)
 
--- ---- what a deframer reports for more bits
+-- ---- the reports of a deframer for more bits
 run_behind : (bits more : List Bool) (given : List LineEvent) (old new : Deframer)
     → ((h : List Bool) (es : List LineEvent) → StandsAt h es old → StandsAt (reverse more ++ h) (es ++ given) new) → Stands bits old
     → (before : List LineEvent) × AreEvents bits before × AreEvents (bits ++ more) (before ++ given)

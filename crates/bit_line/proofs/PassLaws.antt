@@ -1,4 +1,4 @@
--- A few bits that end no flag, as the gate lets them in.
+-- The gate takes a few bits that end no flag.
 use Rattle.std.proofs.Common.{◌≡◌, ℕ, ◌+◌, ◌-◌, ◌*◌, ◌/◌, ◌^◌, ◌<◌, ◌≤◌, zero, suc, Bool, true, false, Some, List, [], ◌∷◌, ◌++◌, length, reverse, take, drop, refl, sym, ap, ◌∙◌, arith, subst, append_assoc}
 use Rattle.std.specs.Prelude.{is_some}
 use Rattle.std.specs.Option.{option_map}
@@ -42,7 +42,7 @@ newest-more (suc n) w (b ∷ c) rest sum = ap (λ l. b ∷ l) (newest-more n w c
 seen_still : (h c : List Bool) (seen : Bool) → seen ≡ true → since_flag h ≡ Some c → seen ≡ is_some (since_flag h)
 seen_still h c seen was some = was ∙ ap is_some (sym some)
 
--- ---- where nothing is missing
+-- ---- seven bits or more since the flag
 late_inside : (k h c : List Bool) → EndsNone k h → since_flag h ≡ Some c → 7 ≤ length c → inside (k ++ h) ≡ drop 7 (k ++ newest 7 h) ++ inside h
 late_inside k h c ends some long =
     let part : (rest : List Bool) × (h ≡ c ++ rest) = part_of h c some in
@@ -68,7 +68,7 @@ few-late k h l old new ends is some ready same_seen same_wait pushed lets =
       content = λ seen zero_wait. subst P (sym next) (pushed (inside h) (lets.content some ready));
     }
 
--- ---- where bits are still missing then
+-- ---- fewer than seven bits since the flag, even with the new ones
 pub few-waiting : (k h : List Bool) (n : ℕ) (old new : Gate) → EndsNone k h → length k ≡ n → n < old.wait → old.seen ≡ true → new.seen ≡ old.seen → new.wait ≡ old.wait - n
     → LetsIn h old → LetsIn (k ++ h) new
 few-waiting k h n old new ends long less some same_seen next_wait lets =
@@ -82,7 +82,7 @@ few-waiting k h n old new ends long less some same_seen next_wait lets =
       content = λ seen zero_wait. absurd (omega (arith, zero_wait, next_wait, less));
     }
 
--- ---- where the last missing bit comes
+-- ---- the new bits complete seven since the flag
 pub late_fits : (late len w : ℕ) → w ≤ len → late < 2 ^ len → late / 2 ^ w < 2 ^ (len - w)
 late_fits late len w less fits =
     let sum : 2 ^ len ≡ 2 ^ (len - w) * 2 ^ w = ap (λ i. 2 ^ i) (let e : len ≡ len - w + w = omega (arith, less) in e) ∙ pow-add 2 (len - w) w in

@@ -1,4 +1,4 @@
--- A few bits behind anything but six 1s, in normal mode: they end nothing, begin nothing, and report nothing.
+-- A few bits that don't follow six 1s, in normal mode: they end no flag, begin no counting mode and report nothing.
 use Rattle.std.proofs.Common.{◌≡◌, ℕ, ◌+◌, ◌-◌, ◌*◌, ◌/◌, ◌%◌, ◌^◌, ◌<◌, ◌≤◌, zero, suc, min, Bool, true, false, Option, Some, None, List, [], ◌∷◌, ◌++◌, length, reverse, drop, refl, sym, ap, ◌∙◌, arith, subst, inl, inr}
 use Rattle.std.specs.Prelude.{◌==◌, ◌⊎◌, bit_and, unwrap_or}
 use Rattle.std.specs.Option.{option_map}
@@ -24,7 +24,7 @@ use Rattle.bit_line.proofs.ThroughLaws.{quiet}
 use Rattle.su_octets.proofs.BitLists.{length-low_bits, low_bits-split, low_bits-mod}
 use Rattle.plain_laws.proofs.Numbers.{div_small}
 
--- ---- six 1s in a row, as the code looks for them
+-- ---- six 1s in a row, as the code finds them
 abbrev pub sixes_of : ℕ → ℕ
 sixes_of w = bit_and (bit_and (bit_and w (w / 2)) (bit_and w (w / 2) / 4)) (bit_and w (w / 2) / 16)
 
@@ -47,7 +47,7 @@ sixes_at w i all =
     ∙ ap (λ n. min n (bit_at (pairs / 16) i)) (bit_at_and pairs (pairs / 4) i ∙ ap (λ n. min n (bit_at (pairs / 4) i)) first ∙ ap (λ n. min 1 n) third)
     ∙ ap (λ n. min 1 n) fifth
 
--- the bits of a number below which a power of 2 divides it
+-- if 2^k divides a number, its k low bits are 0
 pub low_none : (n i k : ℕ) → i < k → n % 2 ^ k ≡ 0 → bit_at n i ≡ 0
 low_none n i k less none =
     let q : ℕ = n / 2 ^ k in
@@ -100,7 +100,7 @@ below_or_above (suc p) (suc m) other = by_one (below_or_above p m (λ is. other 
   by_one (inl less) = inl (omega (arith, less))
   by_one (inr more) = inr (omega (arith, more))
 
--- where the six 1s stand at one place only, none stand at another one
+-- if six 1s are at one place only, they are at no other place
 pub plain_else : (w p m : ℕ) → p ≤ 55 → sixes_of w / 2 ≡ 1 * 2 ^ p % 18446744073709551616 → (m ≡ p → ⊥) → w / 2 ^ m % 128 ≡ 126 → ⊥
 plain_else w p m few only other is =
     let power : 1 * 2 ^ p % 18446744073709551616 ≡ 2 ^ p = one_shl p 64 (omega (arith, few)) in
@@ -112,7 +112,7 @@ plain_by w m n less few none is =
     let power : 1 * 2 ^ n % 65536 ≡ 2 ^ n = one_shl n 16 (omega arith) in
     plain_low w m n less (sym (ap (λ p. sixes_of w / 2 % p) power) ∙ none) is
 
--- ---- what lies inside grows by a bit at most
+-- ---- the content grows by at most one bit
 head_grows : (b : Bool) (c : List Bool) → length (taken_out (b ∷ c)) ≤ length (taken_out c) + 1
 head_grows true c = omega (arith, ap length (taken_out-one c))
 head_grows false c = zero_grows c (five_or_other c) where

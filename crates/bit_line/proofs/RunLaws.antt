@@ -58,7 +58,7 @@ pub nothing_run : (h : List Bool) (events : List LineEvent) (d : Deframer) → S
 unfolding bits_of
 nothing_run h events d stands = stands
 
--- ---- one octet, by the number of its bits behind the newest seven
+-- ---- one octet, as the number of its bits after the newest seven
 pub plain_step : (run next : Run) (octet w : ℕ) (whole : List ℕ) (left : List Bool) → w ≡ run.recent + octet * 128 → octet < 256 → ((m : ℕ) → m < 8 → w / 2 ^ m % 128 ≢ 126) → next.recent ≡ w / 256
     → length left ≤ 8 → ((h : List Bool) → run.ones ≡ trailing h → taken_out (reverse (low_bits 8 (w % 256)) ++ h) ≡ left ++ taken_out h)
     → ((h : List Bool) → run.ones ≡ trailing h → next.ones ≡ trailing (reverse (low_bits 8 (w % 256)) ++ h))

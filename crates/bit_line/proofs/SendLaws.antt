@@ -122,7 +122,7 @@ pub gave_none : (s : Stuffer) → s.started ≡ false → s.part.len ≡ 0 → G
 unfolding line_of bits_of low_bits
 gave_none s started len = record { bits = rw len refl; started = started }
 
--- what the stuffer's fields say before a unit
+-- the fields of the stuffer before a unit
 pub packed_of : (given : List ℕ) (units : List (List ℕ)) (s : Stuffer) → Gave given units s → Packed (given ++ []) s.part.bits s.part.len (reverse (line_of units))
 unfolding Packed
 packed_of given units s gave =

@@ -1,4 +1,4 @@
--- A unit of five octets and the flag behind it, at once.
+-- A unit of five octets and the flag after it, at once.
 use Rattle.std.proofs.Common.{◌≡◌, ℕ, ◌+◌, ◌-◌, ◌*◌, ◌/◌, ◌%◌, ◌^◌, ◌<◌, ◌≤◌, zero, suc, Bool, true, false, Option, None, Some, List, [], ◌∷◌, ◌++◌, length, reverse, take, drop, get_or, refl, sym, ap, ◌∙◌, arith, subst}
 use Rattle.std.specs.Prelude.{◌==◌}
 use Rattle.std.proofs.Math.Seq.{take-add}
@@ -47,7 +47,7 @@ seven_bits os word long fits front small =
     ∙ ap (λ l. bits_of (take 5 os) ++ l) (more_bits a b 8 (b ∷ []) small (sym (one_bits b)))
     ∙ sym (ap bits_of (two_of os long) ∙ bits_of-append (take 5 os) (a ∷ b ∷ []))
 
--- ---- a number's octets
+-- ---- the octets of a number
 cut : (x k : ℕ) (os : List ℕ) → bits_of os ≡ low_bits k (x / 256) → bits_of (x % 256 ∷ os) ≡ low_bits (8 + k) x
 unfolding bits_of
 cut x k os rest = ap (λ l. low_bits 8 (x % 256) ++ l) rest ∙ ap (λ l. l ++ low_bits k (x / 256)) (low_bits-mod 8 x) ∙ sym (low_bits-split 8 k x)
@@ -62,7 +62,7 @@ forty x =
     let y : ℕ = x / 256 / 256 / 256 / 256 in
     cut x 32 _ (cut (x / 256) 24 _ (cut (x / 256 / 256) 16 _ (cut (x / 256 / 256 / 256) 8 _ (cut y 0 [] (cut_none (y / 256))))))
 
--- ---- line bits that are a unit's
+-- ---- line bits of a unit
 pub short_correct : (len bits n y : ℕ) (octets : List ℕ) → taken_out (reverse (low_bits len bits) ++ []) ≡ reverse (low_bits n y) ++ taken_out []
     → trailing (reverse (low_bits len bits)) ≤ 4 → has_six (reverse (low_bits len bits) ++ []) ≡ has_six [] → n ≡ 40 → bits_of octets ≡ low_bits 40 y
     → AreOctets octets → AreUnit octets → IsCorrect (reverse (low_bits len bits)) octets
@@ -79,7 +79,7 @@ short_correct len bits n y octets taken few six all is fit unit =
       stuffing = sym (ap stuffed back ∙ stuffed-taken_out h none ∙ with_zero-other h (λ five. omega (arith, few, five)));
     }
 
--- ---- what the newest seven bits and the flag's place say
+-- ---- the newest seven bits and the place of the flag
 over : (recent word place : ℕ) → recent < 128 → (recent + word * 128) / 2 ^ place / 2 ^ 7 ≡ word / 2 ^ place
 over recent word place small =
     let all : ℕ = recent + word * 128 in
@@ -134,7 +134,7 @@ unit_stands word place octets h es old new was normal some fresh less few plain 
     let P : List Bool → Type 0 = λ l. StandsAt (l ++ h) (es ++ unit_events (octets ∷ [])) new in
     subst P (sym (bits_more place word ∙ ap (λ n. (n == 1) ∷ reverse (low_bits place word)) zero_bit)) next
 
--- ---- the bits behind the flag in its last octet
+-- ---- the bits after the flag in its last octet
 shifted : (v x i : ℕ) → v ≡ 126 + 256 * x → i < 7 → (63 + x % 128 * 128) / 2 ^ i % 128 ≡ v / 2 ^ (1 + i) % 128
 shifted v x zero is few = omega (arith, is)
 shifted v x (suc zero) is few = omega (arith, is)

@@ -1,4 +1,4 @@
--- Inserted zeros: what is stuffed has no six 1s in a row, and taking them out gives the bits back.
+-- Inserted zeros: stuffed bits have no six 1s in a row, and removing the zeros returns the bits.
 use Rattle.std.proofs.Common.{◌≡◌, ℕ, ◌<◌, ◌≤◌, suc, Bool, true, false, cond, List, [], ◌∷◌, refl, sym, ap, ◌∙◌, arith, inl, inr, subst, lit<}
 use Rattle.std.specs.Prelude.{◌⊎◌, ◌==◌, nat_le, ◌||◌}
 use Rattle.std.proofs.lemmas.Bool.Decides.{eqb_tells, leb_tells}
@@ -143,7 +143,7 @@ zero_stays h again none (inl five) =
     omega (arith, e, five, trailing-none)
 zero_stays h again none (inr other) = let e : false ∷ taken_out h ≡ [] = sym (taken_out-other h other) ∙ none in cc
 
--- nothing is left of nothing alone
+-- if no bits are left, there were none
 pub taken_out-none : (h : List Bool) → taken_out h ≡ [] → h ≡ []
 unfolding taken_out
 taken_out-none [] none = refl

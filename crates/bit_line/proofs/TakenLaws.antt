@@ -1,4 +1,4 @@
--- Inserted zeros among a few line bits: what the code's numbers say of them, by trying each.
+-- Inserted zeros among a few line bits: the numbers that the code computes, by trying each case.
 use Rattle.std.proofs.Common.{◌≡◌, ℕ, ◌+◌, ◌-◌, ◌*◌, ◌/◌, ◌%◌, ◌^◌, ◌<◌, ◌≤◌, suc, Bool, true, false, cond, not, List, [], ◌∷◌, ◌++◌, reverse, refl, sym, ap, ◌∙◌, arith, subst, inl, inr}
 use Rattle.std.specs.Prelude.{◌==◌, ◌&&◌, ◌||◌, ◌⊎◌, nat_lt, nat_le}
 use Rattle.std.specs.Int.{leading_ones, w8, w16}
@@ -12,7 +12,7 @@ use Rattle.bit_line.specs.Deframing.{has_six}
 use Rattle.bit_line.proofs.StuffLaws.{taken_out-five, taken_out-other, taken_out-one, trailing-one, trailing-zero}
 use Rattle.bit_line.proofs.OctetLaws.{window_of, fives_of, first_of, cut_of, all_below, same_bits, at_one, bits_same, if_so, if_not_by, one_later}
 
--- ---- line bits in order, behind so many 1s in a row: what is left of them, how many 1s they end with, and whether there are six
+-- ---- line bits after r 1s in a row, in order: the bits left, how many 1s they end with, and whether six occur
 abbrev pub data_of : ℕ → List Bool → List Bool
 data_of r [] = []
 data_of r (true ∷ bs) = true ∷ data_of (suc r) bs
@@ -70,7 +70,7 @@ comes (false ∷ bs) h r count =
       six = λ none. ap has_six (one_later false bs h) ∙ rest.six none ∙ six_zero h;
     }
 
--- ---- all bits behind all runs, by trying each
+-- ---- all bits after all numbers of 1s, by trying each
 abbrev pub after_of : ℕ → ℕ → ℕ → ℕ
 after_of r len x = leading_ones w16 (window_of x r * 2 ^ (15 - len - r) % 65536 * 2 ^ 1 % 65536)
 
@@ -113,7 +113,7 @@ told_at r len x few short small =
     at_one (λ y. told r len y) (2 ^ len) x
     (at_one (λ n. all_below (λ y. told r n y) (2 ^ n)) 9 len (at_one (λ q. all_below (λ n. all_below (λ y. told q n y) (2 ^ n)) 9) 6 r tried (omega arith)) (omega arith)) small
 
--- ---- what is left
+-- ---- the bits left without inserted zeros
 pub record Gives (r len x n y : ℕ) : Type 0 where
   pub data_bits : data_of r (low_bits len x) ≡ low_bits n y
   pub ones : ones_of r (low_bits len x) ≡ after_of r len x

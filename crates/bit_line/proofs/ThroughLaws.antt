@@ -1,4 +1,4 @@
--- What a stuffer makes, a deframer in normal mode gives back.
+-- A deframer in normal mode reports the units that a stuffer put on the line.
 use Rattle.std.proofs.Common.{◌≡◌, ℕ, ◌+◌, ◌-◌, ◌<◌, ◌≤◌, zero, suc, Bool, true, false, cond, Some, None, List, [], ◌∷◌, ◌++◌, length, reverse, take, drop, refl, sym, ap, ◌∙◌, arith, inl, inr, subst, append_assoc}
 use Rattle.std.specs.Prelude.{◌⊎◌, ◌≢◌, nat_lt}
 use Rattle.std.specs.Bool.{MatchBool}
@@ -23,7 +23,7 @@ use Rattle.bit_line.proofs.FlagLaws.{since_flag-flag, since_flag-other, ends_fla
 use Rattle.su_octets.proofs.BitLists.{length-bits_of}
 use Rattle.bit_line.proofs.GateLaws.{inside-some as inside-is}
 
--- ---- bits that end nothing and begin nothing
+-- ---- bits that end no flag and begin no counting mode
 pub quiet : (b : Bool) (h : List Bool) (es : List LineEvent) → Runs h None es → ends_flag (b ∷ h) ≡ false → begins (b ∷ h) ≡ false → Runs (b ∷ h) None es
 unfolding Runs mode_after reports
 quiet b h es runs none calm =
@@ -75,8 +75,8 @@ no_six_ahead c g none =
     let few : trailing c < 6 = few_trailing c none in
     omega (arith, many, few, trailing-behind c g))
 
--- ---- behind a flag
--- c came since a flag that ended h, the mode is the normal one, and nothing was reported
+-- ---- after a flag
+-- c follows a flag that ended h, the mode is normal, and nothing was reported
 record Quiet (c h : List Bool) (es : List LineEvent) : Type 0 where
   runs : Runs (c ++ h) None es
   since : since_flag (c ++ h) ≡ Some c
@@ -99,7 +99,7 @@ content_quiet (b ∷ c) g es ends runs none short =
     more_quiet b c (false ∷ g) es (content_quiet c g es ends runs parts.1 shorter) (no_six_ahead c g parts.1)
     (omega (arith, shorter, taken_out-drop 6 c))
 
--- the first seven bits of a flag end nothing and begin nothing
+-- the first seven bits of a flag end no flag and begin no counting mode
 record Front (c h : List Bool) (es : List LineEvent) : Type 0 where
   q0 : Quiet c h es
   q1 : Quiet (false ∷ c) h es
@@ -250,7 +250,7 @@ line_is (u ∷ us) some = refl
 opening_history : (h : List Bool) → reverse flag ++ h ≡ false ∷ full_flag [] h
 opening_history h = refl
 
--- what ends alike begins alike
+-- equal lists without their last bits
 suffix : (xs r ys f : List Bool) → xs ++ r ≡ ys ++ f → length r ≤ length f → xs ≡ ys ++ take (length f - length r) f
 suffix xs r ys f same short =
     let sum : length (xs ++ r) ≡ length (ys ++ f) = ap length same in

@@ -12,7 +12,7 @@ use Rattle.bit_line.specs.Flags.{ends_flag, inside, begins}
 use Rattle.bit_line.specs.declared.events.LineEvent.{LineEvent}
 use Rattle.bit_line.specs.declared.events.LineEvent.TheVariants as events
 
--- octets that are those of a signal unit
+-- octets of a signal unit
 abbrev pub AreUnit : List ℕ → Type 0
 AreUnit octets = (unit : units.Unit) × Frame octets unit
 
@@ -34,8 +34,8 @@ IsJudged content (Correct octets) = IsCorrect content octets
 IsJudged content Wrong = (content ≢ []) × ((octets : List ℕ) → IsCorrect content octets → ⊥)
 IsJudged content Nothing = content ≡ []
 
--- The bit that comes after the history ends a flag, and what lies before that flag is judged so; or
--- it ends none, and there is nothing to judge.
+-- If the bit after the history ends a flag, the verdict is that on the content before the flag. If
+-- it ends none, there is nothing to judge.
 abbrev pub Closes : Bool → List Bool → Verdict → Type 0
 Closes b h verdict = MatchBool (ends_flag (b ∷ h)) (IsJudged (inside h) verdict) (verdict ≡ Nothing)
 
@@ -51,7 +51,7 @@ mode_after Nothing begin None = if begin then Some 0 else None
 unfoldable pub sixteens : ℕ → List LineEvent
 sixteens n = if n % 128 == 0 then events.SixteenOctets ∷ [] else []
 
--- what is reported at a bit, by what it closes and the mode before it
+-- the reports at a bit, from the verdict at this bit and the mode before it
 unfoldable pub reports : Verdict → Option ℕ → List LineEvent
 reports (Correct octets) (Some n) = sixteens (n + 1) ++ events.Unit (record { items = octets }) ∷ []
 reports (Correct octets) None = events.Unit (record { items = octets }) ∷ []
@@ -68,24 +68,23 @@ pub record Goes (b : Bool) (h : List Bool) (old : Option ℕ) (before : List Lin
   pub mode : new ≡ mode_after verdict (begins (b ∷ h)) old
   pub all : after ≡ before ++ reports verdict old
 
--- The mode after a history and all that was reported up to it. Counting mode is on before the first
--- bit.
+-- The mode after a history, and all reports up to there. Counting mode is on before the first bit.
 unfoldable pub Runs : List Bool → Option ℕ → List LineEvent → Type 0
 Runs [] mode all = (mode ≡ Some 0) × (all ≡ [])
 Runs (b ∷ h) mode all =
     (old : Option ℕ) × (before : List LineEvent) × Runs h old before × Goes b h old before mode all
 
--- all that is reported for these line bits, given in order of coming
+-- all reports for these line bits, in order of arrival
 abbrev pub AreEvents : List Bool → List LineEvent → Type 0
 AreEvents bits events = (mode : Option ℕ) × Runs (reverse bits) mode events
 
--- Behind these line bits octets are counted, or they aren't.
+-- whether octets are counted after these line bits
 abbrev pub IsCounting : List Bool → Bool → Type 0
 IsCounting bits on =
     (mode : Option ℕ) × (all : List LineEvent) × Runs (reverse bits) mode all
     × (is_some mode ≡ on)
 
--- what is said of a reported unit: its octets are those of a signal unit
+-- a reported unit has the octets of a signal unit
 abbrev pub IsSound : LineEvent → Type 0
 IsSound (events.Unit octets) = AreUnit octets.items × AreOctets octets.items
 IsSound events.Errored = Unit {0}
@@ -95,7 +94,7 @@ IsSound events.SixteenOctets = Unit {0}
 abbrev pub UnitsDecode : List LineEvent → Type 0
 UnitsDecode all = All IsSound all
 
--- how many contents the reports say to be closed, correct ones and wrong ones
+-- the number of contents that the reports close, correct and wrong ones
 abbrev pub closings : List LineEvent → ℕ
 closings [] = 0
 closings (events.Unit octets ∷ all) = 1 + closings all

@@ -1,4 +1,4 @@
--- Flags on a line (Q.703, 3.1). A place on the line is the history of the bits up to it.
+-- Flags on a line (Q.703, 3.1). A history is the list of the bits so far, the newest one first.
 use Rattle.std.specs.Prelude.{ℕ, Bool, true, false, not, ◌&&◌, ◌||◌, if◌then◌else◌, nat_lt, Option}
 use Rattle.std.specs.Prelude.{Some, None, unwrap_or, List, [], ◌∷◌, length, drop}
 use Rattle.std.specs.Option.{option_map}
@@ -14,13 +14,13 @@ unfoldable pub ends_flag : List Bool → Bool
 ends_flag [] = false
 ends_flag (b ∷ h) = not b && six_ones h
 
--- the bits since the last place where a flag ended, if there was one
+-- the bits since the end of the last flag, if there was one
 unfoldable pub since_flag : List Bool → Option (List Bool)
 since_flag [] = None
 since_flag (b ∷ h) = if ends_flag (b ∷ h) then Some [] else option_map (λ c. b ∷ c) (since_flag h)
 
--- The bits since the last flag but for the newest seven: all that lies between two flags, if the
--- next bit ends the second one. It is empty before the first flag, and where two flags share a 0.
+-- The bits since the last flag except the newest seven: the content between two flags, if the next
+-- bit ends the second one. It is empty before the first flag, and if two flags share a 0.
 unfoldable pub inside : List Bool → List Bool
 inside h = drop 7 (unwrap_or (since_flag h) [])
 
@@ -28,9 +28,8 @@ inside h = drop 7 (unwrap_or (since_flag h) [])
 abbrev pub MOST_BITS : ℕ
 MOST_BITS = 2224
 
--- Counting mode begins at this bit, if it isn't on: at the bit that makes seven 1s in a row, and at
--- one that ends no flag where the bits between the last flag and the seven newest, inserted 0s
--- taken out, are more than a unit has.
+-- Counting mode begins at this bit, unless it is on. The bit is the seventh 1 in a row, or it ends
+-- no flag and the content since the last flag, without inserted 0s, has more bits than a unit.
 unfoldable pub begins : List Bool → Bool
 begins [] = false
 begins (b ∷ h) =

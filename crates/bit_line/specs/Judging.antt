@@ -1,4 +1,4 @@
--- How the code's answers are read.
+-- The meaning of the values that the code returns.
 use Rattle.std.specs.Prelude.{ℕ, Option, Some, None, List, [], ◌∷◌, ◌++◌}
 use Rattle.arrayvec.specs.ArrayVec.{ArrayVec}
 use Rattle.bit_line.specs.Counting.{sixteen_of}
@@ -10,13 +10,13 @@ use Rattle.bit_line.specs.declared.counter.Given.{Given}
 use Rattle.bit_line.specs.declared.events.LineEvent.{LineEvent}
 use Rattle.bit_line.specs.declared.events.LineEvent.TheVariants as events
 
--- a judgement; where it is good, the content has the unit's octets
+-- the verdict of a judgement; if it is correct, the content has the unit's octets
 abbrev pub verdict_of : Closed → Content → Verdict
 verdict_of closed.Correct content = Correct content.data_bits.octets.items
 verdict_of closed.Wrong content = Wrong
 verdict_of closed.Nothing content = Nothing
 
--- the report of what a flag closed
+-- the report of the content that a flag closed
 abbrev pub report_of : Closed → Content → List LineEvent
 report_of closed.Correct content =
     events.Unit (record { items = content.data_bits.octets.items }) ∷ []
@@ -27,13 +27,13 @@ report_of closed.Nothing content = []
 abbrev pub reports_of : Given → Content → List LineEvent
 reports_of given content = sixteen_of given.sixteen ++ report_of given.closed content
 
--- how many reports of what a flag closed there are
+-- the number of reports of the content that a flag closed
 abbrev pub weight_of : Closed → ℕ
 weight_of closed.Correct = 1
 weight_of closed.Wrong = 1
 weight_of closed.Nothing = 0
 
--- the reports that were given, or none
+-- the returned reports, or none
 abbrev pub given_of : Option (ArrayVec LineEvent) → List LineEvent
 given_of None = []
 given_of (Some given) = given.items

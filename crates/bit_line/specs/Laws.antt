@@ -15,7 +15,7 @@ abbrev pub OneEvents : Type 0
 OneEvents =
     (bits : List Bool) (es fs : List LineEvent) → AreEvents bits es → AreEvents bits fs → es ≡ fs
 
--- line bits for which a deframer stands have events
+-- line bits that a deframer has taken have events
 abbrev pub StandsHaveEvents : Type 0
 StandsHaveEvents =
     (bits : List Bool) (deframer : Deframer) → Stands bits deframer
@@ -26,8 +26,8 @@ abbrev pub EventsDecode : Type 0
 EventsDecode =
     (bits : List Bool) (events : List LineEvent) → AreEvents bits events → UnitsDecode events
 
--- So many more bits close at most one content for each eight of them, and one for up to seven that
--- are left: so eight bits close at most one.
+-- More line bits close at most one content for each eight of them, and one for up to seven left
+-- over. So eight bits close at most one.
 abbrev pub ClosingsArePaced : Type 0
 ClosingsArePaced =
     (bits more : List Bool) (before given : List LineEvent) → AreEvents bits before
@@ -49,14 +49,14 @@ without_last [] = []
 without_last (octets ∷ []) = []
 without_last (octets ∷ more ∷ units) = octets ∷ without_last (more ∷ units)
 
--- all units, or all but the last where bits of its closing flag are missing
+-- all units, or all except the last if bits of its closing flag are missing
 abbrev pub arrived : List Bool → List (List ℕ) → List (List ℕ)
 arrived [] units = units
 arrived (b ∷ rest) units = without_last units
 
--- Line bits are in normal mode and end with a flag. Behind them comes what a fresh stuffer gave for
--- these units, at least one, and fewer than eight bits of it stay with the stuffer. Then exactly
--- the units are reported, in order; where bits stay, the last unit is still missing.
+-- The line bits are in normal mode and end with a flag. The octets of a fresh stuffer for one or
+-- more units follow; fewer than eight bits stay with it. Then exactly the units are reported, in
+-- order. If bits stay, the last unit is still missing.
 abbrev pub PassesThrough : Type 0
 PassesThrough =
     (bits : List Bool) (before after : List LineEvent) (given : List ℕ) (rest : List Bool)

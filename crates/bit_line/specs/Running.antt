@@ -1,4 +1,4 @@
--- What plain octets change of a deframer.
+-- The changes of a deframer by plain octets.
 use Rattle.std.specs.Prelude.{◌≡◌, ◌≢◌, ℕ, ◌+◌, ◌*◌, ◌/◌, ◌%◌, ◌^◌, ◌<◌, ◌≤◌, Bool, true, false}
 use Rattle.std.specs.Prelude.{None, List, ◌++◌, reverse, length}
 use Rattle.su_octets.specs.Bits.{low_bits}
@@ -8,7 +8,7 @@ use Rattle.bit_line.specs.Deframing.{has_six}
 use Rattle.bit_line.specs.declared.deframer.Deframer.{Deframer}
 use Rattle.bit_line.specs.declared.run.Run.{Run}
 
--- the deframer with these in place of its own
+-- the deframer with these values in place of its own
 abbrev pub with_run : Deframer → Run → List ℕ → Deframer
 with_run base run octets = record {
   recent = run.recent;
@@ -31,15 +31,15 @@ with_run base run octets = record {
   recent_fits = run.recent_fits;
 }
 
--- a deframer in normal mode that lets bits in
+-- a deframer in normal mode that adds each bit to the content
 pub record IsCalm (base : Deframer) : Type 0 where
   pub normal : base.counter.count ≡ None
   pub seen : base.gate.seen ≡ true
   pub wait : base.gate.wait ≡ 0
   pub over : base.gate.content.data_bits.over ≡ false
 
--- An octet whose bits come behind no six 1s: what is left of them without inserted zeros, and the
--- octet that the content has more, if it was filled.
+-- A plain octet, none of whose bits follows six 1s: the bits left without inserted zeros, and the
+-- octet that they complete in the content, if any.
 pub record IsPlainStep (run : Run) (octet : ℕ) (next : Run) (whole : List ℕ) : Type 0 where
   pub plain : (m : ℕ) → m < 8 → (run.recent + octet * 128) / 2 ^ m % 128 ≢ 126
   pub recent : next.recent ≡ (run.recent + octet * 128) / 2 ^ 8 % 128

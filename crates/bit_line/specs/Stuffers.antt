@@ -1,4 +1,4 @@
--- What the fields of a stuffer say of the octets that it gave and the units that it was given.
+-- The fields of a stuffer after the octets that it returned for units.
 use Rattle.std.specs.Prelude.{◌≡◌, ℕ, Bool, true, false, List, [], ◌∷◌, ◌++◌}
 use Rattle.su_octets.specs.Bits.{low_bits, bits_of}
 use Rattle.bit_line.specs.Sending.{line_of}
@@ -8,7 +8,7 @@ abbrev pub is_some_unit : List (List ℕ) → Bool
 is_some_unit [] = false
 is_some_unit (octets ∷ units) = true
 
--- The octets that were given, and the bits that stay, are the line of the units' octets.
+-- The octets returned so far and the bits that stay are the line of the units' octets.
 pub record Gave (given : List ℕ) (units : List (List ℕ)) (stuffer : Stuffer) : Type 0 where
   pub bits : bits_of given ++ low_bits stuffer.part.len stuffer.part.bits ≡ line_of units
   pub started : stuffer.started ≡ is_some_unit units

@@ -2,13 +2,13 @@
 use Rattle.std.specs.Prelude.{ℕ, suc, ◌==◌, Bool, true, false, if◌then◌else◌, List, [], ◌∷◌}
 use Rattle.std.specs.Prelude.{reverse}
 
--- how many 1s in a row the newest bits are
+-- the number of 1s in a row among the newest bits
 unfoldable pub trailing : List Bool → ℕ
 trailing [] = 0
 trailing (true ∷ h) = suc (trailing h)
 trailing (false ∷ h) = 0
 
--- a 0 goes in behind five 1s in a row
+-- a 0 is inserted after five 1s in a row
 unfoldable pub with_zero : List Bool → List Bool
 with_zero h = if trailing h == 5 then false ∷ h else h
 
@@ -21,7 +21,7 @@ stuffed (b ∷ h) = with_zero (b ∷ stuffed h)
 abbrev pub stuffing_of : List Bool → List Bool
 stuffing_of bits = reverse (stuffed (reverse bits))
 
--- a history of line bits without the 0s that stand behind five 1s in a row
+-- a history of line bits without each 0 after five 1s in a row
 unfoldable pub taken_out : List Bool → List Bool
 taken_out [] = []
 taken_out (true ∷ h) = true ∷ taken_out h

@@ -15,16 +15,16 @@ use crate::taken::{ones_after, taken_from};
 pub enum Closed {
     /// It is that of a signal unit.
     Correct,
-    /// It isn't.
+    /// It isn't that of a signal unit.
     Wrong,
-    /// There is none.
+    /// It is empty.
     Nothing,
 }
 
-/// The bits between two flags so far, as a unit's.
+/// The content so far: the line bits since a flag.
 #[derive(Drop)]
 pub struct Content {
-    /// How many 1s in a row came last, up to 6.
+    /// The number of 1s in a row at the end of the line bits, up to 6.
     pub ones: u8,
     /// Whether there were six 1s in a row.
     pub six: bool,
@@ -41,7 +41,7 @@ pub fn is_unit(octets: &[u8]) -> bool
 }
 
 impl Content {
-    /// No bit so far.
+    /// An empty content.
     pub fn new() -> Self
         ensures { Holds [] result }
     {
@@ -52,7 +52,7 @@ impl Content {
         }
     }
 
-    /// The same content once more.
+    /// A copy of the content.
     pub fn copy(&self) -> Self
         ensures { (h : List Bool) → Holds h self.now → Holds h result }
     {
@@ -81,7 +81,7 @@ impl Content {
         self.data_bits.push(true);
     }
 
-    /// Adds a 0, which is left out where it is an inserted one.
+    /// Adds a 0, unless it is an inserted one.
     fn push_zero(&mut self)
         ensures { (h : List Bool) → Holds h self.old → Holds (false ∷ h) self.new }
     {
@@ -144,7 +144,7 @@ impl Content {
         }
     }
 
-    /// Has up to forty line bits, the low one first, in place of those so far.
+    /// Replaces all line bits by up to forty others, the low one first.
     pub fn restart(&mut self, bits: u64, len: u8)
         requires few { len ≤ 40 }
         requires fits { bits < 2 ^ len }
@@ -170,7 +170,7 @@ impl Content {
         }
     }
 
-    /// How all the bits are judged, where no more of them come.
+    /// How the content is judged if no more bits follow.
     pub fn judge(&self) -> Closed
         ensures { (h : List Bool) → Holds h self.now → IsJudged h (verdict_of result self.now) }
     {

@@ -1,19 +1,19 @@
-//! Counting mode.
+//! Octet counting mode.
 ghost use Rattle.std.specs.Prelude.{◌≡◌, ◌+◌, ◌*◌, ◌≤◌, ◌<◌, ℕ, false, Option, Some, None, is_none, if◌then◌else◌, unwrap_or};
 ghost use Rattle.std.specs.Option.{ForSome};
 
 use crate::content::Closed;
 
-/// What one bit gave.
+/// The reports at one line bit.
 #[derive(Clone, Copy)]
 pub struct Given {
-    /// Whether it filled 128 bits of counting mode.
+    /// Whether the bit completes 128 bits of counting mode.
     pub sixteen: bool,
-    /// What it closed, as far as that is reported.
+    /// How the content that the bit closed is judged, if that is reported.
     pub closed: Closed,
 }
 
-/// The bits since counting mode began, modulo 128, or none in normal mode.
+/// The number of bits since counting mode began, modulo 128, or `None` in normal mode.
 #[derive(Drop)]
 pub struct Counter {
     pub count: Option<u8>,
@@ -26,28 +26,28 @@ impl Counter {
     ghost use Rattle.bit_line.specs.Counting.{Counts, sixteen_of};
     ghost use Rattle.bit_line.specs.Events.{mode_after, reports, Nothing};
 
-    /// Counting mode, at its beginning.
+    /// Counting mode before its first bit.
     pub fn new() -> Self
         ensures { result.count ≡ Some 0 }
     {
         Counter { count: Some(0) }
     }
 
-    /// The same mode once more, with its count.
+    /// A copy with the same count.
     pub fn copy(&self) -> Self
         ensures { result.count ≡ self.now.count }
     {
         Counter { count: self.count }
     }
 
-    /// Whether the mode is the normal one.
+    /// Whether the mode is normal.
     pub fn is_normal(&self) -> bool
         ensures { result ≡ is_none self.now.count }
     {
         self.count.is_none()
     }
 
-    /// One more bit, at which counting mode begins if it isn't on. Answers whether 128 bits are full.
+    /// Counts one bit. If `begins`, counting mode begins here unless it is on. Returns whether 128 bits are complete.
     pub fn tick(&mut self, begins: bool) -> bool
         ensures counts { (mode : Option ℕ) → Counts mode self.old.count → Counts (mode_after Nothing begins mode) self.new.count }
         ensures full { (mode : Option ℕ) → Counts mode self.old.count → sixteen_of result ≡ reports Nothing mode }
@@ -70,7 +70,7 @@ impl Counter {
         }
     }
 
-    /// One more bit, at which counting mode ends. Answers whether 128 bits are full.
+    /// Counts one bit and ends counting mode. Returns whether 128 bits are complete.
     pub fn stop(&mut self) -> bool
         ensures normal { self.new.count ≡ None }
         ensures full { (mode : Option ℕ) → Counts mode self.old.count → sixteen_of result ≡ reports Nothing mode }
@@ -81,7 +81,7 @@ impl Counter {
         full
     }
 
-    /// One more bit, which ends a flag. What it closed is judged so.
+    /// Counts the last bit of a flag. `closed` is the judgement of the content before the flag.
     pub fn close(&mut self, closed: Closed) -> Given
         ensures counts { (mode : Option ℕ) (content : Content) → Counts mode self.old.count
             → Counts (mode_after (verdict_of closed content) false mode) self.new.count }

@@ -1,4 +1,4 @@
-//! The bits of a unit, inserted zeros taken out.
+//! The bits of a unit, without inserted zeros.
 ghost use Rattle.std.specs.Prelude.{◌≡◌, ◌≤◌, ◌<◌, ◌^◌, ◌+◌, Bool, true, List, [], ◌∷◌, ◌++◌, reverse, length};
 ghost use Rattle.bit_line.specs.Flags.{MOST_BITS};
 ghost use Rattle.std.specs.Bool.{MatchBool};
@@ -8,7 +8,7 @@ ghost use Rattle.su_octets.specs.Bits.{low_bits};
 use crate::part::Part;
 use arrayvec::ArrayVec;
 
-/// Up to 2,224 bits, as octets. With one more bit only the fact that they are more is kept.
+/// Up to 2,224 bits, as octets. If there are more, only `over` is valid.
 #[derive(Drop)]
 pub struct Data {
     pub octets: ArrayVec<u8, 278>,
@@ -17,7 +17,7 @@ pub struct Data {
 }
 
 impl Data {
-    /// No bit so far.
+    /// No bits.
     pub fn new() -> Self
         ensures { Gathers [] result }
     {
@@ -37,7 +37,7 @@ impl Data {
         self.over = false;
     }
 
-    /// The whole octets.
+    /// The complete octets.
     pub fn octets(&self) -> ArrayVec<u8, 278>
         ensures { result.items ≡ self.now.octets.items }
     {
@@ -48,7 +48,7 @@ impl Data {
         octets
     }
 
-    /// The same bits once more.
+    /// A copy of the bits.
     pub fn copy(&self) -> Self
         ensures { (h : List Bool) → Gathers h self.now → Gathers h result }
     {
@@ -59,7 +59,7 @@ impl Data {
         }
     }
 
-    /// Whether there is no bit.
+    /// Whether there are no bits.
     pub fn is_empty(&self) -> bool
         ensures { (h : List Bool) → Gathers h self.now → MatchBool result (h ≡ []) (h ≡ [] → ⊥) }
     {
@@ -119,7 +119,7 @@ impl Data {
         }
     }
 
-    /// Has up to forty bits, the low one first, in place of those so far.
+    /// Replaces all bits by up to forty others, the low one first.
     pub fn refill(&mut self, bits: u64, len: u8)
         requires few { len ≤ 40 }
         requires fits { bits < 2 ^ len }

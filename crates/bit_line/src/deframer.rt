@@ -1,4 +1,4 @@
-//! Line bits to events.
+//! Finds signal units in line bits.
 ghost use Rattle.std.specs.Prelude.{◌≡◌, ◌≤◌, ◌<◌, ◌+◌, ◌-◌, ◌*◌, ◌/◌, ◌%◌, ◌^◌, ◌≢◌, ℕ, Bool, true, false, List, [], ◌∷◌, ◌++◌, IfOk, OnOk, OnErr, IfSome, reverse, length, take, if◌then◌else◌, unwrap_or, None};
 ghost use Rattle.arrayvec.specs.ArrayVec.{array_vec_len};
 ghost use Rattle.su_octets.specs.Bits.{low_bits, bits_of};
@@ -14,7 +14,7 @@ use crate::window::{is_plain, newer, plain_count};
 use arrayvec::ArrayVec;
 use std::alloc::Global;
 
-/// The newest bits of a line on which a flag or a seventh 1 comes next: a 0 and six 1s.
+/// The newest seven bits are a 0 and six 1s: the next bit ends a flag or is a seventh 1.
 const SIX_ONES: u8 = 126;
 
 /// Finds signal units in line bits, however they are cut into octets and slices, and counts octets
@@ -47,7 +47,7 @@ impl Deframer {
         }
     }
 
-    /// Whether octets are counted: from seven 1s or too long a unit on, and at first, up to a correct unit (Q.703, 4.1.4).
+    /// Whether octets are counted: at first and after seven 1s or too long a unit, until a correct one (Q.703, 4.1.4).
     pub fn is_counting(&self) -> bool
         ensures { (bits : List Bool) → Stands bits self.now → IsCounting bits result }
     {
@@ -68,7 +68,7 @@ impl Deframer {
         self.counter.close(closed)
     }
 
-    /// Takes a 1 that makes seven of them.
+    /// Takes the seventh 1 in a row.
     fn seventh_one(&mut self) -> Given
         requires { self.old.recent ≡ 126 }
         ensures stands { (h : List Bool) (events : List LineEvent) → StandsAt h events self.old
@@ -85,7 +85,7 @@ impl Deframer {
         }
     }
 
-    /// Takes a bit behind anything but six 1s.
+    /// Takes a bit that doesn't follow six 1s.
     fn plain_bit(&mut self, bit: bool) -> Given
         requires { self.old.recent ≡ 126 → ⊥ }
         ensures stands { (h : List Bool) (events : List LineEvent) → StandsAt h events self.old
@@ -120,7 +120,7 @@ impl Deframer {
         }
     }
 
-    /// Whether the mode is the normal one, and eight more bits begin no counting mode if they end no flag and make no seven 1s.
+    /// Whether the mode is normal and stays so for eight more bits that end no flag and make no seven 1s.
     fn is_calm(&self) -> bool
         ensures { result ≡ true → (self.now.counter.count ≡ None)
             × ((h : List Bool) → LetsIn h self.now.gate → length (taken_out (inside h)) + 8 ≤ MOST_BITS) }
@@ -132,7 +132,7 @@ impl Deframer {
         }
     }
 
-    /// Takes the first `len` bits at once, the low one first, none of them behind six 1s. They report nothing.
+    /// Takes the first `len` bits at once, the low one first. None of them may follow six 1s. They report nothing.
     pub(crate) fn take_plain(&mut self, bits: u8, len: u8)
         requires few { len ≤ 8 }
         requires normal { self.old.counter.count ≡ None }
@@ -148,8 +148,8 @@ impl Deframer {
         self.recent = ((window >> len) % 128) as u8;
     }
 
-    /// Takes the first of up to eight bits, the low one first, as far as they can be taken at once and report nothing. Answers how
-    /// many it took.
+    /// Takes the first few of up to eight bits at once, the low one first: bits that certainly report nothing. Returns
+    /// how many it took.
     fn take_calm(&mut self, bits: u8, len: u8) -> u8
         requires { len ≤ 8 }
         ensures most { result ≤ len }
@@ -166,8 +166,8 @@ impl Deframer {
         count
     }
 
-    /// Takes octets from the front at once, as long as none of their bits comes behind six 1s, and no two inserted zeros stand in one octet.
-    /// Answers how many; they report nothing.
+    /// Takes whole octets from the front while no bit follows six 1s and no octet has two inserted zeros. They report
+    /// nothing. Returns how many it took.
     pub(crate) fn take_run(&mut self, octets: &[u8]) -> usize
         ensures most { result ≤ length octets.now }
         ensures stands { (h : List Bool) (events : List LineEvent) → StandsAt h events self.old
@@ -193,7 +193,7 @@ impl Deframer {
         taken
     }
 
-    /// Whether the mode is the normal one, and each bit lets one into the content, which has no more bits than a unit.
+    /// Whether the mode is normal, each new bit adds one to the content, and the content isn't longer than a unit.
     fn is_open(&self) -> bool
         ensures { result ≡ true → IsCalm self.now }
     {
@@ -203,8 +203,8 @@ impl Deframer {
         self.gate.wait == 0 && !self.gate.content.data_bits.over
     }
 
-    /// Takes an octet at once, the low bit first, where none of its bits comes behind six 1s and it reports nothing, as far as that is
-    /// known at once. Answers whether it did.
+    /// Takes an octet at once, the low bit first, if no bit follows six 1s and it certainly reports nothing. Returns
+    /// whether it took the octet.
     fn take_whole(&mut self, octet: u8) -> bool
         ensures taken { result ≡ true → (h : List Bool) (events : List LineEvent) → StandsAt h events self.old
             → StandsAt (reverse (low_bits 8 octet) ++ h) events self.new }
@@ -222,7 +222,7 @@ impl Deframer {
         true
     }
 
-    /// A deframer that stands at the same place of the same line.
+    /// A copy of the deframer.
     fn copy(&self) -> Self
         ensures { (h : List Bool) (events : List LineEvent) → StandsAt h events self.now → StandsAt h events result }
     {
@@ -233,7 +233,7 @@ impl Deframer {
         }
     }
 
-    /// Puts the report of what a flag closed at the end.
+    /// Appends the report of the content that a flag closed.
     fn put_closed(&self, closed: Closed, events: &mut ArrayVec<LineEvent, 8>)
         requires { array_vec_len events.old < 8 }
         ensures { events.new.items ≡ events.old.items ++ report_of closed self.now.gate.content }
@@ -245,7 +245,7 @@ impl Deframer {
         }
     }
 
-    /// Puts all reports at a bit at the end.
+    /// Appends all reports at a bit.
     fn put(&self, given: Given, events: &mut ArrayVec<LineEvent, 8>)
         requires { array_vec_len events.old + 2 ≤ 8 }
         ensures items { events.new.items ≡ events.old.items ++ reports_of given self.now.gate.content }
@@ -256,7 +256,7 @@ impl Deframer {
         self.put_closed(given.closed, events);
     }
 
-    /// Takes the eight bits of an octet, the low one first, and gives what they report.
+    /// Takes the eight bits of an octet, the low one first, and returns their events.
     pub fn feed_byte(&mut self, octet: u8) -> ArrayVec<LineEvent, 8>
         ensures stands { (bits : List Bool) → Stands bits self.old → Stands (bits ++ low_bits 8 octet) self.new }
         ensures events { (bits : List Bool) (events : List LineEvent) → Stands bits self.old → AreEvents bits events
@@ -277,7 +277,7 @@ impl Deframer {
         events
     }
 
-    /// Takes the eight bits of an octet, the low one first, and gives what they report, if they report anything.
+    /// As `feed_byte`, but returns `None` if there are no events.
     fn feed_one(&mut self, octet: u8) -> Option<ArrayVec<LineEvent, 8>>
         ensures some { IfSome result (λ given. given.items ≢ []) }
         ensures stands { (bits : List Bool) → Stands bits self.old → Stands (bits ++ low_bits 8 octet) self.new }
@@ -297,8 +297,8 @@ impl Deframer {
         }
     }
 
-    /// Takes octets from the front up to the first one that reports something, the low bit of each first. Gives how many it took,
-    /// and what the last of them reported: nothing where none of the octets reports anything, and then it took all.
+    /// Takes octets from the front, low bits first, up to the first one that reports an event, or all if none does.
+    /// Returns how many it took and the events of the last one (none if no octet reports an event).
     pub fn feed_until(&mut self, octets: &[u8]) -> (usize, ArrayVec<LineEvent, 8>)
         ensures most { result.0 ≤ length octets.now }
         ensures all { result.1.items ≡ [] → result.0 ≡ length octets.now }
@@ -324,7 +324,7 @@ impl Deframer {
         (taken, ArrayVec::new())
     }
 
-    /// Puts the report of what a flag closed at the end.
+    /// Appends the report of the content that a flag closed.
     fn push_closed(&self, closed: Closed, events: &mut Vec<LineEvent>) -> Result<(), NoMemory>
         ensures { OnOk result (events.new.items ≡ events.old.items ++ report_of closed self.now.gate.content) }
     {
@@ -338,7 +338,7 @@ impl Deframer {
         Ok(())
     }
 
-    /// Takes the eight bits of an octet, and puts what they report at the end.
+    /// Takes the eight bits of an octet and appends their events.
     pub(crate) fn push_octet(
         &mut self,
         octet: u8,
@@ -354,7 +354,7 @@ impl Deframer {
         }
     }
 
-    /// Takes the eight bits of an octet in as few steps as may be, and puts what they report at the end.
+    /// Takes the eight bits of an octet in few steps and appends their events.
     fn push_bits(&mut self, octet: u8, events: &mut Vec<LineEvent>) -> Result<(), NoMemory>
         ensures { OnOk result ((h : List Bool) (before : List LineEvent) → StandsAt h (before ++ events.old.items) self.old
             → StandsAt (reverse (low_bits 8 octet) ++ h) (before ++ events.new.items) self.new) }
@@ -372,11 +372,11 @@ impl Deframer {
         Ok(())
     }
 
-    /// Takes the bits of the octets in turn, and gives what they report.
+    /// Takes the bits of the octets in turn and returns their events.
     ///
     /// # Errors
     ///
-    /// `NoMemory` where there is none for the events. Then no bit was taken.
+    /// `NoMemory` if memory for the events runs out. Then no bit was taken.
     pub fn feed(&mut self, alloc: Global, octets: &[u8]) -> Result<Vec<LineEvent>, NoMemory>
         ensures stands { OnOk result ((bits : List Bool) → Stands bits self.old → Stands (bits ++ bits_of octets.now) self.new) }
         ensures events { IfOk result (λ given. (bits : List Bool) (events : List LineEvent) → Stands bits self.old → AreEvents bits events

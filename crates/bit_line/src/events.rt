@@ -1,20 +1,20 @@
-//! What a deframer reports.
+//! The events that a deframer reports.
 use arrayvec::ArrayVec;
 use std::alloc::{AllocError, AllocFailed};
 use thiserror::Error;
 
-/// What a receiver of line bits reports.
+/// An event that a receiver of line bits reports.
 #[derive(Debug, Drop, PartialEq, Eq)]
 pub enum LineEvent {
     /// The octets of a correct signal unit, without flags.
     Unit(ArrayVec<u8, 278>),
-    /// What lay between two flags is no correct signal unit.
+    /// The content between two flags is no correct signal unit.
     Errored,
     /// 128 line bits passed in counting mode.
     SixteenOctets,
 }
 
-/// What fills the unused room of an array of events.
+/// The value that fills the unused room of an array of events.
 impl Default for LineEvent {
     ghost use Rattle.std.specs.Prelude.{◌≡◌};
     ghost use Rattle.bit_line.specs.declared.events.LineEvent.TheVariants.{Errored};
@@ -26,7 +26,7 @@ impl Default for LineEvent {
     }
 }
 
-/// There is no memory for the events.
+/// Memory for the events ran out.
 #[derive(Clone, Copy, Debug, Drop, Error, PartialEq, Eq)]
 #[error("NoMemory")]
 pub struct NoMemory;

@@ -1,4 +1,4 @@
-//! The first octets behind a flag.
+//! The first octets after a flag.
 ghost use Rattle.std.specs.Prelude.{◌≡◌, ◌≤◌, ◌<◌, ◌^◌, Bool, true, List, ◌++◌, None, reverse, length, take};
 ghost use Rattle.su_octets.specs.Bits.{low_bits, bits_of};
 ghost use Rattle.bit_line.specs.declared.events.LineEvent.{LineEvent};
@@ -20,7 +20,7 @@ pub fn word_of(octets: &[u8]) -> u64
 impl Deframer {
     ghost use Rattle.bit_line.specs.Deframing.{StandsAt};
 
-    /// Whether the mode is the normal one, and some bits are missing of the first seven since the last flag.
+    /// Whether the mode is normal and fewer than seven bits follow the last flag so far.
     fn is_waiting(&self) -> bool
         ensures normal { result ≡ true → self.now.counter.count ≡ None }
         ensures seen { result ≡ true → self.now.gate.seen ≡ true }
@@ -32,8 +32,8 @@ impl Deframer {
         self.gate.wait != 0
     }
 
-    /// Takes the first five octets at once where bits are missing of the first seven since the last flag and none of theirs comes
-    /// behind six 1s. Answers how many octets it took; they report nothing.
+    /// Takes the first five octets at once if fewer than seven bits follow the last flag so far and no bit of the
+    /// octets follows six 1s. Returns how many octets it took, 5 or 0. They report nothing.
     pub(crate) fn take_front(&mut self, octets: &[u8]) -> usize
         ensures most { result ≤ length octets.now }
         ensures stands { (h : List Bool) (events : List LineEvent) → StandsAt h events self.old

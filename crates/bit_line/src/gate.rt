@@ -5,15 +5,14 @@ ghost use Rattle.bit_line.specs.Flags.{ends_flag};
 
 use crate::content::{Closed, Content};
 
-/// Lets the bits between flags into the content, each one seven bits late: so those of a flag never
-/// come in.
+/// Adds the bits between flags to the content, each one seven bits late. So the bits of a flag never enter it.
 #[derive(Drop)]
 pub struct Gate {
     /// Whether there was a flag.
     pub seen: bool,
-    /// How many bits of what came since the last flag are missing of seven.
+    /// Seven minus the number of bits since the last flag, but not below 0.
     pub wait: u8,
-    /// What was let in since the last flag, where nothing is missing.
+    /// The content since the last flag, valid if `wait` is 0.
     pub content: Content,
     ghost wait_fits: { wait ≤ 7 },
 }
@@ -26,7 +25,7 @@ impl Gate {
     ghost use Rattle.bit_line.specs.Judging.{verdict_of, weight_of};
     ghost use Rattle.std.specs.Prelude.{nat_lt, length};
 
-    /// Before the first bit.
+    /// A gate before the first bit.
     pub fn new() -> Self
         ensures { LetsIn [] result }
     {
@@ -37,7 +36,7 @@ impl Gate {
         }
     }
 
-    /// The same gate once more.
+    /// A copy of the gate.
     pub fn copy(&self) -> Self
         ensures { (h : List Bool) → LetsIn h self.now → LetsIn h result }
     {
@@ -48,7 +47,7 @@ impl Gate {
         }
     }
 
-    /// Takes a bit that ends no flag. `late` is the bit seven before it.
+    /// Takes a bit that ends no flag. `late` is the bit seven bits before it.
     pub fn pass(&mut self, late: bool)
         ensures passed { (h : List Bool) (b : Bool) → ends_flag (b ∷ h) ≡ false → late ≡ seventh h → LetsIn h self.old → LetsIn (b ∷ h) self.new }
         ensures pace { self.old.wait ≤ self.new.wait + 1 }
@@ -66,7 +65,7 @@ impl Gate {
         }
     }
 
-    /// Takes up to eight bits that end no flag. `late` are the bits seven before them, the first one lowest.
+    /// Takes up to eight bits that end no flag. `late` holds the bits seven bits before them, the first one lowest.
     pub fn pass_few(&mut self, late: u8, len: u8)
         requires few { len ≤ 8 }
         requires fits { late < 2 ^ len }
@@ -90,7 +89,7 @@ impl Gate {
         self.wait = 0;
     }
 
-    /// Takes eight bits that end no flag. `late` are the bits seven before them, the first one lowest.
+    /// Takes eight bits that end no flag. `late` holds the bits seven bits before them, the first one lowest.
     pub fn pass_eight(&mut self, late: u8)
         ensures { (h k : List Bool) → length k ≡ 8 → EndsNone k h → drop 7 (k ++ newest 7 h) ≡ reverse (low_bits 8 late)
             → LetsIn h self.old → LetsIn (k ++ h) self.new }
@@ -105,8 +104,8 @@ impl Gate {
         }
     }
 
-    /// Takes forty bits that end no flag, where some are missing of the first seven since the last one. `late` are the bits seven
-    /// before them, the first one lowest.
+    /// Takes forty bits that end no flag, if fewer than seven bits follow the last flag so far. `late` holds the bits
+    /// seven bits before them, the first one lowest.
     pub fn pass_forty(&mut self, late: u64)
         requires fits { late < 2 ^ 40 }
         requires seen { self.old.seen ≡ true }
@@ -118,7 +117,7 @@ impl Gate {
         self.wait = 0;
     }
 
-    /// How what lies inside is judged, if the next bit ends a flag.
+    /// How the content is judged if the next bit ends a flag.
     fn judge(&self) -> Closed
         ensures judged { (h : List Bool) → LetsIn h self.now → IsJudged (inside h) (verdict_of result self.now.content) }
         ensures pace { 8 * weight_of result + self.now.wait ≤ 8 }
@@ -133,8 +132,7 @@ impl Gate {
         }
     }
 
-    /// Takes the bit that ends a flag, and judges what lies before the flag. Its octets stay in the
-    /// content.
+    /// Takes the bit that ends a flag, and judges the content before the flag. The content keeps its octets.
     pub fn close(&mut self) -> Closed
         ensures judged { (h : List Bool) → LetsIn h self.old → IsJudged (inside h) (verdict_of result self.new.content) }
         ensures closed { (h : List Bool) → ends_flag (false ∷ h) ≡ true → LetsIn (false ∷ h) self.new }
@@ -146,7 +144,7 @@ impl Gate {
         closed
     }
 
-    /// Whether more bits than a unit has lie inside.
+    /// Whether the content has more bits than a unit.
     pub fn is_over(&self) -> bool
         ensures { (h : List Bool) → LetsIn h self.now → result ≡ nat_lt MOST_BITS (length (taken_out (inside h))) }
     {
@@ -160,7 +158,7 @@ impl Gate {
         }
     }
 
-    /// Whether eight more bits still are no more than a unit has.
+    /// Whether the content has room for eight more bits of a unit.
     pub fn has_room(&self) -> bool
         ensures { result ≡ true → (h : List Bool) → LetsIn h self.now → length (taken_out (inside h)) + 8 ≤ MOST_BITS }
     {

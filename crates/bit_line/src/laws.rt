@@ -1,5 +1,4 @@
-//! Laws over the definitions that the contracts of this crate cite. Each is the contract of a function
-//! that does nothing.
+//! Laws over the definitions that the contracts of this crate cite. Each is the contract of a function without code.
 ghost use Rattle.bit_line.specs.Laws.{OneEvents, StandsHaveEvents, EventsDecode, ClosingsArePaced, PassesThrough};
 
 /// Line bits have one list of events.
@@ -7,7 +6,7 @@ pub fn one_events()
     ensures { OneEvents }
 {}
 
-/// Line bits for which a deframer stands have events.
+/// Line bits that a deframer has taken have events.
 pub fn stands_have_events()
     ensures { StandsHaveEvents }
 {}
@@ -17,13 +16,13 @@ pub fn events_decode()
     ensures { EventsDecode }
 {}
 
-/// Line bits close at most one content for each eight of them, and one for what is left: an octet closes at most one.
+/// Line bits close at most one content for each eight bits, and one for the rest: an octet closes at most one.
 pub fn closings_are_paced()
     ensures { ClosingsArePaced }
 {}
 
-/// A deframer in normal mode, whose last bit ended a flag, gives exactly the units that a fresh stuffer
-/// put on the line behind it.
+/// A deframer in normal mode, whose last bit ended a flag, reports exactly the units that a fresh stuffer puts on the
+/// line after it.
 pub fn passes_through()
     ensures { PassesThrough }
 {}

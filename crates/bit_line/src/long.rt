@@ -1,31 +1,31 @@
-//! Inserted zeros among the first line bits of a content.
+//! Removal of inserted zeros from the first line bits of a content.
 ghost use Rattle.std.specs.Prelude.{◌≡◌, ◌≤◌, ◌<◌, ◌+◌, ◌*◌, ◌/◌, ◌%◌, ◌^◌, ℕ, Bool, List, ◌++◌, reverse, IfSome};
 ghost use Rattle.std.specs.Int.{bit_at};
 ghost use Rattle.su_octets.specs.Bits.{low_bits};
 ghost use Rattle.bit_line.specs.Stuffing.{trailing, taken_out};
 ghost use Rattle.bit_line.specs.Deframing.{has_six};
 
-/// What is left of line bits without inserted zeros.
+/// Line bits without inserted zeros.
 #[derive(Clone, Copy)]
 pub struct Left {
     /// The bits, the first one lowest.
     pub bits: u64,
-    /// How many they are.
+    /// The number of bits.
     pub len: u8,
 }
 
-/// What is left of up to forty line bits without inserted zeros.
+/// Up to forty line bits without inserted zeros.
 #[derive(Clone, Copy)]
 pub struct Long {
     /// The bits, the first one lowest.
     pub bits: u64,
-    /// How many they are.
+    /// The number of bits.
     pub len: u8,
-    /// How many 1s in a row the line bits end with.
+    /// The number of 1s in a row at the end of the line bits.
     pub ones: u8,
 }
 
-/// The places where five 1s in a row begin.
+/// The places where five 1s in a row begin, each as a 1.
 fn fives_in(bits: u64) -> u64
     ensures { (j : ℕ) → ((s : ℕ) → s < 5 → bit_at bits (s + j) ≡ 1) → bit_at result j ≡ 1 }
 {
@@ -33,7 +33,7 @@ fn fives_in(bits: u64) -> u64
     pairs & pairs >> 2 & bits >> 4
 }
 
-/// Where the first five 1s begin, if a 0 stands before them and one behind them.
+/// The place where the first five 1s in a row begin, if a 0 is before them and a 0 after them.
 fn first_in(fives: u64, bits: u64, len: u8) -> Option<u8>
     requires few { len ≤ 48 }
     requires fits { bits < 2 ^ 48 }
@@ -51,7 +51,7 @@ fn first_in(fives: u64, bits: u64, len: u8) -> Option<u8>
     Some(first)
 }
 
-/// How many 1s in a row the bits end with.
+/// The number of 1s in a row at the end of the bits.
 fn last_ones(bits: u64, len: u8) -> u8
     requires { len ≤ 40 }
     ensures { result ≡ trailing (reverse (low_bits len bits)) }
@@ -64,7 +64,7 @@ fn last_ones(bits: u64, len: u8) -> u8
     len
 }
 
-/// What is left of up to forty-eight line bits behind a 0 or nothing, where no six 1s are among them and no five at their end.
+/// Up to 48 line bits after a 0 or nothing, without inserted zeros. `None` if six 1s in a row or five last ones.
 pub fn left_of(bits: u64, len: u8) -> Option<Left>
     requires few { len ≤ 48 }
     requires fits { bits < 2 ^ len }
@@ -96,8 +96,7 @@ pub fn left_of(bits: u64, len: u8) -> Option<Left>
     })
 }
 
-/// What is left of up to forty line bits behind a 0 or nothing, and how many 1s they end with, where no six 1s are among them and no five at
-/// their end.
+/// As `left_of`, for up to forty line bits, with the number of 1s in a row at their end.
 pub fn taken_long(bits: u64, len: u8) -> Option<Long>
     requires few { len ≤ 40 }
     requires fits { bits < 2 ^ len }

@@ -3,18 +3,18 @@ ghost use Rattle.std.specs.Prelude.{◌≡◌, ◌+◌, ◌*◌, ◌^◌, ◌<�
 ghost use Rattle.su_octets.specs.Bits.{low_bits};
 ghost use Rattle.std.specs.Option.{option_to_list};
 
-/// Less than eight bits, which fill an octet from its lowest bit on.
+/// Fewer than eight bits, which fill an octet from its lowest bit.
 #[derive(Clone, Copy)]
 pub struct Part {
     /// The bits so far, the first one lowest.
     pub bits: u8,
-    /// How many they are.
+    /// The number of bits.
     pub len: u8,
     ghost len_fits: { len < 8 },
     ghost bits_fit: { bits < 2 ^ len },
 }
 
-/// The bits with one more bit behind them.
+/// The bits and one more bit after them.
 fn with_bit(bits: u8, len: u8, bit: bool) -> u8
     requires len_fits { len < 8 }
     requires bits_fit { bits < 2 ^ len }
@@ -35,7 +35,7 @@ impl Part {
         Part { bits: 0, len: 0 }
     }
 
-    /// Adds a bit. The eighth one completes the octet, which is given.
+    /// Adds a bit. Returns the octet if this bit completes it.
     pub fn push(&mut self, bit: bool) -> Option<u8>
         ensures packed { (octets : List ℕ) (h : List Bool) → Packed octets self.old.bits self.old.len h
             → Packed (octets ++ option_to_list result) self.new.bits self.new.len (bit ∷ h) }
@@ -54,7 +54,7 @@ impl Part {
         }
     }
 
-    /// Adds up to eight bits, the low one first. Where they complete the octet, it is given.
+    /// Adds up to eight bits, the low one first. Returns the octet if they complete it.
     pub fn push_few(&mut self, bits: u8, len: u8) -> Option<u8>
         requires few { len ≤ 8 }
         requires fits { bits < 2 ^ len }
@@ -79,8 +79,7 @@ impl Part {
         }
     }
 
-    /// Adds eight bits, the low one first. They complete the octet, which is given, and leave as many
-    /// bits as there were.
+    /// Adds eight bits, the low one first. Returns the octet that they complete. As many bits as before are left.
     pub fn push_eight(&mut self, octet: u8) -> u8
         ensures packed { (octets : List ℕ) (h : List Bool) → Packed octets self.old.bits self.old.len h
             → Packed (octets ++ result ∷ []) self.new.bits self.new.len (reverse (low_bits 8 octet) ++ h) }

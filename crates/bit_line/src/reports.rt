@@ -6,7 +6,7 @@ ghost use Rattle.bit_line.specs.Counting.{sixteen_of};
 use crate::events::{LineEvent, NoMemory};
 use arrayvec::ArrayVec;
 
-/// Puts the report of 128 full bits at the end.
+/// Appends the report of 128 complete bits, if they are complete.
 pub fn put_sixteen(full: bool, events: &mut ArrayVec<LineEvent, 8>)
     requires { array_vec_len events.old < 8 }
     ensures items { events.new.items ≡ events.old.items ++ sixteen_of full }
@@ -17,7 +17,7 @@ pub fn put_sixteen(full: bool, events: &mut ArrayVec<LineEvent, 8>)
     }
 }
 
-/// Puts the report of 128 full bits at the end.
+/// Appends the report of 128 complete bits, if they are complete.
 pub fn push_sixteen(full: bool, events: &mut Vec<LineEvent>) -> Result<(), NoMemory>
     ensures { OnOk result (events.new.items ≡ events.old.items ++ sixteen_of full) }
 {

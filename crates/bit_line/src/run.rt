@@ -1,4 +1,4 @@
-//! Octets of a line without flags or anything else of note.
+//! Runs of plain octets: no bit follows six 1s, and an octet has at most one inserted zero.
 ghost use Rattle.std.specs.Prelude.{◌≡◌, ◌≤◌, ◌<◌, Bool, List, ◌++◌, reverse, length, take, IfSome};
 ghost use Rattle.arrayvec.specs.ArrayVec.{array_vec_len};
 ghost use Rattle.std.specs.Option.{option_to_list};
@@ -9,29 +9,29 @@ use crate::taken::{ones_after, taken_from};
 use crate::window::is_plain;
 use arrayvec::ArrayVec;
 
-/// What changes of a deframer while plain octets come, but for the octets that they leave.
+/// The fields of a deframer that plain octets change, except the octets of the content.
 #[derive(Clone, Copy)]
 pub struct Run {
     /// The newest seven bits, the newest one highest.
     pub recent: u8,
     /// How many 1s in a row the content ends with.
     pub ones: u8,
-    /// The bits of the content's last octet.
+    /// The bits of the content's incomplete last octet.
     pub part: Part,
     ghost recent_fits: { recent < 128 },
     ghost few_ones: { ones ≤ 5 },
 }
 
-/// A plain octet.
+/// The effect of a plain octet.
 #[derive(Clone, Copy)]
 pub struct Step {
-    /// What changes.
+    /// The changed fields.
     pub run: Run,
-    /// The octet that the content has more, if its bits filled one.
+    /// The octet that is added to the content, if the bits complete one.
     pub whole: Option<u8>,
 }
 
-/// Puts the octet at the end, if there is one.
+/// Appends the octet, if there is one.
 fn put(whole: Option<u8>, octets: &mut ArrayVec<u8, 278>)
     requires { array_vec_len octets.old < 278 }
     ensures { octets.new.items ≡ octets.old.items ++ option_to_list whole }
@@ -47,7 +47,7 @@ impl Run {
     ghost use Rattle.bit_line.specs.declared.deframer.Deframer.{Deframer};
     ghost use Rattle.bit_line.specs.declared.events.LineEvent.{LineEvent};
 
-    /// One more octet, where no bit comes behind six 1s, and one inserted zero at most into the content.
+    /// Takes an octet if no bit follows six 1s and at most one inserted zero enters the content.
     fn step(self, octet: u8) -> Option<Step>
         ensures { IfSome result (λ s. IsPlainStep self octet s.run (option_to_list s.whole)) }
     {
@@ -79,7 +79,7 @@ impl Run {
         })
     }
 
-    /// Takes plain octets from the front, as long as they come and there is room. Gives how many, and what changed.
+    /// Takes plain octets from the front while there is room. Returns how many, and the changed fields.
     pub fn over(self, octets: &mut ArrayVec<u8, 278>, line: &[u8]) -> (usize, Run)
         ensures most { result.0 ≤ length line.now }
         ensures stands { (base : Deframer) (h : List Bool) (events : List LineEvent) → IsCalm base → StandsAt h events (with_run base self octets.old.items)

@@ -1,4 +1,4 @@
-//! A unit of five octets and the flag behind it in one step.
+//! A unit of five octets and the flag after it, in one step.
 ghost use Rattle.std.specs.Prelude.{◌≡◌, ◌≢◌, ◌≤◌, ◌<◌, ◌+◌, ◌-◌, ◌*◌, ◌/◌, ◌%◌, ◌^◌, ℕ, Bool, true, List, [], ◌∷◌, ◌++◌, None, IfOk, IfSome, reverse, length, take};
 ghost use Rattle.su_octets.specs.Bits.{low_bits, bits_of};
 ghost use Rattle.bit_line.specs.Events.{IsCorrect};
@@ -36,7 +36,7 @@ fn octets_of(bits: u64) -> [u8; 5]
     ]
 }
 
-/// The octets of the unit whose stuffing the line bits are, if they are that of one of five octets.
+/// The octets of a five-octet unit, if the line bits are its stuffing.
 fn short_unit(bits: u64, len: u8) -> Option<[u8; 5]>
     requires few { len ≤ 48 }
     requires fits { bits < 2 ^ len }
@@ -52,7 +52,7 @@ fn short_unit(bits: u64, len: u8) -> Option<[u8; 5]>
     if is_unit(&octets) { Some(octets) } else { None }
 }
 
-/// The report of a unit of these octets.
+/// The report of a unit with these octets.
 fn report(octets: &[u8]) -> LineEvent
     requires { length octets.now ≤ 278 }
     ensures { result ∷ [] ≡ unit_events (octets.now ∷ []) }
@@ -66,7 +66,7 @@ impl Deframer {
     ghost use Rattle.bit_line.specs.Deframing.{StandsAt, LetsIn};
     ghost use Rattle.bit_line.specs.Flags.{inside};
 
-    /// Whether the mode is the normal one, and nothing lies inside behind a flag.
+    /// Whether the mode is normal and the content after the last flag is empty so far.
     fn is_fresh(&self) -> bool
         ensures normal { result ≡ true → self.now.counter.count ≡ None }
         ensures seen { result ≡ true → self.now.gate.seen ≡ true }
@@ -82,8 +82,8 @@ impl Deframer {
         }
     }
 
-    /// The octets of the unit of five octets that lies inside when the bits up to this place came, if one does. The newest seven
-    /// bits stand before the others.
+    /// The octets of a five-octet unit that is the content before this place of `window`, if it is one. The lowest
+    /// seven bits of `window` are the newest bits so far.
     fn short_before(&self, window: u64, place: u8) -> Option<[u8; 5]>
         requires { place ≤ 55 }
         ensures wait { IfSome result (λ octets. self.now.gate.wait ≤ place) }
@@ -97,9 +97,9 @@ impl Deframer {
         short_unit(window % (1 << place) >> wait, place - wait)
     }
 
-    /// Takes a unit of five octets, the flag behind it and the bits behind that in its last octet at once, where nothing lies inside
-    /// behind a flag, the mode is the normal one and those bits come next. Puts the report of the unit at the end. Answers how many octets
-    /// it took, or none.
+    /// Takes a five-octet unit, the flag after it and the rest of that flag's last octet at once, if they are next. The
+    /// mode must be normal and the content empty so far. Appends the report of the unit. Returns how many octets it
+    /// took, or 0.
     pub(crate) fn push_short(
         &mut self,
         octets: &[u8],
@@ -127,7 +127,7 @@ impl Deframer {
         Ok(usize::from(place / 8) + 1)
     }
 
-    /// Takes octets from the front, at least one, and puts what they report at the end. Answers how many.
+    /// Takes at least one octet from the front and appends the events. Returns how many octets it took.
     pub(crate) fn push_next(
         &mut self,
         octets: &[u8],

@@ -1,4 +1,4 @@
-//! Signal units to line bits.
+//! Makes line bits of signal units.
 ghost use Rattle.std.specs.Prelude.{◌≡◌, ◌≤◌, ◌<◌, ◌+◌, ◌*◌, ◌^◌, ℕ, Bool, List, [], ◌∷◌, ◌++◌, reverse, length, IfSome};
 ghost use Rattle.arrayvec.specs.ArrayVec.{array_vec_len};
 ghost use Rattle.su_octets.specs.Bits.{low_bits, bits_of};
@@ -13,22 +13,21 @@ use crate::part::Part;
 use arrayvec::ArrayVec;
 use su_octets::{Unit, encode};
 
-/// The flag's bits, the first one lowest.
+/// The bits of a flag, the first one lowest.
 const FLAG: u8 = 0x7e;
 
-/// What goes on the line for an octet of a unit.
+/// The line bits of an octet of a unit.
 #[derive(Clone, Copy)]
 struct Stuffed {
-    /// Its first eight bits.
+    /// The first eight line bits.
     eight: u8,
-    /// The ninth one, where a 0 was put in.
+    /// The ninth line bit, if a 0 was inserted.
     ninth: Option<bool>,
-    /// How many 1s in a row they end with.
+    /// The number of 1s in a row at the end of the line bits.
     ones: u8,
 }
 
-/// What goes on the line for an octet behind so many 1s in a row, where it is all known at once: none where
-/// two 0s go in.
+/// The line bits of an octet after `ones` 1s in a row. `None` if two 0s must be inserted.
 fn stuffed_octet(octet: u8, ones: u8) -> Option<Stuffed>
     requires few { ones < 5 }
     ensures bits { IfSome result (λ s. (sent : List Bool) → ones ≡ trailing (stuffed sent)
@@ -94,7 +93,7 @@ fn push_flag(line: &mut ArrayVec<u8, 352>, part: &mut Part)
     push_eight(line, part, FLAG);
 }
 
-/// Adds a flag, if the line wasn't started.
+/// Adds a flag, unless the line has started.
 fn open(line: &mut ArrayVec<u8, 352>, part: &mut Part, started: bool)
     requires { 8 * array_vec_len line.old + part.old.len + 8 ≤ 2816 }
     ensures packed { (before : List ℕ) (h : List Bool) → Packed (before ++ line.old.items) part.old.bits part.old.len h
@@ -106,8 +105,8 @@ fn open(line: &mut ArrayVec<u8, 352>, part: &mut Part, started: bool)
     }
 }
 
-/// Adds a bit of a unit behind so many 1s in a row, and a 0 where it is the fifth. Answers how many
-/// 1s in a row there are now.
+/// Adds a bit of a unit after `ones` 1s in a row, and a 0 if it is the fifth 1. Returns the number of 1s in a row after
+/// it.
 fn push_stuffed(line: &mut ArrayVec<u8, 352>, part: &mut Part, bit: bool, ones: u8) -> u8
     requires few { ones < 5 }
     requires room { 8 * array_vec_len line.old + part.old.len + 2 ≤ 2816 }
@@ -130,8 +129,8 @@ fn push_stuffed(line: &mut ArrayVec<u8, 352>, part: &mut Part, bit: bool, ones: 
     ones + 1
 }
 
-/// Adds the bits of an octet of a unit one by one, behind so many 1s in a row. Answers how many there
-/// are now.
+/// Adds the bits of an octet of a unit one by one, after `ones` 1s in a row. Returns the number of 1s in a row after
+/// them.
 fn push_bits(line: &mut ArrayVec<u8, 352>, part: &mut Part, octet: u8, ones: u8) -> u8
     requires few { ones < 5 }
     requires room { 5 * (8 * array_vec_len line.old + part.old.len) + ones + 58 ≤ 14080 }
@@ -150,7 +149,7 @@ fn push_bits(line: &mut ArrayVec<u8, 352>, part: &mut Part, octet: u8, ones: u8)
     count
 }
 
-/// Adds the bits of an octet of a unit behind so many 1s in a row. Answers how many there are now.
+/// Adds the bits of an octet of a unit after `ones` 1s in a row. Returns the number of 1s in a row after them.
 fn push_octet(line: &mut ArrayVec<u8, 352>, part: &mut Part, octet: u8, ones: u8) -> u8
     requires few { ones < 5 }
     requires room { 5 * (8 * array_vec_len line.old + part.old.len) + ones + 58 ≤ 14080 }
@@ -172,7 +171,7 @@ fn push_octet(line: &mut ArrayVec<u8, 352>, part: &mut Part, octet: u8, ones: u8
     stuffed.ones
 }
 
-/// Adds the octets of a unit, stuffed.
+/// Adds the octets of a unit with inserted zeros.
 fn push_unit(line: &mut ArrayVec<u8, 352>, part: &mut Part, octets: &[u8])
     requires fits { length octets.now ≤ 278 }
     requires room { 8 * array_vec_len line.old + part.old.len ≤ 15 }
@@ -207,7 +206,7 @@ impl Stuffer {
         }
     }
 
-    /// Sends a unit and gives the line octets that are whole now, at most 336. Up to 7 bits stay.
+    /// Sends a unit. Returns the line octets that are complete now, at most 336. Up to 7 bits stay for the next call.
     pub fn put(&mut self, unit: &Unit) -> ArrayVec<u8, 352>
         requires { IsWhole unit.now }
         ensures sent { (octets : List ℕ) × Frame octets unit.now × SpareBitsAreZero octets
@@ -219,8 +218,8 @@ impl Stuffer {
         line
     }
 
-    /// Sends a unit and puts the line octets that are whole now, at most 336, into `line`, in place of what was there. Up to 7
-    /// bits stay.
+    /// Sends a unit. Replaces `line` by the line octets that are complete now, at most 336. Up to 7 bits stay for the
+    /// next call.
     pub fn put_to(&mut self, unit: &Unit, line: &mut ArrayVec<u8, 352>)
         requires { IsWhole unit.now }
         ensures sent { (octets : List ℕ) × Frame octets unit.now × SpareBitsAreZero octets
@@ -238,7 +237,7 @@ impl Stuffer {
         self.part = part;
     }
 
-    /// The bits that stay for the next call, the first one lowest, and how many they are, up to 7.
+    /// The bits that stay for the next call, the first one lowest, and their number, up to 7.
     pub fn rest(&self) -> (u8, u8)
         ensures bits { (given : List ℕ) (units : List (List ℕ)) → Gave given units self.now → bits_of given ++ low_bits result.1 result.0 ≡ line_of units }
         ensures few { result.1 < 8 }

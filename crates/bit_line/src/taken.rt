@@ -1,22 +1,22 @@
-//! Inserted zeros among a few line bits.
+//! Removal of inserted zeros from up to eight line bits.
 ghost use Rattle.std.specs.Prelude.{◌≡◌, ◌≤◌, ◌<◌, ◌^◌, Bool, List, ◌++◌, reverse, IfSome};
 ghost use Rattle.su_octets.specs.Bits.{low_bits};
 ghost use Rattle.bit_line.specs.Stuffing.{trailing, taken_out};
 ghost use Rattle.bit_line.specs.Deframing.{has_six};
 
-/// What is left of a few line bits without inserted zeros.
+/// Up to eight line bits without inserted zeros.
 #[derive(Clone, Copy)]
 pub struct Taken {
     /// The bits, the first one lowest.
     pub bits: u8,
-    /// How many they are.
+    /// The number of bits.
     pub len: u8,
-    /// How many 1s in a row the line bits end with, those before them included.
+    /// The number of 1s in a row at the end of the line bits, including 1s before them.
     pub ones: u8,
 }
 
-/// What is left of up to eight line bits behind so many 1s in a row, where no six 1s are among them and one inserted
-/// zero at most.
+/// Up to eight line bits without inserted zeros, after `ones` 1s in a row. `None` if six 1s in a row or more than one
+/// inserted zero are among them.
 pub fn taken_from(bits: u8, len: u8, ones: u8) -> Option<Taken>
     requires few { len ≤ 8 }
     requires fits { bits < 2 ^ len }
@@ -60,8 +60,8 @@ pub fn taken_from(bits: u8, len: u8, ones: u8) -> Option<Taken>
     })
 }
 
-/// How many 1s in a row eight line bits end with, where no five 1s in a row are among them and the 1s before them: then all are
-/// left.
+/// The number of 1s in a row at the end of eight line bits that follow `ones` 1s. `None` if five 1s in a row are among
+/// all these. Otherwise no bit is an inserted zero.
 pub fn ones_after(octet: u8, ones: u8) -> Option<u8>
     requires no_six { ones ≤ 5 }
     ensures bits { IfSome result (λ n. (h : List Bool) → ones ≡ trailing h

@@ -1,7 +1,7 @@
-//! The newest bits of a line as a number.
+//! The newest line bits as a number.
 ghost use Rattle.std.specs.Prelude.{◌≡◌, ◌≢◌, ◌≤◌, ◌<◌, ◌+◌, ◌*◌, ◌/◌, ◌%◌, ◌^◌, ℕ, true, IfSome, if◌then◌else◌};
 
-/// Whether none of the last eight of fifteen bits comes behind six 1s.
+/// Whether none of the newest eight of fifteen bits follows six 1s.
 pub fn is_plain(window: u16) -> bool
     ensures { result ≡ true → (m : ℕ) → m < 8 → window / 2 ^ m % 128 ≢ 126 }
 {
@@ -10,7 +10,7 @@ pub fn is_plain(window: u16) -> bool
     (sixes >> 1) % 256 == 0
 }
 
-/// Whether none of the last forty of forty-seven bits comes behind six 1s.
+/// Whether none of the newest forty of forty-seven bits follows six 1s.
 pub fn is_long_plain(window: u64) -> bool
     ensures { result ≡ true → (m : ℕ) → m < 40 → window / 2 ^ m % 128 ≢ 126 }
 {
@@ -19,8 +19,8 @@ pub fn is_long_plain(window: u64) -> bool
     (sixes >> 1) % (1 << 40) == 0
 }
 
-/// Where the only six 1s in a row of up to sixty-three bits stand, if a 0 stands before them and one behind: the place of the 0 before
-/// them.
+/// The place where the only flag of up to sixty-three bits begins, at most 55. `None` if other six 1s in a row are
+/// among them.
 pub fn flag_in(window: u64) -> Option<u8>
     ensures few { IfSome result (λ place. place ≤ 55) }
     ensures flag { IfSome result (λ place. window / 2 ^ place % 256 ≡ 126) }
@@ -39,8 +39,8 @@ pub fn flag_in(window: u64) -> Option<u8>
     Some(place)
 }
 
-/// How many of up to eight bits, the low one first, come behind anything but six 1s, as far as that is known at once: the
-/// newest seven bits before them are given.
+/// How many of up to eight bits, from the low one up, certainly don't follow six 1s. `recent` holds the seven bits
+/// before them.
 pub fn plain_count(recent: u8, bits: u8, len: u8) -> u8
     requires recent { recent < 128 }
     requires few { len ≤ 8 }
@@ -55,7 +55,7 @@ pub fn plain_count(recent: u8, bits: u8, len: u8) -> u8
     if ends % (1 << count) == 0 { count } else { 0 }
 }
 
-/// The newest seven bits after one more.
+/// The newest seven bits after one more bit.
 pub fn newer(recent: u8, bit: bool) -> u8
     requires { recent < 128 }
     ensures { result ≡ recent / 2 + 64 * (if bit then 1 else 0) }
