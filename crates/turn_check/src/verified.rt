@@ -42,7 +42,7 @@ impl Model for Verified {
     ghost invariant = { λ v. IsSorted v.draft v.parameters v.variables };
 }
 
-/// Checks a draft against V1 to V9 and keeps a valid one. Returns the first fault of any other. No fault is about memory.
+/// Checks a draft against V1 to V9 and keeps a valid one, or returns the first fault. No fault is about memory.
 pub fn verify(draft: Draft) -> Result<Verified, VerifyFault>
     ensures value { IfOk result (λ v. v ≡ draft) }
     ensures exact { IsOk result ↔ IsValid draft }
