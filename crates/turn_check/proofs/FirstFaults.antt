@@ -1,4 +1,4 @@
--- The first fault of a process is that of the draft, where the processes before it are valid.
+-- The first fault of a process is that of the draft, if the processes before it are valid.
 use Rattle.std.proofs.Common.{◌≡◌, ℕ, ◌<◌, Some, sym, subst}
 use Rattle.turn_code.specs.Transitions.{transition_at}
 use Rattle.turn_code.specs.Rules.{KeepsSetLimits}

@@ -1,4 +1,4 @@
--- No name past the end of a list, and lists of names that are short.
+-- No name is past the end of a list, and the lists of names are short.
 use Rattle.std.proofs.Common.{◌≡◌, ℕ, ◌<◌, ◌≤◌, List, length, Option, Some, None, refl, subst, ⊎_elim, arith}
 use Rattle.std.specs.Prelude.{slice_get}
 use Rattle.std.proofs.lemmas.Bool.{cases_lt}

@@ -1,4 +1,4 @@
--- The bits of sorts that a set keeps.
+-- The sorts that a set keeps as bits.
 use Rattle.std.proofs.Common.{◌≡◌, ℕ, ◌≤◌, List, length, get_or, Some, ◌∙◌, ap, subst}
 use Rattle.std.specs.Prelude.{slice_get, slice_index_or, All}
 use Rattle.std.proofs.lemmas.Option.{slice_get-get_or, get_or_from_slice_get}
@@ -22,7 +22,7 @@ is_sorted d ss xs ps vs valid e g h i = record {
   variables = subst (λ u. AreVariableBits u vs) g i;
 }
 
--- the bits of a process are at its place
+-- the bits of a process are at its number
 pub sorted_at : (d : Draft) (ps vs : List ℕ) (n bits : ℕ) (p : DraftProcess) → IsSorted d ps vs → slice_get d.processes n ≡ Some p → bits ≡ slice_index_or vs n 0
     → AreSortsOf d.signals p.variables (record { parameters = ps; variables = bits })
 sorted_at d ps vs n bits p h e is = record {

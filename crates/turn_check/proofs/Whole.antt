@@ -24,7 +24,7 @@ pub start_at_0 : (d : Draft) (p : ℕ) (process : DraftProcess) → slice_get d.
     → transition_at d p Start 0 ≡ Some (start_of p process)
 start_at_0 d p process e = ap (process_at d.signals p Start 0) e
 
--- nothing is there
+-- there is no transition
 pub valid_none : (d : Draft) (p : ℕ) (s : Place) (i : ℕ) → transition_at d p s i ≡ None → IsValidAt d p s i
 valid_none d p s i none = record { each = λ t e. let no : None ≡ Some t = sym none ∙ e in cc }
 
@@ -40,7 +40,7 @@ no_state d p process q pe h = record { each = λ i. valid_none d p (InState q) i
 pub no_process : (d : Draft) (p : ℕ) → slice_get d.processes p ≡ None → IsValidProcess d p
 no_process d p h = record { each = λ s. record { each = λ i. valid_none d p s i (ap (process_at d.signals p s i) h) } }
 
--- ---- from all below an end to all
+-- ---- from all numbers below an end to all numbers
 either : {P : ℕ → Type 0} (n : ℕ) (k : ℕ) → ((j : ℕ) → j < n → P j) → ((j : ℕ) → n ≤ j → P j) → P k
 either n k below above = ⊎_elim (below k) (above k) (cases_lt k n)
 
@@ -71,7 +71,7 @@ draft_below d limits n long below = record {
       (((either {P = λ p. IsValidProcess d p} n p below (λ j h. no_process d j (slice_get_past d.processes j (omega arith)))).each s).each i).each t e;
 }
 
--- ---- from what is broken to where it is broken
+-- ---- from a broken rule to the place where it is broken
 
 pub valid_keeps : (d : Draft) (rule : Rule) (p : ℕ) (s : Place) (i k : ℕ) → IsValid d → KeepsAt d rule p s i k
 valid_keeps d rule p s i k valid = record {
@@ -90,7 +90,7 @@ valid_keeps d rule p s i k valid = record {
     keeps Limit t k v = v.limit k
     keeps Budget t k v = v.budget k
 
--- the limits of a process, from what is to hold at its START
+-- the limits of a process, from the rule on limits at its START
 pub limits_at : (d : Draft) (p : ℕ) (process : DraftProcess) → slice_get d.processes p ≡ Some process → KeepsAt d Limit p Start 0 0 → KeepsProcessLimits process
 limits_at d p process e at = (at.each (start_of p process) (start_at_0 d p process e)).process refl refl
 

@@ -1,4 +1,4 @@
--- What a set answers by number.
+-- The answers of a set to questions by number.
 use Rattle.std.specs.Prelude.{ℕ, Bool, false, eqb, position, Option}
 use Rattle.turn_code.specs.declared.draft.Draft.{Draft}
 use Rattle.turn_code.specs.declared.draft.DraftInput.{DraftInput}
@@ -13,7 +13,7 @@ same_trigger (Signal m) (Timer n) = false
 same_trigger (Timer m) (Signal n) = false
 same_trigger (Timer m) (Timer n) = eqb m.0 n.0
 
--- the number of the first input of a state that waits for it
+-- the number of the first input of a state that waits for the trigger
 abbrev pub input_for : Draft → ℕ → ℕ → Trigger → Option ℕ
 input_for d p q trigger =
     position (λ (x : DraftInput). same_trigger x.trigger trigger) (inputs_at d p q)

@@ -1,4 +1,4 @@
--- What the certificate of a transition says of its code.
+-- The meaning of the certificate of a transition.
 use Rattle.std.specs.Prelude.{◌≡◌, ℕ, ◌≤◌, Some}
 use Rattle.turn_words.specs.Limits.{MOST_EFFECTS, MOST_INSTRUCTIONS, MOST_OPERANDS}
 use Rattle.turn_code.specs.Transitions.{Transition, transition_at}
@@ -9,7 +9,7 @@ use Rattle.turn_code.specs.declared.draft.Draft.{Draft}
 use Rattle.turn_code.specs.declared.draft.Cert.{Cert}
 
 -- the budget is the length of the longest path, the depth the greatest number of operands at a
--- place, and the effects are the most of any path; each is within its limit
+-- place, and the effects the most of any path; each is within its limit
 pub record IsCertified (d : Draft) (p : ℕ) (s : Place) (i : ℕ) (c : Cert) : Type 0 where
   pub transition : Transition
   pub there : transition_at d p s i ≡ Some transition

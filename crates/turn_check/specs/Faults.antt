@@ -1,4 +1,4 @@
--- What a refusal says of a draft.
+-- The meaning of a refusal.
 use Rattle.turn_code.specs.Valid.{IsBrokenAt}
 use Rattle.turn_code.specs.declared.draft.Draft.{Draft}
 use Rattle.turn_code.specs.declared.rule.Rule.{Rule}
@@ -34,6 +34,6 @@ spot_of (Budget s) = s
 abbrev pub IsBrokenSpot : Draft → Rule → Spot → Type 0
 IsBrokenSpot d rule s = IsBrokenAt d rule s.process.0 s.state s.input s.place
 
--- the rule that is named is broken where it is named
+-- the rule that the fault names is broken at the spot that it names
 abbrev pub IsBroken : Draft → VerifyFault → Type 0
 IsBroken d e = IsBrokenSpot d (rule_of e) (spot_of e)

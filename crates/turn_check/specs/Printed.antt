@@ -1,5 +1,5 @@
--- How the rule that a draft breaks is printed, and where it is broken: its code and name, and
--- numbers in decimal.
+-- How a broken rule is printed, with the place where it is broken: its code and name, and numbers
+-- in decimal.
 use Rattle.std.specs.Prelude.{ℕ, List, ◌++◌, codes}
 use Rattle.std.specs.Fmt.{decimal}
 use Rattle.turn_code.specs.declared.input.Place.{Place}

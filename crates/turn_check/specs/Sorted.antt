@@ -1,11 +1,11 @@
--- What a set keeps beside its draft: which parameters and which variables are Booleans.
+-- The bits that a set keeps besides its draft: which parameters and which variables are Booleans.
 use Rattle.std.specs.Prelude.{◌≡◌, ℕ, List, Some, slice_get}
 use Rattle.turn_code.specs.Valid.{IsValid}
 use Rattle.turn_code.specs.declared.draft.Draft.{Draft}
 use Rattle.turn_code.specs.declared.draft.DraftProcess.{DraftProcess}
 use Rattle.turn_words.specs.Sorts.{sort_bits, sorts_of, AreBitsOf}
 
--- at the place of each process stand the bits of its variables
+-- the element of each process has the bits of its variables
 abbrev pub AreVariableBits : List DraftProcess → List ℕ → Type 0
 AreVariableBits xs bits =
     (n : ℕ) (p : DraftProcess) → slice_get xs n ≡ Some p

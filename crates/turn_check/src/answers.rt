@@ -1,4 +1,4 @@
-//! What a valid set says of its routes, its inputs and its values.
+//! Answers of a valid set about its routes, its inputs and its values.
 
 ghost use Rattle.std.specs.Prelude.{◌≡◌, ◌≤◌, ◌↔◌, IsTrue, Any, Contains, length, map, position, slice_get};
 ghost use Rattle.turn_code.specs.Routes.{Carries, IsPartyOf};
@@ -23,7 +23,7 @@ impl Verified {
         some_route_carries(self.draft().routes.as_slice(), from, to, signal)
     }
 
-    /// Whether the party is the environment, or a process that is there.
+    /// Whether the party is the environment or a declared process.
     pub fn has_party(&self, party: Party) -> bool
         ensures { IsTrue result ↔ IsPartyOf self.now.processes party }
     {
@@ -33,8 +33,8 @@ impl Verified {
         }
     }
 
-    /// The number of the input of a state that waits for a signal or a timer: the first such, none where no input does or
-    /// there is no such state.
+    /// The number of the first input of a state that waits for a signal or a timer. None if no input does, or if there
+    /// is no such state.
     pub fn input_for(
         &self,
         process: ProcessNumber,
@@ -46,7 +46,7 @@ impl Verified {
         first_waiting(self.inputs(process, state), trigger)
     }
 
-    /// The sorts of the parameters of a signal, none where there is no such signal.
+    /// The sorts of the parameters of a signal; none if there is no such signal.
     pub fn parameters(&self, signal: SignalNumber) -> &[Sort]
         ensures { result.now ≡ parameters_of (slice_get self.now.signals signal.0) }
     {
@@ -56,7 +56,7 @@ impl Verified {
         }
     }
 
-    /// The initial values of the variables of a process, none for a variable without one.
+    /// The initial values of the variables of a process; none for a variable without one.
     pub fn initial_values(&self, process: ProcessNumber) -> ArrayVec<Option<Value>, 32>
         ensures { result.items ≡ initial_values (variables_at self.now process.0) }
     {
@@ -84,7 +84,7 @@ fn carries(route: &DraftRoute, from: Party, to: Party, signal: SignalNumber) -> 
     route.from == from && route.to == to && is_among(route.signals.as_slice(), signal)
 }
 
-/// Whether a signal is one of these.
+/// Whether a signal is one of `signals`.
 fn is_among(signals: &[SignalNumber], signal: SignalNumber) -> bool
     ensures { IsTrue result ↔ Contains signals.now signal }
 {
@@ -96,7 +96,7 @@ fn is_among(signals: &[SignalNumber], signal: SignalNumber) -> bool
     false
 }
 
-/// The number of the first input that waits for a signal or a timer, if one does.
+/// The number of the first input that waits for a signal or a timer; none if no input does.
 fn first_waiting(inputs: &[DraftInput], trigger: Trigger) -> Option<usize>
     ensures { result ≡ position (λ (x : DraftInput). same_trigger x.trigger trigger) inputs.now }
 {
@@ -121,7 +121,7 @@ fn is_same(left: Trigger, right: Trigger) -> bool
     }
 }
 
-/// The initial values of variables, 32 at most, none for one without.
+/// The initial values of at most 32 variables; none for a variable without one.
 pub fn initial_values_of(variables: &[DraftVariable]) -> ArrayVec<Option<Value>, 32>
     requires { length variables.now ≤ MOST_VARIABLES }
     ensures { result.items ≡ initial_values variables.now }

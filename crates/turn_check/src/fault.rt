@@ -17,11 +17,11 @@ pub struct Spot {
     pub state: Place,
     /// The input of the state, from 0; 0 at START.
     pub input: usize,
-    /// The place in the code, from 0; 0 too for what is wrong with the transition as a whole.
+    /// The place in the code, from 0; also 0 if the transition as a whole breaks the rule.
     pub place: usize,
 }
 
-/// Where a process is, as it is printed: START, or the state and the input of it.
+/// A place of a process as it is printed: START, or a state and its input.
 #[derive(Clone, Copy)]
 struct InputAt(Place, usize);
 
@@ -50,31 +50,34 @@ impl fmt::Display for Spot {
     }
 }
 
-/// The rule that a draft breaks, and where.
+/// The rule that a draft breaks, and the spot where it does.
 #[derive(Debug, Drop, Error, Clone, Copy, PartialEq, Eq)]
 pub enum VerifyFault {
-    /// A place where the code goes on isn't in it.
+    /// A place where the code goes on is outside the code.
     Jump(Spot),
-    /// Ways to a place that leave other operands there than it says, operands at the first place, or a place without facts.
+    /// A place has another shape than a way to it leaves, the first place has operands, or a place has no facts.
     Shape(Spot),
     /// Too few operands.
     Under(Spot),
-    /// An operand, or at START an initial value, of the wrong sort.
+    /// An operand, or at START an initial value, has the wrong sort.
     Sort(Spot),
-    /// A variable that is read, or said to be set, isn't set on every way; or the first place says another set than what comes there.
+    /// A variable that is read, or called set, isn't set on every way; or the first place doesn't have the set of
+    /// variables of its entry.
     Unset(Spot),
-    /// A state that isn't there.
+    /// A state isn't declared.
     State(Spot),
-    /// Something is named that the set lacks, by an instruction, by what the transition waits for or by what a state saves; an output with
-    /// another number of parameters than its signal; division by less than 1.
+    /// An instruction, the input of the transition or a save names something that isn't declared; an output has another
+    /// number of parameters than its signal; a division is by less than 1.
     Number(Spot),
-    /// More than a limit allows. A limit of a process is broken at its START, one of the whole set at the START of process 0.
+    /// A limit is exceeded. A limit of a process is broken at its START, a limit of the whole set at the START of
+    /// process 0.
     Limit(Spot),
-    /// Counts that don't fit those of where the code goes on (as on a way that comes back), or a certificate that doesn't fit them.
+    /// The counts of a place don't fit those where the code goes on (as in a loop), or the certificate doesn't fit the
+    /// counts.
     Budget(Spot),
 }
 
-/// The code of a rule, and its name.
+/// The code and the name of a rule.
 fn rule_name<'a>(rule: Rule) -> &'a str
     ensures { result.now ≡ rule_text rule }
 {
@@ -102,7 +105,7 @@ impl fmt::Display for VerifyFault {
 }
 
 impl VerifyFault {
-    /// The fault of breaking a rule at a spot.
+    /// The fault that a rule is broken at a spot.
     pub(crate) fn new(rule: Rule, spot: Spot) -> VerifyFault
         ensures rule { rule_of result ≡ rule }
         ensures spot { spot_of result ≡ spot }
@@ -137,7 +140,7 @@ impl VerifyFault {
         }
     }
 
-    /// Where it is broken.
+    /// The spot where it is broken.
     pub fn spot(self) -> Spot
         ensures { result ≡ spot_of self }
     {

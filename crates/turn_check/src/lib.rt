@@ -1,4 +1,4 @@
-//! Valid sets of processes: a draft is checked rule by rule, and what is accepted stays valid by its type.
+//! Valid sets of processes: `verify` checks a draft rule by rule, and the type of an accepted one keeps it valid.
 #![tactic(auto)]
 
 mod answers;

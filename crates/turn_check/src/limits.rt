@@ -24,7 +24,7 @@ fn have_few_parameters(signals: &[DraftSignal]) -> bool
     signals.iter().all(|signal| signal.parameters.len() <= 4)
 }
 
-/// Whether the processes have this many pieces at most.
+/// Whether the processes have at most `room` pieces.
 fn have_room(processes: &[DraftProcess], room: usize) -> bool
     ensures { IsTrue result ↔ (sum_by pieces_of processes.now ≤ room) }
 {
@@ -37,7 +37,7 @@ fn have_room(processes: &[DraftProcess], room: usize) -> bool
     }
 }
 
-/// What is left of the room behind the pieces of a process.
+/// The room left after the pieces of a process; none if there isn't enough.
 fn room_behind(process: &DraftProcess, room: usize) -> Option<usize>
     ensures some { IfSome result (λ left. left + pieces_of process.now ≡ room) }
     ensures none { IfNone result (room < pieces_of process.now) }
@@ -45,7 +45,7 @@ fn room_behind(process: &DraftProcess, room: usize) -> Option<usize>
     room_behind_inputs(process.states.as_slice(), room.checked_sub(1)?)
 }
 
-/// What is left of the room behind the inputs of these states, of which there may be any number.
+/// The room left after the inputs of these states, of which there may be any number; none if there isn't enough.
 fn room_behind_inputs(states: &[DraftState], room: usize) -> Option<usize>
     ensures some { IfSome result (λ left. left + inputs_of states.now ≡ room) }
     ensures none { IfNone result (room < inputs_of states.now) }

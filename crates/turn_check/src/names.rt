@@ -18,7 +18,7 @@ impl Verified {
         self.draft().processes.len()
     }
 
-    /// How many instances of a process run, 1 to 8; 0 where there is no such process.
+    /// The number of instances of a process, 1 to 8; 0 if there is no such process.
     pub fn instances(&self, process: ProcessNumber) -> u32
         ensures value { result ≡ instances_at self.now process.0 }
         ensures most { result ≤ MOST_INSTANCES }
@@ -27,7 +27,7 @@ impl Verified {
         self.drafted_instances(process)
     }
 
-    /// The same, as the draft has it.
+    /// The number of instances that the draft has; 0 if there is no such process.
     fn drafted_instances(&self, process: ProcessNumber) -> u32
         ensures { result ≡ instances_at self.now process.0 }
     {
@@ -49,21 +49,21 @@ impl Verified {
         self.draft().signals.len()
     }
 
-    /// The number of states of a process, 0 where there is no such process.
+    /// The number of states of a process; 0 if there is no such process.
     pub fn state_count(&self, process: ProcessNumber) -> usize
         ensures { result ≡ length (states_at self.now process.0) }
     {
         self.states(process).len()
     }
 
-    /// The number of variables of a process, 0 where there is no such process.
+    /// The number of variables of a process; 0 if there is no such process.
     pub fn variable_count(&self, process: ProcessNumber) -> usize
         ensures { result ≡ length (variables_at self.now process.0) }
     {
         self.variables(process).len()
     }
 
-    /// The number of inputs of a state, 0 where there is no such state.
+    /// The number of inputs of a state; 0 if there is no such state.
     pub fn input_count(&self, process: ProcessNumber, state: StateNumber) -> usize
         ensures { result ≡ length (inputs_at self.now process.0 state.0) }
     {
@@ -115,7 +115,7 @@ impl Verified {
         }
     }
 
-    /// The number of timers of a process, 0 where there is no such process.
+    /// The number of timers of a process; 0 if there is no such process.
     pub fn timer_count(&self, process: ProcessNumber) -> usize
         ensures { result ≡ length (timer_names self.now process.0) }
     {
@@ -129,7 +129,7 @@ impl Verified {
         self.timers(process).get(usize::from(timer.0))
     }
 
-    /// What a state saves, in text order.
+    /// The signals and timers that a state saves, in text order.
     pub fn saves(&self, process: ProcessNumber, state: StateNumber) -> &[Trigger]
         ensures { result.now ≡ saves_at self.now process.0 state.0 }
     {
@@ -139,7 +139,7 @@ impl Verified {
         }
     }
 
-    /// The names of the timers of a process, empty where there is no such process.
+    /// The names of the timers of a process; empty if there is no such process.
     fn timers(&self, process: ProcessNumber) -> &[Name]
         ensures { result.now ≡ timer_names self.now process.0 }
     {
@@ -154,7 +154,7 @@ impl Verified {
         }
     }
 
-    /// What an input of a state waits for; an input is called as its signal or timer.
+    /// The signal or timer that an input of a state waits for.
     pub fn trigger(
         &self,
         process: ProcessNumber,
@@ -169,7 +169,7 @@ impl Verified {
         }
     }
 
-    /// The name of the signal or timer that an input of a state waits for. None where there is no such input.
+    /// The name of the signal or timer that an input of a state waits for; none if there is no such input.
     pub fn input_name(
         &self,
         process: ProcessNumber,
@@ -185,7 +185,7 @@ impl Verified {
         }
     }
 
-    /// The states of a process, empty where there is no such process.
+    /// The states of a process; empty if there is no such process.
     fn states(&self, process: ProcessNumber) -> &[DraftState]
         ensures { result.now ≡ states_at self.now process.0 }
     {
@@ -200,7 +200,7 @@ impl Verified {
         }
     }
 
-    /// The variables of a process, empty where there is no such process.
+    /// The variables of a process; empty if there is no such process.
     pub(crate) fn variables(&self, process: ProcessNumber) -> &[DraftVariable]
         ensures { result.now ≡ variables_at self.now process.0 }
     {
@@ -215,7 +215,7 @@ impl Verified {
         }
     }
 
-    /// The inputs of a state, empty where there is no such state.
+    /// The inputs of a state; empty if there is no such state.
     pub(crate) fn inputs(&self, process: ProcessNumber, state: StateNumber) -> &[DraftInput]
         ensures { result.now ≡ inputs_at self.now process.0 state.0 }
     {

@@ -1,4 +1,4 @@
-//! The numbers of names.
+//! Look-up of numbers by name.
 
 ghost use Rattle.std.specs.Prelude.{◌≡◌, ◌↔◌, IsTrue, IfSome, IfNone, option_copied};
 ghost use Rattle.turn_check.specs.Named.{process_names, signal_names, variable_names, timer_names, IsNamed, IsFirst, IsNowhere};
@@ -64,7 +64,7 @@ impl Verified {
     }
 }
 
-/// Whether a name is there, and is this one but for case.
+/// Whether there is a name, and it is `name` if case is ignored.
 fn is_named(found: Option<&Name>, name: &str) -> bool
     ensures { IsTrue result ↔ IsNamed (option_copied found.entry) name.now }
 {

@@ -20,13 +20,14 @@ use turn_code::{Cert, Draft, DraftProcess, DraftSignal, Place, ProcessNumber, St
 use turn_rules::{Transition, input_transition, start_transition};
 use turn_words::{Sorts, parameter_bits, variable_bits};
 
-/// A valid draft, seen as that draft. It keeps beside it which parameters and variables are Booleans. Only `verify` makes one.
+/// A valid draft, which contracts see as that draft, with bits for the sorts of parameters and variables. Only `verify`
+/// makes one.
 #[derive(Drop)]
 pub struct Verified {
     draft: Draft,
-    /// Bit j of the number for a signal says it of its parameter j.
+    /// For each signal, bit j says whether its parameter j is Boolean.
     parameters: [u8; 128],
-    /// Bit v of the number for a process says it of its variable v.
+    /// For each process, bit v says whether its variable v is Boolean.
     variables: [u32; 16],
 }
 
@@ -41,7 +42,7 @@ impl Model for Verified {
     ghost invariant = { λ v. IsSorted v.draft v.parameters v.variables };
 }
 
-/// Checks a draft against rules V1 to V9, and keeps it where none is broken; else it tells the first that is broken. It can't answer that memory is wanting.
+/// Checks a draft against V1 to V9 and keeps a valid one, or returns the first fault. No fault is about memory.
 pub fn verify(draft: Draft) -> Result<Verified, VerifyFault>
     ensures value { IfOk result (λ v. v ≡ draft) }
     ensures exact { IsOk result ↔ IsValid draft }
@@ -68,7 +69,7 @@ fn sorted(draft: Draft) -> Verified
     }
 }
 
-/// For each process, which of its variables are Booleans.
+/// Which variables of each process are Booleans, as bits.
 fn bits_of_variables(processes: &[DraftProcess]) -> [u32; 16]
     requires few { length processes.now ≤ MOST_PROCESSES }
     requires small { All (λ (p : PlainProcess). length p.variables ≤ MOST_VARIABLES) processes.now }
@@ -81,7 +82,7 @@ fn bits_of_variables(processes: &[DraftProcess]) -> [u32; 16]
     bits
 }
 
-/// The bits at a place, none where there is none.
+/// The bits at a place; 0 if there is no such place.
 fn bits_at(bits: &[u32], place: usize) -> u32
     ensures { result ≡ slice_index_or bits.now place 0 }
 {
@@ -94,7 +95,7 @@ fn bits_at(bits: &[u32], place: usize) -> u32
 impl Verified {
     ghost use Rattle.turn_check.specs.Certified.{IsCertified};
 
-    /// The draft, which is valid.
+    /// The draft, which is always valid.
     pub fn draft(&self) -> &Draft
         ensures value { result.now ≡ self.now }
         ensures valid { IsValid self.now }
@@ -102,7 +103,7 @@ impl Verified {
         &self.draft
     }
 
-    /// An equal set, where there is memory for it.
+    /// An equal set, or `AllocError` if memory runs out.
     pub fn copy(&self) -> Result<Verified, AllocError>
         ensures { IfOk result (λ v. v ≡ self.now) }
     {
@@ -124,7 +125,7 @@ impl Verified {
         }
     }
 
-    /// The counts of input `input` at a place of a process; START has the input 0. None where there is none.
+    /// The counts of input `input` at a place of a process; none if there is no such input. START has the input 0.
     pub fn certificate(&self, process: ProcessNumber, place: Place, input: usize) -> Option<Cert>
         ensures value { result ≡ option_map (λ (t : Plain). t.piece.certificate) (transition_at self.now process.0 place input) }
         ensures longest { IfSome result (λ c. IsCertified self.now process.0 place input c) }
@@ -138,7 +139,7 @@ impl Verified {
         }
     }
 
-    /// The transition of input `input` at a place of a process; START has the input 0. None where there is none.
+    /// The transition of input `input` at a place of a process; none if there is no such input. START has the input 0.
     pub fn transition(
         &self,
         number: ProcessNumber,
@@ -162,7 +163,7 @@ impl Verified {
         }
     }
 
-    /// The START transition of a process, which has the input 0 alone.
+    /// The START transition of a process for input 0; none for any other input.
     fn start_at<'a>(
         &self,
         number: ProcessNumber,
@@ -187,7 +188,7 @@ impl Verified {
         start_transition(number, process)
     }
 
-    /// Says, for the proof alone, that the draft is valid.
+    /// Tells the proof that the draft is valid; it does nothing at run time.
     fn keeps(&self)
         ensures { IsValid self.now }
     {

@@ -1,4 +1,4 @@
--- What a job keeps, from the set that it is made of.
+-- Facts about a job, from the set that it is made of.
 use Rattle.std.proofs.Common.{◌≡◌, ℕ, zero, suc, ◌≤◌, List, length, Option, Some, None, option_map, slice_get, refl, sym, ap, ◌∙◌, subst}
 use Rattle.turn_code.specs.Machine.{progress_of}
 use Rattle.turn_code.specs.Run.{Ran, run, ended}
@@ -29,7 +29,7 @@ use Rattle.turn_machine.specs.Safety.{IsSafeWithin}
 pub code_small : (d : Draft) (p : ℕ) (s : Place) (i : ℕ) (t : Transition) → IsValid d → Some t ≡ transition_at d p s i → length t.piece.code ≤ 512
 code_small d p s i t valid e = (((valid.each p s i t (sym e)).limit 0).piece refl).size
 
--- a transition knows the number of its process
+-- a transition has the number of its process
 named_by_input : (ss : List DraftSignal) (n : ℕ) (p : DraftProcess) (q : DraftState) (o : Option DraftInput) (t : Transition)
     → option_map (input_of ss n p q) o ≡ Some t → t.number ≡ n
 named_by_input ss n p q None t e = cc
@@ -49,7 +49,7 @@ named_by ss n s i None t e = cc
 named_by ss n Start i (Some p) t e = named_by_start n p i t e
 named_by ss n (State q) i (Some p) t e = named_by_state ss n p i (slice_get p.states q.0) t e
 
--- and that process
+-- a transition has its process
 own_by_input : (ss : List DraftSignal) (n : ℕ) (p : DraftProcess) (q : DraftState) (o : Option DraftInput) (t : Transition)
     → option_map (input_of ss n p q) o ≡ Some t → p ≡ t.process
 own_by_input ss n p q None t e = cc
@@ -124,7 +124,7 @@ safe_of j code x s c law r e f g =
     subst (λ u. IsSafeWithin j.code u s c) (sym f) (
     subst (λ u. IsSafeWithin j.code j.input s u) (sym g) (runs_safely j s law r)))
 
--- ---- a transition that runs where its code stands
+-- ---- a transition that runs without a copy of its code
 
 same_there : (o : Option Transition) (t u : Transition) → Some t ≡ o → o ≡ Some u → u ≡ t
 same_there o t u e h = let both : Some t ≡ Some u = e ∙ h in cc

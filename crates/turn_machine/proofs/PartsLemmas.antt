@@ -1,4 +1,4 @@
--- No two instructions have the same numbers: each is made of them again.
+-- Equal rows mean equal instructions: the instruction can be rebuilt from its row.
 use Rattle.std.proofs.Common.{◌≡◌, ◌∙◌, ap, sym, refl, ℕ, ℤ}
 use Rattle.std.specs.Prelude.{pos, negsuc, true, false, ◌==◌, if◌then◌else◌}
 use Rattle.turn_code.specs.declared.instruction.Relation.{Relation}

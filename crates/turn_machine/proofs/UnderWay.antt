@@ -1,4 +1,4 @@
--- One instruction more of a run on words.
+-- A run on words, continued by one instruction.
 use Rattle.std.proofs.Common.{◌≡◌, ℕ, zero, suc, ◌+◌, ◌<◌, ◌≤◌, List, [], ◌∷◌, ◌++◌, length, Option, Some, None, refl, sym, ap, ◌∙◌, subst, arith}
 use Rattle.std.proofs.lemmas.List.{length-append}
 use Rattle.std.proofs.lemmas.Option.{get_or_from_slice_get}
@@ -38,7 +38,7 @@ use Rattle.turn_machine.specs.Growing.{IsGrown, CanGrow}
 use Rattle.turn_machine.specs.Safety.{IsSafeWithin, IsUnderWay, HasEnded}
 use Rattle.turn_machine.proofs.Worded.{variables_told}
 
--- ---- effects that grow
+-- ---- effects with one more
 last_right : (d : Draft) (t : Transition) (es : List Effect) (e : Effect) → AreRightEffects d t (es ++ e ∷ []) → IsRightEffect d t e
 last_right d t [] e h = h.0
 last_right d t (x ∷ es) e h = last_right d t es e h.1
@@ -65,7 +65,7 @@ grown d t p (Some given) old new sorts right few g =
     let room : length old < 32 = omega arith in
     (g.0, g.1, of_sorts d t p.sorts.now g.0 sorts (last_right d t old g.0 right'), room, g.2)
 
--- somebody gets what is given out
+-- an effect in words has a receiver, if it represents an effect
 received : (from : Option Address) (given : Given) (e : Effect) → IsEffectOf from given e → HasReceiver given from
 received from (gives.Output n r c ws) (effect.Output s) h = (s.receiver, h.3, h.1)
 received from (gives.Output n r c ws) (effect.Set t z) h = absurd h
@@ -129,8 +129,8 @@ begun_so p x c w es h from words none =
       count = refl;
     }
 
--- ---- one instruction
--- what is known after one
+-- ---- after one instruction
+-- what is known after it
 pub record HasGone (p : Piece) (x : Input) (c : Cert) (taken : ℕ) (w : Words) (a : After) (es : List Effect) : Type 0 where
   pub new : List Effect
   pub grows : IsGrown p a.effect es new
@@ -233,7 +233,7 @@ module _ (p : Piece) (x : Input) (c : Cert) (taken k : ℕ) (w : Words) (es : Li
   pub gone : (w' : Words) (a : After) → IsStep p k w a w' → HasGone p x c taken w' a es
   gone w' a is = gone_at w' a h.left h.fuel h.budget_is h.fuel_is h.less is h.safe h.same
 
-  -- the words stand for values there
+  -- the words represent values there
   pub stands : StandAt p k w
   stands = record {
     draft = h.draft;
@@ -244,7 +244,7 @@ module _ (p : Piece) (x : Input) (c : Cert) (taken k : ℕ) (w : Words) (es : Li
     stand = h.stand;
   }
 
-  -- there are such effects
+  -- the effects can grow
   pub can_grow : (w' : Words) (a : After) → IsStep p k w a w' → CanGrow p a.effect es
   can_grow w' a is = let g = gone w' a is in (g.new, g.grows)
 
@@ -268,7 +268,7 @@ not_over p x c k w es h = by h.left h.budget_is h.safe
     by zero e safe = safe
     by (suc left) e safe = absurd (omega arith)
 
--- ---- what a machine has at the end
+-- ---- the machine at the end
 pub progress_made : (s : Progress) (vs : List (Option Value)) (es : List Effect) (n : ℕ) → vs ≡ s.variables → es ≡ s.effects → n ≡ s.count
     → s ≡ record { variables = vs; effects = es; count = n }
 progress_made s vs es n v e c =

@@ -1,4 +1,4 @@
--- Words made of values, one after another, and values made of words.
+-- Words made from values, one after another, and values made from words.
 use Rattle.std.proofs.Common.{◌≡◌, ◌≢◌, ℕ, zero, suc, ◌+◌, ◌*◌, ◌/◌, ◌%◌, ◌<◌, ◌≤◌, ◌↔◌, eqb, Bool as Truth, true, false, if◌then◌else◌, IsTrue, pos, List, [], ◌∷◌, ◌++◌, length, take, get_or, Option, Some, None, refl, sym, ap, ◌∙◌, subst, ⊎_elim, arith}
 use Rattle.std.specs.Prelude.{slice_get, slice_index_or}
 use Rattle.std.specs.Int.{bit_at}
@@ -17,7 +17,7 @@ use Rattle.turn_check.specs.Sorts.{is_boolean, sort_bits, sorts_of}
 use Rattle.turn_machine.specs.Wording.{kept_value, IsKeptTo, IsVariable, AreVariables}
 use Rattle.turn_check.proofs.Standing.{kept_here, kept_elsewhere}
 
--- ---- values are kept
+-- ---- storing values
 pub kept_to_none : (b : Bare) (vs : List (Option Value)) → b.set ≡ 0 → length b.variables ≡ 32 → IsKeptTo b b vs 0
 kept_to_none b vs none room = record {
   kept = λ v x less e. absurd (omega (arith, less));

@@ -9,8 +9,8 @@ use Rattle.turn_code.specs.declared.draft.Draft.{Draft}
 use Rattle.turn_code.specs.declared.machine.End.{End}
 use Rattle.turn_code.specs.declared.machine.Machine.{Machine}
 
--- input i at that place of process p is a transition whose code runs on the input to this end, with
--- the machine as it is then, within its certificate
+-- input i at that place of process p is a transition; its code runs on the input to this end,
+-- within its certificate, and m is the machine at the end
 pub record EndsSo (d : Draft) (p : ℕ) (s : Place) (i : ℕ) (x : Input) (e : End) (m : Machine) :
     Type 0 where
   pub transition : Transition

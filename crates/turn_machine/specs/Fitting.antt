@@ -11,7 +11,7 @@ use Rattle.turn_code.specs.declared.draft.Trigger.TheVariants.{Signal, Timer}
 abbrev pub IsSetAt : List (Option Value) → ℕ → Type 0
 IsSetAt vs v = (x : Value) × (slice_get vs v ≡ Some (Some x))
 
--- one of the routes brings the signal that is waited for from its sender
+-- one of the routes brings the signal of the trigger from its sender
 abbrev pub IsBroughtBy : List DraftRoute → ℕ → Option Trigger → Option Address → Type 0
 IsBroughtBy routes p None sender = Unit {0}
 IsBroughtBy routes p (Some (Timer n)) sender = Unit {0}

@@ -30,7 +30,7 @@ relation_number LessEqual = 3
 relation_number Greater = 4
 relation_number GreaterEqual = 5
 
--- its kind, and its numbers
+-- the kind of an instruction, and its numbers
 abbrev pub parts_of : Instruction → Parts
 parts_of (PutInt z) = row 0 z (pos 0) 0 0
 parts_of (PutBool false) = row 1 (pos 0) (pos 0) 0 0

@@ -1,4 +1,4 @@
--- What lies in a worker's room.
+-- The contents of a worker's room.
 use Rattle.std.specs.Prelude.{◌≡◌, ℕ}
 use Rattle.turn_check.specs.turn_words_types.sorts.Sorts.{Sorts}
 use Rattle.turn_code.specs.declared.input.Input.{Input}
@@ -10,7 +10,7 @@ use Rattle.turn_machine.specs.declared.ended.Ended.{Ended}
 use Rattle.turn_machine.specs.declared.room.Held.{Held}
 use Rattle.turn_machine.specs.declared.room.Held.TheVariants as held
 
--- nothing, a turn that is to run, or one that ran
+-- nothing, a turn that hasn't run yet, or one that has run
 pub data Lying : Type 0 where
   Free : Lying
   Begun : Turn → Lying
@@ -26,13 +26,13 @@ lying held.Ran t = Ran t
 abbrev pub IsEnded : Turn → Ended → Type 0
 IsEnded t e = IsOutcome t e.end e.machine.variables.items e.machine.effects.items e.machine.count
 
--- a turn that is to run can run with these sorts, and one that ran ended so
+-- a turn that hasn't run can run with these sorts; one that has run has this end
 abbrev pub IsRoom : Held → Turn → Sorts → Ended → Type 0
 IsRoom held.Nothing t s e = Unit {0}
 IsRoom held.Begun t s e = IsRunnableBy t s
 IsRoom held.Ran t s e = IsEnded t e
 
--- a turn that is to run has run then; else all stays
+-- a turn that hasn't run is run; all else stays
 abbrev pub ran : Lying → Lying
 ran Free = Free
 ran (Begun t) = Ran t
@@ -48,13 +48,13 @@ HasRun Free = ⊥
 HasRun (Begun t) = ⊥
 HasRun (Ran t) = Unit {0}
 
--- a turn that ran ended so
+-- a turn that has run has this end
 abbrev pub EndedSo : Lying → Ended → Type 0
 EndedSo Free e = Unit {0}
 EndedSo (Begun t) e = Unit {0}
 EndedSo (Ran t) e = IsEnded t e
 
--- what lies there is that transition of the draft on that input, and is to run
+-- the room holds that transition of the draft on that input, which hasn't run yet
 pub record LiesBegun (d : Draft) (actor turn : ℕ) (process : ProcessNumber) (place : Place)
     (input_number : ℕ) (input : Input) (r : Lying) : Type 0 where
   pub job : Turn

@@ -38,8 +38,8 @@ pub record IsSafeWithin (code : List Instruction) (x : Input) (s : Sorts) (c : C
   pub small : transition.piece.certificate.budget ≤ MOST_INSTRUCTIONS
   pub safe : IsSafe transition x transition.piece.certificate.budget 0 [] (begun x)
 
--- a run that is at place k, which took so many instructions and goes on as the whole does: its
--- words and effects are those of a run on values
+-- a run at place k after `taken` instructions, whose rest ends as the whole run does: its words and
+-- effects are those of a run on values
 pub record IsUnderWay (p : Piece) (x : Input) (c : Cert) (taken k : ℕ) (w : Words)
     (es : List Effect) : Type 0 where
   pub draft : Draft
@@ -60,8 +60,8 @@ pub record IsUnderWay (p : Piece) (x : Input) (c : Cert) (taken k : ℕ) (w : Wo
   pub effects : es ≡ progress.effects
   pub count : taken ≡ progress.count
 
--- a run that has ended so: its effects and its count are those of the run on values, within the
--- certificate, and the words stand for its variables
+-- a run that has ended with e: its effects and its count are those of the run on values, within the
+-- certificate, and the words represent its variables
 pub record HasEnded (p : Piece) (x : Input) (c : Cert) (e : End) (w : Words) (es : List Effect)
     (n : ℕ) : Type 0 where
   pub progress : Progress

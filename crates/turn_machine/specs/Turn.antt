@@ -1,4 +1,4 @@
--- A turn, as contracts see a job, and a job that ran.
+-- A turn, which is how contracts see a job, run or not.
 use Rattle.std.specs.Prelude.{◌≡◌, ℕ, ◌≤◌, List, length, Option, Some}
 use Rattle.turn_check.specs.Limits.{MOST_VARIABLES}
 use Rattle.turn_check.specs.Sorts.{AreSortsOf}
@@ -19,7 +19,7 @@ use Rattle.turn_code.specs.declared.machine.End.{End}
 use Rattle.turn_code.specs.declared.draft.Cert.{Cert}
 use Rattle.turn_code.specs.declared.draft.Draft.{Draft}
 
--- who runs, which turn of the set this is, the transition with its code and its counts, and the
+-- the actor, the number of the turn in the set, the transition with its code and counts, and the
 -- input
 pub record Turn : Type 0 where
   pub actor : ℕ
@@ -54,7 +54,7 @@ pub record IsRunnable (j : Turn) : Type 0 where
   pub certificate : transition.piece.certificate ≡ j.certificate
   pub fits : FitsTransition draft transition j.input
 
--- so with the sorts of its draft's signals, and of its process's variables, which are not too many
+-- the turn can run with these sorts of its signals and variables, of which there are at most 32
 pub record IsRunnableBy (j : Turn) (s : Sorts) : Type 0 where
   pub runnable : IsRunnable j
   pub few : length runnable.transition.process.variables ≤ MOST_VARIABLES
@@ -64,7 +64,7 @@ pub record IsRunnableBy (j : Turn) (s : Sorts) : Type 0 where
 abbrev pub outcome_of : Turn → Option Outcome
 outcome_of j = outcome_in (run j.code j.input)
 
--- the job is that transition of the draft on that input
+-- the job is the named transition of the draft, on the input
 pub record Begins (d : Draft) (actor turn : ℕ) (process : ProcessNumber) (place : Place)
     (input_number : ℕ) (input : Input) (j : Turn) : Type 0 where
   pub transition : Transition

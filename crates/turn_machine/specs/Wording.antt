@@ -1,4 +1,4 @@
--- Values in words, and words as values.
+-- Values as words, and words as values.
 use Rattle.std.specs.Prelude.{◌≡◌, ℕ, ◌<◌, ◌≤◌, if◌then◌else◌, List, length, Option, Some, None}
 use Rattle.std.specs.Prelude.{slice_get}
 use Rattle.std.specs.Int.{bit_at}
@@ -9,12 +9,12 @@ use Rattle.turn_check.specs.Bare.{Bare, kept}
 use Rattle.turn_check.specs.Meant.{word_of, IsKept}
 use Rattle.turn_check.specs.Sorts.{is_boolean}
 
--- the words after a variable's value is kept, if it has one
+-- the words after a variable's value is stored, if it has one
 abbrev pub kept_value : Bare → ℕ → Option Value → Bare
 kept_value b v None = b
 kept_value b v (Some x) = kept b v (word_of x)
 
--- the first n values of variables are kept, no other variable is set, and all else is as it was
+-- the first n variables have their values, no other is set, and all else is unchanged
 pub record IsKeptTo (old new : Bare) (vs : List (Option Value)) (n : ℕ) : Type 0 where
   pub kept : (v : ℕ) (x : Option Value) → v < n → slice_get vs v ≡ Some x → IsKept new v x
   pub none : (v : ℕ) → n ≤ v → bit_at new.set v ≡ 0
@@ -23,7 +23,7 @@ pub record IsKeptTo (old new : Bare) (vs : List (Option Value)) (n : ℕ) : Type
   pub depth : new.depth ≡ old.depth
   pub params : new.params ≡ old.params
 
--- variable v has this value, or none, in words, where the bits say which variables are Booleans
+-- variable v has this value, or none, in words; the bits say which variables are Booleans
 abbrev pub IsVariable : Bare → ℕ → ℕ → Option Value → Type 0
 IsVariable b bits v None = bit_at b.set v ≡ 0
 IsVariable b bits v (Some x) =

@@ -1,4 +1,4 @@
-//! Copies that take no memory.
+//! Copies that allocate no memory.
 
 ghost use Rattle.std.specs.Prelude.{◌≡◌, ◌≤◌, length};
 ghost use Rattle.turn_check.specs.Limits.{MOST_INSTRUCTIONS};
@@ -6,7 +6,7 @@ ghost use Rattle.turn_check.specs.Limits.{MOST_INSTRUCTIONS};
 use arrayvec::ArrayVec;
 use turn_code::{Effect, Input, Instruction, Value};
 
-/// The instructions by value.
+/// A copy of the instructions.
 pub(crate) fn copied_code(code: &[Instruction]) -> ArrayVec<Instruction, 512>
     requires { length code.now ≤ MOST_INSTRUCTIONS }
     ensures { result.items ≡ code.now }
@@ -16,7 +16,7 @@ pub(crate) fn copied_code(code: &[Instruction]) -> ArrayVec<Instruction, 512>
     copy
 }
 
-/// The instructions become these.
+/// Replaces the instructions by a copy of `code`.
 pub(crate) fn copy_code(to: &mut ArrayVec<Instruction, 512>, code: &[Instruction])
     requires { length code.now ≤ MOST_INSTRUCTIONS }
     ensures { to.new.items ≡ code.now }
@@ -25,7 +25,7 @@ pub(crate) fn copy_code(to: &mut ArrayVec<Instruction, 512>, code: &[Instruction
     to.try_extend_from_slice(code).unwrap();
 }
 
-/// The variables become these.
+/// Replaces the variables by a copy of `variables`.
 fn copy_variables(to: &mut ArrayVec<Option<Value>, 32>, variables: &ArrayVec<Option<Value>, 32>)
     ensures { to.new.items ≡ variables.now.items }
 {
@@ -33,7 +33,7 @@ fn copy_variables(to: &mut ArrayVec<Option<Value>, 32>, variables: &ArrayVec<Opt
     to.try_extend_from_slice(variables.as_slice()).unwrap();
 }
 
-/// The parameters become these.
+/// Replaces the parameters by a copy of `parameters`.
 fn copy_parameters(to: &mut ArrayVec<Value, 4>, parameters: &ArrayVec<Value, 4>)
     ensures { to.new.items ≡ parameters.now.items }
 {
@@ -41,7 +41,7 @@ fn copy_parameters(to: &mut ArrayVec<Value, 4>, parameters: &ArrayVec<Value, 4>)
     to.try_extend_from_slice(parameters.as_slice()).unwrap();
 }
 
-/// The input becomes this one.
+/// Replaces the input by a copy of `input`.
 pub(crate) fn copy_input(to: &mut Input, input: &Input)
     ensures { to.new ≡ input.now }
 {
@@ -50,7 +50,7 @@ pub(crate) fn copy_input(to: &mut Input, input: &Input)
     to.sender = input.sender;
 }
 
-/// The effects once more.
+/// A copy of the effects.
 pub(crate) fn copied_effects(effects: &ArrayVec<Effect, 32>) -> ArrayVec<Effect, 32>
     ensures { result.items ≡ effects.now.items }
 {

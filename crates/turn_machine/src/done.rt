@@ -1,4 +1,4 @@
-//! Jobs that ran.
+//! Jobs that have run.
 
 ghost use Rattle.std.specs.Prelude.{◌≡◌, ◌≤◌, length, option_map, ⊤};
 ghost use Rattle.turn_code.specs.Outcome.{Outcome};
@@ -13,7 +13,7 @@ use std::marker::Model;
 use turn_code::laws::safe_law;
 use turn_code::{Effect, End, Machine, Value, copied_variables};
 
-/// A job that ran, with its outcome: the run of its own code on its own input.
+/// A job that has run, with its outcome: that of its own code on its own input.
 #[derive(Drop)]
 pub struct Done {
     job: Job,
@@ -33,7 +33,7 @@ impl Model for Done {
     ghost invariant = { λ d. IsOutcome d.job d.end d.variables.items d.effects.items d.count };
 }
 
-/// Runs a job to its end. It takes no memory, and it is never refused.
+/// Runs a job to its end. It allocates no memory and never fails.
 pub fn run(job: Job) -> Done
     ensures { result ≡ job }
 {
@@ -69,21 +69,21 @@ impl Done {
         &self.job
     }
 
-    /// How it ended.
+    /// The end of the transition.
     pub fn end(&self) -> End
         ensures { option_map (λ (o : Outcome). o.end) (outcome_of self.now) ≡ Some result }
     {
         self.end
     }
 
-    /// The variables as it ended.
+    /// The variables at the end.
     pub fn variables(&self) -> &[Option<Value>]
         ensures { option_map (λ (o : Outcome). o.progress.variables) (outcome_of self.now) ≡ Some result.now }
     {
         self.variables.as_slice()
     }
 
-    /// Its effects in order, at most as many as its certificate says.
+    /// The effects in order, at most as many as the certificate says.
     pub fn effects(&self) -> &[Effect]
         ensures within { length result.now ≤ self.now.certificate.effects }
         ensures value { option_map (λ (o : Outcome). o.progress.effects) (outcome_of self.now) ≡ Some result.now }
@@ -91,7 +91,7 @@ impl Done {
         self.effects.as_slice()
     }
 
-    /// How many instructions it took, which is at most the budget of its certificate.
+    /// The number of instructions that it took, at most the budget of its certificate.
     pub fn count(&self) -> u32
         ensures value { option_map (λ (o : Outcome). o.progress.count) (outcome_of self.now) ≡ Some result }
         ensures within { result ≤ self.now.certificate.budget }
@@ -99,7 +99,7 @@ impl Done {
         self.count
     }
 
-    /// The same once more. It takes no memory.
+    /// A copy. It allocates no memory.
     pub fn copy(&self) -> Done
         ensures { result ≡ self.now }
     {

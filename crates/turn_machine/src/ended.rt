@@ -1,4 +1,4 @@
-//! How turns ended.
+//! The ends of turns.
 
 ghost use Rattle.std.specs.Prelude.{◌≡◌};
 ghost use Rattle.turn_machine.specs.Rooms.{IsEnded};
@@ -10,17 +10,17 @@ use turn_check::Sorts;
 use turn_code::laws::safe_law;
 use turn_code::{End, Machine};
 
-/// How a turn ended, and the machine as it was then, which has its variables, its effects and its count.
+/// The end of a turn, and the machine at that point with its variables, effects and count.
 #[derive(Drop)]
 pub struct Ended {
-    /// The state that it came to, or a stop.
+    /// The next state, or a stop.
     pub end: End,
     /// The machine.
     pub machine: Machine,
 }
 
 impl Ended {
-    /// Before any turn.
+    /// The initial contents, before any turn.
     pub(crate) fn none() -> Ended {
         Ended {
             end: End::Stop,
@@ -29,7 +29,7 @@ impl Ended {
     }
 }
 
-/// Runs what may run with these sorts to its end. It takes no memory, and it is never refused.
+/// Runs a turn that may run with these sorts to its end. It allocates no memory and never fails.
 pub(crate) fn run_work(work: &Work, sorts: &Sorts, ended: &mut Ended)
     requires { IsRunnableBy work.now sorts.now }
     ensures { IsEnded work.now ended.new }

@@ -1,4 +1,4 @@
-//! Runs of code where it stands.
+//! Runs of code that is borrowed from its set.
 
 ghost use Rattle.std.specs.Prelude.{◌≡◌, ◌≤◌, [], length};
 ghost use Rattle.turn_code.specs.Fits.{Fits};
@@ -15,7 +15,7 @@ use turn_check::{Piece, Sorts, Verified};
 use turn_code::laws::safe_law;
 use turn_code::{Cert, End, Input, Instruction, Machine, Operands, Place, ProcessNumber};
 
-/// A machine that has run nothing yet. It may serve one run after another: each begins it anew.
+/// A machine that has run nothing yet. It can be reused: each run resets it.
 pub fn new_machine() -> Machine
     ensures { result ≡ record { operands = []; variables = record { items = [] }; effects = record { items = [] }; count = 0 } }
 {
@@ -27,9 +27,9 @@ pub fn new_machine() -> Machine
     }
 }
 
-/// Runs input `input_number` at a place of a process to its end, on an input that fits it, where its code stands in the set: no job
-/// is made of it, and no code is copied. The machine may be of any run before; it has the variables, effects and count of this one
-/// then. It takes no memory, and it is never refused. How the transition ends.
+/// Runs input `input_number` at a place of a process to its end, on an input that fits it, and returns the end. The
+/// code is borrowed from the set: no job is made, and no code is copied. The machine may come from any earlier run; it
+/// then has the variables, effects and count of this one. It allocates no memory and never fails.
 pub fn run_in(
     verified: &Verified,
     process: ProcessNumber,
@@ -55,7 +55,7 @@ pub fn run_in(
     }
 }
 
-/// Runs code with these counts from its first instruction to its end, on an input: on words, of which the machine gets the variables as it ends.
+/// Runs code with these counts to its end, on words of an input. The machine gets the variables at the end.
 pub(crate) fn run_code(
     code: &[Instruction],
     input: &Input,
@@ -81,7 +81,7 @@ pub(crate) fn run_code(
     end
 }
 
-/// A run begins.
+/// Resets the machine for a new run.
 fn begin(machine: &mut Machine)
     ensures { machine.new.effects.items ≡ [] }
 {

@@ -9,8 +9,8 @@ use arrayvec::ArrayVec;
 use turn_check::{Given, Next, Piece, Words, step_bare};
 use turn_code::{Cert, Effect, End, Input, Machine};
 
-/// Runs a piece with these counts from its first instruction to its end, on the words of an input. The machine has no effect yet; it gets those of the run, and
-/// how many instructions it took. (`input` is there for the contract alone.)
+/// Runs a piece with these counts to its end, on the words of an input. The machine has no effects yet; it gets those
+/// of the run and the number of instructions taken. (Only the contract uses `input`.)
 pub(crate) fn execute(
     piece: &Piece<'_>,
     input: &Input,
@@ -37,7 +37,7 @@ pub(crate) fn execute(
     unreachable!()
 }
 
-/// Adds the effect that was given out, if one was.
+/// Adds the effect, if there is one.
 fn give(effects: &mut ArrayVec<Effect, 32>, given: Option<Given>, piece: &Piece<'_>)
     requires { CanGrow piece.now given effects.old.items }
     ensures { (es : List AnyEffect) → IsGrown piece.now given effects.old.items es → effects.new.items ≡ es }

@@ -1,4 +1,4 @@
-//! The test whether an input fits.
+//! Whether an input fits a transition.
 
 ghost use Rattle.std.specs.Prelude.{◌≡◌, ◌↔◌, IsTrue, map};
 ghost use Rattle.turn_code.specs.Values.{sort_of};
@@ -14,9 +14,9 @@ use turn_code::{
     VariableSet,
 };
 
-/// Whether an input fits input `input_number` at a place of a process: its parameters and set variables have their
-/// sorts, the variables that are to be set are set, and but for START and a timer a route brings the signal from its
-/// sender.
+/// Whether an input fits input `input_number` at a place of a process. Its parameters and set variables have their
+/// sorts, and the variables that must be set are set. A route brings the signal from its sender, except for START and
+/// for a timer.
 pub fn fits(
     verified: &Verified,
     process: ProcessNumber,
@@ -66,7 +66,7 @@ fn have_sorts(variables: &[DraftVariable], values: &[Option<Value>]) -> bool
     }
 }
 
-/// Whether a value has its variable's sort; none has any.
+/// Whether a value has its variable's sort; true if there is no value.
 fn has_sort(variable: &DraftVariable, value: Option<Value>) -> bool
     ensures { IsTrue result ↔ HasSort variable.now value }
 {

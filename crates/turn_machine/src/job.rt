@@ -1,4 +1,4 @@
-//! Jobs.
+//! Jobs: transitions that are ready to run.
 
 ghost use Rattle.std.specs.Prelude.{◌≡◌, ⊤};
 ghost use Rattle.turn_code.specs.Fits.{Fits};
@@ -14,7 +14,7 @@ use std::marker::Model;
 use turn_check::{Sorts, Verified};
 use turn_code::{Cert, Input, Instruction, Place, ProcessNumber, Value};
 
-/// A transition that is to run, with all that it needs: its code and the sorts of what it names by value, and an input that fits it.
+/// A transition that is ready to run. It has, by value, its code, the sorts for it, and an input that fits it.
 #[derive(Drop)]
 pub struct Job {
     work: Work,
@@ -70,7 +70,7 @@ impl Job {
         }
     }
 
-    /// What it works on.
+    /// The work of the job.
     pub fn work(&self) -> &Work
         ensures { result.now ≡ self.now }
     {
@@ -141,7 +141,7 @@ impl Job {
         &self.work.input
     }
 
-    /// The same job once more. It takes no memory.
+    /// A copy of the job. It allocates no memory.
     pub fn copy(&self) -> Job
         ensures { result ≡ self.now }
     {

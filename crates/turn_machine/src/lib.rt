@@ -1,5 +1,5 @@
-//! Turns: a job is a transition with an input that fits it, and a job that ran is done. A transition also runs where its code stands, with no
-//! job made of it.
+//! Turns: a job is a transition with an input that fits it, and a job that has run is `Done`. A transition can also run
+//! without a job, on code borrowed from its set.
 #![tactic(auto)]
 
 mod copy;

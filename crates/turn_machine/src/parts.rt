@@ -5,7 +5,7 @@ ghost use Rattle.turn_machine.specs.Parts.{row, parts_of, relation_number};
 
 use turn_code::{Instruction, Party, Receiver, Relation};
 
-/// An instruction as a row of numbers: no two instructions have the same.
+/// An instruction as a row of numbers; different instructions have different rows.
 #[derive(Clone, Copy, PartialEq, Eq, Debug)]
 pub(crate) struct Parts {
     pub kind: u8,
@@ -42,7 +42,7 @@ fn relation_number(relation: Relation) -> u16
     }
 }
 
-/// The numbers of an instruction.
+/// The row of an instruction.
 fn parts_of(instruction: Instruction) -> Parts
     ensures { result ≡ parts_of instruction }
 {
@@ -105,7 +105,7 @@ fn parts_of(instruction: Instruction) -> Parts
     }
 }
 
-/// Whether two rows have the same numbers.
+/// Whether two rows are equal.
 fn same_parts(left: Parts, right: Parts) -> bool
     ensures { IsTrue result ↔ (left ≡ right) }
 {
@@ -116,14 +116,14 @@ fn same_parts(left: Parts, right: Parts) -> bool
         && left.other == right.other
 }
 
-/// Whether it is the same instruction.
+/// Whether two instructions are equal.
 fn same_instruction(left: Instruction, right: Instruction) -> bool
     ensures { IsTrue result ↔ (left ≡ right) }
 {
     same_parts(parts_of(left), parts_of(right))
 }
 
-/// Whether it is the same code.
+/// Whether two pieces of code are equal.
 pub(crate) fn same_code(left: &[Instruction], right: &[Instruction]) -> bool
     ensures { IsTrue result ↔ (left.now ≡ right.now) }
 {

@@ -1,4 +1,4 @@
-//! What comes with an input.
+//! The signal that an input brings.
 
 ghost use Rattle.std.specs.Prelude.{◌≡◌, ◌↔◌, IsTrue, ⊤};
 
@@ -6,17 +6,17 @@ use arrayvec::ArrayVec;
 use std::alloc::AllocError;
 use turn_code::{Address, Value, copied_values, same_values};
 
-/// What an input brings to a transition.
+/// The parameters and the sender that an input brings to a transition.
 #[derive(Drop)]
 pub struct Received {
     /// The parameters of the signal; none at START.
     pub parameters: ArrayVec<Value, 4>,
-    /// Who sent the signal; not looked at for START and for a timer.
+    /// The sender of the signal; START and timers ignore it.
     pub sender: Option<Address>,
 }
 
 impl Received {
-    /// The same once more. It takes no memory.
+    /// A copy. It allocates no memory.
     pub fn copy(&self) -> Received
         ensures { result ≡ self.now }
     {
@@ -26,7 +26,7 @@ impl Received {
         }
     }
 
-    /// Whether it is the same: these parameters, from this sender.
+    /// Whether both have equal parameters and the same sender.
     pub fn same(&self, other: &Received) -> bool
         ensures { IsTrue result ↔ (self.now ≡ other.now) }
     {

@@ -10,18 +10,18 @@ use std::marker::Model;
 use turn_check::{Sorts, Verified};
 use turn_code::{Input, Place, ProcessNumber};
 
-/// What a room has.
+/// The contents of a room.
 #[derive(Clone, Copy, PartialEq, Eq, Debug)]
 pub enum Held {
     /// Nothing.
     Nothing,
-    /// A turn that is to run.
+    /// A turn that hasn't run yet.
     Begun,
-    /// A turn that ran.
+    /// A turn that has run.
     Ran,
 }
 
-/// Where a worker has its turns, one after another: each is made there, runs there and is ended from there, and isn't moved. It takes no memory.
+/// A worker's room for one turn after another. A turn is made, run and ended in place, without a move or an allocation.
 #[derive(Drop)]
 pub struct Room {
     held: Held,
@@ -41,7 +41,7 @@ impl Model for Room {
 }
 
 impl Room {
-    /// A free room.
+    /// An empty room.
     pub fn new() -> Room
         ensures { result ≡ Free }
     {
@@ -56,7 +56,7 @@ impl Room {
         }
     }
 
-    /// Whether nothing lies there.
+    /// Whether the room is empty.
     pub fn is_free(&self) -> bool
         ensures { IsTrue result ↔ (self.now ≡ Free) }
     {
@@ -67,8 +67,8 @@ impl Room {
         }
     }
 
-    /// Makes the job of an actor in a turn there: input `input_number` at a place of a process, on an input that fits it. The room is free; it keeps the code
-    /// and the sorts of what that names, and the input, by value.
+    /// Makes the job of an actor's turn in the empty room: input `input_number` at a place of a process, on an input
+    /// that fits it. The room keeps copies of the code, of its sorts and of the input.
     pub fn begin(
         &mut self,
         verified: &Verified,
@@ -102,7 +102,7 @@ impl Room {
         }
     }
 
-    /// Runs the turn that lies there, where one is to run, to its end. It is never refused.
+    /// Runs the turn in the room to its end, if it hasn't run yet. It never fails.
     pub fn run(&mut self)
         ensures { self.new ≡ ran self.old }
     {
@@ -116,7 +116,7 @@ impl Room {
         }
     }
 
-    /// The turn that lies there and is to run, if one is.
+    /// The turn in the room, if it hasn't run yet.
     pub fn begun(&self) -> Option<&Work>
         ensures some { IfSome result (λ work. self.now ≡ Begun work.now) }
         ensures none { IfNone result (IsToRun self.now → ⊥) }
@@ -128,7 +128,7 @@ impl Room {
         }
     }
 
-    /// The turn that ran there, if one did.
+    /// The turn in the room, if it has run.
     pub fn ran(&self) -> Option<&Work>
         ensures some { IfSome result (λ work. self.now ≡ Ran work.now) }
         ensures none { IfNone result (HasRun self.now → ⊥) }
@@ -140,14 +140,14 @@ impl Room {
         }
     }
 
-    /// How the turn that ran there ended; of no meaning where none did.
+    /// The end of the turn in the room; meaningless if no turn has run.
     pub fn ended(&self) -> &Ended
         ensures { EndedSo self.now result.now }
     {
         &self.ended
     }
 
-    /// Nothing lies there any more.
+    /// Empties the room.
     pub fn clear(&mut self)
         ensures { self.new ≡ Free }
     {

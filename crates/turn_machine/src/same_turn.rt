@@ -1,4 +1,4 @@
-//! What a job is compared with.
+//! Comparison of work with a turn or with a piece.
 
 ghost use Rattle.std.specs.Prelude.{◌≡◌, ◌↔◌, IsTrue};
 
@@ -6,7 +6,7 @@ use crate::parts::same_code;
 use crate::work::Work;
 use turn_code::{Cert, DraftPiece, Input, Place, ProcessNumber};
 
-/// Whether the counts are the same.
+/// Whether the counts are equal.
 fn same_certificate(left: Cert, right: Cert) -> bool
     ensures { IsTrue result ↔ (left ≡ right) }
 {
@@ -29,7 +29,7 @@ fn same_place(left: Place, right: Place) -> bool
     }
 }
 
-/// Whether it is that of this turn of an actor: input `input_number` at this place, on this input. It takes no memory.
+/// Whether the work is this turn of the actor, at this place and input number, on this input. It allocates no memory.
 pub fn is_turn(
     work: &Work,
     actor: u16,
@@ -47,7 +47,7 @@ pub fn is_turn(
         && work.input().same(input)
 }
 
-/// Whether it runs this piece of this process: with the same code and the same counts. It takes no memory.
+/// Whether the work is this piece of this process, with equal code and counts. It allocates no memory.
 pub fn runs_piece(work: &Work, process: ProcessNumber, piece: &DraftPiece) -> bool
     ensures { IsTrue result ↔ ((work.now.process ≡ process) × (work.now.code ≡ piece.now.code) × (work.now.certificate ≡ piece.now.certificate)) }
 {

@@ -1,4 +1,4 @@
-//! The values of words.
+//! The values of variables, from their words.
 
 ghost use Rattle.std.specs.Prelude.{◌≡◌, ◌<◌, ◌≤◌, List, Option as Maybe, length};
 ghost use Rattle.turn_check.specs.Bare.{bare_of};
@@ -10,7 +10,8 @@ use arrayvec::ArrayVec;
 use turn_check::{Words, value_of};
 use turn_code::{Value, VariableNumber, VariableSet};
 
-/// The variables become those that the words stand for: so many, Booleans where their bit says it, and none where one isn't set.
+/// Replaces the variables by the first `count` that the words represent: Booleans as the bits say, none for one that
+/// isn't set.
 pub(crate) fn set_variables(
     variables: &mut ArrayVec<Option<Value>, 32>,
     words: &Words,
@@ -27,7 +28,7 @@ pub(crate) fn set_variables(
     }
 }
 
-/// What a variable has.
+/// The value of a variable, from its word.
 fn variable_of(words: &Words, booleans: u32, variable: VariableNumber) -> Option<Value>
     requires { variable.0 < MOST_VARIABLES }
     ensures { (o : Maybe AnyValue) → IsVariable (bare_of words.now) booleans variable.0 o → result ≡ o }

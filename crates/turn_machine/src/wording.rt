@@ -27,7 +27,7 @@ pub(crate) fn words_of(input: &Input) -> Words
     words
 }
 
-/// The words of parameters, and 0 behind them.
+/// The words of parameters, filled up with zeros.
 fn words_of_parameters(values: &[Value]) -> [i32; 4]
     requires { length values.now ≤ MOST_PARAMETERS }
     ensures { (j : ℕ) (x : AnyValue) → slice_get values.now j ≡ Some x → slice_get result j ≡ Some (word_of x) }
@@ -40,7 +40,7 @@ fn words_of_parameters(values: &[Value]) -> [i32; 4]
     words
 }
 
-/// Keeps the values of variables, where no variable is set yet.
+/// Stores the values of variables; no variable is set before.
 fn keep_all(words: &mut Words, values: &[Option<Value>])
     requires few { length values.now ≤ MOST_VARIABLES }
     requires none { words.old.set ≡ 0 }
@@ -52,7 +52,7 @@ fn keep_all(words: &mut Words, values: &[Option<Value>])
     }
 }
 
-/// Keeps the value of a variable, if it has one.
+/// Stores the value of a variable, if it has one.
 fn keep(words: &mut Words, variable: usize, value: Option<Value>)
     requires { variable < MOST_VARIABLES }
     ensures { bare_of words.new ≡ kept_value (bare_of words.old) variable value }

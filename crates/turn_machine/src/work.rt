@@ -1,4 +1,4 @@
-//! What a turn works on.
+//! The work of a turn.
 
 ghost use Rattle.std.specs.Prelude.{◌≡◌, ◌≤◌, length};
 ghost use Rattle.turn_check.specs.Limits.{MOST_INSTRUCTIONS};
@@ -9,7 +9,7 @@ use arrayvec::ArrayVec;
 use std::marker::Model;
 use turn_code::{Cert, DraftPiece, Input, Instruction, Place, ProcessNumber};
 
-/// A transition that is to run, or ran: who runs, which turn this is, its code and its counts by value, and the input.
+/// A transition before or after its run: its actor, its turn, its code and counts by value, and its input.
 #[derive(Drop)]
 pub struct Work {
     pub(crate) actor: u16,
@@ -31,7 +31,7 @@ impl Model for Work {
 }
 
 impl Work {
-    /// None yet: no code, and no input.
+    /// Empty work: no code, and no input.
     pub(crate) fn none() -> Work {
         Work {
             actor: 0,
@@ -53,7 +53,7 @@ impl Work {
         }
     }
 
-    /// It becomes a turn of an actor: this piece for input `input_number` at a place of a process, on an input.
+    /// Makes this the turn of an actor: this piece for input `input_number` at a place of a process, on an input.
     pub(crate) fn become_turn(
         &mut self,
         actor: u16,
@@ -133,7 +133,7 @@ impl Work {
         &self.input
     }
 
-    /// The same once more. It takes no memory.
+    /// A copy. It allocates no memory.
     pub(crate) fn copy(&self) -> Work
         ensures { result ≡ self.now }
     {

@@ -1,4 +1,4 @@
--- What holds of each rule that is asked before another.
+-- All rules that are checked before a given rule hold.
 use Rattle.std.proofs.Common.{◌≡◌, ℕ, ◌<◌, Some, sym, ◌∙◌, subst}
 use Rattle.std.specs.Prelude.{slice_get}
 use Rattle.turn_code.specs.Transitions.{Transition}
@@ -57,7 +57,7 @@ part_of d t k i f a Number = a.number
 part_of d t k i f a Limit = tt
 part_of d t k i f a Budget = a.budget
 
--- at a place of this instruction and these facts what is wanted of them is what is wanted there
+-- a rule holds at place k if its part holds of the instruction and of the facts there
 pub keeps_here : (d : Draft) (t : Transition) (k : ℕ) (i : Instruction) (f : PlaceFacts) → slice_get t.piece.code k ≡ Some i
     → slice_get t.piece.facts k ≡ Some f → AllEntries d t → (rule : Rule) → Part rule d t k i f → Keeps rule d t k
 keeps_here d t k i f ie fe a rule part =
@@ -69,7 +69,7 @@ keeps_here d t k i f ie fe a rule part =
     let other : f ≡ f' = cc in
     subst (λ x. Part rule d t k x f') one (subst (λ y. Part rule d t k i y) other part))
 
--- what is wanted of a place, where the whole and the places before it keep all
+-- nothing is broken before a rule at place k, if the whole and all earlier places keep all rules
 pub none_before_part : (d : Draft) (t : Transition) (rule : Rule) (k : ℕ) → AllEntries d t → ((j : ℕ) → j < k → HasParts d t j)
     → EachBefore (λ r. Keeps r d t k) rule → NoneBefore d t rule k
 none_before_part d t rule k a below here = record {

@@ -54,7 +54,7 @@ unfolding holds
 within_to a b h =
     same_from_bits (bit_and a b) a (λ v. bit_at_and a b v ∙ least_is_left (bit_at a v) (bit_at b v) (bit_at-lt a v) (bit_at-lt b v) (h v))
 
--- the first bits
+-- ---- the set of the first `count` bits
 pub holds_first : (count v : ℕ) → count ≤ 16 → holds (record { 0 = 4294967295 / 2 ^ (31 - count) }) v ≡ ltb v (1 + count)
 unfolding holds
 holds_first count v few =

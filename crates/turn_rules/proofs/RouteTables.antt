@@ -1,4 +1,4 @@
--- The table of routes, path by path, and what it tells.
+-- The table of routes holds exactly the paths of a draft.
 use Rattle.std.proofs.Common.{◌≡◌, ℕ, ◌+◌, ◌<◌, ◌≤◌, Bool, true, false, ◌&&◌, ◌||◌, eqb, List, [], ◌∷◌, ◌++◌, length, map, replicate, refl, sym, ap, ◌∙◌, subst, arith, inl, inr}
 use Rattle.std.specs.Prelude.{ltb, ◌↔◌, slice_index_or, slice_set, All, Any, Contains}
 use Rattle.std.specs.List.{list_any, flat_map}
@@ -22,7 +22,7 @@ use Rattle.turn_rules.specs.declared.route_table.Row.{Row}
 use Rattle.turn_rules.specs.declared.route_table.RouteTable.{RouteTable}
 use Rattle.turn_rules.proofs.PartySets.{holds_none, there_from, there_to, same_party, seat_small}
 
--- ---- nobody
+-- ---- the empty set
 
 replicated : (n i : ℕ) (s : PartySet) → slice_index_or (replicate n s) i s ≡ s
 replicated n i s = elim (cases_Bool (ltb i n)) [
@@ -38,7 +38,7 @@ pub no_rows : (row : Row) → ((n b : ℕ) → holds (slice_index_or row.sets n 
 no_rows row empty p n b low =
     ap (λ (r : Row). holds (slice_index_or r.sets n none) b) (get_or-replicate 16 p row (record { sets = [] }) low) ∙ empty n b
 
--- ---- one party more
+-- ---- one party is added
 
 or_and_false : (a b : Bool) → a ≡ (a || (false && b))
 or_and_false true b = refl
@@ -63,7 +63,7 @@ set_one sets s k n b new there told = elim (cases_eq n s) [
 pub any_push : (f : Mention → Bool) (ms : List Mention) (m : Mention) → list_any f (ms ++ m ∷ []) ≡ (list_any f ms || f m)
 any_push f ms m = list_any-append f ms (m ∷ []) ∙ ap (λ b. list_any f ms || b) (or-false (f m))
 
--- ---- from signals under way to paths
+-- ---- from mentions of signals to paths
 
 pub any_paths : (f : Mention → Bool) (rs : List DraftRoute) → list_any f (flat_map mentions_of rs) ≡ list_any (λ r. list_any f (mentions_of r)) rs
 any_paths f [] = refl
@@ -77,7 +77,7 @@ any_map g f (n ∷ ns) = ap (λ b. f (g n) || b) (any_map g f ns)
 same_signal : (s n : SignalNumber) → s.0 ≡ n.0 → s ≡ n
 same_signal s n e = ap (λ k. record { 0 = k }) e
 
--- one path carries the signal, if its ends are those
+-- a path mentions signal n, and its ends are the right ones
 signals_from : (ns : List SignalNumber) (n : SignalNumber) (a c : Bool) → list_any (λ s. a && (eqb s.0 n.0 && c)) ns ≡ true
     → (a ≡ true) × Contains ns n × (c ≡ true)
 signals_from ns n a c h =
@@ -109,7 +109,7 @@ as_the : (p : ℕ) (x : Party) → IsProcess p x → x ≡ the_process p
 as_the p Environment h = absurd h
 as_the p (Process q) h = ap the_process h
 
--- the parties of the draft that a process reaches
+-- the declared parties that a process reaches
 pub reached_from : (ps : List DraftProcess) (rs : List DraftRoute) (p : ℕ) (n : SignalNumber) (x : Party) → length ps ≤ 16
     → (list_any (is_sent p n.0 (seat x)) (flat_map mentions_of rs) && ltb (seat x) (1 + length ps)) ≡ true
     → IsPartyOf ps x × Reaches rs p x n
@@ -151,7 +151,7 @@ reached_to ps rs p n x few h =
     (h.1.0, r, h.1.2, h.1.3, any_map (λ (s : SignalNumber). record { from = r.from; to = r.to; signal = s }) (is_sent p n.0 (seat x)) r.signals ∙ test))
     (there_to ps x few h.0)
 
--- who may have sent a signal
+-- the parties that may have sent a signal
 pub sender_from : (rs : List DraftRoute) (p : ℕ) (n : SignalNumber) (b : ℕ)
     → list_any (is_brought p n.0 b) (flat_map mentions_of rs) ≡ true → Any (ComesFrom b p n) rs
 sender_from rs p n b h =
@@ -181,7 +181,7 @@ sender_to rs p n b h =
     ∙ list_any-from_Any (λ (r : DraftRoute). list_any (is_brought p n.0 b) (mentions_of r)) rs
     (h.0, r, h.2, h.3, any_map (λ (s : SignalNumber). record { from = r.from; to = r.to; signal = s }) (is_brought p n.0 b) r.signals ∙ test)
 
--- each sender is reached where each path is answered
+-- each possible sender is reached if each path is answered, and the other way round
 module _ (ps : List DraftProcess) (rs : List DraftRoute) (p : ℕ) (m n : SignalNumber) (senders reached : PartySet)
     (sent : (b : ℕ) → (holds senders b ≡ true) ↔ Any (ComesFrom b p m) rs)
     (reaches : (x : Party) → (holds reached (seat x) ≡ true) ↔ (IsPartyOf ps x × Reaches rs p x n)) where
@@ -200,7 +200,7 @@ module _ (ps : List DraftProcess) (rs : List DraftRoute) (p : ℕ) (m n : Signal
       let answers : Answers ps rs p m n r = subst (Answers ps rs p m n) found.3 (all found.0 r found.2) in
       subst (λ c. holds reached c ≡ true) comes.from ((reaches r.from).1 (answers comes.to comes.signal))
 
--- what a look-up gives, in a draft that is seen as another one
+-- the result of a look-up, in a draft equal to the indexed one
 module _ (t : RouteTable) (inside d : Draft) (seen : inside ≡ d) (tells : Tells t (flat_map mentions_of inside.routes)) (limits : KeepsSetLimits d)
     (p : ℕ) (low : p < length d.processes) (n : SignalNumber) where
   few : length d.processes ≤ 16

@@ -1,4 +1,4 @@
--- What is left of a list behind some of its first.
+-- The operands left after some are taken.
 use Rattle.std.proofs.Common.{◌≡◌, ℕ, ◌-◌, List, length, take, drop, arith, take_all, length-drop}
 use Rattle.turn_code.specs.declared.value.Sort.{Sort}
 

@@ -1,4 +1,4 @@
--- From entries and parts to rules, and back.
+-- A transition keeps all rules exactly if all entries and all parts hold.
 use Rattle.std.proofs.Common.{◌≡◌, ℕ, zero, suc, ◌*◌, ◌<◌, ◌≤◌, List, [], ◌∷◌, length, Some, None, sym, ap, ◌∙◌, arith, inl, inr}
 use Rattle.std.specs.Prelude.{slice_get, Contains}
 use Rattle.std.proofs.lemmas.Option.{slice_get_within, slice_get_cases}
@@ -18,7 +18,7 @@ only_zero j (suc n, low, e) = absurd (omega arith)
 first_facts : (facts : List PlaceFacts) (j : ℕ) (f : PlaceFacts) → Contains {X = ℕ} (0 ∷ []) j → slice_get facts j ≡ Some f → slice_get facts 0 ≡ Some f
 first_facts facts j f c e = ap (slice_get facts) (only_zero j c) ∙ e
 
--- where each place has facts, what a rule wants at a place is wanted of its instruction alone
+-- if each place has facts, a rule needs only its part at the instruction there
 part_there : (d : Draft) (t : Transition) (rule : Rule) (k : ℕ) → length t.piece.facts ≡ length t.piece.code
     → ((i : Instruction) (f : PlaceFacts) → slice_get t.piece.code k ≡ Some i → slice_get t.piece.facts k ≡ Some f → Part rule d t k i f)
     → (i : Instruction) → slice_get t.piece.code k ≡ Some i → (f : PlaceFacts) × Part rule d t k i f
@@ -28,7 +28,7 @@ part_there d t rule k long part i ie =
       | inr past ↦ let inside = slice_get_within t.piece.code k i ie in absurd (omega (arith, past.0, long))
     ]
 
--- a rule is kept at a place where the whole keeps all, and the instruction there what it wants
+-- a rule holds at a place if all entries hold, and its part holds of the instruction there
 pub keeps_from : (d : Draft) (t : Transition) (k : ℕ) → AllEntries d t → (rule : Rule)
     → ((i : Instruction) (f : PlaceFacts) → slice_get t.piece.code k ≡ Some i → slice_get t.piece.facts k ≡ Some f → Part rule d t k i f) → Keeps rule d t k
 keeps_from d t k a Jump part = record { entry = λ e. a.jump; each = λ i ie. (part_there d t Jump k a.shape.facts part i ie).1 }
@@ -100,7 +100,7 @@ keeps_part Number d t k i f ie fe h = record {
 keeps_part Limit d t k i f ie fe h = tt
 keeps_part Budget d t k i f ie fe h = record { counts = h.counts i f ie fe; effects = h.effects i f ie fe }
 
--- ---- from all below an end to all
+-- ---- from all places below the end to all places
 pub valid_below : (d : Draft) (t : Transition) → AllEntries d t → (n : ℕ) → length t.piece.code ≤ n
     → ((k : ℕ) → k < n → HasParts d t k) → IsValidTransition d t
 valid_below d t a n long below =

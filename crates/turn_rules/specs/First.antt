@@ -1,4 +1,4 @@
--- The order in which the rules are asked, and the first that a transition breaks.
+-- The order in which the rules are checked, and the first that a transition breaks.
 use Rattle.std.specs.Prelude.{ℕ, ◌<◌}
 use Rattle.turn_code.specs.Transitions.{Transition}
 use Rattle.turn_code.specs.Valid.{Keeps}
@@ -8,9 +8,9 @@ use Rattle.turn_code.specs.declared.rule.Rule.TheVariants.{Jump, Shape, Under, S
 use Rattle.turn_code.specs.declared.rule.Rule.TheVariants.{Number, Limit, Budget}
 use Rattle.turn_rules.specs.Parts.{Entry}
 
--- what holds of each rule that is asked before this one: the limits come first, then what is named,
--- the state where the code ends, its operands, their sorts, the places where it goes on, the
--- operands there, what is set there, and the counts
+-- P holds of each rule that is checked before this one. The order is: limits, names, the state
+-- where the code ends, operands, their sorts, places where the code goes on, shapes there, set
+-- variables, and counts.
 abbrev pub EachBefore : (Rule → Type 0) → Rule → Type 0
 EachBefore P Limit = Unit {0}
 EachBefore P Number = P Limit
@@ -23,9 +23,9 @@ EachBefore P Unset = P Limit × P Number × P State × P Under × P Sort × P Ju
 EachBefore P Budget =
     P Limit × P Number × P State × P Under × P Sort × P Jump × P Shape × P Unset
 
--- Nothing is broken before that rule at place k: no rule at a place before it; and as a transition
--- is asked as a whole before its places are, none of those before that rule by the whole, and where
--- it isn't the whole that breaks that rule, none by the whole, and none of those before it at k.
+-- Nothing is broken before that rule at place k. No earlier place breaks a rule. The whole breaks
+-- no rule that comes earlier in the order; if it doesn't break that rule itself, it breaks none,
+-- and no rule earlier in the order is broken at k.
 pub record NoneBefore (d : Draft) (t : Transition) (rule : Rule) (k : ℕ) : Type 0 where
   pub places : (j : ℕ) (r : Rule) → j < k → Keeps r d t j
   pub whole : EachBefore (λ r. Entry r d t) rule

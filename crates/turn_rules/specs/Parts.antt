@@ -1,4 +1,4 @@
--- What each rule wants of an instruction and its facts, and of a transition as it begins.
+-- What each rule requires of an instruction and its facts, and of a transition as a whole.
 use Rattle.std.specs.Prelude.{◌≡◌, ℕ, ◌+◌, ◌<◌, ◌≤◌, ◌≤ℤ◌, pos, [], List, length, All, Contains}
 use Rattle.std.specs.Prelude.{Some, None, slice_get}
 use Rattle.turn_code.specs.Sets.{Has, IsWithin}
@@ -28,8 +28,8 @@ pub record SetsPart (t : Transition) (k : ℕ) (i : Instruction) (f : PlaceFacts
       (q : ℕ) (s : DraftState) → Contains (states_in i) q → slice_get t.process.states q ≡ Some s
       → IsWithin s.set (set_after i f.set)
 
--- the places behind an instruction, and those where it jumps to, have the shapes that are left
--- there
+-- the next place, and the places where the instruction jumps to, have the shapes that it leaves for
+-- them
 pub record ShapesPart (ss : List DraftSignal) (t : Transition) (k : ℕ) (i : Instruction)
     (shape : List SortOf) : Type 0 where
   pub each : AtEach t.piece (behind i k) (λ g. g.shape
@@ -48,7 +48,7 @@ pub record CountsPart (t : Transition) (k : ℕ) (i : Instruction) (f : PlaceFac
   pub counts : f.count ≡ 1 + greatest (counts_at t.piece (successors i k))
   pub effects : f.effects ≡ effects_of i + greatest (effects_at t.piece (successors i k))
 
--- what a rule wants of the instruction i with the facts f at place k
+-- what a rule requires of the instruction i with the facts f at place k
 abbrev pub Part : Rule → Draft → Transition → ℕ → Instruction → PlaceFacts → Type 0
 Part Jump d t k i f = All (λ j. j < length t.piece.code) (successors i k)
 Part Shape d t k i f = ShapesPart d.signals t k i f.shape
@@ -79,12 +79,12 @@ pub record LimitsEntry (t : Transition) : Type 0 where
   pub process : t.trigger ≡ None → KeepsProcessLimits t.process
   pub piece : KeepsPieceLimits t.piece
 
--- what the transition waits for is there, and at START what the states save
+-- the trigger of the transition is declared, and at START each trigger that a state saves
 pub record NamesEntry (d : Draft) (t : Transition) : Type 0 where
   pub trigger : HasTrigger d.signals t.process t.trigger
   pub saves : t.trigger ≡ None → All (HasSaves d.signals t.process) t.process.states
 
--- what a rule wants of a transition as it begins
+-- what a rule requires of a transition as a whole
 abbrev pub Entry : Rule → Draft → Transition → Type 0
 Entry Jump d t = 0 < length t.piece.code
 Entry Shape d t = HasShapes t.piece
@@ -105,8 +105,8 @@ pub record AllEntries (d : Draft) (t : Transition) : Type 0 where
   pub limit : Entry Limit d t
   pub budget : Entry Budget d t
 
--- what a rule wants of the places where the code goes on, in a draft with these signals; other
--- rules want nothing of them
+-- what a rule requires of the places where the code goes on, in a draft with these signals; other
+-- rules require nothing there
 abbrev pub NextPart : Rule → List DraftSignal → Transition → ℕ → Instruction → PlaceFacts → Type 0
 NextPart Jump ss t k i f = All (λ j. j < length t.piece.code) (successors i k)
 NextPart Shape ss t k i f = ShapesPart ss t k i f.shape
@@ -121,7 +121,7 @@ pub record AllNexts (ss : List DraftSignal) (t : Transition) (k : ℕ) (i : Inst
   pub unset : NextPart Unset ss t k i f
   pub budget : NextPart Budget ss t k i f
 
--- the rule of sets, where the code goes on at the places js
+-- the rule on set variables; the code goes on at the places js
 pub record SetsHold (t : Transition) (js : List ℕ) (i : Instruction) (s : VariableSet) :
     Type 0 where
   pub reads_set : All (Has s) (reads i)
@@ -131,14 +131,14 @@ pub record SetsHold (t : Transition) (js : List ℕ) (i : Instruction) (s : Vari
       (q : ℕ) (st : DraftState) → Contains (states_in i) q → slice_get t.process.states q ≡ Some st
       → IsWithin st.set (set_after i s)
 
--- the entries that speak of the first place and of the certificate
+-- the requirements on the first place and on the certificate
 pub record FirstPlace (t : Transition) : Type 0 where
   pub jump : 0 < length t.piece.code
   pub shape : HasShapes t.piece
   pub unset : (f : PlaceFacts) → slice_get t.piece.facts 0 ≡ Some f → f.set ≡ t.entry
   pub budget : KeepsCertificate t.piece
 
--- what the rules want of the instruction at place k, if there is one with facts
+-- what the rules require of the instruction at place k, if there is one with facts
 pub record HasParts (d : Draft) (t : Transition) (k : ℕ) : Type 0 where
   pub each : (i : Instruction) (f : PlaceFacts) → slice_get t.piece.code k ≡ Some i
       → slice_get t.piece.facts k ≡ Some f → AllParts d t k i f

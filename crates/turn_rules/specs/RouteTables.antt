@@ -1,4 +1,4 @@
--- What the table of the routes of a draft keeps.
+-- What the table of the routes of a draft holds.
 use Rattle.std.specs.Prelude.{◌≡◌, ℕ, ◌<◌, Bool, false, eqb, ◌&&◌, List, [], map, Contains}
 use Rattle.std.specs.Prelude.{slice_index_or}
 use Rattle.std.specs.List.{list_any}
@@ -13,7 +13,7 @@ use Rattle.turn_rules.specs.declared.party_set.PartySet.{PartySet}
 use Rattle.turn_rules.specs.declared.route_table.Ends.{Ends}
 use Rattle.turn_rules.specs.declared.route_table.RouteTable.{RouteTable}
 
--- no party
+-- the empty set of parties
 abbrev pub none : PartySet
 none = record { 0 = 0 }
 
@@ -31,7 +31,7 @@ pub record Mention : Type 0 where
   pub to : Party
   pub signal : SignalNumber
 
--- the signals of a path, one as often as it stands there
+-- the signals of a path, each as often as the path lists it
 abbrev pub mentions_of : DraftRoute → List Mention
 mentions_of r = map (λ n. record { from = r.from; to = r.to; signal = n }) r.signals
 
@@ -43,7 +43,7 @@ is_sent p n b m = is_process p m.from && (eqb m.signal.0 n && eqb (seat m.to) b)
 abbrev pub is_brought : ℕ → ℕ → ℕ → Mention → Bool
 is_brought p n b m = is_process p m.to && (eqb m.signal.0 n && eqb (seat m.from) b)
 
--- for as many processes as a set may have the table has these, and nothing else
+-- the table holds exactly these signals, for as many processes as a set may have
 pub record Tells (t : RouteTable) (ms : List Mention) : Type 0 where
   pub receivers :
       (p n b : ℕ) → p < MOST_PROCESSES

@@ -14,16 +14,16 @@ use crate::places::check_place;
 use crate::transition::Transition;
 use turn_code::{Instruction, PlaceFacts, Rule};
 
-/// A rule that a transition breaks, and where.
+/// A rule that a transition breaks, and the place where it does.
 #[derive(Clone, Copy)]
 pub struct Broken {
     /// The rule.
     pub rule: Rule,
-    /// The place in the code, from 0; 0 too for what is wrong with the transition as a whole.
+    /// The place in the code, from 0; also 0 if the transition as a whole breaks the rule.
     pub place: usize,
 }
 
-/// Checks a transition of a draft against rules V1 to V9: as a whole, and then place by place. The draft's own limits are kept.
+/// Checks a transition against V1 to V9, as a whole and then place by place. The draft must keep the limits of a set.
 pub fn check_transition(draft: &IndexedDraft<'_>, transition: &Transition<'_>) -> Result<(), Broken>
     requires limits { KeepsSetLimits draft.now }
     requires process { transition.now.number.0 < length draft.now.processes }
@@ -43,7 +43,7 @@ pub fn check_transition(draft: &IndexedDraft<'_>, transition: &Transition<'_>) -
     Ok(())
 }
 
-/// The first rule that is broken at a place, if the code has it.
+/// `Err` with the first rule that is broken at a place, if the code has that place.
 fn check_at(draft: &IndexedDraft<'_>, transition: &Transition<'_>, place: usize) -> Result<(), Rule>
     requires limits { KeepsSetLimits draft.now }
     requires process { transition.now.number.0 < length draft.now.processes }
@@ -60,7 +60,7 @@ fn check_at(draft: &IndexedDraft<'_>, transition: &Transition<'_>, place: usize)
     }
 }
 
-/// The first rule that is broken at a place of this instruction, if the place has facts.
+/// `Err` with the first rule that this instruction breaks at a place, if the place has facts.
 fn check_with(
     draft: &IndexedDraft<'_>,
     transition: &Transition<'_>,
@@ -93,7 +93,7 @@ fn instruction_at(transition: &Transition<'_>, place: usize) -> Option<Instructi
     }
 }
 
-/// What is claimed of a place of the code.
+/// The facts claimed of a place of the code.
 fn facts_at<'a>(transition: &Transition<'a>, place: usize) -> Option<&'a PlaceFacts>
     ensures { option_copied result ≡ slice_get transition.now.piece.now.facts place }
 {

@@ -1,4 +1,4 @@
-//! The rules of a transition as it begins, and of a whole piece.
+//! The rules on a transition as a whole.
 
 ghost use Rattle.std.specs.Prelude.{◌≡◌, None, ◌<◌, ◌↔◌, length, All, IsTrue, IfOk, IfErr, slice_get};
 ghost use Rattle.turn_code.specs.declared.draft.Draft.{Draft};
@@ -16,7 +16,7 @@ use turn_code::{
     Trigger, VariableSet,
 };
 
-/// The first rule that is broken by a transition as a whole.
+/// `Err` with the first rule that a transition as a whole breaks.
 pub(crate) fn check_entry(draft: &Draft, transition: &Transition<'_>) -> Result<(), Rule>
     ensures ok { IfOk result (λ _. AllEntries draft.now (seen transition.now)) }
     ensures err { IfErr result (λ rule. Entry rule draft.now (seen transition.now) → ⊥) }
@@ -34,7 +34,7 @@ pub(crate) fn check_entry(draft: &Draft, transition: &Transition<'_>) -> Result<
     check_first_place(transition)
 }
 
-/// The first rule that is broken by the first place or by the certificate.
+/// `Err` with the first rule that the first place or the certificate breaks.
 fn check_first_place(transition: &Transition<'_>) -> Result<(), Rule>
     ensures ok { IfOk result (λ _. FirstPlace (seen transition.now)) }
     ensures err { IfErr result (λ rule. (d : Draft) → Entry rule d (seen transition.now) → ⊥) }
@@ -56,7 +56,7 @@ fn check_first_place(transition: &Transition<'_>) -> Result<(), Rule>
     Ok(())
 }
 
-/// Whether each place has facts, and the first place no operand.
+/// Whether each place has facts, and the first place has no operand.
 fn has_shapes(piece: &DraftPiece) -> bool
     ensures { IsTrue result ↔ HasShapes piece.now }
 {
@@ -68,7 +68,7 @@ fn has_shapes(piece: &DraftPiece) -> bool
         }
 }
 
-/// Whether the first place says that the variables in `entry` are set, and no other.
+/// Whether exactly the variables in `entry` are set at the first place.
 fn begins_with(facts: &[PlaceFacts], entry: VariableSet) -> bool
     ensures { IsTrue result ↔ ((f : PlaceFacts) → slice_get facts.now 0 ≡ Some f → f.set ≡ entry) }
 {
@@ -78,7 +78,7 @@ fn begins_with(facts: &[PlaceFacts], entry: VariableSet) -> bool
     }
 }
 
-/// Whether the certificate says the counts of the first place and the greatest shape.
+/// Whether the certificate has the counts of the first place and the greatest depth.
 fn keeps_certificate(piece: &DraftPiece) -> bool
     ensures { IsTrue result ↔ KeepsCertificate piece.now }
 {
@@ -100,7 +100,7 @@ fn deepest(facts: &[PlaceFacts]) -> u64
     most
 }
 
-/// Whether the limits of the piece are kept, and at START those of the process.
+/// Whether the transition keeps the limits of a piece, and at START those of a process.
 fn keeps_limits(transition: &Transition<'_>) -> bool
     ensures { IsTrue result ↔ LimitsEntry (seen transition.now) }
 {
@@ -108,14 +108,14 @@ fn keeps_limits(transition: &Transition<'_>) -> bool
         && (transition.trigger.is_some() || process_keeps_limits(transition.process))
 }
 
-/// Whether the limits of a piece are kept.
+/// Whether the piece keeps its limits.
 fn piece_keeps_limits(piece: &DraftPiece) -> bool
     ensures { IsTrue result ↔ KeepsPieceLimits piece.now }
 {
     piece.certificate.depth <= 16 && piece.certificate.effects <= 32 && piece.code.len() <= 512
 }
 
-/// Whether the limits of a process are kept.
+/// Whether the process keeps its limits.
 pub fn process_keeps_limits(process: &DraftProcess) -> bool
     ensures { IsTrue result ↔ KeepsProcessLimits process.now }
 {
@@ -126,7 +126,7 @@ pub fn process_keeps_limits(process: &DraftProcess) -> bool
         && process.timers.len() <= 8
 }
 
-/// Whether what a transition waits for is there, and at START what the states of its process save.
+/// Whether the trigger of a transition is declared, and at START each trigger that a state of its process saves.
 fn has_names(signals: &[DraftSignal], transition: &Transition<'_>) -> bool
     ensures { IsTrue result ↔ ((HasTrigger signals.now transition.now.process.now transition.now.trigger)
         × (transition.now.trigger ≡ None → All (HasSaves signals.now transition.now.process.now) transition.now.process.now.states)) }
@@ -141,7 +141,7 @@ fn has_names(signals: &[DraftSignal], transition: &Transition<'_>) -> bool
     }
 }
 
-/// Whether a signal, or a timer of a process, is there.
+/// Whether a signal, or a timer of a process, is declared.
 fn is_there(signals: &[DraftSignal], process: &DraftProcess, trigger: Trigger) -> bool
     ensures { IsTrue result ↔ IsThere signals.now process.now trigger }
 {
@@ -151,14 +151,14 @@ fn is_there(signals: &[DraftSignal], process: &DraftProcess, trigger: Trigger) -
     }
 }
 
-/// Whether what each of these states saves is there.
+/// Whether each trigger that these states save is declared.
 fn have_saves(signals: &[DraftSignal], process: &DraftProcess, states: &[DraftState]) -> bool
     ensures { IsTrue result ↔ All (HasSaves signals.now process.now) states.now }
 {
     states.iter().all(|state| all_there(signals, process, state.saves.as_slice()))
 }
 
-/// Whether each of these triggers is there.
+/// Whether each of these triggers is declared.
 fn all_there(signals: &[DraftSignal], process: &DraftProcess, triggers: &[Trigger]) -> bool
     ensures { IsTrue result ↔ All (IsThere signals.now process.now) triggers.now }
 {
@@ -167,7 +167,7 @@ fn all_there(signals: &[DraftSignal], process: &DraftProcess, triggers: &[Trigge
         .all(|trigger| is_there(signals, process, *trigger))
 }
 
-/// Whether at START each initial value has its variable's sort.
+/// Whether each initial value has its variable's sort, which is required only at START.
 fn starts_right(transition: &Transition<'_>) -> bool
     ensures { IsTrue result ↔ (transition.now.trigger ≡ None → All StartsRight transition.now.process.now.variables) }
 {
@@ -186,7 +186,7 @@ fn all_start_right(variables: &[DraftVariable]) -> bool
     true
 }
 
-/// Whether the initial value has the variable's sort, where there is one.
+/// Whether the initial value, if there is one, has the variable's sort.
 fn starts_with_its_sort(variable: &DraftVariable) -> bool
     ensures { IsTrue result ↔ StartsRight variable.now }
 {

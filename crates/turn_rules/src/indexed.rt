@@ -12,7 +12,7 @@ use crate::route_table::RouteTable;
 use std::marker::Model;
 use turn_code::{Draft, ProcessNumber, SignalNumber};
 
-/// A draft with a table of its routes, seen as the draft.
+/// A draft with a table of its routes; contracts see the draft.
 #[derive(Drop)]
 pub struct IndexedDraft<'a> {
     draft: &'a Draft,
@@ -32,7 +32,7 @@ impl<'a> Model for IndexedDraft<'a> {
 }
 
 impl<'a> IndexedDraft<'a> {
-    /// The draft with its table, which takes one pass over the routes.
+    /// The draft with its table, which is built in one pass over the routes.
     pub fn new(draft: &'a Draft) -> Self
         ensures { result ≡ draft.now }
     {
@@ -42,14 +42,14 @@ impl<'a> IndexedDraft<'a> {
         }
     }
 
-    /// The draft alone.
+    /// The draft without its table.
     pub fn plain(&self) -> &Draft
         ensures { result.now ≡ self.now }
     {
         self.draft
     }
 
-    /// The parties of the draft to which some route takes a signal from a process.
+    /// The declared parties to which some route takes a signal from a process.
     pub(crate) fn reached(&self, process: ProcessNumber, signal: SignalNumber) -> PartySet
         requires limits { KeepsSetLimits self.now }
         requires process { process.0 < length self.now.processes }

@@ -1,5 +1,5 @@
-//! The rules V1 to V9 at one transition of a draft: what it is told of its process, whether each of its places and the whole keep
-//! the rules, and a table of the draft's routes for those that speak of receivers. Going through a whole draft is `turn_check`'s.
+//! The rules V1 to V9 for one transition of a draft: whether the whole and each of its places keep them. A table of the
+//! draft's routes serves the rules on receivers. `turn_check` goes through a whole draft.
 #![tactic(auto)]
 
 mod check;

@@ -6,7 +6,7 @@ ghost use Rattle.plain_laws.specs.Limits.{MOST_PROCESSES};
 
 use turn_code::Party;
 
-/// A set of parties: bit 0 stands for the environment, bit n + 1 for process n, and the last bit for each process from 30 on.
+/// A set of parties: bit 0 is the environment, bit n + 1 is process n, and the last bit is all processes from 30 on.
 #[derive(Clone, Copy)]
 pub(crate) struct PartySet(u32);
 
@@ -22,10 +22,10 @@ fn seat(party: Party) -> u32
 }
 
 impl PartySet {
-    /// No party.
+    /// The empty set.
     pub(crate) const NONE: PartySet = PartySet(0);
 
-    /// The environment and so many processes, which are the first ones.
+    /// The environment and the first `count` processes.
     pub(crate) fn of_first(count: usize) -> PartySet
         requires { count ≤ MOST_PROCESSES }
         ensures { (b : ℕ) → holds result b ≡ ltb b (1 + count) }

@@ -20,7 +20,7 @@ use crate::tables::{
 use crate::transition::Transition;
 use turn_code::{DraftSignal, DraftState, Instruction, PlaceFacts, Rule, Sort, VariableSet};
 
-/// The first rule that is broken at a place, whose instruction and facts are these.
+/// `Err` with the first rule that is broken at a place with this instruction and these facts.
 pub(crate) fn check_place(
     draft: &IndexedDraft<'_>,
     transition: &Transition<'_>,
@@ -54,7 +54,7 @@ pub(crate) fn check_place(
     check_successors(signals, transition, place, instruction, facts)
 }
 
-/// The rules that speak of the places where the code goes on, and of the state where it ends.
+/// `Err` with the first rule that is broken by the places where the code goes on, or by the state where it ends.
 fn check_successors(
     signals: &[DraftSignal],
     transition: &Transition<'_>,
@@ -93,7 +93,7 @@ fn check_successors(
     Ok(())
 }
 
-/// Whether the variables, parameters, timers and divisors of an instruction are there, and its output reaches somebody.
+/// Whether the numbers that an instruction names are declared, its divisor is 1 or more, and its output has a receiver.
 fn names_what_is_there(
     draft: &IndexedDraft<'_>,
     transition: &Transition<'_>,
@@ -121,7 +121,7 @@ fn names_what_is_there(
     }
 }
 
-/// Whether a state where an instruction ends is there.
+/// Whether the state where an instruction ends is declared; true if it doesn't end in a state.
 fn ends_in_a_state(instruction: Instruction, states: &[DraftState]) -> bool
     ensures { IsTrue result ↔ All (λ q. q < length states.now) (states_in instruction) }
 {
@@ -175,8 +175,8 @@ fn is_shape(shape: &[Sort], given: Option<Sort>, rest: &[Sort]) -> bool
     }
 }
 
-/// Whether the place behind the instruction has the shape that it leaves there, and each place where it jumps to the
-/// shape without its operands.
+/// Whether the next place has the shape that the instruction leaves there, and each place where it jumps to has
+/// the shape without its operands.
 fn shapes_are_left(
     signals: &[DraftSignal],
     transition: &Transition<'_>,
@@ -194,7 +194,7 @@ fn shapes_are_left(
         && shape_is_jumped_to(transition, instruction, rest)
 }
 
-/// The operands that stay where an instruction takes its own.
+/// The operands that stay when an instruction takes its own.
 fn operands_left<'a>(
     signals: &[DraftSignal],
     transition: &Transition<'_>,
@@ -210,7 +210,7 @@ fn operands_left<'a>(
     &shape[taken..]
 }
 
-/// Whether the place behind the instruction has what it gives on top of `rest`.
+/// Whether the next place has the value that the instruction puts on top of `rest`.
 fn shape_is_behind(
     transition: &Transition<'_>,
     place: usize,
@@ -259,8 +259,8 @@ fn places_have_shape(
     true
 }
 
-/// Whether what is said to be set where the code goes on, or in the state where it ends, is set behind the
-/// instruction, and what it reads is set before it.
+/// Whether only variables that are set after the instruction are called set at the places where the code goes on and
+/// in the state where it ends; and whether a variable that it reads is set before it.
 fn sets_are_left(
     transition: &Transition<'_>,
     nexts: &[usize],
@@ -287,7 +287,7 @@ fn reads_what_is_set(instruction: Instruction, set: VariableSet) -> bool
     }
 }
 
-/// Whether the facts at each of these places say of no variable that it is set but of those in `set`.
+/// Whether the facts at each of these places call only variables in `set` set.
 fn places_have(facts: &[PlaceFacts], nexts: &[usize], set: VariableSet) -> bool
     ensures { IsTrue result ↔ ((j : ℕ) (g : PlaceFacts) → Contains nexts.now j → slice_get facts.now j ≡ Some g → IsWithin g.set set) }
 {
@@ -301,7 +301,7 @@ fn places_have(facts: &[PlaceFacts], nexts: &[usize], set: VariableSet) -> bool
     true
 }
 
-/// Whether the state where an instruction ends says of no variable that it is set but of those in `set`.
+/// Whether the state where an instruction ends calls only variables in `set` set.
 fn state_has(states: &[DraftState], instruction: Instruction, set: VariableSet) -> bool
     ensures { IsTrue result ↔ ((q : ℕ) (s : DraftState) → Contains (states_in instruction) q → slice_get states.now q ≡ Some s → IsWithin s.set set) }
 {
@@ -314,7 +314,7 @@ fn state_has(states: &[DraftState], instruction: Instruction, set: VariableSet) 
     }
 }
 
-/// The count and the effects that are claimed of a place, 0 where nothing is.
+/// The count and the effects that the facts of a place claim; 0 if it has none.
 pub(crate) fn counts_in(facts: &[PlaceFacts], place: usize) -> (u32, u32)
     ensures count { result.0 ≡ count_in (slice_get facts.now place) }
     ensures effects { result.1 ≡ effects_in (slice_get facts.now place) }
@@ -340,7 +340,7 @@ fn greatest_counts(facts: &[PlaceFacts], places: &[usize]) -> (u32, u32)
     }
 }
 
-/// Whether the counts of a place are one more than the greatest of those where the code goes on.
+/// Whether the count is one more than the greatest where the code goes on, and the effects fit likewise.
 fn counts_are_right(
     transition: &Transition<'_>,
     place: usize,

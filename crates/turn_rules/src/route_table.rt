@@ -1,4 +1,4 @@
-//! Who gets a signal and who may have sent it, by the routes of a draft.
+//! The receivers of a signal and its possible senders, by the routes of a draft.
 
 ghost use Rattle.std.specs.Prelude.{◌≡◌, ◌<◌, ℕ, false, eqb, ◌&&◌, ◌||◌, [], ◌∷◌, ◌++◌, List, slice_index_or};
 ghost use Rattle.std.specs.List.{flat_map};
@@ -9,14 +9,14 @@ ghost use Rattle.plain_laws.specs.Limits.{MOST_PROCESSES};
 use crate::party_set::PartySet;
 use turn_code::{DraftRoute, Party, ProcessNumber, SignalNumber};
 
-/// For each signal a set of parties.
+/// A set of parties for each signal.
 #[derive(Clone, Copy)]
 pub(crate) struct Row {
     sets: [PartySet; 256],
 }
 
 impl Row {
-    /// No party for any signal.
+    /// An empty set for each signal.
     fn new() -> Self
         ensures { (n b : ℕ) → holds (slice_index_or result.sets n none) b ≡ false }
     {
@@ -25,7 +25,7 @@ impl Row {
         }
     }
 
-    /// Adds a party to those for a signal.
+    /// Adds a party to the set for a signal.
     fn add(&mut self, signal: SignalNumber, party: Party)
         ensures { (n b : ℕ) → holds (slice_index_or self.new.sets n none) b
             ≡ (holds (slice_index_or self.old.sets n none) b || (eqb signal.0 n && eqb (seat party) b)) }
@@ -49,7 +49,7 @@ pub(crate) struct Ends {
 }
 
 impl Ends {
-    /// No party for any process and signal.
+    /// An empty set for each process and signal.
     fn new() -> Self
         ensures { (p n b : ℕ) → p < MOST_PROCESSES → holds (listed result p n) b ≡ false }
     {
@@ -58,7 +58,7 @@ impl Ends {
         }
     }
 
-    /// Adds the party at the other end of a path that brings a signal, if its own end is a process.
+    /// Adds the party at the other end of a path that brings a signal, if this end is a process.
     fn add(&mut self, own: Party, other: Party, signal: SignalNumber)
         ensures { (p n b : ℕ) → p < MOST_PROCESSES → holds (listed self.new p n) b
             ≡ (holds (listed self.old p n) b || (is_process p own && (eqb signal.0 n && eqb (seat other) b))) }
@@ -69,7 +69,7 @@ impl Ends {
         }
     }
 
-    /// Adds it for one process; those past the first 16 are left out.
+    /// Adds the party for one process; processes after the first 16 are left out.
     fn add_to(&mut self, process: ProcessNumber, other: Party, signal: SignalNumber)
         ensures { (p n b : ℕ) → p < MOST_PROCESSES → holds (listed self.new p n) b
             ≡ (holds (listed self.old p n) b || (eqb process.0 p && (eqb signal.0 n && eqb (seat other) b))) }
@@ -88,12 +88,12 @@ impl Ends {
     }
 }
 
-/// The paths of a draft by process and signal: each look-up takes the same time however many there are.
+/// The paths of a draft by process and signal. A look-up takes constant time.
 #[derive(Drop)]
 pub(crate) struct RouteTable {
-    /// Who gets a signal from a process.
+    /// The receivers of a signal from a process.
     pub(crate) receivers: Ends,
-    /// Who sends a signal to a process.
+    /// The senders of a signal to a process.
     pub(crate) senders: Ends,
 }
 
@@ -109,7 +109,7 @@ impl RouteTable {
         table
     }
 
-    /// The table of no path.
+    /// The table without a path.
     fn empty() -> Self
         ensures { Tells result [] }
     {

@@ -1,4 +1,4 @@
-//! Whether an output reaches somebody by the routes.
+//! Whether an output has a receiver, by the routes.
 
 ghost use Rattle.std.specs.Prelude.{◌≡◌, ◌<◌, ◌↔◌, All, IsTrue, length, slice_get};
 ghost use Rattle.turn_code.specs.Routes.{Answers};
@@ -10,7 +10,7 @@ use crate::indexed::IndexedDraft;
 use crate::transition::Transition;
 use turn_code::{DraftSignal, ProcessNumber, Receiver, SignalNumber, Trigger};
 
-/// Whether the signal of an output is there, has as many parameters, and reaches its receiver.
+/// Whether the signal of an output is declared, has as many parameters, and reaches its receiver.
 pub(crate) fn keeps_sending(
     draft: &IndexedDraft<'_>,
     transition: &Transition<'_>,
@@ -32,7 +32,7 @@ pub(crate) fn keeps_sending(
         )
 }
 
-/// Whether there is such a signal, with so many parameters.
+/// Whether there is such a signal, with this many parameters.
 fn has_parameters(signals: &[DraftSignal], signal: SignalNumber, count: u8) -> bool
     ensures { IsTrue result ↔ ((signal.0 < length signals.now) × (count ≡ length (parameters_of (slice_get signals.now signal.0)))) }
 {
@@ -60,7 +60,7 @@ fn reaches_receiver(
     }
 }
 
-/// Whether a signal reaches each who may have sent the one that a transition waits for.
+/// Whether a signal reaches every possible sender of the signal that a transition waits for.
 fn answers_sender(
     draft: &IndexedDraft<'_>,
     process: ProcessNumber,
@@ -78,7 +78,7 @@ fn answers_sender(
     }
 }
 
-/// Whether a signal goes back on each route that brings the one that is taken.
+/// Whether a route takes signal `signal` back to every possible sender of the signal that is taken.
 fn answers_each(
     draft: &IndexedDraft<'_>,
     process: ProcessNumber,

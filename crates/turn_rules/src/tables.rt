@@ -1,4 +1,4 @@
-//! What each instruction needs, leaves and names.
+//! The operands that each instruction takes, the value that it leaves, and what it names.
 
 ghost use Rattle.std.specs.Prelude.{◌≡◌, ◌<◌, ◌≤◌, ◌+◌, All, length, reverse, replicate, slice_get, option_to_list};
 ghost use Rattle.turn_code.specs.Code.{sort_at, takes, gives, sets, set_after, jumps, behind, successors, effects_of};
@@ -49,7 +49,7 @@ fn reversed(parameters: &[Sort]) -> ArrayVec<Sort, 4>
     }
 }
 
-/// So many operands of one sort.
+/// `count` operands of one sort.
 fn operands(count: usize, sort: Sort) -> ArrayVec<Sort, 4>
     requires { count ≤ 2 }
     ensures { result.items ≡ replicate count sort }
@@ -98,7 +98,7 @@ pub(crate) fn taken_sorts(
     }
 }
 
-/// The sort of the value that it puts on the operands, if it puts one there.
+/// The sort of the value that an instruction puts on the operands, if it puts one there.
 pub(crate) fn given_sort(
     instruction: Instruction,
     variables: &[DraftVariable],
@@ -133,7 +133,7 @@ pub(crate) fn given_sort(
     }
 }
 
-/// The variables that are set behind it.
+/// The variables that are set after it.
 pub(crate) fn set_behind(instruction: Instruction, set: VariableSet) -> VariableSet
     requires { All (λ v. v < MOST_VARIABLES) (sets instruction) }
     ensures { result ≡ set_after instruction set }
@@ -163,7 +163,7 @@ pub(crate) fn jump_places(instruction: Instruction) -> ArrayVec<usize, 3>
     places
 }
 
-/// The place behind it, where the code may go on there.
+/// The place after it, if the code may go on there.
 pub(crate) fn place_behind(instruction: Instruction, place: usize) -> Option<usize>
     requires { place < MOST_INSTRUCTIONS }
     ensures { option_to_list result ≡ behind instruction place }
@@ -187,7 +187,7 @@ pub(crate) fn next_places(instruction: Instruction, place: usize) -> ArrayVec<us
     places
 }
 
-/// How many effects it gives.
+/// The number of effects that it adds.
 pub(crate) fn effects_given(instruction: Instruction) -> u32
     ensures { result ≡ effects_of instruction }
 {

@@ -13,11 +13,11 @@ use turn_code::{
 /// One transition of a draft.
 #[derive(Clone, Copy)]
 pub struct Transition<'a> {
-    /// The number of the process that it belongs to.
+    /// The number of its process.
     pub number: ProcessNumber,
-    /// That process.
+    /// Its process.
     pub process: &'a DraftProcess,
-    /// What it waits for, nothing at START.
+    /// The signal or timer that it waits for; none at START.
     pub trigger: Option<Trigger>,
     /// The sorts of its parameters.
     pub parameters: &'a [Sort],
@@ -62,7 +62,7 @@ pub fn input_transition<'a>(
     }
 }
 
-/// The sorts of what comes with a trigger.
+/// The sorts of the parameters of a trigger; a timer has none.
 fn parameters_of(signals: &[DraftSignal], trigger: Trigger) -> &[Sort]
     ensures { result.now ≡ trigger_parameters signals.now trigger }
 {

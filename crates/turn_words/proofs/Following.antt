@@ -1,4 +1,4 @@
--- One instruction on words that stand for values does what it does on the values: for each way of taking operands.
+-- One instruction on words does what it does on the values that the words represent.
 use Rattle.std.proofs.Common.{◌≡◌, ℕ, ◌-◌, ◌<◌, ◌≤◌, Bool as Truth, true, false, not, ◌&&◌, ◌||◌, if◌then◌else◌, ℤ, pos, ◌+ℤ◌, ◌-ℤ◌, ◌*ℤ◌, neg_ℤ, List, [], ◌∷◌, length, map, take, drop, reverse, Option, Some, None, refl, sym, ap, ◌∙◌, subst, arith}
 use Rattle.std.specs.Prelude.{slice_get, slice_set, nat_le, int_lt, int_div, int_rem, ◌≤ℤ◌}
 use Rattle.std.specs.Int.{int_rem_euclid}
@@ -39,7 +39,7 @@ use Rattle.turn_words.specs.Bare.{Bare, Did, went, over, truth_word, is_true, wi
 use Rattle.turn_words.specs.Meant.{word_of, AreWordsOf, Grow}
 use Rattle.turn_words.proofs.Standing.{one_more, one_less, top_is, on_one, on_two, long_taken, taken_is, so_many_less, variable_is, parameter_is, one_kept}
 
--- what was done on words is what was done on values, from that progress on
+-- from this progress, the result on words agrees with the result on values
 abbrev pub Meets : Input → Progress → Did → After → Type 0
 Meets x s (went j o b) (goes k os s') = (j ≡ k) × Grow x.sender o s.effects s'.effects × AreWordsOf b os s'.variables x.parameters.items
 Meets x s (went j o b) (ends e s') = ⊥
@@ -52,7 +52,7 @@ is_true_word : (t : Truth) → is_true (truth_word t) ≡ t
 is_true_word true = refl
 is_true_word false = refl
 
--- ---- operands of the right sorts, on both sides
+-- ---- operands of the right sorts, as words and as values
 one_integer : (Q : Did → After → Type 0) (b : Bare) (os : List Value) (vs : List (Option Value)) (ps : List Value) (g : ℤ → Bare → Did)
     (go : ℤ → List Value → After) → AreWordsOf b os vs ps → 1 ≤ length (map sort_of os) → Agree (Integer ∷ []) (map sort_of os)
     → ((z : ℤ) (c : Bare) (rest : List Value) → AreWordsOf c rest vs ps → Q (g z c) (go z rest)) → Q (on_word b g) (on_integer os go)
@@ -96,7 +96,7 @@ pub sort_there : (xs : List DraftVariable) (v : ℕ) (y : DraftVariable) → sli
 sort_there xs v y e = rw e refl
 
 module _ (ss : List DraftSignal) (xs : List DraftVariable) (ps : List Sort) (m : VariableSet) (x : Input) (k : ℕ) where
-  -- ---- one word is put where the operands were
+  -- ---- an instruction replaces its operands by one word
   puts : (y : Value) (b : Bare) (os : List Value) (s : Progress) → AreWordsOf b os s.variables x.parameters.items
       → Meets x s (put (word_of y) k b) (goes k (y ∷ os) s)
   puts y b os s h = (refl, refl, one_more b y os s.variables x.parameters.items h)

@@ -1,4 +1,4 @@
--- Words that are taken from the top into an array.
+-- Copying words from the top of the stack into an array.
 use Rattle.std.proofs.Common.{◌≡◌, ℕ, zero, suc, ◌+◌, ◌-◌, ◌<◌, ◌≤◌, ℤ, pos, List, [], ◌∷◌, ◌++◌, length, take, drop, reverse, replicate, Some, refl, sym, ap, ◌∙◌, arith}
 use Rattle.std.specs.Prelude.{slice_get, slice_set, slice_index_or}
 use Rattle.std.proofs.lemmas.List.{length-take, length-drop, get_or-drop}
@@ -12,7 +12,7 @@ use Rattle.turn_words.specs.declared.after.Given.TheVariants as gives
 use Rattle.turn_words.specs.declared.after.Next.TheVariants.{Goes}
 use Rattle.turn_words.specs.Bare.{Bare, bare_of, went, did_next, with_stack, words_taken, sent}
 
--- so many words and 0 behind them: one word more in place of the first 0
+-- an array of p words and then zeros: a write puts one more word in the place of the first 0
 filled : (ds : List ℤ) (p m : ℕ) (x : ℤ) → slice_get ds p ≡ Some x
     → slice_set (take p ds ++ replicate (suc m) (pos 0)) p x ≡ take (suc p) ds ++ replicate m (pos 0)
 filled [] p m x h = cc
@@ -41,7 +41,7 @@ drop_taken [] (suc a) m = let e : suc a + m ≡ suc (a + m) = omega arith in rw 
     none (suc m) = refl
 drop_taken (x ∷ xs) (suc a) m = let e : suc a + m ≡ suc (a + m) = omega arith in rw e (drop_taken xs a m)
 
--- the topmost n of so many words, the topmost last
+-- the topmost n words of a stack of this depth, the topmost last
 pub topmost : (xs : List ℤ) (first n depth : ℕ) → first + n ≡ depth → depth ≤ length xs
     → reverse (take n (reverse (take depth xs))) ≡ take n (drop first xs)
 topmost xs first n depth e h =
@@ -53,7 +53,7 @@ taken_twice xs zero m = refl
 taken_twice [] (suc a) m = let e : suc a + m ≡ suc (a + m) = omega arith in rw e refl
 taken_twice (x ∷ xs) (suc a) m = let e : suc a + m ≡ suc (a + m) = omega arith in rw e (ap (λ u. x ∷ u) (taken_twice xs a m))
 
--- those below the topmost n
+-- the words below the topmost n
 below_them : (xs : List ℤ) (first n depth : ℕ) → first + n ≡ depth → depth ≤ length xs → reverse (take first xs) ≡ drop n (reverse (take depth xs))
 below_them xs first n depth e h =
     let long : first + n ≡ length (take depth xs) = e ∙ sym (simp length-take (omega arith)) in

@@ -1,4 +1,4 @@
--- Words that stand for values, after one is put there, taken away, kept in a variable or sent.
+-- Words still represent the values after one is pushed, popped, stored in a variable or sent.
 use Rattle.std.proofs.Common.{◌≡◌, ◌≢◌, ℕ, zero, suc, ◌+◌, ◌-◌, ◌^◌, ◌<◌, ◌≤◌, eqb, true, false, ℤ, pos, List, [], ◌∷◌, ◌++◌, length, map, take, drop, reverse, replicate, Option, Some, None, refl, sym, ap, ◌∙◌, subst, ⊎_elim, arith}
 use Rattle.std.specs.Prelude.{slice_get, slice_set, slice_index_or, bit_or}
 use Rattle.std.specs.Int.{bit_at}
@@ -17,7 +17,7 @@ kept_alike : (b c : Bare) (v : ℕ) (x : Option Value) → c.set ≡ b.set → c
 kept_alike b c v None s w h = ap (λ u. bit_at u v) s ∙ h
 kept_alike b c v (Some x) s w h = (ap (λ u. bit_at u v) s ∙ h.0, ap (λ u. slice_get u v) w ∙ h.1)
 
--- a bit more is set
+-- setting one more bit
 bit_here : (n v : ℕ) → bit_at (bit_or n (2 ^ v)) v ≡ 1
 bit_here n v =
     let both = bit_at_or n (2 ^ v) v in
@@ -39,7 +39,7 @@ kept_elsewhere b v u z None ne h = bit_elsewhere b.set v u ne ∙ h
 kept_elsewhere b v u z (Some x) ne h = (bit_elsewhere b.set v u ne ∙ h.0, get_set_other b.variables v u z ne ∙ h.1)
 
 -- ---- the operands
--- words on another stack, which stand for other operands
+-- a change of the stack makes the words represent other operands
 pub on_stack : (b : Bare) (os rest : List Value) (vs : List (Option Value)) (ps : List Value) (zs : List ℤ) (n : ℕ) → AreWordsOf b os vs ps
     → zs ≡ map word_of rest → n ≡ length rest → AreWordsOf (with_stack b zs n) rest vs ps
 on_stack b os rest vs ps zs n h e long = record {
@@ -75,7 +75,7 @@ two_less b y x os vs ps h =
     let d : b.depth ≡ length (y ∷ x ∷ os) = h.depth in
     on_stack b (y ∷ x ∷ os) os vs ps (drop 2 b.stack) (b.depth - 2) h (ap (drop 2) h.operands) (omega arith)
 
--- what goes on with a word that is taken, or with two, goes on with the words of the values
+-- popping one word, or two, leaves words that represent the values left
 pub on_one : (P : Did → Type 0) (b : Bare) (y : Value) (os : List Value) (vs : List (Option Value)) (ps : List Value) (go : ℤ → Bare → Did)
     → AreWordsOf b (y ∷ os) vs ps → ((c : Bare) → AreWordsOf c os vs ps → P (go (word_of y) c)) → P (on_word b go)
 on_one P b y os vs ps go h f =
@@ -89,7 +89,7 @@ on_two P b y x os vs ps go h f =
     subst (λ (z : ℤ). P (go (slice_index_or b.stack 1 (pos 0)) z c)) (sym (top_is b y (x ∷ os) vs ps h)) (
     subst (λ (z : ℤ). P (go z (word_of y) c)) (sym (second_is b y x os vs ps h)) (f c (two_less b y x os vs ps h)))
 
--- ---- so many operands at once
+-- ---- several operands at once
 map_turned : {A B : Type 0} (f : A → B) (xs : List A) → map f (reverse xs) ≡ reverse (map f xs)
 map_turned f [] = refl
 map_turned f (x ∷ xs) =
@@ -142,7 +142,7 @@ kept_at b v u old x y vs is within there e =
     subst (λ (o : Option Value). IsKept (kept b v (word_of y)) u o) same (
     subst (λ (w : ℕ). IsKept (kept b v (word_of y)) w (Some y)) (sym is) (kept_here b v y within))
 
--- a variable is kept, which was there
+-- storing a word in a variable, which the variable set then includes
 pub one_kept : (b : Bare) (v : ℕ) (old : Option Value) (y : Value) (os : List Value) (vs : List (Option Value)) (ps : List Value) → AreWordsOf b os vs ps
     → v < length b.variables → slice_get vs v ≡ Some old → AreWordsOf (kept b v (word_of y)) os (slice_set vs v (Some y)) ps
 one_kept b v old y os vs ps h within there = record {

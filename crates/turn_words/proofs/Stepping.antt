@@ -1,4 +1,4 @@
--- A step on words is the step on the values that they stand for.
+-- A step on words agrees with the step on the values that they represent.
 use Rattle.std.proofs.Common.{◌≡◌, ℕ, ◌+◌, ◌<◌, ◌≤◌, List, length, get_or, Option, Some, refl, sym, ap, ◌∙◌, subst, arith}
 use Rattle.std.specs.Prelude.{slice_get}
 use Rattle.std.proofs.lemmas.Option.{get_or_from_slice_get}
@@ -26,7 +26,7 @@ use Rattle.turn_words.specs.Steps.{Stand, Follows}
 use Rattle.turn_words.proofs.Wanting.{grown_room, has_words}
 use Rattle.turn_words.proofs.Following.{Meets, act_meets}
 
--- ---- where the words go on, or end
+-- ---- the place where the code goes on, or the end
 went_so : (x : Input) (s : Progress) (n : Onward) (o : Option Given) (b : Bare) (j : ℕ) (os : List Value) (s' : Progress)
     → Meets x s (did_next n o b) (goes j os s') → (n ≡ Goes j) × Grow x.sender o s.effects s'.effects × AreWordsOf b os s'.variables x.parameters.items
 went_so x s (Goes k) o b j os s' m = (ap (λ u. Goes u) m.0, m.1, m.2)
@@ -39,7 +39,7 @@ over_so x s (Goes k) o b e s' m = absurd m
 over_so x s (Ends q) o b e s' m = (ap (λ u. Ends u) m.0, m.1, m.2)
 
 module _ (d : Draft) (t : Transition) (p : Piece) (k : ℕ) (old : Words) (x : Input) (os : List Value) (s : Progress) (h : Stand d t p k old x os s) where
-  -- the code has an instruction there
+  -- the code has an instruction at place k
   pub stands_on : (i : Instruction) × (slice_get p.code.now k ≡ Some i)
   stands_on =
       let i = code_at d t h.valid k h.at.facts h.at.is in
@@ -72,7 +72,7 @@ module _ (d : Draft) (t : Transition) (p : Piece) (k : ℕ) (old : Words) (x : I
   few : (i : Instruction) → slice_get p.code.now k ≡ Some i → sends i ≤ 4
   few i ie = sends_few d t h.valid h.limits k i (own_code i ie)
 
-  -- the words are there that it wants
+  -- the words meet the requirements of the instruction at k
   pub wanted : (i : Instruction) → slice_get p.code.now k ≡ Some i → length old.params ≡ 4 → HasWords i (bare_of old)
   wanted i ie four =
       has_words d.signals t.process.variables t.parameters h.at.facts.set x (bare_of old) os s.variables h.words (small k os s h.at) h.variables four
@@ -110,7 +110,7 @@ module _ (d : Draft) (t : Transition) (p : Piece) (k : ℕ) (old : Words) (x : I
       follow new a i ie (act i x (k + 1) os (tick s)) (subst (λ u. Meets x (tick s) u (act i x (k + 1) os (tick s))) (sym e) meets) (fine i ie) in
       subst (λ o. Follows d t p x s a new (act_if o x (k + 1) os (tick s))) (sym (own_code i ie)) own
 
-  -- the same of the element that the code reads there, whatever stands for one that isn't there
+  -- as `wanted`, for the element that the code reads at k, which takes any default for a missing one
   pub wanted_here : (e : Instruction) → length old.params ≡ 4 → HasWords (get_or p.code.now k e) (bare_of old)
   wanted_here e four =
       let i = stands_on in
@@ -122,6 +122,6 @@ module _ (d : Draft) (t : Transition) (p : Piece) (k : ℕ) (old : Words) (x : I
       let i = stands_on in
       followed new a i.0 i.1 wide (is ∙ ap (λ u. bare_act u (k + 1) (bare_of old)) (get_or_from_slice_get p.code.now k i.0 e i.1))
 
-  -- the code is no longer than it may be
+  -- the code has at most 512 instructions
   pub short : length p.code.now ≤ 512
   short = subst (λ u. length u ≤ 512) h.code ((h.valid.limit 0).piece refl).size

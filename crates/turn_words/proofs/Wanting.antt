@@ -1,4 +1,4 @@
--- What an instruction wants of the words is there, where they stand for values that are claimed of its place.
+-- Words meet the requirements of an instruction if they represent values that fit the facts of its place.
 use Rattle.std.proofs.Common.{◌≡◌, ℕ, ◌<◌, ◌≤◌, IsTrue, List, ◌∷◌, length, map, Option, Some, None, refl, sym, ap, ◌∙◌, subst, arith}
 use Rattle.std.specs.Prelude.{slice_get, pos, ◌≤ℤ◌}
 use Rattle.std.proofs.lemmas.List.{length-reverse}
@@ -24,7 +24,7 @@ use Rattle.turn_words.specs.Bare.{Bare, Takes, HasWords}
 use Rattle.turn_words.specs.Meant.{word_of, AreWordsOf}
 use Rattle.turn_words.proofs.Following.{sort_there}
 
--- ---- room for one more, where each place that the code comes to has at most so many operands
+-- ---- room for one more operand, if each place where the code goes on has at most 16 operands
 module _ (P : After → Type 0) (deep : (j : ℕ) (os : List Value) (s : Progress) → P (goes j os s) → length os ≤ 16) (never : (z : Trouble) → P (stuck z) → ⊥) where
   put_room : (y : Value) (k : ℕ) (os : List Value) (s : Progress) → P (goes k (y ∷ os) s) → length os < 16
   put_room y k os s h = let n : length (y ∷ os) ≤ 16 = deep k (y ∷ os) s h in omega arith
@@ -45,7 +45,7 @@ module _ (P : After → Type 0) (deep : (j : ℕ) (os : List Value) (s : Progres
   grown_room (Param j) x k os s h g = given_room k os s (slice_get x.parameters.items j) h
   grown_room _ x k os s h g = cc
 
--- ---- what each instruction wants
+-- ---- the requirements of each instruction
 takes_some : (n : ℕ) (b : Bare) (os : List Value) (vs : List (Option Value)) (ps : List Value) → AreWordsOf b os vs ps → length os ≤ 16
     → n ≤ length (map sort_of os) → Takes n b
 takes_some n b os vs ps h deep u =

@@ -1,5 +1,4 @@
--- What an instruction does on bare words: a Boolean is 0 or 1, and nothing says which sort a word
--- has.
+-- What an instruction does on bare words: a Boolean is 0 or 1, and no word carries its sort.
 use Rattle.std.specs.Prelude.{ℕ, ◌+◌, ◌-◌, ◌^◌, ◌<◌, ◌≤◌, ℤ, pos, ◌≤ℤ◌, neg_ℤ, bit_or, ◌+ℤ◌, ◌-ℤ◌}
 use Rattle.std.specs.Prelude.{◌*ℤ◌, int_div, int_rem, Bool as Truth, true, false, not, ◌&&◌, ◌||◌}
 use Rattle.std.specs.Prelude.{if◌then◌else◌, List, ◌∷◌, ◌++◌, take, drop, reverse, replicate}
@@ -31,8 +30,8 @@ use Rattle.turn_words.specs.declared.after.After.{After}
 use Rattle.turn_words.specs.declared.after.Next.{Next as Onward}
 use Rattle.turn_words.specs.declared.after.Next.TheVariants.{Goes, Ends}
 
--- the words of a run: its operands, the topmost first, and how many they are; its variables, with a
--- number whose bits say which are set; its parameters
+-- the words of a run: its operands, the topmost first, and their number; its variables, with a bit
+-- for each that says whether it is set; its parameters
 pub record Bare : Type 0 where
   pub stack : List ℤ
   pub depth : ℕ
@@ -50,7 +49,7 @@ bare_of w =
       params = w.params;
     }
 
--- what it did: the code goes on at a place, or is over, with what was given out
+-- the result of an instruction: the code goes on at a place, or is over, with an effect or none
 pub data Did : Type 0 where
   went : ℕ → Option Given → Bare → Did
   over : End → Option Given → Bare → Did
@@ -64,7 +63,7 @@ did a w = did_next a.next a.effect (bare_of w)
 
 -- ---- words
 
--- the word of a truth value, and what a word says as one
+-- the word of a truth value, and the truth value of a word
 abbrev pub truth_word : Truth → ℤ
 truth_word true = pos 1
 truth_word false = pos 0
@@ -79,7 +78,7 @@ with_stack b zs n =
 abbrev pub pushed : Bare → ℤ → Bare
 pushed b z = with_stack b (z ∷ b.stack) (b.depth + 1)
 
--- words that are taken: what goes on with them and with those below; the topmost is the right one
+-- words that are taken: `go` continues with them and the rest; the topmost is the right operand
 abbrev pub on_word : Bare → (ℤ → Bare → Did) → Did
 on_word b go = go (slice_index_or b.stack 0 (pos 0)) (with_stack b (drop 1 b.stack) (b.depth - 1))
 
@@ -88,7 +87,7 @@ on_words b go =
     go (slice_index_or b.stack 1 (pos 0)) (slice_index_or b.stack 0 (pos 0))
     (with_stack b (drop 2 b.stack) (b.depth - 2))
 
--- so many words from the top, the topmost last, and 0 behind them up to four
+-- the n topmost words, the topmost last, filled up with zeros to four words
 abbrev pub words_taken : ℕ → Bare → List ℤ
 words_taken n b = reverse (take n b.stack) ++ replicate (4 - n) (pos 0)
 
@@ -102,7 +101,7 @@ kept b v z =
       params = b.params;
     }
 
--- ---- the kinds of instructions, where what stands behind one is at k
+-- ---- the kinds of instructions; k is the place after the instruction
 
 abbrev pub put : ℤ → ℕ → Bare → Did
 put z k b = went k None (pushed b z)
@@ -151,7 +150,7 @@ sent n r c k b =
 abbrev pub timed : TimerNumber → ℕ → Bare → Did
 timed t k b = on_word b (λ x rest. went k (Some (gives.Set t x)) rest)
 
--- one instruction on words, where what stands behind it is at k
+-- one instruction on words; k is the place after it
 abbrev pub bare_act : Instruction → ℕ → Bare → Did
 bare_act (PutInt z) k b = put z k b
 bare_act (PutBool t) k b = put (truth_word t) k b
@@ -182,7 +181,7 @@ bare_act (Reset t) k b = went k (Some (gives.Reset t)) b
 bare_act (Next q) k b = over (end.State q) None b
 bare_act Stop k b = over end.Stop None b
 
--- ---- what an instruction wants of the words: room, words that it takes, and places that are there
+-- ---- the requirements of an instruction: room, words to take, and numbers that are declared
 abbrev pub HasRoom : Bare → Type 0
 HasRoom b = b.depth < MOST_OPERANDS
 

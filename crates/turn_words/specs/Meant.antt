@@ -1,5 +1,5 @@
--- Which words stand for which values. From a value to its word, and never back: a word says nothing
--- of its sort.
+-- Which words represent which values. A value determines its word, but a word doesn't determine its
+-- value, since it doesn't carry its sort.
 use Rattle.std.specs.Prelude.{◌≡◌, ℕ, ◌≤◌, ℤ, List, ◌∷◌, ◌++◌, [], length, map, take, Option, Some}
 use Rattle.std.specs.Prelude.{None, slice_get}
 use Rattle.std.specs.Int.{bit_at}
@@ -18,12 +18,12 @@ abbrev pub word_of : Value → ℤ
 word_of (Int z) = z
 word_of (Bool b) = truth_word b
 
--- variable v: its bit says whether it is set, and where it is its word is its value's
+-- variable v: its bit says whether it is set; if it is, its word is the word of its value
 abbrev pub IsKept : Bare → ℕ → Option Value → Type 0
 IsKept b v None = bit_at b.set v ≡ 0
 IsKept b v (Some x) = (bit_at b.set v ≡ 1) × (slice_get b.variables v ≡ Some (word_of x))
 
--- the words of these operands, the topmost first, of these variables and of these parameters
+-- the words represent these operands, the topmost first, these variables and these parameters
 pub record AreWordsOf (b : Bare) (os : List Value) (vs : List (Option Value)) (ps : List Value) :
     Type 0 where
   pub operands : b.stack ≡ map word_of os
@@ -32,7 +32,7 @@ pub record AreWordsOf (b : Bare) (os : List Value) (vs : List (Option Value)) (p
   pub parameters :
       (j : ℕ) (x : Value) → slice_get ps j ≡ Some x → slice_get b.params j ≡ Some (word_of x)
 
--- the effect that words stand for, where the signal of the transition came from there
+-- the effect that words represent; `from` is the sender of the transition's signal
 abbrev pub IsEffectOf : Option Address → Given → Effect → Type 0
 IsEffectOf from (Output n r c ws) (effect.Output s) =
     (s.signal ≡ n) × (c ≤ MOST_PARAMETERS) × (c ≡ length s.parameters.items)
@@ -46,7 +46,7 @@ IsEffectOf from (Reset n) (effect.Output s) = ⊥
 IsEffectOf from (Reset n) (effect.Set t y) = ⊥
 IsEffectOf from (Reset n) (effect.Reset t) = t ≡ n
 
--- effects grow by what was given out
+-- the new effects are the old ones, followed by the given effect if there is one
 abbrev pub Grow : Option Address → Option Given → List Effect → List Effect → Type 0
 Grow from None old new = new ≡ old
 Grow from (Some given) old new = (e : Effect) × IsEffectOf from given e × (new ≡ old ++ e ∷ [])

@@ -1,4 +1,4 @@
--- The sorts that words have lost, in bits.
+-- The sorts that words don't carry, as bits.
 use Rattle.std.specs.Prelude.{◌≡◌, ℕ, ◌+◌, ◌*◌, ◌≤◌, Bool as Truth, true, false, if◌then◌else◌}
 use Rattle.std.specs.Prelude.{List, [], ◌∷◌, map, Option, Some, slice_get, slice_index_or}
 use Rattle.plain_laws.specs.Limits.{MOST_PARAMETERS}
@@ -27,13 +27,13 @@ sort_bits (s ∷ ss) = (if is_boolean s then 1 else 0) + 2 * sort_bits ss
 abbrev pub sorts_of : List DraftVariable → List Sort
 sorts_of xs = map (λ (x : DraftVariable). x.sort) xs
 
--- at the place of each signal stand the bits of its parameters
+-- the element of each signal has the bits of its parameters
 abbrev pub AreBitsOf : List DraftSignal → List ℕ → Type 0
 AreBitsOf ss bits =
     (n : ℕ) (s : DraftSignal) → slice_get ss n ≡ Some s
     → slice_get bits n ≡ Some (sort_bits s.parameters)
 
--- they are those of a set's signals and of a process's variables
+-- the bits are those of a set's signals and of a process's variables
 pub record AreSortsOf (ss : List DraftSignal) (xs : List DraftVariable) (s : Sorts) : Type 0 where
   pub signals : AreBitsOf ss s.parameters
   pub variables : s.variables ≡ sort_bits (sorts_of xs)
@@ -45,7 +45,7 @@ IsOfSorts s (effect.Output e) =
 IsOfSorts s (effect.Set t z) = Unit {0}
 IsOfSorts s (effect.Reset t) = Unit {0}
 
--- somebody gets what is given out, and it has no more words than a signal may have
+-- an output has a receiver, and it has no more words than a signal may have parameters
 abbrev pub HasReceiver : Given → Option Address → Type 0
 HasReceiver (Output n r c ws) from =
     (to : Address) × (address_of r from ≡ Some to) × (c ≤ MOST_PARAMETERS)

@@ -1,4 +1,4 @@
--- A step on words is the step on the values that they stand for.
+-- A step on words agrees with the step on the values that they represent.
 use Rattle.std.specs.Prelude.{◌≡◌, ℕ, ◌≤◌, List, length, map}
 use Rattle.plain_laws.specs.Limits.{MOST_VARIABLES}
 use Rattle.turn_code.specs.Values.{sort_of}
@@ -19,9 +19,9 @@ use Rattle.turn_words.specs.Bare.{bare_of}
 use Rattle.turn_words.specs.Meant.{AreWordsOf, Grow}
 use Rattle.turn_words.specs.Sorts.{AreSortsOf}
 
--- The code is a valid transition's, with parameters of its sorts, and its signal came from who is
--- known to have sent it. The words at its place k stand for operands, variables and parameters that
--- may be there.
+-- The code is that of a valid transition, and the parameters have its sorts. A route brought its
+-- signal from the sender that the piece names. The words at place k represent operands, variables
+-- and parameters that fit the facts of that place.
 pub record Stand (d : Draft) (t : Transition) (p : Piece) (k : ℕ) (w : Words) (x : Input)
     (os : List Value) (s : Progress) : Type 0 where
   pub limits : KeepsSetLimits d
@@ -35,7 +35,7 @@ pub record Stand (d : Draft) (t : Transition) (p : Piece) (k : ℕ) (w : Words) 
   pub at : IsAt t k os s.variables
   pub words : AreWordsOf (bare_of w) os s.variables x.parameters.items
 
--- there are such values
+-- the words represent some such values
 pub record StandAt (p : Piece) (k : ℕ) (w : Words) : Type 0 where
   pub draft : Draft
   pub transition : Transition
@@ -44,8 +44,8 @@ pub record StandAt (p : Piece) (k : ℕ) (w : Words) : Type 0 where
   pub progress : Progress
   pub stand : Stand draft transition p k w input operands progress
 
--- what the step on values gave is what the step on words gave: the words at the next place stand
--- for its values
+-- the result of the step on values agrees with that of the step on words: the words at the next
+-- place represent the values there
 abbrev pub Follows : Draft → Transition → Piece → Input → Progress → After → Words → Tagged → Type 0
 Follows d t p x s a w (goes k os s') =
     (a.next ≡ Goes k) × Grow x.sender a.effect s.effects s'.effects × Stand d t p k w x os s'
@@ -54,7 +54,7 @@ Follows d t p x s a w (ends e s') =
     × ((os : List Value) × AreWordsOf (bare_of w) os s'.variables x.parameters.items)
 Follows d t p x s a w (stuck trouble) = ⊥
 
--- whichever values the words stood for
+-- the step agrees for all values that the words represent
 abbrev pub IsStep : Piece → ℕ → Words → After → Words → Type 0
 IsStep p k old a new =
     (d : Draft) (t : Transition) (x : Input) (os : List Value) (s : Progress)

@@ -14,7 +14,7 @@ use turn_code::{
     TimerNumber, VariableNumber, negated,
 };
 
-/// The code goes on at a place, and nothing is given out.
+/// The code goes on at a place, without an effect.
 fn go(place: usize) -> After
     ensures { result ≡ record { effect = None; next = Goes place } }
 {
@@ -24,7 +24,7 @@ fn go(place: usize) -> After
     }
 }
 
-/// The code goes on at a place, and this is given out.
+/// The code goes on at a place, with this effect.
 fn give(effect: Given, next: usize) -> After
     ensures { result ≡ record { effect = Some effect; next = Goes next } }
 {
@@ -34,7 +34,7 @@ fn give(effect: Given, next: usize) -> After
     }
 }
 
-/// The transition ends so.
+/// The transition ends here.
 fn end(end: End) -> After
     ensures { result ≡ record { effect = None; next = Ends end } }
 {
@@ -45,7 +45,7 @@ fn end(end: End) -> After
 }
 
 impl Words {
-    /// What an instruction does, where `next` is the place behind it.
+    /// Runs an instruction; `next` is the place after it.
     pub(crate) fn act(&mut self, instruction: Instruction, next: usize) -> After
         requires { HasWords instruction (bare_of self.old) }
         ensures { did result self.new ≡ bare_act instruction next (bare_of self.old) }
@@ -82,7 +82,7 @@ impl Words {
         }
     }
 
-    /// A word more on top.
+    /// Pushes a word.
     fn push(&mut self, word: i32)
         requires { HasRoom (bare_of self.old) }
         ensures { bare_of self.new ≡ pushed (bare_of self.old) word }
@@ -91,7 +91,7 @@ impl Words {
         self.depth += 1;
     }
 
-    /// The topmost word, which is taken away.
+    /// Pops the topmost word.
     fn pop(&mut self) -> i32
         requires { Takes 1 (bare_of self.old) }
         ensures { bare_of self.old ≡ pushed (bare_of self.new) result }
@@ -100,7 +100,7 @@ impl Words {
         self.operands[usize::from(self.depth)]
     }
 
-    /// Puts a word on top.
+    /// Pushes a word and goes on at `next`.
     fn put(&mut self, word: i32, next: usize) -> After
         requires { HasRoom (bare_of self.old) }
         ensures { did result self.new ≡ put word next (bare_of self.old) }
@@ -109,7 +109,7 @@ impl Words {
         go(next)
     }
 
-    /// Puts the word of a variable on top.
+    /// Pushes the word of a variable.
     fn load(&mut self, variable: VariableNumber, next: usize) -> After
         requires room { HasRoom (bare_of self.old) }
         requires there { variable.0 < MOST_VARIABLES }
@@ -118,7 +118,7 @@ impl Words {
         self.put(self.variables[usize::from(variable.0)], next)
     }
 
-    /// Takes a word, which is the variable's from then on; it is set.
+    /// Pops a word and stores it in the variable, which is then set.
     fn store(&mut self, variable: VariableNumber, next: usize) -> After
         requires some { Takes 1 (bare_of self.old) }
         requires there { variable.0 < MOST_VARIABLES }
@@ -130,7 +130,7 @@ impl Words {
         go(next)
     }
 
-    /// Puts the word of a parameter on top.
+    /// Pushes the word of a parameter.
     fn parameter(&mut self, place: u8, next: usize) -> After
         requires room { HasRoom (bare_of self.old) }
         requires there { place < MOST_PARAMETERS }
@@ -139,7 +139,7 @@ impl Words {
         self.put(self.params[usize::from(place)], next)
     }
 
-    /// What an operation makes of two words.
+    /// Replaces two words by the result of an operation.
     fn combine(&mut self, operation: Operation, next: usize) -> After
         requires { Takes 2 (bare_of self.old) }
         ensures { did result self.new ≡ combined (meaning_of operation) next (bare_of self.old) }
@@ -149,7 +149,7 @@ impl Words {
         self.put(operation.apply(left, right), next)
     }
 
-    /// What a division makes of a word.
+    /// Replaces a word by the result of a division.
     fn divide(&mut self, division: Division, divisor: i32, next: usize) -> After
         requires some { Takes 1 (bare_of self.old) }
         requires divisor { pos 1 ≤ℤ divisor }
@@ -159,7 +159,7 @@ impl Words {
         self.put(division.apply(number, divisor), next)
     }
 
-    /// The word with the other sign.
+    /// Negates a word.
     fn negate(&mut self, next: usize) -> After
         requires { Takes 1 (bare_of self.old) }
         ensures { did result self.new ≡ negated_word next (bare_of self.old) }
@@ -168,7 +168,7 @@ impl Words {
         self.put(negated(number), next)
     }
 
-    /// The word of the other Boolean.
+    /// Negates the word of a Boolean.
     fn invert(&mut self, next: usize) -> After
         requires { Takes 1 (bare_of self.old) }
         ensures { did result self.new ≡ inverted next (bare_of self.old) }
@@ -177,7 +177,7 @@ impl Words {
         self.put(i32::from(word == 0), next)
     }
 
-    /// What a connective makes of the words of two Booleans.
+    /// Replaces the words of two Booleans by the result of a connective.
     fn connect(&mut self, connective: Connective, next: usize) -> After
         requires { Takes 2 (bare_of self.old) }
         ensures { did result self.new ≡ joined (truth_of connective) next (bare_of self.old) }
@@ -187,7 +187,7 @@ impl Words {
         self.put(i32::from(connective.apply(left != 0, right != 0)), next)
     }
 
-    /// Whether two words stand so to each other.
+    /// Replaces two words by whether they are in this relation.
     fn compare(&mut self, relation: Relation, next: usize) -> After
         requires { Takes 2 (bare_of self.old) }
         ensures { did result self.new ≡ compared relation next (bare_of self.old) }
@@ -197,7 +197,7 @@ impl Words {
         self.put(i32::from(relation.holds(left, right)), next)
     }
 
-    /// Takes a word away where it passes, and goes on at a place; else it stays.
+    /// If the topmost word is in this relation to `to`, pops it and goes on at `place`; otherwise leaves it.
     fn case(&mut self, relation: Relation, to: i32, place: CodePlace, next: usize) -> After
         requires { Takes 1 (bare_of self.old) }
         ensures { did result self.new ≡ tested (λ x. holds relation x to) place.0 next (bare_of self.old) }
@@ -209,7 +209,7 @@ impl Words {
         self.put(number, next)
     }
 
-    /// The same where it is from the least number to the greatest.
+    /// If the topmost word is from `least` to `most`, pops it and goes on at `place`; otherwise leaves it.
     fn within(&mut self, least: i32, most: i32, place: CodePlace, next: usize) -> After
         requires { Takes 1 (bare_of self.old) }
         ensures { did result self.new ≡ tested (is_between least most) place.0 next (bare_of self.old) }
@@ -221,7 +221,7 @@ impl Words {
         self.put(number, next)
     }
 
-    /// Takes the word of a Boolean, and goes on at the first place where it is 0, else at the second one.
+    /// Pops the word of a Boolean, and goes on at the first place if it is 0, otherwise at the second.
     fn pick(&mut self, no: CodePlace, yes: CodePlace) -> After
         requires { Takes 1 (bare_of self.old) }
         ensures { did result self.new ≡ picked no.0 yes.0 (bare_of self.old) }
@@ -231,7 +231,7 @@ impl Words {
         go(usize::from(place.0))
     }
 
-    /// Takes a word and throws it away.
+    /// Pops a word and discards it.
     fn throw_away(&mut self, next: usize) -> After
         requires { Takes 1 (bare_of self.old) }
         ensures { did result self.new ≡ dropped next (bare_of self.old) }
@@ -240,7 +240,7 @@ impl Words {
         go(next)
     }
 
-    /// The word at a place from the bottom.
+    /// The operand at a place counted from the bottom.
     fn operand(&self, place: usize) -> i32
         requires { place < MOST_OPERANDS }
         ensures { result ≡ slice_index_or self.now.operands place (pos 0) }
@@ -248,7 +248,7 @@ impl Words {
         self.operands[place]
     }
 
-    /// The topmost words, so many of 4 at most, the topmost last, and 0 behind them.
+    /// The `count` topmost words, at most 4, the topmost last, filled up with zeros.
     fn taken(&self, count: u8) -> [i32; 4]
         requires few { count ≤ MOST_PARAMETERS }
         requires there { Takes count (bare_of self.now) }
@@ -263,7 +263,7 @@ impl Words {
         words
     }
 
-    /// Takes so many words, and gives a signal out with them.
+    /// Pops `count` words, and sends a signal with them.
     fn output(&mut self, signal: SignalNumber, to: Receiver, count: u8, next: usize) -> After
         requires few { count ≤ MOST_PARAMETERS }
         requires there { Takes count (bare_of self.old) }
@@ -274,7 +274,7 @@ impl Words {
         give(Given::Output(signal, to, count, words), next)
     }
 
-    /// Takes a word, and sets a timer to so long after the clock.
+    /// Pops a word, and sets a timer to the clock plus this many ticks.
     fn set_timer(&mut self, timer: TimerNumber, next: usize) -> After
         requires { Takes 1 (bare_of self.old) }
         ensures { did result self.new ≡ timed timer next (bare_of self.old) }

@@ -1,13 +1,13 @@
-//! What follows an instruction.
+//! The result of an instruction.
 
 use turn_code::{End, Receiver, SignalNumber, TimerNumber};
 
-/// An effect as the instruction names it, on words. A small value: no list is copied with it.
+/// An effect of an instruction, in words. It is small: copying it copies no list.
 #[derive(Clone, Copy)]
 pub enum Given {
-    /// This signal goes to this receiver, with so many of these words.
+    /// This signal is sent to this receiver, with this many of these words.
     Output(SignalNumber, Receiver, u8, [i32; 4]),
-    /// A timer is set to so long after the clock.
+    /// A timer is set to the clock plus this many ticks.
     Set(TimerNumber, i32),
     /// A timer is stopped.
     Reset(TimerNumber),
@@ -18,14 +18,14 @@ pub enum Given {
 pub enum Next {
     /// At this place.
     Goes(usize),
-    /// Nowhere: the transition is over.
+    /// The transition is over.
     Ends(End),
 }
 
-/// What follows an instruction.
+/// The result of an instruction.
 #[derive(Clone, Copy)]
 pub struct After {
-    /// What it gives out, if anything.
+    /// The effect, if there is one.
     pub effect: Option<Given>,
     /// Where the code goes on.
     pub next: Next,

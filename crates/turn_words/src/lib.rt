@@ -1,5 +1,5 @@
-//! One instruction of a valid piece on bare words: operands, variables and parameters are numbers of 32 bits, a Boolean is 0 or 1, and no tag, operand
-//! or jump is tested.
+//! One instruction of a valid piece on bare words: operands, variables and parameters are 32-bit numbers, and a Boolean
+//! is 0 or 1. No tag, operand or jump is tested.
 #![tactic(auto)]
 
 mod acting;

@@ -1,15 +1,16 @@
-//! The code that is run, where it stands.
+//! The code that is run, borrowed.
 
 use crate::sorts::Sorts;
 use turn_code::{Address, Instruction};
 
-/// The code of a transition where it stands, with what words have lost of an input and of its set.
+/// The borrowed code of a transition, with its sender and the sorts, which words don't carry.
 #[derive(Clone, Copy)]
 pub struct Piece<'a> {
     /// Its instructions.
     pub code: &'a [Instruction],
-    /// Who sent the signal that the transition waited for, if that is known.
+    /// The sender of the signal that began the transition, if known.
     pub sender: Option<Address>,
-    /// The sorts of signals' parameters and of the process's variables. No step looks at them: effects and variables are made of words with them.
+    /// The sorts of signals' parameters and of the process's variables. No step reads them: they turn words back into
+    /// values.
     pub sorts: &'a Sorts,
 }

@@ -1,4 +1,4 @@
-//! The sorts that words have lost.
+//! The sorts that words don't carry.
 ghost use Rattle.std.specs.Prelude.{◌≡◌, ◌+◌, ◌++◌, ◌≤◌, ◌<◌, ◌^◌, List, All, length, map, slice_index_or};
 ghost use Rattle.turn_code.specs.Values.{sort_of};
 ghost use Rattle.turn_code.specs.declared.value.Value.{Value as AnyValue};
@@ -12,16 +12,17 @@ use crate::after::Given;
 use arrayvec::ArrayVec;
 use turn_code::{Address, DraftSignal, DraftVariable, Effect, Sending, SignalNumber, Sort, Value};
 
-/// Of the parameters of a set's signals and of the variables of a process: which are Booleans. With these effects and variables are made of words.
+/// Which parameters of a set's signals and which variables of a process are Booleans, to turn words back into
+/// values.
 #[derive(Clone, Copy)]
 pub struct Sorts {
-    /// Bit j of the number for a signal says it of its parameter j.
+    /// For each signal, bit j says whether its parameter j is Boolean.
     pub parameters: [u8; 128],
-    /// Bit v says it of variable v.
+    /// Bit v says whether variable v is Boolean.
     pub variables: u32,
 }
 
-/// Which of some sorts are Boolean, by bits from the lowest on.
+/// Which of some sorts are Boolean: bit 0 for the first.
 fn boolean_bits(sorts: &[Sort]) -> u8
     requires { length sorts.now ≤ MOST_PARAMETERS }
     ensures value { result ≡ sort_bits sorts.now }
@@ -36,7 +37,7 @@ fn boolean_bits(sorts: &[Sort]) -> u8
     }
 }
 
-/// Which of a process's variables are Booleans, by bits from the lowest on: what its `Sorts` have.
+/// Which of a process's variables are Booleans, as bits, for `Sorts`: bit 0 for the first.
 pub fn variable_bits(variables: &[DraftVariable]) -> u32
     requires { length variables.now ≤ MOST_VARIABLES }
     ensures value { result ≡ sort_bits (sorts_of variables.now) }
@@ -51,7 +52,7 @@ pub fn variable_bits(variables: &[DraftVariable]) -> u32
     }
 }
 
-/// For each signal of a set, which of its parameters are Booleans, by bits from the lowest on: what `Sorts` have. 0 where there is no signal.
+/// Which parameters of each signal of a set are Booleans, as bits, for `Sorts`. 0 for a number without a signal.
 pub fn parameter_bits(signals: &[DraftSignal]) -> [u8; 128]
     requires few { length signals.now ≤ MOST_SIGNALS }
     requires small { All (λ (s : AnySignal). length s.parameters ≤ MOST_PARAMETERS) signals.now }
@@ -64,7 +65,7 @@ pub fn parameter_bits(signals: &[DraftSignal]) -> [u8; 128]
     bits
 }
 
-/// The value of a word, a Boolean or an Integer: the one that has this word and this sort.
+/// The value with this word: a Boolean if `boolean`, otherwise an Integer.
 pub fn value_of(boolean: bool, word: i32) -> Value
     ensures { (x : AnyValue) → word_of x ≡ word → is_boolean (sort_of x) ≡ boolean → result ≡ x }
 {
@@ -75,7 +76,7 @@ pub fn value_of(boolean: bool, word: i32) -> Value
     }
 }
 
-/// Adds the values of some words, which are Booleans as these bits say from the lowest on.
+/// Adds the values of some words; the bits say which are Booleans, bit 0 for the first.
 fn add_values(values: &mut ArrayVec<Value, 4>, bits: u8, words: &[i32])
     requires { length values.old.items + length words.now ≤ MOST_PARAMETERS }
     ensures { (xs : List AnyValue) → words.now ≡ map word_of xs → bits ≡ sort_bits (map sort_of xs) → values.new.items ≡ values.old.items ++ xs }
@@ -90,7 +91,7 @@ fn add_values(values: &mut ArrayVec<Value, 4>, bits: u8, words: &[i32])
 }
 
 impl Sorts {
-    /// Which parameters of a signal are Booleans.
+    /// Which parameters of a signal are Booleans, as bits.
     fn bits(&self, signal: SignalNumber) -> u8
         ensures { result ≡ slice_index_or self.now.parameters signal.0 0 }
     {
@@ -100,8 +101,8 @@ impl Sorts {
         }
     }
 
-    /// The effect that was given out: with the sorts of its signal, to whom the instruction names, or to who sent the signal of the transition. Each effect of
-    /// a valid transition has those sorts (turn_code's proofs/RightEffects: adds).
+    /// The effect that `given` represents: with the sorts of its signal, to the receiver that the instruction names or
+    /// to the sender. Each effect of a valid transition has those sorts (turn_code's proofs/RightEffects: adds).
     pub fn effect(&self, given: Given, sender: Option<Address>) -> Effect
         requires { HasReceiver given sender }
         ensures { (e : AnyEffect) → IsEffectOf sender given e → IsOfSorts self.now e → result ≡ e }

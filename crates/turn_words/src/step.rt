@@ -5,8 +5,8 @@ use crate::after::After;
 use crate::piece::Piece;
 use crate::words::Words;
 
-/// What the instruction at a place of a valid piece does on words: the step on the values that they stand for. The place is the piece's, and the words have
-/// its shape, its set variables and their sorts.
+/// Runs the instruction at a place of a valid piece on words, as the step on the values that they represent. The place
+/// is inside the piece, and the words have the shape, the set variables and the sorts of its facts.
 pub fn step_bare(piece: &Piece<'_>, place: usize, words: &mut Words) -> After
     requires { StandAt piece.now place words.old }
     ensures { IsStep piece.now place words.old result words.new }
